@@ -1,0 +1,2 @@
+pub mod Tentative
+pub mod Words

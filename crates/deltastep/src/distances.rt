@@ -1,0 +1,66 @@
+ghost use Rattle.std.specs.Prelude.{◌≡◌};
+
+use std::alloc::AllocError;
+use std::marker::Model;
+use thiserror::Error;
+
+/// The word that stands for "no walk leads there": above each least length.
+pub const NO_WALK: u64 = u64::MAX;
+
+/// The row of one node: the least length of a walk to each node, or that no walk leads there. It takes 8 bytes a node.
+#[derive(Debug, Drop)]
+pub struct Distances {
+    words: Vec<u64>,
+}
+
+impl Model for Distances {
+    ghost use Rattle.std.specs.Prelude.{List, Option, ℕ, map};
+    ghost use Rattle.deltastep.specs.Words.{distance_of_word};
+
+    ghost Value = { List (Option ℕ) };
+
+    ghost view = { λ a. map distance_of_word a.words.items };
+}
+
+impl Distances {
+    ghost use Rattle.std.specs.Prelude.{◌≡◌, map};
+    ghost use Rattle.roadnet.specs.Walks.{distance_at};
+    ghost use Rattle.deltastep.specs.Words.{distance_of_word};
+
+    /// The least length of a walk to this node; nothing where no walk leads there, or where the network has no such node. It takes
+    /// no memory.
+    pub fn get(&self, node: u64) -> Option<u64>
+        ensures { result ≡ distance_at self.now node }
+    {
+        if node == 0 || node > self.words.len() as u64 {
+            return None;
+        }
+        let word = self.words[(node - 1) as usize];
+        if word == NO_WALK { None } else { Some(word) }
+    }
+
+    /// The distances that these words say.
+    pub(crate) fn from_words(words: Vec<u64>) -> Distances
+        ensures { result ≡ map distance_of_word words.items }
+    {
+        Distances { words }
+    }
+}
+
+/// Why no row was made: no memory was given, and nothing else.
+#[derive(Clone, Copy, Debug, PartialEq, Eq, Error)]
+pub enum RowError {
+    /// No memory was given.
+    #[error("11 OutOfMemory")]
+    OutOfMemory,
+}
+
+impl From<AllocError> for RowError {
+    ghost use Rattle.deltastep.specs.declared.distances.RowError.TheVariants.{OutOfMemory as out_of_memory};
+
+    ghost from_gives = { λ _ error. error ≡ out_of_memory };
+
+    fn from(_error: AllocError) -> RowError {
+        RowError::OutOfMemory
+    }
+}

@@ -1,0 +1,76 @@
+-- The definitions at a small network, whose values were worked out by hand.
+use Rattle.std.proofs.Common.{◌≡◌, ℕ, true, [], ◌∷◌, Some, None, refl, lit≤}
+use Rattle.roadnet.specs.declared.arcs.RoadArc.{RoadArc}
+use Rattle.roadnet.specs.declared.commands.Command.TheVariants.{Set, Close, Reopen, Mark, Unmark}
+use Rattle.roadnet.specs.declared.refusals.Refusal.TheVariants.{NumberRange, NoSuchArc, LengthRange, AlreadyOpen, NoSuchNode, AlreadyLandmark, NotALandmark}
+use Rattle.roadnet.specs.Net.{Net}
+use Rattle.roadnet.specs.Step.{refusal_of, after}
+use Rattle.roadnet.specs.Made.{flaw_of}
+use Rattle.roadnet.specs.Walks.{Walk, length_of}
+
+abbrev open_arc : ℕ → ℕ → ℕ → RoadArc
+open_arc tail head length = record { tail = tail; head = head; length = length; opened = true }
+
+abbrev six : Net
+six = record {
+  nodes = 6;
+  arcs =
+      open_arc 1 2 17 ∷ open_arc 1 3 10 ∷ open_arc 2 4 2 ∷ open_arc 3 5 0 ∷ open_arc 4 3 0 ∷ open_arc 4 6 3 ∷ open_arc 5 2 0 ∷ open_arc 5 6 20 ∷ [];
+  landmarks = [];
+}
+
+no_such_arc : refusal_of six (Set 9 1) ≡ Some NoSuchArc
+no_such_arc = refl
+
+too_long : refusal_of six (Set 1 2147483648) ≡ Some LengthRange
+too_long = refl
+
+lowest_of_two : refusal_of six (Set 9 2147483648) ≡ Some NoSuchArc
+lowest_of_two = refl
+
+no_such_node : refusal_of six (Mark 7) ≡ Some NoSuchNode
+no_such_node = refl
+
+no_landmark : refusal_of six (Unmark 3) ≡ Some NotALandmark
+no_landmark = refl
+
+open_already : refusal_of six (Reopen 7) ≡ Some AlreadyOpen
+open_already = refl
+
+no_arc_zero : refusal_of six (Close 0) ≡ Some NoSuchArc
+no_arc_zero = refl
+
+closed_twice : after six (Close 7 ∷ Close 7 ∷ []) ≡ None
+closed_twice = refl
+
+-- a closed arc keeps its length, and may get another
+reopened : after six (Close 7 ∷ Reopen 7 ∷ []) ≡ Some six
+reopened = refl
+
+set_while_closed : after six (Close 7 ∷ Set 7 4 ∷ Set 7 0 ∷ Reopen 7 ∷ []) ≡ Some six
+set_while_closed = refl
+
+landmarks_ascend : after six (Mark 4 ∷ Mark 2 ∷ Mark 6 ∷ Unmark 4 ∷ Mark 3 ∷ []) ≡ Some (record six { landmarks = 2 ∷ 3 ∷ 6 ∷ [] })
+landmarks_ascend = refl
+
+marked_twice : refusal_of (record six { landmarks = 3 ∷ [] }) (Mark 3) ≡ Some AlreadyLandmark
+marked_twice = refl
+
+walked : Walk six 1 6 (2 ∷ 4 ∷ 7 ∷ 3 ∷ 6 ∷ [])
+walked = (_, refl, refl, refl, (_, refl, refl, refl, (_, refl, refl, refl, (_, refl, refl, refl, (_, refl, refl, refl, ((lit≤ tt, lit≤ tt), refl))))))
+
+walked_length : length_of six (2 ∷ 4 ∷ 7 ∷ 3 ∷ 6 ∷ []) ≡ 15
+walked_length = refl
+
+whole : flaw_of 6 six.arcs (6 ∷ 3 ∷ 6 ∷ []) ≡ None
+whole = refl
+
+no_node : flaw_of 0 six.arcs [] ≡ Some NumberRange
+no_node = refl
+
+-- the lower number is answered first
+long_before_stray : flaw_of 5 (open_arc 1 6 2147483648 ∷ []) [] ≡ Some LengthRange
+long_before_stray = refl
+
+stray_landmark : flaw_of 6 six.arcs (7 ∷ []) ≡ Some NoSuchNode
+stray_landmark = refl

@@ -1,0 +1,9 @@
+pub mod Causes
+pub mod Changes
+pub mod Made
+pub mod Members
+pub mod Net
+pub mod Numbers
+pub mod Step
+pub mod WalkLaws
+pub mod Walks

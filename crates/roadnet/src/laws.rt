@@ -1,0 +1,27 @@
+ghost use Rattle.roadnet.specs.Changes.{StepChanges, AdmittedSteps, RefusalIsLowest, FlawIsLowest, AfterBoth, AfterAdmitted, AfterIsNetwork};
+ghost use Rattle.roadnet.specs.WalkLaws.{WalksJoin, LeastIsOne, LeastOrNoWalk, LeastIsBounded, DifferenceIsBelow, NoWalkOnward};
+
+/// What holds of steps, whatever the network and the commands.
+pub fn laws_of_steps()
+    ensures changes { StepChanges }
+    ensures admitted { AdmittedSteps }
+    ensures one_after_another { AfterBoth }
+    ensures each_in_its_turn { AfterAdmitted }
+    ensures networks { AfterIsNetwork }
+{}
+
+/// What holds of refusals: of several that apply the one of lowest number is answered.
+pub fn laws_of_refusals()
+    ensures commands { RefusalIsLowest }
+    ensures parts { FlawIsLowest }
+{}
+
+/// What holds of walks and least distances, in any network.
+pub fn laws_of_walks()
+    ensures joined { WalksJoin }
+    ensures one_least { LeastIsOne }
+    ensures one_answer { LeastOrNoWalk }
+    ensures bounded { LeastIsBounded }
+    ensures difference { DifferenceIsBelow }
+    ensures onward { NoWalkOnward }
+{}

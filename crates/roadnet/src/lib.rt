@@ -1,0 +1,18 @@
+//! A road network with landmarks, the commands that change it, and what a distance in it is.
+#![tactic(auto)]
+
+mod arcs;
+mod ascending;
+mod commands;
+mod laws;
+mod networks;
+mod refusals;
+
+pub use arcs::RoadArc;
+pub use commands::Command;
+pub use laws::{laws_of_refusals, laws_of_steps, laws_of_walks};
+pub use networks::{LONGEST_ARC, MOST_ARCS, MOST_LANDMARKS, MOST_NODES, Network};
+pub use refusals::{OutOfMemory, Refusal};
+
+#[cfg(test)]
+mod tests;

@@ -1,0 +1,262 @@
+ghost use Rattle.std.specs.Prelude.{false, ◌≡◌, ◌⊎◌, ◌≢◌, ℕ, ◌+◌, ◌-◌, ◌<◌, ◌≤◌, ◌↔◌, IsTrue, IsOk, OnOk, OnErr, IfOk, IfErr, MatchResult, Some, None, Err, length};
+ghost use Rattle.roadnet.specs.Made.{is_node_among, is_node_count, is_long, is_stray, has_long_arc, has_stray_end, has_stray_landmark, flaw_of, MayRefuseParts};
+ghost use Rattle.roadnet.specs.Members.{set_of};
+
+use crate::arcs::RoadArc;
+use crate::ascending::{collect, contains, put, take_out};
+use crate::commands::Command;
+use crate::refusals::{OutOfMemory, Refusal};
+use std::alloc::Global;
+use std::marker::Model;
+
+/// The most nodes that a network may have: 33,554,432.
+pub const MOST_NODES: u32 = 1 << 25;
+
+/// The most arcs that a network may have: 67,108,864.
+pub const MOST_ARCS: usize = 1 << 26;
+
+/// The greatest length of an arc.
+pub const LONGEST_ARC: u32 = 2147483647;
+
+/// The most landmarks that a network may have.
+pub const MOST_LANDMARKS: usize = 1000;
+
+/// A road network: its nodes are 1 to n, its arcs are named by their numbers from 1 on, and some nodes are landmarks.
+///
+/// It takes 16 bytes an arc and 4 a landmark.
+#[derive(Debug, Drop)]
+pub struct Network {
+    nodes: u32,
+    arcs: Vec<RoadArc>,
+    landmarks: Vec<u32>,
+}
+
+impl Model for Network {
+    ghost use Rattle.roadnet.specs.Net.{Net, IsNetwork};
+
+    ghost Value = { Net };
+
+    ghost view = { λ a. record { nodes = a.nodes; arcs = a.arcs.items; landmarks = a.landmarks.items } };
+
+    ghost invariant = { λ a. IsNetwork (record { nodes = a.nodes; arcs = a.arcs.items; landmarks = a.landmarks.items }) };
+}
+
+fn is_node_among(nodes: u32, x: u32) -> bool
+    ensures { result ≡ is_node_among nodes x }
+{
+    1 <= x && x <= nodes
+}
+
+fn has_fit_count(nodes: u32) -> bool
+    ensures { result ≡ is_node_count nodes }
+{
+    1 <= nodes && nodes <= MOST_NODES
+}
+
+fn is_long(arc: &RoadArc) -> bool
+    ensures { result ≡ is_long arc.now }
+{
+    arc.length > LONGEST_ARC
+}
+
+fn is_stray(nodes: u32, arc: &RoadArc) -> bool
+    ensures { result ≡ is_stray nodes arc.now }
+{
+    !(is_node_among(nodes, arc.tail) && is_node_among(nodes, arc.head))
+}
+
+/// What is wrong with arcs.
+#[derive(Clone, Copy)]
+struct ArcFaults {
+    long: bool,
+    stray: bool,
+}
+
+/// Whether some arc is too long, and whether some end is no node.
+fn arc_faults(nodes: u32, arcs: &[RoadArc]) -> ArcFaults
+    ensures long { result.long ≡ has_long_arc arcs.now }
+    ensures stray { result.stray ≡ has_stray_end nodes arcs.now }
+{
+    let mut long = false;
+    let mut stray = false;
+    for arc in arcs {
+        long = long || is_long(arc);
+        stray = stray || is_stray(nodes, arc);
+    }
+    ArcFaults { long, stray }
+}
+
+fn has_stray_landmark(nodes: u32, landmarks: &[u32]) -> bool
+    ensures { result ≡ has_stray_landmark nodes landmarks.now }
+{
+    landmarks.iter().any(|&x| !is_node_among(nodes, x))
+}
+
+impl Network {
+    ghost use Rattle.roadnet.specs.Net.{IsNode, IsNetwork, arc_at};
+    ghost use Rattle.roadnet.specs.Step.{refusal_of, step, after, first_refusal, MayRefuse};
+
+    /// A network of these parts. Doubles among the landmarks count once.
+    pub fn new(
+        alloc: Global,
+        nodes: u32,
+        arcs: Vec<RoadArc>,
+        landmarks: &[u32],
+    ) -> Result<Network, Refusal>
+        ensures ok { OnOk result (flaw_of nodes arcs.items landmarks.now ≡ None) }
+        ensures network { IfOk result (λ net. net ≡ record { nodes = nodes; arcs = arcs.items; landmarks = set_of landmarks.now }) }
+        ensures refused { IfErr result (MayRefuseParts nodes arcs.items landmarks.now) }
+    {
+        if !has_fit_count(nodes) {
+            return Err(Refusal::NumberRange);
+        }
+        if arcs.len() > MOST_ARCS {
+            return Err(Refusal::TooLarge);
+        }
+        let faults = arc_faults(nodes, &arcs);
+        if faults.long {
+            return Err(Refusal::LengthRange);
+        }
+        if faults.stray || has_stray_landmark(nodes, landmarks) {
+            return Err(Refusal::NoSuchNode);
+        }
+        let landmarks = collect(alloc, landmarks, MOST_LANDMARKS)?;
+        Ok(Network {
+            nodes,
+            arcs,
+            landmarks,
+        })
+    }
+
+    /// The number of nodes: they are numbered from 1 on.
+    pub fn nodes(&self) -> u32
+        ensures value { result ≡ self.now.nodes }
+        ensures network { IsNetwork self.now }
+    {
+        self.nodes
+    }
+
+    /// The arcs in the order of their numbers: arc k stands at place k - 1.
+    pub fn arcs(&self) -> &[RoadArc]
+        ensures value { result.now ≡ self.now.arcs }
+        ensures network { IsNetwork self.now }
+    {
+        &self.arcs
+    }
+
+    /// The landmarks, ascending.
+    pub fn landmarks(&self) -> &[u32]
+        ensures value { result.now ≡ self.now.landmarks }
+        ensures network { IsNetwork self.now }
+    {
+        &self.landmarks
+    }
+
+    /// Whether the network has a node of this number.
+    pub fn has_node(&self, x: u64) -> bool
+        ensures { IsTrue result ↔ IsNode self.now x }
+    {
+        1 <= x && x <= u64::from(self.nodes)
+    }
+
+    /// The arc of number `k`, if there is one.
+    pub fn arc(&self, k: u64) -> Option<RoadArc>
+        ensures { result ≡ arc_at self.now k }
+    {
+        if k == 0 || k > self.arcs.len() as u64 {
+            return None;
+        }
+        Some(self.arcs[(k - 1) as usize])
+    }
+
+    /// Whether the command may be carried out, and else the lowest refusal that applies. It takes no memory.
+    pub fn admit(&self, command: &Command) -> Result<(), Refusal>
+        ensures { MatchResult result (λ _. refusal_of self.now command.now ≡ None) (λ refusal. refusal_of self.now command.now ≡ Some refusal) }
+    {
+        match *command {
+            Command::Set { arc, length } => {
+                if self.arc(arc).is_none() {
+                    return Err(Refusal::NoSuchArc);
+                }
+                if length > u64::from(LONGEST_ARC) {
+                    return Err(Refusal::LengthRange);
+                }
+                Ok(())
+            }
+            Command::Close { arc } => match self.arc(arc) {
+                None => Err(Refusal::NoSuchArc),
+                Some(found) if found.opened => Ok(()),
+                Some(_) => Err(Refusal::AlreadyClosed),
+            },
+            Command::Reopen { arc } => match self.arc(arc) {
+                None => Err(Refusal::NoSuchArc),
+                Some(found) if found.opened => Err(Refusal::AlreadyOpen),
+                Some(_) => Ok(()),
+            },
+            Command::Mark { node } => {
+                if !self.has_node(node) {
+                    return Err(Refusal::NoSuchNode);
+                }
+                if contains(&self.landmarks, node as u32) {
+                    return Err(Refusal::AlreadyLandmark);
+                }
+                if self.landmarks.len() >= MOST_LANDMARKS {
+                    return Err(Refusal::TooManyLandmarks);
+                }
+                Ok(())
+            }
+            Command::Unmark { node } => {
+                if !self.has_node(node) {
+                    return Err(Refusal::NoSuchNode);
+                }
+                if !contains(&self.landmarks, node as u32) {
+                    return Err(Refusal::NotALandmark);
+                }
+                Ok(())
+            }
+        }
+    }
+
+    /// A network equal to this one, from the same allocator.
+    pub fn copy(&self) -> Result<Network, OutOfMemory>
+        ensures { IfOk result (λ copy. copy ≡ self.now) }
+    {
+        let alloc = *self.landmarks.allocator();
+        Ok(Network {
+            nodes: self.nodes,
+            arcs: Vec::from_slice(alloc, &self.arcs)?,
+            landmarks: Vec::from_slice(alloc, &self.landmarks)?,
+        })
+    }
+
+    /// Carries the command out where it is admitted. Only `Mark` takes memory, and may be refused for want of it (11). After a
+    /// refusal the network is as it was.
+    ///
+    /// An arc is changed in O(1), the landmarks by a binary search and one shift.
+    pub fn apply(&mut self, command: Command) -> Result<(), Refusal>
+        ensures ok { OnOk result (step self.old command ≡ Some self.new) }
+        ensures err { OnErr result (self.new ≡ self.old) }
+        ensures refused { IfErr result (MayRefuse self.old command) }
+    {
+        self.admit(&command)?;
+        match command {
+            Command::Set { arc, length } => {
+                let found = &mut self.arcs[(arc - 1) as usize];
+                found.length = length as u32;
+            }
+            Command::Close { arc } => {
+                let found = &mut self.arcs[(arc - 1) as usize];
+                found.opened = false;
+            }
+            Command::Reopen { arc } => {
+                let found = &mut self.arcs[(arc - 1) as usize];
+                found.opened = true;
+            }
+            Command::Mark { node } => {
+                put(&mut self.landmarks, node as u32)?;
+            }
+            Command::Unmark { node } => take_out(&mut self.landmarks, node as u32),
+        }
+        Ok(())
+    }
+}

@@ -94,9 +94,14 @@ fn has_stray_landmark(nodes: u32, landmarks: &[u32]) -> bool
 
 impl Network {
     ghost use Rattle.roadnet.specs.Net.{IsNode, IsNetwork, arc_at};
-    ghost use Rattle.roadnet.specs.Step.{refusal_of, step, after, first_refusal, MayRefuse};
+    ghost use Rattle.roadnet.specs.Step.{is_landmark, refusal_of, step, MayRefuse};
 
-    /// A network of these parts. Doubles among the landmarks count once.
+    /// A network of the nodes 1 to `nodes`, of these arcs in the order of their numbers, open or closed as they are given, and of
+    /// these landmarks, of which doubles count once.
+    ///
+    /// Refused, lowest number first, are a count of nodes that is not 1 to 33,554,432 (5), too many arcs (9), a length above
+    /// 2147483647 (21), an end of an arc or a landmark that is no node (24), more than 1,000 landmarks (27); and, where none of the
+    /// first four holds, want of memory for the landmarks (11).
     pub fn new(
         alloc: Global,
         nodes: u32,
@@ -154,9 +159,18 @@ impl Network {
 
     /// Whether the network has a node of this number.
     pub fn has_node(&self, x: u64) -> bool
-        ensures { IsTrue result ↔ IsNode self.now x }
+        ensures node { IsTrue result ↔ IsNode self.now x }
+        ensures network { IsNetwork self.now }
     {
         1 <= x && x <= u64::from(self.nodes)
+    }
+
+    /// Whether the node of this number is a landmark, by a binary search.
+    pub fn is_landmark(&self, x: u64) -> bool
+        ensures { result ≡ is_landmark self.now x }
+    {
+        let landmarks = self.landmarks.as_slice();
+        self.has_node(x) && contains(landmarks, x as u32)
     }
 
     /// The arc of number `k`, if there is one.
@@ -197,7 +211,7 @@ impl Network {
                 if !self.has_node(node) {
                     return Err(Refusal::NoSuchNode);
                 }
-                if contains(&self.landmarks, node as u32) {
+                if self.is_landmark(node) {
                     return Err(Refusal::AlreadyLandmark);
                 }
                 if self.landmarks.len() >= MOST_LANDMARKS {
@@ -209,7 +223,7 @@ impl Network {
                 if !self.has_node(node) {
                     return Err(Refusal::NoSuchNode);
                 }
-                if !contains(&self.landmarks, node as u32) {
+                if !self.is_landmark(node) {
                     return Err(Refusal::NotALandmark);
                 }
                 Ok(())

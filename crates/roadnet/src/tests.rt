@@ -90,7 +90,9 @@ fn commands_change_what_they_name(rt: HostRuntime) -> Result<(), Refusal> {
     }
     assert!(rt; network.landmarks() == [2, 4, 6].as_slice());
     assert!(rt; network.apply(Command::Mark { node: 4 }) == Err(Refusal::AlreadyLandmark));
+    assert!(rt; network.is_landmark(4) && !network.is_landmark(3) && !network.is_landmark(7));
     network.apply(Command::Unmark { node: 4 })?;
+    assert!(rt; !network.is_landmark(4) && network.is_landmark(6));
     assert!(rt; network.landmarks() == [2, 6].as_slice());
     Ok(())
 }

@@ -1,0 +1,53 @@
+ghost use Rattle.std.specs.Prelude.{◌≡◌};
+
+use roadnet::Refusal;
+
+/// A question to a network. Any numbers may stand in one.
+#[derive(Clone, Copy, Debug, PartialEq, Eq)]
+pub enum Query {
+    /// The least length of a walk from `source` to `target`.
+    Dist { source: u64, target: u64 },
+    /// The same, from a node that has to be a landmark.
+    From { landmark: u64, target: u64 },
+}
+
+impl Query {
+    ghost use Rattle.rows.specs.Replies.{source_of, target_of};
+
+    /// The node where the walk begins.
+    pub fn source(&self) -> u64
+        ensures { result ≡ source_of self.now }
+    {
+        match *self {
+            Query::Dist { source, target: _ } => source,
+            Query::From {
+                landmark,
+                target: _,
+            } => landmark,
+        }
+    }
+
+    /// The node where the walk ends.
+    pub fn target(&self) -> u64
+        ensures { result ≡ target_of self.now }
+    {
+        match *self {
+            Query::Dist { source: _, target }
+            | Query::From {
+                landmark: _,
+                target,
+            } => target,
+        }
+    }
+}
+
+/// An answer to a query.
+#[derive(Clone, Copy, Debug, PartialEq, Eq)]
+pub enum Reply {
+    /// The least length of a walk.
+    Length(u64),
+    /// There is no walk.
+    NoWalk,
+    /// 24 where one of the two is no node, else 26 where the first node of `From` is no landmark.
+    Refused(Refusal),
+}

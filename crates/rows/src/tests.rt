@@ -1,0 +1,69 @@
+use crate::{Query, Reply, answer_plain};
+use roadnet::{Command, Network, Refusal, RoadArc};
+use std::alloc::{AllocError, Global};
+
+/// The network of the worked rows: six nodes and eight arcs.
+fn six(alloc: Global) -> Result<Network, Refusal> {
+    let table = [
+        (1, 2, 17),
+        (1, 3, 10),
+        (2, 4, 2),
+        (3, 5, 0),
+        (4, 3, 0),
+        (4, 6, 3),
+        (5, 2, 0),
+        (5, 6, 20),
+    ];
+    let mut arcs = Vec::new(alloc);
+    for (tail, head, length) in table {
+        arcs.push(RoadArc {
+            tail,
+            head,
+            length,
+            opened: true,
+        })
+        .map_err(AllocError::from)?;
+    }
+    Network::new(alloc, 6, arcs, &[3])
+}
+
+#[test]
+fn no_walk_itself_no_node(rt: HostRuntime) -> Result<(), Refusal> {
+    let mut network = six(rt.alloc())?;
+    let table = [
+        (1, 6, Reply::Length(15)),
+        (6, 1, Reply::NoWalk),
+        (4, 4, Reply::Length(0)),
+        (1, 7, Reply::Refused(Refusal::NoSuchNode)),
+        (0, 1, Reply::Refused(Refusal::NoSuchNode)),
+        (u64::MAX, 1, Reply::Refused(Refusal::NoSuchNode)),
+    ];
+    for (source, target, want) in table {
+        let reply = answer_plain(rt.alloc(), &network, &Query::Dist { source, target })?;
+        assert!(rt; reply == want, "{source} to {target}");
+    }
+    network.apply(Command::Close { arc: 7 })?;
+    let query = Query::Dist {
+        source: 1,
+        target: 6,
+    };
+    assert!(rt; answer_plain(rt.alloc(), &network, &query)? == Reply::Length(22));
+    Ok(())
+}
+
+#[test]
+fn rows_from_landmarks(rt: HostRuntime) -> Result<(), Refusal> {
+    let network = six(rt.alloc())?;
+    let table = [
+        (3, 4, Reply::Length(2)),
+        (3, 1, Reply::NoWalk),
+        (1, 4, Reply::Refused(Refusal::NotALandmark)),
+        (1, 7, Reply::Refused(Refusal::NoSuchNode)),
+        (7, 1, Reply::Refused(Refusal::NoSuchNode)),
+    ];
+    for (landmark, target, want) in table {
+        let reply = answer_plain(rt.alloc(), &network, &Query::From { landmark, target })?;
+        assert!(rt; reply == want, "{landmark} to {target}");
+    }
+    Ok(())
+}

@@ -1,0 +1,141 @@
+-- What a call of a reader does to how far its text is read.
+use Rattle.std.proofs.Common.{◌≡◌, ℕ, ◌+◌, ◌≤◌, Bool, true, false, List, [], ◌++◌, length, drop, Option, Some, None, Result, Ok, Err, refl, sym, ap, ◌∙◌, arith, inl, take-append-drop, ◌≢◌}
+use Rattle.std.proofs.Math.Seq.{drop-length}
+use Rattle.std.specs.Prelude.{IfSome, MatchBool}
+use Rattle.std.specs.Io.{StartsWith}
+use Rattle.std.specs.Io.KnownBytes.{Keeps}
+use Rattle.std.specs.Io.BufRead.{DropsConsumable}
+use Rattle.std.proofs.lemmas.List.{drop-append-le}
+use Rattle.std.proofs.lemmas.List.Elements.{All-nil}
+use Rattle.dimacs.specs.declared.feed.Feed.{Feed}
+use Rattle.dimacs.specs.declared.feed.Fed.{Fed}
+use Rattle.dimacs.specs.declared.feed.Ended.{Ended}
+use Rattle.dimacs.specs.declared.fault.Code.{Code}
+use Rattle.dimacs.specs.declared.fault.Fault.{Fault}
+use Rattle.dimacs.specs.declared.fault.Code.TheVariants.{Read}
+use Rattle.dimacs.specs.Lines.{rows}
+use Rattle.dimacs.specs.Faults.{Row, Judge, fault_at}
+use Rattle.dimacs.specs.Ends.{ReadsLines}
+use Rattle.dimacs.specs.Progress.{Within, BeforeRun, Feeds}
+use Rattle.dimacs.specs.Turns.{FarFrom, RunFrom, EndsFrom, StopsFrom}
+use Rattle.dimacs.proofs.Far.{run_reads, stop_told, clean_front, front_within}
+
+-- the bytes that are shown are the front of what is left
+shown_front : (left shown : List ℕ) → StartsWith left shown → left ≡ shown ++ drop (length shown) left
+shown_front left shown e = sym (take-append-drop (length shown) left) ∙ ap (λ (l : List ℕ). l ++ drop (length shown) left) e
+
+room : (o : Option ℕ) (n k : ℕ) → n ≤ k → IfSome o (λ m. k ≤ m) → IfSome o (λ m. n ≤ m)
+room None n k le h = tt
+room (Some m) n k le h = omega arith
+
+module _ {S : Type 0} (judge : Judge) (has_taken : List Row → S → Type 0) (mark : ℕ) where
+  -- nothing of it depends on how many calls are left
+  relabel : (text left : List ℕ) (feed : Feed S) (n : ℕ) → Within judge has_taken mark text left feed → Within judge has_taken mark text left (record feed { left = n })
+  relabel text left feed n at = record { earlier = at.earlier; front = at.front; before = at.before; lines = at.lines; in_line = at.in_line; kept = at.kept; count = at.count; clean = at.clean; no_run = at.no_run; taken = at.taken; read = at.read; feeds = at.feeds }
+
+  relabel_run : (text left : List ℕ) (feed : Feed S) (n : ℕ) → BeforeRun judge has_taken text left feed → BeforeRun judge has_taken text left (record feed { left = n })
+  relabel_run text left feed n at = record { earlier = at.earlier; row = at.row; lines = at.lines; is = at.is; until = at.until; count = at.count; clean = at.clean; no_run = at.no_run; taken = at.taken }
+
+  pub far_at_end : (known a b : Option (List ℕ)) (shown : List ℕ) (feed : Feed S) → FarFrom judge has_taken mark known a feed → Keeps a b → IfSome a (λ xs. length shown ≡ 0 → xs ≡ []) → length shown ≡ 0
+      → EndsFrom judge has_taken mark known b feed
+  far_at_end None a b shown feed far kept end none = tt
+  far_at_end (Some text) None b shown feed far kept end none = absurd far
+  far_at_end (Some text) (Some a) None shown feed far kept end none = absurd kept
+  far_at_end (Some text) (Some a) (Some b) shown feed far kept end none =
+      let nothing : a ≡ [] = end none in
+      (rw nothing at far, kept ∙ nothing)
+
+  -- what was shown was fed
+  pub far_refused : (known a : Option (List ℕ)) (shown : List ℕ) (old new : Feed S) (code : Code) → FarFrom judge has_taken mark known a old → IfSome a (λ xs. StartsWith xs shown)
+      → ((text more : List ℕ) → Within judge has_taken mark text (shown ++ more) old → Feeds judge has_taken mark text shown more new (Err code))
+      → StopsFrom judge known new code
+  far_refused None a shown old new code far front feeds = tt
+  far_refused (Some text) None shown old new code far front feeds = absurd far
+  far_refused (Some text) (Some a) shown old new code far front feeds = feeds text (drop (length shown) a) (rw (shown_front a shown front) at far)
+
+  -- what is left when some of it is consumed
+  left_after : (a b shown : List ℕ) (taken : ℕ) → b ≡ a → StartsWith a shown → taken ≤ length shown → drop taken b ≡ drop taken shown ++ drop (length shown) a
+  left_after a b shown taken kept front le = ap (drop taken) (kept ∙ shown_front a shown front) ∙ drop-append-le taken shown (drop (length shown) a) le
+
+  fed_on : (text a shown : List ℕ) (new : Feed S) (fed : Fed) (n : ℕ) (c : Option (List ℕ)) → c ≡ Some (drop fed.taken shown ++ drop (length shown) a)
+      → Feeds judge has_taken mark text shown (drop (length shown) a) new (Ok fed)
+      → MatchBool fed.at_run (RunFrom judge has_taken (Some text) c (record new { left = n })) (FarFrom judge has_taken mark (Some text) c (record new { left = n }))
+  fed_on text a shown new fed n c e feeds = go fed.at_run refl feeds
+    where
+      go : (b : Bool) → fed.at_run ≡ b → MatchBool b (BeforeRun judge has_taken text (drop fed.taken shown ++ drop (length shown) a) new) ((fed.taken ≡ length shown) × Within judge has_taken mark text (drop (length shown) a) new) → MatchBool b (RunFrom judge has_taken (Some text) c (record new { left = n })) (FarFrom judge has_taken mark (Some text) c (record new { left = n }))
+      go true is run = rw e (relabel_run text (drop fed.taken shown ++ drop (length shown) a) new n run)
+      go false is p =
+          let nothing : drop fed.taken shown ++ drop (length shown) a ≡ drop (length shown) a = rw (p.0, drop-length shown) refl in
+          rw (e, nothing) (relabel text (drop (length shown) a) new n p.1)
+
+  pub far_fed : (known a b c : Option (List ℕ)) (buffered : Option ℕ) (shown : List ℕ) (old new : Feed S) (fed : Fed) (n : ℕ) → FarFrom judge has_taken mark known a old
+      → IfSome a (λ xs. StartsWith xs shown) → Keeps a b → IfSome a (λ _. IfSome buffered (λ k. length shown ≤ k)) → DropsConsumable b c buffered fed.taken → fed.taken ≤ length shown
+      → ((text more : List ℕ) → Within judge has_taken mark text (shown ++ more) old → Feeds judge has_taken mark text shown more new (Ok fed))
+      → MatchBool fed.at_run (RunFrom judge has_taken known c (record new { left = n })) (FarFrom judge has_taken mark known c (record new { left = n }))
+  far_fed None a b c buffered shown old new fed n far front kept fits drops le feeds = either fed.at_run
+    where
+      either : (b : Bool) → MatchBool b (RunFrom judge has_taken None c (record new { left = n })) (FarFrom judge has_taken mark None c (record new { left = n }))
+      either true = tt
+      either false = tt
+  far_fed (Some text) None b c buffered shown old new fed n far front kept fits drops le feeds = absurd far
+  far_fed (Some text) (Some a) None c buffered shown old new fed n far front kept fits drops le feeds = absurd kept
+  far_fed (Some text) (Some a) (Some b) c buffered shown old new fed n far front kept fits drops le feeds =
+      let dropped : c ≡ Some (drop fed.taken b) = drops (room buffered fed.taken (length shown) le fits) in
+      fed_on text a shown new fed n c (dropped ∙ ap Some (left_after a b shown fed.taken kept front le)) (feeds text (drop (length shown) a) (rw (shown_front a shown front) at far))
+
+  -- What a reading answers.
+
+  pub begins : (known : Option (List ℕ)) (feed : Feed S) → has_taken [] feed.taker → feed.kept.items ≡ [] → feed.lines ≡ 0 → FarFrom judge has_taken mark known known feed
+  begins None feed taken none zero = tt
+  begins (Some text) feed taken none zero =
+      record {
+        earlier = [];
+        front = [];
+        before = [];
+        lines = refl;
+        in_line = All-nil (λ b. b ≢ 10);
+        kept = inl none;
+        count = sym zero;
+        clean = refl;
+        no_run = λ u. refl;
+        taken = taken;
+        read = refl;
+        feeds = sym zero;
+      }
+
+  pub fails_at : (known left : Option (List ℕ)) (until : Bool) (feed : Feed S) (line : ℕ) → FarFrom judge has_taken mark known left feed → feed.until_run ≡ until → line ≡ feed.lines + 1
+      → IfSome known (λ text. ReadsLines judge has_taken until text left (Err (fault_at line Read)))
+  fails_at None left until feed line far same at = tt
+  fails_at (Some text) None until feed line far same at = absurd far
+  fails_at (Some text) (Some left) until feed line far same at =
+      let is : line ≡ length far.earlier + 1 = at ∙ ap (λ (n : ℕ). n + 1) (sym far.count) in
+      record {
+        front = far.before;
+        read = far.read;
+        feeds = at ∙ ap (λ (n : ℕ). n + 1) (sym far.feeds);
+        next = rw (is, far.lines) (front_within until far.earlier (rows (far.front ++ left)) (λ u. far.no_run (same ∙ u)));
+        clean = rw (is, far.lines) (clean_front judge until far.earlier (rows (far.front ++ left)) far.clean (λ u. far.no_run (same ∙ u)));
+      }
+
+  pub refused_at : (known left : Option (List ℕ)) (until : Bool) (feed : Feed S) (line : ℕ) (code : Code) → StopsFrom judge known feed code → feed.until_run ≡ until → line ≡ feed.lines + 1
+      → IfSome known (λ text. ReadsLines judge has_taken until text left (Err (fault_at line code)))
+  refused_at None left until feed line code stop same at = tt
+  refused_at (Some text) left until feed line code stop same at = stop_told judge text left until feed line code stop same at
+
+  pub ran_at : (known left : Option (List ℕ)) (until : Bool) (feed : Feed S) (ended : Ended S) → RunFrom judge has_taken known left feed → feed.until_run ≡ until
+      → ended.taker ≡ feed.taker → ended.lines ≡ feed.lines → ended.at_run ≡ true → IfSome known (λ text. ReadsLines judge has_taken until text left (Ok ended))
+  ran_at None left until feed ended run same taker lines at = tt
+  ran_at (Some text) None until feed ended run same taker lines at = absurd run
+  ran_at (Some text) (Some left) until feed ended run same taker lines at = run_reads judge has_taken until text left feed ended run same taker lines at
+
+  pub ended_at : (known left : Option (List ℕ)) (until : Bool) (feed : Feed S) (result : Result (Ended S) Fault) → EndsFrom judge has_taken mark known left feed → feed.until_run ≡ until
+      → ((text : List ℕ) → Within judge has_taken mark text [] feed → ReadsLines judge has_taken feed.until_run text (Some []) result)
+      → IfSome known (λ text. ReadsLines judge has_taken until text left result)
+  ended_at None left until feed result far same ends = tt
+  ended_at (Some text) None until feed result far same ends = absurd far
+  ended_at (Some text) (Some left) until feed result far same ends = rw (far.1, ← same) (ends text far.0)
+
+-- one side of a test
+pub if_so : (P Q : Type 0) (b : Bool) → b ≡ true → MatchBool b P Q → P
+if_so P Q true e h = h
+if_so P Q false e h = absurd cc

@@ -1,0 +1,12 @@
+mod WorkedRows
+mod Pieces
+mod ByteSearch
+mod DigitLemmas
+pub mod Items
+pub mod Problems
+pub mod Others
+mod Remarks
+mod Far
+mod Calls
+mod Networks
+mod FirstFaultLemmas

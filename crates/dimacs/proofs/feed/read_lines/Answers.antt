@@ -1,0 +1,23 @@
+use Rattle.std.proofs.Common.{◌∙◌, refl, rules}
+use Rattle.dimacs.proofs.Calls.{fails_at, refused_at, ran_at, ended_at, if_so}
+use Rattle.dimacs.proofs.feed.read_lines.Goals as goal
+
+pub returns-in-Failed-clause-read : goal.returns-in-Failed-clause-read
+returns-in-Failed-clause-read g c =
+    fails_at g.T.TakeLines.judge g.T.TakeLines.has_taken g.T.TakeLines.COMMENT _ _ c.args.until_run c.turn.new.feed _
+    (c.in-Failed.ensures.turns _ c.loop-feed.invariant.far) (c.turn.ensures.until ∙ c.loop-feed.invariant.until) refl
+
+pub returns-in-AtEnd-clause-read : goal.returns-in-AtEnd-clause-read
+returns-in-AtEnd-clause-read g c =
+    ended_at g.T.TakeLines.judge g.T.TakeLines.has_taken g.T.TakeLines.COMMENT _ _ c.args.until_run c.turn.new.feed c.end.result
+    (c.in-AtEnd.ensures.turns _ c.loop-feed.invariant.far) (c.turn.ensures.until ∙ c.loop-feed.invariant.until) c.end.ensures.ends
+
+pub returns-then-fed-clause-read : goal.returns-then-fed-clause-read
+returns-then-fed-clause-read g c =
+    ran_at g.T.TakeLines.judge g.T.TakeLines.has_taken g.T.TakeLines.COMMENT _ _ c.args.until_run c.turn.new.feed c.ended.result
+    (if_so _ _ c.in-Took.fed.at_run (search rules) (c.in-Took.ensures.turns _ c.loop-feed.invariant.far)) (c.turn.ensures.until ∙ c.loop-feed.invariant.until) (search rules) (search rules) (search rules)
+
+pub returns-in-Refused-clause-read : goal.returns-in-Refused-clause-read
+returns-in-Refused-clause-read g c =
+    refused_at g.T.TakeLines.judge g.T.TakeLines.has_taken g.T.TakeLines.COMMENT _ _ c.args.until_run c.turn.new.feed _ c.in-Refused.code
+    (c.in-Refused.ensures.turns _ c.loop-feed.invariant.far) (c.turn.ensures.until ∙ c.loop-feed.invariant.until) refl

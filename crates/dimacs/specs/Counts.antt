@@ -1,0 +1,24 @@
+-- A reader with the count of its failed calls.
+use Rattle.std.specs.Prelude.{◌≡◌, ℕ, ◌+◌, ◌-◌, ◌^◌, min, Result, Ok, Err}
+use Rattle.dimacs.specs.declared.fault.Fault.{Fault}
+use Rattle.dimacs.specs.declared.counted.Counted.{Counted}
+use Rattle.dimacs.specs.Taking.{ByCode}
+
+-- the count, the reader, and the name by which it is known to be the same reader
+abbrev pub failed_calls : {R : Type 0} → Counted R → ℕ
+failed_calls c = c.failed
+
+abbrev pub reader_of : {R : Type 0} → Counted R → R
+reader_of c = c.reader.now
+
+abbrev pub IsSameReader : {R : Type 0} → Counted R → Counted R → Type 0
+IsSameReader old new = new.reader.ghost_name ≡ old.reader.ghost_name
+
+-- the count after one more failed call
+abbrev pub one_more_failed : ℕ → ℕ
+one_more_failed n = min (n + 1) (2 ^ 64 - 1)
+
+-- the count has gone up by one where the answer is the fault of a failed call, and else it is as it was
+abbrev pub CountsFailures : {X : Type 0} → ℕ → ℕ → Result X Fault → Type 0
+CountsFailures old new (Ok x) = new ≡ old
+CountsFailures old new (Err fault) = ByCode fault.code (new ≡ old) (new ≡ one_more_failed old) (new ≡ old)

@@ -1,0 +1,54 @@
+-- What a call that takes the lines of a text answers.
+use Rattle.std.specs.Prelude.{◌≡◌, ℕ, ◌+◌, ◌-◌, ◌<◌, ◌≤◌, Bool, ◌&&◌, List, [], length, take, count_by, Option, None, Some, Result, Ok, Err}
+use Rattle.std.specs.Io.KnownBytes.{Consumes}
+use Rattle.dimacs.specs.declared.fault.Fault.{Fault}
+use Rattle.dimacs.specs.declared.feed.Ended.{Ended}
+use Rattle.dimacs.specs.Lines.{is_line_feed, rows}
+use Rattle.dimacs.specs.Faults.{Row, Judge, first_fault}
+use Rattle.dimacs.specs.Joint.{has_run, taken_of, left_of}
+use Rattle.dimacs.specs.Taking.{ByCode, ByMemory}
+
+-- these lines were taken, in none of which there is a fault
+pub record TakenAll {S : Type 0} (judge : Judge) (has_taken : List Row → S → Type 0) (lines : List Row) (ended : Ended S) : Type 0 where
+  pub clean : first_fault judge [] lines ≡ None
+  pub taken : has_taken lines ended.taker
+  pub count : ended.lines ≡ length lines
+
+-- this is one of all lines, and no line before it has a fault or is left out
+pub record BreaksOff (judge : Judge) (all lines : List Row) (line : ℕ) : Type 0 where
+  pub first : 0 < line
+  pub within : line ≤ length all
+  pub next : line ≤ length lines + 1
+  pub clean : first_fault judge [] (take (line - 1) lines) ≡ None
+
+-- the lines were taken, or their first fault is told, or memory ran out in a line before which there is no fault
+abbrev pub ParsesLines : {S : Type 0} → Judge → (List Row → S → Type 0) → List Row → Result (Ended S) Fault → Type 0
+ParsesLines judge has_taken lines (Ok ended) = TakenAll judge has_taken lines ended
+ParsesLines judge has_taken lines (Err fault) = ByMemory fault.code (first_fault judge [] lines ≡ Some fault) (BreaksOff judge lines lines fault.line)
+
+-- the reader failed in this line, which its bytes up to there have as many line feeds before, and no line before it has a fault
+pub record FailsIn (judge : Judge) (text : List ℕ) (lines : List Row) (left : Option (List ℕ)) (line : ℕ) : Type 0 where
+  pub front : List ℕ
+  pub read : Consumes (Some text) left front
+  pub feeds : line ≡ count_by is_line_feed front + 1
+  pub next : line ≤ length lines + 1
+  pub clean : first_fault judge [] (take (line - 1) lines) ≡ None
+
+-- the reader has the bytes of these lines left
+abbrev pub HasLeft : List Row → Option (List ℕ) → Type 0
+HasLeft lines None = ⊥
+HasLeft lines (Some rest) = rows rest ≡ lines
+
+-- the lines up to the end, or up to the first line `run`, were taken, and what follows them is left
+pub record ReadAll {S : Type 0} (judge : Judge) (has_taken : List Row → S → Type 0) (until_run : Bool) (text : List ℕ) (left : Option (List ℕ)) (ended : Ended S) : Type 0 where
+  pub lines : TakenAll judge has_taken (taken_of until_run (rows text)) ended
+  pub at_run : ended.at_run ≡ (until_run && has_run (rows text))
+  pub rest : HasLeft (left_of until_run (rows text)) left
+
+-- the same of a reader that has this text left and may fail
+abbrev pub ReadsLines : {S : Type 0} → Judge → (List Row → S → Type 0) → Bool → List ℕ → Option (List ℕ) → Result (Ended S) Fault → Type 0
+ReadsLines judge has_taken until_run text left (Ok ended) = ReadAll judge has_taken until_run text left ended
+ReadsLines judge has_taken until_run text left (Err fault) = ByCode fault.code
+    (first_fault judge [] (taken_of until_run (rows text)) ≡ Some fault)
+    (FailsIn judge text (taken_of until_run (rows text)) left fault.line)
+    (BreaksOff judge (rows text) (taken_of until_run (rows text)) fault.line)

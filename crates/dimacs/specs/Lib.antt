@@ -1,0 +1,17 @@
+pub mod Lines
+pub mod Digits
+pub mod Numerals
+pub mod Format
+pub mod Faults
+pub mod Kinds
+pub mod FirstFault
+pub mod Commands
+pub mod Reading
+pub mod Content
+pub mod Joint
+pub mod Taking
+pub mod Ends
+pub mod Counts
+pub mod Gr
+pub mod Progress
+pub mod Turns

@@ -1,0 +1,92 @@
+-- How far a text is read.
+use Rattle.std.specs.Prelude.{◌≡◌, ◌≢◌, ◌⊎◌, ℕ, ◌<◌, Bool, true, false, List, [], ◌∷◌, ◌++◌, All, length, drop, count_by, Option, None, Some, Result, Ok, Err, is_none, MatchBool, ⊤}
+use Rattle.std.specs.List.{filter_map}
+use Rattle.dimacs.specs.declared.fault.Code.{Code}
+use Rattle.dimacs.specs.declared.fault.Fault.{Fault}
+use Rattle.dimacs.specs.declared.problem.Problem.{Problem}
+use Rattle.dimacs.specs.declared.gr.GrLines.{GrLines}
+use Rattle.dimacs.specs.declared.feed.Feed.{Feed}
+use Rattle.dimacs.specs.declared.feed.Fed.{Fed}
+use Rattle.dimacs.specs.Format.{gr}
+use Rattle.dimacs.specs.Lines.{is_line_feed, rows, fields}
+use Rattle.dimacs.specs.Faults.{Row, Judge, is_remark, problem_of, announced, items_of, first_fault, end_code}
+use Rattle.dimacs.specs.Content.{arc_of, network_of}
+use Rattle.dimacs.specs.Joint.{is_run, has_run}
+use Rattle.dimacs.specs.Taking.{ByMemory}
+use Rattle.roadnet.specs.Net.{Net}
+
+abbrev pub counts_of : Option Problem → List ℕ
+counts_of None = []
+counts_of (Some p) = p.nodes ∷ p.items ∷ []
+
+-- these lines of a `.gr` text were taken, and there is no fault in them
+pub record HasTaken (earlier : List Row) (r : GrLines) : Type 0 where
+  pub problem : is_none (problem_of earlier) ≡ is_none r.problem
+  pub counts : announced gr earlier ≡ counts_of r.problem
+  pub items : items_of gr earlier ≡ length r.arcs.items
+  pub arcs : filter_map arc_of earlier ≡ r.arcs.items
+
+-- all lines are taken, and the end is no fault; or memory ran out after a problem line
+abbrev pub Ends : List Row → Result Net Code → Type 0
+Ends lines (Ok net) = (end_code gr lines ≡ None) × (net ≡ network_of lines)
+Ends lines (Err code) = ByMemory code (end_code gr lines ≡ Some code) (0 < length lines)
+
+-- the same for the lines of a text or of its front, with the line that a fault names
+abbrev pub AtEnd : List Row → Bool → Result (Net × Bool) Fault → Type 0
+AtEnd lines at_run (Ok found) = (end_code gr lines ≡ None) × (found.0 ≡ network_of lines) × (found.1 ≡ at_run)
+AtEnd lines at_run (Err fault) = ByMemory fault.code (end_code gr lines ≡ Some fault.code) (0 < length lines) × (fault.line ≡ length lines)
+
+-- what is kept of the front of a line: all of it, or of a comment only that it is one
+abbrev pub StandsFor : ℕ → List ℕ → List ℕ → Type 0
+StandsFor mark front kept = (kept ≡ front) ⊎ ((is_remark mark (fields front) ≡ true) × (is_remark mark (fields kept) ≡ true))
+
+-- a line is taken, or it is the line `run` at which to stop, or it has a fault, or memory ran out
+abbrev pub TakesOrRuns : {S : Type 0} → Judge → (List Row → S → Type 0) → Bool → List Row → Row → S → Result Bool Code → Type 0
+TakesOrRuns judge has_taken until_run earlier row new (Ok true) = (until_run ≡ true) × (is_run row ≡ true) × has_taken earlier new
+TakesOrRuns judge has_taken until_run earlier row new (Ok false) = (judge earlier row ≡ None) × has_taken (earlier ++ row ∷ []) new × (until_run ≡ true → is_run row ≡ false)
+TakesOrRuns judge has_taken until_run earlier row new (Err code) = ByMemory code ((judge earlier row ≡ Some code) × (until_run ≡ true → is_run row ≡ false)) ⊤
+
+-- this much of the text is left. The lines before it are taken, but for the front of one that goes on in what is left.
+pub record Within {S : Type 0} (judge : Judge) (has_taken : List Row → S → Type 0) (mark : ℕ) (text left : List ℕ) (feed : Feed S) : Type 0 where
+  pub earlier : List Row
+  pub front : List ℕ
+  pub before : List ℕ
+  pub lines : rows text ≡ earlier ++ rows (front ++ left)
+  pub in_line : All (λ b. b ≢ 10) front
+  pub kept : StandsFor mark front feed.kept.items
+  pub count : length earlier ≡ feed.lines
+  pub clean : first_fault judge [] earlier ≡ None
+  pub no_run : feed.until_run ≡ true → has_run earlier ≡ false
+  pub taken : has_taken earlier feed.taker
+  pub read : text ≡ before ++ left
+  pub feeds : count_by is_line_feed before ≡ feed.lines
+
+-- the next line is `run`, and this is left after it
+pub record BeforeRun {S : Type 0} (judge : Judge) (has_taken : List Row → S → Type 0) (text left : List ℕ) (feed : Feed S) : Type 0 where
+  pub earlier : List Row
+  pub row : Row
+  pub lines : rows text ≡ earlier ++ row ∷ rows left
+  pub is : is_run row ≡ true
+  pub until : feed.until_run ≡ true
+  pub count : length earlier ≡ feed.lines
+  pub clean : first_fault judge [] earlier ≡ None
+  pub no_run : has_run earlier ≡ false
+  pub taken : has_taken earlier feed.taker
+
+-- the next line has a fault, or memory ran out in it
+pub record StopsAt {S : Type 0} (judge : Judge) (text : List ℕ) (feed : Feed S) (code : Code) : Type 0 where
+  pub earlier : List Row
+  pub row : Row
+  pub later : List Row
+  pub lines : rows text ≡ earlier ++ row ∷ later
+  pub count : length earlier ≡ feed.lines
+  pub clean : first_fault judge [] earlier ≡ None
+  pub no_run : feed.until_run ≡ true → has_run earlier ≡ false
+  pub why : ByMemory code ((judge earlier row ≡ Some code) × (feed.until_run ≡ true → is_run row ≡ false)) ⊤
+
+-- what a feed answers that was shown the front of what is left
+abbrev pub Feeds : {S : Type 0} → Judge → (List Row → S → Type 0) → ℕ → List ℕ → List ℕ → List ℕ → Feed S → Result Fed Code → Type 0
+Feeds judge has_taken mark text bytes more feed (Ok fed) = MatchBool fed.at_run
+    (BeforeRun judge has_taken text (drop fed.taken bytes ++ more) feed)
+    ((fed.taken ≡ length bytes) × Within judge has_taken mark text more feed)
+Feeds judge has_taken mark text bytes more feed (Err code) = StopsAt judge text feed code

@@ -1,0 +1,109 @@
+//! A reader that counts its failed calls.
+ghost use Rattle.std.specs.Prelude.{◌≡◌, ◌+◌, ◌-◌, ◌^◌, ◌<◌, ◌≤◌, ℕ, List, Option};
+ghost use Rattle.dimacs.specs.Counts.{failed_calls, reader_of, IsSameReader};
+ghost use Rattle.dimacs.specs.Turns.{FarFrom, Turns, HasRoom, IsNoRead, CountsTurn};
+
+use crate::fault::Code;
+use crate::feed::{Fed, Feed};
+use crate::taking::TakeLines;
+use std::io::{BufRead, ErrorKind};
+
+/// A reader, and how many of its calls have failed, up to `u64::MAX`. A call that was interrupted is made again and counts as
+/// none. A reader that goes on, within one reading, until its calls and bytes are 2^64 - 2 together counts as one that fails.
+#[derive(Drop)]
+pub struct Counted<'r, R> {
+    reader: &'r mut R,
+    failed: u64,
+}
+
+/// What one call of a reader gave.
+#[derive(Clone, Copy)]
+pub(crate) enum Turn {
+    /// The call failed.
+    Failed,
+    /// There are no more bytes.
+    AtEnd,
+    /// These bytes were taken.
+    Took(Fed),
+    /// The bytes have a fault.
+    Refused(Code),
+}
+
+const NOTHING: Fed = Fed {
+    taken: 0,
+    at_run: false,
+};
+
+/// Calls the reader once, and feeds what it shows.
+fn feed_from<R: BufRead, T: TakeLines>(reader: &mut R, feed: &mut Feed<T>) -> Turn
+    requires { feed.old.lines + feed.old.left < 2 ^ 64 - 1 }
+    ensures turns { (known : Option (List ℕ))
+        → FarFrom T.judge T.has_taken T.COMMENT known (R.remaining reader.old) feed.old
+        → Turns T.judge T.has_taken T.COMMENT known (R.remaining reader.new) feed.new result }
+    ensures room { HasRoom feed.old feed.new result }
+    ensures refused { IsNoRead result }
+    ensures until { feed.new.until_run ≡ feed.old.until_run }
+{
+    let left = feed.left;
+    let bytes = match reader.fill_buf() {
+        Ok(bytes) => bytes,
+        Err(error) => {
+            if left > 0 && error.kind() == ErrorKind::Interrupted {
+                feed.left = left - 1;
+                return Turn::Took(NOTHING);
+            }
+            return Turn::Failed;
+        }
+    };
+    if bytes.len() as u64 >= left {
+        return Turn::Failed;
+    }
+    if bytes.is_empty() {
+        return Turn::AtEnd;
+    }
+    match feed.take(bytes) {
+        Ok(fed) => {
+            reader.consume(fed.taken);
+            feed.left = left - 1 - fed.taken as u64;
+            Turn::Took(fed)
+        }
+        Err(code) => Turn::Refused(code),
+    }
+}
+
+impl<'r, R: BufRead> Counted<'r, R> {
+    /// No call has failed yet.
+    pub fn new(reader: &'r mut R) -> Counted<'r, R>
+        ensures reader { reader_of result ≡ reader.old }
+        ensures same { result.reader.ghost_name ≡ reader.entry.ghost_name }
+        ensures failed { failed_calls result ≡ 0 }
+    {
+        Counted { reader, failed: 0 }
+    }
+
+    /// How many calls of the reader have failed.
+    pub fn failed_calls(&self) -> u64
+        ensures { result ≡ failed_calls self.now }
+    {
+        self.failed
+    }
+
+    /// Calls the reader once, and feeds what it shows. The count goes up where the call fails, and only there.
+    pub(crate) fn turn<T: TakeLines>(&mut self, feed: &mut Feed<T>) -> Turn
+        requires { feed.old.lines + feed.old.left < 2 ^ 64 - 1 }
+        ensures turns { (known : Option (List ℕ))
+            → FarFrom T.judge T.has_taken T.COMMENT known (R.remaining (reader_of self.old)) feed.old
+            → Turns T.judge T.has_taken T.COMMENT known (R.remaining (reader_of self.new)) feed.new result }
+        ensures counts { CountsTurn (failed_calls self.old) (failed_calls self.new) result }
+        ensures same { IsSameReader self.old self.new }
+        ensures room { HasRoom feed.old feed.new result }
+        ensures refused { IsNoRead result }
+        ensures until { feed.new.until_run ≡ feed.old.until_run }
+    {
+        let turn = feed_from(self.reader, feed);
+        if let Turn::Failed = turn {
+            self.failed = self.failed.saturating_add(1);
+        }
+        turn
+    }
+}

@@ -1,0 +1,259 @@
+//! The lines of a text, taken from its bytes piece by piece.
+ghost use Rattle.std.specs.Prelude.{◌≡◌, ◌≢◌, ◌⊎◌, ◌+◌, ◌-◌, ◌^◌, ◌<◌, ◌≤◌, ◌++◌, ℕ, List, All, length, IfOk, IfErr, IfSome, OnOk, OnErr, Some, []};
+ghost use Rattle.std.specs.Io.BufRead.{strip_last};
+ghost use Rattle.dimacs.specs.Lines.{fields, rows};
+ghost use Rattle.dimacs.specs.Faults.{Row};
+ghost use Rattle.dimacs.specs.Progress.{StandsFor, Within, Feeds, TakesOrRuns};
+ghost use Rattle.dimacs.specs.Ends.{ParsesLines, ReadsLines};
+ghost use Rattle.dimacs.specs.Counts.{CountsFailures, IsSameReader, failed_calls, reader_of};
+
+use crate::counted::{Counted, Turn};
+use crate::fault::{Code, Fault};
+use crate::line::{is_remark, is_run, split_at_feed, split_line, without_carriage_return};
+use crate::taking::TakeLines;
+use std::alloc::Global;
+use std::io::BufRead;
+
+/// What is known of a text while its bytes come in: `lines` lines were taken, and `kept` has the front of the next one.
+#[derive(Drop)]
+pub(crate) struct Feed<T> {
+    pub(crate) taker: T,
+    pub(crate) kept: Vec<u8>,
+    pub(crate) lines: u64,
+    pub(crate) until_run: bool,
+    pub(crate) left: u64,
+}
+
+/// How many bytes were taken, and whether a line `run` ends them.
+#[derive(Clone, Copy)]
+pub(crate) struct Fed {
+    pub(crate) taken: usize,
+    pub(crate) at_run: bool,
+}
+
+/// What the lines of a text have made of the value that took them, their number, and whether a line `run`, which is not one
+/// of them, follows.
+#[derive(Drop)]
+pub struct Ended<T> {
+    pub taker: T,
+    pub lines: u64,
+    pub at_run: bool,
+}
+
+/// Takes a line, unless it is the line `run` at which to stop. Says whether it is.
+fn take_or_run<T: TakeLines>(taker: &mut T, until_run: bool, line: &[u8]) -> Result<bool, Code>
+    ensures reads_nothing { IfErr result (λ code. code ≢ Code.Read) }
+    ensures takes { (earlier : List Row) → T.has_taken earlier taker.old
+        → TakesOrRuns T.judge T.has_taken until_run earlier (fields line.now) taker.new result }
+{
+    if until_run && is_run(line) {
+        return Ok(true);
+    }
+    taker.take_line(line)?;
+    Ok(false)
+}
+
+impl<T: TakeLines> Feed<T> {
+    /// Takes the line that begins with what is kept and ends with this piece.
+    fn take_whole(&mut self, piece: &[u8]) -> Result<bool, Code>
+        ensures reads_nothing { IfErr result (λ code. code ≢ Code.Read) }
+        ensures taken { (earlier : List Row) (front : List ℕ) → T.has_taken earlier self.old.taker
+            → StandsFor T.COMMENT front self.old.kept.items
+            → TakesOrRuns T.judge T.has_taken self.old.until_run earlier
+            (fields (strip_last 13 (front ++ piece.now))) self.new.taker result }
+        ensures lines { self.new.lines ≡ self.old.lines }
+        ensures until { self.new.until_run ≡ self.old.until_run }
+        ensures left { self.new.left ≡ self.old.left }
+    {
+        if self.kept.is_empty() {
+            return take_or_run(
+                &mut self.taker,
+                self.until_run,
+                without_carriage_return(piece),
+            );
+        }
+        if is_remark(&self.kept, T::COMMENT) {
+            self.taker.pass_comment();
+            return Ok(false);
+        }
+        match self.kept.extend_from_slice(piece) {
+            Ok(()) => {}
+            Err(_) => return Err(Code::OutOfMemory),
+        }
+        take_or_run(
+            &mut self.taker,
+            self.until_run,
+            without_carriage_return(&self.kept),
+        )
+    }
+
+    /// Keeps the front of the next line, of a comment only as much as shows that it is one.
+    fn keep(&mut self, piece: &[u8]) -> Result<(), Code>
+        ensures kept { OnOk result ((front : List ℕ) → StandsFor T.COMMENT front self.old.kept.items
+            → StandsFor T.COMMENT (front ++ piece.now) self.new.kept.items) }
+        ensures refused { IfErr result (λ code. (code ≡ Code.OutOfMemory) × (0 < length piece.now)) }
+        ensures taker { self.new.taker ≡ self.old.taker }
+        ensures lines { self.new.lines ≡ self.old.lines }
+        ensures until { self.new.until_run ≡ self.old.until_run }
+        ensures left { self.new.left ≡ self.old.left }
+    {
+        if piece.is_empty() {
+            return Ok(());
+        }
+        if is_remark(&self.kept, T::COMMENT) {
+            return Ok(());
+        }
+        match self.kept.extend_from_slice(piece) {
+            Ok(()) => Ok(()),
+            Err(_) => Err(Code::OutOfMemory),
+        }
+    }
+
+    /// Takes the lines that end in these bytes, and keeps the front of the next one. Stops behind the line `run`, where it is
+    /// told to.
+    pub(crate) fn take(&mut self, bytes: &[u8]) -> Result<Fed, Code>
+        requires { self.old.lines + length bytes.now < 2 ^ 64 }
+        ensures reads_nothing { IfErr result (λ code. code ≢ Code.Read) }
+        ensures feeds { (text more : List ℕ)
+            → Within T.judge T.has_taken T.COMMENT text (bytes.now ++ more) self.old
+            → Feeds T.judge T.has_taken T.COMMENT text bytes.now more self.new result }
+        ensures taken { IfOk result (λ fed. fed.taken ≤ length bytes.now) }
+        ensures lines { IfOk result (λ fed. self.new.lines ≤ self.old.lines + fed.taken) }
+        ensures refused { OnErr result (self.new.lines < self.old.lines + length bytes.now) }
+        ensures until { self.new.until_run ≡ self.old.until_run }
+        ensures left { self.new.left ≡ self.old.left }
+    {
+        let mut rest = bytes;
+        while let Some((piece, more)) = split_at_feed(rest) {
+            if self.take_whole(piece)? {
+                return Ok(Fed {
+                    taken: bytes.len() - more.len(),
+                    at_run: true,
+                });
+            }
+            self.kept.clear();
+            self.lines += 1;
+            rest = more;
+        }
+        self.keep(rest)?;
+        Ok(Fed {
+            taken: bytes.len(),
+            at_run: false,
+        })
+    }
+
+    /// Ends the text, whose last line may be kept.
+    pub(crate) fn end(mut self) -> Result<Ended<T>, Fault>
+        requires { self.lines + 1 < 2 ^ 64 }
+        ensures ends { (text : List ℕ) → Within T.judge T.has_taken T.COMMENT text [] self
+            → ReadsLines T.judge T.has_taken self.until_run text (Some []) result }
+        ensures reads_nothing { IfErr result (λ fault. fault.code ≢ Code.Read) }
+    {
+        let mut at_run = false;
+        if !self.kept.is_empty() {
+            match self.take_whole(b"") {
+                Ok(is_run) => {
+                    at_run = is_run;
+                    if !is_run {
+                        self.lines += 1;
+                    }
+                }
+                Err(code) => {
+                    return Err(Fault {
+                        line: self.lines + 1,
+                        code,
+                    });
+                }
+            }
+        }
+        Ok(self.ended(at_run))
+    }
+
+    pub(crate) fn ended(self, at_run: bool) -> Ended<T>
+        ensures { result ≡ record { taker = self.taker; lines = self.lines; at_run = at_run } }
+    {
+        let Feed {
+            taker,
+            kept: _,
+            lines,
+            until_run: _,
+            left: _,
+        } = self;
+        Ended {
+            taker,
+            lines,
+            at_run,
+        }
+    }
+}
+
+/// Takes the lines of a text, up to the first that has a fault. The value that takes them has taken none yet.
+pub fn parse_lines<T: TakeLines>(taker: T, bytes: &[u8]) -> Result<Ended<T>, Fault>
+    requires { T.has_taken [] taker }
+    ensures { ParsesLines T.judge T.has_taken (rows bytes.now) result }
+{
+    let mut taker = taker;
+    let mut lines = 0u64;
+    let mut rest = bytes;
+    while let Some((line, more)) = split_line(rest) {
+        if let Err(code) = taker.take_line(line) {
+            return Err(Fault {
+                line: lines + 1,
+                code,
+            });
+        }
+        lines += 1;
+        rest = more;
+    }
+    Ok(Ended {
+        taker,
+        lines,
+        at_run: false,
+    })
+}
+
+/// Takes the lines that a reader gives, up to the first that has a fault, or, where it is to read until a line `run`, up to
+/// and without that line; the reader then has the bytes behind that line left. The value that takes them has taken none yet.
+/// After an `Err` the reader is not used again.
+pub fn read_lines<T: TakeLines, R: BufRead>(
+    alloc: Global,
+    counted: &mut Counted<'_, R>,
+    until_run: bool,
+    taker: T,
+) -> Result<Ended<T>, Fault>
+    requires { T.has_taken [] taker }
+    ensures read { IfSome (R.remaining (reader_of counted.old))
+        (λ text. ReadsLines T.judge T.has_taken until_run text (R.remaining (reader_of counted.new)) result) }
+    ensures counts { CountsFailures (failed_calls counted.old) (failed_calls counted.new) result }
+    ensures same { IsSameReader counted.old counted.new }
+{
+    let mut feed = Feed {
+        taker,
+        kept: Vec::new(alloc),
+        lines: 0,
+        until_run,
+        left: u64::MAX - 1,
+    };
+    loop {
+        match counted.turn(&mut feed) {
+            Turn::Failed => {
+                return Err(Fault {
+                    line: feed.lines + 1,
+                    code: Code::Read,
+                });
+            }
+            Turn::AtEnd => return feed.end(),
+            Turn::Took(fed) => {
+                if fed.at_run {
+                    return Ok(feed.ended(true));
+                }
+            }
+            Turn::Refused(code) => {
+                return Err(Fault {
+                    line: feed.lines + 1,
+                    code,
+                });
+            }
+        }
+    }
+}

@@ -1,0 +1,141 @@
+//! Lines of a text, and fields of a line.
+ghost use Rattle.std.specs.Prelude.{◌≡◌, ◌<◌, ◌∷◌, [], length, MatchOption, IfSome, not, ◌≢◌, ◌++◌, All};
+ghost use Rattle.std.specs.List.{position, position_or_len};
+ghost use Rattle.std.specs.Io.BufRead.{strip_last};
+ghost use Rattle.dimacs.specs.Lines.{is_line_feed, is_blank, lines, fields};
+ghost use Rattle.dimacs.specs.Kinds.{IsKind};
+ghost use Rattle.dimacs.specs.Faults.{is_remark};
+ghost use Rattle.dimacs.specs.Joint.{is_run};
+
+use memchr::memchr;
+
+fn is_blank(byte: u8) -> bool
+    ensures { result ≡ is_blank byte }
+{
+    byte == b' ' || byte == b'\t'
+}
+
+/// Where the first field of a line begins.
+fn field_start(line: &[u8]) -> Option<usize>
+    ensures { result ≡ position (λ b. not (is_blank b)) line.now }
+{
+    line.iter().position(|byte| !is_blank(*byte))
+}
+
+fn first_blank(rest: &[u8]) -> Option<usize>
+    ensures { result ≡ position is_blank rest.now }
+{
+    rest.iter().position(|byte| is_blank(*byte))
+}
+
+/// How long the field is that begins here.
+fn field_len(rest: &[u8]) -> usize
+    ensures { result ≡ position_or_len is_blank rest.now }
+{
+    first_blank(rest).unwrap_or(rest.len())
+}
+
+/// The first field of a line, and what follows it.
+pub fn split_field(line: &[u8]) -> Option<(&[u8], &[u8])>
+    ensures { MatchOption result (fields line.now ≡ [])
+        (λ found. fields line.now ≡ found.0.now ∷ fields found.1.now) }
+{
+    match field_start(line) {
+        None => None,
+        Some(start) => {
+            let (_, rest) = line.split_at(start);
+            Some(rest.split_at(field_len(rest)))
+        }
+    }
+}
+
+pub(crate) fn without_carriage_return(line: &[u8]) -> &[u8]
+    ensures { result.now ≡ strip_last 13 line.now }
+{
+    match line {
+        [front @ .., b'\r'] => front,
+        _ => line,
+    }
+}
+
+fn line_end(text: &[u8]) -> Option<usize>
+    ensures { result ≡ position is_line_feed text.now }
+{
+    memchr(b'\n', text)
+}
+
+/// The first line of a text, and what follows it.
+pub(crate) fn split_line(text: &[u8]) -> Option<(&[u8], &[u8])>
+    ensures line { MatchOption result (lines text.now ≡ [])
+        (λ found. lines text.now ≡ found.0.now ∷ lines found.1.now) }
+    ensures shorter { IfSome result (λ found. length found.1.now < length text.now) }
+{
+    if text.is_empty() {
+        return None;
+    }
+    match line_end(text) {
+        Some(end) => {
+            let (line, _) = text.split_at(end);
+            let (_, rest) = text.split_at(end + 1);
+            Some((without_carriage_return(line), rest))
+        }
+        None => Some((without_carriage_return(text), &[])),
+    }
+}
+
+/// The bytes before the first line feed, and those after it.
+pub(crate) fn split_at_feed(bytes: &[u8]) -> Option<(&[u8], &[u8])>
+    ensures { MatchOption result (All (λ b. b ≢ 10) bytes.now)
+        (λ found. (bytes.now ≡ found.0.now ++ 10 ∷ found.1.now) × All (λ b. b ≢ 10) found.0.now) }
+{
+    match line_end(bytes) {
+        Some(end) => {
+            let (line, _) = bytes.split_at(end);
+            let (_, rest) = bytes.split_at(end + 1);
+            Some((line, rest))
+        }
+        None => None,
+    }
+}
+
+/// Whether the first byte after blanks is the mark of a comment.
+pub(crate) fn is_remark(line: &[u8], mark: u8) -> bool
+    ensures { result ≡ is_remark mark (fields line.now) }
+{
+    match split_field(line) {
+        Some(([first, ..], _)) => *first == mark,
+        _ => false,
+    }
+}
+
+/// Whether the line has the one field `run`.
+pub(crate) fn is_run(line: &[u8]) -> bool
+    ensures { result ≡ is_run (fields line.now) }
+{
+    match split_field(line) {
+        Some((b"run", rest)) => split_field(rest).is_none(),
+        _ => false,
+    }
+}
+
+/// A line by its kind, with what follows its first field.
+pub(crate) enum Kind<'a> {
+    /// A line with no field, or a comment.
+    Ignored,
+    Problem(&'a [u8]),
+    Item(&'a [u8]),
+    Unknown,
+}
+
+/// The kind of a line, in a format with this letter for its items.
+pub(crate) fn kind_of(line: &[u8], item: u8) -> Kind<'_>
+    requires { (item ≢ 99) × (item ≢ 112) }
+    ensures { IsKind item (fields line.now) result }
+{
+    match split_field(line) {
+        None | Some(([b'c', ..], _)) => Kind::Ignored,
+        Some((b"p", words)) => Kind::Problem(words),
+        Some(([first], numbers)) if *first == item => Kind::Item(numbers),
+        Some(_) => Kind::Unknown,
+    }
+}

@@ -1,0 +1,140 @@
+//! One line of a `.gr` text.
+ghost use Rattle.std.specs.Prelude.{◌≡◌, ◌≢◌, IfErr, is_some};
+ghost use Rattle.std.specs.Option.{option_map};
+ghost use Rattle.dimacs.specs.Lines.{fields};
+ghost use Rattle.dimacs.specs.Reading.{first_numeral, two_numerals, three_numerals, arc_of_numerals, item_after, problem_of_numerals, problem_after};
+
+use crate::fault::Code;
+use crate::line::split_field;
+use crate::numeral::Numeral;
+use crate::problem::{Problem, after_kind};
+use roadnet::RoadArc;
+
+const MOST_NODES: u64 = 1 << 25;
+
+const MOST_ARCS: u64 = 1 << 26;
+
+const GREATEST_LENGTH: u64 = 2_147_483_647;
+
+/// The first field as a numeral, and what follows it.
+fn split_numeral(numbers: &[u8]) -> Option<(Numeral, &[u8])>
+    ensures { option_map (λ x. (x.0, fields x.1.now)) result ≡ first_numeral (fields numbers.now) }
+{
+    let (field, rest) = split_field(numbers)?;
+    let number = Numeral::parse(field)?;
+    Some((number, rest))
+}
+
+/// Two numerals and no other field.
+pub fn split_two(numbers: &[u8]) -> Option<(Numeral, Numeral)>
+    ensures { result ≡ two_numerals (fields numbers.now) }
+{
+    let (first, rest) = split_numeral(numbers)?;
+    let (second, rest) = split_numeral(rest)?;
+    match split_field(rest) {
+        None => Some((first, second)),
+        Some(_) => None,
+    }
+}
+
+/// Three numerals and no other field.
+fn split_three(numbers: &[u8]) -> Option<(Numeral, Numeral, Numeral)>
+    ensures { result ≡ three_numerals (fields numbers.now) }
+{
+    let (first, rest) = split_numeral(numbers)?;
+    let (second, rest) = split_numeral(rest)?;
+    let (third, rest) = split_numeral(rest)?;
+    match split_field(rest) {
+        None => Some((first, second, third)),
+        Some(_) => None,
+    }
+}
+
+/// The arc of an item line, after so many items.
+pub(crate) fn item(problem: Option<Problem>, taken: usize, numbers: &[u8]) -> Result<RoadArc, Code>
+    ensures reads_nothing { IfErr result (λ code. code ≢ Code.Read) }
+    ensures value { result ≡ item_after problem taken (three_numerals (fields numbers.now)) }
+{
+    let Some((tail, head, length)) = split_three(numbers) else {
+        return Err(Code::BadLine);
+    };
+    let Some(problem) = problem else {
+        return Err(Code::NoProblemLine);
+    };
+    arc(problem, taken, tail, head, length)
+}
+
+fn arc(
+    problem: Problem,
+    taken: usize,
+    tail: Numeral,
+    head: Numeral,
+    length: Numeral,
+) -> Result<RoadArc, Code>
+    ensures reads_nothing { IfErr result (λ code. code ≢ Code.Read) }
+    ensures value { result ≡ arc_of_numerals problem taken tail head length }
+{
+    if tail.is_unreadable() || head.is_unreadable() || length.is_unreadable() {
+        return Err(Code::NumberRange);
+    }
+    let nodes = u64::from(problem.nodes);
+    if tail.is_outside(1, nodes) || head.is_outside(1, nodes) {
+        return Err(Code::NodeRange);
+    }
+    if length.is_outside(0, GREATEST_LENGTH) {
+        return Err(Code::LengthRange);
+    }
+    if problem.items as usize <= taken {
+        return Err(Code::LineCount);
+    }
+    Ok(RoadArc {
+        tail: tail.size as u32,
+        head: head.size as u32,
+        length: length.size as u32,
+        opened: true,
+    })
+}
+
+/// What a problem line announces, by the words after `p`.
+pub(crate) fn problem(has_problem: bool, words: &[u8]) -> Result<Problem, Code>
+    ensures reads_nothing { IfErr result (λ code. code ≢ Code.Read) }
+    ensures value { result ≡ problem_after has_problem (fields words.now) }
+{
+    match after_kind(words) {
+        None => {
+            if has_problem {
+                Err(Code::SecondProblemLine)
+            } else {
+                Err(Code::WrongKind)
+            }
+        }
+        Some(counts) => {
+            let Some((nodes, items)) = split_two(counts) else {
+                return Err(Code::BadLine);
+            };
+            if has_problem {
+                return Err(Code::SecondProblemLine);
+            }
+            announced(nodes, items)
+        }
+    }
+}
+
+fn announced(nodes: Numeral, items: Numeral) -> Result<Problem, Code>
+    ensures reads_nothing { IfErr result (λ code. code ≢ Code.Read) }
+    ensures value { result ≡ problem_of_numerals nodes items }
+{
+    if nodes.is_unreadable() || items.is_unreadable() {
+        return Err(Code::NumberRange);
+    }
+    if nodes.is_under(1) || items.is_under(0) {
+        return Err(Code::NumberRange);
+    }
+    if nodes.is_over(MOST_NODES) || items.is_over(MOST_ARCS) {
+        return Err(Code::TooLarge);
+    }
+    Ok(Problem {
+        nodes: nodes.size as u32,
+        items: items.size as u32,
+    })
+}

@@ -1,0 +1,39 @@
+//! What takes the lines of a text, one after another.
+ghost use Rattle.std.specs.Prelude.{◌≡◌, ◌≢◌, IfErr, ◌++◌, ◌∷◌, [], ℕ, List, None, true, false, ◌==◌};
+ghost use Rattle.dimacs.specs.Lines.{fields};
+ghost use Rattle.dimacs.specs.Faults.{Row, Judge, is_remark};
+ghost use Rattle.dimacs.specs.Taking.{Takes};
+
+use crate::fault::Code;
+
+/// A kind of text: it judges each line after the lines before it, and keeps what they say.
+pub trait TakeLines: Drop {
+    // the code of a line after earlier lines, or none
+    ghost judge: { Judge };
+
+    // the value that was given these lines, in none of which there is a fault
+    ghost has_taken: { List Row → Self → Type 0 };
+
+    // the byte with which a comment begins
+    ghost COMMENT: { ℕ };
+
+    /// A line whose first byte after blanks is this one is a comment.
+    const COMMENT: u8;
+
+    /// Takes the next line, which is without its line feed and without one carriage return before that. After an `Err` the
+    /// value is not used again.
+    fn take_line(&mut self, line: &[u8]) -> Result<(), Code>
+        ensures takes { (earlier : List Row) → has_taken earlier self.old
+            → Takes judge has_taken earlier (fields line.now) self.new result }
+        ensures reads_nothing { IfErr result (λ code. code ≢ Code.Read) };
+
+    /// Passes over the next line, which is a comment.
+    fn pass_comment(&mut self)
+        ensures { (earlier : List Row) (row : Row) → is_remark COMMENT row ≡ true → has_taken earlier self.old
+            → (judge earlier row ≡ None) × has_taken (earlier ++ row ∷ []) self.new };
+
+    // no comment is the line `run`, nor begins with a carriage return
+    ghost run_is_no_comment: { (114 == COMMENT) ≡ false };
+
+    ghost return_is_no_comment: { (13 == COMMENT) ≡ false };
+}

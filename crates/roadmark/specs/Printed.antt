@@ -1,0 +1,38 @@
+-- The bytes of answer lines.
+use Rattle.std.specs.Prelude.{ℕ, List, [], ◌∷◌, ◌++◌, Option, None, Some, decimal}
+use lib.Chars.{codes}
+use Rattle.roadnet.specs.declared.refusals.Refusal.{Refusal}
+use Rattle.roadnet.specs.Numbers.{number_of}
+use Rattle.rows.specs.declared.queries.Query.{Query}
+use Rattle.rows.specs.declared.queries.Reply.{Reply}
+use Rattle.rows.specs.declared.queries.Reply.TheVariants.{Length, NoWalk, Refused}
+use Rattle.rows.specs.Replies.{source_of, target_of}
+
+-- `v V`
+abbrev pub version_line : ℕ → List ℕ
+version_line version = codes "v " ++ decimal version ++ codes "\n"
+
+-- a letter and the two nodes of a query
+abbrev pub with_nodes : List ℕ → Query → List ℕ
+with_nodes letter query = letter ++ decimal (source_of query) ++ codes " " ++ decimal (target_of query)
+
+-- `no CODE`
+abbrev pub refusal_line : ℕ → List ℕ
+refusal_line code = codes "no " ++ decimal code ++ codes "\n"
+
+-- `d S T L`, `x S T` or `no CODE`
+abbrev pub answer_line : Query → Reply → List ℕ
+answer_line query (Length d) = with_nodes (codes "d ") query ++ codes " " ++ decimal d ++ codes "\n"
+answer_line query NoWalk = with_nodes (codes "x ") query ++ codes "\n"
+answer_line query (Refused refusal) = refusal_line (number_of refusal)
+
+-- the lines of a query at a version; where no memory was there for its reply, `no 11` alone
+abbrev pub lines_of : ℕ → Query → Option Reply → List ℕ
+lines_of version query (Some reply) = version_line version ++ answer_line query reply
+lines_of version query None = refusal_line 11
+
+-- the lines of queries and their replies, one after the other
+abbrev pub printed : ℕ → List Query → List (Option Reply) → List ℕ
+printed version [] replies = []
+printed version (query ∷ queries) [] = []
+printed version (query ∷ queries) (reply ∷ replies) = lines_of version query reply ++ printed version queries replies

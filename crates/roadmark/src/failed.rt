@@ -1,0 +1,51 @@
+//! Why a call failed, and how the program says it.
+ghost use Rattle.std.specs.Prelude.{◌≡◌, is_ok, if◌then◌else◌};
+
+use dimacs::Fault;
+use roadnet::Refusal;
+use std::fmt;
+
+/// Why a call failed.
+#[derive(Clone, Copy, Debug, PartialEq, Eq)]
+pub enum Failed {
+    /// A text has a fault. `which` is 0 for the call's first text and 1 for its second; in the joint form 0 is the network and 1 the
+    /// script.
+    Text { which: u8, fault: Fault },
+    /// Any other refusal.
+    Code(Refusal),
+}
+
+/// A fault line of the program, which it displays as `roadmark: FILE: line L: CODE Name` or `roadmark: CODE Name`.
+#[derive(Clone, Copy, Debug)]
+pub struct FaultLine<'a> {
+    pub failed: Failed,
+    pub name: &'a str,
+}
+
+impl fmt::Display for FaultLine<'_> {
+    fn fmt<W: fmt::Write>(&self, f: &mut fmt::Formatter<W>) -> fmt::Result {
+        let name = self.name;
+        match self.failed {
+            Failed::Text { which: _, fault } => write!(f, "roadmark: {name}: {fault}"),
+            Failed::Code(refusal) => write!(f, "roadmark: {refusal}"),
+        }
+    }
+}
+
+/// The fault line of a failure, for a text of this name. It takes no memory.
+pub fn fault_line<'a>(failed: &Failed, name: &'a str) -> FaultLine<'a>
+    ensures failed { result.failed ≡ failed.now }
+    ensures name { result.name.now ≡ name.now }
+{
+    FaultLine {
+        failed: *failed,
+        name,
+    }
+}
+
+/// The exit status of the program: 0 where all is done, 1 after a fault.
+pub fn status(outcome: &Result<(), Failed>) -> u8
+    ensures { result ≡ (if is_ok outcome.now then 0 else 1) }
+{
+    if outcome.is_ok() { 0 } else { 1 }
+}

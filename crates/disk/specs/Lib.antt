@@ -1,0 +1,10 @@
+pub mod Calls
+pub mod Contents
+pub mod Gated
+pub mod MemDisk
+pub mod MemDiskLaws
+pub mod Moments
+pub mod Record
+pub mod RecordLaws
+pub mod Stop
+pub mod Wrapped

@@ -1,0 +1,9 @@
+pub mod Padding
+pub mod Headers
+pub mod Records
+pub mod Entries
+pub mod Four
+pub mod Items
+pub mod Places
+pub mod Heads
+pub mod Layouts

@@ -1,0 +1,9 @@
+use Rattle.std.proofs.Common.{arith}
+use Rattle.pages.proofs.Layouts.{within, disjoint, fills}
+use Rattle.pages.proofs.laws.parts_fill_the_file.Goals as goal
+
+pub returns-clause-parts : goal.returns-clause-parts
+returns-clause-parts c = record { within = within; disjoint = disjoint; fills = fills }
+
+pub returns-clause-pages : goal.returns-clause-pages
+returns-clause-pages c = record { arcs = λ items. (omega arith, omega arith); words = λ items. (omega arith, omega arith) }

@@ -1,0 +1,17 @@
+-- Gates: the last byte of a header, of a slot's head and of a journal page.
+use Rattle.std.specs.Prelude.{◌≡◌, ℕ, ◌==◌, if◌then◌else◌}
+use Rattle.pages.specs.declared.gate.Gate.{Gate}
+use Rattle.pages.specs.declared.gate.Gate.TheVariants.{Open, Closed}
+
+-- A gate is open at 165, and closed at each other byte.
+abbrev pub gate_of : ℕ → Gate
+gate_of byte = if byte == 165 then Open else Closed
+
+-- the byte by which a gate is written
+abbrev pub gate_byte : Gate → ℕ
+gate_byte Open = 165
+gate_byte Closed = 0
+
+-- A written gate is read again.
+abbrev pub GatesReadBack : Type 0
+GatesReadBack = (gate : Gate) → gate_of (gate_byte gate) ≡ gate

@@ -1,0 +1,7 @@
+pub mod Contents
+pub mod Gates
+pub mod Spelling
+pub mod Reading
+pub mod Layout
+pub mod Laws
+pub mod Vectors

@@ -1,0 +1,46 @@
+ghost use Rattle.std.specs.Prelude.{◌≡◌, slice_index};
+ghost use Rattle.pages.specs.Gates.{gate_of, gate_byte};
+
+use crate::writer::PAGE_SIZE;
+
+/// The last byte of a header, of a slot's head or of a journal page: what stands before it counts only while its gate is open.
+#[derive(Clone, Copy, Debug, PartialEq, Eq)]
+pub enum Gate {
+    Open,
+    Closed,
+}
+
+/// Where the gate stands in its page.
+pub const GATE_AT: usize = PAGE_SIZE - 1;
+
+const OPEN: u8 = 0xA5;
+
+impl Gate {
+    /// The gate that this byte is: open at 0xA5, closed at each other.
+    pub fn of(byte: u8) -> Gate
+        ensures { result ≡ gate_of byte }
+    {
+        if byte == OPEN {
+            Gate::Open
+        } else {
+            Gate::Closed
+        }
+    }
+
+    /// The byte by which this gate is written: 0xA5, or 0.
+    pub fn byte(self) -> u8
+        ensures { result ≡ gate_byte self }
+    {
+        match self {
+            Gate::Open => OPEN,
+            Gate::Closed => 0,
+        }
+    }
+}
+
+/// The gate of a page.
+pub fn gate_of(page: &[u8; PAGE_SIZE]) -> Gate
+    ensures { result ≡ gate_of (slice_index page.now 4095) }
+{
+    Gate::of(page[GATE_AT])
+}

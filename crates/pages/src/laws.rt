@@ -1,0 +1,24 @@
+// Laws of the spelling and of the layout.
+
+ghost use Rattle.pages.specs.Gates.{GatesReadBack};
+ghost use Rattle.pages.specs.Laws.{OneSpelling, OneContent, PartsFill, PagesHold};
+ghost use Rattle.pages.specs.Vectors.{LayoutExamples, PageExamples};
+
+/// Each content has one spelling, and each spelling one content.
+pub fn spelling_is_one_to_one()
+    ensures one_spelling { OneSpelling }
+    ensures one_content { OneContent }
+    ensures gates { GatesReadBack }
+{}
+
+/// The parts of a file are disjoint and fill it, and its pages hold the arcs.
+pub fn parts_fill_the_file()
+    ensures parts { PartsFill }
+    ensures pages { PagesHold }
+{}
+
+/// The worked pages have their bytes, and the worked files their pages.
+pub fn worked_pages()
+    ensures layout { LayoutExamples }
+    ensures pages { PageExamples }
+{}

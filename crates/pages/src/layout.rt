@@ -1,0 +1,94 @@
+ghost use Rattle.std.specs.Prelude.{◌≡◌, ◌<◌, ◌≤◌};
+ghost use Rattle.pages.specs.Layout.{Arcs, HeadOf, Words, Journal, arc_pages, word_pages, page_number, page_count, place_of, places_in_use};
+
+use crate::content::Slot;
+use crate::header::Header;
+
+/// The places of an arc page.
+pub const ARCS_A_PAGE: usize = 511;
+
+/// The places of a word page.
+pub const WORDS_A_PAGE: usize = 1023;
+
+/// Page numbers of the file that has this header. The header itself is page 0.
+impl Header {
+    /// How many pages hold the ends of the arcs.
+    pub fn arc_pages(&self) -> u64
+        ensures { result ≡ arc_pages self.now }
+    {
+        u64::from(self.arcs).div_ceil(511)
+    }
+
+    /// How many pages hold the words of the arcs, in each slot.
+    pub fn word_pages(&self) -> u64
+        ensures { result ≡ word_pages self.now }
+    {
+        u64::from(self.arcs).div_ceil(1023)
+    }
+
+    /// The number of the `i`-th arc page, counted from 0.
+    pub fn arc_page(&self, i: u64) -> u64
+        requires { i < arc_pages self.now }
+        ensures { result ≡ page_number self.now (Arcs i) }
+    {
+        1 + i
+    }
+
+    /// The number of the page of a slot's head.
+    pub fn head_page(&self, slot: Slot) -> u64
+        ensures { result ≡ page_number self.now (HeadOf slot) }
+    {
+        match slot {
+            Slot::A => self.arc_pages() + 1,
+            Slot::B => self.arc_pages() + self.word_pages() + 2,
+        }
+    }
+
+    /// The number of a slot's `i`-th word page, counted from 0.
+    pub fn word_page(&self, slot: Slot, i: u64) -> u64
+        requires { i < word_pages self.now }
+        ensures { result ≡ page_number self.now (Words slot i) }
+    {
+        self.head_page(slot) + 1 + i
+    }
+
+    /// The number of the journal's first page.
+    pub fn journal_start(&self) -> u64
+        ensures { result ≡ page_number self.now (Journal 0) }
+    {
+        self.arc_pages() + 2 * self.word_pages() + 3
+    }
+
+    /// The number of the journal's page of this sequence.
+    pub fn journal_page(&self, sequence: u64) -> u64
+        requires { 1 ≤ self.now.journal_pages }
+        ensures { result ≡ page_number self.now (Journal (place_of self.now sequence)) }
+    {
+        self.journal_start() + sequence % u64::from(self.journal_pages)
+    }
+
+    /// How many pages the file has.
+    pub fn page_count(&self) -> u64
+        ensures { result ≡ page_count self.now }
+    {
+        self.journal_start() + u64::from(self.journal_pages)
+    }
+
+    /// How many places of the `i`-th arc page, counted from 0, are in use.
+    pub fn arcs_on_page(&self, i: u64) -> usize
+        ensures { result ≡ places_in_use 511 i self.now.arcs }
+    {
+        u64::from(self.arcs)
+            .saturating_sub(i.saturating_mul(511))
+            .min(511) as usize
+    }
+
+    /// How many places of the `i`-th word page, counted from 0, are in use.
+    pub fn words_on_page(&self, i: u64) -> usize
+        ensures { result ≡ places_in_use 1023 i self.now.arcs }
+    {
+        u64::from(self.arcs)
+            .saturating_sub(i.saturating_mul(1023))
+            .min(1023) as usize
+    }
+}

@@ -1,0 +1,166 @@
+ghost use Rattle.std.specs.Prelude.{◌≡◌, ◌*◌, ◌≤◌, length, IsTrue, ◌↔◌, IfOk, nat_le, ◌&&◌};
+ghost use Rattle.std.specs.List.{list_all};
+ghost use Rattle.std.specs.List.Sorted.{IsStrictlyIncreasing};
+ghost use Rattle.byteorder.specs.Endian.{big_number};
+ghost use Rattle.pages.specs.Spelling.{body, AreFit, Decodes, SpelledHead, head_page};
+ghost use Rattle.pages.specs.Reading.{read_items};
+
+use crate::writer::{PAGE_SIZE, PageWriter, have_same_body};
+use byteorder::{BigEndian, ByteOrder};
+use roadnet::OutOfMemory;
+use std::alloc::{AllocError, Global};
+use std::marker::Model;
+
+const MOST_LANDMARKS: u32 = 1000;
+
+const GREATEST_VERSION: u64 = 1 << 48;
+
+const NUMBER_SIZE: usize = 4;
+
+/// The head of a slot: the number of its checkpoint, the version of the network that it holds, the sequence of the journal page that
+/// follows, and the landmarks, ascending.
+#[derive(Debug, Drop)]
+pub struct SlotHead {
+    epoch: u64,
+    version: u64,
+    next_sequence: u64,
+    landmarks: Vec<u32>,
+}
+
+impl Model for SlotHead {
+    ghost use Rattle.pages.specs.Contents.{Head};
+
+    ghost Value = { Head };
+
+    ghost view = { λ s. record { epoch = s.epoch; version = s.version; next_sequence = s.next_sequence; landmarks = s.landmarks.items } };
+}
+
+impl SlotHead {
+    pub fn epoch(&self) -> u64
+        ensures { result ≡ self.now.epoch }
+    {
+        self.epoch
+    }
+
+    pub fn version(&self) -> u64
+        ensures { result ≡ self.now.version }
+    {
+        self.version
+    }
+
+    pub fn next_sequence(&self) -> u64
+        ensures { result ≡ self.now.next_sequence }
+    {
+        self.next_sequence
+    }
+
+    pub fn landmarks(&self) -> &[u32]
+        ensures { result.now ≡ self.now.landmarks }
+    {
+        &self.landmarks
+    }
+}
+
+fn are_fit(epoch: u64, version: u64, next_sequence: u64, count: u32) -> bool
+    ensures { IsTrue result ↔ AreFit epoch version next_sequence count }
+{
+    (1..=next_sequence.saturating_add(1)).contains(&epoch)
+        && next_sequence <= version
+        && version <= GREATEST_VERSION
+        && count <= MOST_LANDMARKS
+}
+
+fn is_ascending(xs: &[u32]) -> bool
+    ensures { IsTrue result ↔ IsStrictlyIncreasing xs.now }
+{
+    xs.windows(2).all(|pair| pair[0] < pair[1])
+}
+
+fn are_nodes(xs: &[u32], nodes: u32) -> bool
+    ensures { result ≡ list_all (λ x. nat_le 1 x && nat_le x nodes) xs.now }
+{
+    xs.iter().all(|&x| 1 <= x && x <= nodes)
+}
+
+/// The page of a slot's head, its gate closed. There are at most 1,000 landmarks.
+pub fn encode_slot_head(
+    epoch: u64,
+    version: u64,
+    next_sequence: u64,
+    landmarks: &[u32],
+) -> [u8; PAGE_SIZE]
+    requires { length landmarks.now ≤ 1000 }
+    ensures { result ≡ head_page (record { epoch = epoch; version = version; next_sequence = next_sequence; landmarks = landmarks.now }) }
+{
+    let mut page = PageWriter::new();
+    page.put_u64(epoch);
+    page.put_u64(version);
+    page.put_u64(next_sequence);
+    page.put_u32(landmarks.len() as u32);
+    for &landmark in landmarks {
+        page.put_u32(landmark);
+    }
+    page.finish()
+}
+
+fn read_numbers(alloc: Global, bytes: &[u8], count: usize) -> Result<Vec<u32>, AllocError>
+    requires { 4 * count ≤ length bytes.now }
+    ensures { IfOk result (λ numbers. numbers.items ≡ read_items (big_number 4) 4 count bytes.now) }
+{
+    let mut numbers = Vec::with_capacity(alloc, count)?;
+    let mut rest = bytes;
+    for _ in 0..count {
+        let (front, after) = rest.split_at(NUMBER_SIZE);
+        numbers.push(BigEndian::read_u32(front))?;
+        rest = after;
+    }
+    Ok(numbers)
+}
+
+/// Whether the page, its gate apart, is that of a head of these parts.
+fn is_head_page(
+    page: &[u8; PAGE_SIZE],
+    epoch: u64,
+    version: u64,
+    next_sequence: u64,
+    landmarks: &[u32],
+) -> bool
+    requires { length landmarks.now ≤ 1000 }
+    ensures { IsTrue result ↔ (body page.now ≡ body (head_page (record { epoch = epoch; version = version; next_sequence = next_sequence; landmarks = landmarks.now }))) }
+{
+    let encoded = encode_slot_head(epoch, version, next_sequence, landmarks);
+    have_same_body(page, &encoded)
+}
+
+/// The head of a slot that the page spells in a network of so many nodes, whatever its gate. `None` where it spells none.
+pub fn decode_slot_head(
+    alloc: Global,
+    page: &[u8; PAGE_SIZE],
+    nodes: u32,
+) -> Result<Option<SlotHead>, OutOfMemory>
+    ensures { IfOk result (λ found. Decodes (SpelledHead nodes page.now) found) }
+{
+    let epoch = BigEndian::read_u64(page);
+    let version = BigEndian::read_u64(&page[8..]);
+    let next_sequence = BigEndian::read_u64(&page[16..]);
+    let count = BigEndian::read_u32(&page[24..]);
+    if !are_fit(epoch, version, next_sequence, count) {
+        return Ok(None);
+    }
+    let landmarks = read_numbers(alloc, &page[28..], count as usize)?;
+    if !is_ascending(&landmarks) {
+        return Ok(None);
+    }
+    if !are_nodes(&landmarks, nodes) {
+        return Ok(None);
+    }
+    if !is_head_page(page, epoch, version, next_sequence, &landmarks) {
+        return Ok(None);
+    }
+    Ok(Some(SlotHead {
+        epoch,
+        version,
+        next_sequence,
+        landmarks,
+    }))
+}

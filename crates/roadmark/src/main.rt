@@ -27,12 +27,15 @@ mod tests;
 /// The status of a command line that the program does not take.
 const MISUSE: u8 = 2;
 
+/// The bytes that are read or written at once.
+const BUFFER: usize = 1 << 16;
+
 /// The joint form on standard input, answered on standard output.
 fn run_joint<R: AllocGlobal + Input + Print>(rt: &R) -> Result<(), Failed> {
-    let Ok(mut reader) = BufReader::new(rt.alloc(), rt.reader()) else {
+    let Ok(mut reader) = BufReader::with_capacity(rt.alloc(), BUFFER, rt.reader()) else {
         return Err(Failed::Code(Refusal::OutOfMemory));
     };
-    let Ok(mut writer) = BufWriter::new(rt.alloc(), io::writer(rt)) else {
+    let Ok(mut writer) = BufWriter::with_capacity(rt.alloc(), BUFFER, io::writer(rt)) else {
         return Err(Failed::Code(Refusal::OutOfMemory));
     };
     joint_text(rt.alloc(), &mut reader, None, &mut writer)

@@ -260,3 +260,48 @@ fn a_writer_fails_at_each_write(rt: HostRuntime) {
         }
     }
 }
+
+/// A writer of 64 bytes at most, which takes no memory.
+#[derive(Drop)]
+struct Page {
+    bytes: [u8; 64],
+    len: usize,
+}
+
+impl Write for Page {
+    fn write(&mut self, buf: &[u8]) -> io::Result<usize> {
+        for &byte in buf {
+            if self.len < 64 {
+                self.bytes[self.len] = byte;
+                self.len += 1;
+            }
+        }
+        Ok(buf.len())
+    }
+
+    fn flush(&mut self) -> io::Result<()> {
+        Ok(())
+    }
+}
+
+/// With enough memory the answer comes; where an allocation fails, 11 is told as a text's fault or in place of the answer, and nothing
+/// else.
+#[test]
+fn allocations_fail_in_turn(rt: HostRuntime) {
+    let mut reader = b"p sp 2 2\na 1 2 7\na 2 1 5\nrun\ndist 1 2\n".as_slice();
+    let mut page = Page {
+        bytes: [0; 64],
+        len: 0,
+    };
+    match joint_text(rt.alloc(), &mut reader, None, &mut page) {
+        Ok(()) => {
+            let answered = page.len == 12 && page.bytes.starts_with(b"v 0\nd 1 2 7\n");
+            let refused = page.len == 6 && page.bytes.starts_with(b"no 11\n");
+            assert!(rt; answered || refused);
+        }
+        Err(Failed::Text { which: _, fault }) => {
+            assert!(rt; fault.code == Code::OutOfMemory && page.len == 0);
+        }
+        Err(Failed::Code(refusal)) => assert!(rt; refusal == Refusal::OutOfMemory),
+    }
+}

@@ -1,0 +1,5 @@
+pub mod Listed
+pub mod Members
+pub mod Ringed
+pub mod Tables
+pub mod Taken

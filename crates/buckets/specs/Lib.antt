@@ -1,0 +1,4 @@
+pub mod Lists
+pub mod Queue
+pub mod Rings
+pub mod Tables

@@ -1,0 +1,14 @@
+//! Queues that keep nodes in buckets by value, and give out the least bucket whole.
+#![tactic(auto)]
+
+mod nodes;
+mod ordered;
+mod queue;
+mod ring;
+
+pub use ordered::OrderedBuckets;
+pub use queue::BucketQueue;
+pub use ring::RingBuckets;
+
+#[cfg(test)]
+mod tests;

@@ -1,0 +1,145 @@
+// The values of the nodes that are queued.
+
+ghost use Rattle.std.specs.Prelude.{◌≡◌, ℕ, ◌≤◌, ◌<◌, ◌/◌, ◌↔◌, true, false, IsTrue, OnOk, OnErr, Some, length, slice_index_or};
+ghost use Rattle.std.specs.FinMap as map;
+ghost use Rattle.buckets.specs.Lists.{has_node};
+ghost use Rattle.buckets.specs.Queue.{bucket, is_in_bucket};
+ghost use Rattle.buckets.specs.Tables.{entries_of, without};
+
+use std::alloc::{AllocError, Global};
+use std::marker::Model;
+
+/// A map from nodes to values, in two tables that go up to the greatest node that it ever had: 9 bytes a node.
+#[derive(Drop)]
+pub struct NodeValues {
+    values: Vec<u64>,
+    queued: Vec<bool>,
+    count: usize,
+}
+
+impl Model for NodeValues {
+    ghost use Rattle.std.specs.Coded.{coded_ℕ};
+    ghost use Rattle.std.specs.FinMap as map;
+    ghost use Rattle.buckets.specs.Queue.{Entries};
+    ghost use Rattle.buckets.specs.Tables.{IsTable, entries_of};
+
+    ghost Value = { Entries };
+
+    ghost coded = { map.code coded_ℕ coded_ℕ };
+
+    ghost view = { λ a. entries_of a.values.items a.queued.items };
+
+    ghost invariant = { λ a. IsTable a.count a.values.items a.queued.items };
+}
+
+/// Whether there is a value, and it is in this bucket.
+pub fn is_in_bucket(value: Option<u64>, delta: u32, bucket: u64) -> bool
+    requires { 1 ≤ delta }
+    ensures { result ≡ is_in_bucket delta bucket value }
+{
+    match value {
+        Some(value) => value / u64::from(delta) == bucket,
+        None => false,
+    }
+}
+
+/// Makes room in both tables for this many nodes. After want of memory they may have grown, and stand for the same map.
+fn grow(values: &mut Vec<u64>, queued: &mut Vec<bool>, nodes: usize) -> Result<(), AllocError>
+    requires { length queued.old.items ≤ length values.old.items }
+    ensures room { OnOk result (nodes ≤ length queued.new.items) }
+    ensures sized { length queued.new.items ≤ length values.new.items }
+    ensures same { entries_of values.new.items queued.new.items ≡ entries_of values.old.items queued.old.items }
+{
+    values.resize(nodes.max(values.len()), 0)?;
+    queued.resize(nodes.max(queued.len()), false)?;
+    Ok(())
+}
+
+/// Whether the node of this place is queued.
+fn is_queued(queued: &[bool], place: usize) -> bool
+    ensures value { result ≡ slice_index_or queued.now place false }
+    ensures within { IsTrue result → place < length queued.now }
+{
+    place < queued.len() && queued[place]
+}
+
+impl NodeValues {
+    /// The map of no node. It takes no memory.
+    pub fn new(alloc: Global) -> NodeValues
+        ensures { result ≡ map.empty }
+    {
+        NodeValues {
+            values: Vec::new(alloc),
+            queued: Vec::new(alloc),
+            count: 0,
+        }
+    }
+
+    /// Whether no node has a value, in O(1).
+    pub fn is_empty(&self) -> bool
+        ensures { IsTrue result ↔ (self.now ≡ map.empty) }
+    {
+        self.count == 0
+    }
+
+    /// The value of the node, if it has one, in O(1).
+    pub fn get(&self, node: u32) -> Option<u64>
+        ensures { result ≡ map.get self.now node }
+    {
+        let place = node as usize;
+        if is_queued(&self.queued, place) {
+            Some(self.values[place])
+        } else {
+            None
+        }
+    }
+
+    /// Gives the node this value, in place of the one that it may have. It takes O(1), and O(n) where a table grows, which doubles.
+    /// After want of memory the map is as it was.
+    pub fn set(&mut self, node: u32, value: u64) -> Result<(), AllocError>
+        ensures ok { OnOk result (self.new ≡ map.insert self.old node value) }
+        ensures err { OnErr result (self.new ≡ self.old) }
+    {
+        let place = node as usize;
+        grow(&mut self.values, &mut self.queued, place + 1)?;
+        self.values[place] = value;
+        if is_queued(&self.queued, place) {
+            return Ok(());
+        }
+        self.queued[place] = true;
+        self.count += 1;
+        Ok(())
+    }
+
+    /// Takes the value of the node away, if it has one, in O(1).
+    fn remove(&mut self, node: u32)
+        ensures { self.new ≡ map.remove self.old node }
+    {
+        let place = node as usize;
+        if is_queued(&self.queued, place) {
+            self.queued[place] = false;
+            self.count -= 1;
+        }
+    }
+
+    /// Takes the values of these nodes away, in O(1) each.
+    pub fn remove_all(&mut self, nodes: &[u32])
+        ensures { self.new ≡ without nodes.now self.old }
+    {
+        for &node in nodes {
+            self.remove(node);
+        }
+    }
+
+    /// Keeps of these nodes, among which are all those of this bucket, just those of this bucket, ascending and each once. It takes
+    /// O(k log k) for k nodes, and no memory.
+    pub fn keep_bucket(&self, delta: u32, number: u64, nodes: &mut Vec<u32>)
+        requires positive { 1 ≤ delta }
+        requires all { (node value : ℕ) → map.get self.now node ≡ Some value → value / delta ≡ number → has_node nodes.old.items node ≡ true }
+        ensures { nodes.new.items ≡ map.keys (bucket delta number self.now) }
+    {
+        nodes.retain(|node| is_in_bucket(self.get(*node), delta, number));
+        nodes.sort_unstable();
+        nodes.dedup();
+    }
+}

@@ -1,0 +1,61 @@
+ghost use Rattle.std.specs.Prelude.{◌≡◌, ℕ, ◌≤◌, ◌<◌, ◌/◌, ◌+◌, ◌↔◌, IsTrue, OnOk, OnErr, IfOk, MatchOption};
+ghost use Rattle.std.specs.FinMap as map;
+ghost use Rattle.buckets.specs.Queue.{Entries, TakesLeast};
+
+use std::alloc::AllocError;
+
+/// A map from nodes to values, kept in buckets: bucket `b` has the nodes whose value divided by `delta` is `b`.
+///
+/// A member may have a window: then only the values of some buckets in a row fit.
+pub trait BucketQueue {
+    /// The value of each node that is queued.
+    ghost entries: { Self → Entries };
+
+    /// How many values a bucket spans.
+    ghost width: { Self → ℕ };
+
+    /// How many buckets in a row fit.
+    ghost span: { Self → ℕ };
+
+    /// The values that fit now.
+    ghost accepts: { Self → ℕ → Type 0 };
+
+    /// How many values a bucket spans, at least 1.
+    fn delta(&self) -> u32
+        ensures value { result ≡ width self.now }
+        ensures positive { 1 ≤ width self.now };
+
+    /// How many buckets in a row fit, counted from the last bucket taken, or from bucket 0 before the first was taken.
+    fn window(&self) -> u64
+        ensures value { result ≡ span self.now };
+
+    /// Whether no node is queued.
+    fn is_empty(&self) -> bool
+        ensures empty { IsTrue result ↔ (entries self.now ≡ map.empty) };
+
+    /// Whether a node can be put with this value now.
+    fn fits(&self, value: u64) -> bool
+        ensures fits { IsTrue result ↔ accepts self.now value };
+
+    /// Queues a node with this value, in place of the one that it may have. The error is that no memory was given; the nodes and values
+    /// are then as they were. What fits stays the same either way.
+    fn put(&mut self, node: u32, value: u64) -> Result<(), AllocError>
+        requires fits { accepts self.old value }
+        ensures ok { OnOk result (entries self.new ≡ map.insert (entries self.old) node value) }
+        ensures err { OnErr result (entries self.new ≡ entries self.old) }
+        ensures accepts { (v : ℕ) → accepts self.old v ↔ accepts self.new v }
+        ensures width { width self.new ≡ width self.old }
+        ensures span { span self.new ≡ span self.old };
+
+    /// Takes out all nodes of the least bucket that is not empty, and gives its number and the nodes in ascending order; nothing where no
+    /// node is queued. From then on all values of as many buckets fit as the window says, from that one on. The error is that no memory was
+    /// given; the nodes, the values and what fits are then as they were.
+    fn take_least(&mut self) -> Result<Option<(u64, Vec<u32>)>, AllocError>
+        ensures taken { IfOk result (λ taken. MatchOption taken (entries self.old ≡ map.empty) (λ t. TakesLeast (width self.old) (entries self.old) t.0 t.1.items (entries self.new))) }
+        ensures window { IfOk result (λ taken. MatchOption taken ((v : ℕ) → accepts self.old v ↔ accepts self.new v) (λ t. (v : ℕ) → t.0 ≤ v / width self.old → v / width self.old < t.0 + span self.old → accepts self.new v)) }
+        ensures kept { IfOk result (λ taken. MatchOption taken (entries self.new ≡ entries self.old) (λ _. Unit {0})) }
+        ensures err { OnErr result (entries self.new ≡ entries self.old) }
+        ensures err_accepts { OnErr result ((v : ℕ) → accepts self.old v ↔ accepts self.new v) }
+        ensures width { width self.new ≡ width self.old }
+        ensures span { span self.new ≡ span self.old };
+}

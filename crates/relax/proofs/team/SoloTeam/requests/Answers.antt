@@ -1,0 +1,21 @@
+use Rattle.std.proofs.Common.{◌≡◌, ℕ, ◌+◌, ◌<◌, ◌∷◌, [], ◌++◌, List, take, map, length, get_or, Option, None, sym, subst, ap, ap₂, ◌∙◌, arith, unwrap_or}
+use Rattle.snapshot.specs.Groups.{legs_of}
+use Rattle.snapshot.specs.declared.legs.Leg.{Leg}
+use Rattle.relax.specs.Requests.{requests_of, requests_from}
+use Rattle.relax.specs.Values.{value_or}
+use Rattle.std.proofs.lemmas.List.{take_more, flat_map_more}
+use Rattle.relax.proofs.team.SoloTeam.requests.Goals as goal
+
+pub loop-node-preserved : goal.loop-node-preserved
+loop-node-preserved c =
+    let nodes = c.args.nodes.now in
+    let i = c.loop-node.node-index in
+    let lt : i < length nodes = omega arith in
+    let from = requests_from c.args.snapshot.now c.args.tentative.now c.args.part in
+    let value : c.unwrap_or-value.result ≡ value_or 0 c.args.tentative.now (get_or nodes i 0) = c.unwrap_or-value.ensures ∙ ap (λ (o : Option ℕ). unwrap_or o 0) c.get.ensures.value in
+    let added : map (λ (leg : Leg). (leg.head, c.unwrap_or-value.result + leg.length)) c.legs.result.now ≡ from (get_or nodes i 0) =
+    ap₂ (λ value legs. map (λ (leg : Leg). (leg.head, value + leg.length)) legs) value c.legs.ensures.value in
+    c.in_ok-push_requests.ensures.added
+    ∙ (ap₂ (λ xs ys. xs ++ ys) c.loop-node.invariant added
+    ∙ (flat_map_more from [] (take i nodes) (get_or nodes i 0)
+    ∙ ap (λ ns. requests_of c.args.snapshot.now ns c.args.tentative.now c.args.part) (sym (take_more nodes i 0 lt))))

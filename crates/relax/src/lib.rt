@@ -1,0 +1,11 @@
+//! One phase of a search: the requests that a list of nodes makes of the nodes that their arcs reach.
+#![tactic(auto)]
+
+mod team;
+mod tentative;
+
+pub use team::{Solo, Team};
+pub use tentative::Tentative;
+
+#[cfg(test)]
+mod tests;

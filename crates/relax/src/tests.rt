@@ -1,0 +1,92 @@
+use crate::{Solo, Team, Tentative};
+use roadnet::{Network, Refusal, RoadArc};
+use snapshot::{Part, Snapshot};
+use std::alloc::{AllocError, Global};
+
+/// The network of the worked rows: six nodes and eight arcs.
+fn six(alloc: Global) -> Result<Network, Refusal> {
+    let ends = [
+        (1, 2, 17),
+        (1, 3, 10),
+        (2, 4, 2),
+        (3, 5, 0),
+        (4, 3, 0),
+        (4, 6, 3),
+        (5, 2, 0),
+        (5, 6, 20),
+    ];
+    let mut arcs = Vec::new(alloc);
+    for (tail, head, length) in ends {
+        arcs.push(RoadArc {
+            tail,
+            head,
+            length,
+            opened: true,
+        })
+        .map_err(AllocError::from)?;
+    }
+    Network::new(alloc, 6, arcs, &[])
+}
+
+/// The requests that a team makes of these nodes with these values, or no list where its conditions don't hold.
+fn requests<T: Team>(
+    alloc: Global,
+    team: &T,
+    nodes: &[u32],
+    values: &[(u32, u64)],
+    part: Part,
+) -> Result<Option<Vec<(u32, u64)>>, Refusal> {
+    let snapshot = Snapshot::build(alloc, &six(alloc)?, 5)?;
+    let mut tentative = Tentative::new(alloc, snapshot.nodes())?;
+    for &(node, value) in values {
+        if !snapshot.has_node(node) || value >= 1 << 56 {
+            return Ok(None);
+        }
+        tentative.set(node, value);
+    }
+    for &node in nodes {
+        if !snapshot.has_node(node) || tentative.get(node).is_none_or(|value| value >= 1 << 56) {
+            return Ok(None);
+        }
+    }
+    Ok(Some(team.requests(alloc, &snapshot, nodes, &tentative, part)?))
+}
+
+/// Whether the list is there, and just this one.
+fn is(list: &Option<Vec<(u32, u64)>>, want: &[(u32, u64)]) -> bool {
+    let Some(list) = list else {
+        return false;
+    };
+    let mut same = list.len() == want.len();
+    for (request, wanted) in list.iter().zip(want) {
+        same = same && request.0 == wanted.0 && request.1 == wanted.1;
+    }
+    same
+}
+
+#[test]
+fn requests_of_one_worker(rt: HostRuntime) -> Result<(), Refusal> {
+    let alloc = rt.alloc();
+    let nodes = [3, 5, 2, 4];
+    let values = [(3, 10), (5, 10), (2, 10), (4, 12)];
+    let light = requests(alloc, &Solo, &nodes, &values, Part::Light)?;
+    assert!(rt; is(&light, &[(5, 10), (2, 10), (4, 12), (3, 12), (6, 15)]));
+    let heavy = requests(alloc, &Solo, &nodes, &values, Part::Heavy)?;
+    assert!(rt; is(&heavy, &[(6, 30)]));
+    let none = requests(alloc, &Solo, &[], &values, Part::Light)?;
+    assert!(rt; is(&none, &[]));
+    Ok(())
+}
+
+#[test]
+fn values_of_nodes(rt: HostRuntime) -> Result<(), Refusal> {
+    let mut tentative = Tentative::new(rt.alloc(), 2)?;
+    assert!(rt; tentative.get(1).is_none() && tentative.get(2).is_none());
+    tentative.set(2, 0);
+    tentative.set(1, u64::MAX - 1);
+    assert_eq!(rt; tentative.get(1), Some(u64::MAX - 1));
+    assert_eq!(rt; tentative.get(2), Some(0));
+    let words = tentative.into_words();
+    assert!(rt; words.as_slice() == [u64::MAX - 1, 0].as_slice());
+    Ok(())
+}

@@ -1,0 +1,6 @@
+pub mod Counting
+pub mod Steps
+pub mod Greatest
+pub mod Pieces
+pub mod Grouping
+pub mod Built

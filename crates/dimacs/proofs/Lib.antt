@@ -9,4 +9,10 @@ mod Remarks
 mod Far
 mod Calls
 mod Networks
+mod TextEnds
+pub mod NodeRows
+mod NodeItems
+pub mod Sets
+mod CommandRows
+mod Words
 mod FirstFaultLemmas

@@ -64,7 +64,7 @@ pub counts_same : {X : Type 0} (old new : ℕ) (result : Result X Fault) → new
 counts_same old new (Ok x) e none = e
 counts_same old new (Err fault) e none = by_same (new ≡ one_more_failed old) fault.code e none
 
-same_code : {P P' : Type 0} (F Q : Type 0) (code : Code) → ByCode code P F Q → (P → P') → ByCode code P' F Q
+pub same_code : {P P' : Type 0} (F Q : Type 0) (code : Code) → ByCode code P F Q → (P → P') → ByCode code P' F Q
 same_code F Q BadLine m f = f m
 same_code F Q NoProblemLine m f = f m
 same_code F Q SecondProblemLine m f = f m
@@ -94,7 +94,7 @@ read_ends (Some text) left until ended (Err fault) read ends =
     (λ e. content_ends (taken_of until (rows text)) fault read.lines.clean e end.1)
     (λ some. rw end.1 (breaks_at_end (code_of gr) (rows text) (taken_of until (rows text)) read.lines.clean some (taken_within until (rows text))))
 
-no_rows : (text : List ℕ) → rows text ≡ [] → text ≡ []
+pub no_rows : (text : List ℕ) → rows text ≡ [] → text ≡ []
 no_rows [] e = refl
 no_rows (b ∷ bs) e = let next = some_row (b ∷ bs) (omega arith) in absurd (let clash = next.2 in cc)
 

@@ -1,5 +1,5 @@
 -- The definitions computed on worked texts.
-use Rattle.std.proofs.Common.{◌≡◌, ℕ, List, [], ◌∷◌, ◌++◌, Option, Some, None, refl}
+use Rattle.std.proofs.Common.{◌≡◌, ℕ, List, [], ◌∷◌, ◌++◌, Option, Some, None, Ok, refl}
 use lib.Chars.{codes}
 use Rattle.dimacs.specs.declared.fault.Code.TheVariants.{BadLine, NoProblemLine, SecondProblemLine, WrongKind, NumberRange, NodeRange, LengthRange, LineCount, TooLarge}
 use Rattle.dimacs.specs.declared.fault.Fault.{Fault}
@@ -8,6 +8,11 @@ use Rattle.dimacs.specs.Lines.{lines, fields, rows}
 use Rattle.dimacs.specs.Faults.{code_of, applies, fault_at, fault_of, end_code}
 use Rattle.dimacs.specs.Commands.{command_code, commands}
 use Rattle.dimacs.specs.Joint.{before_run, after_run}
+use Rattle.roadnet.specs.declared.commands.Command.TheVariants.{Set, Mark, Unmark, Reopen}
+use Rattle.dimacs.specs.Landmarks.{ss_text}
+use Rattle.dimacs.specs.Pairs.{p2p_text}
+use Rattle.dimacs.specs.Commanded.{command_text}
+use Rattle.dimacs.specs.Texts.{content_by}
 
 abbrev fault : Format → List ℕ → Option Fault
 fault f text = fault_of (code_of f) (end_code f) (rows text)
@@ -142,3 +147,21 @@ cut_after = refl
 
 run_alone : before_run (rows (codes "run running")) ≡ rows (codes "run running")
 run_alone = refl
+
+-- what the other texts say
+landmarks_once : content_by (ss_text 6) (rows (at 10 (codes "p aux sp ss 3") ++ at 10 (codes "s 6") ++ at 10 (codes "s 3") ++ codes "s 6")) ≡ Ok (3 ∷ 6 ∷ [])
+unfolding code_of applies
+landmarks_once = refl
+
+pairs_in_order : content_by (p2p_text 6) (rows (at 10 (codes "p aux sp p2p 2") ++ at 10 (codes "q 1 6") ++ codes "q 6 1")) ≡ Ok (record { source = 1; target = 6 } ∷ record { source = 6; target = 1 } ∷ [])
+unfolding code_of applies
+pairs_in_order = refl
+
+six_commands : content_by command_text (rows (at 10 (codes "set 9 1") ++ at 10 (codes "set 1 2147483648") ++ at 10 (codes "set 9 2147483648") ++ at 10 (codes "mark 7") ++ at 10 (codes "unmark 3") ++ codes "reopen 7"))
+    ≡ Ok (Set 9 1 ∷ Set 1 2147483648 ∷ Set 9 2147483648 ∷ Mark 7 ∷ Unmark 3 ∷ Reopen 7 ∷ [])
+unfolding command_code
+six_commands = refl
+
+too_many_landmarks : fault (ss 6) (codes "p aux sp ss 16777217") ≡ Some (fault_at 1 TooLarge)
+unfolding code_of applies
+too_many_landmarks = refl

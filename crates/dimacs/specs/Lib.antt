@@ -15,3 +15,10 @@ pub mod Counts
 pub mod Gr
 pub mod Progress
 pub mod Turns
+pub mod Texts
+pub mod Listed
+pub mod ListedReading
+pub mod Landmarks
+pub mod Pairs
+pub mod Commanded
+pub mod CommandReading

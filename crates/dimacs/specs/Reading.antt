@@ -18,7 +18,10 @@ abbrev pub first_numeral : Row → Option (Numeral × Row)
 first_numeral [] = None
 first_numeral (field ∷ others) = option_map (λ n. (kept n, others)) (numeral field)
 
--- two and three numerals, and no other field
+-- one numeral, two or three, and no other field
+abbrev pub one_numeral : Row → Option Numeral
+one_numeral row = option_and_then (λ a. if is_empty a.1 then Some a.0 else None) (first_numeral row)
+
 abbrev pub two_numerals : Row → Option (Numeral × Numeral)
 two_numerals row = option_and_then (λ a. option_and_then (λ b. if is_empty b.1 then Some (a.0, b.0) else None) (first_numeral a.1)) (first_numeral row)
 

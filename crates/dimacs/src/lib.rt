@@ -1,25 +1,34 @@
 //! The texts of the server: what they say, or the first fault in them.
 #![tactic(auto)]
 
+pub mod commands;
 pub mod counted;
 pub mod fault;
 pub mod feed;
 pub mod gr;
+pub mod landmarks;
 pub mod laws;
 pub mod line;
+pub mod listed;
 pub mod numeral;
+pub mod pairs;
 pub mod problem;
 pub mod reading;
 pub mod taking;
 
+pub use commands::{parse_commands, read_commands, read_commands_counted};
 pub use counted::Counted;
 pub use fault::{Code, Fault};
 pub use feed::{Ended, parse_lines, read_lines};
 pub use gr::{GrLines, parse_gr, read_gr, read_gr_before_run, read_gr_counted};
+pub use landmarks::{parse_ss, read_ss, read_ss_counted};
 pub use line::split_field;
 pub use numeral::Numeral;
-pub use reading::split_two;
+pub use pairs::{Pair, parse_p2p, read_p2p, read_p2p_counted};
+pub use reading::{split_one, split_two};
 pub use taking::TakeLines;
 
+#[cfg(test)]
+mod other_tests;
 #[cfg(test)]
 mod tests;

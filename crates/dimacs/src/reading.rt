@@ -2,7 +2,7 @@
 ghost use Rattle.std.specs.Prelude.{◌≡◌, ◌≢◌, IfErr, is_some};
 ghost use Rattle.std.specs.Option.{option_map};
 ghost use Rattle.dimacs.specs.Lines.{fields};
-ghost use Rattle.dimacs.specs.Reading.{first_numeral, two_numerals, three_numerals, arc_of_numerals, item_after, problem_of_numerals, problem_after};
+ghost use Rattle.dimacs.specs.Reading.{first_numeral, one_numeral, two_numerals, three_numerals, arc_of_numerals, item_after, problem_of_numerals, problem_after};
 
 use crate::fault::Code;
 use crate::line::split_field;
@@ -23,6 +23,17 @@ fn split_numeral(numbers: &[u8]) -> Option<(Numeral, &[u8])>
     let (field, rest) = split_field(numbers)?;
     let number = Numeral::parse(field)?;
     Some((number, rest))
+}
+
+/// One numeral and no other field.
+pub fn split_one(numbers: &[u8]) -> Option<Numeral>
+    ensures { result ≡ one_numeral (fields numbers.now) }
+{
+    let (number, rest) = split_numeral(numbers)?;
+    match split_field(rest) {
+        None => Some(number),
+        Some(_) => None,
+    }
 }
 
 /// Two numerals and no other field.

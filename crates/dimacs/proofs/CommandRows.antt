@@ -1,0 +1,165 @@
+-- A line of a command text that is read from left to right has the lowest code that applies to it, or is the command that it says.
+use Rattle.std.proofs.Common.{◌≡◌, ◌∙◌, ℕ, Bool, true, false, ◌||◌, cond, List, [], ◌∷◌, ◌++◌, Option, None, Some, Result, Ok, Err, length, ltb, refl, sym, ap, subst, inl, inr, arith}
+use Rattle.std.proofs.lemmas.Bool.{or_parts, eqb-true, lt-ltb}
+use Rattle.std.proofs.lemmas.List.{append-nil}
+use lib.Chars.{codes}
+use Rattle.roadnet.specs.declared.commands.Command.{Command}
+use Rattle.roadnet.specs.declared.commands.Command.TheVariants.{Set}
+use Rattle.dimacs.specs.declared.commands.CommandLines.{CommandLines}
+use Rattle.dimacs.specs.declared.fault.Code.{Code}
+use Rattle.dimacs.specs.declared.fault.Code.TheVariants.{BadLine, NumberRange, Read}
+use Rattle.dimacs.specs.declared.numeral.Numeral.{Numeral}
+use Rattle.dimacs.specs.Commands.{form, commands, form_of, is_refused, command_applies, command_code}
+use Rattle.dimacs.specs.Commanded.{command_of, commands_in}
+use Rattle.dimacs.specs.CommandReading.{number_read, numbers_read, ReadsLine, HasCommands}
+use Rattle.dimacs.specs.Content.{size_at}
+use Rattle.dimacs.specs.Faults.{Row, is_empty, is_remark, is_malformed}
+use Rattle.dimacs.specs.Numerals.{numeral, kept}
+use Rattle.dimacs.specs.Reading.{one_numeral, two_numerals}
+use Rattle.dimacs.specs.Taking.{Takes}
+use Rattle.dimacs.proofs.Items.{kept_is, unreadable_kept, filter_map_push, or-false, by_memory}
+use Rattle.dimacs.proofs.NodeRows.{one_cases}
+use Rattle.dimacs.proofs.Problems.{two_cases}
+
+-- ---- lines that say nothing
+no_command : (b : ℕ) (bs : List ℕ) (others : Row) → b ≡ 35 → command_of ((b ∷ bs) ∷ others) ≡ None
+no_command b bs others e = rw e refl
+
+ignored_command : (row : Row) → (is_empty row || is_remark 35 row) ≡ true → command_of row ≡ None
+ignored_command [] e = refl
+ignored_command ([] ∷ others) e = absurd (let absurdity : ⊥ = cc in absurdity)
+ignored_command ((b ∷ bs) ∷ others) e =
+    let some : ltb 0 (length (b ∷ bs)) ≡ true = lt-ltb _ _ (omega arith) in
+    no_command b bs others (eqb-true b 35 (rw some at e))
+
+pub ignored_row : (row : Row) → (is_empty row || is_remark 35 row) ≡ true → ReadsLine row (Ok None)
+unfolding command_code
+ignored_row row e = ((λ earlier. rw e refl), ignored_command row e)
+
+pub unknown_row : (row : Row) → (is_empty row || is_remark 35 row) ≡ false → form_of commands row ≡ None → ReadsLine row (Err BadLine)
+unfolding command_code
+unknown_row row e f = λ earlier. rw (e, f) refl
+
+-- ---- numbers
+kept_refused : (n : Numeral) → is_refused (kept n) ≡ is_refused n
+kept_refused n = ap (λ b. n.has_minus || b) (unreadable_kept n)
+
+kept_number : (n : Numeral) → is_refused n ≡ false → kept n ≡ n
+kept_number n e = kept_is n (or_parts _ _ e).1
+
+-- a word with one number
+module _ (word : List ℕ) (make : ℕ → Command) (plain : (numbers : Row) → (is_empty (word ∷ numbers) || is_remark 35 (word ∷ numbers)) ≡ false)
+    (formed : (numbers : Row) → form_of commands (word ∷ numbers) ≡ Some (form word 1)) (made : (numbers : Row) → command_of (word ∷ numbers) ≡ Some (make (size_at numbers 0))) where
+  code_of_number : (earlier : List Row) (u : List ℕ) (a : Numeral) → numeral u ≡ Some a → command_code commands earlier (word ∷ u ∷ []) ≡ cond (is_refused a) (Some NumberRange) None
+  unfolding command_code
+  code_of_number earlier u a e = rw (plain (u ∷ []), formed (u ∷ []), e) (simp or-false)
+
+  malformed_number : (earlier : List Row) (numbers : Row) → is_malformed 1 numbers ≡ true → command_code commands earlier (word ∷ numbers) ≡ Some BadLine
+  unfolding command_code
+  malformed_number earlier numbers e = rw (plain numbers, formed numbers, e) refl
+
+  abbrev RightNumber : Row → Result ℕ Code → Type 0
+  RightNumber numbers (Ok x) = ReadsLine (word ∷ numbers) (Ok (Some (make x)))
+  RightNumber numbers (Err code) = ReadsLine (word ∷ numbers) (Err code)
+
+  number_is : (u : List ℕ) (a : Numeral) → numeral u ≡ Some a → (refused : Bool) → is_refused a ≡ refused → RightNumber (u ∷ []) (cond refused (Err NumberRange) (Ok (kept a).size))
+  number_is u a e true is = λ earlier. code_of_number earlier u a e ∙ rw is refl
+  number_is u a e false is =
+      let size : size_at (u ∷ []) 0 ≡ a.size = rw e refl in
+      ((λ earlier. code_of_number earlier u a e ∙ rw is refl), made (u ∷ []) ∙ ap (λ (x : ℕ). Some (make x)) (size ∙ sym (ap (λ (n : Numeral). n.size) (kept_number a is))))
+
+  number_row : (numbers : Row) → RightNumber numbers (number_read (one_numeral numbers))
+  number_row numbers =
+      elim (one_cases numbers) [
+        | inl bad ↦ rw bad.0 (λ earlier. malformed_number earlier numbers bad.1)
+        | inr one ↦
+            let read : one_numeral (one.field ∷ []) ≡ Some (kept one.a) = rw one.field_is refl in
+            let result : number_read (one_numeral (one.field ∷ [])) ≡ cond (is_refused one.a) (Err NumberRange) (Ok (kept one.a).size) =
+            ap number_read read ∙ ap (λ (x : Bool). cond x (Err NumberRange) (Ok (kept one.a).size)) (kept_refused one.a) in
+            rw one.fields (subst (RightNumber (one.field ∷ [])) (sym result) (number_is one.field one.a one.field_is (is_refused one.a) refl))
+      ]
+
+  pub number_says : (row numbers : Row) (x : ℕ) → row ≡ word ∷ numbers → Ok x ≡ number_read (one_numeral numbers) → ReadsLine row (Ok (Some (make x)))
+  number_says row numbers x e is = rw e (subst (RightNumber numbers) (sym is) (number_row numbers))
+
+  pub number_fault : (row numbers : Row) (code : Code) → row ≡ word ∷ numbers → Err code ≡ number_read (one_numeral numbers) → ReadsLine row (Err code)
+  number_fault row numbers code e is = rw e (subst (RightNumber numbers) (sym is) (number_row numbers))
+
+-- `set` and its two numbers
+code_of_numbers : (earlier : List Row) (u v : List ℕ) (a b : Numeral) → numeral u ≡ Some a → numeral v ≡ Some b
+    → command_code commands earlier (codes "set" ∷ u ∷ v ∷ []) ≡ cond (is_refused a || is_refused b) (Some NumberRange) None
+unfolding command_code
+code_of_numbers earlier u v a b e f = rw (e, f) (simp or-false)
+
+malformed_numbers : (earlier : List Row) (numbers : Row) → is_malformed 2 numbers ≡ true → command_code commands earlier (codes "set" ∷ numbers) ≡ Some BadLine
+unfolding command_code
+malformed_numbers earlier numbers e = rw e refl
+
+abbrev RightNumbers : Row → Result (ℕ × ℕ) Code → Type 0
+RightNumbers numbers (Ok x) = ReadsLine (codes "set" ∷ numbers) (Ok (Some (Set x.0 x.1)))
+RightNumbers numbers (Err code) = ReadsLine (codes "set" ∷ numbers) (Err code)
+
+numbers_are : (u v : List ℕ) (a b : Numeral) → numeral u ≡ Some a → numeral v ≡ Some b → (refused : Bool) → (is_refused a || is_refused b) ≡ refused
+    → RightNumbers (u ∷ v ∷ []) (cond refused (Err NumberRange) (Ok ((kept a).size, (kept b).size)))
+numbers_are u v a b e f true is = λ earlier. code_of_numbers earlier u v a b e f ∙ rw is refl
+numbers_are u v a b e f false is =
+    let parts = or_parts _ _ is in
+    let a_is : a.size ≡ (kept a).size = sym (ap (λ (n : Numeral). n.size) (kept_number a parts.0)) in
+    let b_is : b.size ≡ (kept b).size = sym (ap (λ (n : Numeral). n.size) (kept_number b parts.1)) in
+    let says : command_of (codes "set" ∷ u ∷ v ∷ []) ≡ Some (Set a.size b.size) = rw (e, f) refl in
+    ((λ earlier. code_of_numbers earlier u v a b e f ∙ rw is refl), says ∙ ap (λ (x : ℕ). Some (Set x b.size)) a_is ∙ ap (λ (y : ℕ). Some (Set (kept a).size y)) b_is)
+
+numbers_row : (numbers : Row) → RightNumbers numbers (numbers_read (two_numerals numbers))
+numbers_row numbers =
+    elim (two_cases numbers) [
+      | inl bad ↦ rw bad.0 (λ earlier. malformed_numbers earlier numbers bad.1)
+      | inr two ↦
+          let read : two_numerals (two.nodes ∷ two.items ∷ []) ≡ Some (kept two.a, kept two.b) = rw (two.nodes_is, two.items_is) refl in
+          let same : (is_refused (kept two.a) || is_refused (kept two.b)) ≡ (is_refused two.a || is_refused two.b) =
+          ap (λ (x : Bool). x || is_refused (kept two.b)) (kept_refused two.a) ∙ ap (λ (y : Bool). is_refused two.a || y) (kept_refused two.b) in
+          let result : numbers_read (two_numerals (two.nodes ∷ two.items ∷ [])) ≡ cond (is_refused two.a || is_refused two.b) (Err NumberRange) (Ok ((kept two.a).size, (kept two.b).size)) =
+          ap numbers_read read ∙ ap (λ (x : Bool). cond x (Err NumberRange) (Ok ((kept two.a).size, (kept two.b).size))) same in
+          rw two.fields (subst (RightNumbers (two.nodes ∷ two.items ∷ [])) (sym result) (numbers_are two.nodes two.items two.a two.b two.nodes_is two.items_is (is_refused two.a || is_refused two.b) refl))
+    ]
+
+pub set_says : (row numbers : Row) (x y : ℕ) → row ≡ codes "set" ∷ numbers → Ok (x, y) ≡ numbers_read (two_numerals numbers) → ReadsLine row (Ok (Some (Set x y)))
+set_says row numbers x y e is = rw e (subst (RightNumbers numbers) (sym is) (numbers_row numbers))
+
+pub set_fault : (row numbers : Row) (code : Code) → row ≡ codes "set" ∷ numbers → Err code ≡ numbers_read (two_numerals numbers) → ReadsLine row (Err code)
+set_fault row numbers code e is = rw e (subst (RightNumbers numbers) (sym is) (numbers_row numbers))
+
+-- ---- lines taken, and one more
+pub takes_nothing : (earlier : List Row) (row : Row) (taken : CommandLines) → ReadsLine row (Ok None) → HasCommands earlier taken → Takes (command_code commands) HasCommands earlier row taken (Ok tt)
+takes_nothing earlier row taken reads has = (reads.0 earlier, has ∙ sym (filter_map_push command_of earlier row ∙ rw reads.1 (append-nil (commands_in earlier))))
+
+pub takes_command : (earlier : List Row) (row : Row) (command : Command) (old new : CommandLines) → ReadsLine row (Ok (Some command)) → HasCommands earlier old
+    → new.commands.items ≡ old.commands.items ++ command ∷ [] → Takes (command_code commands) HasCommands earlier row new (Ok tt)
+takes_command earlier row command old new reads has pushed = (reads.0 earlier, pushed ∙ rw has (sym (filter_map_push command_of earlier row ∙ rw reads.1 refl)))
+
+-- the code of a failed read is no code of the table
+other_code : (b : Bool) (c : Code) (o : Option Code) → (Some c ≡ Some Read → ⊥) → cond b (Some c) o ≡ Some Read → o ≡ Some Read
+other_code true c o other e = absurd (other e)
+other_code false c o other e = e
+
+ignored_or : (b : Bool) (o : Option Code) → cond b None o ≡ Some Read → o ≡ Some Read
+ignored_or true o e = absurd (let absurdity : ⊥ = cc in absurdity)
+ignored_or false o e = e
+
+pub never_read : (row : Row) → command_code commands [] row ≡ Some Read → ⊥
+unfolding command_code
+never_read row e =
+    let listed = ignored_or (is_empty row || is_remark 35 row) _ e in
+    let e1 = other_code (command_applies commands row BadLine) BadLine _ (λ s. cc) listed in
+    let e2 = other_code (command_applies commands row NumberRange) NumberRange _ (λ s. cc) e1 in
+    cc
+
+pub takes_fault : (earlier : List Row) (row : Row) (code : Code) (taken : CommandLines) → ReadsLine row (Err code) → Takes (command_code commands) HasCommands earlier row taken (Err code)
+takes_fault earlier row code taken reads = by_memory code (reads earlier) (λ e. never_read row (reads [] ∙ ap Some e)) tt
+
+or_right : (a b : Bool) → b ≡ true → (a || b) ≡ true
+or_right true b e = refl
+or_right false b e = e
+
+pub takes_remark : (earlier : List Row) (row : Row) (taken : CommandLines) → is_remark 35 row ≡ true → HasCommands earlier taken
+    → (command_code commands earlier row ≡ None) × HasCommands (earlier ++ row ∷ []) taken
+takes_remark earlier row taken e has = takes_nothing earlier row taken (ignored_row row (or_right (is_empty row) (is_remark 35 row) e)) has

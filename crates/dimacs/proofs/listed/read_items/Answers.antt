@@ -1,0 +1,8 @@
+use Rattle.dimacs.specs.Listed.{listed, text_of_items}
+use Rattle.dimacs.proofs.TextEnds.{read_ended}
+use Rattle.dimacs.proofs.listed.read_items.Goals as goal
+
+pub returns-in-Ok-clause-read : goal.returns-in-Ok-clause-read
+returns-in-Ok-clause-read g c =
+    read_ended (text_of_items (listed g.I.NodeItem.word g.I.NodeItem.LETTER g.I.NodeItem.quantities g.K.NodeCount.nodes) g.I.NodeItem.says) _ _ _
+    c.in-Ok.ended _ c.in-Ok.ensures.read c.items_at_end.ensures.ends

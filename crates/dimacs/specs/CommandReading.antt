@@ -1,0 +1,41 @@
+-- One line of a command text, read from left to right.
+use Rattle.std.specs.Prelude.{◌≡◌, ℕ, ◌||◌, true, false, List, ◌∷◌, Option, None, Some, Result, Ok, Err, if◌then◌else◌}
+use lib.Chars.{codes}
+use Rattle.roadnet.specs.declared.commands.Command.{Command}
+use Rattle.dimacs.specs.declared.commands.CommandLines.{CommandLines}
+use Rattle.dimacs.specs.declared.commands.Kind.{Kind}
+use Rattle.dimacs.specs.declared.commands.Kind.TheVariants.{Ignored, Set, Close, Reopen, Mark, Unmark, Unknown}
+use Rattle.dimacs.specs.declared.numeral.Numeral.{Numeral}
+use Rattle.dimacs.specs.declared.fault.Code.{Code}
+use Rattle.dimacs.specs.declared.fault.Code.TheVariants.{BadLine, NumberRange}
+use Rattle.dimacs.specs.Lines.{fields}
+use Rattle.dimacs.specs.Faults.{Row, is_empty, is_remark}
+use Rattle.dimacs.specs.Commands.{commands, command_code, form_of, is_refused}
+use Rattle.dimacs.specs.Commanded.{command_of, commands_in}
+
+abbrev pub IsKind : Row → Kind → Type 0
+IsKind row Ignored = (is_empty row || is_remark 35 row) ≡ true
+IsKind row (Set numbers) = row ≡ codes "set" ∷ fields numbers.now
+IsKind row (Close numbers) = row ≡ codes "close" ∷ fields numbers.now
+IsKind row (Reopen numbers) = row ≡ codes "reopen" ∷ fields numbers.now
+IsKind row (Mark numbers) = row ≡ codes "mark" ∷ fields numbers.now
+IsKind row (Unmark numbers) = row ≡ codes "unmark" ∷ fields numbers.now
+IsKind row Unknown = ((is_empty row || is_remark 35 row) ≡ false) × (form_of commands row ≡ None)
+
+-- one number, and two
+abbrev pub number_read : Option Numeral → Result ℕ Code
+number_read None = Err BadLine
+number_read (Some n) = if is_refused n then Err NumberRange else Ok n.size
+
+abbrev pub numbers_read : Option (Numeral × Numeral) → Result (ℕ × ℕ) Code
+numbers_read None = Err BadLine
+numbers_read (Some both) = if is_refused both.0 || is_refused both.1 then Err NumberRange else Ok (both.0.size, both.1.size)
+
+-- the line has no fault and says this, or its code is told
+abbrev pub ReadsLine : Row → Result (Option Command) Code → Type 0
+ReadsLine row (Ok command) = ((earlier : List Row) → command_code commands earlier row ≡ None) × (command_of row ≡ command)
+ReadsLine row (Err code) = (earlier : List Row) → command_code commands earlier row ≡ Some code
+
+-- these lines were taken
+abbrev pub HasCommands : List Row → CommandLines → Type 0
+HasCommands lines taken = taken.commands.items ≡ commands_in lines

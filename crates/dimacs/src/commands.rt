@@ -1,0 +1,200 @@
+//! The texts of commands.
+ghost use Rattle.std.specs.Prelude.{◌≡◌, ◌≢◌, IfErr, IfSome, List, length, vec_items};
+ghost use Rattle.dimacs.specs.Lines.{fields};
+ghost use Rattle.dimacs.specs.Commands.{is_refused};
+ghost use Rattle.dimacs.specs.Reading.{one_numeral, two_numerals};
+ghost use Rattle.dimacs.specs.CommandReading.{IsKind, number_read, numbers_read, ReadsLine};
+
+use crate::counted::Counted;
+use crate::fault::{Code, Fault};
+use crate::feed::{Ended, parse_lines, read_lines};
+use crate::line::split_field;
+use crate::numeral::Numeral;
+use crate::reading::{split_one, split_two};
+use crate::taking::TakeLines;
+use roadnet::Command;
+use std::alloc::Global;
+use std::io::BufRead;
+
+/// The commands of the lines so far.
+#[derive(Drop)]
+pub(crate) struct CommandLines {
+    commands: Vec<Command>,
+}
+
+/// A line by its kind, with what follows its first field.
+enum Kind<'a> {
+    /// A line with no field, or a comment.
+    Ignored,
+    Set(&'a [u8]),
+    Close(&'a [u8]),
+    Reopen(&'a [u8]),
+    Mark(&'a [u8]),
+    Unmark(&'a [u8]),
+    Unknown,
+}
+
+fn kind_of(line: &[u8]) -> Kind<'_>
+    ensures { IsKind (fields line.now) result }
+{
+    match split_field(line) {
+        None | Some(([b'#', ..], _)) => Kind::Ignored,
+        Some((b"set", numbers)) => Kind::Set(numbers),
+        Some((b"close", numbers)) => Kind::Close(numbers),
+        Some((b"reopen", numbers)) => Kind::Reopen(numbers),
+        Some((b"mark", numbers)) => Kind::Mark(numbers),
+        Some((b"unmark", numbers)) => Kind::Unmark(numbers),
+        Some(_) => Kind::Unknown,
+    }
+}
+
+/// Whether a numeral of a command has a minus, or a size above 2^63 - 1.
+fn is_refused(number: Numeral) -> bool
+    ensures { result ≡ is_refused number }
+{
+    number.has_minus || number.is_unreadable()
+}
+
+/// The one number of a command.
+fn number(numbers: &[u8]) -> Result<u64, Code>
+    ensures { result ≡ number_read (one_numeral (fields numbers.now)) }
+{
+    match split_one(numbers) {
+        None => Err(Code::BadLine),
+        Some(number) => {
+            if is_refused(number) {
+                return Err(Code::NumberRange);
+            }
+            Ok(number.size)
+        }
+    }
+}
+
+/// The two numbers of a command.
+fn two_numbers(numbers: &[u8]) -> Result<(u64, u64), Code>
+    ensures { result ≡ numbers_read (two_numerals (fields numbers.now)) }
+{
+    match split_two(numbers) {
+        None => Err(Code::BadLine),
+        Some((first, second)) => {
+            if is_refused(first) || is_refused(second) {
+                return Err(Code::NumberRange);
+            }
+            Ok((first.size, second.size))
+        }
+    }
+}
+
+/// What a line of a command text says: a command, or nothing.
+fn read_line(line: &[u8]) -> Result<Option<Command>, Code>
+    ensures { ReadsLine (fields line.now) result }
+{
+    match kind_of(line) {
+        Kind::Ignored => Ok(None),
+        Kind::Set(numbers) => match two_numbers(numbers) {
+            Ok((arc, length)) => Ok(Some(Command::Set { arc, length })),
+            Err(code) => Err(code),
+        },
+        Kind::Close(numbers) => match number(numbers) {
+            Ok(arc) => Ok(Some(Command::Close { arc })),
+            Err(code) => Err(code),
+        },
+        Kind::Reopen(numbers) => match number(numbers) {
+            Ok(arc) => Ok(Some(Command::Reopen { arc })),
+            Err(code) => Err(code),
+        },
+        Kind::Mark(numbers) => match number(numbers) {
+            Ok(node) => Ok(Some(Command::Mark { node })),
+            Err(code) => Err(code),
+        },
+        Kind::Unmark(numbers) => match number(numbers) {
+            Ok(node) => Ok(Some(Command::Unmark { node })),
+            Err(code) => Err(code),
+        },
+        Kind::Unknown => Err(Code::BadLine),
+    }
+}
+
+impl CommandLines {
+    ghost use Rattle.std.specs.Prelude.{[]};
+    ghost use Rattle.dimacs.specs.CommandReading.{HasCommands};
+
+    fn new(alloc: Global) -> CommandLines
+        ensures { HasCommands [] result }
+    {
+        CommandLines {
+            commands: Vec::new(alloc),
+        }
+    }
+}
+
+impl TakeLines for CommandLines {
+    ghost use Rattle.std.specs.Prelude.{refl};
+    ghost use Rattle.dimacs.specs.Commands.{commands, command_code};
+    ghost use Rattle.dimacs.specs.CommandReading.{HasCommands};
+
+    ghost judge = { command_code commands };
+
+    ghost has_taken = { HasCommands };
+
+    ghost COMMENT = { 35 };
+
+    const COMMENT: u8 = b'#';
+
+    fn take_line(&mut self, line: &[u8]) -> Result<(), Code> {
+        match read_line(line) {
+            Ok(None) => Ok(()),
+            Ok(Some(command)) => match self.commands.push(command) {
+                Ok(()) => Ok(()),
+                Err(_) => Err(Code::OutOfMemory),
+            },
+            Err(code) => Err(code),
+        }
+    }
+
+    fn pass_comment(&mut self) {}
+
+    ghost run_is_no_comment = { refl };
+
+    ghost return_is_no_comment = { refl };
+}
+
+ghost use Rattle.dimacs.specs.Commanded.{command_text};
+ghost use Rattle.dimacs.specs.Texts.{Parses, Reads, map_ok};
+ghost use Rattle.dimacs.specs.Counts.{CountsFailures, IsSameReader, failed_calls, reader_of};
+
+/// The commands that a text gives, in the order of their lines, or the text's first fault. Whether their numbers are in range is
+/// judged where they are carried out. It takes 24 bytes a command.
+pub fn parse_commands(alloc: Global, bytes: &[u8]) -> Result<Vec<Command>, Fault>
+    ensures { Parses command_text bytes.now (map_ok vec_items result) }
+{
+    match parse_lines(CommandLines::new(alloc), bytes) {
+        Ok(ended) => Ok(ended.taker.commands),
+        Err(fault) => Err(fault),
+    }
+}
+
+/// The commands that a reader's text gives, as `parse_commands`. The count of failed calls tells a failed read from a fault of the
+/// text. After an `Err` the reader is not used again.
+pub fn read_commands_counted<R: BufRead>(
+    alloc: Global,
+    counted: &mut Counted<'_, R>,
+) -> Result<Vec<Command>, Fault>
+    ensures read { IfSome (R.remaining (reader_of counted.old))
+        (λ text. Reads command_text text (R.remaining (reader_of counted.new)) (map_ok vec_items result)) }
+    ensures counts { CountsFailures (failed_calls counted.old) (failed_calls counted.new) result }
+    ensures same { IsSameReader counted.old counted.new }
+{
+    match read_lines(alloc, counted, false, CommandLines::new(alloc)) {
+        Ok(ended) => Ok(ended.taker.commands),
+        Err(fault) => Err(fault),
+    }
+}
+
+/// The commands that a reader's text gives, as `parse_commands`. After an `Err` the reader is not used again.
+pub fn read_commands<R: BufRead>(alloc: Global, reader: &mut R) -> Result<Vec<Command>, Fault>
+    ensures { IfSome (R.remaining reader.old) (λ text. Reads command_text text (R.remaining reader.new) (map_ok vec_items result)) }
+{
+    let mut counted = Counted::new(reader);
+    read_commands_counted(alloc, &mut counted)
+}

@@ -1,0 +1,122 @@
+//! The texts of landmarks.
+ghost use Rattle.std.specs.Prelude.{◌≡◌, ◌≢◌, IfOk, IfErr, IfSome, vec_items};
+ghost use Rattle.std.specs.List.Sorted.{IsStrictlyIncreasing};
+ghost use Rattle.roadnet.specs.Members.{set_of};
+ghost use Rattle.dimacs.specs.Lines.{fields};
+ghost use Rattle.dimacs.specs.ListedReading.{node_of_numeral, node_read};
+ghost use Rattle.dimacs.specs.Reading.{one_numeral};
+
+use crate::counted::Counted;
+use crate::fault::{Code, Fault};
+use crate::listed::{NodeItem, parse_items, read_items};
+use crate::numeral::Numeral;
+use crate::reading::split_one;
+use std::alloc::Global;
+use std::io::BufRead;
+use std::marker::Brand;
+
+fn node_of(nodes: u32, number: Numeral) -> Result<u32, Code>
+    ensures reads_nothing { IfErr result (λ code. code ≢ Code.Read) }
+    ensures value { result ≡ node_of_numeral nodes number }
+{
+    if number.is_unreadable() {
+        return Err(Code::NumberRange);
+    }
+    if number.is_outside(1, u64::from(nodes)) {
+        return Err(Code::NodeRange);
+    }
+    Ok(number.size as u32)
+}
+
+/// The node that the number of an item line names, or its fault.
+fn read_node(nodes: u32, numbers: &[u8]) -> Option<Result<u32, Code>>
+    ensures reads_nothing { IfSome result (λ read. IfErr read (λ code. code ≢ Code.Read)) }
+    ensures value { result ≡ node_read nodes (one_numeral (fields numbers.now)) }
+{
+    let number = split_one(numbers)?;
+    Some(node_of(nodes, number))
+}
+
+impl NodeItem for u32 {
+    ghost use Rattle.std.specs.Prelude.{◌∷◌, [], refl};
+    ghost use lib.Chars.{codes};
+    ghost use Rattle.dimacs.specs.Format.{Node};
+    ghost use Rattle.dimacs.specs.Landmarks.{node_from};
+
+    ghost word = { codes "ss" };
+
+    ghost quantities = { Node ∷ [] };
+
+    ghost says = { node_from };
+
+    ghost LETTER = { 115 };
+
+    const LETTER: u8 = b's';
+
+    fn is_word(field: &[u8]) -> bool {
+        field == b"ss".as_slice()
+    }
+
+    fn read(nodes: u32, numbers: &[u8]) -> Option<Result<u32, Code>> {
+        read_node(nodes, numbers)
+    }
+
+    ghost letter_is_no_mark = { refl };
+
+    ghost letter_is_no_problem = { refl };
+}
+
+ghost use Rattle.dimacs.specs.Landmarks.{ss_text};
+ghost use Rattle.dimacs.specs.Texts.{Parses, Reads, map_ok};
+ghost use Rattle.dimacs.specs.Counts.{CountsFailures, IsSameReader, failed_calls, reader_of};
+
+/// The set of these nodes as an ascending list.
+fn as_set(nodes: Vec<u32>) -> Vec<u32>
+    ensures set { result.items ≡ set_of nodes.items }
+    ensures ascending { IsStrictlyIncreasing result.items }
+{
+    let mut nodes = nodes;
+    nodes.sort_unstable();
+    nodes.dedup();
+    nodes
+}
+
+/// The landmarks that a `.ss` text gives for a network of `nodes` nodes, ascending and each once, or the text's first fault. It takes
+/// 4 bytes a line that was read, and O(K log K) comparisons.
+pub fn parse_ss(alloc: Global, bytes: &[u8], nodes: u32) -> Result<Vec<u32>, Fault>
+    ensures text { Parses (ss_text nodes) bytes.now (map_ok vec_items result) }
+    ensures ascending { IfOk result (λ landmarks. IsStrictlyIncreasing landmarks.items) }
+{
+    match parse_items::<u32, Brand>(alloc, bytes, nodes) {
+        Ok(landmarks) => Ok(as_set(landmarks)),
+        Err(fault) => Err(fault),
+    }
+}
+
+/// The landmarks that a reader's `.ss` text gives, as `parse_ss`. The count of failed calls tells a failed read from a fault of the
+/// text. After an `Err` the reader is not used again.
+pub fn read_ss_counted<R: BufRead>(
+    alloc: Global,
+    counted: &mut Counted<'_, R>,
+    nodes: u32,
+) -> Result<Vec<u32>, Fault>
+    ensures read { IfSome (R.remaining (reader_of counted.old))
+        (λ text. Reads (ss_text nodes) text (R.remaining (reader_of counted.new)) (map_ok vec_items result)) }
+    ensures ascending { IfOk result (λ landmarks. IsStrictlyIncreasing landmarks.items) }
+    ensures counts { CountsFailures (failed_calls counted.old) (failed_calls counted.new) result }
+    ensures same { IsSameReader counted.old counted.new }
+{
+    match read_items::<u32, Brand, R>(alloc, counted, nodes) {
+        Ok(landmarks) => Ok(as_set(landmarks)),
+        Err(fault) => Err(fault),
+    }
+}
+
+/// The landmarks that a reader's `.ss` text gives, as `parse_ss`. After an `Err` the reader is not used again.
+pub fn read_ss<R: BufRead>(alloc: Global, reader: &mut R, nodes: u32) -> Result<Vec<u32>, Fault>
+    ensures read { IfSome (R.remaining reader.old) (λ text. Reads (ss_text nodes) text (R.remaining reader.new) (map_ok vec_items result)) }
+    ensures ascending { IfOk result (λ landmarks. IsStrictlyIncreasing landmarks.items) }
+{
+    let mut counted = Counted::new(reader);
+    read_ss_counted(alloc, &mut counted, nodes)
+}

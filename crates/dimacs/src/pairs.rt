@@ -1,0 +1,116 @@
+//! The texts of pairs of nodes.
+ghost use Rattle.std.specs.Prelude.{◌≡◌, ◌≢◌, IfErr, IfSome, vec_items};
+ghost use Rattle.dimacs.specs.Lines.{fields};
+
+use crate::counted::Counted;
+use crate::fault::{Code, Fault};
+use crate::listed::{NodeItem, parse_items, read_items};
+use crate::numeral::Numeral;
+use crate::reading::split_two;
+use std::alloc::Global;
+use std::io::BufRead;
+use std::marker::Brand;
+
+/// Two nodes of a network, counted from 1: from which to go, and to which.
+#[derive(Clone, Copy, Debug, PartialEq, Eq)]
+pub struct Pair {
+    pub source: u32,
+    pub target: u32,
+}
+
+impl Pair {
+    ghost use Rattle.dimacs.specs.ListedReading.{pair_of_numerals};
+
+    fn of_numerals(nodes: u32, source: Numeral, target: Numeral) -> Result<Pair, Code>
+        ensures reads_nothing { IfErr result (λ code. code ≢ Code.Read) }
+        ensures value { result ≡ pair_of_numerals nodes source target }
+    {
+        if source.is_unreadable() || target.is_unreadable() {
+            return Err(Code::NumberRange);
+        }
+        let nodes = u64::from(nodes);
+        if source.is_outside(1, nodes) || target.is_outside(1, nodes) {
+            return Err(Code::NodeRange);
+        }
+        Ok(Pair {
+            source: source.size as u32,
+            target: target.size as u32,
+        })
+    }
+}
+
+ghost use Rattle.dimacs.specs.ListedReading.{pair_read};
+ghost use Rattle.dimacs.specs.Reading.{two_numerals};
+
+/// The pair that the numbers of an item line name, or their fault.
+fn read_pair(nodes: u32, numbers: &[u8]) -> Option<Result<Pair, Code>>
+    ensures reads_nothing { IfSome result (λ read. IfErr read (λ code. code ≢ Code.Read)) }
+    ensures value { result ≡ pair_read nodes (two_numerals (fields numbers.now)) }
+{
+    let (source, target) = split_two(numbers)?;
+    Some(Pair::of_numerals(nodes, source, target))
+}
+
+impl NodeItem for Pair {
+    ghost use Rattle.std.specs.Prelude.{◌∷◌, [], refl};
+    ghost use lib.Chars.{codes};
+    ghost use Rattle.dimacs.specs.Format.{Node};
+    ghost use Rattle.dimacs.specs.Pairs.{pair_from};
+
+    ghost word = { codes "p2p" };
+
+    ghost quantities = { Node ∷ Node ∷ [] };
+
+    ghost says = { pair_from };
+
+    ghost LETTER = { 113 };
+
+    const LETTER: u8 = b'q';
+
+    fn is_word(field: &[u8]) -> bool {
+        field == b"p2p".as_slice()
+    }
+
+    fn read(nodes: u32, numbers: &[u8]) -> Option<Result<Pair, Code>> {
+        read_pair(nodes, numbers)
+    }
+
+    ghost letter_is_no_mark = { refl };
+
+    ghost letter_is_no_problem = { refl };
+}
+
+ghost use Rattle.dimacs.specs.Pairs.{p2p_text};
+ghost use Rattle.dimacs.specs.Texts.{Parses, Reads, map_ok};
+ghost use Rattle.dimacs.specs.Counts.{CountsFailures, IsSameReader, failed_calls, reader_of};
+
+/// The pairs that a `.p2p` text gives for a network of `nodes` nodes, in the order of their lines, or the text's first fault. It
+/// takes 8 bytes a pair that was read.
+pub fn parse_p2p(alloc: Global, bytes: &[u8], nodes: u32) -> Result<Vec<Pair>, Fault>
+    ensures { Parses (p2p_text nodes) bytes.now (map_ok vec_items result) }
+{
+    parse_items::<Pair, Brand>(alloc, bytes, nodes)
+}
+
+/// The pairs that a reader's `.p2p` text gives, as `parse_p2p`. The count of failed calls tells a failed read from a fault of the
+/// text. After an `Err` the reader is not used again.
+pub fn read_p2p_counted<R: BufRead>(
+    alloc: Global,
+    counted: &mut Counted<'_, R>,
+    nodes: u32,
+) -> Result<Vec<Pair>, Fault>
+    ensures read { IfSome (R.remaining (reader_of counted.old))
+        (λ text. Reads (p2p_text nodes) text (R.remaining (reader_of counted.new)) (map_ok vec_items result)) }
+    ensures counts { CountsFailures (failed_calls counted.old) (failed_calls counted.new) result }
+    ensures same { IsSameReader counted.old counted.new }
+{
+    read_items::<Pair, Brand, R>(alloc, counted, nodes)
+}
+
+/// The pairs that a reader's `.p2p` text gives, as `parse_p2p`. After an `Err` the reader is not used again.
+pub fn read_p2p<R: BufRead>(alloc: Global, reader: &mut R, nodes: u32) -> Result<Vec<Pair>, Fault>
+    ensures { IfSome (R.remaining reader.old) (λ text. Reads (p2p_text nodes) text (R.remaining reader.new) (map_ok vec_items result)) }
+{
+    let mut counted = Counted::new(reader);
+    read_p2p_counted(alloc, &mut counted, nodes)
+}

@@ -9,10 +9,10 @@ use Rattle.std.proofs.lemmas.Bool.{eqb-false}
 use Rattle.std.proofs.lemmas.List.{nil_from_length}
 use Rattle.std.proofs.lemmas.Map.Keys.{le_from_not_gt}
 use Rattle.buckets.specs.Lists.{Lists, has_node, is_listed, AreListed}
-use Rattle.buckets.specs.Queue.{Entries, bucket, is_in_bucket, TakesLeast}
+use Rattle.buckets.specs.Queue.{Entries, bucket, TakesLeast}
 use Rattle.buckets.specs.Tables.{without}
 use Rattle.buckets.proofs.Tables.{tied}
-use Rattle.buckets.proofs.Taken.{each-set, empty_from_nothing, left_outside, nothing_in_empty, value_in, without-bucket, without-none}
+use Rattle.buckets.proofs.Taken.{each-set, empty_from_nothing, left_outside, nothing_in_empty, without-bucket, without-none}
 
 pub AreListed-empty : (width : ℕ) (lists : Lists) → AreListed width lists empty
 AreListed-empty width lists node value e = absurd (nothing_in_empty node value e)
@@ -27,12 +27,6 @@ empty_from_no_lists width lists m listed none = empty_from_nothing m (λ q v e.
 -- after the value is set, or is not for want of memory
 pub AreListed-set : {A E : Type 0} (r : Result A E) (width : ℕ) (lists : Lists) (m n : Entries) (node value : ℕ) → AreListed width lists m → OnOk r (n ≡ insert m node value) → OnErr r (n ≡ m) → is_listed lists (value / width) node ≡ true → AreListed width lists n
 AreListed-set r width lists m n node value listed ok err this = each-set r (λ q v. is_listed lists (v / width) q ≡ true) m n node value listed ok err this
-
--- a node that was in this bucket before is in its list
-pub is_listed-before : (width : ℕ) (lists : Lists) (m : Entries) (b node : ℕ) → AreListed width lists m → is_in_bucket width b (get m node) ≡ true → is_listed lists b node ≡ true
-is_listed-before width lists m b node listed h =
-    let v = value_in width b (get m node) h in
-    subst (λ k. is_listed lists k node ≡ true) v.2 (listed node v.0 v.1)
 
 -- the list of a bucket has its nodes
 pub in_list : (width : ℕ) (lists : Lists) (m : Entries) (b : ℕ) (nodes : Vec ℕ) → AreListed width lists m → tree.get nat_cmp lists b ≡ Some nodes → (node value : ℕ) → get m node ≡ Some value → value / width ≡ b → has_node nodes.items node ≡ true

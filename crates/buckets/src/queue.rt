@@ -4,7 +4,7 @@ ghost use Rattle.buckets.specs.Queue.{Entries, TakesLeast};
 
 use std::alloc::AllocError;
 
-/// A map from nodes to values, kept in buckets: bucket `b` has the nodes whose value divided by `delta` is `b`.
+/// A map from nodes to values, kept in buckets: bucket `b` has the nodes whose value has the quotient `b` by `delta`.
 ///
 /// A member may have a window: then only the values of some buckets in a row fit.
 pub trait BucketQueue {

@@ -1,6 +1,15 @@
 pub mod Arcs
+pub mod Division
 pub mod Entries
+pub mod Finishing
+pub mod Flags
+pub mod Lowering
+pub mod Members
 pub mod NoShorter
+pub mod Phases
+pub mod Queues
 pub mod Reached
+pub mod Relaxing
 pub mod Rounds
 pub mod SomeWalk
+pub mod Starting

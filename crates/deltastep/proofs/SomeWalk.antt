@@ -1,19 +1,14 @@
 -- Each reached word is the length of some walk: a word that is lowered by way of an arc stays one.
-use Rattle.std.proofs.Common.{◌≡◌, ◌≢◌, ◌∙◌, ℕ, zero, suc, ◌+◌, ◌-◌, ◌*◌, ◌<◌, ◌≤◌, Bool, true, false, cond, List, [], ◌∷◌, ◌++◌, Some, None, length, get_or, set, take, drop, replicate, map, sum, MatchBool, refl, ap, sym, subst, arith, eqb, ⊎_elim}
-use Rattle.std.specs.List.{All, sum_by}
+use Rattle.std.proofs.Common.{◌≡◌, ◌≢◌, ◌∙◌, ℕ, ◌+◌, ◌-◌, ◌<◌, true, List, [], ◌∷◌, ◌++◌, Some, length, get_or, set, refl, ap, sym, subst, arith, ⊎_elim}
 use Rattle.std.proofs.lemmas.Bool.{cases_eq}
-use Rattle.std.proofs.lemmas.Bool.Decides.{nat_tests}
-use Rattle.std.proofs.lemmas.List.{take_at, take_all, get_or_read, length-replicate, get_or-replicate, get_or-set_same, get_or-set_other, get_or_default, length-set, length-map}
-use Rattle.std.proofs.lemmas.List.Sums.{sum_by-set, sum_by-append, sum_by-le}
-use Rattle.std.proofs.lemmas.List.Elements.{All-more}
-use Rattle.std.proofs.lemmas.Option.{slice_get-get_or, slice_get-map, slice_get_within, get_or_from_slice_get}
+use Rattle.std.proofs.lemmas.List.{get_or-set_same, get_or-set_other}
+use Rattle.std.proofs.lemmas.List.Sums.{sum_by-append}
 use Rattle.roadnet.specs.declared.arcs.RoadArc.{RoadArc}
 use Rattle.roadnet.specs.Net.{Net, IsNode, IsNetwork, IsArcAmong, arc_at}
-use Rattle.roadnet.specs.Walks.{Walk, Least, NoWalk, RowOf, distance_at, length_of, length_of_arc}
-use Rattle.deltastep.specs.Words.{no_walk, distance_of_word}
-use Rattle.deltastep.specs.Tentative.{word_at, reached_count, IsBounded, IsWalked, IsSettled, IsLowered}
-use Rattle.deltastep.proofs.Reached.{test_eq, test_ne, count_of, count_none, count_one, count-set, near_bound, reached-le, IsBounded-set, sum-set_lower}
-use Rattle.deltastep.proofs.Arcs.{index_of_arc, length_of_one}
+use Rattle.roadnet.specs.Walks.{Walk, length_of, length_of_arc}
+use Rattle.deltastep.specs.Words.{no_walk}
+use Rattle.deltastep.specs.Tentative.{word_at, IsWalked}
+use Rattle.deltastep.proofs.Arcs.{length_of_one}
 use Rattle.roadnet.proofs.Apart.{arc_among}
 
 Walk-push : (net : Net) (s u k : ℕ) (arc : RoadArc) (walk : List ℕ) → IsNode net arc.head → Walk net s u walk → arc_at net k ≡ Some arc → arc.opened ≡ true → arc.tail ≡ u → Walk net s arc.head (walk ++ k ∷ [])

@@ -1,2 +1,4 @@
+pub mod Remembered
+pub mod Search
 pub mod Tentative
 pub mod Words

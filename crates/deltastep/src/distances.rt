@@ -1,5 +1,6 @@
 ghost use Rattle.std.specs.Prelude.{◌≡◌};
 
+use roadnet::OutOfMemory;
 use std::alloc::AllocError;
 use std::marker::Model;
 use thiserror::Error;
@@ -61,6 +62,16 @@ impl From<AllocError> for RowError {
     ghost from_gives = { λ _ error. error ≡ out_of_memory };
 
     fn from(_error: AllocError) -> RowError {
+        RowError::OutOfMemory
+    }
+}
+
+impl From<OutOfMemory> for RowError {
+    ghost use Rattle.deltastep.specs.declared.distances.RowError.TheVariants.{OutOfMemory as out_of_memory};
+
+    ghost from_gives = { λ _ error. error ≡ out_of_memory };
+
+    fn from(_error: OutOfMemory) -> RowError {
         RowError::OutOfMemory
     }
 }

@@ -1,8 +1,8 @@
 -- Tentative values kept as words.
-use Rattle.std.proofs.Common.{◌≡◌, ◌∙◌, ℕ, zero, suc, ◌+◌, ◌-◌, ◌<◌, ◌≤◌, List, [], ◌∷◌, Option, Some, None, length, set, replicate, map, refl, ap, sym, arith, add-one}
+use Rattle.std.proofs.Common.{◌≡◌, ◌∙◌, ℕ, zero, suc, ◌+◌, ◌-◌, ◌<◌, ◌≤◌, List, ◌∷◌, Option, Some, None, set, replicate, map, refl, ap, arith, add-one}
 use Rattle.std.proofs.lemmas.Bool.{ne_eqb}
 use Rattle.std.proofs.lemmas.List.{map-set}
-use Rattle.relax.specs.Values.{value_of_word, no_value}
+use Rattle.relax.specs.Values.{value_of_word}
 
 pub value_of_word_some : (value : ℕ) → value < 18446744073709551615 → value_of_word value ≡ Some value
 value_of_word_some value h = rw (ne_eqb value 18446744073709551615 (λ e. omega arith)) refl

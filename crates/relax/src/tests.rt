@@ -1,3 +1,7 @@
+ghost use Rattle.std.specs.Prelude.{◌≡◌, ◌+◌, ◌≤◌, ◌<◌, ◌^◌, length, IsSome, IfOk, IfSome, All};
+ghost use Rattle.std.specs.Bool.{OnTrue};
+ghost use Rattle.relax.specs.Values.{value_at, value_or};
+
 use crate::{Solo, Team, Tentative};
 use roadnet::{Network, Refusal, RoadArc};
 use snapshot::{Part, Snapshot};
@@ -28,6 +32,44 @@ fn six(alloc: Global) -> Result<Network, Refusal> {
     Network::new(alloc, 6, arcs, &[])
 }
 
+/// Whether each of the nodes is there and has a value below 2^56.
+fn are_ready(snapshot: &Snapshot, tentative: &Tentative, nodes: &[u32]) -> bool
+    requires { length tentative.now ≡ snapshot.now.nodes + 1 }
+    ensures nodes { OnTrue result (All (λ u. (1 ≤ u) × (u ≤ snapshot.now.nodes)) nodes.now) }
+    ensures values { OnTrue result (All (λ u. IsSome (value_at tentative.now u) × (value_or 0 tentative.now u < 2 ^ 56)) nodes.now) }
+{
+    for &node in nodes {
+        if !snapshot.has_node(node) {
+            return false;
+        }
+        let Some(value) = tentative.get(node) else {
+            return false;
+        };
+        if value >= 1 << 56 {
+            return false;
+        }
+    }
+    true
+}
+
+/// Tentative values of these nodes, or nothing where a node is not there or a value is too great.
+fn given(
+    alloc: Global,
+    snapshot: &Snapshot,
+    values: &[(u32, u64)],
+) -> Result<Option<Tentative>, Refusal>
+    ensures { IfOk result (λ made. IfSome made (λ tentative. length tentative ≡ snapshot.now.nodes + 1)) }
+{
+    let mut tentative = Tentative::new(alloc, snapshot.nodes())?;
+    for &(node, value) in values {
+        if !snapshot.has_node(node) || value >= 1 << 56 {
+            return Ok(None);
+        }
+        tentative.set(node, value);
+    }
+    Ok(Some(tentative))
+}
+
 /// The requests that a team makes of these nodes with these values, or no list where its conditions don't hold.
 fn requests<T: Team>(
     alloc: Global,
@@ -37,17 +79,11 @@ fn requests<T: Team>(
     part: Part,
 ) -> Result<Option<Vec<(u32, u64)>>, Refusal> {
     let snapshot = Snapshot::build(alloc, &six(alloc)?, 5)?;
-    let mut tentative = Tentative::new(alloc, snapshot.nodes())?;
-    for &(node, value) in values {
-        if !snapshot.has_node(node) || value >= 1 << 56 {
-            return Ok(None);
-        }
-        tentative.set(node, value);
-    }
-    for &node in nodes {
-        if !snapshot.has_node(node) || tentative.get(node).is_none_or(|value| value >= 1 << 56) {
-            return Ok(None);
-        }
+    let Some(tentative) = given(alloc, &snapshot, values)? else {
+        return Ok(None);
+    };
+    if !are_ready(&snapshot, &tentative, nodes) {
+        return Ok(None);
     }
     Ok(Some(team.requests(alloc, &snapshot, nodes, &tentative, part)?))
 }

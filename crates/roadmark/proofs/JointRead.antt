@@ -1,13 +1,11 @@
 -- A text without a line `run` has no script.
-use Rattle.std.proofs.Common.{◌≡◌, ◌∙◌, ℕ, Bool, true, false, ◌&&◌, ◌||◌, cond, List, [], ◌∷◌, Option, None, Some, Ok, Err, IfSome, refl, sym, ap, true≢false}
-use Rattle.std.proofs.lemmas.Bool.{cases_Bool}
+use Rattle.std.proofs.Common.{◌≡◌, ◌∙◌, ℕ, Bool, true, false, ◌||◌, List, [], ◌∷◌, Option, None, Some, Ok, Err, IfSome, refl, sym, true≢false}
 use Rattle.roadnet.specs.Net.{Net}
 use Rattle.dimacs.specs.Faults.{Row}
 use Rattle.dimacs.specs.Joint.{is_run, after_run, has_run}
 use Rattle.dimacs.specs.Lines.{rows}
 use Rattle.dimacs.specs.Gr.{ReadsUntil}
 use Rattle.rows.specs.declared.queries.Query.{Query}
-use Rattle.roadmark.specs.Script.{queries_of, script_code}
 use Rattle.roadmark.specs.Joint.{Says, IsOfText, CountsWrites}
 use Rattle.roadmark.specs.declared.failed.Failed.{Failed}
 use Rattle.roadmark.specs.declared.failed.Failed.TheVariants.{Text, Code}

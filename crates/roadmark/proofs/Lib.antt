@@ -1,3 +1,4 @@
 pub mod Answered
+pub mod Batched
 pub mod JointRead
 pub mod ScriptRows

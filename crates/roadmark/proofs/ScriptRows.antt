@@ -1,15 +1,13 @@
 -- A line of a script that is read from left to right has the lowest code that applies to it, or is the query that it says.
 use Rattle.std.proofs.Common.{◌≡◌, ◌∙◌, ℕ, Bool, true, false, ◌||◌, cond, List, [], ◌∷◌, ◌++◌, Option, None, Some, Result, Ok, Err, length, ltb, refl, sym, ap, subst, inl, inr, arith}
-use Rattle.std.specs.Prelude.{MatchResult}
-use Rattle.std.specs.List.{filter_map}
-use Rattle.std.proofs.lemmas.Bool.{cases_Bool, or_parts, eqb-true, lt-ltb}
+use Rattle.std.proofs.lemmas.Bool.{or_parts, eqb-true, lt-ltb}
 use Rattle.std.proofs.lemmas.List.{append-nil}
 use lib.Chars.{codes}
 use Rattle.dimacs.specs.declared.fault.Code.{Code}
 use Rattle.dimacs.specs.declared.fault.Code.TheVariants.{BadLine, NumberRange, Read}
 use Rattle.dimacs.specs.declared.numeral.Numeral.{Numeral}
 use Rattle.dimacs.specs.Commands.{is_refused, command_applies, command_code}
-use Rattle.dimacs.specs.Faults.{Row, is_empty, is_remark, is_unreadable, is_malformed}
+use Rattle.dimacs.specs.Faults.{Row, is_empty, is_remark, is_malformed}
 use Rattle.dimacs.specs.Numerals.{numeral, kept}
 use Rattle.dimacs.specs.Reading.{two_numerals}
 use Rattle.dimacs.specs.Taking.{Takes}

@@ -1,31 +1,21 @@
 -- What a joint text, and a text with one query, are answered with; and for what they are refused.
-use Rattle.std.specs.Prelude.{◌≡◌, ◌≤◌, ℕ, zero, suc, false, List, [], ◌∷◌, Option, None, Some, Result, Ok, Err, ⊤}
+use Rattle.std.specs.Prelude.{◌≡◌, ℕ, zero, suc, List, [], Option, None, Some, Result, Ok, Err, ⊤}
 use Rattle.roadnet.specs.Net.{Net}
-use Rattle.roadnet.specs.declared.refusals.Refusal.{Refusal}
-use Rattle.roadnet.specs.declared.refusals.Refusal.TheVariants.{Write, OutOfMemory}
+use Rattle.roadnet.specs.declared.refusals.Refusal.TheVariants.{Write}
 use Rattle.dimacs.specs.declared.fault.Fault.{Fault}
-use Rattle.dimacs.specs.Faults.{first_fault, code_of}
-use Rattle.dimacs.specs.Format.{gr}
+use Rattle.dimacs.specs.Faults.{first_fault}
 use Rattle.dimacs.specs.Lines.{rows}
-use Rattle.dimacs.specs.Content.{content, content_of}
+use Rattle.dimacs.specs.Content.{content_of}
 use Rattle.dimacs.specs.Joint.{before_run, after_run}
-use Rattle.dimacs.specs.Taking.{ByCode, ByMemory}
+use Rattle.dimacs.specs.Taking.{ByCode}
 use Rattle.dimacs.specs.Counts.{one_more_failed}
 use Rattle.dimacs.specs.Ends.{FailsIn, BreaksOff}
-use Rattle.dimacs.specs.Gr.{FaultOfLines, ParsesGr}
+use Rattle.dimacs.specs.Gr.{FaultOfLines}
 use Rattle.rows.specs.declared.queries.Query.{Query}
-use Rattle.rows.specs.declared.queries.Reply.{Reply}
-use Rattle.rows.specs.Replies.{IsRight}
-use Rattle.std.specs.Io.KnownBytes.{Appends}
-use Rattle.roadmark.specs.Printed.{lines_of}
 use Rattle.roadmark.specs.declared.failed.Failed.{Failed}
 use Rattle.roadmark.specs.declared.failed.Failed.TheVariants.{Text, Code}
 use Rattle.roadmark.specs.Script.{script_code, queries_of}
 use Rattle.roadmark.specs.Replies.{Answers}
-
--- a width of a search's buckets
-abbrev pub IsWidth : ℕ → Type 0
-IsWidth delta = (1 ≤ delta) × (delta ≤ 2147483647)
 
 -- the network of the lines before `run`, and the queries of those after it
 pub record Says (text : List ℕ) (net : Net) (queries : List Query) : Type 0 where
@@ -81,28 +71,8 @@ abbrev pub IsOfText : Failed → Type 0
 IsOfText (Text which fault) = ⊤
 IsOfText (Code refusal) = ⊥
 
--- nothing is written where a text is refused
+-- nothing is written but where a write failed
 abbrev pub LeavesUnwritten : {W : Type 0} → W → W → Failed → Type 0
 LeavesUnwritten old new (Text which fault) = new ≡ old
-LeavesUnwritten old new (Code refusal) = ⊤
-
--- ---- one query
--- the lines of a right reply to this query, and nothing else
-pub record AnswersOne (net : Net) (query : Query) (old new : Option (List ℕ)) : Type 0 where
-  pub reply : Reply
-  pub right : IsRight net query reply
-  pub written : Appends old new (lines_of 0 query (Some reply))
-
--- what is written are the lines of a right reply to one query, in the network of the text, and nothing else
-pub record IsAnsweredOnce (text : List ℕ) (query : Query) (old new : Option (List ℕ)) : Type 0 where
-  pub net : Net
-  pub network : content text ≡ Ok net
-  pub answers : AnswersOne net query old new
-
--- the text's fault is told, or the writer failed, or memory ran out
-abbrev pub IsRefusedOnce : List ℕ → Failed → Type 0
-IsRefusedOnce text (Text zero fault) = ByMemory fault.code (content text ≡ Err fault) (BreaksOff (code_of gr) (rows text) (rows text) fault.line)
-IsRefusedOnce text (Text (suc n) fault) = ⊥
-IsRefusedOnce text (Code Write) = ⊤
-IsRefusedOnce text (Code OutOfMemory) = ⊤
-IsRefusedOnce text (Code refusal) = ⊥
+LeavesUnwritten old new (Code Write) = ⊤
+LeavesUnwritten old new (Code refusal) = new ≡ old

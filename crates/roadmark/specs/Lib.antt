@@ -5,3 +5,6 @@ pub mod ReadJoint
 pub mod Replies
 pub mod Script
 pub mod ScriptKinds
+pub mod Once
+pub mod Words
+pub mod Batch

@@ -1,6 +1,5 @@
 -- What reading a joint text gives.
-use Rattle.std.specs.Prelude.{◌≡◌, ℕ, List, [], Option, None, Some, Result, Ok, Err}
-use Rattle.roadnet.specs.Net.{Net}
+use Rattle.std.specs.Prelude.{◌≡◌, ℕ, List, [], Option, None, Result, Ok, Err}
 use Rattle.dimacs.specs.declared.fault.Fault.{Fault}
 use Rattle.dimacs.specs.Faults.{first_fault}
 use Rattle.dimacs.specs.Lines.{rows}

@@ -1,12 +1,11 @@
 -- What the functions on one line of a script answer.
-use Rattle.std.specs.Prelude.{◌≡◌, ℕ, Bool, true, false, not, ◌||◌, List, [], ◌∷◌, Option, None, Some, Result, Ok, Err, if◌then◌else◌}
-use Rattle.std.specs.Str.{bytes_eq}
+use Rattle.std.specs.Prelude.{◌≡◌, true, false, ◌||◌, List, ◌∷◌, Option, None, Some, Result, Ok, Err, if◌then◌else◌}
 use lib.Chars.{codes}
 use Rattle.dimacs.specs.declared.fault.Code.{Code}
 use Rattle.dimacs.specs.declared.fault.Code.TheVariants.{BadLine, NumberRange}
 use Rattle.dimacs.specs.declared.numeral.Numeral.{Numeral}
 use Rattle.dimacs.specs.Commands.{is_refused}
-use Rattle.dimacs.specs.Faults.{Row, is_empty, is_remark, has_first}
+use Rattle.dimacs.specs.Faults.{Row, is_empty, is_remark}
 use Rattle.dimacs.specs.Lines.{fields}
 use Rattle.rows.specs.declared.queries.Query.{Query}
 use Rattle.rows.specs.declared.queries.Query.TheVariants.{Dist}

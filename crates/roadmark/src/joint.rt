@@ -1,9 +1,10 @@
 //! The joint form: a network, a line `run`, and a script.
 ghost use Rattle.std.specs.Prelude.{◌≡◌, ℕ, ◌≤◌, IfSome, OnOk, IfErr, List, Option};
 ghost use Rattle.std.specs.Option.{ForSome};
+ghost use Rattle.rows.specs.Kept.{IsWidth};
 ghost use Rattle.dimacs.specs.Counts.{failed_calls, reader_of, CountsFailures, IsSameReader};
 ghost use Rattle.roadmark.specs.Counting.{failed_writes, writer_of, IsSameWriter};
-ghost use Rattle.roadmark.specs.Joint.{IsWidth, IsAnswered, IsRefused, CountsReads, CountsWrites, IsOfText, LeavesUnwritten};
+ghost use Rattle.roadmark.specs.Joint.{IsAnswered, IsRefused, CountsReads, CountsWrites, IsOfText, LeavesUnwritten};
 ghost use Rattle.roadmark.specs.ReadJoint.{ReadsScript, ReadsJoint};
 
 use crate::answers::answer_all;
@@ -81,7 +82,8 @@ fn read_joint<R: BufRead>(alloc: Global, reader: &mut Counted<'_, R>) -> Result<
 /// Reads a joint text, and writes the lines of a right reply to each of its queries, at version 0, and nothing else. Both texts are
 /// read whole before anything is written; the first fault decides.
 ///
-/// `delta` is the width of a search's buckets, 1 to 2147483647: every width gives the same answers, and this search uses none.
+/// `delta` is the width of a search's buckets, 1 to 2147483647: every width gives the same answers; without one it is the
+/// network's default.
 /// A query whose reply finds no memory is answered with `no 11`. A failed read is fault 10 of the text and line being read, and a
 /// failed write is 12: both are told only where the count of the reader's or writer's failed calls rose. After an `Err` reader and
 /// writer are not used again.
@@ -102,12 +104,11 @@ pub fn joint_counted<R: BufRead, W: Write>(
     ensures same_reader { IsSameReader reader.old reader.new }
     ensures same_writer { IsSameWriter out.old out.new }
 {
-    let _ = delta;
     let joint = match read_joint(alloc, reader) {
         Ok(joint) => joint,
         Err(failed) => return Err(failed),
     };
-    match answer_all(alloc, &joint.network, 0, &joint.queries, out) {
+    match answer_all(alloc, &joint.network, delta, 0, &joint.queries, out) {
         Ok(()) => out.flush(),
         Err(failed) => Err(failed),
     }

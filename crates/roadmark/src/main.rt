@@ -1,73 +1,120 @@
 //! A crash-safe landmark distance server for road networks.
 //!
-//! With no words the program reads the joint form from standard input: a `.gr` text, a line `run`, and a script.
+//! With no words the program reads the joint form from standard input: a `.gr` text, a line `run`, and a script. Its words name jobs on
+//! files.
 #![tactic(auto)]
 
+ghost use Rattle.std.specs.Option.{ForSome};
+ghost use Rattle.rows.specs.Kept.{IsWidth};
+ghost use Rattle.roadmark.specs.Words.{delta_of};
+
 mod answers;
+mod batch;
 mod failed;
+mod jobs;
 mod joint;
 mod once;
 mod printed;
 mod script;
+mod words;
 mod writer;
 
+pub use batch::{batch_counted, batch_text};
 pub use failed::{Failed, FaultLine, fault_line, status};
+use jobs::{run_batch, run_joint, run_once};
 pub use joint::{joint_counted, joint_text};
 pub use once::{once_counted, once_text};
 use roadnet::Refusal;
-use std::io::{BufReader, BufWriter};
 use std::process::ExitCode;
-use std::rt::Env;
+use std::rt::{Env, Files};
 use std::{env, io};
+pub use words::{Job, MISUSE, Usage, read_words};
 pub use writer::CountedWriter;
 
 #[cfg(test)]
 mod tests;
 
-/// The status of a command line that the program does not take.
-const MISUSE: u8 = 2;
-
-/// The bytes that are read or written at once.
-const BUFFER: usize = 1 << 16;
-
-/// The joint form on standard input, answered on standard output.
-fn run_joint<R: AllocGlobal + Input + Print>(rt: &R) -> Result<(), Failed> {
-    let Ok(mut reader) = BufReader::with_capacity(rt.alloc(), BUFFER, rt.reader()) else {
-        return Err(Failed::Code(Refusal::OutOfMemory));
-    };
-    let Ok(mut writer) = BufWriter::with_capacity(rt.alloc(), BUFFER, io::writer(rt)) else {
-        return Err(Failed::Code(Refusal::OutOfMemory));
-    };
-    joint_text(rt.alloc(), &mut reader, None, &mut writer)
-}
-
-/// By what name a fault line calls a text of the joint form.
-fn joint_name(failed: &Failed) -> &'static str {
-    match failed {
-        Failed::Text { which: 0, fault: _ } => "net",
-        _ => "script",
+/// Does a job.
+fn run<R: AllocGlobal + Files + Input + Print>(rt: &R, job: &Job<'_>) -> Result<(), Failed>
+    requires { ForSome (delta_of job.now) IsWidth }
+{
+    match *job {
+        Job::Joint { delta } => run_joint(rt, delta),
+        Job::Once {
+            network,
+            source,
+            target,
+            delta,
+        } => run_once(rt, network, source, target, delta),
+        Job::Batch {
+            network,
+            pairs,
+            delta,
+        } => run_batch(rt, network, pairs, delta),
     }
 }
 
-/// Whether the program was called with any word.
-fn has_words<R: Env + AllocGlobal>(rt: &R) -> bool {
-    match env::args(rt) {
-        Ok(words) => words.count() > 1,
-        Err(_) => true,
+/// By what name a fault line calls the text of a failure.
+fn text_name<'w>(job: &Job<'w>, failed: &Failed) -> &'w str {
+    let is_first = matches!(failed, Failed::Text { which: 0, fault: _ });
+    match *job {
+        Job::Joint { delta: _ } => { if is_first { "net" } else { "script" } }
+        Job::Once { network, .. } => network,
+        Job::Batch { network, pairs, .. } => { if is_first { network } else { pairs } }
     }
+}
+
+/// Prints help on standard output and a misuse on standard error.
+fn show<R: Print + Eprint>(rt: &R, usage: &Usage) -> ExitCode {
+    let text = usage.text.as_str();
+    let outcome = match usage.status {
+        0 => match print!(rt; "{text}") {
+            Ok(()) => Ok(()),
+            Err(_) => Err(Failed::Code(Refusal::Write)),
+        },
+        MISUSE => {
+            let _ = eprint!(rt; "{text}");
+            return ExitCode::from(MISUSE);
+        }
+        _ => Err(Failed::Code(Refusal::OutOfMemory)),
+    };
+    ended(rt, &outcome, "")
+}
+
+/// Prints the fault line of a failure, if there is one, and gives the exit status.
+fn ended<R: Eprint>(rt: &R, outcome: &Result<(), Failed>, name: &str) -> ExitCode {
+    if let Err(failed) = outcome {
+        let line = fault_line(failed, name);
+        let _ = eprintln!(rt; "{line}");
+    }
+    ExitCode::from(status(outcome))
+}
+
+/// Words that are not text are a misuse.
+fn without_words<R: Eprint>(rt: &R, error: &io::Error) -> ExitCode {
+    if error.kind() == io::ErrorKind::OutOfMemory {
+        return ended(rt, &Err(Failed::Code(Refusal::OutOfMemory)), "");
+    }
+    let _ = eprintln!(rt; "error: a word is not UTF-8\n\nFor more information, try '--help'.");
+    ExitCode::from(MISUSE)
 }
 
 fn main(rt: HostRuntime) -> ExitCode {
-    if has_words(&rt) {
-        let _ = eprintln!(rt;
-            "roadmark: no word is known: a joint text is read from standard input"
-        );
-        return ExitCode::from(MISUSE);
-    }
-    let outcome = run_joint(&rt);
-    if let Err(failed) = &outcome {
-        let line = fault_line(failed, joint_name(failed));
-        let _ = eprintln!(rt; "{line}");
-    }
-    ExitCode::from(status(&outcome))
+    let words = match env::args(&rt) {
+        Ok(words) => words,
+        Err(error) => return without_words(&rt, &error),
+    };
+    let Ok(words) = words.collect::<Vec<String>>(rt.alloc()) else {
+        return ended(&rt, &Err(Failed::Code(Refusal::OutOfMemory)), "");
+    };
+    let job = match read_words(rt.alloc(), &words) {
+        Ok(job) => job,
+        Err(usage) => return show(&rt, &usage),
+    };
+    let outcome = run(&rt, &job);
+    let name = match &outcome {
+        Ok(()) => "",
+        Err(failed) => text_name(&job, failed),
+    };
+    ended(&rt, &outcome, name)
 }

@@ -1,5 +1,6 @@
 use crate::{
-    CountedWriter, Failed, fault_line, joint_counted, joint_text, once_counted, once_text, status,
+    CountedWriter, Failed, Job, batch_text, fault_line, joint_counted, joint_text, once_counted,
+    once_text, read_words, status,
 };
 use dimacs::{Code, Counted, Fault};
 use roadnet::Refusal;
@@ -246,8 +247,16 @@ fn a_writer_fails_at_each_write(rt: HostRuntime) {
     let six = &SIX[..SIX.len() - 4];
     for writes in 1..20 {
         let mut failing = FailingWriter { writes };
+        let mut six = six;
         let mut writer = CountedWriter::new(&mut failing);
-        let outcome = once_counted(rt.alloc(), six, 1, 6, None, &mut writer);
+        let outcome = once_counted(
+            rt.alloc(),
+            &mut Counted::new(&mut six),
+            1,
+            6,
+            None,
+            &mut writer,
+        );
         let failed = writer.failed_writes();
         if outcome == Ok(()) {
             assert!(rt; failed == 0 && writes > 8, "write {writes}");
@@ -303,5 +312,219 @@ fn allocations_fail_in_turn(rt: HostRuntime) {
             assert!(rt; fault.code == Code::OutOfMemory && page.len == 0);
         }
         Err(Failed::Code(refusal)) => assert!(rt; refusal == Refusal::OutOfMemory),
+    }
+}
+
+#[test]
+fn words_of_jobs(rt: HostRuntime) {
+    let once = Job::Once {
+        network: "a.gr",
+        source: 1,
+        target: u64::MAX,
+        delta: None,
+    };
+    let batch = Job::Batch {
+        network: "a.gr",
+        pairs: "b.p2p",
+        delta: Some(2147483647),
+    };
+    let table: [(&[&str], Job<'_>); 6] = [
+        (&["roadmark"], Job::Joint { delta: None }),
+        (&["roadmark", "--delta", "1"], Job::Joint { delta: Some(1) }),
+        (&["roadmark", "--delta=7"], Job::Joint { delta: Some(7) }),
+        (
+            &["roadmark", "once", "a.gr", "1", "18446744073709551615"],
+            once,
+        ),
+        (
+            &[
+                "roadmark",
+                "batch",
+                "a.gr",
+                "b.p2p",
+                "--delta",
+                "2147483647",
+            ],
+            batch,
+        ),
+        (
+            &[
+                "roadmark",
+                "batch",
+                "--delta",
+                "2147483647",
+                "--",
+                "a.gr",
+                "b.p2p",
+            ],
+            batch,
+        ),
+    ];
+    for (words, job) in table {
+        match read_words(rt.alloc(), words) {
+            Ok(read) => assert!(rt; read == job, "{words:?}"),
+            Err(usage) => assert!(rt; false, "{words:?}: {}", usage.text),
+        }
+    }
+}
+
+#[test]
+fn misuses_of_words(rt: HostRuntime) {
+    let table: [&[&str]; 13] = [
+        &["roadmark", "twice"],
+        &["roadmark", "--gamma"],
+        &["roadmark", "once"],
+        &["roadmark", "once", "a.gr", "1"],
+        &["roadmark", "once", "a.gr", "1", "2", "3"],
+        &["roadmark", "once", "a.gr", "one", "2"],
+        &["roadmark", "once", "a.gr", "-1", "2"],
+        &["roadmark", "once", "a.gr", "1", "18446744073709551616"],
+        &["roadmark", "batch", "a.gr"],
+        &["roadmark", "batch", "a.gr", "b.p2p", "c"],
+        &["roadmark", "batch", "a.gr", "b.p2p", "--delta", "0"],
+        &["roadmark", "--delta", "2147483648"],
+        &["roadmark", "--delta", "3", "once", "a.gr", "1", "2"],
+    ];
+    for words in table {
+        match read_words(rt.alloc(), words) {
+            Ok(job) => assert!(rt; false, "{words:?}: {job:?}"),
+            Err(usage) => {
+                assert!(rt;
+                    usage.status == 2 && usage.text.as_str().starts_with("error: "),
+                    "{words:?}"
+                );
+            }
+        }
+    }
+}
+
+/// Each help tells what its word does, its arguments and an example. Where an allocation fails there is no text, and the status is 1.
+#[test]
+fn help_of_words(rt: HostRuntime) {
+    let table: [(&[&str], &[&str]); 5] = [
+        (
+            &["roadmark", "--help"],
+            &["once", "batch", "--delta <D>", "Example: roadmark <"],
+        ),
+        (
+            &["roadmark", "once", "--help"],
+            &[
+                "least length",
+                "<GR>",
+                "<S>",
+                "<T>",
+                "--delta <D>",
+                "Example: roadmark once",
+            ],
+        ),
+        (
+            &["roadmark", "help", "batch"],
+            &[
+                "pairs",
+                "<GR>",
+                "<P2P>",
+                "--delta <D>",
+                "Example: roadmark batch",
+            ],
+        ),
+        (&["roadmark", "once", "-h"], &["<GR>", "Example"]),
+        (&["roadmark", "--version"], &["roadmark 0.1.0"]),
+    ];
+    for (words, parts) in table {
+        match read_words(rt.alloc(), words) {
+            Ok(job) => assert!(rt; false, "{words:?}: {job:?}"),
+            Err(usage) => {
+                let text = usage.text.as_str();
+                let is_whole = usage.status == 0 && parts.iter().all(|part| text.contains(*part));
+                assert!(rt;
+                    is_whole || (usage.status == 1 && text.is_empty()),
+                    "{words:?}"
+                );
+            }
+        }
+    }
+}
+
+#[test]
+fn batch_of_pairs(rt: HostRuntime) -> Result<(), Fail> {
+    let six = &SIX[..SIX.len() - 4];
+    let table: [(&[u8], &[u8], &str); 4] = [
+        (
+            six,
+            b"p aux sp p2p 2\nq 1 6\nq 6 1\n",
+            "v 0\nd 1 6 15\nx 6 1\n",
+        ),
+        (six, b"p aux sp p2p 0\n", "v 0\n"),
+        (
+            six,
+            b"c\np aux sp p2p 3\r\nq 4 4\nq 1 6\nq 4 3",
+            "v 0\nd 4 4 0\nd 1 6 15\nd 4 3 0\n",
+        ),
+        (b"p sp 1 0\n", b"p aux sp p2p 1\nq 1 1\n", "v 0\nd 1 1 0\n"),
+    ];
+    for (gr, p2p, want) in table {
+        let mut out = Vec::new(rt.alloc());
+        assert!(rt; batch_text(rt.alloc(), gr, p2p, Some(5), &mut out) == Ok(()));
+        assert!(rt; out.as_slice() == want.as_bytes(), "{want}");
+    }
+    Ok(())
+}
+
+/// The network is judged before the pairs, whose nodes are judged by it; nothing is written.
+#[test]
+fn faults_of_batches(rt: HostRuntime) {
+    let six = &SIX[..SIX.len() - 4];
+    let table: [(&[u8], &[u8], u8, Fault); 5] = [
+        (
+            b"p sp 0 0\n",
+            b"q",
+            0,
+            Fault {
+                line: 1,
+                code: Code::NumberRange,
+            },
+        ),
+        (
+            six,
+            b"",
+            1,
+            Fault {
+                line: 0,
+                code: Code::NoProblemLine,
+            },
+        ),
+        (
+            six,
+            b"p aux sp p2p 1\nq 1 7\n",
+            1,
+            Fault {
+                line: 2,
+                code: Code::NodeRange,
+            },
+        ),
+        (
+            six,
+            b"p aux sp p2p 2\nq 1 6\n",
+            1,
+            Fault {
+                line: 2,
+                code: Code::LineCount,
+            },
+        ),
+        (
+            six,
+            b"p aux sp ss 0\n",
+            1,
+            Fault {
+                line: 1,
+                code: Code::WrongKind,
+            },
+        ),
+    ];
+    for (gr, p2p, which, fault) in table {
+        let mut out = Vec::new(rt.alloc());
+        let outcome = batch_text(rt.alloc(), gr, p2p, None, &mut out);
+        assert!(rt; outcome == Err(Failed::Text { which, fault }), "{fault}");
+        assert!(rt; out.is_empty(), "{fault}");
     }
 }

@@ -1,15 +1,15 @@
 -- A walk can be cut to one that visits no node twice, and so a least distance is bounded.
-use Rattle.std.proofs.Common.{◌≡◌, ℕ, zero, suc, ◌+◌, ◌-◌, ◌*◌, ◌<◌, ◌≤◌, ◌⊎◌, true, false, List, [], ◌∷◌, Option, Some, None, length, get_or, refl, sym, ap, subst, ◌∙◌, inl, inr, arith, le_refl, eqb, eqb-true, ne_eqb}
+use Rattle.std.proofs.Common.{◌≡◌, ℕ, zero, suc, ◌+◌, ◌-◌, ◌*◌, ◌<◌, ◌≤◌, ◌⊎◌, false, List, [], ◌∷◌, Some, length, refl, sym, ap, subst, ◌∙◌, inl, inr, arith, le_refl, eqb, eqb-true, ne_eqb}
 use Rattle.std.specs.Option.{option_map_or}
-use Rattle.std.specs.List.{Contains, IsDistinct, AllByRecursion, slice_get}
+use Rattle.std.specs.List.{Contains, IsDistinct, AllByRecursion}
 use Rattle.std.proofs.lemmas.Bool.{cases_eq}
 use Rattle.std.proofs.lemmas.List.Sums.{sum_by-cons}
 use Rattle.std.proofs.lemmas.Map.Steps.{length-le_from_distinct_below}
 use Rattle.std.proofs.lemmas.Map.Views.{Contains-from_any}
 use Rattle.std.proofs.lemmas.Option.{slice_get_within, get_or_from_slice_get}
 use Rattle.roadnet.specs.declared.arcs.RoadArc.{RoadArc}
-use Rattle.roadnet.specs.Net.{Net, IsNode, IsNetwork, IsArcAmong, arc_at, nth}
-use Rattle.roadnet.specs.Walks.{Walk, Least, length_of, length_of_arc}
+use Rattle.roadnet.specs.Net.{Net, IsNode, IsNetwork, IsArcAmong, arc_at}
+use Rattle.roadnet.specs.Walks.{Walk, length_of, length_of_arc}
 use Rattle.roadnet.specs.WalkLaws.{LeastIsBounded}
 
 -- an arc that a network has is among its nodes

@@ -2,9 +2,10 @@
 use Rattle.std.proofs.Common.{◌≡◌, ℕ, true, [], ◌∷◌, Some, None, refl, lit≤}
 use Rattle.roadnet.specs.declared.arcs.RoadArc.{RoadArc}
 use Rattle.roadnet.specs.declared.commands.Command.TheVariants.{Set, Close, Reopen, Mark, Unmark}
-use Rattle.roadnet.specs.declared.refusals.Refusal.TheVariants.{NumberRange, NoSuchArc, LengthRange, AlreadyOpen, NoSuchNode, AlreadyLandmark, NotALandmark}
+use Rattle.roadnet.specs.declared.refusals.Refusal.TheVariants.{NumberRange, NoSuchArc, LengthRange, AlreadyClosed, AlreadyOpen, NoSuchNode, AlreadyLandmark, NotALandmark}
 use Rattle.roadnet.specs.Net.{Net}
-use Rattle.roadnet.specs.Step.{refusal_of, after}
+use Rattle.roadnet.specs.Step.{refusal_of, after, first_refusal}
+use Rattle.roadnet.specs.Batches.{changed_by}
 use Rattle.roadnet.specs.Made.{flaw_of}
 use Rattle.roadnet.specs.Walks.{Walk, length_of}
 
@@ -55,6 +56,16 @@ landmarks_ascend = refl
 
 marked_twice : refusal_of (record six { landmarks = 3 ∷ [] }) (Mark 3) ≡ Some AlreadyLandmark
 marked_twice = refl
+
+-- a batch is refused for its first command that is not admitted in its turn
+second_refused : first_refusal six (Close 7 ∷ Close 7 ∷ Set 9 1 ∷ []) ≡ Some AlreadyClosed
+second_refused = refl
+
+none_refused : first_refusal six (Close 7 ∷ Reopen 7 ∷ Close 7 ∷ []) ≡ None
+none_refused = refl
+
+unmarked_and_marked : (changed_by six (Mark 4 ∷ Mark 2 ∷ Unmark 4 ∷ [])).landmarks ≡ 2 ∷ []
+unmarked_and_marked = refl
 
 walked : Walk six 1 6 (2 ∷ 4 ∷ 7 ∷ 3 ∷ 6 ∷ [])
 walked = (_, refl, refl, refl, (_, refl, refl, refl, (_, refl, refl, refl, (_, refl, refl, refl, (_, refl, refl, refl, ((lit≤ tt, lit≤ tt), refl))))))

@@ -9,7 +9,7 @@ use Rattle.roadnet.specs.declared.refusals.Refusal.TheVariants.{NumberRange, Too
 use Rattle.roadnet.specs.Members.{set_of}
 use Rattle.roadnet.specs.Net.{IsNetwork}
 use Rattle.std.proofs.lemmas.Bool.{cases_lt}
-use Rattle.roadnet.specs.Made.{is_node_among, is_node_count, is_long, is_stray, has_long_arc, has_stray_end, has_stray_landmark, flaw_of, MayRefuseParts}
+use Rattle.roadnet.specs.Made.{is_node_among, is_node_count, has_long_arc, has_stray_end, has_stray_landmark, flaw_of, MayRefuseParts}
 use Rattle.roadnet.proofs.Members.{All-set_of, IsStrictlyIncreasing-set_of}
 
 test_lt : (a b : ℕ) → a < b → ltb a b ≡ true

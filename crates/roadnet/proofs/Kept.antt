@@ -14,7 +14,7 @@ use Rattle.roadnet.specs.Step.{refusal_of, step, changed, after}
 use Rattle.roadnet.specs.Changes.{AfterIsNetwork}
 use Rattle.roadnet.proofs.Members.{length-with_member, All-with_member, All-without_member, IsStrictlyIncreasing-with_member, IsStrictlyIncreasing-without_member, length-without_member}
 
-update_nth_suc : {X : Type 0} (f : X → X) (xs : List X) (k : ℕ) (d : X) → k < length xs → update_nth f xs (suc k) ≡ set xs k (f (get_or xs k d))
+pub update_nth_suc : {X : Type 0} (f : X → X) (xs : List X) (k : ℕ) (d : X) → k < length xs → update_nth f xs (suc k) ≡ set xs k (f (get_or xs k d))
 update_nth_suc f [] k d lt = absurd (omega arith)
 update_nth_suc f (x ∷ xs) zero d lt = refl
 update_nth_suc f (x ∷ xs) (suc k) d lt = ap (λ l. x ∷ l) (update_nth_suc f xs k d (omega arith))
@@ -26,7 +26,7 @@ update_nth_at f xs (suc k) x pos le is =
     let here : get_or xs k x ≡ x = rw e at (sym is) in
     rw e (update_nth_suc f xs k x (omega arith) ∙ ap (λ y. set xs k (f y)) here)
 
-nth_within : {X : Type 0} (xs : List X) (k : ℕ) → is_none (nth xs k) ≡ false → (0 < k) × (k ≤ length xs)
+pub nth_within : {X : Type 0} (xs : List X) (k : ℕ) → is_none (nth xs k) ≡ false → (0 < k) × (k ≤ length xs)
 nth_within xs zero some = absurd (true≢false some)
 nth_within xs (suc k) some = (omega arith, slice_get_within xs k some)
   where
@@ -36,7 +36,7 @@ nth_within xs (suc k) some = (omega arith, slice_get_within xs k some)
     slice_get_within (x ∷ xs) (suc k) some = let h : suc k ≤ length xs = slice_get_within xs k some in omega arith
 
 -- what is left once the first test has failed
-past_first : {X : Type 0} (b : Bool) (x : X) (o : Option X) → cond b (Some x) o ≡ None → (b ≡ false) × (o ≡ None)
+pub past_first : {X : Type 0} (b : Bool) (x : X) (o : Option X) → cond b (Some x) o ≡ None → (b ≡ false) × (o ≡ None)
 past_first true x o e = cc
 past_first false x o e = (refl, e)
 
@@ -59,14 +59,14 @@ module _ (net : Net) (k : ℕ) (arc : RoadArc) (is : arc ≡ get_or net.arcs (k 
   step-reopen none =
       step_admitted net (Reopen k) none ∙ ap (λ l. Some (record net { arcs = l })) (changed_at (λ a. record a { opened = true }) (past_first _ _ _ none).0)
 
-three_failed : {X : Type 0} (a b c : Bool) (x y z : X) → cond a (Some x) (cond b (Some y) (cond c (Some z) None)) ≡ None → (a ≡ false) × (b ≡ false) × (c ≡ false)
+pub three_failed : {X : Type 0} (a b c : Bool) (x y z : X) → cond a (Some x) (cond b (Some y) (cond c (Some z) None)) ≡ None → (a ≡ false) × (b ≡ false) × (c ≡ false)
 three_failed true b c x y z e = cc
 three_failed false true c x y z e = cc
 three_failed false false true x y z e = cc
 three_failed false false false x y z e = (refl, refl, refl)
 
 -- what is known of a node that may be marked
-admitted_mark : (net : Net) (x : ℕ) → refusal_of net (Mark x) ≡ None → (1 ≤ x) × (x ≤ net.nodes) × (length net.landmarks < 1000)
+pub admitted_mark : (net : Net) (x : ℕ) → refusal_of net (Mark x) ≡ None → (1 ≤ x) × (x ≤ net.nodes) × (length net.landmarks < 1000)
 admitted_mark net x none =
     let tests : (not (nat_le 1 x && nat_le x net.nodes) ≡ false) × (is_member x net.landmarks ≡ false) × (nat_le 1000 (length net.landmarks) ≡ false) = three_failed _ _ _ _ _ _ none in
     let node : not (nat_le 1 x && nat_le x net.nodes) ≡ false = tests.0 in
@@ -122,7 +122,7 @@ IsNetwork-arc net k f ok keeps = record {
   landmarks_to = ok.landmarks_to;
 }
 
-within_length : (w : ℕ) → ltb 2147483647 w ≡ false → w ≤ 2147483647
+pub within_length : (w : ℕ) → ltb 2147483647 w ≡ false → w ≤ 2147483647
 within_length w e = grind (arith, nat_tests)
 
 pub IsNetwork-changed : (net : Net) (command : Command) → IsNetwork net → refusal_of net command ≡ None → IsNetwork (changed net command)

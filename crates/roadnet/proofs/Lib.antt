@@ -1,6 +1,7 @@
 pub mod Apart
 pub mod Examples
 pub mod Flaws
+pub mod InTurn
 pub mod Joined
 pub mod Kept
 pub mod Lowest

@@ -1,13 +1,10 @@
 -- The first refusal that applies in an ascending table is the lowest.
-use Rattle.std.proofs.Common.{◌≡◌, ℕ, zero, suc, ◌<◌, ◌≤◌, Bool, true, false, true≢false, List, [], ◌∷◌, Option, Some, None, cond, refl, ap, sym, ◌∙◌, arith, le_refl, lit≤}
-use Rattle.roadnet.specs.declared.arcs.RoadArc.{RoadArc}
-use Rattle.roadnet.specs.declared.commands.Command.{Command}
+use Rattle.std.proofs.Common.{◌≡◌, ℕ, zero, suc, ◌≤◌, Bool, true, false, true≢false, List, [], ◌∷◌, Option, Some, None, cond, refl, ap, sym, ◌∙◌, arith, le_refl, lit≤}
 use Rattle.roadnet.specs.declared.commands.Command.TheVariants.{Set, Close, Reopen, Mark, Unmark}
 use Rattle.roadnet.specs.declared.refusals.Refusal.{Refusal}
-use Rattle.roadnet.specs.Causes.{Applies, first_applying, IsLowest, IsAnswerTo}
+use Rattle.roadnet.specs.Causes.{Applies, first_applying, IsAnswerTo}
 use Rattle.roadnet.specs.Changes.{RefusalIsLowest, FlawIsLowest}
 use Rattle.roadnet.specs.Made.{flaws}
-use Rattle.roadnet.specs.Net.{Net}
 use Rattle.roadnet.specs.Numbers.{number_of}
 use Rattle.roadnet.specs.Step.{causes}
 

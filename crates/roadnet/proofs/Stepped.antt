@@ -23,13 +23,13 @@ after_both net [] ys = refl
 after_both net (command ∷ xs) ys = both xs ys (λ next. after_both next xs ys) (step net command)
 
 -- ---- one arc
-nth-update_nth : {X : Type 0} (f : X → X) (xs : List X) (k : ℕ) → nth (update_nth f xs k) k ≡ option_map f (nth xs k)
+pub nth-update_nth : {X : Type 0} (f : X → X) (xs : List X) (k : ℕ) → nth (update_nth f xs k) k ≡ option_map f (nth xs k)
 nth-update_nth f xs zero = refl
 nth-update_nth f [] (suc k) = refl
 nth-update_nth f (x ∷ xs) (suc zero) = refl
 nth-update_nth f (x ∷ xs) (suc (suc k)) = nth-update_nth f xs (suc k)
 
-nth-update_nth_other : {X : Type 0} (f : X → X) (xs : List X) (k j : ℕ) → j ≢ k → nth (update_nth f xs k) j ≡ nth xs j
+pub nth-update_nth_other : {X : Type 0} (f : X → X) (xs : List X) (k j : ℕ) → j ≢ k → nth (update_nth f xs k) j ≡ nth xs j
 nth-update_nth_other f xs zero j ne = refl
 nth-update_nth_other f [] (suc k) j ne = refl
 nth-update_nth_other f (x ∷ xs) (suc zero) zero ne = refl
@@ -39,7 +39,7 @@ nth-update_nth_other f (x ∷ xs) (suc (suc k)) zero ne = refl
 nth-update_nth_other f (x ∷ xs) (suc (suc k)) (suc zero) ne = refl
 nth-update_nth_other f (x ∷ xs) (suc (suc k)) (suc (suc j)) ne = nth-update_nth_other f xs (suc k) (suc j) (λ e. ne (ap suc e))
 
-length-update_nth : {X : Type 0} (f : X → X) (xs : List X) (k : ℕ) → length (update_nth f xs k) ≡ length xs
+pub length-update_nth : {X : Type 0} (f : X → X) (xs : List X) (k : ℕ) → length (update_nth f xs k) ≡ length xs
 length-update_nth f xs zero = refl
 length-update_nth f [] (suc k) = refl
 length-update_nth f (x ∷ xs) (suc zero) = refl
@@ -92,11 +92,11 @@ is_member-filter_fails p x (y ∷ ys) fails =
       | false ↦ λ _. is_member-filter_fails p x ys fails
     ] refl
 
-is_member-with_member : (x : ℕ) (xs : List ℕ) → is_member x (with_member x xs) ≡ true
+pub is_member-with_member : (x : ℕ) (xs : List ℕ) → is_member x (with_member x xs) ≡ true
 is_member-with_member x xs =
     list_any-append (λ y. eqb y x) (filter (λ y. ltb y x) xs) (x ∷ filter (λ y. ltb x y) xs) ∙ rw (test_eq x x refl) (or_true _ (is_member x (filter (λ y. ltb x y) xs)))
 
-is_member-with_member_other : (x y : ℕ) (xs : List ℕ) → y ≢ x → is_member y (with_member x xs) ≡ is_member y xs
+pub is_member-with_member_other : (x y : ℕ) (xs : List ℕ) → y ≢ x → is_member y (with_member x xs) ≡ is_member y xs
 is_member-with_member_other x y xs ne =
     list_any-append (λ z. eqb z y) (filter (λ z. ltb z x) xs) (x ∷ filter (λ z. ltb x z) xs)
     ∙ rw (test_ne x y (λ e. ne (sym e)))
@@ -105,10 +105,10 @@ is_member-with_member_other x y xs ne =
     (λ (h : x ≤ y). rw (is_member-filter_fails (λ z. ltb z x) y xs (test_ge y x h), is_member-filter (λ z. ltb x z) y xs (test_lt x y (omega arith))) refl)
     (cases_lt y x))
 
-is_member-without_member_other : (x y : ℕ) (xs : List ℕ) → y ≢ x → is_member y (without_member x xs) ≡ is_member y xs
+pub is_member-without_member_other : (x y : ℕ) (xs : List ℕ) → y ≢ x → is_member y (without_member x xs) ≡ is_member y xs
 is_member-without_member_other x y xs ne = is_member-filter (λ z. not (eqb z x)) y xs (rw (test_ne y x ne) refl)
 
-is_member-without_member : (x : ℕ) (xs : List ℕ) → is_member x (without_member x xs) ≡ false
+pub is_member-without_member : (x : ℕ) (xs : List ℕ) → is_member x (without_member x xs) ≡ false
 is_member-without_member x xs = is_member-filter_fails (λ z. not (eqb z x)) x xs (rw (test_eq x x refl) refl)
 
 -- ---- steps

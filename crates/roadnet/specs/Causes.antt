@@ -1,5 +1,5 @@
 -- Tables of refusals with their conditions, and the lowest one that applies.
-use Rattle.std.specs.Prelude.{ℕ, ◌≤◌, Bool, true, List, [], ◌∷◌, Option, None, Some, Contains, MatchOption, if◌then◌else◌}
+use Rattle.std.specs.Prelude.{◌≤◌, Bool, true, List, [], ◌∷◌, Option, None, Some, Contains, MatchOption, if◌then◌else◌}
 use Rattle.roadnet.specs.declared.refusals.Refusal.{Refusal}
 use Rattle.roadnet.specs.Numbers.{number_of}
 

@@ -1,7 +1,6 @@
 -- What a command changes, case by case, and what it leaves; laws of steps.
-use Rattle.std.specs.Prelude.{◌≡◌, ◌≢◌, ℕ, Bool, true, false, List, [], ◌∷◌, ◌++◌, Option, None, Some, length, MatchOption, option_map, option_and_then}
+use Rattle.std.specs.Prelude.{◌≡◌, ◌≢◌, ℕ, Bool, true, false, List, ◌++◌, None, Some, length, MatchOption, option_map, option_and_then}
 use Rattle.roadnet.specs.declared.arcs.RoadArc.{RoadArc}
-use Rattle.roadnet.specs.declared.refusals.Refusal.{Refusal}
 use Rattle.roadnet.specs.declared.commands.Command.{Command}
 use Rattle.roadnet.specs.declared.commands.Command.TheVariants.{Set, Close, Reopen, Mark, Unmark}
 use Rattle.roadnet.specs.Causes.{IsAnswerTo}

@@ -1,3 +1,4 @@
+pub mod Batches
 pub mod Causes
 pub mod Changes
 pub mod Made

@@ -1,3 +1,4 @@
+ghost use Rattle.roadnet.specs.Batches.{FirstRefusalIsOfTheFirst, AfterIsChanged, AdmittedFits, AllAdmittedFit};
 ghost use Rattle.roadnet.specs.Changes.{StepChanges, AdmittedSteps, RefusalIsLowest, FlawIsLowest, AfterBoth, AfterAdmitted, AfterIsNetwork};
 ghost use Rattle.roadnet.specs.WalkLaws.{WalksJoin, LeastIsOne, LeastOrNoWalk, LeastIsBounded, DifferenceIsBelow, NoWalkOnward};
 
@@ -8,6 +9,14 @@ pub fn laws_of_steps()
     ensures one_after_another { AfterBoth }
     ensures each_in_its_turn { AfterAdmitted }
     ensures networks { AfterIsNetwork }
+{}
+
+/// What holds of commands that are carried out one after another, whatever the network.
+pub fn laws_of_batches()
+    ensures first_refused { FirstRefusalIsOfTheFirst }
+    ensures carried_out { AfterIsChanged }
+    ensures fits { AdmittedFits }
+    ensures all_fit { AllAdmittedFit }
 {}
 
 /// What holds of refusals: of several that apply the one of lowest number is answered.

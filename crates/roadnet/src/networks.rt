@@ -27,8 +27,8 @@ pub const MOST_LANDMARKS: usize = 1000;
 #[derive(Debug, Drop)]
 pub struct Network {
     nodes: u32,
-    arcs: Vec<RoadArc>,
-    landmarks: Vec<u32>,
+    pub(crate) arcs: Vec<RoadArc>,
+    pub(crate) landmarks: Vec<u32>,
 }
 
 impl Model for Network {

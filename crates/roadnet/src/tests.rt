@@ -1,6 +1,6 @@
 use crate::{
-    Command, MOST_LANDMARKS, Network, OutOfMemory, Refusal, RoadArc, laws_of_refusals,
-    laws_of_steps, laws_of_walks,
+    Command, MOST_LANDMARKS, Network, OutOfMemory, Refusal, RoadArc, laws_of_batches,
+    laws_of_refusals, laws_of_steps, laws_of_walks,
 };
 use std::alloc::{AllocError, Global};
 
@@ -150,6 +150,79 @@ fn the_most_landmarks(rt: HostRuntime) -> Result<(), Refusal> {
     Ok(())
 }
 
+fn are_equal(network: &Network, other: &Network) -> bool {
+    network.arcs() == other.arcs() && network.landmarks() == other.landmarks()
+}
+
+/// Whether the network refuses the batch with the refusal of this number, or carries it out; each time as `apply` does it for one command
+/// after the other.
+fn goes_as_in_turn(
+    network: &Network,
+    commands: &[Command],
+    number: Option<u8>,
+) -> Result<bool, Refusal> {
+    let mut in_turn = network.copy()?;
+    let mut refused = None;
+    for &command in commands {
+        match in_turn.apply(command) {
+            Ok(()) => {}
+            Err(Refusal::OutOfMemory) => return Err(Refusal::OutOfMemory),
+            Err(refusal) => {
+                refused = Some(refusal);
+                break;
+            }
+        }
+    }
+    let judged = network.admit_all(commands).err();
+    if judged != refused || judged.map(|refusal| refusal.number()) != number {
+        return Ok(false);
+    }
+    let mut batched = network.copy()?;
+    match batched.prepare(commands) {
+        Ok(landmarks) => {
+            batched.carry_out(commands, landmarks);
+            Ok(refused.is_none() && are_equal(&batched, &in_turn))
+        }
+        Err(Refusal::OutOfMemory) if refused.is_none() => Err(Refusal::OutOfMemory),
+        Err(refusal) => Ok(refused == Some(refusal) && are_equal(&batched, network)),
+    }
+}
+
+#[test]
+fn batches_go_as_their_commands_in_turn(rt: HostRuntime) -> Result<(), Refusal> {
+    let network = six(rt.alloc())?;
+    let close = Command::Close { arc: 7 };
+    let reopen = Command::Reopen { arc: 7 };
+    let set = Command::Set { arc: 7, length: 4 };
+    let mark = Command::Mark { node: 3 };
+    let unmark = Command::Unmark { node: 3 };
+    let other = Command::Close { arc: 2 };
+    let beyond = Command::Close { arc: 9 };
+    assert!(rt; goes_as_in_turn(&network, &[], None)?);
+    assert!(rt; goes_as_in_turn(&network, &[close, reopen, close], None)?);
+    assert!(rt; goes_as_in_turn(&network, &[close, close], Some(22))?);
+    assert!(rt; goes_as_in_turn(&network, &[close, other, reopen, reopen], Some(23))?);
+    assert!(rt; goes_as_in_turn(&network, &[close, set, other], None)?);
+    assert!(rt; goes_as_in_turn(&network, &[mark, unmark, mark], None)?);
+    assert!(rt; goes_as_in_turn(&network, &[mark, other, mark, beyond], Some(25))?);
+    assert!(rt; goes_as_in_turn(&network, &[mark, unmark, unmark], Some(26))?);
+    assert!(rt; goes_as_in_turn(&network, &[close, beyond, close], Some(20))?);
+    Ok(())
+}
+
+#[test]
+fn the_most_landmarks_in_a_batch(rt: HostRuntime) -> Result<(), Refusal> {
+    let arcs = Vec::new(rt.alloc());
+    let network = Network::new(rt.alloc(), 1001, arcs, &twice_each(rt.alloc(), 1000)?)?;
+    let mark = Command::Mark { node: 1001 };
+    let unmark = Command::Unmark { node: 500 };
+    let again = Command::Mark { node: 500 };
+    assert!(rt; goes_as_in_turn(&network, &[mark, unmark], Some(27))?);
+    assert!(rt; goes_as_in_turn(&network, &[unmark, mark], None)?);
+    assert!(rt; goes_as_in_turn(&network, &[unmark, mark, again], Some(27))?);
+    Ok(())
+}
+
 #[test]
 fn a_copy_is_equal(rt: HostRuntime) -> Result<(), Refusal> {
     let mut network = six(rt.alloc())?;
@@ -182,6 +255,7 @@ fn refusals_are_printed_with_their_numbers(rt: HostRuntime) -> Result<(), Refusa
 
 #[test]
 fn the_laws_are_called() {
+    laws_of_batches();
     laws_of_steps();
     laws_of_refusals();
     laws_of_walks();

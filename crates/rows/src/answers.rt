@@ -8,7 +8,7 @@ use roadnet::{Network, OutOfMemory, Refusal};
 use std::alloc::Global;
 
 /// For what a query is refused, if it is: the lowest refusal that applies.
-fn refusal_of(network: &Network, query: &Query) -> Option<Refusal>
+pub(crate) fn refusal_of(network: &Network, query: &Query) -> Option<Refusal>
     ensures refusal { result ≡ refusal_of network.now query.now }
     ensures network { IsNetwork network.now }
 {

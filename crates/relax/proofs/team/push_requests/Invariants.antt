@@ -1,4 +1,4 @@
-use Rattle.std.proofs.Common.{◌≡◌, ℕ, ◌+◌, ◌++◌, map, take}
+use Rattle.std.proofs.Common.{◌≡◌, ◌+◌, ◌++◌, map, take}
 use Rattle.snapshot.specs.declared.legs.Leg.{Leg}
 use Rattle.relax.proofs.team.push_requests.Given as goal
 

@@ -1,5 +1,4 @@
-use Rattle.std.proofs.Common.{◌≡◌, ℕ, ◌+◌, ◌<◌, ◌∷◌, [], ◌++◌, List, take, map, length, get_or, Option, None, sym, subst, ap, ap₂, ◌∙◌, arith, unwrap_or}
-use Rattle.snapshot.specs.Groups.{legs_of}
+use Rattle.std.proofs.Common.{◌≡◌, ℕ, ◌+◌, ◌<◌, [], ◌++◌, take, map, length, get_or, Option, sym, ap, ap₂, ◌∙◌, arith, unwrap_or}
 use Rattle.snapshot.specs.declared.legs.Leg.{Leg}
 use Rattle.relax.specs.Requests.{requests_of, requests_from}
 use Rattle.relax.specs.Values.{value_or}

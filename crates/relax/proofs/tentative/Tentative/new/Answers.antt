@@ -1,4 +1,4 @@
-use Rattle.std.proofs.Common.{◌≡◌, replicate, rules}
+use Rattle.std.proofs.Common.{rules}
 use Rattle.relax.proofs.Words.{none_of_words}
 use Rattle.relax.proofs.tentative.Tentative.new.Goals as goal
 

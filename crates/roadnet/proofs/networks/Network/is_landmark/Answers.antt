@@ -1,5 +1,4 @@
-use Rattle.std.proofs.Common.{◌≡◌, ◌∙◌, false, refl, sym, true≢false}
-use Rattle.roadnet.specs.Step.{is_landmark}
+use Rattle.std.proofs.Common.{◌∙◌, sym, true≢false}
 use Rattle.roadnet.proofs.Members.{is_member-beyond}
 use Rattle.roadnet.proofs.networks.Network.is_landmark.Goals as goal
 

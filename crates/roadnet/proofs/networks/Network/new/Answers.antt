@@ -1,4 +1,4 @@
-use Rattle.std.proofs.Common.{inl, ◌≡◌, ◌<◌, ◌≤◌, ◌||◌, true, false, length, rules}
+use Rattle.std.proofs.Common.{◌≡◌, ◌≤◌, ◌||◌, true, false, length, rules}
 use Rattle.std.proofs.lemmas.Result.{err_from_is_err_and}
 use Rattle.roadnet.specs.Made.{is_node_count, has_long_arc, has_stray_end, has_stray_landmark}
 use Rattle.roadnet.proofs.Flaws.{flaw-none, flaw-collected, IsNetwork-made, neither}

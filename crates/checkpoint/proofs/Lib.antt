@@ -1,0 +1,5 @@
+pub mod Ascending
+pub mod Joined
+pub mod Loaded
+pub mod Places
+pub mod SoFar

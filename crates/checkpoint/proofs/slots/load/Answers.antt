@@ -1,0 +1,43 @@
+use Rattle.std.proofs.Common.{◌≡◌, ◌∙◌, ℕ, List, ◌++◌, Ok, length, take, drop, ap, sym, arith}
+use Rattle.std.specs.Prelude.{map}
+use Rattle.std.proofs.lemmas.List.{take_at}
+use Rattle.roadnet.specs.declared.arcs.RoadArc.{RoadArc}
+use Rattle.roadnet.specs.Net.{Net}
+use Rattle.pages.specs.Spelling.{ends_of, word_of}
+use Rattle.pages.proofs.Heads.{same_head}
+use Rattle.storefile.specs.StoreFile.{page}
+use Rattle.storefile.specs.Judging.{words_from}
+use Rattle.checkpoint.specs.Loading.{head_of}
+use Rattle.checkpoint.proofs.Loaded.{loaded_is}
+use Rattle.disk.proofs.Steps.{same_twice}
+use Rattle.checkpoint.proofs.slots.load.Goals as goal
+
+pub returns-in-Err-read_words-clause-same : goal.returns-in-Err-read_words-clause-same
+returns-in-Err-read_words-clause-same g c h =
+    same_twice g.D.Disk.moment g.D.Disk.left_since g.D.Disk.content g.D.Disk.left c.args.disk.now c.read_head.new.disk c.read_words.new.disk (c.in-Ok.ensures.same h) (c.read_words.ensures.same (c.in-Ok.ensures.honest.1 h))
+
+pub returns-in-Err-network_of-clause-same : goal.returns-in-Err-network_of-clause-same
+returns-in-Err-network_of-clause-same g c h =
+    same_twice g.D.Disk.moment g.D.Disk.left_since g.D.Disk.content g.D.Disk.left c.args.disk.now c.read_head.new.disk c.read_words.new.disk (c.in-Ok.ensures.same h) (c.read_words.ensures.same (c.in-Ok.ensures.honest.1 h))
+
+pub returns-clause-same : goal.returns-clause-same
+returns-clause-same g c h =
+    same_twice g.D.Disk.moment g.D.Disk.left_since g.D.Disk.content g.D.Disk.left c.args.disk.now c.read_head.new.disk c.read_words.new.disk (c.in-Ok.ensures.same h) (c.read_words.ensures.same (c.in-Ok.ensures.honest.1 h))
+
+pub returns-clause-loaded : goal.returns-clause-loaded
+returns-clause-loaded g c h =
+    let file = g.D.Disk.content c.args.disk.now in
+    let arcs = take c.args.arcs.len (c.read_words.new.arcs ++ drop (length c.read_words.new.arcs) c.args.arcs.items) in
+    let back : take c.args.arcs.len (c.read_words.new.arcs ++ drop (length c.read_words.new.arcs) c.args.arcs.items) ≡ c.read_words.new.arcs =
+    take_at c.read_words.new.arcs (drop (length c.read_words.new.arcs) c.args.arcs.items) c.args.arcs.len (omega arith) in
+    let net : c.in-Ok-network_of.network ≡ record { nodes = c.args.header.now.nodes; arcs = c.read_words.new.arcs; landmarks = c.in-Ok.head.landmarks } =
+    c.in-Ok-network_of.ensures.network ∙ ap (λ (xs : List RoadArc). record { nodes = c.args.header.now.nodes; arcs = xs; landmarks = c.landmarks.result.now }) back
+    ∙ ap (λ (xs : List ℕ). record { nodes = c.args.header.now.nodes; arcs = c.read_words.new.arcs; landmarks = xs }) c.landmarks.ensures in
+    let said = head_of (record { epoch = c.epoch.result; version = c.version.result; next_sequence = c.next_sequence.result; network = c.in-Ok-network_of.network }) in
+    let words : words_from (page (g.D.Disk.content c.args.disk.now)) c.args.header.now c.args.slot ≡ Ok (map word_of c.read_words.new.arcs) =
+    ap (λ (f : List ℕ). words_from (page f) c.args.header.now c.args.slot) (sym (c.in-Ok.ensures.same h).same_content) ∙ c.in_default.ensures.spelled (c.in-Ok.ensures.honest.1 h) in
+    loaded_is (page (g.D.Disk.content c.args.disk.now)) c.args.header.now c.args.slot (map ends_of c.args.arcs.items) c.in-Ok.head
+    (head_of (record { epoch = c.epoch.result; version = c.version.result; next_sequence = c.next_sequence.result; network = c.in-Ok-network_of.network }))
+    c.read_words.new.arcs c.in-Ok-network_of.network (c.in-Ok.ensures.spelled h) words
+    (c.read_words.ensures.ends ∙ ap (map ends_of) c.deref_mut.ensures.value) net
+    (same_head _ c.in-Ok.head c.epoch.ensures c.version.ensures c.next_sequence.ensures (ap (λ (n : Net). n.landmarks) net))

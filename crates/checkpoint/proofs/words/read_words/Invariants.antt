@@ -1,0 +1,15 @@
+use Rattle.std.proofs.Common.{◌≡◌}
+use Rattle.std.specs.Prelude.{map}
+use Rattle.pages.specs.Spelling.{ends_of}
+use Rattle.pagereader.specs.Runs.{IsRunOf}
+use Rattle.pagereader.proofs.Unchanged.{HasRead}
+use Rattle.checkpoint.proofs.SoFar.{WordsSoFar}
+use Rattle.checkpoint.proofs.words.read_words.Given as goal
+
+abbrev pub invariant-loop-i : goal.invariant-loop-i
+invariant-loop-i g l = record {
+  said : g.D.Disk.honest l.fn.disk → WordsSoFar (g.D.Disk.content l.fn.disk) l.header l.slot l.arcs l.i;
+  ends : map ends_of l.arcs ≡ map ends_of l.fn.arcs;
+  run : g.D.Disk.honest l.fn.disk → IsRunOf (g.D.Disk.content l.fn.disk) l.reader;
+  read : HasRead g.D.Disk.content g.D.Disk.left g.D.Disk.moment g.D.Disk.left_since g.D.Disk.failures g.D.Disk.honest l.fn.disk l.disk;
+}

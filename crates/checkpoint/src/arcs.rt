@@ -1,0 +1,96 @@
+ghost use Rattle.std.specs.Prelude.{◌≡◌, ◌+◌, ◌*◌, ◌<◌, ◌↔◌, ◌++◌, Ok, length, map, min, IfOk, IfErr, OnOk};
+ghost use Rattle.disk.specs.Moments.{StaysSame};
+ghost use Rattle.pages.specs.Spelling.{IsHeader, ends_of};
+ghost use Rattle.pages.specs.Layout.{Arcs, page_number, page_count, arc_pages, places_in_use};
+ghost use Rattle.storefile.specs.StoreFile.{page};
+ghost use Rattle.storefile.specs.Judging.{spelled_at, arcs_in, ends_from};
+ghost use Rattle.pagereader.specs.Runs.{IsRunOf};
+ghost use Rattle.pagereader.specs.Outcomes.{failures_told, IsQuiet, MayLack, MayRefuse};
+ghost use Rattle.checkpoint.specs.Loading.{EndsArePut};
+
+use disk::Disk;
+use pagereader::PageReader;
+use pages::{ArcPage, Ends, Header, PAGE_SIZE, decode_arc_page};
+use roadnet::{Refusal, RoadArc};
+use std::alloc::{AllocError, Global};
+
+/// The arcs of a store by their numbers, with the ends that its arc pages spell. Each has length 0 and is open, until a slot's words are
+/// known. The first page that isn't spelled rightly is damaged. Nothing is changed.
+///
+/// Memory: 16 bytes an arc, taken once.
+pub fn read_arcs<D: Disk>(
+    alloc: Global,
+    disk: &mut D,
+    header: &Header,
+    reader: &mut PageReader,
+) -> Result<Vec<RoadArc>, Refusal>
+    requires header { IsHeader header.now }
+    requires whole { D.honest disk.old → length (D.content disk.old) ≡ 4096 * page_count header.now }
+    requires run { D.honest disk.old → IsRunOf (D.content disk.old) reader.old }
+    ensures spelled { D.honest disk.old → IfOk result (λ arcs. ends_from (page (D.content disk.old)) header.now ≡ Ok (map ends_of arcs.items)) }
+    ensures count { IfOk result (λ arcs. length arcs.items ≡ header.now.arcs) }
+    ensures refused { D.honest disk.old → IfErr result (λ refusal. MayRefuse (ends_from (page (D.content disk.old)) header.now) refusal) }
+    ensures run { D.honest disk.old → IsRunOf (D.content disk.old) reader.new }
+    ensures same { D.honest disk.old → StaysSame D.content D.left D.moment D.left_since disk.old disk.new }
+    ensures counted { D.failures disk.new ≡ failures_told result (D.failures disk.old) }
+    ensures honest { D.honest disk.new ↔ D.honest disk.old }
+{
+    let Ok(mut arcs) = Vec::with_capacity(alloc, header.arcs as usize) else {
+        return Err(Refusal::OutOfMemory);
+    };
+    let mut page = [0; PAGE_SIZE];
+    let end = 1 + header.arc_pages();
+    for i in 0..header.arc_pages() {
+        let Ok(()) = reader.read(disk, header.arc_page(i), end, &mut page) else {
+            return Err(Refusal::Device);
+        };
+        if let Err(refusal) = take_page(alloc, &page, header, i, &mut arcs) {
+            return Err(refusal);
+        }
+    }
+    Ok(arcs)
+}
+
+// Puts the arcs of the i-th arc page behind those before them.
+fn take_page(
+    alloc: Global,
+    page: &[u8; PAGE_SIZE],
+    header: &Header,
+    i: u64,
+    arcs: &mut Vec<RoadArc>,
+) -> Result<(), Refusal>
+    requires within { i < arc_pages header.now }
+    requires before { length arcs.old.items ≡ min (511 * i) header.now.arcs }
+    ensures spelled { OnOk result (EndsArePut (spelled_at (page_number header.now (Arcs i)) (arcs_in header.now.nodes (places_in_use 511 i header.now.arcs) page.now)) arcs.old.items arcs.new.items) }
+    ensures count { OnOk result (length arcs.new.items ≡ min (511 * (i + 1)) header.now.arcs) }
+    ensures refused { IfErr result (λ refusal. MayLack (spelled_at (page_number header.now (Arcs i)) (arcs_in header.now.nodes (places_in_use 511 i header.now.arcs) page.now)) refusal) }
+    ensures quiet { IsQuiet result }
+{
+    let Ok(found) = decode_arc_page(alloc, page, header.nodes, header.arcs_on_page(i)) else {
+        return Err(Refusal::OutOfMemory);
+    };
+    let Some(spelled) = found else {
+        return Err(Refusal::Damaged {
+            page: header.arc_page(i),
+        });
+    };
+    let Ok(()) = put_arcs(spelled.ends(), arcs) else {
+        return Err(Refusal::OutOfMemory);
+    };
+    Ok(())
+}
+
+// Puts arcs of these ends behind those before them.
+fn put_arcs(ends: &[Ends], arcs: &mut Vec<RoadArc>) -> Result<(), AllocError>
+    ensures { OnOk result (map ends_of arcs.new.items ≡ map ends_of arcs.old.items ++ ends.now) }
+{
+    for e in ends {
+        arcs.push(RoadArc {
+            tail: e.tail,
+            head: e.head,
+            length: 0,
+            opened: true,
+        })?;
+    }
+    Ok(())
+}

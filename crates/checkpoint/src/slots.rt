@@ -1,0 +1,85 @@
+ghost use Rattle.std.specs.Prelude.{◌≡◌, ◌*◌, ◌↔◌, Ok, length, map, IfOk, IfErr};
+ghost use Rattle.std.specs.List.Sorted.{IsStrictlyIncreasing};
+ghost use Rattle.roadnet.specs.declared.refusals.Refusal.TheVariants.{OutOfMemory as out_of_memory};
+ghost use Rattle.disk.specs.Moments.{StaysSame};
+ghost use Rattle.pages.specs.Spelling.{IsHeader, IsHead, ends_of};
+ghost use Rattle.pages.specs.Layout.{page_count};
+ghost use Rattle.storefile.specs.StoreFile.{page};
+ghost use Rattle.pagereader.specs.Runs.{IsRunOf};
+ghost use Rattle.pagereader.specs.Outcomes.{failures_told, MayRefuse};
+ghost use Rattle.checkpoint.specs.Loading.{head_of, loaded_from};
+
+use crate::heads::read_head;
+use crate::words::read_words;
+use disk::Disk;
+use pagereader::PageReader;
+use pages::{Header, Slot};
+use roadnet::{Network, Refusal, RoadArc};
+use std::alloc::Global;
+
+/// What a slot holds: its epoch, the version of its network, the sequence of the journal page that follows, and the network.
+#[derive(Debug, Drop)]
+pub struct Checkpoint {
+    pub epoch: u64,
+    pub version: u64,
+    pub next_sequence: u64,
+    pub network: Network,
+}
+
+/// Reads a slot: its head, and then the words of the arcs, whose ends are known. The first page that isn't spelled rightly is damaged.
+/// Nothing is changed.
+pub fn load<D: Disk>(
+    alloc: Global,
+    disk: &mut D,
+    header: &Header,
+    slot: Slot,
+    reader: &mut PageReader,
+    arcs: Vec<RoadArc>,
+) -> Result<Checkpoint, Refusal>
+    requires header { IsHeader header.now }
+    requires whole { D.honest disk.old → length (D.content disk.old) ≡ 4096 * page_count header.now }
+    requires run { D.honest disk.old → IsRunOf (D.content disk.old) reader.old }
+    requires count { length arcs.items ≡ header.now.arcs }
+    ensures loaded { D.honest disk.old → IfOk result (λ c. loaded_from (page (D.content disk.old)) header.now slot (map ends_of arcs.items) ≡ Ok (head_of c, c.network)) }
+    ensures fits { IfOk result (λ c. IsHead header.now.nodes (head_of c)) }
+    ensures refused { D.honest disk.old → IfErr result (λ refusal. MayRefuse (loaded_from (page (D.content disk.old)) header.now slot (map ends_of arcs.items)) refusal) }
+    ensures same { D.honest disk.old → StaysSame D.content D.left D.moment D.left_since disk.old disk.new }
+    ensures counted { D.failures disk.new ≡ failures_told result (D.failures disk.old) }
+    ensures honest { D.honest disk.new ↔ D.honest disk.old }
+{
+    let mut arcs = arcs;
+    let head = match read_head(alloc, disk, header, slot) {
+        Ok(head) => head,
+        Err(refusal) => return Err(refusal),
+    };
+    if let Err(refusal) = read_words(alloc, disk, header, slot, reader, &mut arcs) {
+        return Err(refusal);
+    }
+    let network = match network_of(alloc, header, arcs, head.landmarks()) {
+        Ok(network) => network,
+        Err(refusal) => return Err(refusal),
+    };
+    Ok(Checkpoint {
+        epoch: head.epoch(),
+        version: head.version(),
+        next_sequence: head.next_sequence(),
+        network,
+    })
+}
+
+// The network of these parts, whose landmarks are ascending already.
+fn network_of(
+    alloc: Global,
+    header: &Header,
+    arcs: Vec<RoadArc>,
+    landmarks: &[u32],
+) -> Result<Network, Refusal>
+    requires { IsStrictlyIncreasing landmarks.now }
+    ensures network { IfOk result (λ net. net ≡ record { nodes = header.now.nodes; arcs = arcs.items; landmarks = landmarks.now }) }
+    ensures refused { IfErr result (λ refusal. refusal ≡ out_of_memory) }
+{
+    let Ok(network) = Network::new(alloc, header.nodes, arcs, landmarks) else {
+        return Err(Refusal::OutOfMemory);
+    };
+    Ok(network)
+}

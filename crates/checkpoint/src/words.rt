@@ -1,0 +1,91 @@
+ghost use Rattle.std.specs.Prelude.{◌≡◌, ◌+◌, ◌*◌, ◌<◌, ◌≤◌, ◌↔◌, ◌++◌, Ok, length, map, min, take, IfErr, OnOk};
+ghost use Rattle.disk.specs.Moments.{StaysSame};
+ghost use Rattle.pages.specs.Spelling.{IsHeader, ends_of, word_of};
+ghost use Rattle.pages.specs.Layout.{Words, page_number, page_count, word_pages, places_in_use};
+ghost use Rattle.storefile.specs.StoreFile.{page};
+ghost use Rattle.storefile.specs.Judging.{spelled_at, words_in, words_from};
+ghost use Rattle.pagereader.specs.Runs.{IsRunOf};
+ghost use Rattle.pagereader.specs.Outcomes.{failures_told, IsQuiet, MayLack, MayRefuse};
+ghost use Rattle.checkpoint.specs.Loading.{WordsArePut};
+
+use disk::Disk;
+use pagereader::PageReader;
+use pages::{Header, PAGE_SIZE, Slot, WORDS_A_PAGE, Word, decode_word_page};
+use roadnet::{Refusal, RoadArc};
+use std::alloc::Global;
+
+/// Gives the arcs of a store the lengths that a slot's word pages spell, and opens or closes each. The first page that isn't spelled
+/// rightly is damaged. On the disk nothing is changed.
+pub fn read_words<D: Disk>(
+    alloc: Global,
+    disk: &mut D,
+    header: &Header,
+    slot: Slot,
+    reader: &mut PageReader,
+    arcs: &mut [RoadArc],
+) -> Result<(), Refusal>
+    requires header { IsHeader header.now }
+    requires whole { D.honest disk.old → length (D.content disk.old) ≡ 4096 * page_count header.now }
+    requires run { D.honest disk.old → IsRunOf (D.content disk.old) reader.old }
+    requires count { length arcs.old ≡ header.now.arcs }
+    ensures spelled { D.honest disk.old → OnOk result (words_from (page (D.content disk.old)) header.now slot ≡ Ok (map word_of arcs.new)) }
+    ensures ends { map ends_of arcs.new ≡ map ends_of arcs.old }
+    ensures refused { D.honest disk.old → IfErr result (λ refusal. MayRefuse (words_from (page (D.content disk.old)) header.now slot) refusal) }
+    ensures run { D.honest disk.old → IsRunOf (D.content disk.old) reader.new }
+    ensures same { D.honest disk.old → StaysSame D.content D.left D.moment D.left_since disk.old disk.new }
+    ensures counted { D.failures disk.new ≡ failures_told result (D.failures disk.old) }
+    ensures honest { D.honest disk.new ↔ D.honest disk.old }
+{
+    let mut page = [0; PAGE_SIZE];
+    let end = header.head_page(slot) + 1 + header.word_pages();
+    for i in 0..header.word_pages() {
+        let Ok(()) = reader.read(disk, header.word_page(slot, i), end, &mut page) else {
+            return Err(Refusal::Device);
+        };
+        if let Err(refusal) = take_page(alloc, &page, header, slot, i, arcs) {
+            return Err(refusal);
+        }
+    }
+    Ok(())
+}
+
+// Puts the words of the i-th word page of a slot.
+fn take_page(
+    alloc: Global,
+    page: &[u8; PAGE_SIZE],
+    header: &Header,
+    slot: Slot,
+    i: u64,
+    arcs: &mut [RoadArc],
+) -> Result<(), Refusal>
+    requires within { i < word_pages header.now }
+    requires count { length arcs.old ≡ header.now.arcs }
+    ensures spelled { OnOk result (WordsArePut (spelled_at (page_number header.now (Words slot i)) (words_in (places_in_use 1023 i header.now.arcs) page.now)) (take (min (1023 * i) header.now.arcs) arcs.old) (take (min (1023 * (i + 1)) header.now.arcs) arcs.new)) }
+    ensures ends { map ends_of arcs.new ≡ map ends_of arcs.old }
+    ensures refused { IfErr result (λ refusal. MayLack (spelled_at (page_number header.now (Words slot i)) (words_in (places_in_use 1023 i header.now.arcs) page.now)) refusal) }
+    ensures quiet { IsQuiet result }
+{
+    let Ok(found) = decode_word_page(alloc, page, header.words_on_page(i)) else {
+        return Err(Refusal::OutOfMemory);
+    };
+    let Some(spelled) = found else {
+        return Err(Refusal::Damaged {
+            page: header.word_page(slot, i),
+        });
+    };
+    put_words(spelled.words(), WORDS_A_PAGE * i as usize, arcs);
+    Ok(())
+}
+
+// Puts these words, one an arc, from the arc at this place on.
+fn put_words(words: &[Word], first: usize, arcs: &mut [RoadArc])
+    requires { first + length words.now ≤ length arcs.old }
+    ensures words { map word_of (take (first + length words.now) arcs.new) ≡ map word_of (take first arcs.old) ++ words.now }
+    ensures ends { map ends_of arcs.new ≡ map ends_of arcs.old }
+{
+    for (i, word) in words.iter().enumerate() {
+        let arc = &mut arcs[first + i];
+        arc.length = word.length;
+        arc.opened = word.opened;
+    }
+}

@@ -1,0 +1,113 @@
+-- One phase of a bucket, from what relaxing the light arcs and the take that follows leave.
+use Rattle.std.proofs.Common.{◌≡◌, ℕ, ◌+◌, ◌/◌, ◌<◌, ◌≤◌, List, [], Contains, Option, Some, None, Bool, true, false, refl, sym, ap, subst, ◌∙◌, arith, append-nil, MatchOption, MatchBool, IsSome, ◌⊎◌, inl, inr}
+use Rattle.std.specs.Bool.{OnTrue, OnFalse}
+use Rattle.std.specs.FinMap.{get, insert, get-empty, empty as FinMap_empty}
+use Rattle.std.specs.Ordering.{nat_cmp}
+use Rattle.snapshot.specs.Groups.{Groups, IsGrouped}
+use Rattle.buckets.specs.Queue.{Entries, TakesLeast}
+use Rattle.relax.specs.Requests.{requests_of}
+use Rattle.deltastep.specs.Search.{top_of, AreReached, IsSearch, IsRelaxedBut, IsRelaxed, IsInBucket, AreInBucket, MeetsRequests, HasQueued, EndsPhase, EmptiesBucket, FitsFrom, ring_buckets, IsBetweenBuckets, IsBucketEmpty, weight}
+use Rattle.snapshot.specs.declared.legs.Part.{Part}
+use Rattle.deltastep.specs.Remembered.{remember_all}
+use Rattle.deltastep.proofs.Flags.{remember_all-of}
+use Rattle.std.proofs.lemmas.Bool.{cases_eq}
+use Rattle.snapshot.specs.declared.legs.Part.TheVariants.{Light, Heavy}
+use Rattle.deltastep.proofs.Members.{Contains-nil}
+use Rattle.deltastep.proofs.Queues.{len-taken, get-insert_same, get-insert_other}
+use Rattle.deltastep.proofs.Relaxing.{IsRelaxedBut-kept, IsRelaxedBut-met, IsRelaxedBut-taken, AreInBucket-taken, IsSearch-taken, bucket_is, IsBucketEmpty-heavy}
+
+pub match_some : {X : Type 0} (o : Option X) (x : X) (P : Type 0) (Q : X → Type 0) → o ≡ Some x → MatchOption o P Q → Q x
+match_some o x P Q e h = subst (λ p. MatchOption p P Q) e h
+
+pub match_none : {X : Type 0} (o : Option X) (P : Type 0) (Q : X → Type 0) → o ≡ None → MatchOption o P Q → P
+match_none o P Q e h = subst (λ p. MatchOption p P Q) e h
+
+pub on_true : (b : Bool) (P : Type 0) → b ≡ true → OnTrue b P → P
+on_true b P e h = subst (λ p. OnTrue p P) e h
+
+-- no node came back
+pub EndsPhase-none : (groups : Groups) (b : ℕ) (nodes : List ℕ) (old : List (Option ℕ)) (queue : Entries) (new : List (Option ℕ)) (queue' : Entries) → AreInBucket old groups.delta b nodes → IsRelaxedBut groups Light old queue nodes → MeetsRequests (top_of groups) (requests_of groups nodes old Light) old queue new queue' → IsSearch groups new queue' b → ((source : ℕ) → AreReached groups source old → AreReached groups source new) → ((others : List ℕ) → AreInBucket old groups.delta b others → AreInBucket new groups.delta b others) → EndsPhase groups b old queue new queue' []
+EndsPhase-none groups b nodes old queue new queue' values light lowered search reached stays = record {
+  search = search;
+  reached = reached;
+  light = IsRelaxedBut-met groups nodes Light old queue new queue' lowered groups.delta b values light;
+  heavy = λ owed h. subst (λ xs. IsRelaxedBut groups Heavy new queue' xs) (sym (append-nil owed)) (IsRelaxedBut-kept groups nodes Light old queue new queue' lowered Heavy owed h);
+  nodes = λ u c. absurd (Contains-nil u c);
+  stays = stays;
+}
+
+-- nodes came back, and were taken
+pub EndsPhase-some : (groups : Groups) (b : ℕ) (old : List (Option ℕ)) (queue : Entries) (new : List (Option ℕ)) (queue' : Entries) → EndsPhase groups b old queue new queue' [] → HasQueued new queue' groups.delta b → (b' : ℕ) (next : List ℕ) (queue'' : Entries) → TakesLeast groups.delta queue' b' next queue'' → EndsPhase groups b old queue new queue'' next
+EndsPhase-some groups b old queue new queue' ends queued b' next queue'' takes =
+    let is : b' ≡ b = bucket_is groups new queue' b' next queue'' takes b ends.search queued in
+    record {
+      search = subst (λ n. IsSearch groups new queue'' n) is (IsSearch-taken groups new queue' b' next queue'' takes b ends.search);
+      reached = ends.reached;
+      light = IsRelaxedBut-taken groups new queue' b' next queue'' takes Light [] ends.light;
+      heavy = λ owed h. IsRelaxedBut-taken groups new queue' b' next queue'' takes Heavy owed (subst (λ xs. IsRelaxedBut groups Heavy new queue' xs) (append-nil owed) (ends.heavy owed h));
+      nodes = subst (λ n. AreInBucket new groups.delta n next) is (AreInBucket-taken groups new queue' b' next queue'' takes b ends.search);
+      stays = ends.stays;
+    }
+
+-- a take lowers the weight
+pub weight-taken : (top width b : ℕ) (t : List (Option ℕ)) (queue : Entries) (taken : List ℕ) (queue' : Entries) → TakesLeast width queue b taken queue' → weight top t queue' < weight top t queue
+weight-taken top width b t queue taken queue' takes = omega (arith, len-taken width b queue taken queue' takes)
+
+-- the window of the bucket that was taken is that of the search
+pub FitsFrom-taken : (groups : Groups) (accepts : ℕ → Type 0) (width span b b' : ℕ) → width ≡ groups.delta → b' ≡ b → ring_buckets groups.greatest groups.delta ≤ span → ((v : ℕ) → b' ≤ v / width → v / width < b' + span → accepts v) → FitsFrom accepts groups b
+FitsFrom-taken groups accepts width span b b' e e' wide fits value low high =
+    let f : (v : ℕ) → b ≤ v / groups.delta → v / groups.delta < b + span → accepts v = subst (λ w. (v : ℕ) → b ≤ v / w → v / w < b + span → accepts v) e (subst (λ n. (v : ℕ) → n ≤ v / width → v / width < n + span → accepts v) e' fits) in
+    f value low (omega (arith, wide, high))
+
+-- the heavy legs of the remembered nodes are relaxed too
+pub EmptiesBucket-relaxed : (groups : Groups) (b : ℕ) (remembered : List ℕ) (old empty : List (Option ℕ)) (queue : Entries) (new : List (Option ℕ)) (queue' : Entries) → IsGrouped groups → EmptiesBucket groups b old empty queue remembered → MeetsRequests (top_of groups) (requests_of groups remembered empty Heavy) empty queue new queue' → IsSearch groups new queue' b → ((source : ℕ) → AreReached groups source empty → AreReached groups source new) → EmptiesBucket groups b old new queue' []
+EmptiesBucket-relaxed groups b remembered old empty queue new queue' grouped emptied met search reached = record {
+  search = search;
+  reached = λ source h. reached source (emptied.reached source h);
+  light = IsRelaxedBut-kept groups remembered Heavy empty queue new queue' met Light [] emptied.light;
+  heavy = IsRelaxedBut-met groups remembered Heavy empty queue new queue' met groups.delta b emptied.nodes emptied.heavy;
+  nodes = λ u c. absurd (Contains-nil u c);
+  emptied = IsBucketEmpty-heavy groups grouped remembered Heavy empty queue new queue' b met emptied.nodes refl emptied.emptied;
+}
+
+-- a settled bucket leaves a search between two buckets
+pub IsBetweenBuckets-after : (groups : Groups) (source b : ℕ) (old new : List (Option ℕ)) (queue' : Entries) → EmptiesBucket groups b old new queue' [] → AreReached groups source old → IsBetweenBuckets groups source new queue'
+IsBetweenBuckets-after groups source b old new queue' emptied reached = record {
+  search = record { places = emptied.search.places; node = emptied.search.node; below_top = emptied.search.below_top; queued = emptied.search.queued; above = λ u x e. omega arith };
+  reached = emptied.reached source reached;
+  light = emptied.light;
+  heavy = emptied.heavy;
+}
+
+-- after a taking that found nothing, nothing is queued in any bucket
+pub IsBucketEmpty-none : (width b : ℕ) (queue : Entries) → queue ≡ FinMap_empty → IsBucketEmpty width b queue
+IsBucketEmpty-none width b queue is u x has within =
+    let no : None ≡ Some x = sym (ap (λ (m : Entries). get m u) is ∙ get-empty nat_cmp u) ∙ has in
+    let absurdity : ⊥ = cc in
+    absurdity
+
+pub on_false : (b : Bool) (P : Type 0) → b ≡ false → OnFalse b P → P
+on_false b P e h = subst (λ p. OnFalse p P) e h
+
+-- more nodes may owe
+pub IsRelaxedBut-more : (groups : Groups) (part : Part) (t : List (Option ℕ)) (queue : Entries) (owed more : List ℕ) → ((u : ℕ) → Contains owed u → Contains more u) → IsRelaxedBut groups part t queue owed → IsRelaxedBut groups part t queue more
+IsRelaxedBut-more groups part t queue owed more within but u = elim (but u) as (λ _. IsSome (get queue u) ⊎ (Contains more u ⊎ IsRelaxed groups part t u)) [
+  | inl queued ↦ inl queued
+  | inr rest ↦ elim rest as (λ _. IsSome (get queue u) ⊎ (Contains more u ⊎ IsRelaxed groups part t u)) [ inl owes ↦ inr (inl (within u owes)) | inr relaxed ↦ inr (inr relaxed) ]
+]
+
+pub AreInBucket-remembered : (t : List (Option ℕ)) (width b : ℕ) (nodes more : List ℕ) → AreInBucket t width b nodes → AreInBucket t width b more → AreInBucket t width b (remember_all nodes more)
+AreInBucket-remembered t width b nodes more old new u h = elim (remember_all-of nodes more u h) as (λ _. IsInBucket t width b u) [ inl a ↦ old u a | inr c ↦ new u c ]
+
+-- a queue in which one node was put, or none, has nothing in a bucket to which that value does not belong
+pub IsBucketEmpty-more : (width b node value : ℕ) (queue queue' : Entries) (lowers : Bool) → MatchBool lowers (queue' ≡ insert queue node value) (queue' ≡ queue) → (lowers ≡ true → value / width ≡ b → ⊥) → IsBucketEmpty width b queue → IsBucketEmpty width b queue'
+IsBucketEmpty-more width b node value queue queue' true is out empty u x has within =
+    let now : get (insert queue node value) u ≡ Some x = subst (λ (m : Entries). get m u ≡ Some x) is has in
+    elim (cases_eq u node) as (λ _. ⊥) [
+      | inl e ↦
+          let same : Some value ≡ Some x = sym (subst (λ (v : ℕ). get (insert queue node value) v ≡ Some value) (sym e) (get-insert_same queue node value)) ∙ now in
+          let value_is : value ≡ x = cc in
+          out refl (ap (λ n. n / width) value_is ∙ within)
+      | inr ne ↦ empty u x (sym (get-insert_other queue node value u ne) ∙ now) within
+    ]
+IsBucketEmpty-more width b node value queue queue' false is out empty u x has within = empty u x (subst (λ (m : Entries). get m u ≡ Some x) is has) within

@@ -1,0 +1,260 @@
+//! A search by delta-stepping: bucket after bucket is settled, the least first.
+
+ghost use Rattle.std.specs.Prelude.{◌≡◌, ℕ, ◌≤◌, ◌<◌, ◌/◌, ◌+◌, ◌==◌, ◌^◌, List, [], IfOk, OnOk, MatchBool, All, Some, slice_set, length, vec_len};
+ghost use Rattle.std.specs.List.{IsDistinct};
+ghost use Rattle.std.specs.Bool.{OnTrue, OnFalse};
+ghost use Rattle.std.specs.FinMap as map;
+ghost use Rattle.snapshot.specs.Groups.{IsGrouped};
+ghost use Rattle.snapshot.specs.declared.legs.Part.TheVariants.{Light, Heavy};
+ghost use Rattle.relax.specs.Values.{value_or};
+ghost use Rattle.relax.specs.Requests.{requests_of};
+ghost use Rattle.deltastep.specs.Remembered.{Memory};
+ghost use Rattle.deltastep.specs.Search.{AreReached, IsBetweenBuckets, EndsPhase, EmptiesBucket, IsSearch, IsRelaxedBut, IsBucketEmpty, AreInBucket, FitsFrom, IsSuited, Suits, top_of, MeetsRequests, weight, HasQueued};
+
+use crate::distances::RowError;
+use crate::remembered::Remembered;
+use buckets::BucketQueue;
+use relax::{Team, Tentative};
+use snapshot::{Part, Snapshot};
+use std::alloc::Global;
+
+/// One above the length of every walk that visits no node twice: a longer way is dropped.
+#[tactic(auto, unfolding(crate::specs::Search::top_of))]
+fn top(snapshot: &Snapshot) -> u64
+    ensures value { result ≡ top_of snapshot.now }
+    ensures small { result ≤ 2 ^ 56 }
+    ensures grouped { IsGrouped snapshot.now }
+{
+    u64::from(snapshot.nodes() - 1) * 2147483647 + 1
+}
+
+/// A search under way: the least value found so far for each node, and the nodes whose legs are still to be relaxed, in buckets by
+/// that value.
+#[derive(Drop)]
+pub(crate) struct Search<Q> {
+    pub(crate) tentative: Tentative,
+    buckets: Q,
+}
+
+impl<Q: BucketQueue> Search<Q> {
+    /// A search that knows the source alone, which is queued with 0.
+    pub(crate) fn start(
+        alloc: Global,
+        snapshot: &Snapshot,
+        source: u32,
+        buckets: Q,
+    ) -> Result<Search<Q>, RowError>
+    where
+        Q: Drop,
+        requires node { (1 ≤ source) × (source ≤ snapshot.now.nodes) }
+        requires suits { Suits snapshot.now (Q.entries buckets) (Q.accepts buckets) (Q.width buckets) (Q.span buckets) }
+        ensures state { IfOk result (λ search. IsBetweenBuckets snapshot.now source search.tentative (Q.entries search.buckets)) }
+        ensures grouped { OnOk result (IsGrouped snapshot.now) }
+        ensures suited { IfOk result (λ search. IsSuited snapshot.now (Q.width search.buckets) (Q.span search.buckets)) }
+    {
+        let mut search = Search {
+            tentative: Tentative::new(alloc, snapshot.nodes())?,
+            buckets,
+        };
+        search.lower(top(snapshot), source, 0)?;
+        Ok(search)
+    }
+
+    /// Settles bucket after bucket until none is left.
+    pub(crate) fn run<T: Team>(
+        &mut self,
+        alloc: Global,
+        snapshot: &Snapshot,
+        team: &T,
+    ) -> Result<(), RowError>
+        requires state { (source : ℕ) × IsBetweenBuckets snapshot.now source self.old.tentative (Q.entries self.old.buckets) }
+        requires suited { IsSuited snapshot.now (Q.width self.old.buckets) (Q.span self.old.buckets) }
+        ensures settled { OnOk result ((source : ℕ) → IsBetweenBuckets snapshot.now source self.old.tentative (Q.entries self.old.buckets) → IsBetweenBuckets snapshot.now source self.new.tentative map.empty) }
+    {
+        let mut remembered = Remembered::new(alloc, snapshot.nodes() as usize + 1)?;
+        'buckets: while let Some((bucket, taken)) = self.buckets.take_least()? {
+            self.settle(alloc, snapshot, team, bucket, taken, &mut remembered)?;
+        }
+        Ok(())
+    }
+
+    /// Settles a bucket, given the nodes that were taken from it: relaxes light legs while nodes come back into it, and then once the
+    /// heavy legs of all nodes that were taken. Nothing is left in the bucket.
+    fn settle<T: Team>(
+        &mut self,
+        alloc: Global,
+        snapshot: &Snapshot,
+        team: &T,
+        bucket: u64,
+        taken: Vec<u32>,
+        remembered: &mut Remembered,
+    ) -> Result<(), RowError>
+        requires search { IsSearch snapshot.now self.old.tentative (Q.entries self.old.buckets) bucket }
+        requires light { IsRelaxedBut snapshot.now Light self.old.tentative (Q.entries self.old.buckets) taken.items }
+        requires heavy { IsRelaxedBut snapshot.now Heavy self.old.tentative (Q.entries self.old.buckets) taken.items }
+        requires taken { AreInBucket self.old.tentative snapshot.now.delta bucket taken.items }
+        requires emptied { IsBucketEmpty snapshot.now.delta bucket (Q.entries self.old.buckets) }
+        requires none { remembered.old ≡ record { limit = snapshot.now.nodes + 1; nodes = [] } }
+        requires window { FitsFrom (Q.accepts self.old.buckets) snapshot.now bucket }
+        requires suited { IsSuited snapshot.now (Q.width self.old.buckets) (Q.span self.old.buckets) }
+        ensures settled { OnOk result (EmptiesBucket snapshot.now bucket self.old.tentative self.new.tentative (Q.entries self.new.buckets) []) }
+        ensures weight { OnOk result (weight (top_of snapshot.now) self.new.tentative (Q.entries self.new.buckets) ≤ weight (top_of snapshot.now) self.old.tentative (Q.entries self.old.buckets)) }
+        ensures none { OnOk result (remembered.new ≡ record { limit = snapshot.now.nodes + 1; nodes = [] }) }
+        ensures suited { OnOk result (IsSuited snapshot.now (Q.width self.new.buckets) (Q.span self.new.buckets)) }
+    {
+        self.empty(alloc, snapshot, team, bucket, taken, remembered)?;
+        self.relax(
+            alloc,
+            snapshot,
+            team,
+            bucket,
+            remembered.nodes(),
+            Part::Heavy,
+        )?;
+        remembered.clear();
+        Ok(())
+    }
+
+    /// Relaxes light legs while nodes come back into a bucket, and remembers all nodes that were taken from it, each once.
+    fn empty<T: Team>(
+        &mut self,
+        alloc: Global,
+        snapshot: &Snapshot,
+        team: &T,
+        bucket: u64,
+        taken: Vec<u32>,
+        remembered: &mut Remembered,
+    ) -> Result<(), RowError>
+        requires search { IsSearch snapshot.now self.old.tentative (Q.entries self.old.buckets) bucket }
+        requires light { IsRelaxedBut snapshot.now Light self.old.tentative (Q.entries self.old.buckets) taken.items }
+        requires heavy { IsRelaxedBut snapshot.now Heavy self.old.tentative (Q.entries self.old.buckets) taken.items }
+        requires taken { AreInBucket self.old.tentative snapshot.now.delta bucket taken.items }
+        requires emptied { IsBucketEmpty snapshot.now.delta bucket (Q.entries self.old.buckets) }
+        requires none { remembered.old ≡ record { limit = snapshot.now.nodes + 1; nodes = [] } }
+        requires window { FitsFrom (Q.accepts self.old.buckets) snapshot.now bucket }
+        requires suited { IsSuited snapshot.now (Q.width self.old.buckets) (Q.span self.old.buckets) }
+        ensures emptied { OnOk result (EmptiesBucket snapshot.now bucket self.old.tentative self.new.tentative (Q.entries self.new.buckets) remembered.new.nodes) }
+        ensures weight { OnOk result (weight (top_of snapshot.now) self.new.tentative (Q.entries self.new.buckets) ≤ weight (top_of snapshot.now) self.old.tentative (Q.entries self.old.buckets)) }
+        ensures limit { OnOk result (remembered.new.limit ≡ snapshot.now.nodes + 1) }
+        ensures window { OnOk result (FitsFrom (Q.accepts self.new.buckets) snapshot.now bucket) }
+        ensures suited { OnOk result (IsSuited snapshot.now (Q.width self.new.buckets) (Q.span self.new.buckets)) }
+    {
+        let mut nodes = taken;
+        'phases: while !nodes.is_empty() {
+            remembered.add_all(&nodes)?;
+            nodes = self.phase(alloc, snapshot, team, bucket, &nodes)?;
+        }
+        Ok(())
+    }
+
+    /// Relaxes the light legs of nodes that were taken from a bucket, and takes out the nodes that came back into it, if any.
+    fn phase<T: Team>(
+        &mut self,
+        alloc: Global,
+        snapshot: &Snapshot,
+        team: &T,
+        bucket: u64,
+        nodes: &[u32],
+    ) -> Result<Vec<u32>, RowError>
+        requires search { IsSearch snapshot.now self.old.tentative (Q.entries self.old.buckets) bucket }
+        requires light { IsRelaxedBut snapshot.now Light self.old.tentative (Q.entries self.old.buckets) nodes.now }
+        requires nodes { AreInBucket self.old.tentative snapshot.now.delta bucket nodes.now }
+        requires emptied { IsBucketEmpty snapshot.now.delta bucket (Q.entries self.old.buckets) }
+        requires window { FitsFrom (Q.accepts self.old.buckets) snapshot.now bucket }
+        requires suited { IsSuited snapshot.now (Q.width self.old.buckets) (Q.span self.old.buckets) }
+        ensures phase { IfOk result (λ next. EndsPhase snapshot.now bucket self.old.tentative (Q.entries self.old.buckets) self.new.tentative (Q.entries self.new.buckets) next.items) }
+        ensures weight { OnOk result (weight (top_of snapshot.now) self.new.tentative (Q.entries self.new.buckets) ≤ weight (top_of snapshot.now) self.old.tentative (Q.entries self.old.buckets)) }
+        ensures emptied { OnOk result (IsBucketEmpty snapshot.now.delta bucket (Q.entries self.new.buckets)) }
+        ensures falls { IfOk result (λ next. 0 < vec_len next → weight (top_of snapshot.now) self.new.tentative (Q.entries self.new.buckets) < weight (top_of snapshot.now) self.old.tentative (Q.entries self.old.buckets)) }
+        ensures window { OnOk result (FitsFrom (Q.accepts self.new.buckets) snapshot.now bucket) }
+        ensures suited { OnOk result (IsSuited snapshot.now (Q.width self.new.buckets) (Q.span self.new.buckets)) }
+    {
+        if !self.relax(alloc, snapshot, team, bucket, nodes, Part::Light)? {
+            return Ok(Vec::new(alloc));
+        }
+        match self.buckets.take_least()? {
+            Some((_, next)) => Ok(next),
+            None => Ok(Vec::new(alloc)),
+        }
+    }
+
+    /// Relaxes the legs of a part of the nodes, whose values are in the given bucket, and tells whether a node came into it.
+    fn relax<T: Team>(
+        &mut self,
+        alloc: Global,
+        snapshot: &Snapshot,
+        team: &T,
+        bucket: u64,
+        nodes: &[u32],
+        part: Part,
+    ) -> Result<bool, RowError>
+        requires search { IsSearch snapshot.now self.old.tentative (Q.entries self.old.buckets) bucket }
+        requires nodes { AreInBucket self.old.tentative snapshot.now.delta bucket nodes.now }
+        requires once { part ≡ Heavy → IsDistinct (λ a b. a == b) nodes.now }
+        requires window { FitsFrom (Q.accepts self.old.buckets) snapshot.now bucket }
+        requires suited { IsSuited snapshot.now (Q.width self.old.buckets) (Q.span self.old.buckets) }
+        ensures search { OnOk result (IsSearch snapshot.now self.new.tentative (Q.entries self.new.buckets) bucket) }
+        ensures reached { OnOk result ((source : ℕ) → AreReached snapshot.now source self.old.tentative → AreReached snapshot.now source self.new.tentative) }
+        ensures met { OnOk result (MeetsRequests (top_of snapshot.now) (requests_of snapshot.now nodes.now self.old.tentative part) self.old.tentative (Q.entries self.old.buckets) self.new.tentative (Q.entries self.new.buckets)) }
+        ensures stays { OnOk result ((others : List ℕ) → AreInBucket self.old.tentative snapshot.now.delta bucket others → AreInBucket self.new.tentative snapshot.now.delta bucket others) }
+        ensures came_back { IfOk result (λ came_back. OnTrue came_back (HasQueued self.new.tentative (Q.entries self.new.buckets) snapshot.now.delta bucket)) }
+        ensures none_came { IfOk result (λ came_back. OnFalse came_back (IsBucketEmpty snapshot.now.delta bucket (Q.entries self.old.buckets) → IsBucketEmpty snapshot.now.delta bucket (Q.entries self.new.buckets))) }
+        ensures weight { OnOk result (weight (top_of snapshot.now) self.new.tentative (Q.entries self.new.buckets) ≤ weight (top_of snapshot.now) self.old.tentative (Q.entries self.old.buckets)) }
+        ensures window { OnOk result (FitsFrom (Q.accepts self.new.buckets) snapshot.now bucket) }
+        ensures suited { OnOk result (IsSuited snapshot.now (Q.width self.new.buckets) (Q.span self.new.buckets)) }
+        ensures grouped { OnOk result (IsGrouped snapshot.now) }
+    {
+        let top = top(snapshot);
+        let requests = team.requests(alloc, snapshot, nodes, &self.tentative, part)?;
+        let came_back = self.meet(top, bucket, &requests)?;
+        Ok(came_back)
+    }
+
+    /// Meets the requests in order, and tells whether a node came into the given bucket.
+    fn meet(&mut self, top: u64, bucket: u64, requests: &[(u32, u64)]) -> Result<bool, RowError>
+        requires nodes { All (λ r. (1 ≤ r.0) × (r.0 < length self.old.tentative)) requests.now }
+        requires fits { All (λ r. Q.accepts self.old.buckets r.1) requests.now }
+        requires above { All (λ r. bucket ≤ r.1 / Q.width self.old.buckets) requests.now }
+        requires small { top ≤ 2 ^ 56 }
+        ensures met { OnOk result (MeetsRequests top requests.now self.old.tentative (Q.entries self.old.buckets) self.new.tentative (Q.entries self.new.buckets)) }
+        ensures came_back { IfOk result (λ came_back. OnTrue came_back (HasQueued self.new.tentative (Q.entries self.new.buckets) (Q.width self.old.buckets) bucket)) }
+        ensures none_came { IfOk result (λ came_back. OnFalse came_back (IsBucketEmpty (Q.width self.old.buckets) bucket (Q.entries self.old.buckets) → IsBucketEmpty (Q.width self.old.buckets) bucket (Q.entries self.new.buckets))) }
+        ensures weight { OnOk result (weight top self.new.tentative (Q.entries self.new.buckets) ≤ weight top self.old.tentative (Q.entries self.old.buckets)) }
+        ensures accepts { OnOk result ((v : ℕ) → Q.accepts self.old.buckets v → Q.accepts self.new.buckets v) }
+        ensures width { OnOk result (Q.width self.new.buckets ≡ Q.width self.old.buckets) }
+        ensures span { OnOk result (Q.span self.new.buckets ≡ Q.span self.old.buckets) }
+    {
+        let delta = u64::from(self.buckets.delta());
+        let mut came_back = false;
+        for request in requests {
+            let (node, value) = *request;
+            if self.lower(top, node, value)? && value / delta == bucket {
+                came_back = true;
+            }
+        }
+        Ok(came_back)
+    }
+
+    /// Lowers a node's value to the given one, if that is below `top` and the value so far, and queues the node. Tells whether it did.
+    fn lower(&mut self, top: u64, node: u32, value: u64) -> Result<bool, RowError>
+        requires node { (1 ≤ node) × (node < length self.old.tentative) }
+        requires fits { Q.accepts self.old.buckets value }
+        requires small { top ≤ 2 ^ 56 }
+        ensures lowered { IfOk result (λ lowers. MatchBool lowers (value < value_or top self.old.tentative node) (value_or top self.old.tentative node ≤ value)) }
+        ensures tentative { IfOk result (λ lowers. MatchBool lowers (self.new.tentative ≡ slice_set self.old.tentative node (Some value)) (self.new.tentative ≡ self.old.tentative)) }
+        ensures queued { IfOk result (λ lowers. MatchBool lowers (Q.entries self.new.buckets ≡ map.insert (Q.entries self.old.buckets) node value) (Q.entries self.new.buckets ≡ Q.entries self.old.buckets)) }
+        ensures accepts { (v : ℕ) → Q.accepts self.old.buckets v → Q.accepts self.new.buckets v }
+        ensures width { Q.width self.new.buckets ≡ Q.width self.old.buckets }
+        ensures span { Q.span self.new.buckets ≡ Q.span self.old.buckets }
+    {
+        let lowers = match self.tentative.get(node) {
+            Some(old) => value < old,
+            None => value < top,
+        };
+        if lowers {
+            self.buckets.put(node, value)?;
+            self.tentative.set(node, value);
+        }
+        Ok(lowers)
+    }
+}

@@ -1,0 +1,120 @@
+//! Rows by delta-stepping, beside worked rows and the plain row.
+
+use super::networks::{chain, drawn, fan, longest, parallel, six};
+use crate::{Distances, RowError, plain_row, row, row_from, suits};
+use buckets::OrderedBuckets;
+use relax::Solo;
+use roadnet::{Command, Network, Refusal};
+use snapshot::{Snapshot, default_delta};
+use std::alloc::Global;
+
+/// Deltas from the least to the greatest.
+const DELTAS: [u32; 3] = [1, 5, 2147483647];
+
+/// The row of a node under this delta.
+fn row_under(
+    alloc: Global,
+    network: &Network,
+    source: u32,
+    delta: u32,
+) -> Result<Distances, Refusal> {
+    if delta == 0 || delta > 2147483647 {
+        return Err(Refusal::NumberRange);
+    }
+    let snapshot = Snapshot::build(alloc, network, delta)?;
+    if !snapshot.has_node(source) {
+        return Err(Refusal::NoSuchNode);
+    }
+    match row(alloc, &snapshot, source, &Solo) {
+        Ok(row) => Ok(row),
+        Err(RowError::OutOfMemory) => Err(Refusal::OutOfMemory),
+    }
+}
+
+/// Whether the row has just these distances, from node 1 on.
+fn is(row: &Distances, want: &[Option<u64>]) -> bool {
+    let mut node = 0u64;
+    let mut same = row.get(0).is_none();
+    for &distance in want {
+        node = node.saturating_add(1);
+        same = same && row.get(node) == distance;
+    }
+    same && row.get(node.saturating_add(1)).is_none()
+}
+
+/// Whether two rows agree on the first so many nodes.
+fn agree(one: &Distances, other: &Distances, nodes: u32) -> bool {
+    let mut same = true;
+    for node in 1..u64::from(nodes) + 1 {
+        same = same && one.get(node) == other.get(node);
+    }
+    same
+}
+
+#[test]
+fn rows_under_three_deltas(rt: HostRuntime) -> Result<(), Refusal> {
+    let alloc = rt.alloc();
+    let mut six = six(alloc)?;
+    let parallel = parallel(alloc)?;
+    let longest = longest(alloc)?;
+    for delta in DELTAS {
+        let want = [Some(0), Some(10), Some(10), Some(12), Some(10), Some(15)];
+        assert!(rt; is(&row_under(alloc, &six, 1, delta)?, &want));
+        let want = [None, Some(0), Some(0), Some(2), Some(0), Some(5)];
+        assert!(rt; is(&row_under(alloc, &six, 3, delta)?, &want));
+        six.apply(Command::Close { arc: 7 })?;
+        let want = [Some(0), Some(17), Some(10), Some(19), Some(10), Some(22)];
+        assert!(rt; is(&row_under(alloc, &six, 1, delta)?, &want));
+        six.apply(Command::Reopen { arc: 7 })?;
+        assert!(rt; is(&row_under(alloc, &parallel, 1, delta)?, &[Some(0), Some(3)]));
+    }
+    let want = [
+        Some(0),
+        Some(2147483647),
+        Some(4294967294),
+        Some(6442450941),
+    ];
+    for delta in [1, 5, default_delta(&longest), 2147483647] {
+        assert!(rt; is(&row_under(alloc, &longest, 1, delta)?, &want));
+    }
+    assert!(rt; row_under(alloc, &six, 7, 1).err() == Some(Refusal::NoSuchNode));
+    Ok(())
+}
+
+#[test]
+fn rows_of_drawn_networks(rt: HostRuntime) -> Result<(), Refusal> {
+    let alloc = rt.alloc();
+    for seed in 0..20 {
+        let network = drawn(alloc, seed)?;
+        assert!(rt; network.has_node(1));
+        let plain = plain_row(alloc, &network, 1).map_err(|_| Refusal::OutOfMemory)?;
+        for delta in [1, 3, 2147483647] {
+            assert!(rt; agree(&row_under(alloc, &network, 1, delta)?, &plain, 10));
+        }
+    }
+    Ok(())
+}
+
+#[test]
+fn rows_of_a_chain_and_a_fan(rt: HostRuntime) -> Result<(), Refusal> {
+    let alloc = rt.alloc();
+    for network in [chain(alloc)?, fan(alloc)?] {
+        assert!(rt; network.has_node(1));
+        let plain = plain_row(alloc, &network, 1).map_err(|_| Refusal::OutOfMemory)?;
+        assert!(rt; agree(&row_under(alloc, &network, 1, 3)?, &plain, 100_000));
+    }
+    Ok(())
+}
+
+#[test]
+fn which_queues_suit(rt: HostRuntime) -> Result<(), Refusal> {
+    let alloc = rt.alloc();
+    let snapshot = Snapshot::build(alloc, &six(alloc)?, 5)?;
+    assert!(rt; suits(&OrderedBuckets::new(alloc, 5), &snapshot));
+    assert!(rt; !suits(&OrderedBuckets::new(alloc, 4), &snapshot));
+    let buckets = OrderedBuckets::new(alloc, 5);
+    assert!(rt; snapshot.has_node(1) && suits(&buckets, &snapshot));
+    let row = row_from(alloc, &snapshot, 1, &Solo, buckets).map_err(|_| Refusal::OutOfMemory)?;
+    assert_eq!(rt; row.get(6), Some(15));
+    Ok(())
+}

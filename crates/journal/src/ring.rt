@@ -1,0 +1,101 @@
+ghost use Rattle.std.specs.Prelude.{◌≡◌, ◌+◌, ◌-◌, ◌*◌, ◌<◌, ◌≤◌, ◌^◌, ◌↔◌, ℕ, length, IfOk, OnOk};
+ghost use Rattle.disk.specs.Contents.{failures_after};
+ghost use Rattle.disk.specs.Moments.{StaysSame};
+ghost use Rattle.pages.specs.Spelling.{IsHeader};
+ghost use Rattle.pages.specs.Layout.{journal_start, page_count, place_of};
+ghost use Rattle.storefile.specs.StoreFile.{page, is_standing, journal_page_at};
+ghost use Rattle.journal.specs.Places.{IsLongest};
+
+use disk::{Disk, DiskError};
+use pagereader::read_open_number;
+use pages::Header;
+use std::marker::Model;
+
+/// The places of the journal: the page of a sequence stands at the place of its remainder.
+#[derive(Debug, Drop)]
+pub struct Ring {
+    journal_pages: u32,
+    start: u64,
+    first_unchecked: u64,
+    next_sequence: u64,
+}
+
+impl Model for Ring {
+    ghost use Rattle.journal.specs.Places.{Places, ArePlaces};
+
+    ghost Value = { Places };
+
+    ghost view = { λ r. record { journal_pages = r.journal_pages; start = r.start; first_unchecked = r.first_unchecked; next_sequence = r.next_sequence } };
+
+    ghost invariant = { λ r. ArePlaces (record { journal_pages = r.journal_pages; start = r.start; first_unchecked = r.first_unchecked; next_sequence = r.next_sequence }) };
+}
+
+// Whether the page at the place of this sequence is open and has it.
+fn is_standing<D: Disk>(disk: &mut D, header: &Header, sequence: u64) -> Result<bool, DiskError>
+    requires header { IsHeader header.now }
+    requires whole { D.honest disk.old → length (D.content disk.old) ≡ 4096 * page_count header.now }
+    ensures answer { D.honest disk.old → IfOk result (λ answer. answer ≡ is_standing (page (D.content disk.old)) header.now sequence) }
+    ensures same { D.honest disk.old → StaysSame D.content D.left D.moment D.left_since disk.old disk.new }
+    ensures counted { D.failures disk.new ≡ failures_after result (D.failures disk.old) }
+    ensures honest { D.honest disk.new ↔ D.honest disk.old }
+{
+    match read_open_number(disk, header.journal_page(sequence))? {
+        Some(found) => Ok(found == sequence),
+        None => Ok(false),
+    }
+}
+
+impl Ring {
+    /// Finds the pages that stand one after the other from this sequence on, by their gates and sequences alone: they are unchecked, and the
+    /// page that is written next follows them. Nothing is changed.
+    pub fn collect<D: Disk>(disk: &mut D, header: &Header, from: u64) -> Result<Ring, DiskError>
+        requires header { IsHeader header.now }
+        requires from { from ≤ 2 ^ 48 }
+        requires whole { D.honest disk.old → length (D.content disk.old) ≡ 4096 * page_count header.now }
+        ensures longest { D.honest disk.old → IfOk result (λ ring. IsLongest (page (D.content disk.old)) header.now from (ring.next_sequence - from)) }
+        ensures first { IfOk result (λ ring. ring.first_unchecked ≡ from) }
+        ensures order { IfOk result (λ ring. from ≤ ring.next_sequence) }
+        ensures journal_pages { IfOk result (λ ring. ring.journal_pages ≡ header.now.journal_pages) }
+        ensures start { IfOk result (λ ring. ring.start ≡ journal_start header.now) }
+        ensures same { D.honest disk.old → StaysSame D.content D.left D.moment D.left_since disk.old disk.new }
+        ensures counted { D.failures disk.new ≡ failures_after result (D.failures disk.old) }
+        ensures honest { D.honest disk.new ↔ D.honest disk.old }
+    {
+        for count in 0..header.journal_pages {
+            if !is_standing(disk, header, from + u64::from(count))? {
+                return Ok(Ring::of(header, from, count));
+            }
+        }
+        Ok(Ring::of(header, from, header.journal_pages))
+    }
+
+    // So many pages are unchecked, from this sequence on.
+    fn of(header: &Header, from: u64, count: u32) -> Ring
+        requires header { IsHeader header.now }
+        requires from { from ≤ 2 ^ 48 }
+        requires few { count ≤ header.now.journal_pages }
+        ensures { result ≡ record { journal_pages = header.now.journal_pages; start = journal_start header.now; first_unchecked = from; next_sequence = from + count } }
+    {
+        Ring {
+            journal_pages: header.journal_pages,
+            start: header.journal_start(),
+            first_unchecked: from,
+            next_sequence: from + u64::from(count),
+        }
+    }
+
+    /// How many pages are unchecked: those before the page that is written next, from the current slot's next sequence on.
+    pub fn unchecked(&self) -> u32
+        ensures count { result + self.now.first_unchecked ≡ self.now.next_sequence }
+        ensures few { result ≤ self.now.journal_pages }
+    {
+        (self.next_sequence - self.first_unchecked) as u32
+    }
+
+    /// The sequence of the page that is written next.
+    pub fn next_sequence(&self) -> u64
+        ensures { result ≡ self.now.next_sequence }
+    {
+        self.next_sequence
+    }
+}

@@ -1,0 +1,9 @@
+pub mod Acknowledged
+pub mod AtOnce
+pub mod Examples
+pub mod InRun
+pub mod Keeping
+pub mod Kept
+pub mod Later
+pub mod OverLives
+pub mod Rehearsing

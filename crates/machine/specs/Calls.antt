@@ -1,0 +1,178 @@
+-- The steps of the machine: for each call the answers that it may give, and the state that it leaves. Refusals come in the
+-- order in which they stand.
+use Rattle.std.specs.Prelude.{◌≡◌, ◌⊎◌, ℕ, ◌+◌, ◌-◌, ◌≤◌, Bool, true, false, [], ◌∷◌, ◌++◌, ◌==◌, nat_le, nat_lt, ◌&&◌, ◌||◌, if◌then◌else◌, Option, None, Some, is_some, is_none, unwrap_or, option_map, option_and_then, Result, Ok, Err}
+use Rattle.roadnet.specs.declared.commands.Command.{Command}
+use Rattle.roadnet.specs.declared.refusals.Refusal.{Refusal}
+use Rattle.roadnet.specs.declared.refusals.Refusal.TheVariants.{OutOfMemory, Device, JournalFull, Broken, VersionsExhausted, QueueFull, NoTask, OtherNetwork, NothingPending, NotYet, HistoryFull}
+use Rattle.roadnet.specs.Net.{Net}
+use Rattle.roadnet.specs.Step.{refusal_of}
+use Rattle.rows.specs.declared.queries.Query.{Query}
+use Rattle.rows.specs.Replies.{IsRight}
+use Rattle.machine.specs.declared.calls.Ticket.{Ticket}
+use Rattle.machine.specs.declared.calls.Receipt.{Receipt}
+use Rattle.machine.specs.declared.calls.Answer.{Answer}
+use Rattle.machine.specs.Machine.{Checkpoint, Machine, most_versions, most_pending, most_of_life, latest, batch, accepted_network, commands_to, network_at, command_at}
+
+-- Refused for this cause, or else for want of memory. Nothing changes.
+abbrev pub IsRefused : Option Refusal → Refusal → Machine → Machine → Type 0
+IsRefused cause refusal old new = ((cause ≡ Some refusal) ⊎ ((cause ≡ None) × (refusal ≡ OutOfMemory))) × (new ≡ old)
+
+-- The disk failed, with so many commands in flight. Nothing is written from then on.
+abbrev pub failed : Machine → ℕ → Machine
+failed m commands = record m { broken = true; in_flight = commands }
+
+-- SUBMIT
+
+abbrev pub refusal_of_submit : Machine → Command → Option Refusal
+refusal_of_submit m command =
+    if m.broken then Some Broken else
+    if nat_le (m.opened + most_of_life) (latest m) then Some HistoryFull else
+    if nat_le most_versions (latest m) then Some VersionsExhausted else
+    if nat_le (m.durable + most_pending) (latest m) then Some QueueFull else
+    option_and_then (λ net. refusal_of net command) (accepted_network m)
+
+abbrev pub with_command : Machine → Command → Machine
+with_command m command = record m { accepted = m.accepted ++ command ∷ [] }
+
+abbrev pub Submits : Machine → Command → Result Ticket Refusal → Machine → Type 0
+Submits old command (Ok ticket) new =
+    (refusal_of_submit old command ≡ None) × (ticket ≡ record { number = latest old + 1; command = command }) × (new ≡ with_command old command)
+Submits old command (Err refusal) new = IsRefused (refusal_of_submit old command) refusal old new
+
+-- FLUSH
+
+abbrev pub refusal_of_flush : Machine → Option Refusal
+refusal_of_flush m =
+    if m.broken then Some Broken else
+    if nat_le (latest m) m.durable then Some NothingPending else
+    if nat_le m.sizes.journal_pages m.unchecked then Some JournalFull else None
+
+-- one journal page more was flushed since it began
+abbrev pub with_page_flushed : Checkpoint → Checkpoint
+with_page_flushed c = record c { flushed = c.flushed + 1 }
+
+-- the first pending commands are durable, in one journal page
+abbrev pub with_batch : Machine → Machine
+with_batch m =
+    record m { durable = m.durable + batch m; unchecked = m.unchecked + 1; checkpoint = option_map with_page_flushed m.checkpoint }
+
+abbrev pub Flushes : Machine → Result ℕ Refusal → Machine → Type 0
+Flushes old (Ok durable) new = (refusal_of_flush old ≡ None) × (new ≡ with_batch old) × (durable ≡ new.durable)
+Flushes old (Err refusal) new =
+    IsRefused (refusal_of_flush old) refusal old new
+    ⊎ ((refusal_of_flush old ≡ None) × (refusal ≡ Device) × (new ≡ failed old (batch old)))
+
+-- A STEP OF A CHECKPOINT, of so many pages. It answers the version that is done, or nothing while the checkpoint is going.
+
+abbrev pub refusal_of_checkpoint : Machine → Option Refusal
+refusal_of_checkpoint m = if m.broken then Some Broken else None
+
+-- no checkpoint is going, and no page is unchecked
+abbrev pub has_nothing_unchecked : Machine → Bool
+has_nothing_unchecked m = is_none m.checkpoint && (m.unchecked == 0)
+
+-- the checkpoint that is going, or else one that begins now
+abbrev pub checkpoint_of : Machine → Checkpoint
+checkpoint_of m = unwrap_or m.checkpoint (record { version = m.durable; left = m.sizes.slot_pages; flushed = 0 })
+
+abbrev pub done_by : Machine → ℕ → Option ℕ
+done_by m pages =
+    if has_nothing_unchecked m then Some m.durable else
+    if nat_lt pages (checkpoint_of m).left then None else Some (checkpoint_of m).version
+
+abbrev pub with_pages_written : Checkpoint → ℕ → Checkpoint
+with_pages_written c pages = record c { left = c.left - pages }
+
+-- some of the checkpoint's pages are written, or all are, and of the journal only what was flushed since is still needed
+abbrev pub with_part : Machine → ℕ → Machine
+with_part m pages =
+    if has_nothing_unchecked m then m else
+    if nat_lt pages (checkpoint_of m).left then record m { checkpoint = Some (with_pages_written (checkpoint_of m) pages) } else
+    record m { checkpoint = None; unchecked = (checkpoint_of m).flushed }
+
+abbrev pub StepsCheckpoint : Machine → ℕ → Result (Option ℕ) Refusal → Machine → Type 0
+StepsCheckpoint old pages (Ok done) new = (refusal_of_checkpoint old ≡ None) × (done ≡ done_by old pages) × (new ≡ with_part old pages)
+StepsCheckpoint old pages (Err refusal) new =
+    IsRefused (refusal_of_checkpoint old) refusal old new
+    ⊎ ((refusal_of_checkpoint old ≡ None) × (has_nothing_unchecked old ≡ false) × (refusal ≡ Device) × (new ≡ failed old 0))
+
+-- TASKS AND VIEWS
+
+-- a task is out, or what is durable is shown
+abbrev pub has_no_task : Machine → Bool
+has_no_task m = is_some m.task || (m.shown == m.durable)
+
+-- a task is a version with its network
+abbrev pub TakesTask : Machine → Result (Option (ℕ × Net)) Refusal → Machine → Type 0
+TakesTask old (Ok None) new = (has_no_task old ≡ true) × (new ≡ old)
+TakesTask old (Ok (Some task)) new =
+    (has_no_task old ≡ false) × (task.0 ≡ old.durable) × (network_at old old.durable ≡ Some task.1) × (new ≡ record old { task = Some old.durable })
+TakesTask old (Err refusal) new = (has_no_task old ≡ false) × (refusal ≡ OutOfMemory) × (new ≡ old)
+
+-- whether the task of this number is out
+abbrev pub is_out : Machine → ℕ → Bool
+is_out m number = unwrap_or (option_map (λ v. v == number) m.task) false
+
+-- the task of this number is given up, where it is out
+abbrev pub without_task : Machine → ℕ → Machine
+without_task m number = if is_out m number then record m { task = None } else m
+
+-- a view of this version and network is that of the task
+abbrev pub IsTask : Machine → ℕ → Net → Type 0
+IsTask m version network = (m.task ≡ Some version) × (network_at m version ≡ Some network)
+
+-- what `publish` of the view would be refused with
+abbrev pub RefusesView : Machine → ℕ → Net → Refusal → Type 0
+RefusesView m version network refusal =
+    ((refusal ≡ NoTask) × (m.task ≡ None))
+    ⊎ ((refusal ≡ OtherNetwork) × (is_some m.task ≡ true) × ¬ IsTask m version network)
+
+abbrev pub with_shown : Machine → ℕ → Machine
+with_shown m version = record m { task = None; shown = version }
+
+abbrev pub Publishes : Machine → ℕ → Net → Result ℕ Refusal → Machine → Type 0
+Publishes old version network (Ok shown) new = IsTask old version network × (shown ≡ version) × (new ≡ with_shown old version)
+Publishes old version network (Err refusal) new = RefusesView old version network refusal × (new ≡ old)
+
+-- QUERIES AND RECEIPTS
+
+-- an answer names the version that is shown, and is right in its network
+abbrev pub Asks : Machine → Query → Result Answer Refusal → Machine → Type 0
+Asks old query (Ok answer) new =
+    (answer.version ≡ old.shown) × ((net : Net) × (network_at old old.shown ≡ Some net) × IsRight net query answer.reply) × (new ≡ old)
+Asks old query (Err refusal) new = (refusal ≡ OutOfMemory) × (new ≡ old)
+
+-- the ticket's command was accepted as its number, and since the base
+abbrev pub IsTicketOf : Machine → Ticket → Type 0
+IsTicketOf m ticket = (m.base_version + 1 ≤ ticket.number) × (command_at m ticket.number ≡ Some ticket.command)
+
+abbrev pub receipt_for : Machine → Ticket → Result Receipt Refusal
+receipt_for m ticket =
+    if nat_le ticket.number m.durable then Ok (record { number = ticket.number; command = ticket.command }) else
+    if m.broken then Err Broken else Err NotYet
+
+-- STOPS
+
+-- opened again at this version
+abbrev pub reopened : Machine → ℕ → ℕ → Machine
+reopened m version unchecked =
+    record m {
+      accepted = commands_to m version;
+      durable = version;
+      shown = version;
+      opened = version;
+      unchecked = unchecked;
+      in_flight = 0;
+      broken = false;
+      task = None;
+      checkpoint = None;
+    }
+
+-- a stop leaves this version: what was durable, with the commands in flight or without
+abbrev pub IsLeft : Machine → ℕ → Type 0
+IsLeft m version = (version ≡ m.durable) ⊎ (version ≡ m.durable + m.in_flight)
+
+-- Opening counts the unchecked pages anew.
+abbrev pub StopsAndOpens : Machine → ℕ → Machine → Type 0
+StopsAndOpens old version new =
+    IsLeft old version × ((unchecked : ℕ) × (unchecked ≤ old.sizes.journal_pages) × (new ≡ reopened old version unchecked))

@@ -1,0 +1,82 @@
+-- What holds of each script, wherever it is stopped and however early its run ends.
+use Rattle.std.specs.Prelude.{ℕ, ◌≤◌, List, [], ◌∷◌, ◌++◌, Option}
+use Rattle.std.specs.List.{AllByRecursion}
+use Rattle.roadnet.specs.declared.commands.Command.{Command}
+use Rattle.roadnet.specs.declared.refusals.Refusal.{Refusal}
+use Rattle.roadnet.specs.Net.{Net}
+use Rattle.machine.specs.declared.calls.Ticket.{Ticket}
+use Rattle.machine.specs.declared.events.Event.{Event}
+use Rattle.machine.specs.declared.events.Event.TheVariants.{Submit, Flush, Stop, StopWithin}
+use Rattle.machine.specs.declared.events.Writing.TheVariants.{Flush as a_flush}
+use Rattle.machine.specs.declared.events.Replied.{Replied}
+use Rattle.machine.specs.declared.events.Replied.TheVariants.{Accepted, Durable, Answered, Opened}
+use Rattle.machine.specs.Machine.{Sizes, Machine, start, most_versions, commands_to}
+use Rattle.machine.specs.Calls.{IsLeft}
+use Rattle.machine.specs.Runs.{Happened, Run, up_to}
+use Rattle.machine.specs.Laws.{IsAt, IsRightAfter}
+use Rattle.machine.specs.Lives.{Turn, Lives}
+
+-- what a stop with these replies leaves of these tickets: those up to the version that is opened, and none where none is
+abbrev pub left_by : List Ticket → List Replied → List Ticket
+left_by held [] = []
+left_by held (Opened version ∷ replies) = up_to version held
+left_by held (_ ∷ replies) = left_by held replies
+
+-- the tickets whose commands stand behind this event with these replies, where those of these stood before
+abbrev pub held_behind : {P : Type 0} → List Ticket → Event P → List Replied → List Ticket
+held_behind held (Submit command) (Accepted number ∷ replies) = record { number = number; command = command } ∷ held
+held_behind held Stop replies = left_by held replies
+held_behind held (StopWithin call picks writing) replies = left_by held replies
+held_behind held _ replies = held
+
+-- the tickets whose commands a flush with these replies acknowledges
+abbrev pub durable_by : List Ticket → List Replied → List Ticket
+durable_by held (Durable version ∷ replies) = up_to version held
+durable_by held _ = []
+
+-- the tickets whose commands this event with these replies acknowledges
+abbrev pub acknowledged_with : {P : Type 0} → List Ticket → Event P → List Replied → List Ticket
+acknowledged_with held Flush replies = durable_by held replies
+acknowledged_with held (StopWithin call picks a_flush) replies = durable_by held replies
+acknowledged_with held _ replies = []
+
+-- the tickets whose commands are acknowledged in these turns
+abbrev pub acknowledged_in : {P : Type 0} → List Ticket → List (Turn P) → List Ticket
+acknowledged_in held [] = []
+acknowledged_in held (turn ∷ turns) = acknowledged_with held turn.0 turn.1 ++ acknowledged_in (held_behind held turn.0 turn.1) turns
+
+-- an answer is right after so many of these commands; of other replies nothing is asked
+abbrev pub IsRightReply : Net → ℕ → List Command → Replied → Type 0
+IsRightReply base version commands (Answered query answer) = IsRightAfter base version commands query answer
+IsRightReply base version commands _ = Unit {0}
+
+-- The run of a script is a run of the machine's calls.
+abbrev pub ScriptsAreRuns : Type 0 → Type 0
+ScriptsAreRuns P =
+    (first : Machine) (events : List (Event P)) (replies : List Replied) (ended : Option Refusal) (history : List Command) (last : Machine)
+    → Lives first events replies ended history last → (happened : List Happened) × Run first happened last
+
+-- Each acknowledged command has its number in the history.
+abbrev pub AcknowledgedAreInHistory : Type 0 → Type 0
+AcknowledgedAreInHistory P =
+    (sizes : Sizes) (base : Net) (version unchecked : ℕ) (events : List (Event P)) (replies : List Replied) (ended : Option Refusal) (history : List Command) (last : Machine)
+    → version ≤ most_versions → unchecked ≤ sizes.journal_pages
+    → (lives : Lives (start sizes base version unchecked) events replies ended history last)
+    → AllByRecursion (IsAt version history) (acknowledged_in [] lives.turns)
+
+-- Whatever version a stop leaves in the end, each acknowledged command has its number among the commands up to it.
+abbrev pub StopsLeaveAcknowledged : Type 0 → Type 0
+StopsLeaveAcknowledged P =
+    (sizes : Sizes) (base : Net) (version unchecked : ℕ) (events : List (Event P)) (replies : List Replied) (ended : Option Refusal) (history : List Command) (last : Machine) (left : ℕ)
+    → version ≤ most_versions → unchecked ≤ sizes.journal_pages
+    → (lives : Lives (start sizes base version unchecked) events replies ended history last) → IsLeft last left
+    → AllByRecursion (IsAt version (commands_to last left)) (acknowledged_in [] lives.turns)
+
+-- Each answered query names a version that no later stop takes back, and is right in the network after that many commands of
+-- the history.
+abbrev pub AnswersAreRight : Type 0 → Type 0
+AnswersAreRight P =
+    (sizes : Sizes) (base : Net) (version unchecked : ℕ) (events : List (Event P)) (replies : List Replied) (ended : Option Refusal) (history : List Command) (last : Machine)
+    → version ≤ most_versions → unchecked ≤ sizes.journal_pages
+    → Lives (start sizes base version unchecked) events replies ended history last
+    → AllByRecursion (IsRightReply base version history) replies

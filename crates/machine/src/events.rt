@@ -1,0 +1,65 @@
+use crate::calls::Answer;
+use roadnet::{Command, Refusal};
+use rows::Query;
+
+/// An event that writes to the disk, and so can be stopped within.
+#[derive(Clone, Copy, Debug, PartialEq, Eq)]
+pub enum Writing {
+    /// The first pending commands are made durable.
+    Flush,
+    /// Steps of 64 pages, until the checkpoint is done.
+    Checkpoint,
+}
+
+/// An event of a script: one variant for each kind of line, with its numbers.
+///
+/// `P` is the type of a pick, which says what a stop makes of a byte that was written since the last sync.
+#[derive(Debug, Drop)]
+pub enum Event<P> {
+    /// A command is submitted.
+    Submit {
+        command: Command,
+    },
+    /// The first pending commands are made durable.
+    Flush,
+    /// Steps of 64 pages, until the checkpoint is done.
+    Checkpoint,
+    /// A task is taken, and its view built and kept aside.
+    Task,
+    /// The view that is kept aside is shown.
+    Publish,
+    /// A query is answered from the view that is shown.
+    Ask {
+        query: Query,
+    },
+    /// A stop between two calls, and an opening.
+    Stop,
+    /// A stop within a write or sync of the event, and an opening. The write or sync is the one of number `call`, from 1 on; where
+    /// the event makes fewer, the stop comes behind it.
+    StopWithin {
+        call: u64,
+        picks: Vec<P>,
+        writing: Writing,
+    },
+}
+
+/// What is told of an event: one variant for each form of output, with its numbers.
+#[derive(Clone, Copy, Debug, PartialEq, Eq)]
+pub enum Replied {
+    /// The command was accepted as this number, and is not acknowledged yet.
+    Accepted { number: u64 },
+    /// After a flush: the versions up to this one are durable. After a checkpoint: the version that it holds.
+    Durable { version: u64 },
+    /// A task of this version was taken.
+    Task { version: u64 },
+    /// This version is shown.
+    Shown { version: u64 },
+    /// The query's reply, with the version in whose network it is right.
+    Answered { query: Query, answer: Answer },
+    /// The event was refused.
+    Refused { refusal: Refusal },
+    /// Stopped, and opened again at this version.
+    Opened { version: u64 },
+    /// Stopped, and not opened again.
+    Stopped,
+}

@@ -1,0 +1,33 @@
+ghost use Rattle.machine.specs.AtOnce.{OneStepIsACheckpoint};
+ghost use Rattle.machine.specs.Headline.{AcknowledgedAreInHistory, AnswersAreRight, ScriptsAreRuns, StopsLeaveAcknowledged};
+ghost use Rattle.machine.specs.Laws.{StepsKeepStates, StartsAreStates, StepsTakeNothingBack, VersionsAreNetworks, AcknowledgedStay, AnswersStayRight};
+ghost use Rattle.machine.specs.LifeInRun.{LifeStepsAreRunSteps, StopsBeginLives};
+
+/// What holds of each step of the machine.
+pub fn laws_of_steps()
+    ensures starts { StartsAreStates }
+    ensures states { StepsKeepStates }
+    ensures durable { StepsTakeNothingBack }
+    ensures versions { VersionsAreNetworks }
+    ensures at_once { OneStepIsACheckpoint }
+{}
+
+/// What holds of each run, whatever is called and wherever it is stopped.
+pub fn laws_of_runs()
+    ensures acknowledged { AcknowledgedStay }
+    ensures answers { AnswersStayRight }
+{}
+
+/// What holds of each script, wherever it is stopped and however early its run ends.
+pub fn laws_of_lives<P>()
+    ensures runs { ScriptsAreRuns P }
+    ensures acknowledged { AcknowledgedAreInHistory P }
+    ensures left { StopsLeaveAcknowledged P }
+    ensures answers { AnswersAreRight P }
+{}
+
+/// What a run over several lives takes from each.
+pub fn laws_of_one_life()
+    ensures steps { LifeStepsAreRunSteps }
+    ensures stops { StopsBeginLives }
+{}

@@ -1,0 +1,11 @@
+//! What a keeper of a store is: a machine whose steps are its calls, the runs of the machine over lives with stops, and the laws that
+//! hold of them. There is no keeper here, no store and no disk.
+#![tactic(auto)]
+
+mod calls;
+mod events;
+mod laws;
+
+pub use calls::{Answer, Receipt, Ticket};
+pub use events::{Event, Replied, Writing};
+pub use laws::{laws_of_lives, laws_of_one_life, laws_of_runs, laws_of_steps};

@@ -1,0 +1,11 @@
+-- Pages of a file, one after the other.
+use Rattle.std.specs.Prelude.{◌≡◌, ℕ, ◌*◌, List, length, take, drop}
+
+-- the pages from this number on, one behind the other
+pub record Run : Type 0 where
+  pub first : ℕ
+  pub bytes : List ℕ
+
+-- the run is one of the file
+abbrev pub IsRunOf : List ℕ → Run → Type 0
+IsRunOf file run = run.bytes ≡ take (length run.bytes) (drop (4096 * run.first) file)

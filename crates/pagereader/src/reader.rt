@@ -1,0 +1,158 @@
+ghost use Rattle.std.specs.Prelude.{◌≡◌, ◌+◌, ◌-◌, ◌*◌, ◌<◌, ◌≤◌, ◌^◌, ◌↔◌, [], IsTrue, length, take, drop, IfOk, OnOk};
+ghost use Rattle.disk.specs.Contents.{failures_after};
+ghost use Rattle.disk.specs.Moments.{StaysSame};
+ghost use Rattle.storefile.specs.StoreFile.{page};
+ghost use Rattle.pagereader.specs.Runs.{IsRunOf};
+
+use disk::{Disk, DiskError, read_at};
+use pages::PAGE_SIZE;
+use std::alloc::{AllocError, Global};
+use std::marker::Model;
+
+/// The most pages that are read at once.
+const MOST_PAGES: u64 = 64;
+
+const BUFFER_SIZE: usize = 64 * PAGE_SIZE;
+
+/// Reads page `k` of the file. Nothing is changed.
+pub fn read_page<D: Disk>(disk: &mut D, k: u64, into: &mut [u8; PAGE_SIZE]) -> Result<(), DiskError>
+    requires fits { k < 2 ^ 52 }
+    requires within { D.honest disk.old → 4096 * (k + 1) ≤ length (D.content disk.old) }
+    ensures bytes { D.honest disk.old → OnOk result (into.new ≡ page (D.content disk.old) k) }
+    ensures same { D.honest disk.old → StaysSame D.content D.left D.moment D.left_since disk.old disk.new }
+    ensures counted { D.failures disk.new ≡ failures_after result (D.failures disk.old) }
+    ensures honest { D.honest disk.new ↔ D.honest disk.old }
+{
+    read_at(disk, k * PAGE_SIZE as u64, into)
+}
+
+// Reads so many pages from page `k` on into the front of the buffer.
+fn read_run<D: Disk>(disk: &mut D, k: u64, count: u64, buffer: &mut [u8]) -> Result<(), DiskError>
+    requires fits { k < 2 ^ 52 }
+    requires room { 4096 * count ≤ length buffer.old }
+    requires within { D.honest disk.old → 4096 * (k + count) ≤ length (D.content disk.old) }
+    ensures bytes { D.honest disk.old → OnOk result (take (4096 * count) buffer.new ≡ take (4096 * count) (drop (4096 * k) (D.content disk.old))) }
+    ensures same { D.honest disk.old → StaysSame D.content D.left D.moment D.left_since disk.old disk.new }
+    ensures counted { D.failures disk.new ≡ failures_after result (D.failures disk.old) }
+    ensures honest { D.honest disk.new ↔ D.honest disk.old }
+{
+    read_at(
+        disk,
+        k * PAGE_SIZE as u64,
+        &mut buffer[..count as usize * PAGE_SIZE],
+    )
+}
+
+/// Reads pages one after the other, up to 64 at a time, into one buffer of 256 KiB.
+#[derive(Drop)]
+pub struct PageReader {
+    buffer: Vec<u8>,
+    first: u64,
+    // How many pages the buffer holds, from that one on.
+    count: u64,
+}
+
+impl Model for PageReader {
+    ghost use Rattle.std.specs.Prelude.{◌≡◌, ◌*◌, ◌≤◌, take, length};
+    ghost use Rattle.pagereader.specs.Runs.{Run};
+
+    ghost Value = { Run };
+
+    ghost view = { λ r. record { first = r.first; bytes = take (4096 * r.count) r.buffer.items } };
+
+    ghost invariant = { λ r. (r.count ≤ 64) × (length r.buffer.items ≡ 64 * 4096) };
+}
+
+impl PageReader {
+    /// A reader that holds no page.
+    pub fn new(alloc: Global) -> Result<PageReader, AllocError>
+        ensures { IfOk result (λ reader. reader.bytes ≡ []) }
+    {
+        let buffer = vec![in alloc; 0; BUFFER_SIZE]?;
+        Ok(PageReader {
+            buffer,
+            first: 0,
+            count: 0,
+        })
+    }
+
+    // Whether page `k` is held.
+    fn holds(&self, k: u64) -> bool
+        ensures { IsTrue result ↔ ((self.now.first ≤ k) × (4096 * (k - self.now.first + 1) ≤ length self.now.bytes)) }
+    {
+        self.first <= k && k - self.first < self.count
+    }
+
+    // Copies page `k`, which is held.
+    fn copy(&self, k: u64, into: &mut [u8; PAGE_SIZE])
+        requires from { self.now.first ≤ k }
+        requires to { 4096 * (k - self.now.first + 1) ≤ length self.now.bytes }
+        ensures { into.new ≡ take 4096 (drop (4096 * (k - self.now.first)) self.now.bytes) }
+    {
+        let at = (k - self.first) as usize * PAGE_SIZE;
+        into.copy_from_slice(&self.buffer[at..at + PAGE_SIZE]);
+    }
+
+    // Holds page `k`: reads as many pages as the buffer takes of those from `k` on, without `end`, where it isn't held yet.
+    fn hold<D: Disk>(&mut self, disk: &mut D, k: u64, end: u64) -> Result<(), DiskError>
+        requires some { k < end }
+        requires fits { k < 2 ^ 52 }
+        requires within { D.honest disk.old → 4096 * end ≤ length (D.content disk.old) }
+        requires run { D.honest disk.old → IsRunOf (D.content disk.old) self.old }
+        ensures from { OnOk result (self.new.first ≤ k) }
+        ensures to { OnOk result (4096 * (k - self.new.first + 1) ≤ length self.new.bytes) }
+        ensures run { D.honest disk.old → IsRunOf (D.content disk.old) self.new }
+        ensures same { D.honest disk.old → StaysSame D.content D.left D.moment D.left_since disk.old disk.new }
+        ensures counted { D.failures disk.new ≡ failures_after result (D.failures disk.old) }
+        ensures honest { D.honest disk.new ↔ D.honest disk.old }
+    {
+        if self.holds(k) {
+            return Ok(());
+        }
+        self.fill(disk, k, end)
+    }
+
+    // Reads as many pages as the buffer takes of those from `k` on, without `end`.
+    fn fill<D: Disk>(&mut self, disk: &mut D, k: u64, end: u64) -> Result<(), DiskError>
+        requires some { k < end }
+        requires fits { k < 2 ^ 52 }
+        requires within { D.honest disk.old → 4096 * end ≤ length (D.content disk.old) }
+        ensures from { OnOk result (self.new.first ≤ k) }
+        ensures to { OnOk result (4096 * (k - self.new.first + 1) ≤ length self.new.bytes) }
+        ensures run { D.honest disk.old → IsRunOf (D.content disk.old) self.new }
+        ensures same { D.honest disk.old → StaysSame D.content D.left D.moment D.left_since disk.old disk.new }
+        ensures counted { D.failures disk.new ≡ failures_after result (D.failures disk.old) }
+        ensures honest { D.honest disk.new ↔ D.honest disk.old }
+    {
+        let count = (end - k).min(MOST_PAGES);
+        self.first = k;
+        self.count = 0;
+        read_run(disk, k, count, &mut self.buffer)?;
+        self.count = count;
+        Ok(())
+    }
+
+    /// Reads page `k` of the file, one of a run of pages that ends before page `end`. Pages behind it may be read ahead. Nothing is changed,
+    /// and the file is to stay as it is while one reader reads it.
+    pub fn read<D: Disk>(
+        &mut self,
+        disk: &mut D,
+        k: u64,
+        end: u64,
+        into: &mut [u8; PAGE_SIZE],
+    ) -> Result<(), DiskError>
+        requires some { k < end }
+        requires fits { k < 2 ^ 52 }
+        requires within { D.honest disk.old → 4096 * end ≤ length (D.content disk.old) }
+        requires run { D.honest disk.old → IsRunOf (D.content disk.old) self.old }
+        ensures bytes { D.honest disk.old → OnOk result (into.new ≡ page (D.content disk.old) k) }
+        ensures run { D.honest disk.old → IsRunOf (D.content disk.old) self.new }
+        ensures same { D.honest disk.old → StaysSame D.content D.left D.moment D.left_since disk.old disk.new }
+        ensures counted { D.failures disk.new ≡ failures_after result (D.failures disk.old) }
+        ensures honest { D.honest disk.new ↔ D.honest disk.old }
+    {
+        self.hold(disk, k, end)?;
+        self.copy(k, into);
+        Ok(())
+    }
+}

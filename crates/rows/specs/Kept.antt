@@ -1,0 +1,27 @@
+-- What a value that answers queries of a network keeps.
+use Rattle.std.specs.Prelude.{◌≡◌, ◌≤◌, ℕ, Some, MatchOption, ⊤}
+use Rattle.std.specs.Option.{ForSome}
+use Rattle.roadnet.specs.Net.{Net}
+use Rattle.roadnet.specs.Walks.{RowOf}
+use Rattle.snapshot.specs.Groups.{Groups, IsSnapshotOf}
+use Rattle.rows.specs.declared.searches.KeptRow.{KeptRow}
+use Rattle.rows.specs.declared.searches.Searches.{Searches}
+
+-- a width of a search's buckets
+abbrev pub IsWidth : ℕ → Type 0
+IsWidth delta = (1 ≤ delta) × (delta ≤ 2147483647)
+
+-- the width, if one was given, is one; the groups, if they were made, are those of the network's open arcs; the row that is kept, if
+-- any, is that of its source
+pub record AreOf (net : Net) (s : Searches) : Type 0 where
+  pub width : ForSome s.delta IsWidth
+  pub groups : MatchOption s.snapshot ⊤ (IsSnapshotOf net)
+  pub row : MatchOption s.kept ⊤ (λ row. RowOf net row.source row.distances)
+
+-- the groups were made
+abbrev pub HasGroupsOf : Net → Searches → Type 0
+HasGroupsOf net s = (groups : Groups) × (s.snapshot ≡ Some groups) × IsSnapshotOf net groups
+
+-- the row of this source is kept
+abbrev pub HasRowOf : Net → ℕ → Searches → Type 0
+HasRowOf net source s = (row : KeptRow) × (s.kept ≡ Some row) × (row.source ≡ source) × RowOf net row.source row.distances

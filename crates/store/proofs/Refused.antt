@@ -1,0 +1,23 @@
+-- What a refused opening says of the file.
+use Rattle.std.proofs.Common.{◌≡◌, ◌⊎◌, inl, inr, ⊎_elim, ℕ, ◌+◌, ◌-◌, ◌^◌, ◌<◌, ◌≤◌, List, length, Option, None, Some, Result, Ok, Err, true, false, refl, sym, ap, subst, ◌∙◌, arith}
+use Rattle.roadnet.specs.declared.refusals.Refusal.{Refusal}
+use Rattle.roadnet.specs.Net.{Net}
+use Rattle.storefile.specs.StoreFile.{page, Stored, StandsFor}
+use Rattle.storefile.specs.Judging.{opened, refusal_in, judged}
+use Rattle.storefile.proofs.Opening.{opened_whole}
+use Rattle.pagereader.specs.Outcomes.{MayRefuse}
+use Rattle.store.specs.Opening.{IsPassing, MayRefuseToOpen, StandsForSome}
+
+pub as_judged : (file : List ℕ) (refusal : Refusal) → MayRefuse (opened file) refusal → MayRefuseToOpen file refusal
+as_judged file refusal may = ⊎_elim (λ memory. inl (inl memory)) (λ other. ⊎_elim (λ device. inl (inr device)) (λ is. inr (ap refusal_in is)) other) may
+
+ok_not_err : {X : Type 0} (x : X) (d : Refusal) → ◌≡◌ {A = Result X Refusal} (Ok x) (Err d) → ⊥
+ok_not_err x d e = absurd cc
+
+both_ways : {X : Type 0} (r : Result X Refusal) (x : X) (d : Refusal) → r ≡ Ok x → r ≡ Err d → ⊥
+both_ways r x d p q = ok_not_err x d (sym p ∙ q)
+
+-- what stands for something is refused passingly alone
+pub passes : (file : List ℕ) (refusal : Refusal) → StandsForSome file → MayRefuse (opened file) refusal → IsPassing refusal
+passes file refusal stands may = ⊎_elim (λ memory. inl memory) (λ other. ⊎_elim (λ device. inr device) (λ (is : opened file ≡ Err refusal).
+    absurd (both_ways (opened file) (stands.3.0, stands.0) refusal (opened_whole (length file) (page file) stands.3.0 stands.0 stands.3.1.is stands.3.1.gives.network) is)) other) may

@@ -1,0 +1,12 @@
+use Rattle.storefile.proofs.Rests.{stored_as}
+use Rattle.store.proofs.Refused.{passes}
+use Rattle.store.proofs.opening.open.Goals as goal
+
+pub returns-in-Err-clause-opens : goal.returns-in-Err-clause-opens
+returns-in-Err-clause-opens g c h all =
+    passes (g.D.Disk.content c.args.disk) c.in-Err.refusal (all (g.D.Disk.content c.args.disk) (g.met.D.Disk.leaves_content c.args.disk h)) (c.in-Err.ensures.refused h)
+
+pub returns-clause-stands : goal.returns-clause-stands
+returns-clause-stands g c h =
+    let held = stored_as (g.D.Disk.content c.args.disk) (record { header = c.in-Ok.found.header; slot = c.in-Ok.found.slot; epoch = c.in-Ok.found.epoch; network = c.in-Ok.found.network; version = c.in-Ok.found.version; next = c.in-Ok.found.next_sequence; unchecked = c.in-Ok.found.unchecked }) (c.in-Ok.ensures.standing h) in
+    (held.stored, held.stands)

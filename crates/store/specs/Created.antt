@@ -1,0 +1,67 @@
+-- What the file of a new store holds, and how it is written.
+use Rattle.std.specs.Prelude.{◌≡◌, ℕ, zero, suc, ◌+◌, ◌*◌, List, [], ◌∷◌, ◌++◌, length, map}
+use Rattle.roadnet.specs.Net.{Net}
+use Rattle.pages.specs.declared.header.Header.{Header}
+use Rattle.pages.specs.declared.content.Slot.TheVariants.{A, B}
+use Rattle.pages.specs.Contents.{Head}
+use Rattle.pages.specs.Spelling.{page_of, header_page, arc_page, word_page, head_page, ends_of, word_of}
+use Rattle.pages.specs.Layout.{Part, Front, Arcs, HeadOf, Words, Journal, IsPart, page_number, page_count}
+use Rattle.storefile.specs.StoreFile.{page, part}
+use Rattle.disk.specs.Contents.{overwritten}
+
+-- the sizes of a store of this network
+abbrev pub header_of : Net → ℕ → Header
+header_of net journal_pages = record { nodes = net.nodes; arcs = length net.arcs; journal_pages = journal_pages }
+
+-- the head of slot A in a new store
+abbrev pub first_head : Net → Head
+first_head net = record { epoch = 1; version = 0; next_sequence = 0; landmarks = net.landmarks }
+
+-- a page of zeros
+abbrev pub blank_page : List ℕ
+blank_page = page_of []
+
+abbrev pub page_of_arcs : Net → ℕ → List ℕ
+page_of_arcs net i = arc_page (map ends_of (part 511 i net.arcs))
+
+abbrev pub page_of_words : Net → ℕ → List ℕ
+page_of_words net i = word_page (map word_of (part 1023 i net.arcs))
+
+-- the page of each part of a new store, its gate closed: slot A holds the network, slot B and the journal are blank
+abbrev pub new_page : Header → Net → Part → List ℕ
+new_page h net Front = header_page h
+new_page h net (Arcs i) = page_of_arcs net i
+new_page h net (HeadOf A) = head_page (first_head net)
+new_page h net (HeadOf B) = blank_page
+new_page h net (Words A i) = page_of_words net i
+new_page h net (Words B i) = blank_page
+new_page h net (Journal place) = blank_page
+
+-- the file has these pages and no others
+pub record IsLaidOut (file : List ℕ) (h : Header) (net : Net) : Type 0 where
+  pub size : length file ≡ 4096 * page_count h
+  pub each : (part : Part) → IsPart h part → page file (page_number h part) ≡ new_page h net part
+
+-- the bytes of the first pages, so many, one behind the other
+unfoldable pub first_pages : (ℕ → List ℕ) → ℕ → List ℕ
+first_pages pages zero = []
+first_pages pages (suc n) = first_pages pages n ++ pages n
+
+-- the file with the gate of this page open
+abbrev pub with_gate : List ℕ → ℕ → List ℕ
+with_gate file k = overwritten file (4096 * k + 4095) (165 ∷ [])
+
+-- ---- pages that are written one behind the other
+
+-- pages that wait to be written, and the number of the page that comes next
+pub record Waiting : Type 0 where
+  pub next : ℕ
+  pub bytes : List ℕ
+
+-- the file as far as it goes, the pages that wait among it
+abbrev pub so_far : List ℕ → Waiting → List ℕ
+so_far content waiting = content ++ waiting.bytes
+
+-- the next page comes behind all these
+abbrev pub IsInStep : List ℕ → Waiting → Type 0
+IsInStep content waiting = length content + length waiting.bytes ≡ 4096 * waiting.next

@@ -1,0 +1,70 @@
+-- The parts of opening a file.
+use Rattle.std.specs.Prelude.{◌≡◌, ◌⊎◌, Some, ℕ, ◌+◌, ◌*◌, ◌^◌, nat_le, ◌==◌, List, length, Result, Ok, Err}
+use Rattle.storefile.specs.StoreFile.{joined, StandsFor}
+use Rattle.roadnet.specs.declared.commands.Command.{Command}
+use Rattle.roadnet.specs.declared.refusals.Refusal.{Refusal}
+use Rattle.roadnet.specs.declared.refusals.Refusal.TheVariants.{NotAStore, WrongFormat, Damaged, OutOfMemory, Device}
+use Rattle.roadnet.specs.Net.{Net}
+use Rattle.roadnet.specs.Step.{after}
+use Rattle.pages.specs.declared.header.Header.{Header}
+use Rattle.pages.specs.declared.content.Slot.{Slot}
+use Rattle.pages.specs.Contents.{Head}
+use Rattle.pages.specs.Layout.{page_count}
+use Rattle.storefile.specs.Judging.{◌>>=◌, unless_so, spelled_at, begins_as_store, format_of, header_in, entry_in, ends_from, current_slot, judged}
+use Rattle.checkpoint.specs.Loading.{loaded_from}
+
+-- the header of a file of this size, whose first page is this
+abbrev pub header_from : ℕ → List ℕ → Result Header Refusal
+header_from size page = do
+  _ ← unless_so (begins_as_store size page) NotAStore
+  _ ← unless_so (format_of page == 1) WrongFormat
+  h ← spelled_at 0 (header_in page)
+  _ ← unless_so (size == 4096 * page_count h) (Damaged 0)
+  Ok h
+
+-- what the current slot holds
+pub record Current : Type 0 where
+  pub slot : Slot
+  pub head : Head
+  pub network : Net
+
+-- the ends of the arcs, then the current slot
+abbrev pub current_from : (ℕ → List ℕ) → Header → Result Current Refusal
+current_from pages h = do
+  ends ← ends_from pages h
+  slot ← current_slot pages h
+  loaded ← loaded_from pages h slot ends
+  Ok (record { slot = slot; head = loaded.0; network = loaded.1 })
+
+-- the commands of the journal page of this number, and the network after them; that before is net, at version v
+abbrev pub entry_from : ℕ → List ℕ → ℕ → Net → Result (List Command × Net) Refusal
+entry_from k page v net = do
+  e ← spelled_at k (entry_in page)
+  _ ← unless_so (e.first_number == v + 1) (Damaged k)
+  _ ← unless_so (nat_le (v + length e.commands) (2 ^ 48)) (Damaged k)
+  next ← spelled_at k (after net e.commands)
+  Ok (e.commands, next)
+
+-- the commands of a page, and the network and version after them
+pub record IsCarriedOut (said : Result (List Command × Net) Refusal) (old : ℕ) (net : Net) (new : ℕ) : Type 0 where
+  pub commands : List Command
+  pub said_is : said ≡ Ok (commands, net)
+  pub version_is : new ≡ old + length commands
+
+-- the commands of so many pages, page by page, and the network and version after them
+pub record AreCarriedOut (said : Result (List (List Command) × Net) Refusal) (count old : ℕ) (net : Net) (new : ℕ) : Type 0 where
+  pub commands : List (List Command)
+  pub said_is : said ≡ Ok (commands, net)
+  pub count_is : length commands ≡ count
+  pub version_is : new ≡ old + length (joined commands)
+
+-- a refusal that says nothing of the file: no memory was given, or the disk failed
+abbrev pub IsPassing : Refusal → Type 0
+IsPassing refusal = (refusal ≡ OutOfMemory) ⊎ (refusal ≡ Device)
+
+-- with what opening this file may be refused: as the format says, or passingly
+abbrev pub MayRefuseToOpen : List ℕ → Refusal → Type 0
+MayRefuseToOpen file refusal = IsPassing refusal ⊎ (judged file ≡ Some refusal)
+
+abbrev pub StandsForSome : List ℕ → Type 0
+StandsForSome file = (net : Net) × (version : ℕ) × (next : ℕ) × StandsFor file net version next

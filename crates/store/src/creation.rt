@@ -1,0 +1,196 @@
+// Making a store on an empty disk.
+ghost use Rattle.std.specs.Prelude.{◌≡◌, ◌≢◌, ◌⊎◌, ◌+◌, ◌*◌, ◌≤◌, ◌<◌, ◌^◌, ◌↔◌, false, [], ◌∷◌, ◌++◌, length, All, IfOk, OnOk, IfErr, IsErr};
+ghost use Rattle.roadnet.specs.declared.refusals.Refusal.TheVariants.{OutOfMemory as out_of_memory, Device as device, NotEmpty as not_empty};
+ghost use Rattle.disk.specs.Contents.{Only, Rose, failures_after};
+ghost use Rattle.disk.specs.Moments.{StaysSame};
+ghost use Rattle.pages.specs.declared.content.Slot.TheVariants.{A as slot_a};
+ghost use Rattle.pages.specs.Spelling.{IsHeader};
+ghost use Rattle.pages.specs.Layout.{HeadOf, arc_pages, word_pages, page_number, page_count};
+ghost use Rattle.storefile.specs.StoreFile.{part, StandsTidyFor};
+ghost use Rattle.storefile.specs.Standing.{IsAtRest, IsTidyAt};
+ghost use Rattle.store.specs.Created.{header_of, blank_page, page_of_arcs, page_of_words, new_page, IsLaidOut, first_pages, with_gate, so_far, IsInStep};
+
+use crate::batch::Batch;
+use crate::store::Store;
+use disk::{Disk, DiskError, length_of, open_gate, settle};
+use pages::{
+    ARCS_A_PAGE, GATE_AT, Header, PAGE_SIZE, Slot, WORDS_A_PAGE, encode_arc_page, encode_header,
+    encode_slot_head, encode_word_page,
+};
+use roadnet::{Network, Refusal, RoadArc};
+use std::alloc::Global;
+
+/// The arcs of the `i`-th page, where a page has so many places.
+fn part_of(arcs: &[RoadArc], i: u64, places: usize) -> &[RoadArc]
+    requires { places ≤ 1023 }
+    ensures { result.now ≡ part places i arcs.now }
+{
+    let from = (i as usize).saturating_mul(places).min(arcs.len());
+    let rest = &arcs[from..];
+    &rest[..places.min(rest.len())]
+}
+
+fn put_arcs<D: Disk>(
+    disk: &mut D,
+    batch: &mut Batch,
+    header: &Header,
+    network: &Network,
+) -> Result<(), DiskError>
+    requires few { batch.old.next + arc_pages header.now ≤ 2 ^ 32 }
+    requires in_step { D.honest disk.old → IsInStep (D.content disk.old) batch.old }
+    ensures written { D.honest disk.old → OnOk result (so_far (D.content disk.new) batch.new ≡ so_far (D.content disk.old) batch.old ++ first_pages (page_of_arcs network.now) (arc_pages header.now)) }
+    ensures in_step { D.honest disk.new → OnOk result (IsInStep (D.content disk.new) batch.new) }
+    ensures next { OnOk result (batch.new.next ≡ batch.old.next + arc_pages header.now) }
+    ensures counted { D.failures disk.new ≡ failures_after result (D.failures disk.old) }
+    ensures honest { D.honest disk.new ↔ D.honest disk.old }
+{
+    for i in 0..header.arc_pages() {
+        let page = encode_arc_page(part_of(network.arcs(), i, ARCS_A_PAGE));
+        batch.put(disk, &page)?;
+    }
+    Ok(())
+}
+
+fn put_words<D: Disk>(
+    disk: &mut D,
+    batch: &mut Batch,
+    header: &Header,
+    network: &Network,
+) -> Result<(), DiskError>
+    requires few { batch.old.next + word_pages header.now ≤ 2 ^ 32 }
+    requires in_step { D.honest disk.old → IsInStep (D.content disk.old) batch.old }
+    ensures written { D.honest disk.old → OnOk result (so_far (D.content disk.new) batch.new ≡ so_far (D.content disk.old) batch.old ++ first_pages (page_of_words network.now) (word_pages header.now)) }
+    ensures in_step { D.honest disk.new → OnOk result (IsInStep (D.content disk.new) batch.new) }
+    ensures next { OnOk result (batch.new.next ≡ batch.old.next + word_pages header.now) }
+    ensures counted { D.failures disk.new ≡ failures_after result (D.failures disk.old) }
+    ensures honest { D.honest disk.new ↔ D.honest disk.old }
+{
+    for i in 0..header.word_pages() {
+        let page = encode_word_page(part_of(network.arcs(), i, WORDS_A_PAGE));
+        batch.put(disk, &page)?;
+    }
+    Ok(())
+}
+
+fn put_blank<D: Disk>(disk: &mut D, batch: &mut Batch, count: u64) -> Result<(), DiskError>
+    requires few { batch.old.next + count ≤ 2 ^ 32 }
+    requires in_step { D.honest disk.old → IsInStep (D.content disk.old) batch.old }
+    ensures written { D.honest disk.old → OnOk result (so_far (D.content disk.new) batch.new ≡ so_far (D.content disk.old) batch.old ++ first_pages (λ _. blank_page) count) }
+    ensures in_step { D.honest disk.new → OnOk result (IsInStep (D.content disk.new) batch.new) }
+    ensures next { OnOk result (batch.new.next ≡ batch.old.next + count) }
+    ensures counted { D.failures disk.new ≡ failures_after result (D.failures disk.old) }
+    ensures honest { D.honest disk.new ↔ D.honest disk.old }
+{
+    for _ in 0..count {
+        batch.put(disk, &[0; PAGE_SIZE])?;
+    }
+    Ok(())
+}
+
+/// Writes all pages of a new store to an empty disk, their gates closed.
+fn lay_out<D: Disk>(
+    disk: &mut D,
+    batch: &mut Batch,
+    header: &Header,
+    network: &Network,
+) -> Result<(), DiskError>
+    requires header { IsHeader header.now }
+    requires start { batch.old ≡ record { next = 0; bytes = [] } }
+    requires empty { D.honest disk.old → D.content disk.old ≡ [] }
+    ensures laid_out { D.honest disk.old → OnOk result (IsLaidOut (D.content disk.new) header.now network.now) }
+    ensures counted { D.failures disk.new ≡ failures_after result (D.failures disk.old) }
+    ensures honest { D.honest disk.new ↔ D.honest disk.old }
+{
+    batch.put(disk, &encode_header(header))?;
+    put_arcs(disk, batch, header, network)?;
+    batch.put(disk, &encode_slot_head(1, 0, 0, network.landmarks()))?;
+    put_words(disk, batch, header, network)?;
+    put_blank(
+        disk,
+        batch,
+        header.word_pages() + 1 + u64::from(header.journal_pages),
+    )?;
+    batch.flush(disk)
+}
+
+/// Opens the gate of slot A and then that of the header, with a sync before and behind each.
+fn open_gates<D: Disk>(disk: &mut D, header: &Header) -> Result<(), DiskError>
+    requires header { IsHeader header.now }
+    requires size { D.honest disk.old → length (D.content disk.old) ≡ 4096 * page_count header.now }
+    ensures opened { D.honest disk.old → OnOk result (D.content disk.new ≡ with_gate (with_gate (D.content disk.old) (page_number header.now (HeadOf slot_a))) 0) }
+    ensures at_rest { D.honest disk.old → OnOk result (Only (D.content disk.new) (D.left disk.new)) }
+    ensures counted { D.failures disk.new ≡ failures_after result (D.failures disk.old) }
+    ensures honest { D.honest disk.new ↔ D.honest disk.old }
+{
+    settle(disk)?;
+    let head = header.head_page(Slot::A);
+    open_gate(disk, PAGE_SIZE as u64 * head + GATE_AT as u64)?;
+    open_gate(disk, GATE_AT as u64)
+}
+
+/// Makes a store of the network with so many journal pages, 1 to 65,536, at version 0.
+///
+/// It answers 46 where the disk is not empty, 43 where it fails, and 11. The disk is handed back then, at 46 and 11 with its content as it
+/// was. It takes linear time, and memory for a copy of the network and 64 pages.
+pub fn create<D: Disk>(
+    alloc: Global,
+    disk: D,
+    network: &Network,
+    journal_pages: u32,
+) -> Result<Store<D>, (Refusal, D)>
+    requires some { 1 ≤ journal_pages }
+    requires few { journal_pages ≤ 65536 }
+    ensures network { IfOk result (λ store. store.network ≡ network.now) }
+    ensures version { IfOk result (λ store. store.version ≡ 0) }
+    ensures journal_pages { IfOk result (λ store. store.header.journal_pages ≡ journal_pages) }
+    ensures unchecked { IfOk result (λ store. store.unchecked ≡ 0) }
+    ensures works { IfOk result (λ store. store.broken ≡ false) }
+    // The content stands for the network at version 0, is tidy, and is all that a stop may leave.
+    ensures stands { D.honest disk → IfOk result (λ store. StandsTidyFor (D.content store.disk) network.now 0) }
+    ensures only { D.honest disk → IfOk result (λ store. Only (D.content store.disk) (D.left store.disk)) }
+    ensures tidy { D.honest disk → IfOk result (λ store. IsTidyAt (D.content store.disk) store.header store.next_sequence) }
+    ensures empty { D.honest disk → IfOk result (λ store. D.content disk ≡ []) }
+    ensures refused { IfErr result (λ refused. (refused.0 ≡ not_empty) ⊎ ((refused.0 ≡ device) ⊎ (refused.0 ≡ out_of_memory))) }
+    ensures not_empty { D.honest disk → IfErr result (λ refused. refused.0 ≡ not_empty → D.content disk ≢ []) }
+    ensures order { D.honest disk → IfErr result (λ refused. refused.0 ≡ out_of_memory → D.content disk ≡ []) }
+    ensures failed { IfErr result (λ refused. refused.0 ≡ device → Rose (D.failures disk) (D.failures refused.1)) }
+    ensures same { D.honest disk → IfErr result (λ refused. refused.0 ≢ device → StaysSame D.content D.left D.moment D.left_since disk refused.1) }
+    ensures honest { (IfOk result (λ store. D.honest store.disk ↔ D.honest disk)) × (IfErr result (λ refused. D.honest refused.1 ↔ D.honest disk)) }
+{
+    let mut disk = disk;
+    let Ok(length) = length_of(&mut disk) else {
+        return Err((Refusal::Device, disk));
+    };
+    if length != 0 {
+        return Err((Refusal::NotEmpty, disk));
+    }
+    let Ok(copy) = network.copy() else {
+        return Err((Refusal::OutOfMemory, disk));
+    };
+    let Ok(mut batch) = Batch::new(alloc) else {
+        return Err((Refusal::OutOfMemory, disk));
+    };
+    let header = Header {
+        nodes: copy.nodes(),
+        arcs: copy.arcs().len() as u32,
+        journal_pages,
+    };
+    let Ok(()) = lay_out(&mut disk, &mut batch, &header, &copy) else {
+        return Err((Refusal::Device, disk));
+    };
+    let Ok(()) = open_gates(&mut disk, &header) else {
+        return Err((Refusal::Device, disk));
+    };
+    Ok(Store {
+        alloc,
+        disk,
+        header,
+        network: copy,
+        version: 0,
+        slot: Slot::A,
+        epoch: 1,
+        next_sequence: 0,
+        unchecked: 0,
+        broken: false,
+    })
+}

@@ -1,0 +1,18 @@
+//! A store: a road network that is kept on a disk.
+#![tactic(auto)]
+
+mod batch;
+mod creation;
+mod header;
+mod opening;
+mod replay;
+mod store;
+
+pub use creation::create;
+pub use opening::open;
+pub use store::Store;
+
+#[cfg(test)]
+mod creation_tests;
+#[cfg(test)]
+mod tests;

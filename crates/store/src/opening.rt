@@ -1,0 +1,232 @@
+ghost use Rattle.std.specs.Prelude.{◌≡◌, ◌+◌, ◌*◌, ◌↔◌, false, ℕ, List, Ok, Some, length, IfOk, IfErr, OnOk};
+ghost use Rattle.roadnet.specs.declared.refusals.Refusal.TheVariants.{Device as device};
+ghost use Rattle.disk.specs.Contents.{Only, Rose};
+ghost use Rattle.disk.specs.Moments.{StaysSame};
+ghost use Rattle.pages.specs.Spelling.{IsHeader, IsHead};
+ghost use Rattle.pages.specs.Layout.{page_count};
+ghost use Rattle.storefile.specs.StoreFile.{page, StandsFor};
+ghost use Rattle.storefile.specs.Judging.{journal_from, opened};
+ghost use Rattle.storefile.specs.Standing.{HasFitNumbers, standing_of};
+ghost use Rattle.pagereader.specs.Outcomes.{failures_told, MayRefuse};
+ghost use Rattle.checkpoint.specs.Loading.{head_of};
+ghost use Rattle.store.specs.Opening.{header_from, current_from, AreCarriedOut, IsPassing, MayRefuseToOpen, StandsForSome};
+
+use crate::header::read_header;
+use crate::replay::replay;
+use crate::store::Store;
+use checkpoint::{Checkpoint, choose, load, read_arcs};
+use disk::{Disk, settle};
+use journal::Ring;
+use pagereader::PageReader;
+use pages::{Header, Slot};
+use roadnet::{Network, Refusal};
+use std::alloc::Global;
+
+/// What opening finds on a disk: the fields of a store.
+#[derive(Debug, Drop)]
+pub struct Found {
+    pub header: Header,
+    pub slot: Slot,
+    pub epoch: u64,
+    pub network: Network,
+    pub version: u64,
+    pub next_sequence: u64,
+    pub unchecked: u32,
+}
+
+// The current slot and what it holds: the arc pages, the choice of the slot, its head and its word pages are judged in this order.
+fn read_current<D: Disk>(
+    alloc: Global,
+    disk: &mut D,
+    header: &Header,
+) -> Result<(Slot, Checkpoint), Refusal>
+    requires header { IsHeader header.now }
+    requires whole { D.honest disk.old → length (D.content disk.old) ≡ 4096 * page_count header.now }
+    ensures current { D.honest disk.old → IfOk result (λ x. current_from (page (D.content disk.old)) header.now ≡ Ok (record { slot = x.0; head = head_of x.1; network = x.1.network })) }
+    ensures fits { IfOk result (λ x. IsHead header.now.nodes (head_of x.1)) }
+    ensures refused { D.honest disk.old → IfErr result (λ refusal. MayRefuse (current_from (page (D.content disk.old)) header.now) refusal) }
+    ensures same { D.honest disk.old → StaysSame D.content D.left D.moment D.left_since disk.old disk.new }
+    ensures counted { D.failures disk.new ≡ failures_told result (D.failures disk.old) }
+    ensures honest { D.honest disk.new ↔ D.honest disk.old }
+{
+    let Ok(mut reader) = PageReader::new(alloc) else {
+        return Err(Refusal::OutOfMemory);
+    };
+    let arcs = match read_arcs(alloc, disk, header, &mut reader) {
+        Ok(arcs) => arcs,
+        Err(refusal) => return Err(refusal),
+    };
+    let slot = match choose(disk, header) {
+        Ok(slot) => slot,
+        Err(refusal) => return Err(refusal),
+    };
+    match load(alloc, disk, header, slot, &mut reader, arcs) {
+        Ok(checkpoint) => Ok((slot, checkpoint)),
+        Err(refusal) => Err(refusal),
+    }
+}
+
+// The journal behind a checkpoint: which of its pages are unchecked, and then what they hold.
+fn read_journal<D: Disk>(
+    alloc: Global,
+    disk: &mut D,
+    header: &Header,
+    slot: Slot,
+    checkpoint: Checkpoint,
+) -> Result<Found, Refusal>
+    requires header { IsHeader header.now }
+    requires fits { IsHead header.now.nodes (head_of checkpoint) }
+    requires whole { D.honest disk.old → length (D.content disk.old) ≡ 4096 * page_count header.now }
+    ensures carried_out { D.honest disk.old → IfOk result (λ found. AreCarriedOut (journal_from (page (D.content disk.old)) header.now header.now.journal_pages checkpoint.next_sequence checkpoint.version checkpoint.network) found.unchecked checkpoint.version found.network found.version) }
+    ensures header { IfOk result (λ found. found.header ≡ header.now) }
+    ensures slot { IfOk result (λ found. found.slot ≡ slot) }
+    ensures epoch { IfOk result (λ found. found.epoch ≡ checkpoint.epoch) }
+    ensures next { IfOk result (λ found. found.next_sequence ≡ checkpoint.next_sequence + found.unchecked) }
+    ensures numbers { IfOk result (λ found. HasFitNumbers found.header found.epoch found.version found.next_sequence found.unchecked) }
+    ensures refused { D.honest disk.old → IfErr result (λ refusal. MayRefuse (journal_from (page (D.content disk.old)) header.now header.now.journal_pages checkpoint.next_sequence checkpoint.version checkpoint.network) refusal) }
+    ensures same { D.honest disk.old → StaysSame D.content D.left D.moment D.left_since disk.old disk.new }
+    ensures counted { D.failures disk.new ≡ failures_told result (D.failures disk.old) }
+    ensures honest { D.honest disk.new ↔ D.honest disk.old }
+{
+    let Checkpoint {
+        epoch,
+        version,
+        next_sequence,
+        network,
+    } = checkpoint;
+    let Ok(ring) = Ring::collect(disk, header, next_sequence) else {
+        return Err(Refusal::Device);
+    };
+    let unchecked = ring.unchecked();
+    let mut network = network;
+    let version = match replay(
+        alloc,
+        disk,
+        header,
+        next_sequence,
+        unchecked,
+        version,
+        &mut network,
+    ) {
+        Ok(version) => version,
+        Err(refusal) => return Err(refusal),
+    };
+    Ok(Found {
+        header: *header,
+        slot,
+        epoch,
+        network,
+        version,
+        next_sequence: ring.next_sequence(),
+        unchecked,
+    })
+}
+
+// The same of a file with this header.
+fn read_behind<D: Disk>(alloc: Global, disk: &mut D, header: &Header) -> Result<Found, Refusal>
+    requires header { IsHeader header.now }
+    requires spelled { D.honest disk.old → header_from (length (D.content disk.old)) (page (D.content disk.old) 0) ≡ Ok header.now }
+    requires whole { D.honest disk.old → length (D.content disk.old) ≡ 4096 * page_count header.now }
+    ensures standing { D.honest disk.old → IfOk result (λ found. standing_of (D.content disk.old) ≡ Some (record { header = found.header; slot = found.slot; epoch = found.epoch; network = found.network; version = found.version; next = found.next_sequence; unchecked = found.unchecked })) }
+    ensures numbers { IfOk result (λ found. HasFitNumbers found.header found.epoch found.version found.next_sequence found.unchecked) }
+    ensures refused { D.honest disk.old → IfErr result (λ refusal. MayRefuse (opened (D.content disk.old)) refusal) }
+    ensures same { D.honest disk.old → StaysSame D.content D.left D.moment D.left_since disk.old disk.new }
+    ensures counted { D.failures disk.new ≡ failures_told result (D.failures disk.old) }
+    ensures honest { D.honest disk.new ↔ D.honest disk.old }
+{
+    let (slot, checkpoint) = match read_current(alloc, disk, header) {
+        Ok(current) => current,
+        Err(refusal) => return Err(refusal),
+    };
+    match read_journal(alloc, disk, header, slot, checkpoint) {
+        Ok(found) => Ok(found),
+        Err(refusal) => Err(refusal),
+    }
+}
+
+// The same of a file that is synced.
+fn read_synced<D: Disk>(alloc: Global, disk: &mut D) -> Result<Found, Refusal>
+    ensures standing { D.honest disk.old → IfOk result (λ found. standing_of (D.content disk.old) ≡ Some (record { header = found.header; slot = found.slot; epoch = found.epoch; network = found.network; version = found.version; next = found.next_sequence; unchecked = found.unchecked })) }
+    ensures numbers { IfOk result (λ found. HasFitNumbers found.header found.epoch found.version found.next_sequence found.unchecked) }
+    ensures refused { D.honest disk.old → IfErr result (λ refusal. MayRefuse (opened (D.content disk.old)) refusal) }
+    ensures same { D.honest disk.old → StaysSame D.content D.left D.moment D.left_since disk.old disk.new }
+    ensures counted { D.failures disk.new ≡ failures_told result (D.failures disk.old) }
+    ensures honest { D.honest disk.new ↔ D.honest disk.old }
+{
+    let header = match read_header(disk) {
+        Ok(header) => header,
+        Err(refusal) => return Err(refusal),
+    };
+    match read_behind(alloc, disk, &header) {
+        Ok(found) => Ok(found),
+        Err(refusal) => Err(refusal),
+    }
+}
+
+/// Syncs, and then judges and reads the whole file, in the order of the format. Nothing is written. The first refusal ends it: no store (40),
+/// another format (41), a damaged page (42); the disk failed (43) or no memory was given (11) may come at each step.
+pub fn find<D: Disk>(alloc: Global, disk: &mut D) -> Result<Found, Refusal>
+    ensures standing { D.honest disk.old → IfOk result (λ found. standing_of (D.content disk.old) ≡ Some (record { header = found.header; slot = found.slot; epoch = found.epoch; network = found.network; version = found.version; next = found.next_sequence; unchecked = found.unchecked })) }
+    ensures numbers { IfOk result (λ found. HasFitNumbers found.header found.epoch found.version found.next_sequence found.unchecked) }
+    ensures refused { D.honest disk.old → IfErr result (λ refusal. MayRefuse (opened (D.content disk.old)) refusal) }
+    ensures at_rest { D.honest disk.old → OnOk result (Only (D.content disk.new) (D.left disk.new)) }
+    ensures same { D.honest disk.old → StaysSame D.content D.left D.moment D.left_since disk.old disk.new }
+    ensures counted { D.failures disk.new ≡ failures_told result (D.failures disk.old) }
+    ensures honest { D.honest disk.new ↔ D.honest disk.old }
+{
+    let Ok(()) = settle(disk) else {
+        return Err(Refusal::Device);
+    };
+    match read_synced(alloc, disk) {
+        Ok(found) => Ok(found),
+        Err(refusal) => Err(refusal),
+    }
+}
+
+/// Opens the store on a disk. It syncs, and then judges and reads the whole file in the order of the format; nothing is written. The first
+/// refusal ends it, and hands the disk back: no store (40), another format (41), a page that is damaged (42), and at each step that the
+/// disk failed (43) or that no memory was given (11).
+///
+/// It takes a pass over the arc pages and the current slot, the network, and 256 KiB for pages.
+pub fn open<D: Disk>(alloc: Global, disk: D) -> Result<Store<D>, (Refusal, D)>
+    // The content stands for what the store tells, and is all that a stop may leave.
+    ensures stands { D.honest disk → IfOk result (λ store. StandsFor (D.content disk) store.network store.version store.next_sequence) }
+    ensures standing { D.honest disk → IfOk result (λ store. standing_of (D.content disk) ≡ Some (record { header = store.header; slot = store.slot; epoch = store.epoch; network = store.network; version = store.version; next = store.next_sequence; unchecked = store.unchecked })) }
+    ensures at_rest { D.honest disk → IfOk result (λ store. Only (D.content store.disk) (D.left store.disk)) }
+    ensures works { IfOk result (λ store. store.broken ≡ false) }
+    // Nothing is written, and what a stop may leave is no more than it was.
+    ensures same { D.honest disk → IfOk result (λ store. StaysSame D.content D.left D.moment D.left_since disk store.disk) }
+    ensures handed_back { D.honest disk → IfErr result (λ refused. StaysSame D.content D.left D.moment D.left_since disk refused.1) }
+    // It refuses what the format refuses. Other refusals come for want of memory, or where the disk failed in this call.
+    ensures judged { D.honest disk → IfErr result (λ refused. MayRefuseToOpen (D.content disk) refused.0) }
+    ensures failed { IfErr result (λ refused. refused.0 ≡ device → Rose (D.failures disk) (D.failures refused.1)) }
+    ensures opens { D.honest disk → ((c : List ℕ) → D.left disk c → StandsForSome c) → IfErr result (λ refused. IsPassing refused.0) }
+    ensures honest { (IfOk result (λ store. D.honest store.disk ↔ D.honest disk)) × (IfErr result (λ refused. D.honest refused.1 ↔ D.honest disk)) }
+{
+    let mut disk = disk;
+    let found = match find(alloc, &mut disk) {
+        Ok(found) => found,
+        Err(refusal) => return Err((refusal, disk)),
+    };
+    let Found {
+        header,
+        slot,
+        epoch,
+        network,
+        version,
+        next_sequence,
+        unchecked,
+    } = found;
+    Ok(Store {
+        alloc,
+        disk,
+        header,
+        network,
+        version,
+        slot,
+        epoch,
+        next_sequence,
+        unchecked,
+        broken: false,
+    })
+}

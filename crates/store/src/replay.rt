@@ -1,0 +1,150 @@
+ghost use Rattle.std.specs.Prelude.{◌≡◌, ◌+◌, ◌*◌, ◌≤◌, ◌^◌, ◌↔◌, true, false, None, Some, length, IfOk, IfErr};
+ghost use Rattle.disk.specs.Moments.{StaysSame};
+ghost use Rattle.roadnet.specs.Step.{step, after};
+ghost use Rattle.pages.specs.Spelling.{IsHeader};
+ghost use Rattle.pages.specs.Layout.{page_count};
+ghost use Rattle.storefile.specs.StoreFile.{page, journal_page_at};
+ghost use Rattle.storefile.specs.Judging.{journal_from};
+ghost use Rattle.journal.specs.Places.{IsLongest};
+ghost use Rattle.pagereader.specs.Outcomes.{failures_told, IsQuiet, MayLack, MayRefuse};
+ghost use Rattle.store.specs.Opening.{entry_from, IsCarriedOut, AreCarriedOut};
+
+use disk::Disk;
+use journal::Ring;
+use pagereader::read_page;
+use pages::{Header, PAGE_SIZE, decode_journal_page};
+use roadnet::{Command, Network, OutOfMemory, Refusal};
+use std::alloc::Global;
+
+const MOST_VERSIONS: u64 = 1 << 48;
+
+// Carries the command out where it is admitted. Answers whether it is.
+fn carry_out(network: &mut Network, command: Command) -> Result<bool, OutOfMemory>
+    ensures carried { IfOk result (λ carried. carried ≡ true → step network.old command ≡ Some network.new) }
+    ensures refused { IfOk result (λ carried. carried ≡ false → step network.old command ≡ None) }
+{
+    let Ok(()) = network.admit(&command) else {
+        return Ok(false);
+    };
+    let Ok(()) = network.apply(command) else {
+        return Err(OutOfMemory);
+    };
+    Ok(true)
+}
+
+// Carries the commands out, each where it is admitted in its turn. Answers whether all were.
+fn apply_all(network: &mut Network, commands: &[Command]) -> Result<bool, OutOfMemory>
+    ensures all { IfOk result (λ all. all ≡ true → after network.old commands.now ≡ Some network.new) }
+    ensures one_refused { IfOk result (λ all. all ≡ false → after network.old commands.now ≡ None) }
+{
+    for &command in commands {
+        let Ok(carried) = carry_out(network, command) else {
+            return Err(OutOfMemory);
+        };
+        if !carried {
+            return Ok(false);
+        }
+    }
+    Ok(true)
+}
+
+// Judges the journal page of this number, and carries its commands out. Answers the version after them.
+fn judge_page(
+    alloc: Global,
+    page: &[u8; PAGE_SIZE],
+    number: u64,
+    version: u64,
+    network: &mut Network,
+) -> Result<u64, Refusal>
+    requires { version ≤ 2 ^ 48 }
+    ensures carried_out { IfOk result (λ new. IsCarriedOut (entry_from number page.now version network.old) version network.new new) }
+    ensures fits { IfOk result (λ new. new ≤ 2 ^ 48) }
+    ensures later { IfOk result (λ new. version + 1 ≤ new) }
+    ensures refused { IfErr result (λ refusal. MayLack (entry_from number page.now version network.old) refusal) }
+    ensures quiet { IsQuiet result }
+{
+    let damaged = Refusal::Damaged { page: number };
+    let Ok(found) = decode_journal_page(alloc, page) else {
+        return Err(Refusal::OutOfMemory);
+    };
+    let Some(entry) = found else {
+        return Err(damaged);
+    };
+    if entry.first_number() != version + 1 {
+        return Err(damaged);
+    }
+    let new = version + entry.commands().len() as u64;
+    if new > MOST_VERSIONS {
+        return Err(damaged);
+    }
+    let Ok(all) = apply_all(network, entry.commands()) else {
+        return Err(Refusal::OutOfMemory);
+    };
+    if !all {
+        return Err(damaged);
+    }
+    Ok(new)
+}
+
+// The same of the page on the disk that has this sequence.
+fn replay_page<D: Disk>(
+    alloc: Global,
+    disk: &mut D,
+    header: &Header,
+    sequence: u64,
+    version: u64,
+    network: &mut Network,
+) -> Result<u64, Refusal>
+    requires header { IsHeader header.now }
+    requires version { version ≤ 2 ^ 48 }
+    requires whole { D.honest disk.old → length (D.content disk.old) ≡ 4096 * page_count header.now }
+    ensures carried_out { D.honest disk.old → IfOk result (λ new. IsCarriedOut (entry_from (journal_page_at header.now sequence) (page (D.content disk.old) (journal_page_at header.now sequence)) version network.old) version network.new new) }
+    ensures fits { IfOk result (λ new. new ≤ 2 ^ 48) }
+    ensures later { IfOk result (λ new. version + 1 ≤ new) }
+    ensures refused { D.honest disk.old → IfErr result (λ refusal. MayRefuse (entry_from (journal_page_at header.now sequence) (page (D.content disk.old) (journal_page_at header.now sequence)) version network.old) refusal) }
+    ensures same { D.honest disk.old → StaysSame D.content D.left D.moment D.left_since disk.old disk.new }
+    ensures counted { D.failures disk.new ≡ failures_told result (D.failures disk.old) }
+    ensures honest { D.honest disk.new ↔ D.honest disk.old }
+{
+    let number = header.journal_page(sequence);
+    let mut page = [0; PAGE_SIZE];
+    let Ok(()) = read_page(disk, number, &mut page) else {
+        return Err(Refusal::Device);
+    };
+    judge_page(alloc, &page, number, version, network)
+}
+
+/// Carries out the commands of the unchecked pages, page by page. Answers the version after them. The first page that isn't spelled rightly,
+/// whose first number isn't the next, that passes version 2^48 or of which a command isn't admitted in its turn, is damaged. On the disk
+/// nothing is changed.
+pub fn replay<D: Disk>(
+    alloc: Global,
+    disk: &mut D,
+    header: &Header,
+    from: u64,
+    count: u32,
+    version: u64,
+    network: &mut Network,
+) -> Result<u64, Refusal>
+    requires header { IsHeader header.now }
+    requires from { from ≤ 2 ^ 48 }
+    requires version { version ≤ 2 ^ 48 }
+    requires whole { D.honest disk.old → length (D.content disk.old) ≡ 4096 * page_count header.now }
+    requires longest { D.honest disk.old → IsLongest (page (D.content disk.old)) header.now from count }
+    ensures carried_out { D.honest disk.old → IfOk result (λ new. AreCarriedOut (journal_from (page (D.content disk.old)) header.now header.now.journal_pages from version network.old) count version network.new new) }
+    ensures fits { IfOk result (λ new. new ≤ 2 ^ 48) }
+    ensures later { IfOk result (λ new. version + count ≤ new) }
+    ensures refused { D.honest disk.old → IfErr result (λ refusal. MayRefuse (journal_from (page (D.content disk.old)) header.now header.now.journal_pages from version network.old) refusal) }
+    ensures same { D.honest disk.old → StaysSame D.content D.left D.moment D.left_since disk.old disk.new }
+    ensures counted { D.failures disk.new ≡ failures_told result (D.failures disk.old) }
+    ensures honest { D.honest disk.new ↔ D.honest disk.old }
+{
+    let mut reached = version;
+    for i in 0..count {
+        match replay_page(alloc, disk, header, from + u64::from(i), reached, network) {
+            Ok(new) => reached = new,
+            Err(refusal) => return Err(refusal),
+        }
+    }
+    Ok(reached)
+}

@@ -1,0 +1,15 @@
+pub mod Names
+pub mod Opened
+pub mod Opening
+pub mod Sound
+pub mod Kept
+pub mod Whole
+pub mod Decoded
+pub mod Torn
+pub mod PageBytes
+pub mod Networks
+pub mod JournalWrite
+pub mod OtherSlot
+pub mod Meaning
+pub mod Rests
+pub mod SlotWrite

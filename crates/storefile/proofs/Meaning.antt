@@ -1,0 +1,126 @@
+-- What a file stands for, before and after a page of its journal is written.
+use Rattle.std.proofs.Common.{◌≡◌, inl, inr, ⊎_elim, ℕ, ◌+◌, ◌-◌, ◌*◌, ◌%◌, ◌^◌, ◌<◌, ◌≤◌, List, [], ◌∷◌, ◌++◌, length, Some, refl, sym, ◌∙◌, ap, subst, arith, length-append, length-take}
+use Rattle.std.specs.List.{AllByRecursion}
+use Rattle.std.proofs.Math.Nat.{mod-lt}
+use Rattle.disk.specs.Contents.{Only}
+use Rattle.disk.specs.Gated.{SameOutside, IsShut, with_page, IsWholeOrShut}
+use Rattle.roadnet.specs.declared.commands.Command.{Command}
+use Rattle.roadnet.specs.Net.{Net}
+use Rattle.roadnet.specs.Step.{after}
+use Rattle.pages.specs.declared.header.Header.{Header}
+use Rattle.pages.specs.declared.content.Slot.{Slot}
+use Rattle.pages.specs.Contents.{Entry}
+use Rattle.pages.specs.Spelling.{body, zeros, page_of, entry_fields, entry_page, IsRecord, IsEntry, SpelledEntry, IsHeader}
+use Rattle.pages.specs.Layout.{page_count}
+use Rattle.pages.proofs.Padding.{length-zeros}
+use Rattle.pages.proofs.Entries.{length-fields}
+use Rattle.storefile.specs.StoreFile.{page, is_open, journal_page_at, StandsTidyBy}
+use Rattle.storefile.specs.Standing.{IsStoredAs, IsTidyAt, IsBeforeOrAfter, with_commands}
+use Rattle.storefile.proofs.PageBytes.{shut_gate, body_front, gate_behind, written_outside, written_page}
+use Rattle.storefile.proofs.JournalWrite.{closed_page, open_page}
+
+-- a page of few fields
+pub length-page_of : (fields : List ℕ) → length fields ≤ 4096 → length (page_of fields) ≡ 4096
+unfolding page_of
+length-page_of fields few = omega (arith, length-append fields (zeros (4096 - length fields)), length-zeros (4096 - length fields))
+
+pub length-body : (p : List ℕ) → length p ≡ 4096 → length (body p) ≡ 4095
+length-body p size = omega (arith, length-take 4095 p, size)
+
+-- the page of each sequence lies within the file
+pub page_within : (h : Header) (q size : ℕ) → IsHeader h → size ≡ 4096 * page_count h → 4096 * journal_page_at h q + 4096 ≤ size
+page_within h q size fits is =
+    let lt : q % h.journal_pages < h.journal_pages = mod-lt q (omega (arith, fits.some_page)) in
+    omega (arith, lt, is)
+
+-- a journal page that is written at the place of this sequence, by its body
+pub record IsPage (version next : ℕ) (commands : List Command) (b : List ℕ) : Type 0 where
+  pub fits : IsEntry (record { sequence = next; first_number = version + 1; commands = commands })
+  pub is : b ≡ body (entry_page (record { sequence = next; first_number = version + 1; commands = commands }))
+  pub versions : version + length commands ≤ 2 ^ 48
+
+pub page_size : (version next : ℕ) (commands : List Command) (b : List ℕ) → IsPage version next commands b → length b ≡ 4095
+page_size version next commands b wrote =
+    let e : Entry = record { sequence = next; first_number = version + 1; commands = commands } in
+    let few : length (entry_fields e) ≤ 4095 = length-fields e wrote.fits.commands_to in
+    ap length wrote.is ∙ length-body (entry_page e) (length-page_of (entry_fields e) (omega (arith, few)))
+
+pub is_page : (version next : ℕ) (commands : List Command) → version + length commands ≤ 2 ^ 48 → next ≤ version → 1 ≤ length commands → length commands ≤ 253 → AllByRecursion IsRecord commands
+    → IsPage version next commands (body (entry_page (record { sequence = next; first_number = version + 1; commands = commands })))
+is_page version next commands versions le some few each =
+    record { fits = record { sequence_fits = omega arith; number_fits = omega arith; some_command = some; commands_to = few; each = each }; is = refl; versions = versions }
+
+module _ (old : List ℕ) (h : Header) (slot : Slot) (epoch : ℕ) (net net' : Net) (version next unchecked : ℕ) (commands : List Command) (b : List ℕ)
+    (held : IsStoredAs old h slot epoch net version next unchecked) (tidy : IsTidyAt old h next) (room : unchecked < h.journal_pages) (wrote : IsPage version next commands b) (goes : after net commands ≡ Some net') where
+  at : ℕ
+  at = journal_page_at held.stored.header next
+
+  place : journal_page_at held.stored.header next ≡ journal_page_at h next
+  place = ap (λ (x : Header). journal_page_at x next) held.header_is
+
+  long : length b ≡ 4095
+  long = page_size version next commands b wrote
+
+  has_room : length held.stored.unchecked < held.stored.header.journal_pages
+  has_room = omega (arith, room, held.unchecked_is, ap (λ (x : Header). x.journal_pages) held.header_is)
+
+  tidy_by : StandsTidyBy old held.stored net version next
+  tidy_by = record { stands = held.stands; tidy = subst (λ (x : Header). IsTidyAt old x next) (sym held.header_is) tidy }
+
+  within : 4096 * journal_page_at held.stored.header next + 4096 ≤ length old
+  within = page_within held.stored.header next (length old) held.stands.is.header.fits held.stands.is.size_is
+
+  whole : length (b ++ 165 ∷ []) ≡ 4096
+  whole = omega (arith, length-append b (165 ∷ []), long)
+
+  -- a closed gate at the place of the next sequence
+  pub stays : (c : List ℕ) → IsShut (4096 * journal_page_at h next) (length b + 1) (4096 * journal_page_at h next + length b) old c → StandsTidyBy c held.stored net version next
+  stays c shut =
+      let there : IsShut (4096 * journal_page_at held.stored.header next) 4096 (4096 * journal_page_at held.stored.header next + 4095) old c =
+      subst (λ (k : ℕ). IsShut (4096 * k) 4096 (4096 * k + 4095) old c) (sym place) (subst (λ (n : ℕ). IsShut (4096 * journal_page_at h next) (n + 1) (4096 * journal_page_at h next + n) old c) long shut) in
+      closed_page old c held.stored net version next tidy_by has_room there.outside (shut_gate (journal_page_at held.stored.header next) (4096 * journal_page_at held.stored.header next) 4096 old c there)
+
+  -- written whole: the file stands for the network after the commands
+  pub stands_more : StandsTidyBy (with_page old (4096 * journal_page_at h next) b) (with_commands held.stored commands) net' (version + length commands) (next + 1)
+  stands_more =
+      let k : ℕ = journal_page_at held.stored.header next in
+      let new : page (with_page old (4096 * journal_page_at held.stored.header next) b) (journal_page_at held.stored.header next) ≡ b ++ 165 ∷ [] = written_page (journal_page_at held.stored.header next) old (b ++ 165 ∷ []) within whole in
+      let outside : SameOutside (4096 * journal_page_at held.stored.header next) 4096 old (with_page old (4096 * journal_page_at held.stored.header next) b) = written_outside (journal_page_at held.stored.header next) old (b ++ 165 ∷ []) within whole in
+      let spells : SpelledEntry (page (with_page old (4096 * journal_page_at held.stored.header next) b) (journal_page_at held.stored.header next)) (record { sequence = next; first_number = version + 1; commands = commands }) =
+      record { fits = wrote.fits; spelled = ap body new ∙ body_front b 165 long ∙ wrote.is } in
+      subst (λ (j : ℕ). StandsTidyBy (with_page old (4096 * j) b) (with_commands held.stored commands) net' (version + length commands) (next + 1)) place
+      (open_page old (with_page old (4096 * journal_page_at held.stored.header next) b) held.stored net net' version next commands tidy_by has_room outside (ap is_open new ∙ gate_behind b long) spells wrote.versions goes)
+
+  pub stored_more : IsStoredAs (with_page old (4096 * journal_page_at h next) b) h slot epoch net' (version + length commands) (next + 1) (unchecked + 1)
+  stored_more = record {
+    stored = with_commands held.stored commands;
+    stands = stands_more.stands;
+    header_is = held.header_is;
+    slot_is = held.slot_is;
+    epoch_is = held.epoch_is;
+    unchecked_is = omega (arith, held.unchecked_is, length-append held.stored.unchecked (commands ∷ []));
+  }
+
+  pub tidy_more : IsTidyAt (with_page old (4096 * journal_page_at h next) b) h (next + 1)
+  tidy_more = subst (λ (x : Header). IsTidyAt (with_page old (4096 * journal_page_at h next) b) x (next + 1)) held.header_is stands_more.tidy
+
+  -- what a stop leaves
+  pub before_or_after : (c : List ℕ) → IsWholeOrShut old (4096 * journal_page_at h next) b c → IsBeforeOrAfter net version commands c
+  before_or_after c way = ⊎_elim
+      (λ shut. inl (held.stored, next, stays c shut))
+      (λ whole_way. ⊎_elim
+      (λ same. inl (held.stored, next, subst (λ (d : List ℕ). StandsTidyBy d held.stored net version next) (sym same) tidy_by))
+      (λ new. inr (net', goes, (with_commands held.stored commands, next + 1, subst (λ (d : List ℕ). StandsTidyBy d (with_commands held.stored commands) net' (version + length commands) (next + 1)) (sym new) stands_more)))
+      whole_way)
+      way
+
+-- a store at rest, before a commit's first call
+pub rests : (content : List ℕ) (left : List ℕ → Type 0) (h : Header) (slot : Slot) (epoch : ℕ) (net : Net) (version next unchecked : ℕ) (commands : List Command) → Only content left → IsStoredAs content h slot epoch net version next unchecked
+    → IsTidyAt content h next → (c : List ℕ) → left c → IsBeforeOrAfter net version commands c
+rests content left h slot epoch net version next unchecked commands only held tidy c was =
+    inl (
+      held.stored,
+      next,
+      subst (λ (d : List ℕ). StandsTidyBy d held.stored net version next) (sym (only c was))
+          (record { stands = held.stands; tidy = subst (λ (x : Header). IsTidyAt content x next) (sym held.header_is) tidy }),
+    )

@@ -1,0 +1,260 @@
+-- What a file stands for, where the slot that is not current is written.
+use Rattle.std.proofs.Common.{◌≡◌, ◌⊎◌, inl, inr, ℕ, zero, suc, ◌+◌, ◌*◌, ◌^◌, ◌<◌, ◌≤◌, Bool, true, false, cond, List, [], ◌∷◌, ◌++◌, length, take, drop, map, Option, Some, None, refl, sym, ◌∙◌, ap, subst, arith, length-append, append_assoc}
+use Rattle.std.specs.Prelude.{◌==◌, ◌&&◌, is_none, option_and_then}
+use Rattle.std.specs.List.{flat_map}
+use Rattle.std.proofs.lemmas.List.{length-map}
+use Rattle.roadnet.specs.declared.arcs.RoadArc.{RoadArc}
+use Rattle.roadnet.specs.declared.commands.Command.{Command}
+use Rattle.roadnet.specs.declared.commands.Command.TheVariants.{Set, Close, Reopen, Mark, Unmark}
+use Rattle.roadnet.specs.Net.{Net, update_nth}
+use Rattle.roadnet.specs.Step.{refusal_of, changed, step, after}
+use Rattle.roadnet.proofs.Stepped.{after_both}
+use Rattle.pages.specs.declared.header.Header.{Header}
+use Rattle.pages.specs.declared.content.Ends.{Ends}
+use Rattle.pages.specs.declared.content.Slot.{Slot}
+use Rattle.pages.specs.declared.content.Slot.TheVariants.{A, B}
+use Rattle.pages.specs.Contents.{Head}
+use Rattle.pages.specs.Spelling.{SpelledHeader, SpelledArcs, SpelledWords, SpelledHead, SpelledEntry, ends_of, word_of}
+use Rattle.pages.specs.Layout.{places_in_use, arc_pages, word_pages, other, head_page_at, journal_start}
+use Rattle.pages.proofs.Heads.{head_read}
+use Rattle.storefile.specs.StoreFile.{page, part, is_open, journal_page_at, Stored, Stores, HoldsArcs, HoldsSlot, IsCurrent, HoldsJournal, Gives, first_field, is_standing, HasNoLaterPage, commands_of, next_sequence, head_of}
+use Rattle.storefile.specs.Standing.{with_checkpoint}
+use Rattle.storefile.specs.Laws.{ClosedSlotMeansNothing, OpenSlotIsCurrent}
+use Rattle.storefile.proofs.Names.{arc_page_at, word_page_at}
+use Rattle.storefile.proofs.Opening.{part-map}
+use Rattle.storefile.proofs.PageBytes.{outside_pages}
+
+-- ---- the pages beside a slot's
+
+-- pages that are the same but for those of this slot
+abbrev pub SameBeside : Header → Slot → (ℕ → List ℕ) → (ℕ → List ℕ) → Type 0
+SameBeside h slot pages pages' = (j : ℕ) → (j < head_page_at h slot) ⊎ (head_page_at h slot + (word_pages h + 1) ≤ j) → pages' j ≡ pages j
+
+beside_words : (h : Header) (slot : Slot) (i : ℕ) → i ≤ word_pages h → (head_page_at h slot + i < head_page_at h (other slot)) ⊎ (head_page_at h (other slot) + (word_pages h + 1) ≤ head_page_at h slot + i)
+beside_words h A i le = inl (omega arith)
+beside_words h B i le = inr (omega arith)
+
+arcs_beside : (h : Header) (slot : Slot) → arc_pages h + 1 ≤ head_page_at h slot
+arcs_beside h A = omega arith
+arcs_beside h B = omega arith
+
+journal_beside : (h : Header) (slot : Slot) → head_page_at h slot + (word_pages h + 1) ≤ journal_start h
+journal_beside h A = omega arith
+journal_beside h B = omega arith
+
+module _ (pages pages' : ℕ → List ℕ) (h : Header) (slot : Slot) (same : SameBeside h (other slot) pages pages') where
+  same_front : pages' 0 ≡ pages 0
+  same_front = same 0 (inl (omega (arith, arcs_beside h (other slot))))
+
+  same_arcs : (i : ℕ) → i < arc_pages h → pages' (arc_page_at i) ≡ pages (arc_page_at i)
+  same_arcs i lt = same (arc_page_at i) (inl (omega (arith, lt, arcs_beside h (other slot))))
+
+  pub same_head_page : pages' (head_page_at h slot) ≡ pages (head_page_at h slot)
+  same_head_page =
+      let e : head_page_at h slot + 0 ≡ head_page_at h slot = omega arith in
+      subst (λ (k : ℕ). pages' k ≡ pages k) e (same (head_page_at h slot + 0) (beside_words h slot 0 (omega arith)))
+
+  same_words : (i : ℕ) → i < word_pages h → pages' (word_page_at h slot i) ≡ pages (word_page_at h slot i)
+  same_words i lt =
+      let e : head_page_at h slot + (1 + i) ≡ word_page_at h slot i = omega arith in
+      subst (λ (k : ℕ). pages' k ≡ pages k) e (same (head_page_at h slot + (1 + i)) (beside_words h slot (1 + i) (omega (arith, lt))))
+
+  pub same_journal : (q : ℕ) → pages' (journal_page_at h q) ≡ pages (journal_page_at h q)
+  same_journal q = same (journal_page_at h q) (inr (omega (arith, journal_beside h (other slot))))
+
+  pub same_standing : (q : ℕ) → is_standing pages' h q ≡ is_standing pages h q
+  same_standing q = ap (λ (p : List ℕ). is_open p && (first_field p == q)) (same_journal q)
+
+  pub journal_kept : (q v : ℕ) (css : List (List Command)) → HoldsJournal pages h q v css → HoldsJournal pages' h q v css
+  journal_kept q v [] holds = tt
+  journal_kept q v (cs ∷ css) holds = (
+    subst (λ (p : List ℕ). (is_open p && (first_field p == q)) ≡ true) (sym (same_journal q)) holds.0,
+    subst (λ (p : List ℕ). SpelledEntry p (record { sequence = q; first_number = v + 1; commands = cs })) (sym (same_journal q)) holds.1,
+    journal_kept (q + 1) (v + length cs) css holds.2,
+  )
+
+  pub arcs_kept : (net : Net) → HoldsArcs pages h net → HoldsArcs pages' h net
+  arcs_kept net holds = record {
+    nodes_are = holds.nodes_are;
+    count_is = holds.count_is;
+    each = λ i lt. subst (λ (p : List ℕ). SpelledArcs h.nodes (places_in_use 511 i h.arcs) p (map ends_of (part 511 i net.arcs))) (sym (same_arcs i (omega (arith, lt)))) (holds.each i lt);
+  }
+
+  slot_kept : (head : Head) (net : Net) → HoldsSlot pages h slot head net → HoldsSlot pages' h slot head net
+  slot_kept head net holds = record {
+    head_is = subst (λ (p : List ℕ). SpelledHead h.nodes p head) (sym same_head_page) holds.head_is;
+    words = λ i lt. subst (λ (p : List ℕ). SpelledWords (places_in_use 1023 i h.arcs) p (map word_of (part 1023 i net.arcs))) (sym (same_words i (omega (arith, lt)))) (holds.words i lt);
+  }
+
+  -- the other slot is closed
+  current_kept : is_open (pages' (head_page_at h (other slot))) ≡ false → IsCurrent pages h slot → IsCurrent pages' h slot
+  current_kept closed is = record {
+    opened = subst (λ (p : List ℕ). is_open p ≡ true) (sym same_head_page) is.opened;
+    above = λ o. let never : false ≡ true = sym closed ∙ o in absurd cc;
+  }
+
+pub stores_beside : (size : ℕ) (pages pages' : ℕ → List ℕ) (s : Stored) → Stores size pages s → SameBeside s.header (other s.slot) pages pages'
+    → is_open (pages' (head_page_at s.header (other s.slot))) ≡ false → Stores size pages' s
+stores_beside size pages pages' s is same closed = record {
+  header = subst (λ (p : List ℕ). SpelledHeader p s.header) (sym (same_front pages pages' s.header s.slot same)) is.header;
+  opened = subst (λ (p : List ℕ). is_open p ≡ true) (sym (same_front pages pages' s.header s.slot same)) is.opened;
+  size_is = is.size_is;
+  arcs = arcs_kept pages pages' s.header s.slot same s.network is.arcs;
+  current = current_kept pages pages' s.header s.slot same closed is.current;
+  held = slot_kept pages pages' s.header s.slot same (head_of s) s.network is.held;
+  journal = journal_kept pages pages' s.header s.slot same s.sequence s.version s.unchecked is.journal;
+  few = is.few;
+  longest = λ lt. same_standing pages pages' s.header s.slot same (next_sequence s) ∙ is.longest lt;
+  versions_to = is.versions_to;
+}
+
+tidy_beside : (pages pages' : ℕ → List ℕ) (h : Header) (slot : Slot) (q : ℕ) → SameBeside h (other slot) pages pages' → HasNoLaterPage pages h q → HasNoLaterPage pages' h q
+tidy_beside pages pages' h slot q same tidy = λ r le. same_standing pages pages' h slot same r ∙ tidy r le
+
+pub closed_slot : ClosedSlotMeansNothing
+closed_slot file file' s net v q old outside closed =
+    let same : SameBeside s.header (other s.slot) (page file) (page file') = outside_pages (head_page_at s.header (other s.slot)) (word_pages s.header + 1) file file' outside in
+    record {
+      stands = record {
+        is = subst (λ (n : ℕ). Stores n (page file') s) (sym outside.same_length) (stores_beside (length file) (page file) (page file') s old.stands.is same closed);
+        gives = old.stands.gives;
+        next_is = old.stands.next_is;
+      };
+      tidy = tidy_beside (page file) (page file') s.header s.slot q same old.tidy;
+    }
+
+-- ---- commands keep the ends of arcs
+
+update_ends : (f : RoadArc → RoadArc) → ((arc : RoadArc) → ends_of (f arc) ≡ ends_of arc) → (arcs : List RoadArc) (k : ℕ) → map ends_of (update_nth f arcs k) ≡ map ends_of arcs
+update_ends f keeps arcs zero = refl
+update_ends f keeps [] (suc k) = refl
+update_ends f keeps (arc ∷ arcs) (suc zero) = ap (λ (e : Ends). e ∷ map ends_of arcs) (keeps arc)
+update_ends f keeps (arc ∷ arcs) (suc (suc k)) = ap (λ (es : List Ends). ends_of arc ∷ es) (update_ends f keeps arcs (suc k))
+
+pub record SameEnds (old new : Net) : Type 0 where
+  pub nodes : new.nodes ≡ old.nodes
+  pub ends : map ends_of new.arcs ≡ map ends_of old.arcs
+
+changed_ends : (net : Net) (c : Command) → SameEnds net (changed net c)
+changed_ends net (Set k w) = record { nodes = refl; ends = update_ends (λ arc. record arc { length = w }) (λ arc. refl) net.arcs k }
+changed_ends net (Close k) = record { nodes = refl; ends = update_ends (λ arc. record arc { opened = false }) (λ arc. refl) net.arcs k }
+changed_ends net (Reopen k) = record { nodes = refl; ends = update_ends (λ arc. record arc { opened = true }) (λ arc. refl) net.arcs k }
+changed_ends net (Mark x) = record { nodes = refl; ends = refl }
+changed_ends net (Unmark x) = record { nodes = refl; ends = refl }
+
+step_is : (b : Bool) (next mid : Net) → cond b (Some next) None ≡ Some mid → next ≡ mid
+step_is true next mid e = cc
+step_is false next mid e = absurd cc
+
+first_step : (o : Option Net) (cs : List Command) (final : Net) → option_and_then (λ next. after next cs) o ≡ Some final → (mid : Net) × (o ≡ Some mid) × (after mid cs ≡ Some final)
+first_step None cs final e = absurd cc
+first_step (Some mid) cs final e = (mid, refl, e)
+
+some_net : (a b : Net) → ◌≡◌ {A = Option Net} (Some a) (Some b) → a ≡ b
+some_net a b e = cc
+
+pub after_ends : (net final : Net) (cs : List Command) → after net cs ≡ Some final → SameEnds net final
+after_ends net final [] e = subst (SameEnds net) (some_net net final e) (record { nodes = refl; ends = refl })
+after_ends net final (c ∷ cs) e =
+    let first = first_step (step net c) cs final e in
+    let is : changed net c ≡ first.0 = step_is (is_none (refusal_of net c)) (changed net c) first.0 first.1 in
+    let one : SameEnds net first.0 = subst (SameEnds net) is (changed_ends net c) in
+    let rest = after_ends first.0 final cs first.2 in
+    record { nodes = rest.nodes ∙ one.nodes; ends = rest.ends ∙ one.ends }
+
+arcs_of_frozen : (pages : ℕ → List ℕ) (h : Header) (net frozen : Net) → SameEnds net frozen → HoldsArcs pages h net → HoldsArcs pages h frozen
+arcs_of_frozen pages h net frozen same holds = record {
+  nodes_are = same.nodes ∙ holds.nodes_are;
+  count_is = sym (length-map frozen.arcs ends_of) ∙ ap length same.ends ∙ length-map net.arcs ends_of ∙ holds.count_is;
+  each = λ i lt. subst (λ (es : List Ends). SpelledArcs h.nodes (places_in_use 511 i h.arcs) (pages (arc_page_at i)) es)
+      (part-map ends_of (511 * i) 511 net.arcs ∙ ap (λ (es : List Ends). take 511 (drop (511 * i) es)) (sym same.ends) ∙ sym (part-map ends_of (511 * i) 511 frozen.arcs)) (holds.each i lt);
+}
+
+-- ---- the journal behind the new slot
+
+flat-append : (xs ys : List (List Command)) → flat_map (λ cs. cs) (xs ++ ys) ≡ flat_map (λ cs. cs) xs ++ flat_map (λ cs. cs) ys
+flat-append [] ys = refl
+flat-append (cs ∷ xs) ys = ap (λ (l : List Command). cs ++ l) (flat-append xs ys) ∙ sym (append_assoc cs (flat_map (λ cs. cs) xs) (flat_map (λ cs. cs) ys))
+
+journal_behind : (pages : ℕ → List ℕ) (h : Header) (q v r n : ℕ) (xs ys : List (List Command)) → HoldsJournal pages h q v (xs ++ ys) → r ≡ q + length xs → n ≡ v + length (flat_map (λ cs. cs) xs) → HoldsJournal pages h r n ys
+journal_behind pages h q v r n [] ys holds e f =
+    let d : q ≡ r = omega arith in
+    let g : v ≡ n = omega arith in
+    subst (λ (k : ℕ). HoldsJournal pages h k n ys) d (subst (λ (k : ℕ). HoldsJournal pages h q k ys) g holds)
+journal_behind pages h q v r n (cs ∷ xs) ys holds e f =
+    journal_behind pages h (q + 1) (v + length cs) r n xs ys holds.2 (omega arith) (omega (arith, f, length-append cs (flat_map (λ cs. cs) xs)))
+
+-- ---- the new slot is current
+
+twice : (slot : Slot) → other (other slot) ≡ slot
+twice A = refl
+twice B = refl
+
+module _ (size : ℕ) (pages pages' : ℕ → List ℕ) (s : Stored) (frozen : Net) (epoch : ℕ) (checked rest : List (List Command)) (is : Stores size pages s) (same : SameBeside s.header (other s.slot) pages pages')
+    (opened : is_open (pages' (head_page_at s.header (other s.slot))) ≡ true) (split : s.unchecked ≡ checked ++ rest) (goes : after s.network (flat_map (λ cs. cs) checked) ≡ Some frozen) (later : s.epoch < epoch)
+    (holds : HoldsSlot pages' s.header (other s.slot) (record { epoch = epoch; version = s.version + length (flat_map (λ cs. cs) checked); next_sequence = s.sequence + length checked; landmarks = frozen.landmarks }) frozen) where
+  abbrev new : Stored
+  new = record { header = s.header; slot = other s.slot; epoch = epoch; version = s.version + length (flat_map (λ cs. cs) checked); sequence = s.sequence + length checked; network = frozen; unchecked = rest }
+
+  small : s.header.nodes < 2 ^ 32
+  small = omega (arith, is.header.fits.nodes_to)
+
+  new_epoch : first_field (pages' (head_page_at s.header (other s.slot))) ≡ epoch
+  new_epoch = (head_read s.header.nodes (pages' (head_page_at s.header (other s.slot))) (record { epoch = epoch; version = s.version + length (flat_map (λ cs. cs) checked); next_sequence = s.sequence + length checked; landmarks = frozen.landmarks }) small holds.head_is).epoch
+
+  old_epoch : first_field (pages' (head_page_at s.header s.slot)) ≡ s.epoch
+  old_epoch = ap first_field (same_head_page pages pages' s.header s.slot same) ∙ (head_read s.header.nodes (pages (head_page_at s.header s.slot)) (head_of s) small is.held.head_is).epoch
+
+  greater : first_field (pages' (head_page_at s.header s.slot)) < first_field (pages' (head_page_at s.header (other s.slot)))
+  greater = omega (arith, new_epoch, old_epoch, later)
+
+  counts : length s.unchecked ≡ length checked + length rest
+  counts = ap length split ∙ length-append checked rest
+
+  all_commands : commands_of s ≡ flat_map (λ cs. cs) checked ++ flat_map (λ cs. cs) rest
+  all_commands = ap (flat_map (λ cs. cs)) split ∙ flat-append checked rest
+
+  total : length (commands_of s) ≡ length (flat_map (λ cs. cs) checked) + length (flat_map (λ cs. cs) rest)
+  total = ap length all_commands ∙ length-append (flat_map (λ cs. cs) checked) (flat_map (λ cs. cs) rest)
+
+  pub stores_new : HasNoLaterPage pages s.header (next_sequence s) → Stores size pages' new
+  stores_new tidy = record {
+    header = subst (λ (p : List ℕ). SpelledHeader p s.header) (sym (same_front pages pages' s.header s.slot same)) is.header;
+    opened = subst (λ (p : List ℕ). is_open p ≡ true) (sym (same_front pages pages' s.header s.slot same)) is.opened;
+    size_is = is.size_is;
+    arcs = arcs_of_frozen pages' s.header s.network frozen (after_ends s.network frozen (flat_map (λ cs. cs) checked) goes) (arcs_kept pages pages' s.header s.slot same s.network is.arcs);
+    current = record {
+      opened = opened;
+      above = λ o. subst (λ (t : Slot). first_field (pages' (head_page_at s.header t)) < first_field (pages' (head_page_at s.header (other s.slot)))) (sym (twice s.slot)) greater;
+    };
+    held = holds;
+    journal = journal_behind pages' s.header s.sequence s.version (s.sequence + length checked) (s.version + length (flat_map (λ cs. cs) checked)) checked rest
+        (subst (λ (css : List (List Command)). HoldsJournal pages' s.header s.sequence s.version css) split (journal_kept pages pages' s.header s.slot same s.sequence s.version s.unchecked is.journal)) refl refl;
+    few = omega (arith, is.few, counts);
+    longest = λ lt.
+        let e : next_sequence s ≡ s.sequence + length checked + length rest = omega (arith, counts) in
+        subst (λ (k : ℕ). is_standing pages' s.header k ≡ false) e (same_standing pages pages' s.header s.slot same (next_sequence s) ∙ tidy (next_sequence s) (omega arith));
+    versions_to = omega (arith, is.versions_to, total);
+  }
+
+  pub gives_new : (net : Net) (v : ℕ) → Gives s net v → Gives new net v
+  gives_new net v gives = record {
+    network = sym (ap (λ (o : Option Net). option_and_then (λ next. after next (flat_map (λ cs. cs) rest)) o) goes) ∙ sym (after_both s.network (flat_map (λ cs. cs) checked) (flat_map (λ cs. cs) rest)) ∙ ap (after s.network) (sym all_commands) ∙ gives.network;
+    version_is = omega (arith, gives.version_is, total);
+  }
+
+  pub next_new : next_sequence s ≡ s.sequence + length checked + length rest
+  next_new = omega (arith, counts)
+
+pub open_slot : OpenSlotIsCurrent
+open_slot file file' s net frozen v q epoch checked rest old outside opened split goes later holds =
+    let same : SameBeside s.header (other s.slot) (page file) (page file') = outside_pages (head_page_at s.header (other s.slot)) (word_pages s.header + 1) file file' outside in
+    let tidy : HasNoLaterPage (page file) s.header (next_sequence s) = subst (λ (k : ℕ). HasNoLaterPage (page file) s.header k) old.stands.next_is old.tidy in
+    record {
+      stands = record {
+        is = subst (λ (n : ℕ). Stores n (page file') (with_checkpoint s epoch frozen checked rest)) (sym outside.same_length) (stores_new (length file) (page file) (page file') s frozen epoch checked rest old.stands.is same opened split goes later holds tidy);
+        gives = gives_new (length file) (page file) (page file') s frozen epoch checked rest old.stands.is same opened split goes later holds net v old.stands.gives;
+        next_is = old.stands.next_is ∙ next_new (length file) (page file) (page file') s frozen epoch checked rest old.stands.is same opened split goes later holds;
+      };
+      tidy = tidy_beside (page file) (page file') s.header s.slot q same old.tidy;
+    }

@@ -1,0 +1,77 @@
+-- What the definitions of a store file say together.
+use Rattle.std.specs.Prelude.{◌≡◌, ◌≢◌, ℕ, ◌+◌, ◌*◌, ◌^◌, ◌<◌, ◌≤◌, ◌↔◌, true, false, List, ◌++◌, length, Some, None}
+use Rattle.disk.specs.Gated.{SameOutside}
+use Rattle.roadnet.specs.declared.commands.Command.{Command}
+use Rattle.roadnet.specs.Net.{Net, IsNetwork}
+use Rattle.roadnet.specs.Step.{after}
+use Rattle.pages.specs.Spelling.{SpelledEntry}
+use Rattle.pages.specs.Layout.{HeadOf, other, word_pages, page_number}
+use Rattle.storefile.specs.StoreFile.{page, is_open, joined, head_of, Stored, Stores, HoldsSlot, StandsFor, StandsTidyBy, journal_page_at}
+use Rattle.storefile.specs.Standing.{IsStoredAs, Standing, standing_of, with_commands, with_checkpoint}
+use Rattle.storefile.specs.Judging.{judged}
+
+-- ---- what a file stands for
+
+-- A file stands for one network, version and next sequence at most.
+abbrev pub AtMostOne : Type 0
+AtMostOne = (file : List ℕ) (net net' : Net) (v v' q q' : ℕ) → StandsFor file net v q → StandsFor file net' v' q' → (net ≡ net') × (v ≡ v') × (q ≡ q')
+
+-- What stands for something is not refused.
+abbrev pub IsNotRefused : Type 0
+IsNotRefused = (file : List ℕ) (net : Net) (v q : ℕ) → StandsFor file net v q → judged file ≡ None
+
+-- What is not refused stands for something.
+abbrev pub StandsUnlessRefused : Type 0
+StandsUnlessRefused = (file : List ℕ) → judged file ≡ None → (net : Net) × (v : ℕ) × (q : ℕ) × StandsFor file net v q
+
+-- What is stored is a network, and so is that for which a file stands.
+abbrev pub StoresNetworks : Type 0
+StoresNetworks = (size : ℕ) (pages : ℕ → List ℕ) (s : Stored) → Stores size pages s → IsNetwork s.network
+
+abbrev pub StandsForNetworks : Type 0
+StandsForNetworks = (file : List ℕ) (net : Net) (v q : ℕ) → StandsFor file net v q → IsNetwork net × (v ≤ 2 ^ 48)
+
+-- Opening a file tells what it is stored as, and that alone.
+abbrev pub StandingIsStored : Type 0
+StandingIsStored = (file : List ℕ) (x : Standing) → (standing_of file ≡ Some x) ↔ IsStoredAs file x.header x.slot x.epoch x.network x.version x.next x.unchecked
+
+-- ---- a file that changes
+
+-- pages that differ in this one at most
+abbrev pub SameBut : ℕ → (ℕ → List ℕ) → (ℕ → List ℕ) → Type 0
+SameBut k pages pages' = (j : ℕ) → j ≢ k → pages' j ≡ pages j
+
+-- While the page that is written next is closed, its bytes mean nothing: the file stands for the same and stays tidy.
+abbrev pub ClosedPageMeansNothing : Type 0
+ClosedPageMeansNothing =
+    (file file' : List ℕ) (s : Stored) (net : Net) (v q : ℕ) → StandsTidyBy file s net v q → length s.unchecked < s.header.journal_pages
+    → SameOutside (4096 * journal_page_at s.header q) 4096 file file' → is_open (page file' (journal_page_at s.header q)) ≡ false
+    → StandsTidyBy file' s net v q
+
+-- Once that page is open and spells commands that follow, the file stands for the network after them, with one page more, and stays tidy.
+abbrev pub OpenPageIsOneMore : Type 0
+OpenPageIsOneMore =
+    (file file' : List ℕ) (s : Stored) (net net' : Net) (v q : ℕ) (commands : List Command) → StandsTidyBy file s net v q → length s.unchecked < s.header.journal_pages
+    → SameOutside (4096 * journal_page_at s.header q) 4096 file file' → is_open (page file' (journal_page_at s.header q)) ≡ true
+    → SpelledEntry (page file' (journal_page_at s.header q)) (record { sequence = q; first_number = v + 1; commands = commands })
+    → v + length commands ≤ 2 ^ 48 → after net commands ≡ Some net'
+    → StandsTidyBy file' (with_commands s commands) net' (v + length commands) (q + 1)
+
+-- While the slot that is not current is closed, the bytes of its head and word pages mean nothing.
+abbrev pub ClosedSlotMeansNothing : Type 0
+ClosedSlotMeansNothing =
+    (file file' : List ℕ) (s : Stored) (net : Net) (v q : ℕ) → StandsTidyBy file s net v q
+    → SameOutside (4096 * page_number s.header (HeadOf (other s.slot))) (4096 * (word_pages s.header + 1)) file file'
+    → is_open (page file' (page_number s.header (HeadOf (other s.slot)))) ≡ false
+    → StandsTidyBy file' s net v q
+
+-- Once that slot is open, with a greater epoch, and holds the network after the first journal pages, it is current, and the file stands for
+-- the same by the pages that are left.
+abbrev pub OpenSlotIsCurrent : Type 0
+OpenSlotIsCurrent =
+    (file file' : List ℕ) (s : Stored) (net frozen : Net) (v q epoch : ℕ) (checked rest : List (List Command)) → StandsTidyBy file s net v q
+    → SameOutside (4096 * page_number s.header (HeadOf (other s.slot))) (4096 * (word_pages s.header + 1)) file file'
+    → is_open (page file' (page_number s.header (HeadOf (other s.slot)))) ≡ true
+    → s.unchecked ≡ checked ++ rest → after s.network (joined checked) ≡ Some frozen → s.epoch < epoch
+    → HoldsSlot (page file') s.header (other s.slot) (head_of (with_checkpoint s epoch frozen checked rest)) frozen
+    → StandsTidyBy file' (with_checkpoint s epoch frozen checked rest) net v q

@@ -1,0 +1,97 @@
+-- What a store's file stands for between calls, and while a page of its journal is written.
+use Rattle.std.specs.Prelude.{◌≡◌, ◌⊎◌, ℕ, ◌+◌, ◌^◌, ◌≤◌, List, [], ◌∷◌, ◌++◌, length, Option, Some, None, Result, Ok, Err}
+use Rattle.disk.specs.Contents.{Only}
+use Rattle.roadnet.specs.declared.commands.Command.{Command}
+use Rattle.roadnet.specs.declared.refusals.Refusal.{Refusal}
+use Rattle.roadnet.specs.Net.{Net}
+use Rattle.roadnet.specs.Step.{after}
+use Rattle.pages.specs.declared.header.Header.{Header}
+use Rattle.pages.specs.declared.content.Slot.{Slot}
+use Rattle.pages.specs.Contents.{Entry}
+use Rattle.pages.specs.Spelling.{IsHeader}
+use Rattle.pages.specs.Layout.{other}
+use Rattle.storefile.specs.StoreFile.{page, joined, Stored, StandsBy, StandsTidyFor, HasNoLaterPage, commands_of, next_sequence}
+use Rattle.storefile.specs.Judging.{opened}
+
+-- The file has these sizes and this current slot of this epoch, stands for this network at this version, the page of this sequence is
+-- written next, and so many pages of its journal are unchecked.
+pub record IsStoredAs (file : List ℕ) (h : Header) (slot : Slot) (epoch : ℕ) (net : Net) (version next unchecked : ℕ) : Type 0 where
+  pub stored : Stored
+  pub stands : StandsBy file stored net version next
+  pub header_is : stored.header ≡ h
+  pub slot_is : stored.slot ≡ slot
+  pub epoch_is : stored.epoch ≡ epoch
+  pub unchecked_is : unchecked ≡ length stored.unchecked
+
+-- the same, told by opening the file
+pub record Standing : Type 0 where
+  pub header : Header
+  pub slot : Slot
+  pub epoch : ℕ
+  pub network : Net
+  pub version : ℕ
+  pub next : ℕ
+  pub unchecked : ℕ
+
+abbrev pub standing_in : Result (Stored × Net) Refusal → Option Standing
+standing_in (Err refusal) = None
+standing_in (Ok x) = Some (record {
+  header = x.0.header;
+  slot = x.0.slot;
+  epoch = x.0.epoch;
+  network = x.1;
+  version = x.0.version + length (commands_of x.0);
+  next = next_sequence x.0;
+  unchecked = length x.0.unchecked;
+})
+
+abbrev pub standing_of : List ℕ → Option Standing
+standing_of file = standing_in (opened file)
+
+-- between two calls: a stop leaves the content and nothing else, and it stands for what the fields of the store say
+abbrev pub IsAtRest : List ℕ → (List ℕ → Type 0) → Standing → Type 0
+IsAtRest content left standing = Only content left × (standing_of content ≡ Some standing)
+
+-- the file has no page of its journal that is of this sequence or a later one
+abbrev pub IsTidyAt : List ℕ → Header → ℕ → Type 0
+IsTidyAt file h next = HasNoLaterPage (page file) h next
+
+-- the numbers of a store, of which none is past what its pages can spell
+pub record HasFitNumbers (h : Header) (epoch version next unchecked : ℕ) : Type 0 where
+  pub header : IsHeader h
+  pub version_to : version ≤ 2 ^ 48
+  pub next_to : next ≤ version
+  pub epoch_to : epoch + unchecked ≤ next + 1
+  pub unchecked_to : unchecked ≤ h.journal_pages
+  pub unchecked_from : unchecked ≤ next
+
+-- what is stored once this page of commands is written too
+abbrev pub with_commands : Stored → List Command → Stored
+with_commands s commands = record s { unchecked = s.unchecked ++ commands ∷ [] }
+
+-- what is stored once the other slot holds this network, that after the first unchecked pages, at this epoch; the rest stays unchecked
+abbrev pub with_checkpoint : Stored → ℕ → Net → List (List Command) → List (List Command) → Stored
+with_checkpoint s epoch frozen checked rest =
+    record { header = s.header; slot = other s.slot; epoch = epoch; version = s.version + length (joined checked); sequence = s.sequence + length checked; network = frozen; unchecked = rest }
+
+-- This network at this version, and this next sequence, are those of the slot with the first of the unchecked pages carried out: as the
+-- file stood for them when a checkpoint began.
+pub record IsFrozen (s : Stored) (frozen : Net) (version next : ℕ) : Type 0 where
+  pub checked : List (List Command)
+  pub rest : List (List Command)
+  pub split : s.unchecked ≡ checked ++ rest
+  pub goes : after s.network (joined checked) ≡ Some frozen
+  pub version_is : version ≡ s.version + length (joined checked)
+  pub next_is : next ≡ s.sequence + length checked
+
+-- the journal page that holds these commands behind what is stored
+abbrev pub entry_behind : Stored → List Command → Entry
+entry_behind s commands = record { sequence = next_sequence s; first_number = s.version + length (commands_of s) + 1; commands = commands }
+
+-- the file is tidy and stands for the network after these commands, each counted
+abbrev pub StandsTidyAfter : List ℕ → Net → ℕ → List Command → Type 0
+StandsTidyAfter file net version commands = (net' : Net) × (after net commands ≡ Some net') × StandsTidyFor file net' (version + length commands)
+
+-- what a stop within the commit of these commands may leave: the file stands for what it stood for, or for what it stands for after them
+abbrev pub IsBeforeOrAfter : Net → ℕ → List Command → List ℕ → Type 0
+IsBeforeOrAfter net version commands file = StandsTidyFor file net version ⊎ StandsTidyAfter file net version commands

@@ -1,0 +1,148 @@
+-- What a store file stands for: facts about single pages of it, and what they say together.
+use Rattle.std.specs.Prelude.{◌≡◌, ℕ, ◌+◌, ◌*◌, ◌^◌, ◌<◌, ◌≤◌, Bool, false, ◌&&◌, ◌==◌, IsTrue, List, [], ◌∷◌, length, take, drop, map, slice_index, Some}
+use Rattle.std.specs.List.{flat_map}
+use Rattle.byteorder.specs.Endian.{big_number}
+use Rattle.roadnet.specs.declared.commands.Command.{Command}
+use Rattle.roadnet.specs.Net.{Net}
+use Rattle.roadnet.specs.Step.{after}
+use Rattle.pages.specs.declared.header.Header.{Header}
+use Rattle.pages.specs.declared.content.Slot.{Slot}
+use Rattle.pages.specs.Contents.{Head}
+use Rattle.pages.specs.Spelling.{SpelledHeader, SpelledArcs, SpelledWords, SpelledHead, SpelledEntry, ends_of, word_of}
+use Rattle.pages.specs.Layout.{Arcs, HeadOf, Words, Journal, places_in_use, arc_pages, word_pages, other, page_number, page_count, place_of}
+
+-- ---- pages
+
+-- the page of this number of a file
+abbrev pub page : List ℕ → ℕ → List ℕ
+page file k = take 4096 (drop (4096 * k) file)
+
+-- In what follows a file is seen by its pages: `pages k` is its page k.
+
+-- of items in pages of so many places, those of the i-th page
+abbrev pub part : {X : Type 0} → ℕ → ℕ → List X → List X
+part places i xs = take places (drop (places * i) xs)
+
+-- the gate of a page, its last byte, is open
+abbrev pub is_open : List ℕ → Bool
+is_open page = slice_index page 4095 == 165
+
+-- a page's first number: the epoch of a slot's head, the sequence of a journal page
+abbrev pub first_field : List ℕ → ℕ
+first_field page = big_number 8 page
+
+-- the number of the page at the place of this sequence
+abbrev pub journal_page_at : Header → ℕ → ℕ
+journal_page_at h q = page_number h (Journal (place_of h q))
+
+-- the page at the place of this sequence is open and has this sequence
+abbrev pub is_standing : (ℕ → List ℕ) → Header → ℕ → Bool
+is_standing pages h q = is_open (pages (journal_page_at h q)) && (first_field (pages (journal_page_at h q)) == q)
+
+-- ---- what is stored
+
+-- The sizes; the current slot, with its head's numbers and its network; and the commands of the journal pages behind it, page by page.
+-- `sequence` is that of the first of these pages, and `version` that of the slot's network.
+pub record Stored : Type 0 where
+  pub header : Header
+  pub slot : Slot
+  pub epoch : ℕ
+  pub version : ℕ
+  pub sequence : ℕ
+  pub network : Net
+  pub unchecked : List (List Command)
+
+-- the commands of these pages, one after the other
+abbrev pub joined : List (List Command) → List Command
+joined pages = flat_map (λ commands. commands) pages
+
+abbrev pub commands_of : Stored → List Command
+commands_of s = joined s.unchecked
+
+-- the sequence of the page that is written next
+abbrev pub next_sequence : Stored → ℕ
+next_sequence s = s.sequence + length s.unchecked
+
+-- what the current slot's head says
+abbrev pub head_of : Stored → Head
+head_of s = record { epoch = s.epoch; version = s.version; next_sequence = s.sequence; landmarks = s.network.landmarks }
+
+-- the arc pages spell the ends of the network's arcs
+pub record HoldsArcs (pages : ℕ → List ℕ) (h : Header) (net : Net) : Type 0 where
+  pub nodes_are : net.nodes ≡ h.nodes
+  pub count_is : length net.arcs ≡ h.arcs
+  pub each : (i : ℕ) → i < arc_pages h → SpelledArcs h.nodes (places_in_use 511 i h.arcs) (pages (page_number h (Arcs i))) (map ends_of (part 511 i net.arcs))
+
+-- the slot is open, and where the other is open too, that one's epoch is lower
+pub record IsCurrent (pages : ℕ → List ℕ) (h : Header) (slot : Slot) : Type 0 where
+  pub opened : IsTrue (is_open (pages (page_number h (HeadOf slot))))
+  pub above :
+      IsTrue (is_open (pages (page_number h (HeadOf (other slot)))))
+      → first_field (pages (page_number h (HeadOf (other slot)))) < first_field (pages (page_number h (HeadOf slot)))
+
+-- the slot's head page spells this head, with the landmarks of the network, and its word pages the words of the network's arcs
+pub record HoldsSlot (pages : ℕ → List ℕ) (h : Header) (slot : Slot) (head : Head) (net : Net) : Type 0 where
+  pub head_is : SpelledHead h.nodes (pages (page_number h (HeadOf slot))) head
+  pub words : (i : ℕ) → i < word_pages h → SpelledWords (places_in_use 1023 i h.arcs) (pages (page_number h (Words slot i))) (map word_of (part 1023 i net.arcs))
+
+-- the pages of the sequences from q on stand and hold these commands, page by page; the first command has number v + 1
+abbrev pub HoldsJournal : (ℕ → List ℕ) → Header → ℕ → ℕ → List (List Command) → Type 0
+HoldsJournal pages h q v [] = Unit {0}
+HoldsJournal pages h q v (commands ∷ rest) =
+    IsTrue (is_standing pages h q)
+    × SpelledEntry (pages (journal_page_at h q)) (record { sequence = q; first_number = v + 1; commands = commands })
+    × HoldsJournal pages h (q + 1) (v + length commands) rest
+
+-- The file of this size and with these pages stores this. Its journal is the longest list of pages that stand one after the other from
+-- the slot's next sequence on, at most as many as the journal has pages.
+pub record Stores (size : ℕ) (pages : ℕ → List ℕ) (s : Stored) : Type 0 where
+  pub header : SpelledHeader (pages 0) s.header
+  pub opened : IsTrue (is_open (pages 0))
+  pub size_is : size ≡ 4096 * page_count s.header
+  pub arcs : HoldsArcs pages s.header s.network
+  pub current : IsCurrent pages s.header s.slot
+  pub held : HoldsSlot pages s.header s.slot (head_of s) s.network
+  pub journal : HoldsJournal pages s.header s.sequence s.version s.unchecked
+  pub few : length s.unchecked ≤ s.header.journal_pages
+  pub longest : length s.unchecked < s.header.journal_pages → is_standing pages s.header (next_sequence s) ≡ false
+  pub versions_to : s.version + length (commands_of s) ≤ 2 ^ 48
+
+-- the same of a file, as a list of bytes
+abbrev pub IsStoreOf : List ℕ → Stored → Type 0
+IsStoreOf file s = Stores (length file) (page file) s
+
+-- ---- what a file stands for
+
+-- what is stored gives this network at this version: that of the slot with the commands behind it carried out, each a version
+pub record Gives (s : Stored) (net : Net) (version : ℕ) : Type 0 where
+  pub network : after s.network (commands_of s) ≡ Some net
+  pub version_is : version ≡ s.version + length (commands_of s)
+
+-- the same, with what is stored shown: the file stores it, it gives this network and version, and the page of this sequence is written next
+pub record StandsBy (file : List ℕ) (s : Stored) (net : Net) (version next : ℕ) : Type 0 where
+  pub is : IsStoreOf file s
+  pub gives : Gives s net version
+  pub next_is : next ≡ next_sequence s
+
+-- The file stands for this network at this version, and the page of this sequence is written next.
+abbrev pub StandsFor : List ℕ → Net → ℕ → ℕ → Type 0
+StandsFor file net version next = (s : Stored) × StandsBy file s net version next
+
+-- ---- tidiness
+
+-- no page of the journal that is open and stands at the place of its sequence has this sequence or a later one
+abbrev pub HasNoLaterPage : (ℕ → List ℕ) → Header → ℕ → Type 0
+HasNoLaterPage pages h next = (q : ℕ) → next ≤ q → is_standing pages h q ≡ false
+
+-- the file stands for this network, version and next sequence by what it stores, and no page of its journal is of that sequence or a later one
+pub record StandsTidyBy (file : List ℕ) (s : Stored) (net : Net) (version next : ℕ) : Type 0 where
+  pub stands : StandsBy file s net version next
+  pub tidy : HasNoLaterPage (page file) s.header next
+
+-- The file is tidy and stands for this network at this version.
+abbrev pub StandsTidyFor : List ℕ → Net → ℕ → Type 0
+StandsTidyFor file net version = (s : Stored) × (next : ℕ) × StandsTidyBy file s net version next
+
+-- The file stands for something, and no page of its journal is of the next sequence or a later one.
+abbrev pub IsTidy : List ℕ → Type 0
+IsTidy file = (net : Net) × (version : ℕ) × StandsTidyFor file net version

@@ -1,0 +1,31 @@
+// Laws of the definitions.
+
+ghost use Rattle.storefile.specs.Laws.{AtMostOne, IsNotRefused, StandsUnlessRefused, StoresNetworks, StandsForNetworks, StandingIsStored, ClosedPageMeansNothing, OpenPageIsOneMore, ClosedSlotMeansNothing, OpenSlotIsCurrent};
+ghost use Rattle.storefile.specs.Vectors.{FileExamples};
+
+/// A file stands for at most one network, version and next sequence, and for one exactly where opening refuses it nowhere.
+pub fn meaning_of_a_file()
+    ensures at_most_one { AtMostOne }
+    ensures not_refused { IsNotRefused }
+    ensures unless_refused { StandsUnlessRefused }
+    ensures networks { StoresNetworks }
+    ensures stands_for_networks { StandsForNetworks }
+    ensures told { StandingIsStored }
+{}
+
+/// What a file stands for while the page of its journal that comes next is written, and once it is.
+pub fn journal_page_that_is_written()
+    ensures closed { ClosedPageMeansNothing }
+    ensures opened { OpenPageIsOneMore }
+{}
+
+/// What a file stands for while the slot that is not current is written, and once it is.
+pub fn slot_that_is_written()
+    ensures closed { ClosedSlotMeansNothing }
+    ensures opened { OpenSlotIsCurrent }
+{}
+
+/// The worked files are judged so.
+pub fn worked_files()
+    ensures { FileExamples }
+{}

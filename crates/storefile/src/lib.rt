@@ -1,0 +1,8 @@
+//! What a store file means: the network and version for which its bytes stand, or the first reason why they stand for none.
+#![tactic(auto)]
+
+mod laws;
+
+pub use laws::{
+    journal_page_that_is_written, meaning_of_a_file, slot_that_is_written, worked_files,
+};

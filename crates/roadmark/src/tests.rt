@@ -2,7 +2,7 @@ use crate::{
     CountedWriter, Failed, Job, batch_text, fault_line, joint_counted, joint_text, once_counted,
     once_text, read_words, status,
 };
-use dimacs::{Code, Counted, Fault};
+use dimacs::{Code, Counted, Fault, parse_commands, parse_gr};
 use roadnet::Refusal;
 use std::alloc::Global;
 use std::io;
@@ -527,4 +527,43 @@ fn faults_of_batches(rt: HostRuntime) {
         assert!(rt; outcome == Err(Failed::Text { which, fault }), "{fault}");
         assert!(rt; out.is_empty(), "{fault}");
     }
+}
+
+/// Commands as a text gives them, each refused by the network with its own number.
+#[test]
+fn refusals_of_commands(rt: HostRuntime) -> Result<(), Fail> {
+    let six = &SIX[..SIX.len() - 4];
+    let text = b"set 9 1\nset 1 2147483648\nset 9 2147483648\nmark 7\nunmark 3\nreopen 7\n";
+    let Ok(mut network) = parse_gr(rt.alloc(), six) else {
+        return Err("the network".into());
+    };
+    let Ok(commands) = parse_commands(rt.alloc(), text) else {
+        return Err("the commands".into());
+    };
+    let mut numbers = Vec::new(rt.alloc());
+    for command in commands {
+        match network.apply(command) {
+            Ok(()) => numbers.push(0)?,
+            Err(refusal) => numbers.push(refusal.number())?,
+        }
+    }
+    assert!(rt; numbers.as_slice() == [20, 21, 20, 24, 26, 23].as_slice());
+    Ok(())
+}
+
+/// Every width of the buckets gives the same answers.
+#[test]
+fn widths_give_one_answer(rt: HostRuntime) -> Result<(), Fail> {
+    let script =
+        b"p sp 4 3\na 1 2 2147483647\na 2 3 2147483647\na 3 4 2147483647\nrun\ndist 1 4\ndist 4 1\n";
+    for delta in [None, Some(1), Some(5), Some(2147483647)] {
+        let mut reader = script.as_slice();
+        let mut out = Vec::new(rt.alloc());
+        assert!(rt; joint_text(rt.alloc(), &mut reader, delta, &mut out) == Ok(()));
+        assert!(rt;
+            out.as_slice() == b"v 0\nd 1 4 6442450941\nv 0\nx 4 1\n".as_slice(),
+            "{delta:?}"
+        );
+    }
+    Ok(())
 }

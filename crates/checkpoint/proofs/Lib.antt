@@ -1,4 +1,5 @@
 pub mod Ascending
+pub mod Flawless
 pub mod Joined
 pub mod Loaded
 pub mod Places

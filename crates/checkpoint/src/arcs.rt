@@ -1,6 +1,7 @@
 ghost use Rattle.std.specs.Prelude.{◌≡◌, ◌+◌, ◌*◌, ◌<◌, ◌↔◌, ◌++◌, Ok, length, map, min, IfOk, IfErr, OnOk};
+ghost use Rattle.std.specs.List.{AllByRecursion};
 ghost use Rattle.disk.specs.Moments.{StaysSame};
-ghost use Rattle.pages.specs.Spelling.{IsHeader, ends_of};
+ghost use Rattle.pages.specs.Spelling.{IsHeader, IsEnds, ends_of};
 ghost use Rattle.pages.specs.Layout.{Arcs, page_number, page_count, arc_pages, places_in_use};
 ghost use Rattle.storefile.specs.StoreFile.{page};
 ghost use Rattle.storefile.specs.Judging.{spelled_at, arcs_in, ends_from};
@@ -29,6 +30,7 @@ pub fn read_arcs<D: Disk>(
     requires run { D.honest disk.old → IsRunOf (D.content disk.old) reader.old }
     ensures spelled { D.honest disk.old → IfOk result (λ arcs. ends_from (page (D.content disk.old)) header.now ≡ Ok (map ends_of arcs.items)) }
     ensures count { IfOk result (λ arcs. length arcs.items ≡ header.now.arcs) }
+    ensures fits { IfOk result (λ arcs. AllByRecursion (IsEnds header.now.nodes) (map ends_of arcs.items)) }
     ensures refused { D.honest disk.old → IfErr result (λ refusal. MayRefuse (ends_from (page (D.content disk.old)) header.now) refusal) }
     ensures run { D.honest disk.old → IsRunOf (D.content disk.old) reader.new }
     ensures same { D.honest disk.old → StaysSame D.content D.left D.moment D.left_since disk.old disk.new }

@@ -1,8 +1,8 @@
 ghost use Rattle.std.specs.Prelude.{◌≡◌, ◌*◌, ◌↔◌, Ok, length, map, IfOk, IfErr};
-ghost use Rattle.std.specs.List.Sorted.{IsStrictlyIncreasing};
+ghost use Rattle.std.specs.List.{AllByRecursion};
 ghost use Rattle.roadnet.specs.declared.refusals.Refusal.TheVariants.{OutOfMemory as out_of_memory};
 ghost use Rattle.disk.specs.Moments.{StaysSame};
-ghost use Rattle.pages.specs.Spelling.{IsHeader, IsHead, ends_of};
+ghost use Rattle.pages.specs.Spelling.{IsHeader, IsHead, IsEnds, IsWord, ends_of, word_of};
 ghost use Rattle.pages.specs.Layout.{page_count};
 ghost use Rattle.storefile.specs.StoreFile.{page};
 ghost use Rattle.pagereader.specs.Runs.{IsRunOf};
@@ -13,7 +13,7 @@ use crate::heads::read_head;
 use crate::words::read_words;
 use disk::Disk;
 use pagereader::PageReader;
-use pages::{Header, Slot};
+use pages::{Header, Slot, SlotHead};
 use roadnet::{Network, Refusal, RoadArc};
 use std::alloc::Global;
 
@@ -40,6 +40,7 @@ pub fn load<D: Disk>(
     requires whole { D.honest disk.old → length (D.content disk.old) ≡ 4096 * page_count header.now }
     requires run { D.honest disk.old → IsRunOf (D.content disk.old) reader.old }
     requires count { length arcs.items ≡ header.now.arcs }
+    requires ends { AllByRecursion (IsEnds header.now.nodes) (map ends_of arcs.items) }
     ensures loaded { D.honest disk.old → IfOk result (λ c. loaded_from (page (D.content disk.old)) header.now slot (map ends_of arcs.items) ≡ Ok (head_of c, c.network)) }
     ensures fits { IfOk result (λ c. IsHead header.now.nodes (head_of c)) }
     ensures refused { D.honest disk.old → IfErr result (λ refusal. MayRefuse (loaded_from (page (D.content disk.old)) header.now slot (map ends_of arcs.items)) refusal) }
@@ -55,7 +56,7 @@ pub fn load<D: Disk>(
     if let Err(refusal) = read_words(alloc, disk, header, slot, reader, &mut arcs) {
         return Err(refusal);
     }
-    let network = match network_of(alloc, header, arcs, head.landmarks()) {
+    let network = match network_of(alloc, header, arcs, &head) {
         Ok(network) => network,
         Err(refusal) => return Err(refusal),
     };
@@ -67,19 +68,23 @@ pub fn load<D: Disk>(
     })
 }
 
-// The network of these parts, whose landmarks are ascending already.
+// The network of these parts, which have no flaw.
 fn network_of(
     alloc: Global,
     header: &Header,
     arcs: Vec<RoadArc>,
-    landmarks: &[u32],
+    head: &SlotHead,
 ) -> Result<Network, Refusal>
-    requires { IsStrictlyIncreasing landmarks.now }
-    ensures network { IfOk result (λ net. net ≡ record { nodes = header.now.nodes; arcs = arcs.items; landmarks = landmarks.now }) }
+    requires header { IsHeader header.now }
+    requires head { IsHead header.now.nodes head.now }
+    requires count { length arcs.items ≡ header.now.arcs }
+    requires ends { AllByRecursion (IsEnds header.now.nodes) (map ends_of arcs.items) }
+    requires words { AllByRecursion IsWord (map word_of arcs.items) }
+    ensures network { IfOk result (λ net. net ≡ record { nodes = header.now.nodes; arcs = arcs.items; landmarks = head.now.landmarks }) }
     ensures refused { IfErr result (λ refusal. refusal ≡ out_of_memory) }
 {
-    let Ok(network) = Network::new(alloc, header.nodes, arcs, landmarks) else {
-        return Err(Refusal::OutOfMemory);
-    };
-    Ok(network)
+    match Network::new(alloc, header.nodes, arcs, head.landmarks()) {
+        Ok(network) => Ok(network),
+        Err(refusal) => Err(refusal),
+    }
 }

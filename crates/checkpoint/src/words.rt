@@ -1,6 +1,7 @@
 ghost use Rattle.std.specs.Prelude.{◌≡◌, ◌+◌, ◌*◌, ◌<◌, ◌≤◌, ◌↔◌, ◌++◌, Ok, length, map, min, take, IfErr, OnOk};
+ghost use Rattle.std.specs.List.{AllByRecursion};
 ghost use Rattle.disk.specs.Moments.{StaysSame};
-ghost use Rattle.pages.specs.Spelling.{IsHeader, ends_of, word_of};
+ghost use Rattle.pages.specs.Spelling.{IsHeader, IsWord, ends_of, word_of};
 ghost use Rattle.pages.specs.Layout.{Words, page_number, page_count, word_pages, places_in_use};
 ghost use Rattle.storefile.specs.StoreFile.{page};
 ghost use Rattle.storefile.specs.Judging.{spelled_at, words_in, words_from};
@@ -29,6 +30,7 @@ pub fn read_words<D: Disk>(
     requires run { D.honest disk.old → IsRunOf (D.content disk.old) reader.old }
     requires count { length arcs.old ≡ header.now.arcs }
     ensures spelled { D.honest disk.old → OnOk result (words_from (page (D.content disk.old)) header.now slot ≡ Ok (map word_of arcs.new)) }
+    ensures fits { OnOk result (AllByRecursion IsWord (map word_of arcs.new)) }
     ensures ends { map ends_of arcs.new ≡ map ends_of arcs.old }
     ensures refused { D.honest disk.old → IfErr result (λ refusal. MayRefuse (words_from (page (D.content disk.old)) header.now slot) refusal) }
     ensures run { D.honest disk.old → IsRunOf (D.content disk.old) reader.new }

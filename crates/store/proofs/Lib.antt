@@ -1,8 +1,10 @@
 pub mod Appended
 pub mod Applied
+pub mod Committed
 pub mod Growing
 pub mod LaidOut
 pub mod NewStore
 pub mod Refused
 pub mod Replayed
+pub mod Resting
 pub mod Steps

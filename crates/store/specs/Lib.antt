@@ -1,2 +1,4 @@
+pub mod Committing
 pub mod Created
 pub mod Opening
+pub mod Resting

@@ -2,6 +2,7 @@
 #![tactic(auto)]
 
 mod batch;
+mod commit;
 mod creation;
 mod header;
 mod opening;
@@ -12,6 +13,8 @@ pub use creation::create;
 pub use opening::open;
 pub use store::Store;
 
+#[cfg(test)]
+mod commit_tests;
 #[cfg(test)]
 mod creation_tests;
 #[cfg(test)]

@@ -1,5 +1,6 @@
 ghost use Rattle.std.specs.Prelude.{◌≡◌, false, not};
-ghost use Rattle.storefile.specs.Standing.{HasFitNumbers, IsAtRest};
+ghost use Rattle.storefile.specs.Standing.{HasFitNumbers};
+ghost use Rattle.store.specs.Resting.{IsAtRest};
 
 use disk::Disk;
 use pages::{Header, Slot};
@@ -26,7 +27,7 @@ pub struct Store<D: Disk> {
     /// The disk failed in a write.
     pub(crate) broken: bool,
     ghost numbers: { HasFitNumbers header epoch version next_sequence unchecked },
-    ghost stands: { broken ≡ false → D.honest disk → IsAtRest (D.content disk) (D.left disk) (record { header = header; slot = slot; epoch = epoch; network = network; version = version; next = next_sequence; unchecked = unchecked }) },
+    ghost rests: { broken ≡ false → D.honest disk → IsAtRest (D.content disk) (D.left disk) header },
 }
 
 impl<D: Disk> Store<D> {

@@ -1,9 +1,10 @@
-use Rattle.std.proofs.Common.{◌≡◌, ◌∙◌, ℕ, List, ◌++◌, Ok, length, take, drop, ap, sym, arith}
+use Rattle.std.proofs.Common.{◌≡◌, ◌∙◌, ℕ, List, ◌++◌, Ok, length, take, drop, ap, sym, subst, arith}
 use Rattle.std.specs.Prelude.{map}
+use Rattle.std.specs.List.{AllByRecursion}
 use Rattle.std.proofs.lemmas.List.{take_at}
 use Rattle.roadnet.specs.declared.arcs.RoadArc.{RoadArc}
 use Rattle.roadnet.specs.Net.{Net}
-use Rattle.pages.specs.Spelling.{ends_of, word_of}
+use Rattle.pages.specs.Spelling.{IsEnds, IsWord, ends_of, word_of}
 use Rattle.pages.proofs.Heads.{same_head}
 use Rattle.storefile.specs.StoreFile.{page}
 use Rattle.storefile.specs.Judging.{words_from}
@@ -11,6 +12,20 @@ use Rattle.checkpoint.specs.Loading.{head_of}
 use Rattle.checkpoint.proofs.Loaded.{loaded_is}
 use Rattle.disk.proofs.Steps.{same_twice}
 use Rattle.checkpoint.proofs.slots.load.Goals as goal
+
+pub network_of-requires-clause-ends : goal.network_of-requires-clause-ends
+network_of-requires-clause-ends g c =
+    let back : take c.args.arcs.len (c.read_words.new.arcs ++ drop (length c.read_words.new.arcs) c.args.arcs.items) ≡ c.read_words.new.arcs =
+    take_at c.read_words.new.arcs (drop (length c.read_words.new.arcs) c.args.arcs.items) c.args.arcs.len (omega arith) in
+    let same : map ends_of c.read_words.new.arcs ≡ map ends_of c.args.arcs.items = c.read_words.ensures.ends ∙ ap (map ends_of) c.deref_mut.ensures.value in
+    subst (λ (xs : List RoadArc). AllByRecursion (IsEnds c.args.header.now.nodes) (map ends_of xs)) (sym back)
+    (subst (AllByRecursion (IsEnds c.args.header.now.nodes)) (sym same) c.requires.ends)
+
+pub network_of-requires-clause-words : goal.network_of-requires-clause-words
+network_of-requires-clause-words g c =
+    let back : take c.args.arcs.len (c.read_words.new.arcs ++ drop (length c.read_words.new.arcs) c.args.arcs.items) ≡ c.read_words.new.arcs =
+    take_at c.read_words.new.arcs (drop (length c.read_words.new.arcs) c.args.arcs.items) c.args.arcs.len (omega arith) in
+    subst (λ (xs : List RoadArc). AllByRecursion IsWord (map word_of xs)) (sym back) c.in_default.ensures.fits
 
 pub returns-in-Err-read_words-clause-same : goal.returns-in-Err-read_words-clause-same
 returns-in-Err-read_words-clause-same g c h =
@@ -31,8 +46,7 @@ returns-clause-loaded g c h =
     let back : take c.args.arcs.len (c.read_words.new.arcs ++ drop (length c.read_words.new.arcs) c.args.arcs.items) ≡ c.read_words.new.arcs =
     take_at c.read_words.new.arcs (drop (length c.read_words.new.arcs) c.args.arcs.items) c.args.arcs.len (omega arith) in
     let net : c.in-Ok-network_of.network ≡ record { nodes = c.args.header.now.nodes; arcs = c.read_words.new.arcs; landmarks = c.in-Ok.head.landmarks } =
-    c.in-Ok-network_of.ensures.network ∙ ap (λ (xs : List RoadArc). record { nodes = c.args.header.now.nodes; arcs = xs; landmarks = c.landmarks.result.now }) back
-    ∙ ap (λ (xs : List ℕ). record { nodes = c.args.header.now.nodes; arcs = c.read_words.new.arcs; landmarks = xs }) c.landmarks.ensures in
+    c.in-Ok-network_of.ensures.network ∙ ap (λ (xs : List RoadArc). record { nodes = c.args.header.now.nodes; arcs = xs; landmarks = c.in-Ok.head.landmarks }) back in
     let said = head_of (record { epoch = c.epoch.result; version = c.version.result; next_sequence = c.next_sequence.result; network = c.in-Ok-network_of.network }) in
     let words : words_from (page (g.D.Disk.content c.args.disk.now)) c.args.header.now c.args.slot ≡ Ok (map word_of c.read_words.new.arcs) =
     ap (λ (f : List ℕ). words_from (page f) c.args.header.now c.args.slot) (sym (c.in-Ok.ensures.same h).same_content) ∙ c.in_default.ensures.spelled (c.in-Ok.ensures.honest.1 h) in

@@ -1,6 +1,7 @@
-use Rattle.std.proofs.Common.{◌≡◌}
-use Rattle.std.specs.Prelude.{map}
-use Rattle.pages.specs.Spelling.{ends_of}
+use Rattle.std.proofs.Common.{◌≡◌, ◌*◌, take}
+use Rattle.std.specs.Prelude.{map, min}
+use Rattle.std.specs.List.{AllByRecursion}
+use Rattle.pages.specs.Spelling.{IsWord, ends_of, word_of}
 use Rattle.pagereader.specs.Runs.{IsRunOf}
 use Rattle.pagereader.proofs.Unchanged.{HasRead}
 use Rattle.checkpoint.proofs.SoFar.{WordsSoFar}
@@ -9,6 +10,7 @@ use Rattle.checkpoint.proofs.words.read_words.Given as goal
 abbrev pub invariant-loop-i : goal.invariant-loop-i
 invariant-loop-i g l = record {
   said : g.D.Disk.honest l.fn.disk → WordsSoFar (g.D.Disk.content l.fn.disk) l.header l.slot l.arcs l.i;
+  fits : AllByRecursion IsWord (map word_of (take (min (1023 * l.i) l.header.arcs) l.arcs));
   ends : map ends_of l.arcs ≡ map ends_of l.fn.arcs;
   run : g.D.Disk.honest l.fn.disk → IsRunOf (g.D.Disk.content l.fn.disk) l.reader;
   read : HasRead g.D.Disk.content g.D.Disk.left g.D.Disk.moment g.D.Disk.left_since g.D.Disk.failures g.D.Disk.honest l.fn.disk l.disk;

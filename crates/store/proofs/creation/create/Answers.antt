@@ -4,6 +4,7 @@ use Rattle.pages.specs.declared.header.Header.{Header}
 use Rattle.pages.specs.Spelling.{IsHeader}
 use Rattle.storefile.specs.StoreFile.{StandsTidyFor}
 use Rattle.store.proofs.NewStore.{created, same_header, sizes_fit, new_numbers}
+use Rattle.store.proofs.Resting.{size_told}
 use Rattle.store.proofs.creation.create.Goals as goal
 
 pub invariant_of-result : goal.invariant_of-result
@@ -13,12 +14,12 @@ invariant_of-result g c =
     let fits = sizes_fit net c.args.journal_pages c.nodes.ensures.network c.requires.some c.requires.few in
     record {
       numbers = new_numbers (record { nodes = c.nodes.result; arcs = length c.arcs.result.now; journal_pages = c.args.journal_pages }) (subst (λ (x : Header). IsHeader x) (sym is) fits);
-      stands = λ works honest.
+      rests = λ works honest.
           let laid = c.open_gates.ensures.honest.0 honest in
           let begun = c.lay_out.ensures.honest.0 laid in
           let made = created (g.D.Disk.content c.open_gates.new.disk) (g.D.Disk.content c.lay_out.new.disk) (record { nodes = c.nodes.result; arcs = length c.arcs.result.now; journal_pages = c.args.journal_pages }) net c.args.journal_pages
           c.nodes.ensures.network fits is (c.in-Ok-lay_out.ensures.laid_out begun) (c.in-Ok-open_gates.ensures.opened laid) in
-          (c.in-Ok-open_gates.ensures.at_rest laid, made.standing_is);
+          (c.in-Ok-open_gates.ensures.at_rest laid, size_told (g.D.Disk.content c.open_gates.new.disk) _ made.standing_is);
     }
 
 pub returns-clause-stands : goal.returns-clause-stands
@@ -45,3 +46,14 @@ returns-clause-tidy g c = λ h.
     let made = created (g.D.Disk.content c.open_gates.new.disk) (g.D.Disk.content c.lay_out.new.disk) (record { nodes = c.nodes.result; arcs = length c.arcs.result.now; journal_pages = c.args.journal_pages }) net c.args.journal_pages
     c.nodes.ensures.network fits is (c.in-Ok-lay_out.ensures.laid_out begun) (c.in-Ok-open_gates.ensures.opened laid) in
     made.tidy_at
+
+pub returns-clause-standing : goal.returns-clause-standing
+returns-clause-standing g c = λ h.
+    let net : Net = c.in-Ok-copy.copy in
+    let is = same_header net c.args.journal_pages c.nodes.result c.arcs.result.now c.nodes.ensures.value c.arcs.ensures.value in
+    let fits = sizes_fit net c.args.journal_pages c.nodes.ensures.network c.requires.some c.requires.few in
+    let begun = c.length_of.ensures.honest.1 h in
+    let laid = c.lay_out.ensures.honest.1 begun in
+    let made = created (g.D.Disk.content c.open_gates.new.disk) (g.D.Disk.content c.lay_out.new.disk) (record { nodes = c.nodes.result; arcs = length c.arcs.result.now; journal_pages = c.args.journal_pages }) net c.args.journal_pages
+    c.nodes.ensures.network fits is (c.in-Ok-lay_out.ensures.laid_out begun) (c.in-Ok-open_gates.ensures.opened laid) in
+    made.standing_is

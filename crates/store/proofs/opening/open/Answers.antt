@@ -1,6 +1,16 @@
+use Rattle.std.proofs.Common.{◌∙◌, ap, length}
 use Rattle.storefile.proofs.Rests.{stored_as}
 use Rattle.store.proofs.Refused.{passes}
+use Rattle.store.proofs.Resting.{size_told}
 use Rattle.store.proofs.opening.open.Goals as goal
+
+pub invariant_of-result : goal.invariant_of-result
+invariant_of-result g c = record {
+  numbers = c.in-Ok.ensures.numbers;
+  rests = λ works now.
+      let h = c.find.ensures.honest.0 now in
+      (c.in-Ok.ensures.at_rest h, ap length (c.find.ensures.same h).same_content ∙ size_told (g.D.Disk.content c.args.disk) _ (c.in-Ok.ensures.standing h));
+}
 
 pub returns-in-Err-clause-opens : goal.returns-in-Err-clause-opens
 returns-in-Err-clause-opens g c h all =

@@ -1,0 +1,50 @@
+ghost use Rattle.std.specs.Prelude.{◌≡◌, ◌+◌, ◌*◌, ◌≤◌, ◌↔◌, All, length, OnOk};
+ghost use Rattle.disk.specs.Contents.{Only, failures_after};
+ghost use Rattle.disk.specs.Moments.{LeavesOnly};
+ghost use Rattle.disk.specs.Gated.{IsWholeOrShut, with_page};
+ghost use Rattle.pages.specs.Spelling.{IsHeader, IsRecord, body, entry_page};
+ghost use Rattle.pages.specs.Layout.{page_count};
+ghost use Rattle.storefile.specs.StoreFile.{journal_page_at};
+
+use disk::{Disk, DiskError, write_gated};
+use pages::{GATE_AT, Header, PAGE_SIZE, encode_journal_page};
+use roadnet::Command;
+
+/// All of a page but its gate.
+fn body_of(page: &[u8; PAGE_SIZE]) -> &[u8]
+    ensures bytes { result.now ≡ body page.now }
+    ensures size { length result.now ≡ 4095 }
+{
+    &page[..GATE_AT]
+}
+
+/// Writes the journal page of these commands, 1 to 253, at the place of this sequence, over the page that stands there: its gate is closed
+/// where it reads open, then the body is written, then the gate is opened. The first command has this number. A sync stands behind each
+/// of these writes, so there are four writes and syncs, or six.
+///
+/// A sync stands before it too: the content is all that a stop may leave. It takes no memory beside one page.
+pub fn append_page<D: Disk>(
+    disk: &mut D,
+    header: &Header,
+    sequence: u64,
+    first_number: u64,
+    commands: &[Command],
+) -> Result<(), DiskError>
+    requires header { IsHeader header.now }
+    requires some { 1 ≤ length commands.now }
+    requires few { length commands.now ≤ 253 }
+    requires fits { All IsRecord commands.now }
+    requires at_rest { D.honest disk.old → Only (D.content disk.old) (D.left disk.old) }
+    requires whole { D.honest disk.old → length (D.content disk.old) ≡ 4096 * page_count header.now }
+    ensures written { D.honest disk.old → OnOk result (D.content disk.new ≡ with_page (D.content disk.old) (4096 * journal_page_at header.now sequence) (body (entry_page (record { sequence = sequence; first_number = first_number; commands = commands.now })))) }
+    ensures at_rest { D.honest disk.old → OnOk result (Only (D.content disk.new) (D.left disk.new)) }
+    // A stop at any moment of the call leaves the old page whole, the new one whole, or a closed gate.
+    ensures any_moment { D.honest disk.old → LeavesOnly D.moment D.left_since disk.old disk.new (IsWholeOrShut (D.content disk.old) (4096 * journal_page_at header.now sequence) (body (entry_page (record { sequence = sequence; first_number = first_number; commands = commands.now })))) }
+    ensures counted { D.failures disk.new ≡ failures_after result (D.failures disk.old) }
+    ensures honest { D.honest disk.new ↔ D.honest disk.old }
+{
+    let page = encode_journal_page(sequence, first_number, commands);
+    let body = body_of(&page);
+    let number = header.journal_page(sequence);
+    write_gated(disk, PAGE_SIZE as u64 * number, body)
+}

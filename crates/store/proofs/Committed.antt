@@ -1,0 +1,150 @@
+-- What a commit leaves, and why it is refused.
+use Rattle.std.proofs.Common.{◌≡◌, ◌⊎◌, inl, inr, ⊎_elim, ℕ, ◌+◌, ◌*◌, ◌^◌, ◌<◌, ◌≤◌, Bool, true, false, cond, List, [], ◌∷◌, ◌++◌, length, Option, Some, None, refl, sym, ◌∙◌, ap, subst, arith, lit≤, length-append}
+use Rattle.std.specs.Prelude.{is_none}
+use Rattle.std.specs.List.{All}
+use Rattle.std.proofs.lemmas.List.Elements.{All-weaker, recursion_from_All}
+use Rattle.disk.specs.Contents.{Only}
+use Rattle.disk.specs.Gated.{SameOutside, IsWholeOrShut, with_page}
+use Rattle.disk.specs.Moments.{LeavesOnly}
+use Rattle.disk.proofs.Steps.{started}
+use Rattle.roadnet.specs.declared.commands.Command.{Command}
+use Rattle.roadnet.specs.declared.commands.Command.TheVariants.{Set, Close, Reopen, Mark, Unmark}
+use Rattle.roadnet.specs.declared.refusals.Refusal.{Refusal}
+use Rattle.roadnet.specs.declared.refusals.Refusal.TheVariants.{Device, OutOfMemory}
+use Rattle.roadnet.specs.Batches.{HasFitNumbers as Fits, MayRefuseBatch}
+use Rattle.roadnet.specs.Causes.{first_applying}
+use Rattle.roadnet.specs.Net.{Net}
+use Rattle.roadnet.specs.Numbers.{number_of}
+use Rattle.roadnet.specs.Step.{after, causes, changed, refusal_of, first_refusal}
+use Rattle.pages.specs.declared.header.Header.{Header}
+use Rattle.pages.specs.Layout.{page_count}
+use Rattle.pages.specs.Spelling.{body, entry_page, IsRecord}
+use Rattle.storefile.specs.StoreFile.{page, journal_page_at, HasNoLaterPage, StandsTidyBy, StandsTidyFor}
+use Rattle.storefile.specs.Standing.{Standing, HasFitNumbers, IsBeforeOrAfter}
+use Rattle.storefile.proofs.PageBytes.{written_outside}
+use Rattle.storefile.proofs.Meaning.{IsPage, is_page, page_size, page_within, stored_more, tidy_more, before_or_after, rests}
+use Rattle.storefile.proofs.Rests.{stored_as, standing_is}
+use Rattle.store.specs.Committing.{StandsTidily}
+
+-- ---- the commands
+
+record_fits : (command : Command) → Fits command → IsRecord command
+record_fits (Set k w) fits = (fits.0, omega (arith, fits.1))
+record_fits (Close k) fits = fits
+record_fits (Reopen k) fits = fits
+record_fits (Mark x) fits = fits
+record_fits (Unmark x) fits = fits
+
+records_fit : (commands : List Command) → All Fits commands → All IsRecord commands
+records_fit commands fit = All-weaker Fits IsRecord record_fits commands fit
+
+-- ---- no command is refused as a disk is
+
+-- the refusals of a table have numbers below that of a disk that failed
+abbrev AreBelow : List (Refusal × Bool) → Type 0
+AreBelow [] = Unit {0}
+AreBelow (row ∷ rows) = (number_of row.0 < 43) × AreBelow rows
+
+below_answer : (table : List (Refusal × Bool)) (refusal : Refusal) → AreBelow table → first_applying table ≡ Some refusal → number_of refusal < 43
+below_answer [] refusal below e = absurd cc
+below_answer (row ∷ rows) refusal below e =
+    elim (row.1) as (λ b. cond b (Some row.0) (first_applying rows) ≡ Some refusal → number_of refusal < 43) [
+      | true ↦ λ is. let same : row.0 ≡ refusal = cc in subst (λ (r : Refusal). number_of r < 43) same below.0
+      | false ↦ λ is. below_answer rows refusal below.1 is
+    ] e
+
+below_refusal : (net : Net) (command : Command) (refusal : Refusal) → refusal_of net command ≡ Some refusal → number_of refusal < 43
+below_refusal net (Set k w) refusal e = below_answer (causes net (Set k w)) refusal (lit≤ tt, (lit≤ tt, tt)) e
+below_refusal net (Close k) refusal e = below_answer (causes net (Close k)) refusal (lit≤ tt, (lit≤ tt, tt)) e
+below_refusal net (Reopen k) refusal e = below_answer (causes net (Reopen k)) refusal (lit≤ tt, (lit≤ tt, tt)) e
+below_refusal net (Mark x) refusal e = below_answer (causes net (Mark x)) refusal (lit≤ tt, (lit≤ tt, (lit≤ tt, tt))) e
+below_refusal net (Unmark x) refusal e = below_answer (causes net (Unmark x)) refusal (lit≤ tt, (lit≤ tt, tt)) e
+
+here_or_later : (here later : Option Refusal) (refusal : Refusal) → cond (is_none here) later here ≡ Some refusal → (later ≡ Some refusal) ⊎ (here ≡ Some refusal)
+here_or_later None later refusal e = inl e
+here_or_later (Some found) later refusal e = inr e
+
+below_first : (net : Net) (commands : List Command) (refusal : Refusal) → first_refusal net commands ≡ Some refusal → number_of refusal < 43
+below_first net [] refusal e = absurd cc
+below_first net (command ∷ commands) refusal e =
+    ⊎_elim (λ later. below_first (changed net command) commands refusal later) (λ here. below_refusal net command refusal here) (here_or_later (refusal_of net command) (first_refusal (changed net command) commands) refusal e)
+
+pub not_device : (net : Net) (commands : List Command) (refusal : Refusal) → MayRefuseBatch net commands refusal → refusal ≡ Device → ⊥
+not_device net commands refusal may is =
+    ⊎_elim (λ told. let below : number_of refusal < 43 = below_first net commands refusal told in let never : 43 < 43 = subst (λ (r : Refusal). number_of r < 43) is below in absurd (omega (arith, never)))
+    (λ memory. let never : OutOfMemory ≡ Device = sym memory.0 ∙ is in absurd cc) may
+
+-- ---- what a stop leaves
+
+-- before the first call of the disk
+pub before : (content : List ℕ) (left : List ℕ → Type 0) (x : Standing) (commands : List Command) → Only content left → StandsTidily content x → (c : List ℕ) → left c → IsBeforeOrAfter x.network x.version commands c
+before content left x commands only stands =
+    rests content left x.header x.slot x.epoch x.network x.version x.next x.unchecked commands only (stored_as content x stands.0) stands.1
+
+-- where no call of the disk is made
+pub no_call : {D : Type 0} (content : D → List ℕ) (left : D → List ℕ → Type 0) (moment : D → ℕ) (left_since : D → ℕ → List ℕ → Type 0) (disk : D) (x : Standing) (commands : List Command) → Only (content disk) (left disk)
+    → ((c : List ℕ) → left_since disk (moment disk) c → left disk c) → StandsTidily (content disk) x → LeavesOnly moment left_since disk disk (IsBeforeOrAfter x.network x.version commands)
+no_call content left moment left_since disk x commands only now stands =
+    started moment left_since disk (IsBeforeOrAfter x.network x.version commands) (λ c since. before (content disk) (left disk) x commands only stands c (now c since))
+
+-- the body of the page that is written
+abbrev pub page_body : Standing → List Command → List ℕ
+page_body x commands = body (entry_page (record { sequence = x.next; first_number = x.version + 1; commands = commands }))
+
+-- what stands once it is written
+abbrev pub more : Standing → Net → List Command → Standing
+more x net commands = record { header = x.header; slot = x.slot; epoch = x.epoch; network = net; version = x.version + length commands; next = x.next + 1; unchecked = x.unchecked + 1 }
+
+-- these commands may be written behind what stands, and lead to this network
+pub record Follow (x : Standing) (net : Net) (commands : List Command) : Type 0 where
+  pub numbers : HasFitNumbers x.header x.epoch x.version x.next x.unchecked
+  pub room : x.unchecked < x.header.journal_pages
+  pub versions : x.version + length commands ≤ 2 ^ 48
+  pub some : 1 ≤ length commands
+  pub few : length commands ≤ 253
+  pub fit : All Fits commands
+  pub goes : after x.network commands ≡ Some net
+
+module _ (old : List ℕ) (x : Standing) (net : Net) (commands : List Command) (follow : Follow x net commands) where
+  wrote : IsPage x.version x.next commands (page_body x commands)
+  wrote = is_page x.version x.next commands follow.versions follow.numbers.next_to follow.some follow.few (recursion_from_All IsRecord commands (records_fit commands follow.fit))
+
+  pub numbers_more : HasFitNumbers x.header x.epoch (x.version + length commands) (x.next + 1) (x.unchecked + 1)
+  numbers_more = record {
+    header = follow.numbers.header;
+    version_to = follow.versions;
+    next_to = omega (arith, follow.numbers.next_to, follow.some);
+    epoch_to = omega (arith, follow.numbers.epoch_to);
+    unchecked_to = omega (arith, follow.room);
+    unchecked_from = omega (arith, follow.numbers.unchecked_from);
+  }
+
+  -- the size stays, whatever stands
+  pub size_kept : (new : List ℕ) → length old ≡ 4096 * page_count x.header → new ≡ with_page old (4096 * journal_page_at x.header x.next) (page_body x commands) → length new ≡ 4096 * page_count x.header
+  size_kept new size is =
+      let whole : length (page_body x commands ++ 165 ∷ []) ≡ 4096 = omega (arith, length-append (page_body x commands) (165 ∷ []), page_size x.version x.next commands (page_body x commands) wrote) in
+      let outside : SameOutside (4096 * journal_page_at x.header x.next) 4096 old (with_page old (4096 * journal_page_at x.header x.next) (page_body x commands)) =
+      written_outside (journal_page_at x.header x.next) old (page_body x commands ++ 165 ∷ []) (page_within x.header x.next (length old) follow.numbers.header size) whole in
+      ap length is ∙ outside.same_length ∙ size
+
+  module _ (stands : StandsTidily old x) where
+    -- at each moment while the page is written
+    pub meanwhile : (c : List ℕ) → IsWholeOrShut old (4096 * journal_page_at x.header x.next) (page_body x commands) c → IsBeforeOrAfter x.network x.version commands c
+    meanwhile = before_or_after old x.header x.slot x.epoch x.network net x.version x.next x.unchecked commands (page_body x commands) (stored_as old x stands.0) stands.1 follow.room wrote follow.goes
+
+    pub stands_more_tidily : (new : List ℕ) → new ≡ with_page old (4096 * journal_page_at x.header x.next) (page_body x commands) → StandsTidily new (more x net commands)
+    stands_more_tidily new is = subst (λ (d : List ℕ). StandsTidily d (more x net commands)) (sym is) (
+      standing_is (with_page old (4096 * journal_page_at x.header x.next) (page_body x commands)) x.header x.slot x.epoch net (x.version + length commands) (x.next + 1) (x.unchecked + 1)
+          (stored_more old x.header x.slot x.epoch x.network net x.version x.next x.unchecked commands (page_body x commands) (stored_as old x stands.0) stands.1 follow.room wrote follow.goes),
+      tidy_more old x.header x.slot x.epoch x.network net x.version x.next x.unchecked commands (page_body x commands) (stored_as old x stands.0) stands.1 follow.room wrote follow.goes,
+    )
+
+-- what a stop leaves of a content that stands and is tidy
+pub left_stands : (content : List ℕ) (left : List ℕ → Type 0) (x : Standing) → Only content left → StandsTidily content x → (c : List ℕ) → left c → StandsTidyFor c x.network x.version
+left_stands content left x only stands c was =
+    let held = stored_as content x stands.0 in (
+      held.stored,
+      x.next,
+      subst (λ (d : List ℕ). StandsTidyBy d held.stored x.network x.version x.next) (sym (only c was))
+          (record { stands = held.stands; tidy = subst (λ (h : Header). HasNoLaterPage (page content) h x.next) (sym held.header_is) stands.1 }),
+    )

@@ -1,9 +1,9 @@
 -- What a value that answers queries of a network keeps.
-use Rattle.std.specs.Prelude.{◌≡◌, ◌≤◌, ℕ, Some, MatchOption, ⊤}
+use Rattle.std.specs.Prelude.{◌≡◌, ◌≤◌, ℕ, Option, Some, MatchOption, unwrap_or, ⊤}
 use Rattle.std.specs.Option.{ForSome}
 use Rattle.roadnet.specs.Net.{Net}
 use Rattle.roadnet.specs.Walks.{RowOf}
-use Rattle.snapshot.specs.Groups.{Groups, IsSnapshotOf}
+use Rattle.snapshot.specs.Groups.{Groups, IsSnapshotOf, default_width}
 use Rattle.rows.specs.declared.searches.KeptRow.{KeptRow}
 use Rattle.rows.specs.declared.searches.Searches.{Searches}
 
@@ -11,16 +11,25 @@ use Rattle.rows.specs.declared.searches.Searches.{Searches}
 abbrev pub IsWidth : ℕ → Type 0
 IsWidth delta = (1 ≤ delta) × (delta ≤ 2147483647)
 
--- the width, if one was given, is one; the groups, if they were made, are those of the network's open arcs; the row that is kept, if
--- any, is that of its source
+-- the width that was given, if one was
+abbrev pub given_width : Searches → Option ℕ
+given_width s = s.delta
+
+-- the groups of the network's open arcs, by the width that was given, or by the network's default where none was
+pub record AreGroupsOf (net : Net) (given : Option ℕ) (groups : Groups) : Type 0 where
+  pub arcs : IsSnapshotOf net groups
+  pub width : groups.delta ≡ unwrap_or given (default_width net)
+
+-- the width, if one was given, is one; the groups, if they were made, are those of the network's open arcs by it; the row that is
+-- kept, if any, is that of its source
 pub record AreOf (net : Net) (s : Searches) : Type 0 where
   pub width : ForSome s.delta IsWidth
-  pub groups : MatchOption s.snapshot ⊤ (IsSnapshotOf net)
+  pub groups : MatchOption s.snapshot ⊤ (AreGroupsOf net s.delta)
   pub row : MatchOption s.kept ⊤ (λ row. RowOf net row.source row.distances)
 
 -- the groups were made
 abbrev pub HasGroupsOf : Net → Searches → Type 0
-HasGroupsOf net s = (groups : Groups) × (s.snapshot ≡ Some groups) × IsSnapshotOf net groups
+HasGroupsOf net s = (groups : Groups) × (s.snapshot ≡ Some groups) × AreGroupsOf net s.delta groups
 
 -- the row of this source is kept
 abbrev pub HasRowOf : Net → ℕ → Searches → Type 0

@@ -1,2 +1,4 @@
 pub mod Replies
 pub mod Kept
+pub mod Views
+pub mod LastRows

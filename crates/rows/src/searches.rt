@@ -2,7 +2,7 @@ ghost use Rattle.std.specs.Prelude.{◌≡◌, IfOk, OnOk};
 ghost use Rattle.std.specs.Option.{ForSome};
 ghost use Rattle.roadnet.specs.Net.{Net, IsNode};
 ghost use Rattle.rows.specs.Replies.{IsRight};
-ghost use Rattle.rows.specs.Kept.{IsWidth, AreOf, HasGroupsOf, HasRowOf};
+ghost use Rattle.rows.specs.Kept.{IsWidth, given_width, AreOf, HasGroupsOf, HasRowOf};
 
 use crate::answers::refusal_of;
 use crate::queries::{Query, Reply};
@@ -35,7 +35,8 @@ impl Searches {
     /// network's default.
     pub fn new(delta: Option<u32>) -> Searches
         requires { ForSome delta IsWidth }
-        ensures { (net : Net) → AreOf net result }
+        ensures delta { given_width result ≡ delta }
+        ensures kept { (net : Net) → AreOf net result }
     {
         Searches {
             delta,
@@ -49,6 +50,7 @@ impl Searches {
         requires { AreOf network.now self.old }
         ensures grouped { OnOk result (HasGroupsOf network.now self.new) }
         ensures kept { AreOf network.now self.new }
+        ensures delta { given_width self.new ≡ given_width self.old }
     {
         if self.snapshot.is_some() {
             return Ok(());
@@ -72,6 +74,7 @@ impl Searches {
         requires kept { AreOf network.now self.old }
         ensures has { OnOk result (HasRowOf network.now source self.new) }
         ensures kept { AreOf network.now self.new }
+        ensures delta { given_width self.new ≡ given_width self.old }
     {
         if let Some(kept) = &self.kept
             && kept.source == source
@@ -106,6 +109,7 @@ impl Searches {
         requires { AreOf network.now self.old }
         ensures right { IfOk result (IsRight network.now query.now) }
         ensures kept { AreOf network.now self.new }
+        ensures delta { given_width self.new ≡ given_width self.old }
     {
         if let Some(refusal) = refusal_of(network, query) {
             return Ok(Reply::Refused(refusal));

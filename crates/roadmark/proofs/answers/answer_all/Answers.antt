@@ -15,5 +15,5 @@ loop-query-init g c = record {
   answered = answered_none c.args.network.now c.args.version [] _ refl;
   counts = refl;
   same = refl;
-  kept = c.new-searches.ensures c.args.network.now;
+  kept = c.new-searches.ensures.kept c.args.network.now;
 }

@@ -20,5 +20,5 @@ loop-pair-init c =
     let none : c.in-Ok.replies.items ≡ [] = c.in-Ok.ensures.items in
     record {
       right = subst (AreRight c.args.network.now []) (sym none) tt;
-      kept = c.new-searches.ensures c.args.network.now;
+      kept = c.new-searches.ensures.kept c.args.network.now;
     }

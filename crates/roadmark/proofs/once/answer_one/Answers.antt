@@ -1,4 +1,4 @@
 use Rattle.roadmark.proofs.once.answer_one.Goals as goal
 
 pub answer-requires : goal.answer-requires
-answer-requires g c = c.new.ensures c.args.network.now
+answer-requires g c = c.new.ensures.kept c.args.network.now

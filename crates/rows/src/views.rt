@@ -1,0 +1,170 @@
+ghost use Rattle.std.specs.Prelude.{◌≡◌, ◌<◌, true, length, slice_index, unwrap_or, IfOk};
+ghost use Rattle.std.specs.List.Sorted.{IsStrictlyIncreasing};
+ghost use Rattle.std.specs.Option.{ForSome};
+ghost use Rattle.snapshot.specs.Groups.{IsSnapshotOf, default_width};
+ghost use Rattle.roadnet.specs.Members.{is_member};
+ghost use Rattle.roadnet.specs.Step.{is_landmark};
+ghost use Rattle.roadnet.specs.Walks.{RowOf};
+ghost use Rattle.rows.specs.Kept.{IsWidth};
+ghost use Rattle.rows.specs.Views.{AreLandmarkRows};
+
+use crate::caches::RowCache;
+use crate::landmark_rows::Row;
+use crate::pinned::Pinned;
+use relax::Team;
+use roadnet::{Network, OutOfMemory};
+use snapshot::{Snapshot, default_delta};
+use std::alloc::Global;
+use std::marker::Model;
+
+/// A network at a version, made ready for queries: its open arcs are grouped, and there is a row for each of its landmarks.
+///
+/// Beside the network it takes 8 bytes an open arc, and 8 a node for the groups and for each landmark.
+#[derive(Drop)]
+pub struct View {
+    version: u64,
+    network: Network,
+    snapshot: Snapshot,
+    rows: Vec<Row>,
+}
+
+impl Model for View {
+    ghost use Rattle.std.specs.Prelude.{◌≡◌};
+    ghost use Rattle.snapshot.specs.Groups.{IsSnapshotOf};
+    ghost use Rattle.rows.specs.Views.{Viewed, AreLandmarkRows};
+
+    ghost Value = { Viewed };
+
+    ghost view = { λ v. record { version = v.version; network = v.network; delta = v.snapshot.delta } };
+
+    ghost invariant = { λ v. IsSnapshotOf v.network v.snapshot × AreLandmarkRows v.version v.network v.rows.items };
+}
+
+/// The rows of a network's landmarks, in their order. The one error is want of memory, and then no row is kept.
+fn rows_of<T: Team>(
+    alloc: Global,
+    version: u64,
+    network: &Network,
+    snapshot: &Snapshot,
+    team: &T,
+) -> Result<Vec<Row>, OutOfMemory>
+    requires { IsSnapshotOf network.now snapshot.now }
+    ensures { IfOk result (λ rows. AreLandmarkRows version network.now rows.items) }
+{
+    let landmarks = network.landmarks();
+    let mut rows = Vec::with_capacity(alloc, landmarks.len())?;
+    for landmark in landmarks {
+        let row = match Row::build(alloc, version, snapshot, *landmark, team) {
+            Ok(row) => row,
+            Err(error) => return Err(error),
+        };
+        if rows.push(row).is_err() {
+            return Err(OutOfMemory);
+        }
+    }
+    Ok(rows)
+}
+
+/// Where a number stands in an ascending list that has it, by a binary search.
+fn place_of(landmarks: &[u32], landmark: u32) -> usize
+    requires ascending { IsStrictlyIncreasing landmarks.now }
+    requires member { is_member landmark landmarks.now ≡ true }
+    ensures within { result < length landmarks.now }
+    ensures at { slice_index landmarks.now result ≡ landmark }
+{
+    let Ok(place) = landmarks.binary_search(&landmark) else {
+        unreachable!();
+    };
+    place
+}
+
+impl View {
+    /// A view of a network at this version: its arcs are grouped, and the row of each landmark is made, by the given team. `delta`, 1
+    /// to 2147483647, is the width of the buckets; where none is given it is the network's default.
+    ///
+    /// The one error is want of memory, and then the network is dropped with what was made of it.
+    pub fn build<T: Team>(
+        alloc: Global,
+        version: u64,
+        network: Network,
+        delta: Option<u32>,
+        team: &T,
+    ) -> Result<View, OutOfMemory>
+        requires { ForSome delta IsWidth }
+        ensures version { IfOk result (λ view. view.version ≡ version) }
+        ensures network { IfOk result (λ view. view.network ≡ network) }
+        ensures delta { IfOk result (λ view. view.delta ≡ unwrap_or delta (default_width network)) }
+    {
+        let width = match delta {
+            Some(width) => width,
+            None => default_delta(&network),
+        };
+        let snapshot = match Snapshot::build(alloc, &network, width) {
+            Ok(snapshot) => snapshot,
+            Err(error) => return Err(error),
+        };
+        match rows_of(alloc, version, &network, &snapshot, team) {
+            Ok(rows) => Ok(View::assemble(version, network, snapshot, rows)),
+            Err(error) => Err(error),
+        }
+    }
+
+    /// A view of its parts: the network's groups, and the rows of its landmarks at this version, in their order. It takes no memory.
+    pub fn assemble(version: u64, network: Network, snapshot: Snapshot, rows: Vec<Row>) -> View
+        requires snapshot { IsSnapshotOf network snapshot }
+        requires rows { AreLandmarkRows version network rows.items }
+        ensures { result ≡ record { version = version; network = network; delta = snapshot.delta } }
+    {
+        View {
+            version,
+            network,
+            snapshot,
+            rows,
+        }
+    }
+
+    /// The version of the network.
+    pub fn version(&self) -> u64
+        ensures { result ≡ self.now.version }
+    {
+        self.version
+    }
+
+    /// The network.
+    pub fn network(&self) -> &Network
+        ensures { result.now ≡ self.now.network }
+    {
+        &self.network
+    }
+
+    /// The open arcs of the network, grouped.
+    pub fn snapshot(&self) -> &Snapshot
+        ensures arcs { IsSnapshotOf self.now.network result.now }
+        ensures delta { result.now.delta ≡ self.now.delta }
+    {
+        &self.snapshot
+    }
+
+    /// The rows of the landmarks, ascending.
+    pub fn rows(&self) -> &[Row]
+        ensures { AreLandmarkRows self.now.version self.now.network result.now }
+    {
+        &self.rows
+    }
+
+    /// The row of a landmark, by a binary search. It takes no memory.
+    pub(crate) fn row_of(&self, landmark: u32) -> &Row
+        requires { is_landmark self.now.network landmark ≡ true }
+        ensures { RowOf self.now.network landmark result.now.distances }
+    {
+        let place = place_of(self.network.landmarks(), landmark);
+        &self.rows[place]
+    }
+
+    /// Answers queries of this view. The cache may keep rows that queries make.
+    pub fn pinned<'a>(&'a self, cache: &'a mut RowCache) -> Pinned<'a>
+        ensures { result ≡ self.now }
+    {
+        Pinned::new(self, cache)
+    }
+}

@@ -3,4 +3,6 @@ pub mod Flawless
 pub mod Joined
 pub mod Loaded
 pub mod Places
+pub mod SlotHeld
+pub mod SlotPages
 pub mod SoFar

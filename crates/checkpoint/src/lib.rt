@@ -1,11 +1,17 @@
-//! The checkpoints of a store: the ends of its arcs, its two slots, and what the current one holds.
+//! The checkpoints of a store: the ends of its arcs, its two slots, what the current one holds, and how the other one is written.
 #![tactic(auto)]
 
 mod arcs;
 mod heads;
+mod slot_pages;
 mod slots;
 mod words;
+mod writing;
 
 pub use arcs::read_arcs;
 pub use heads::choose;
 pub use slots::{Checkpoint, load};
+pub use writing::NextCheckpoint;
+
+#[cfg(test)]
+mod writing_tests;

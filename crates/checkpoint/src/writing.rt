@@ -1,0 +1,251 @@
+// Writing a checkpoint, part by part.
+ghost use Rattle.std.specs.Prelude.{◌≡◌, ◌+◌, ◌-◌, ◌*◌, ◌<◌, ◌≤◌, ◌^◌, ◌↔◌, min, length, IfOk, OnOk, OnErr};
+ghost use Rattle.disk.specs.Contents.{Only, failures_after};
+ghost use Rattle.disk.specs.Moments.{LeavesOnly};
+ghost use Rattle.disk.specs.Gated.{IsShut, IsOldOrShut};
+ghost use Rattle.pages.specs.Spelling.{IsHeader};
+ghost use Rattle.pages.specs.Layout.{other, word_pages, page_count};
+ghost use Rattle.storefile.specs.StoreFile.{page};
+ghost use Rattle.checkpoint.specs.Writing.{head_of, slot_gate, HoldsWords, IsSlotShut, LeavesSlotShut, IsSlotWhole, IsSlotShutOrWhole};
+
+use crate::slot_pages::{gate_at, put_words, write_head, write_word_pages};
+use disk::{Disk, DiskError, close_gate, open_gate, settle};
+use pages::{Header, PAGE_SIZE, Slot, encode_slot_head};
+use roadnet::Network;
+use std::alloc::{AllocError, Global};
+use std::marker::Model;
+
+const BUFFER_SIZE: usize = 64 * PAGE_SIZE;
+
+/// A checkpoint that is being written to the slot that is not current: of the network that its calls are lent, the same in each, with
+/// the version and next sequence that it had at the beginning.
+///
+/// It is written by `begin`, by `write_part` while word pages are left, and by `finish`. Between these calls the rest of the file may
+/// be written. After a failure of the disk nothing more may be written.
+///
+/// It takes a buffer of 256 KiB, and its calls take no memory.
+#[derive(Drop)]
+pub struct NextCheckpoint {
+    slot: Slot,
+    epoch: u64,
+    version: u64,
+    next_sequence: u64,
+    // How many of the word pages are written.
+    written: u64,
+    // The pages of one write.
+    buffer: Vec<u8>,
+}
+
+impl Model for NextCheckpoint {
+    ghost use Rattle.std.specs.Prelude.{◌≡◌, ◌*◌, length};
+    ghost use Rattle.checkpoint.specs.Writing.{Draft};
+
+    ghost Value = { Draft };
+
+    ghost view = { λ c. record { slot = c.slot; epoch = c.epoch; version = c.version; next_sequence = c.next_sequence; written = c.written } };
+
+    ghost invariant = { λ c. length c.buffer.items ≡ 64 * 4096 };
+}
+
+impl NextCheckpoint {
+    /// The checkpoint behind the current one, which has this slot and this epoch: it goes to the other slot, with the next epoch. Nothing
+    /// of it is written.
+    pub fn new(
+        alloc: Global,
+        current: Slot,
+        epoch: u64,
+        version: u64,
+        next_sequence: u64,
+    ) -> Result<NextCheckpoint, AllocError>
+        requires { epoch + 1 < 2 ^ 64 }
+        ensures { IfOk result (λ c. c ≡ record { slot = other current; epoch = epoch + 1; version = version; next_sequence = next_sequence; written = 0 }) }
+    {
+        let buffer = vec![in alloc; 0; BUFFER_SIZE]?;
+        Ok(NextCheckpoint {
+            slot: current.other(),
+            epoch: epoch + 1,
+            version,
+            next_sequence,
+            written: 0,
+            buffer,
+        })
+    }
+
+    /// The slot to which it goes.
+    pub fn slot(&self) -> Slot
+        ensures { result ≡ self.now.slot }
+    {
+        self.slot
+    }
+
+    pub fn epoch(&self) -> u64
+        ensures { result ≡ self.now.epoch }
+    {
+        self.epoch
+    }
+
+    pub fn version(&self) -> u64
+        ensures { result ≡ self.now.version }
+    {
+        self.version
+    }
+
+    pub fn next_sequence(&self) -> u64
+        ensures { result ≡ self.now.next_sequence }
+    {
+        self.next_sequence
+    }
+
+    /// How many word pages are still to be written.
+    pub fn pages_left(&self, header: &Header) -> u64
+        ensures { result ≡ word_pages header.now - self.now.written }
+    {
+        header.word_pages().saturating_sub(self.written)
+    }
+
+    /// Closes the slot's gate, and syncs, where it reads open. Where it reads closed nothing is written.
+    ///
+    /// A sync stands before it: the content is all that a stop may leave.
+    pub fn begin<D: Disk>(&self, disk: &mut D, header: &Header) -> Result<(), DiskError>
+        requires header { IsHeader header.now }
+        requires at_rest { D.honest disk.old → Only (D.content disk.old) (D.left disk.old) }
+        requires whole { D.honest disk.old → length (D.content disk.old) ≡ 4096 * page_count header.now }
+        // Of the content the gate alone may have changed, and it is closed.
+        ensures shut { D.honest disk.old → OnOk result (IsShut (slot_gate header.now self.now.slot) 1 (slot_gate header.now self.now.slot) (D.content disk.old) (D.content disk.new)) }
+        ensures at_rest { D.honest disk.old → OnOk result (Only (D.content disk.new) (D.left disk.new)) }
+        // A stop at any moment of the call leaves the content as it was, or with that gate closed.
+        ensures any_moment { D.honest disk.old → LeavesOnly D.moment D.left_since disk.old disk.new (IsOldOrShut (D.content disk.old) (slot_gate header.now self.now.slot)) }
+        ensures counted { D.failures disk.new ≡ failures_after result (D.failures disk.old) }
+        ensures honest { D.honest disk.new ↔ D.honest disk.old }
+    {
+        close_gate(disk, gate_at(header, self.slot))
+    }
+
+    /// Writes the next word pages of this network, in order, at most `max_pages` (1 to 64) of those that are left, in one write. A sync
+    /// follows where some are left then; else that of `finish` covers them.
+    pub fn write_part<D: Disk>(
+        &mut self,
+        disk: &mut D,
+        header: &Header,
+        network: &Network,
+        max_pages: u32,
+    ) -> Result<(), DiskError>
+        requires header { IsHeader header.now }
+        requires some { 1 ≤ max_pages }
+        requires few { max_pages ≤ 64 }
+        requires left { self.old.written < word_pages header.now }
+        requires whole { D.honest disk.old → length (D.content disk.old) ≡ 4096 * page_count header.now }
+        requires shut { D.honest disk.old → LeavesSlotShut header.now self.old.slot (D.content disk.old) (D.left disk.old) }
+        requires words { D.honest disk.old → HoldsWords (page (D.content disk.old)) header.now self.old.slot network.now self.old.written }
+        ensures written { OnOk result (self.new ≡ record self.old { written = min (self.old.written + max_pages) (word_pages header.now) }) }
+        ensures same { OnErr result (self.new ≡ self.old) }
+        // The slot holds the word pages so far, its gate is closed, and the rest of the content is as it was.
+        ensures words { D.honest disk.old → OnOk result (HoldsWords (page (D.content disk.new)) header.now self.old.slot network.now self.new.written) }
+        ensures content { D.honest disk.old → OnOk result (IsSlotShut header.now self.old.slot (D.content disk.old) (D.content disk.new)) }
+        ensures shut { D.honest disk.old → OnOk result (LeavesSlotShut header.now self.old.slot (D.content disk.new) (D.left disk.new)) }
+        // Where word pages are left, the content is all that a stop may leave.
+        ensures at_rest { D.honest disk.old → OnOk result (self.new.written < word_pages header.now → Only (D.content disk.new) (D.left disk.new)) }
+        ensures any_moment { D.honest disk.old → LeavesOnly D.moment D.left_since disk.old disk.new (IsSlotShut header.now self.old.slot (D.content disk.old)) }
+        ensures counted { D.failures disk.new ≡ failures_after result (D.failures disk.old) }
+        ensures honest { D.honest disk.new ↔ D.honest disk.old }
+    {
+        let left = self.pages_left(header);
+        let count = left.min(u64::from(max_pages));
+        let size = PAGE_SIZE * count as usize;
+        put_words(&mut self.buffer, network, self.written, count as usize);
+        write_word_pages(disk, header, self.slot, self.written, &self.buffer[..size])?;
+        if count < left {
+            settle(disk)?;
+        }
+        self.written += count;
+        Ok(())
+    }
+
+    /// Writes the head, syncs, opens the gate and syncs: the slot is whole then. All word pages are written before it; whether they are
+    /// synced makes no difference.
+    pub fn finish<D: Disk>(
+        &self,
+        disk: &mut D,
+        header: &Header,
+        network: &Network,
+    ) -> Result<(), DiskError>
+        requires header { IsHeader header.now }
+        requires none_left { self.now.written ≡ word_pages header.now }
+        requires whole { D.honest disk.old → length (D.content disk.old) ≡ 4096 * page_count header.now }
+        requires shut { D.honest disk.old → LeavesSlotShut header.now self.now.slot (D.content disk.old) (D.left disk.old) }
+        requires words { D.honest disk.old → HoldsWords (page (D.content disk.old)) header.now self.now.slot network.now self.now.written }
+        ensures content { D.honest disk.old → OnOk result (IsSlotWhole header.now self.now.slot (head_of self.now network.now) network.now (D.content disk.old) (D.content disk.new)) }
+        ensures at_rest { D.honest disk.old → OnOk result (Only (D.content disk.new) (D.left disk.new)) }
+        // A stop at any moment of the call leaves the slot with a closed gate, or whole, and the rest of the content as it was.
+        ensures any_moment { D.honest disk.old → LeavesOnly D.moment D.left_since disk.old disk.new (IsSlotShutOrWhole header.now self.now.slot (head_of self.now network.now) network.now (D.content disk.old)) }
+        ensures counted { D.failures disk.new ≡ failures_after result (D.failures disk.old) }
+        ensures honest { D.honest disk.new ↔ D.honest disk.old }
+    {
+        let page = encode_slot_head(
+            self.epoch,
+            self.version,
+            self.next_sequence,
+            network.landmarks(),
+        );
+        write_head(disk, header, self.slot, &page)?;
+        settle(disk)?;
+        open_gate(disk, gate_at(header, self.slot))
+    }
+
+    // Writes all word pages that are left.
+    fn write_parts<D: Disk>(
+        &mut self,
+        disk: &mut D,
+        header: &Header,
+        network: &Network,
+        max_pages: u32,
+    ) -> Result<(), DiskError>
+        requires header { IsHeader header.now }
+        requires some { 1 ≤ max_pages }
+        requires few { max_pages ≤ 64 }
+        requires within { self.old.written ≤ word_pages header.now }
+        requires whole { D.honest disk.old → length (D.content disk.old) ≡ 4096 * page_count header.now }
+        requires shut { D.honest disk.old → LeavesSlotShut header.now self.old.slot (D.content disk.old) (D.left disk.old) }
+        requires words { D.honest disk.old → HoldsWords (page (D.content disk.old)) header.now self.old.slot network.now self.old.written }
+        ensures written { OnOk result (self.new ≡ record self.old { written = word_pages header.now }) }
+        ensures same { self.new ≡ record self.old { written = self.new.written } }
+        ensures words { D.honest disk.old → OnOk result (HoldsWords (page (D.content disk.new)) header.now self.old.slot network.now (word_pages header.now)) }
+        ensures content { D.honest disk.old → OnOk result (IsSlotShut header.now self.old.slot (D.content disk.old) (D.content disk.new)) }
+        ensures shut { D.honest disk.old → OnOk result (LeavesSlotShut header.now self.old.slot (D.content disk.new) (D.left disk.new)) }
+        ensures any_moment { D.honest disk.old → LeavesOnly D.moment D.left_since disk.old disk.new (IsSlotShut header.now self.old.slot (D.content disk.old)) }
+        ensures counted { D.failures disk.new ≡ failures_after result (D.failures disk.old) }
+        ensures honest { D.honest disk.new ↔ D.honest disk.old }
+    {
+        while self.pages_left(header) > 0 {
+            self.write_part(disk, header, network, max_pages)?;
+        }
+        Ok(())
+    }
+
+    /// Writes all that is left: the word pages, at most `max_pages` (1 to 64) in a write, and then as `finish`.
+    pub fn complete<D: Disk>(
+        &mut self,
+        disk: &mut D,
+        header: &Header,
+        network: &Network,
+        max_pages: u32,
+    ) -> Result<(), DiskError>
+        requires header { IsHeader header.now }
+        requires some { 1 ≤ max_pages }
+        requires few { max_pages ≤ 64 }
+        requires within { self.old.written ≤ word_pages header.now }
+        requires whole { D.honest disk.old → length (D.content disk.old) ≡ 4096 * page_count header.now }
+        requires shut { D.honest disk.old → LeavesSlotShut header.now self.old.slot (D.content disk.old) (D.left disk.old) }
+        requires words { D.honest disk.old → HoldsWords (page (D.content disk.old)) header.now self.old.slot network.now self.old.written }
+        ensures same { self.new ≡ record self.old { written = self.new.written } }
+        ensures content { D.honest disk.old → OnOk result (IsSlotWhole header.now self.old.slot (head_of self.old network.now) network.now (D.content disk.old) (D.content disk.new)) }
+        ensures at_rest { D.honest disk.old → OnOk result (Only (D.content disk.new) (D.left disk.new)) }
+        // A stop at any moment of the call leaves the slot with a closed gate, or whole, and the rest of the content as it was.
+        ensures any_moment { D.honest disk.old → LeavesOnly D.moment D.left_since disk.old disk.new (IsSlotShutOrWhole header.now self.old.slot (head_of self.old network.now) network.now (D.content disk.old)) }
+        ensures counted { D.failures disk.new ≡ failures_after result (D.failures disk.old) }
+        ensures honest { D.honest disk.new ↔ D.honest disk.old }
+    {
+        self.write_parts(disk, header, network, max_pages)?;
+        self.finish(disk, header, network)
+    }
+}

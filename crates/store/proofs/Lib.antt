@@ -1,3 +1,4 @@
+pub mod Afterwards
 pub mod Appended
 pub mod Applied
 pub mod Committed

@@ -1,4 +1,5 @@
 pub mod Committing
 pub mod Created
+pub mod Durable
 pub mod Opening
 pub mod Resting

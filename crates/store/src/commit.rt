@@ -1,12 +1,14 @@
 // Commands made durable, all of them or none.
-ghost use Rattle.std.specs.Prelude.{◌≡◌, ◌≢◌, ◌+◌, ◌≤◌, ◌↔◌, true, false, List, ℕ, length, Some, None, IfOk, OnOk, OnErr, IfErr, MatchResult};
+ghost use Rattle.std.specs.Prelude.{◌≡◌, ◌≢◌, ◌+◌, ◌≤◌, ◌↔◌, true, false, List, [], ℕ, length, Some, None, IfOk, OnOk, OnErr, IfErr, MatchResult};
 ghost use Rattle.disk.specs.Contents.{Only, Rose};
 ghost use Rattle.disk.specs.Moments.{LeavesOnly, AddsNothing};
 ghost use Rattle.roadnet.specs.Step.{after};
+ghost use Rattle.roadnet.specs.declared.commands.Command.{Command as Change};
 ghost use Rattle.roadnet.specs.declared.refusals.Refusal.TheVariants.{Device as device};
 ghost use Rattle.storefile.specs.StoreFile.{StandsTidyFor};
 ghost use Rattle.storefile.specs.Standing.{IsBeforeOrAfter};
 ghost use Rattle.store.specs.Committing.{refusal_of_commit, MayRefuseCommit, StandsTidily};
+ghost use Rattle.store.specs.Durable.{Leaves};
 
 use crate::store::Store;
 use disk::Disk;
@@ -51,6 +53,9 @@ impl<D: Disk> Store<D> {
         ensures durable { D.honest self.old.disk → StandsTidily (D.content self.old.disk) (record { header = self.old.header; slot = self.old.slot; epoch = self.old.epoch; network = self.old.network; version = self.old.version; next = self.old.next_sequence; unchecked = self.old.unchecked }) → OnOk result ((c : List ℕ) → D.left self.new.disk c → StandsTidyFor c self.new.network self.new.version) }
         ensures only { D.honest self.old.disk → OnOk result (Only (D.content self.new.disk) (D.left self.new.disk)) }
         ensures stands { D.honest self.old.disk → StandsTidily (D.content self.old.disk) (record { header = self.old.header; slot = self.old.slot; epoch = self.old.epoch; network = self.old.network; version = self.old.version; next = self.old.next_sequence; unchecked = self.old.unchecked }) → OnOk result (StandsTidily (D.content self.new.disk) (record { header = self.new.header; slot = self.new.slot; epoch = self.new.epoch; network = self.new.network; version = self.new.version; next = self.new.next_sequence; unchecked = self.new.unchecked })) }
+        // What a stop between two calls may leave, from this call to the next: at Ok nothing is in flight, and where the disk failed the commands are.
+        ensures rests { D.honest self.old.disk → (in_flight : List Change) → Leaves self.old in_flight → OnOk result (Leaves self.new []) }
+        ensures left_in_flight { D.honest self.old.disk → (in_flight : List Change) → Leaves self.old in_flight → IfErr result (λ refusal. refusal ≡ device → Leaves self.new commands.now) }
         ensures honest { D.honest self.new.disk ↔ D.honest self.old.disk }
     {
         if self.broken {

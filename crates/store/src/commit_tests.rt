@@ -16,7 +16,7 @@ fn arc(tail: u32, head: u32, length: u32) -> RoadArc {
 }
 
 // A store of six nodes and eight arcs.
-fn six(alloc: Global, journal_pages: u32) -> Result<MemDisk, Refusal>
+pub(crate) fn six(alloc: Global, journal_pages: u32) -> Result<MemDisk, Refusal>
     requires some { 1 ≤ journal_pages }
     requires few { journal_pages ≤ 65536 }
 {
@@ -37,7 +37,7 @@ fn six(alloc: Global, journal_pages: u32) -> Result<MemDisk, Refusal>
     }
 }
 
-fn opened<D: Disk + Drop>(alloc: Global, disk: D) -> Result<Store<D>, Refusal> {
+pub(crate) fn opened<D: Disk + Drop>(alloc: Global, disk: D) -> Result<Store<D>, Refusal> {
     match open(alloc, disk) {
         Ok(store) => Ok(store),
         Err((refusal, _)) => Err(refusal),

@@ -18,4 +18,14 @@ mod commit_tests;
 #[cfg(test)]
 mod creation_tests;
 #[cfg(test)]
+mod judge;
+#[cfg(test)]
+mod judge_tests;
+#[cfg(test)]
+mod limit_tests;
+#[cfg(test)]
+mod opening_tests;
+#[cfg(test)]
+mod sweep_tests;
+#[cfg(test)]
 mod tests;

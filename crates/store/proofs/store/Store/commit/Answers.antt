@@ -1,10 +1,11 @@
-use Rattle.std.proofs.Common.{◌+◌, ◌*◌, length, arith}
+use Rattle.std.proofs.Common.{◌*◌, refl, arith}
 use Rattle.roadnet.specs.Batches.{changed_by}
 use Rattle.disk.specs.Gated.{IsWholeOrShut}
 use Rattle.disk.proofs.Steps.{weaker}
 use Rattle.storefile.specs.StoreFile.{journal_page_at}
 use Rattle.storefile.specs.Standing.{Standing, IsBeforeOrAfter}
 use Rattle.store.proofs.Committed.{not_device, before, no_call, page_body, more, Follow, numbers_more, size_kept, meanwhile, stands_more_tidily, left_stands}
+use Rattle.store.proofs.Afterwards.{at_rest, broken}
 use Rattle.store.proofs.store.Store.commit.Goals as goal
 
 pub returns-then-self-count-gt-MOST_VERSIONS-clause-any_moment : goal.returns-then-self-count-gt-MOST_VERSIONS-clause-any_moment
@@ -108,3 +109,14 @@ returns-in-Err-clause-failed g c is = absurd (not_device c.args.self.now.network
 
 pub returns-in-Err-clause-breaks : goal.returns-in-Err-clause-breaks
 returns-in-Err-clause-breaks g c is = absurd (not_device c.args.self.now.network c.args.commands.now c.in-Err.refusal c.in-Err.ensures.refused is)
+
+pub returns-clause-rests : goal.returns-clause-rests
+returns-clause-rests g c h in_flight leaves =
+    at_rest _ (c.in-Ok-append_page.ensures.at_rest h) (returns-clause-stands g c h (leaves.works c.if-self.false).1)
+
+pub returns-in_default-clause-left_in_flight : goal.returns-in_default-clause-left_in_flight
+returns-in_default-clause-left_in_flight g c h in_flight leaves is =
+    broken c.args.self.now _ c.args.commands.now refl refl refl (returns-in_default-clause-in_flight g c c.if-self.false h (leaves.works c.if-self.false).1)
+
+pub returns-in-Err-clause-left_in_flight : goal.returns-in-Err-clause-left_in_flight
+returns-in-Err-clause-left_in_flight g c h in_flight leaves is = absurd (not_device c.args.self.now.network c.args.commands.now c.in-Err.refusal c.in-Err.ensures.refused is)

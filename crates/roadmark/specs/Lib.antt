@@ -8,3 +8,6 @@ pub mod ScriptKinds
 pub mod Once
 pub mod Words
 pub mod Batch
+pub mod ScriptTexts
+pub mod ScriptReading
+pub mod Replied

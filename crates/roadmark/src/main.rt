@@ -15,7 +15,11 @@ mod jobs;
 mod joint;
 mod once;
 mod printed;
+mod replied;
 mod script;
+mod script_stops;
+mod script_texts;
+mod script_words;
 mod words;
 mod writer;
 
@@ -24,6 +28,8 @@ pub use failed::{Failed, FaultLine, fault_line, status};
 use jobs::{run_batch, run_joint, run_once};
 pub use joint::{joint_counted, joint_text};
 pub use once::{once_counted, once_text};
+pub use replied::{put_replies, put_reply};
+pub use script_texts::{parse_script, read_script_counted};
 use roadnet::Refusal;
 use std::process::ExitCode;
 use std::rt::{Env, Files};
@@ -31,6 +37,8 @@ use std::{env, io};
 pub use words::{Job, MISUSE, Usage, read_words};
 pub use writer::CountedWriter;
 
+#[cfg(test)]
+mod script_tests;
 #[cfg(test)]
 mod tests;
 

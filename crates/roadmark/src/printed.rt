@@ -12,7 +12,7 @@ use roadnet::Refusal;
 use rows::{Query, Reply};
 use std::io::Write;
 
-fn put_number<W: Write>(out: &mut CountedWriter<'_, W>, number: u64) -> Result<(), Failed>
+pub fn put_number<W: Write>(out: &mut CountedWriter<'_, W>, number: u64) -> Result<(), Failed>
     ensures ok { OnOk result (Appends (W.contents (writer_of out.old)) (W.contents (writer_of out.new)) (decimal number)) }
     ensures refused { IfErr result (λ failed. failed ≡ Failed.Code Refusal.Write) }
     ensures counts { CountsFailure (failed_writes out.old) (failed_writes out.new) result }
@@ -52,7 +52,7 @@ fn put_nodes<W: Write>(
 }
 
 /// `no CODE`
-fn put_refusal<W: Write>(out: &mut CountedWriter<'_, W>, code: u8) -> Result<(), Failed>
+pub fn put_refusal<W: Write>(out: &mut CountedWriter<'_, W>, code: u8) -> Result<(), Failed>
     ensures ok { OnOk result (Appends (W.contents (writer_of out.old)) (W.contents (writer_of out.new)) (refusal_line code)) }
     ensures refused { IfErr result (λ failed. failed ≡ Failed.Code Refusal.Write) }
     ensures counts { CountsFailure (failed_writes out.old) (failed_writes out.new) result }

@@ -1,0 +1,123 @@
+-- Script texts: command texts with the lines of further events.
+use Rattle.std.specs.Prelude.{ℕ, Bool, true, false, not, ◌&&◌, ◌||◌, ◌==◌, List, [], ◌∷◌, ◌++◌, Option, None, Some, is_some, option_map, nat_lt, slice_index_or, if◌then◌else◌}
+use Rattle.std.specs.List.{filter_map, find}
+use Rattle.std.specs.Str.{bytes_eq}
+use lib.Chars.{codes}
+use Rattle.roadnet.specs.declared.commands.Command.{Command}
+use Rattle.dimacs.specs.declared.numeral.Numeral.{Numeral}
+use Rattle.dimacs.specs.declared.fault.Code.{Code}
+use Rattle.dimacs.specs.declared.fault.Code.TheVariants.{BadLine, NumberRange}
+use Rattle.dimacs.specs.Commands.{Form, form, commands, is_refused, command_code}
+use Rattle.dimacs.specs.Commanded.{command_from}
+use Rattle.dimacs.specs.Content.{size_at}
+use Rattle.dimacs.specs.Faults.{Row, Judge, has_first, item_fields, size_of, some_at}
+use Rattle.dimacs.specs.Numerals.{numeral}
+use Rattle.dimacs.specs.Texts.{TextKind}
+use Rattle.disk.specs.declared.stoppable.Pick.{Pick}
+use Rattle.disk.specs.declared.stoppable.Pick.TheVariants.{Old, New, Byte}
+use Rattle.rows.specs.declared.queries.Query.{Query}
+use Rattle.rows.specs.declared.queries.Query.TheVariants.{Dist, From}
+use Rattle.machine.specs.declared.events.Event.{Event}
+use Rattle.machine.specs.declared.events.Event.TheVariants.{Submit, Flush, Checkpoint, Task, Publish, Ask, Stop, StopWithin}
+use Rattle.machine.specs.declared.events.Writing.{Writing}
+use Rattle.machine.specs.declared.events.Writing.TheVariants.{Flush as a_flush, Checkpoint as a_checkpoint}
+
+-- WHAT A LINE SAYS
+
+-- a line of a script: an event by its numbers, and its picks as a list
+pub data ScriptLine : Type 0 where
+  CommandLine : (command : Command) → ScriptLine
+  FlushLine : ScriptLine
+  CheckpointLine : ScriptLine
+  TaskLine : ScriptLine
+  PublishLine : ScriptLine
+  QueryLine : (query : Query) → ScriptLine
+  StopLine : ScriptLine
+  StopWithinLine : (call : ℕ) (picks : List Pick) (writing : Writing) → ScriptLine
+
+-- the line of an event
+abbrev pub as_line : Event Pick → ScriptLine
+as_line (Submit command) = CommandLine command
+as_line Flush = FlushLine
+as_line Checkpoint = CheckpointLine
+as_line Task = TaskLine
+as_line Publish = PublishLine
+as_line (Ask query) = QueryLine query
+as_line Stop = StopLine
+as_line (StopWithin call picks writing) = StopWithinLine call picks.items writing
+
+-- `old`, `new` or the number of a byte
+abbrev pub pick_from : List ℕ → Pick
+pick_from field = if bytes_eq field (codes "old") then Old else (if bytes_eq field (codes "new") then New else Byte (size_of field))
+
+-- `flush` or `checkpoint`
+abbrev pub writing_from : List ℕ → Writing
+writing_from field = if bytes_eq field (codes "flush") then a_flush else a_checkpoint
+
+-- `stop` alone, or with the number of a call, a pick and an event
+abbrev pub stop_from : Row → ScriptLine
+stop_from [] = StopLine
+stop_from (call ∷ others) = StopWithinLine (size_of call) (pick_from (slice_index_or others 0 []) ∷ []) (writing_from (slice_index_or others 1 []))
+
+-- the event of a word and the fields behind it
+abbrev pub line_from : List ℕ → Row → Option ScriptLine
+line_from word others = if bytes_eq word (codes "flush") then Some FlushLine
+    else (if bytes_eq word (codes "checkpoint") then Some CheckpointLine
+    else (if bytes_eq word (codes "task") then Some TaskLine
+    else (if bytes_eq word (codes "publish") then Some PublishLine
+    else (if bytes_eq word (codes "dist") then Some (QueryLine (Dist (size_at others 0) (size_at others 1)))
+    else (if bytes_eq word (codes "from") then Some (QueryLine (From (size_at others 0) (size_at others 1)))
+    else (if bytes_eq word (codes "stop") then Some (stop_from others)
+    else option_map CommandLine (command_from word others)))))))
+
+-- the event of a line, if it has one
+abbrev pub line_of : Row → Option ScriptLine
+line_of [] = None
+line_of (word ∷ others) = line_from word others
+
+-- the events in the order of their lines
+abbrev pub lines_in : List Row → List ScriptLine
+lines_in rs = filter_map line_of rs
+
+-- WHAT A LINE IS REFUSED FOR
+
+-- the words of commands and of events, with how many numbers follow them
+abbrev pub numbered : List Form
+numbered = commands ++ form (codes "flush") 0 ∷ form (codes "checkpoint") 0 ∷ form (codes "task") 0 ∷ form (codes "publish") 0 ∷ form (codes "dist") 2 ∷ form (codes "from") 2 ∷ []
+
+abbrev pub is_stop : Row → Bool
+is_stop row = has_first (λ first. bytes_eq first (codes "stop")) row
+
+-- `old`, `new` or a numeral
+abbrev pub is_pick : List ℕ → Bool
+is_pick field = bytes_eq field (codes "old") || bytes_eq field (codes "new") || is_some (numeral field)
+
+abbrev pub is_writing : List ℕ → Bool
+is_writing field = bytes_eq field (codes "flush") || bytes_eq field (codes "checkpoint")
+
+-- what may stand behind `stop`: nothing, or a numeral, a pick and an event that writes
+abbrev pub are_of_stop : Row → Bool
+are_of_stop [] = true
+are_of_stop (call ∷ pick ∷ event ∷ []) = is_some (numeral call) && is_pick pick && is_writing event
+are_of_stop others = false
+
+-- no call has the number 0, and no byte is above 255
+abbrev pub is_no_call : Numeral → Bool
+is_no_call n = is_refused n || (n.size == 0)
+
+abbrev pub is_no_byte : Numeral → Bool
+is_no_byte n = is_refused n || nat_lt 255 n.size
+
+-- The table of faults of a `stop` line, by the fields behind `stop`.
+abbrev pub stop_applies : Row → Code → Bool
+stop_applies others BadLine = not (are_of_stop others)
+stop_applies others NumberRange = some_at (λ is_none_such. is_none_such) (is_no_call ∷ is_no_byte ∷ []) others
+stop_applies others code = false
+
+-- the code of a line: of `stop` lines by their table, of the others by that of command texts
+unfoldable pub script_line_code : Judge
+script_line_code earlier row = if is_stop row then find (stop_applies (item_fields row)) (BadLine ∷ NumberRange ∷ []) else command_code numbered earlier row
+
+-- nothing at the end of a script is a fault
+abbrev pub script_text : TextKind (List ScriptLine)
+script_text = record { judge = script_line_code; end = λ rs. None; says = lines_in }

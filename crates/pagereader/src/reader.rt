@@ -2,7 +2,7 @@ ghost use Rattle.std.specs.Prelude.{◌≡◌, ◌+◌, ◌-◌, ◌*◌, ◌<�
 ghost use Rattle.disk.specs.Contents.{failures_after};
 ghost use Rattle.disk.specs.Moments.{StaysSame};
 ghost use Rattle.storefile.specs.StoreFile.{page};
-ghost use Rattle.pagereader.specs.Runs.{IsRunOf};
+ghost use Rattle.pagereader.specs.Runs.{IsRunOf, Holds};
 
 use disk::{Disk, DiskError, read_at};
 use pages::PAGE_SIZE;
@@ -147,6 +147,8 @@ impl PageReader {
         requires run { D.honest disk.old → IsRunOf (D.content disk.old) self.old }
         ensures bytes { D.honest disk.old → OnOk result (into.new ≡ page (D.content disk.old) k) }
         ensures run { D.honest disk.old → IsRunOf (D.content disk.old) self.new }
+        // The page stays held, so that it isn't read from the disk again.
+        ensures kept { OnOk result (Holds self.new k) }
         ensures same { D.honest disk.old → StaysSame D.content D.left D.moment D.left_since disk.old disk.new }
         ensures counted { D.failures disk.new ≡ failures_after result (D.failures disk.old) }
         ensures honest { D.honest disk.new ↔ D.honest disk.old }

@@ -1,6 +1,7 @@
 pub mod Afterwards
 pub mod Appended
 pub mod Applied
+pub mod Checkpointed
 pub mod Committed
 pub mod Growing
 pub mod LaidOut
@@ -8,4 +9,5 @@ pub mod NewStore
 pub mod Refused
 pub mod Replayed
 pub mod Resting
+pub mod SlotWritten
 pub mod Steps

@@ -1,3 +1,4 @@
+pub mod Checkpointing
 pub mod Committing
 pub mod Created
 pub mod Durable

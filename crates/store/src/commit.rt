@@ -7,6 +7,7 @@ ghost use Rattle.roadnet.specs.declared.commands.Command.{Command as Change};
 ghost use Rattle.roadnet.specs.declared.refusals.Refusal.TheVariants.{Device as device};
 ghost use Rattle.storefile.specs.StoreFile.{StandsTidyFor};
 ghost use Rattle.storefile.specs.Standing.{IsBeforeOrAfter};
+ghost use Rattle.store.specs.Durable.{told_by};
 ghost use Rattle.store.specs.Committing.{refusal_of_commit, MayRefuseCommit, StandsTidily};
 ghost use Rattle.store.specs.Durable.{Leaves};
 
@@ -47,12 +48,12 @@ impl<D: Disk> Store<D> {
         ensures kept { OnErr result ((self.new.network ≡ self.old.network) × (self.new.version ≡ self.old.version)) }
         ensures adds_nothing { self.old.broken ≡ true → AddsNothing D.moment D.left_since self.old.disk self.new.disk }
         // A stop at any moment of the call leaves what stands for the network before the commands, or after them.
-        ensures any_moment { self.old.broken ≡ false → D.honest self.old.disk → StandsTidily (D.content self.old.disk) (record { header = self.old.header; slot = self.old.slot; epoch = self.old.epoch; network = self.old.network; version = self.old.version; next = self.old.next_sequence; unchecked = self.old.unchecked }) → LeavesOnly D.moment D.left_since self.old.disk self.new.disk (IsBeforeOrAfter self.old.network self.old.version commands.now) }
+        ensures any_moment { self.old.broken ≡ false → D.honest self.old.disk → StandsTidily (D.content self.old.disk) (told_by self.old) → LeavesOnly D.moment D.left_since self.old.disk self.new.disk (IsBeforeOrAfter self.old.network self.old.version commands.now) }
         // So does one after the call; and after Ok, what stands for the network after them.
-        ensures in_flight { self.old.broken ≡ false → D.honest self.old.disk → StandsTidily (D.content self.old.disk) (record { header = self.old.header; slot = self.old.slot; epoch = self.old.epoch; network = self.old.network; version = self.old.version; next = self.old.next_sequence; unchecked = self.old.unchecked }) → (c : List ℕ) → D.left self.new.disk c → IsBeforeOrAfter self.old.network self.old.version commands.now c }
-        ensures durable { D.honest self.old.disk → StandsTidily (D.content self.old.disk) (record { header = self.old.header; slot = self.old.slot; epoch = self.old.epoch; network = self.old.network; version = self.old.version; next = self.old.next_sequence; unchecked = self.old.unchecked }) → OnOk result ((c : List ℕ) → D.left self.new.disk c → StandsTidyFor c self.new.network self.new.version) }
+        ensures in_flight { self.old.broken ≡ false → D.honest self.old.disk → StandsTidily (D.content self.old.disk) (told_by self.old) → (c : List ℕ) → D.left self.new.disk c → IsBeforeOrAfter self.old.network self.old.version commands.now c }
+        ensures durable { D.honest self.old.disk → StandsTidily (D.content self.old.disk) (told_by self.old) → OnOk result ((c : List ℕ) → D.left self.new.disk c → StandsTidyFor c self.new.network self.new.version) }
         ensures only { D.honest self.old.disk → OnOk result (Only (D.content self.new.disk) (D.left self.new.disk)) }
-        ensures stands { D.honest self.old.disk → StandsTidily (D.content self.old.disk) (record { header = self.old.header; slot = self.old.slot; epoch = self.old.epoch; network = self.old.network; version = self.old.version; next = self.old.next_sequence; unchecked = self.old.unchecked }) → OnOk result (StandsTidily (D.content self.new.disk) (record { header = self.new.header; slot = self.new.slot; epoch = self.new.epoch; network = self.new.network; version = self.new.version; next = self.new.next_sequence; unchecked = self.new.unchecked })) }
+        ensures stands { D.honest self.old.disk → StandsTidily (D.content self.old.disk) (told_by self.old) → OnOk result (StandsTidily (D.content self.new.disk) (told_by self.new)) }
         // What a stop between two calls may leave, from this call to the next: at Ok nothing is in flight, and where the disk failed the commands are.
         ensures rests { D.honest self.old.disk → (in_flight : List Change) → Leaves self.old in_flight → OnOk result (Leaves self.new []) }
         ensures left_in_flight { D.honest self.old.disk → (in_flight : List Change) → Leaves self.old in_flight → IfErr result (λ refusal. refusal ≡ device → Leaves self.new commands.now) }

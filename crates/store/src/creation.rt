@@ -8,6 +8,7 @@ ghost use Rattle.pages.specs.Spelling.{IsHeader};
 ghost use Rattle.pages.specs.Layout.{HeadOf, arc_pages, word_pages, page_number, page_count};
 ghost use Rattle.storefile.specs.StoreFile.{part, StandsTidyFor};
 ghost use Rattle.storefile.specs.Standing.{IsTidyAt, standing_of};
+ghost use Rattle.store.specs.Durable.{told_by};
 ghost use Rattle.store.specs.Created.{header_of, blank_page, page_of_arcs, page_of_words, new_page, IsLaidOut, first_pages, with_gate, so_far, IsInStep};
 
 use crate::batch::Batch;
@@ -149,7 +150,7 @@ pub fn create<D: Disk>(
     ensures stands { D.honest disk → IfOk result (λ store. StandsTidyFor (D.content store.disk) network.now 0) }
     ensures only { D.honest disk → IfOk result (λ store. Only (D.content store.disk) (D.left store.disk)) }
     ensures tidy { D.honest disk → IfOk result (λ store. IsTidyAt (D.content store.disk) store.header store.next_sequence) }
-    ensures standing { D.honest disk → IfOk result (λ store. standing_of (D.content store.disk) ≡ Some (record { header = store.header; slot = store.slot; epoch = store.epoch; network = store.network; version = store.version; next = store.next_sequence; unchecked = store.unchecked })) }
+    ensures standing { D.honest disk → IfOk result (λ store. standing_of (D.content store.disk) ≡ Some (told_by store)) }
     ensures empty { D.honest disk → IfOk result (λ store. D.content disk ≡ []) }
     ensures refused { IfErr result (λ refused. (refused.0 ≡ not_empty) ⊎ ((refused.0 ≡ device) ⊎ (refused.0 ≡ out_of_memory))) }
     ensures not_empty { D.honest disk → IfErr result (λ refused. refused.0 ≡ not_empty → D.content disk ≢ []) }

@@ -2,6 +2,7 @@
 #![tactic(auto)]
 
 mod batch;
+mod checkpointing;
 mod commit;
 mod creation;
 mod header;

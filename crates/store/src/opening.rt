@@ -9,6 +9,7 @@ ghost use Rattle.storefile.specs.Judging.{journal_from, opened};
 ghost use Rattle.storefile.specs.Standing.{HasFitNumbers, standing_of};
 ghost use Rattle.pagereader.specs.Outcomes.{failures_told, MayRefuse};
 ghost use Rattle.checkpoint.specs.Loading.{head_of};
+ghost use Rattle.store.specs.Durable.{told_by};
 ghost use Rattle.store.specs.Opening.{header_from, current_from, AreCarriedOut, IsPassing, MayRefuseToOpen, StandsForSome};
 
 use crate::header::read_header;
@@ -191,7 +192,7 @@ pub fn find<D: Disk>(alloc: Global, disk: &mut D) -> Result<Found, Refusal>
 pub fn open<D: Disk>(alloc: Global, disk: D) -> Result<Store<D>, (Refusal, D)>
     // The content stands for what the store tells, and is all that a stop may leave.
     ensures stands { D.honest disk → IfOk result (λ store. StandsFor (D.content disk) store.network store.version store.next_sequence) }
-    ensures standing { D.honest disk → IfOk result (λ store. standing_of (D.content disk) ≡ Some (record { header = store.header; slot = store.slot; epoch = store.epoch; network = store.network; version = store.version; next = store.next_sequence; unchecked = store.unchecked })) }
+    ensures standing { D.honest disk → IfOk result (λ store. standing_of (D.content disk) ≡ Some (told_by store)) }
     ensures at_rest { D.honest disk → IfOk result (λ store. Only (D.content store.disk) (D.left store.disk)) }
     ensures works { IfOk result (λ store. store.broken ≡ false) }
     // Nothing is written, and what a stop may leave is no more than it was.

@@ -1,5 +1,5 @@
 // Pages that are written one behind the other, many at a time.
-ghost use Rattle.std.specs.Prelude.{◌≡◌, ◌+◌, ◌*◌, ◌≤◌, ◌<◌, ◌^◌, ◌↔◌, [], ◌++◌, length, take, IfOk, OnOk};
+ghost use Rattle.std.specs.Prelude.{◌≡◌, ◌+◌, ◌*◌, ◌≤◌, ◌<◌, ◌^◌, ◌↔◌, [], ◌++◌, length, take, IfOk, OnOk, OnErr};
 ghost use Rattle.disk.specs.Contents.{failures_after};
 ghost use Rattle.store.specs.Created.{Waiting, so_far, IsInStep};
 
@@ -44,12 +44,13 @@ impl Batch {
         })
     }
 
-    /// Writes the pages that wait.
+    /// Writes the pages that wait. Where that fails they still wait.
     pub fn flush<D: Disk>(&mut self, disk: &mut D) -> Result<(), DiskError>
         requires few { self.old.next ≤ 2 ^ 32 }
         requires in_step { D.honest disk.old → IsInStep (D.content disk.old) self.old }
         ensures written { D.honest disk.old → OnOk result (D.content disk.new ≡ so_far (D.content disk.old) self.old) }
         ensures emptied { OnOk result (self.new ≡ record { next = self.old.next; bytes = [] }) }
+        ensures kept { OnErr result (self.new ≡ self.old) }
         ensures counted { D.failures disk.new ≡ failures_after result (D.failures disk.old) }
         ensures honest { D.honest disk.new ↔ D.honest disk.old }
     {

@@ -8,7 +8,6 @@ ghost use Rattle.pages.specs.Spelling.{IsHeader};
 ghost use Rattle.pages.specs.Layout.{other, page_count};
 ghost use Rattle.storefile.specs.StoreFile.{StandsTidyFor};
 ghost use Rattle.checkpoint.specs.Writing.{head_of, IsSlotWhole};
-ghost use Rattle.store.specs.Durable.{told_by};
 ghost use Rattle.store.specs.Committing.{StandsTidily};
 ghost use Rattle.store.specs.Checkpointing.{IsOldShutOrWhole, refusal_of_checkpoint, MayRefuseCheckpoint};
 ghost use Rattle.store.specs.Durable.{told_by, Leaves};

@@ -15,6 +15,8 @@ pub use opening::open;
 pub use store::Store;
 
 #[cfg(test)]
+mod checkpoint_tests;
+#[cfg(test)]
 mod commit_tests;
 #[cfg(test)]
 mod creation_tests;
@@ -26,6 +28,8 @@ mod judge_tests;
 mod limit_tests;
 #[cfg(test)]
 mod opening_tests;
+#[cfg(test)]
+mod reuse_tests;
 #[cfg(test)]
 mod sweep_tests;
 #[cfg(test)]

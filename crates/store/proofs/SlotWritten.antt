@@ -1,5 +1,5 @@
 -- What a stop leaves of a slot that is written.
-use Rattle.std.proofs.Common.{◌≡◌, inl, inr, ⊎_elim, ℕ, List, subst}
+use Rattle.std.proofs.Common.{inl, inr, ⊎_elim, ℕ, List}
 use Rattle.disk.specs.Gated.{IsShut, IsOldOrShut}
 use Rattle.disk.specs.Moments.{LeavesOnly}
 use Rattle.disk.proofs.Gates.{outside_twice}

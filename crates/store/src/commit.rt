@@ -45,7 +45,7 @@ impl<D: Disk> Store<D> {
         ensures same { IfErr result (λ refusal. refusal ≢ device → self.new ≡ self.old) }
         ensures failed { IfErr result (λ refusal. refusal ≡ device → Rose (D.failures self.old.disk) (D.failures self.new.disk)) }
         ensures breaks { IfErr result (λ refusal. refusal ≡ device → self.new.broken ≡ true) }
-        ensures kept { OnErr result ((self.new.network ≡ self.old.network) × (self.new.version ≡ self.old.version)) }
+        ensures kept { OnErr result ((self.new.network ≡ self.old.network) × (self.new.version ≡ self.old.version) × (self.new.unchecked ≡ self.old.unchecked) × (self.new.next_sequence ≡ self.old.next_sequence)) }
         ensures adds_nothing { self.old.broken ≡ true → AddsNothing D.moment D.left_since self.old.disk self.new.disk }
         // A stop at any moment of the call leaves what stands for the network before the commands, or after them.
         ensures any_moment { self.old.broken ≡ false → D.honest self.old.disk → StandsTidily (D.content self.old.disk) (told_by self.old) → LeavesOnly D.moment D.left_since self.old.disk self.new.disk (IsBeforeOrAfter self.old.network self.old.version commands.now) }

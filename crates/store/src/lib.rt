@@ -1,17 +1,20 @@
 //! A store: a road network that is kept on a disk.
 #![tactic(auto)]
 
+mod arming;
 mod batch;
 mod checkpointing;
 mod commit;
 mod creation;
 mod header;
 mod opening;
+mod parts;
 mod replay;
 mod store;
 
 pub use creation::create;
 pub use opening::open;
+pub use parts::Part;
 pub use store::Store;
 
 #[cfg(test)]

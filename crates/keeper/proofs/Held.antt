@@ -1,0 +1,102 @@
+-- What a keeper's disk holds, from one call to the next.
+use Rattle.std.proofs.Common.{◌≡◌, ◌⊎◌, ⊎_elim, inl, inr, ℕ, ◌≤◌, Bool, true, false, List, [], ◌∷◌, ◌++◌, length, take, Some, refl, sym, ◌∙◌, ap, subst, arith}
+use Rattle.std.specs.Prelude.{not}
+use Rattle.std.proofs.Math.Seq.{take-nil}
+use Rattle.std.proofs.lemmas.List.{take-append-le}
+use Rattle.disk.specs.Moments.{LeavesOnly}
+use Rattle.disk.proofs.Steps.{started}
+use Rattle.roadnet.specs.declared.commands.Command.{Command}
+use Rattle.roadnet.specs.declared.refusals.Refusal.{Refusal}
+use Rattle.roadnet.specs.declared.refusals.Refusal.TheVariants.{OutOfMemory, Device}
+use Rattle.roadnet.specs.Net.{Net}
+use Rattle.roadnet.specs.Step.{after}
+use Rattle.storefile.specs.StoreFile.{StandsTidyFor}
+use Rattle.storefile.specs.Standing.{Standing}
+use Rattle.store.specs.Committing.{StandsTidily}
+use Rattle.store.specs.Checkpointing.{refusal_of_checkpoint, MayRefuseCheckpoint}
+use Rattle.machine.specs.Machine.{Machine, IsState, latest, network_at}
+use Rattle.machine.specs.Calls.{failed, IsLeft}
+use Rattle.machine.specs.Lives.{HoldsDurable}
+use Rattle.machine.proofs.Kept.{left_between}
+use Rattle.keeper.specs.Keeping.{Holds}
+
+-- what holds what is durable holds it with these commands in flight or without
+pub held_too : (m : Machine) (commands : ℕ) (content : List ℕ) → IsState m → m.broken ≡ false → HoldsDurable StandsTidyFor m content → HoldsDurable StandsTidyFor (failed m commands) content
+held_too m commands content s works h =
+    let none : m.in_flight ≡ 0 = s.calm works in
+    record {
+      version = h.version;
+      left = ⊎_elim (λ e. inl e) (λ e. inl (omega arith)) h.left;
+      network = h.network;
+      network_is = h.network_is;
+      stands = h.stands;
+    }
+
+-- no call is made: a stop leaves what it leaves now
+pub no_call : {D : Type 0} (left : D → List ℕ → Type 0) (moment : D → ℕ) (left_since : D → ℕ → List ℕ → Type 0) (disk : D) (P : List ℕ → Type 0)
+    → ((c : List ℕ) → left_since disk (moment disk) c → left disk c) → ((c : List ℕ) → left disk c → P c) → LeavesOnly moment left_since disk disk P
+no_call left moment left_since disk P now each = started moment left_since disk P (λ c since. each c (now c since))
+
+module _ (content : List ℕ) (left : List ℕ → Type 0) (standing : Standing) where
+  -- a machine whose durable commands stay, and what is in flight
+  pub holds_on : (old new : Machine) → new.durable ≡ old.durable → new.in_flight ≡ old.in_flight → new.broken ≡ old.broken
+      → ((v : ℕ) → v ≤ latest old → network_at new v ≡ network_at old v) → IsState old → Holds content left old standing → Holds content left new standing
+  holds_on old new durable in_flight broken networks s h =
+      let left_too : (v : ℕ) → IsLeft old v → IsLeft new v =
+      λ v is. ⊎_elim (λ e. inl (e ∙ sym durable)) (λ e. inr (omega arith)) is in
+      record {
+        only = λ works. h.only (sym broken ∙ works);
+        stands = λ works. h.stands (sym broken ∙ works);
+        each_left = λ c was.
+            let held : HoldsDurable StandsTidyFor old c = h.each_left c was in
+            let between : (old.durable ≤ held.version) × (held.version ≤ latest old) = left_between old s held.version held.left in
+            record {
+              version = held.version;
+              left = left_too held.version held.left;
+              network = held.network;
+              network_is = networks held.version between.1 ∙ held.network_is;
+              stands = held.stands;
+            };
+      }
+
+  -- a disk that is alike
+  pub holds_alike : (content' : List ℕ) (left' : List ℕ → Type 0) (m : Machine) → content' ≡ content → ((c : List ℕ) → left' c → left c) → Holds content left m standing → Holds content' left' m standing
+  holds_alike content' left' m same among h = record {
+    only = λ works c was. h.only works c (among c was) ∙ sym same;
+    stands = λ works. subst (λ (x : List ℕ). StandsTidily x standing) (sym same) (h.stands works);
+    each_left = λ c was. h.each_left c (among c was);
+  }
+
+-- a disk that is alike, of a store that tells the same, and a machine whose durable commands stay
+pub holds_armed : (content content' : List ℕ) (left left' : List ℕ → Type 0) (standing standing' : Standing) (old new : Machine) → content' ≡ content → ((c : List ℕ) → left' c → left c) → standing' ≡ standing
+    → new.durable ≡ old.durable → new.in_flight ≡ old.in_flight → new.broken ≡ old.broken → ((v : ℕ) → v ≤ latest old → network_at new v ≡ network_at old v) → IsState old → Holds content left old standing → Holds content' left' new standing'
+holds_armed content content' left left' standing standing' old new same among told durable in_flight broken networks s h =
+    subst (λ (x : Standing). Holds content' left' new x) (sym told)
+    (holds_on content' left' standing old new durable in_flight broken networks s (holds_alike content left standing content' left' old same among h))
+
+pub same_commands : (base : Net) (n : ℕ) (items items' : List Command) → items' ≡ items → after base (take n items') ≡ after base (take n items)
+same_commands base n items items' is = ap (λ (xs : List Command). after base (take n xs)) is
+
+-- a command behind the others changes no network before it
+pub same_before : (base : Net) (n : ℕ) (items items' : List Command) (command : Command) → items' ≡ items ++ command ∷ [] → n ≤ length items → after base (take n items') ≡ after base (take n items)
+same_before base n items items' command is le =
+    ap (λ (xs : List Command). after base (take n xs)) is ∙ ap (after base) (take-append-le n items (command ∷ []) le)
+
+take_none : (n : ℕ) (items : List Command) → items ≡ [] → take n items ≡ []
+take_none n items none = ap (take n) none ∙ take-nil n
+
+-- at the beginning
+pub at_base : (base net : Net) (n : ℕ) (items : List Command) → base ≡ net → items ≡ [] → after base (take n items) ≡ Some net
+at_base base net n items same none = ap (after base) (take_none n items none) ∙ ap Some same
+
+pub works_if_calm : (broken : Bool) → true ≡ not broken → broken ≡ false
+works_if_calm true h = cc
+works_if_calm false h = refl
+
+-- why a checkpoint of a store that is not broken is refused
+pub why : (broken : Bool) (refusal : Refusal) → broken ≡ false → MayRefuseCheckpoint (refusal_of_checkpoint broken) refusal → (refusal ≡ OutOfMemory) ⊎ (refusal ≡ Device)
+why true refusal works may = cc
+why false refusal works may = ⊎_elim (λ told. absurd cc) (λ other. other.1) may
+
+pub not_memory : (refusal : Refusal) → refusal ≡ OutOfMemory → refusal ≡ Device → ⊥
+not_memory refusal is device = let never : OutOfMemory ≡ Device = sym is ∙ device in absurd cc

@@ -1,0 +1,4 @@
+pub mod Accepted
+pub mod Flushed
+pub mod Held
+pub mod Shown

@@ -1,0 +1,20 @@
+use Rattle.std.proofs.Common.{inl, refl, ◌∙◌}
+use Rattle.store.specs.Durable.{told_by}
+use Rattle.store.proofs.Committed.{left_stands}
+use Rattle.keeper.proofs.Held.{at_base}
+use Rattle.keeper.proofs.keepers.Keeper.new.Goals as goal
+
+pub returns-clause-holds : goal.returns-clause-holds
+returns-clause-holds g c honest stands =
+    let only = (c.args.store.rests c.requires.calm honest).0 in
+    record {
+      only = λ works. only;
+      stands = λ works. stands;
+      each_left = λ d was. record {
+        version = c.args.store.version;
+        left = inl refl;
+        network = c.args.store.network;
+        network_is = at_base c.of-base.result.value c.args.store.network _ c.new.result.items (c.of-base.ensures ∙ c.network-4.ensures) c.new.ensures.items;
+        stands = left_stands (g.D.Disk.content c.args.store.disk) (g.D.Disk.left c.args.store.disk) (told_by c.args.store) only stands d was;
+      };
+    }

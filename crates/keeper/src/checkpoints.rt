@@ -1,0 +1,49 @@
+// Checkpoints.
+ghost use Rattle.std.specs.Prelude.{◌≡◌, ◌≢◌, ◌≤◌, ◌↔◌, true, false, Ok, Err, IfErr, MatchResult};
+ghost use Rattle.disk.specs.Contents.{Rose};
+ghost use Rattle.disk.specs.Moments.{LeavesOnly, AddsNothing};
+ghost use Rattle.roadnet.specs.declared.refusals.Refusal.TheVariants.{Device as device};
+ghost use Rattle.storefile.specs.StoreFile.{StandsTidyFor};
+ghost use Rattle.machine.specs.Calls.{StepsCheckpoint};
+ghost use Rattle.machine.specs.Lives.{HoldsDurable};
+ghost use Rattle.keeper.specs.Keeping.{Holds};
+ghost use Rattle.keeper.specs.Parts.{done_version};
+
+use crate::keepers::Keeper;
+use disk::Disk;
+use roadnet::Refusal;
+use std::snapshot::Snapshot;
+use store::Part;
+
+impl<D: Disk> Keeper<D> {
+    /// A step of a checkpoint of the durable network, of so many pages, 1 to 64. Answers `Done` with the version that the checkpoint holds,
+    /// or `Going`. Where no page is unchecked, nothing is done.
+    ///
+    /// So far a step writes the whole checkpoint: it is a step of as many pages as a slot has.
+    ///
+    /// Refused is a broken store (45); then want of memory (11), before any call of the disk; then a disk that failed (43), after which the
+    /// store is broken. After each other refusal nothing is changed.
+    pub fn checkpoint_step(&mut self, pages: u32) -> Result<Part, Refusal>
+        requires some { 1 ≤ pages }
+        requires few { pages ≤ 64 }
+        ensures step { MatchResult result (λ part. StepsCheckpoint self.old.machine self.old.machine.sizes.slot_pages (Ok (done_version part)) self.new.machine) (λ refusal. StepsCheckpoint self.old.machine self.old.machine.sizes.slot_pages (Err refusal) self.new.machine) }
+        ensures same { IfErr result (λ refusal. refusal ≢ device → self.new ≡ self.old) }
+        ensures failed { IfErr result (λ refusal. refusal ≡ device → Rose (D.failures self.old.disk) (D.failures self.new.disk)) }
+        ensures adds_nothing { self.old.machine.broken ≡ true → AddsNothing D.moment D.left_since self.old.disk self.new.disk }
+        // A stop at any moment of the call leaves what stands for what is durable.
+        ensures any_moment { self.old.machine.broken ≡ false → D.honest self.old.disk → Holds (D.content self.old.disk) (D.left self.old.disk) self.old.machine self.old.standing → LeavesOnly D.moment D.left_since self.old.disk self.new.disk (HoldsDurable StandsTidyFor self.old.machine) }
+        ensures holds { D.honest self.old.disk → Holds (D.content self.old.disk) (D.left self.old.disk) self.old.machine self.old.standing → Holds (D.content self.new.disk) (D.left self.new.disk) self.new.machine self.new.standing }
+        ensures honest { D.honest self.new.disk ↔ D.honest self.old.disk }
+    {
+        let _ = pages;
+        if !self.store.calm() {
+            return Err(Refusal::Broken);
+        }
+        self.written = Snapshot::of(&0);
+        let version = match self.store.checkpoint() {
+            Ok(version) => version,
+            Err(refusal) => return Err(refusal),
+        };
+        Ok(Part::Done(version))
+    }
+}

@@ -1,0 +1,61 @@
+// Pending commands made durable.
+ghost use Rattle.std.specs.Prelude.{◌≡◌, ◌≢◌, ◌↔◌, true, false, None, Some, IfErr, MatchResult};
+ghost use Rattle.disk.specs.Contents.{Rose};
+ghost use Rattle.disk.specs.Moments.{LeavesOnly, AddsNothing};
+ghost use Rattle.roadnet.specs.declared.refusals.Refusal.TheVariants.{Device as device};
+ghost use Rattle.storefile.specs.StoreFile.{StandsTidyFor};
+ghost use Rattle.machine.specs.Machine.{batch};
+ghost use Rattle.machine.specs.Calls.{Flushes, refusal_of_flush, failed};
+ghost use Rattle.machine.specs.Lives.{HoldsDurable};
+ghost use Rattle.keeper.specs.Keeping.{Holds};
+
+use crate::keepers::Keeper;
+use disk::Disk;
+use roadnet::Refusal;
+use std::snapshot::Snapshot;
+
+/// How many commands a page of the journal holds at most.
+const MOST_OF_PAGE: usize = 253;
+
+impl<D: Disk> Keeper<D> {
+    /// For what a flush would be refused, memory and the disk apart.
+    fn may_flush(&self) -> Result<(), Refusal>
+        ensures { MatchResult result (λ _. refusal_of_flush self.now.machine ≡ None) (λ refusal. refusal_of_flush self.now.machine ≡ Some refusal) }
+    {
+        if !self.store.calm() {
+            return Err(Refusal::Broken);
+        }
+        if self.opened + self.history.len() as u64 <= self.store.version() {
+            return Err(Refusal::NothingPending);
+        }
+        if self.store.unchecked() >= self.store.journal_pages() {
+            return Err(Refusal::JournalFull);
+        }
+        Ok(())
+    }
+
+    /// Makes the first pending commands durable, at most 253, as one page of the journal: all of them or none, whatever a stop does at any
+    /// moment. Answers the durable version.
+    ///
+    /// Refused, the first that holds, is a broken store (45), that nothing is pending (53), and a journal without a free page (44); then want of
+    /// memory (11), before any call of the disk; then a disk that failed (43), after which the store is broken. After each other refusal
+    /// nothing is changed.
+    pub fn flush(&mut self) -> Result<u64, Refusal>
+        ensures step { Flushes self.old.machine result self.new.machine }
+        ensures same { IfErr result (λ refusal. refusal ≢ device → self.new ≡ self.old) }
+        ensures failed { IfErr result (λ refusal. refusal ≡ device → Rose (D.failures self.old.disk) (D.failures self.new.disk)) }
+        ensures adds_nothing { self.old.machine.broken ≡ true → AddsNothing D.moment D.left_since self.old.disk self.new.disk }
+        // A stop at any moment of the call leaves what a flush that failed leaves.
+        ensures any_moment { self.old.machine.broken ≡ false → D.honest self.old.disk → Holds (D.content self.old.disk) (D.left self.old.disk) self.old.machine self.old.standing → LeavesOnly D.moment D.left_since self.old.disk self.new.disk (HoldsDurable StandsTidyFor (failed self.old.machine (batch self.old.machine))) }
+        ensures holds { D.honest self.old.disk → Holds (D.content self.old.disk) (D.left self.old.disk) self.old.machine self.old.standing → Holds (D.content self.new.disk) (D.left self.new.disk) self.new.machine self.new.standing }
+        ensures honest { D.honest self.new.disk ↔ D.honest self.old.disk }
+    {
+        if let Err(refusal) = self.may_flush() {
+            return Err(refusal);
+        }
+        let first = (self.store.version() - self.opened) as usize;
+        let count = (self.history.len() - first).min(MOST_OF_PAGE);
+        self.written = Snapshot::of(&count);
+        self.store.commit(&self.history[first..first + count])
+    }
+}

@@ -1,0 +1,16 @@
+//! The keeper of a store: one object that takes commands, makes them durable, writes checkpoints, hands out tasks, shows views and
+//! answers queries. Each of its calls is a step of the machine of the crate `machine`.
+#![tactic(auto)]
+
+mod asking;
+mod checkpoints;
+mod flushing;
+mod keepers;
+mod numbers;
+mod same;
+mod starting;
+mod submitting;
+mod tasks;
+
+pub use keepers::Keeper;
+pub use tasks::Task;

@@ -1,0 +1,65 @@
+// What a keeper tells of itself: numbers of its machine, and receipts. None of these takes memory.
+ghost use Rattle.std.specs.Prelude.{◌≡◌};
+ghost use Rattle.machine.specs.Machine.{pending};
+ghost use Rattle.machine.specs.Calls.{IsTicketOf, receipt_for};
+
+use crate::keepers::Keeper;
+use disk::Disk;
+use machine::{Receipt, Ticket};
+use roadnet::Refusal;
+
+impl<D: Disk> Keeper<D> {
+    /// How many accepted commands are not durable: at most 4,096.
+    pub fn pending(&self) -> u64
+        ensures { result ≡ pending self.now.machine }
+    {
+        self.opened + self.history.len() as u64 - self.store.version()
+    }
+
+    /// The versions up to this one are durable.
+    pub fn durable(&self) -> u64
+        ensures { result ≡ self.now.machine.durable }
+    {
+        self.store.version()
+    }
+
+    /// The version that answers are given from.
+    pub fn shown(&self) -> u64
+        ensures { result ≡ self.now.machine.shown }
+    {
+        self.view.version()
+    }
+
+    /// How many pages of the journal no checkpoint has made needless.
+    pub fn unchecked(&self) -> u32
+        ensures { result ≡ self.now.machine.unchecked }
+    {
+        self.store.unchecked()
+    }
+
+    /// How many pages the journal has.
+    pub fn journal_pages(&self) -> u32
+        ensures { result ≡ self.now.machine.sizes.journal_pages }
+    {
+        self.store.journal_pages()
+    }
+
+    /// A receipt, where the ticket's command is durable: no stop takes it back. The ticket is one of this life.
+    ///
+    /// Refused is a number that is not durable: with 45 where the store is broken, else with 54.
+    pub fn receipt(&self, ticket: &Ticket) -> Result<Receipt, Refusal>
+        requires { IsTicketOf self.now.machine ticket.now }
+        ensures { result ≡ receipt_for self.now.machine ticket.now }
+    {
+        if ticket.number <= self.store.version() {
+            return Ok(Receipt {
+                number: ticket.number,
+                command: ticket.command,
+            });
+        }
+        if !self.store.calm() {
+            return Err(Refusal::Broken);
+        }
+        Err(Refusal::NotYet)
+    }
+}

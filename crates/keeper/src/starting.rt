@@ -1,0 +1,115 @@
+// A keeper begun, armed and ended.
+ghost use Rattle.std.specs.Prelude.{◌≡◌, ◌≤◌, ◌↔◌, List, ℕ, false, IfOk, IfErr};
+ghost use Rattle.std.specs.Option.{ForSome};
+ghost use Rattle.disk.specs.Stop.{armed_at};
+ghost use Rattle.pages.specs.Layout.{word_pages};
+ghost use Rattle.rows.specs.Kept.{IsWidth};
+ghost use Rattle.store.specs.Committing.{StandsTidily};
+ghost use Rattle.store.specs.Durable.{told_by};
+ghost use Rattle.machine.specs.Machine.{start};
+ghost use Rattle.keeper.specs.Keeping.{Holds};
+
+use crate::keepers::Keeper;
+use disk::{Disk, Stoppable};
+use relax::Solo;
+use roadnet::{Command, Network, OutOfMemory};
+use rows::{RowCache, View};
+use std::alloc::Global;
+use std::snapshot::Snapshot;
+use std::sync::Arc;
+use store::Store;
+
+/// How many rows the keeper's cache may keep.
+const ROWS: u32 = 16;
+
+/// A view of a copy of the network.
+fn first_view(
+    alloc: Global,
+    version: u64,
+    network: &Network,
+    delta: Option<u32>,
+) -> Result<Arc<View>, OutOfMemory>
+    requires { ForSome delta IsWidth }
+    ensures version { IfOk result (λ view. view.value.version ≡ version) }
+    ensures network { IfOk result (λ view. view.value.network ≡ network.now) }
+{
+    let Ok(copy) = network.copy() else {
+        return Err(OutOfMemory);
+    };
+    let Ok(view) = View::build(alloc, version, copy, delta, &Solo) else {
+        return Err(OutOfMemory);
+    };
+    match Arc::new(alloc, view) {
+        Ok(view) => Ok(view),
+        Err(_) => Err(OutOfMemory),
+    }
+}
+
+impl<D: Disk> Keeper<D> {
+    /// A keeper of a store that is not broken, in the beginning state of its network and version: nothing is pending, and the view of that
+    /// version is built and shown. `delta`, 1 to 2147483647, is the width of the buckets of its searches; where none is given it is the
+    /// network's default.
+    ///
+    /// The one error is want of memory, and then the store is handed back.
+    pub fn new(
+        alloc: Global,
+        store: Store<D>,
+        delta: Option<u32>,
+    ) -> Result<Keeper<D>, (OutOfMemory, Store<D>)>
+        requires calm { store.broken ≡ false }
+        requires width { ForSome delta IsWidth }
+        ensures begins { IfOk result (λ keeper. keeper.machine ≡ start (record { journal_pages = store.header.journal_pages; slot_pages = word_pages store.header }) store.network store.version store.unchecked) }
+        ensures disk { IfOk result (λ keeper. keeper.disk ≡ store.disk) }
+        ensures standing { IfOk result (λ keeper. keeper.standing ≡ told_by store) }
+        ensures holds { D.honest store.disk → StandsTidily (D.content store.disk) (told_by store) → IfOk result (λ keeper. Holds (D.content keeper.disk) (D.left keeper.disk) keeper.machine keeper.standing) }
+        ensures handed_back { IfErr result (λ refused. refused.1 ≡ store) }
+    {
+        let opened = store.version();
+        let Ok(network) = store.network().copy() else {
+            return Err((OutOfMemory, store));
+        };
+        let Ok(view) = first_view(alloc, opened, store.network(), delta) else {
+            return Err((OutOfMemory, store));
+        };
+        let base = Snapshot::of(store.network());
+        Ok(Keeper {
+            alloc,
+            store,
+            base,
+            opened,
+            history: Vec::new(alloc),
+            network,
+            view,
+            cache: RowCache::new(alloc, ROWS),
+            task: None,
+            written: Snapshot::of(&0),
+        })
+    }
+
+    /// The commands accepted in this life, in order, and the disk, of which no call is made. It takes no memory.
+    pub fn close(self) -> (Vec<Command>, D)
+        ensures history { result.0.items ≡ self.machine.accepted }
+        ensures disk { result.1 ≡ self.disk }
+    {
+        (self.history, self.store.close())
+    }
+}
+
+impl<D: Stoppable> Keeper<D> {
+    /// Arms the disk: its k-th write or sync from now on is cut, and it and each later call fail until the disk is stopped.
+    pub fn arm(&mut self, k: u64)
+        requires { 1 ≤ k }
+        ensures machine { self.new.machine ≡ self.old.machine }
+        ensures standing { self.new.standing ≡ self.old.standing }
+        ensures holds { Holds (D.content self.old.disk) (D.left self.old.disk) self.old.machine self.old.standing → Holds (D.content self.new.disk) (D.left self.new.disk) self.new.machine self.new.standing }
+        ensures armed { D.armed self.new.disk ≡ armed_at k (D.armed self.old.disk) }
+        ensures content { D.content self.new.disk ≡ D.content self.old.disk }
+        ensures left { (c : List ℕ) → D.left self.new.disk c ↔ D.left self.old.disk c }
+        ensures moment { D.moment self.new.disk ≡ D.moment self.old.disk }
+        ensures left_since { (t : ℕ) (c : List ℕ) → D.left_since self.new.disk t c ↔ D.left_since self.old.disk t c }
+        ensures failures { D.failures self.new.disk ≡ D.failures self.old.disk }
+        ensures honest { D.honest self.new.disk ↔ D.honest self.old.disk }
+    {
+        self.store.arm(k);
+    }
+}

@@ -1,0 +1,84 @@
+// Commands accepted.
+ghost use Rattle.std.specs.Prelude.{◌≡◌, ◌++◌, ◌∷◌, [], None, Some, MatchResult, OnOk, OnErr};
+ghost use Rattle.roadnet.specs.Step.{refusal_of, step};
+ghost use Rattle.machine.specs.Calls.{Submits, refusal_of_submit};
+ghost use Rattle.keeper.specs.Keeping.{Holds};
+
+use crate::keepers::Keeper;
+use disk::Disk;
+use machine::Ticket;
+use roadnet::{Command, Network, OutOfMemory, Refusal};
+
+const MOST_OF_LIFE: usize = 16777216;
+
+const MOST_VERSIONS: u64 = 1 << 48;
+
+const MOST_PENDING: u64 = 4096;
+
+/// Puts an admitted command behind those that were accepted, and carries it out. After an `Err` nothing has changed.
+fn accept(
+    history: &mut Vec<Command>,
+    network: &mut Network,
+    command: Command,
+) -> Result<(), OutOfMemory>
+    requires { refusal_of network.old command ≡ None }
+    ensures history { OnOk result (history.new.items ≡ history.old.items ++ command ∷ []) }
+    ensures network { OnOk result (step network.old command ≡ Some network.new) }
+    ensures same_history { OnErr result (history.new.items ≡ history.old.items) }
+    ensures same_network { OnErr result (network.new ≡ network.old) }
+{
+    if history.reserve(1).is_err() {
+        return Err(OutOfMemory);
+    }
+    match network.apply(command) {
+        Ok(()) => {
+            history.push_reserved(command);
+            Ok(())
+        }
+        Err(_) => Err(OutOfMemory),
+    }
+}
+
+impl<D: Disk> Keeper<D> {
+    /// For what the command would be refused, memory apart.
+    fn may_submit(&self, command: &Command) -> Result<(), Refusal>
+        ensures { MatchResult result (λ _. refusal_of_submit self.now.machine command.now ≡ None) (λ refusal. refusal_of_submit self.now.machine command.now ≡ Some refusal) }
+    {
+        if !self.store.calm() {
+            return Err(Refusal::Broken);
+        }
+        if self.history.len() >= MOST_OF_LIFE {
+            return Err(Refusal::HistoryFull);
+        }
+        let latest = self.opened + self.history.len() as u64;
+        if latest >= MOST_VERSIONS {
+            return Err(Refusal::VersionsExhausted);
+        }
+        if latest >= self.store.version() + MOST_PENDING {
+            return Err(Refusal::QueueFull);
+        }
+        self.network.admit(command)
+    }
+
+    /// Accepts the command as the next number. It is pending then, and a stop may take it back until a flush has made it durable.
+    ///
+    /// Refused, the first that holds, is a broken store (45), a life of 16,777,216 commands (62), a version that would pass 2^48 (28),
+    /// 4,096 pending commands (50), and what the network after the accepted commands doesn't admit (20 to 27); then want of memory (11).
+    ///
+    /// The accepted network is changed in place: beyond the command itself this takes O(1), and for a landmark a shift of the others.
+    pub fn submit(&mut self, command: Command) -> Result<Ticket, Refusal>
+        ensures step { Submits self.old.machine command result self.new.machine }
+        ensures disk { self.new.disk ≡ self.old.disk }
+        ensures standing { self.new.standing ≡ self.old.standing }
+        ensures holds { Holds (D.content self.old.disk) (D.left self.old.disk) self.old.machine self.old.standing → Holds (D.content self.new.disk) (D.left self.new.disk) self.new.machine self.new.standing }
+    {
+        if let Err(refusal) = self.may_submit(&command) {
+            return Err(refusal);
+        }
+        let number = self.opened + self.history.len() as u64 + 1;
+        match accept(&mut self.history, &mut self.network, command) {
+            Ok(()) => Ok(Ticket { number, command }),
+            Err(_) => Err(Refusal::OutOfMemory),
+        }
+    }
+}

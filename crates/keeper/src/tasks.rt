@@ -1,0 +1,118 @@
+// Views that are wanted: tasks handed out and given up, and the views of them shown.
+ghost use Rattle.std.specs.Prelude.{◌≡◌, Ok, Err, None, IfOk, IfErr, MatchResult, option_map};
+ghost use Rattle.roadnet.specs.declared.refusals.Refusal.TheVariants.{OutOfMemory as out_of_memory};
+ghost use Rattle.machine.specs.Calls.{TakesTask, without_task, IsTask, RefusesView, Publishes};
+ghost use Rattle.keeper.specs.Keeping.{Holds};
+
+use crate::keepers::Keeper;
+use crate::same::is_same;
+use disk::Disk;
+use roadnet::{Network, OutOfMemory, Refusal};
+use rows::View;
+use std::alloc::Global;
+use std::sync::Arc;
+
+/// A version whose view is wanted, with its network.
+#[derive(Drop)]
+pub struct Task {
+    /// The version.
+    pub version: u64,
+    /// The network at it. The keeper shares it, and compares the view with it.
+    pub network: Arc<Network>,
+}
+
+/// A task that two may hold, with one copy of the network.
+fn shared_task(alloc: Global, version: u64, network: &Network) -> Result<(Task, Task), OutOfMemory>
+    ensures versions { IfOk result (λ tasks. (tasks.0.version ≡ version) × (tasks.1.version ≡ version)) }
+    ensures networks { IfOk result (λ tasks. (tasks.0.network.value ≡ network.now) × (tasks.1.network.value ≡ network.now)) }
+{
+    let Ok(copy) = network.copy() else {
+        return Err(OutOfMemory);
+    };
+    let Ok(network) = Arc::new(alloc, copy) else {
+        return Err(OutOfMemory);
+    };
+    let Ok(shared) = Arc::try_clone(&network) else {
+        return Err(OutOfMemory);
+    };
+    let one = Task { version, network };
+    let other = Task {
+        version,
+        network: shared,
+    };
+    Ok((one, other))
+}
+
+impl<D: Disk> Keeper<D> {
+    /// A task: the durable version with a copy of its network. It is out then, until a view of it is shown or it is given up. There is none
+    /// while a task is out, and where the durable version is shown.
+    ///
+    /// The one error is want of memory, and then nothing has changed. The network is copied once.
+    pub fn take_task(&mut self) -> Result<Option<Task>, OutOfMemory>
+        ensures step { MatchResult result (λ task. TakesTask self.old.machine (Ok (option_map (λ t. (t.version, t.network.value)) task)) self.new.machine) (λ _. TakesTask self.old.machine (Err out_of_memory) self.new.machine) }
+        ensures disk { self.new.disk ≡ self.old.disk }
+        ensures standing { self.new.standing ≡ self.old.standing }
+        ensures holds { Holds (D.content self.old.disk) (D.left self.old.disk) self.old.machine self.old.standing → Holds (D.content self.new.disk) (D.left self.new.disk) self.new.machine self.new.standing }
+    {
+        if self.task.is_some() || self.view.version() == self.store.version() {
+            return Ok(None);
+        }
+        let (kept, given) = match shared_task(
+            self.alloc,
+            self.store.version(),
+            self.store.network(),
+        ) {
+            Ok(tasks) => tasks,
+            Err(error) => return Err(error),
+        };
+        self.task = Some(kept);
+        Ok(Some(given))
+    }
+
+    /// The task of this version, if it is out, is out no more. It takes no memory.
+    pub fn give_up(&mut self, version: u64)
+        ensures step { self.new.machine ≡ without_task self.old.machine version }
+        ensures disk { self.new.disk ≡ self.old.disk }
+        ensures standing { self.new.standing ≡ self.old.standing }
+        ensures holds { Holds (D.content self.old.disk) (D.left self.old.disk) self.old.machine self.old.standing → Holds (D.content self.new.disk) (D.left self.new.disk) self.new.machine self.new.standing }
+    {
+        if let Some(task) = &self.task
+            && task.version == version
+        {
+            self.task = None;
+        }
+    }
+
+    /// For what `publish` of the view would be refused: 51 where no task is out, 52 where the view's version or network is not the task's,
+    /// compared arc by arc. It takes no memory.
+    pub fn may_publish(&self, view: &View) -> Result<(), Refusal>
+        ensures { MatchResult result (λ _. IsTask self.now.machine view.now.version view.now.network) (RefusesView self.now.machine view.now.version view.now.network) }
+    {
+        let Some(task) = &self.task else {
+            return Err(Refusal::NoTask);
+        };
+        if task.version != view.version() || !is_same(&task.network, view.network()) {
+            return Err(Refusal::OtherNetwork);
+        }
+        Ok(())
+    }
+
+    /// Shows the view of the task that is out: answers are given from it, and no task is out then. Answers the version that is shown.
+    ///
+    /// Refused, as `may_publish` tells, the view is handed back and nothing has changed. It takes no memory.
+    pub fn publish(&mut self, view: Arc<View>) -> Result<u64, (Refusal, Arc<View>)>
+        ensures step { MatchResult result (λ shown. Publishes self.old.machine view.value.version view.value.network (Ok shown) self.new.machine) (λ refused. Publishes self.old.machine view.value.version view.value.network (Err refused.0) self.new.machine) }
+        ensures handed_back { IfErr result (λ refused. refused.1 ≡ view) }
+        ensures disk { self.new.disk ≡ self.old.disk }
+        ensures standing { self.new.standing ≡ self.old.standing }
+        ensures holds { Holds (D.content self.old.disk) (D.left self.old.disk) self.old.machine self.old.standing → Holds (D.content self.new.disk) (D.left self.new.disk) self.new.machine self.new.standing }
+    {
+        if let Err(refusal) = self.may_publish(&view) {
+            return Err((refusal, view));
+        }
+        let shown = view.version();
+        self.task = None;
+        self.view = view;
+        Ok(shown)
+    }
+}

@@ -6,3 +6,4 @@ pub mod ScriptEnds
 pub mod ScriptLines
 pub mod ScriptStops
 pub mod ReplyLines
+mod WordsRead

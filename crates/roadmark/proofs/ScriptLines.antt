@@ -1,6 +1,5 @@
 -- A line of a script that is read from left to right has the lowest code that applies to it, or is the event that it says.
 use Rattle.std.proofs.Common.{◌≡◌, ◌∙◌, ℕ, Bool, true, false, ◌||◌, cond, eqb, List, [], ◌∷◌, ◌++◌, Option, None, Some, Result, Ok, Err, length, ltb, map, refl, sym, ap, subst, inl, inr, arith}
-use Rattle.std.specs.Prelude.{⊤}
 use Rattle.std.specs.List.{find}
 use Rattle.std.specs.Str.{bytes_eq}
 use Rattle.std.proofs.lemmas.Bool.{or_parts, eqb-true, lt-ltb, ne_eqb}
@@ -10,13 +9,13 @@ use lib.Chars.{codes}
 use Rattle.dimacs.specs.declared.fault.Code.{Code}
 use Rattle.dimacs.specs.declared.fault.Code.TheVariants.{BadLine, NumberRange}
 use Rattle.dimacs.specs.declared.numeral.Numeral.{Numeral}
-use Rattle.dimacs.specs.Commands.{form, form_of, is_refused, command_applies, command_code}
+use Rattle.dimacs.specs.Commands.{form, form_of, is_refused, command_code}
 use Rattle.dimacs.specs.CommandReading.{number_read, numbers_read}
 use Rattle.dimacs.specs.Content.{size_at}
 use Rattle.dimacs.specs.Faults.{Row, is_empty, is_remark, is_malformed}
 use Rattle.dimacs.specs.Numerals.{numeral, kept}
 use Rattle.dimacs.specs.Reading.{one_numeral, two_numerals}
-use Rattle.dimacs.specs.Taking.{Takes, ByMemory}
+use Rattle.dimacs.specs.Taking.{Takes}
 use Rattle.dimacs.proofs.Items.{kept_is, unreadable_kept, filter_map_push, or-false, by_memory_of}
 use Rattle.dimacs.proofs.NodeRows.{one_cases}
 use Rattle.dimacs.proofs.Problems.{two_cases}
@@ -29,9 +28,9 @@ use Rattle.roadmark.specs.declared.script_words.OneNumber.TheVariants.{Close, Re
 use Rattle.roadmark.specs.declared.script_words.TwoNumbers.{TwoNumbers}
 use Rattle.roadmark.specs.declared.script_words.TwoNumbers.TheVariants.{Set, Dist, From}
 use Rattle.roadmark.specs.declared.script_words.Word.{Word}
-use Rattle.roadmark.specs.declared.script_words.Word.TheVariants.{WithNone, WithOne, WithTwo, Stop}
+use Rattle.roadmark.specs.declared.script_words.Word.TheVariants.{WithNone, WithOne, WithTwo}
 use Rattle.roadmark.specs.declared.script_texts.EventLines.{EventLines}
-use Rattle.roadmark.specs.ScriptTexts.{ScriptLine, as_line, line_of, lines_in, numbered, is_stop, stop_applies, script_line_code}
+use Rattle.roadmark.specs.ScriptTexts.{ScriptLine, as_line, line_of, lines_in, numbered, is_stop, script_line_code}
 use Rattle.roadmark.specs.ScriptReading.{spelling, words, word_from, bare_line, one_line, two_line, ReadsEvent, ReadsLine, HasEvents}
 
 -- ---- lines that say nothing
@@ -211,9 +210,10 @@ two_are word u v a b d e true is = λ earlier. code_of_two (spelling (WithTwo wo
 two_are word u v a b d e false is =
     let parts = or_parts _ _ is in
     let first : size_at (u ∷ v ∷ []) 0 ≡ (kept a).size = rw d (sym (ap (λ (n : Numeral). n.size) (kept_number a parts.0))) in
-    let second : size_at (u ∷ v ∷ []) 1 ≡ (kept b).size = rw e (sym (ap (λ (n : Numeral). n.size) (kept_number b parts.1))) in
-    ((λ earlier. code_of_two (spelling (WithTwo word)) earlier u v a b (two_form word) d e ∙ rw is refl),
-     two_made word (u ∷ v ∷ []) ∙ ap (λ (x : ℕ). Some (two_line word x (size_at (u ∷ v ∷ []) 1))) first ∙ ap (λ (y : ℕ). Some (two_line word (kept a).size y)) second)
+    let second : size_at (u ∷ v ∷ []) 1 ≡ (kept b).size = rw e (sym (ap (λ (n : Numeral). n.size) (kept_number b parts.1))) in (
+      (λ earlier. code_of_two (spelling (WithTwo word)) earlier u v a b (two_form word) d e ∙ rw is refl),
+      two_made word (u ∷ v ∷ []) ∙ ap (λ (x : ℕ). Some (two_line word x (size_at (u ∷ v ∷ []) 1))) first ∙ ap (λ (y : ℕ). Some (two_line word (kept a).size y)) second,
+    )
 
 two_row : (word : TwoNumbers) (numbers : Row) → RightTwo word numbers (numbers_read (two_numerals numbers))
 two_row word numbers =

@@ -1,5 +1,5 @@
 -- A line `stop` that is read from left to right has the lowest code that applies to it, or is the event that it says.
-use Rattle.std.proofs.Common.{◌≡◌, ◌∙◌, ℕ, Bool, true, false, ◌||◌, ◌&&◌, cond, eqb, ltb, List, [], ◌∷◌, Option, None, Some, Result, Ok, Err, min, refl, sym, ap, subst, inl, inr, arith}
+use Rattle.std.proofs.Common.{◌≡◌, ◌∙◌, ℕ, Bool, true, false, ◌||◌, ◌&&◌, cond, eqb, ltb, List, [], ◌∷◌, Option, None, Some, Result, Ok, Err, refl, sym, ap, subst, inl, inr, arith}
 use Rattle.std.specs.Prelude.{IfOk, IfErr, is_some}
 use Rattle.std.specs.Option.{option_map_or}
 use Rattle.std.specs.Str.{bytes_eq}
@@ -20,7 +20,7 @@ use Rattle.machine.specs.declared.events.Event.{Event}
 use Rattle.machine.specs.declared.events.Writing.{Writing}
 use Rattle.machine.specs.declared.events.Writing.TheVariants.{Flush, Checkpoint}
 use Rattle.roadmark.specs.declared.script_stops.Cut.{Cut}
-use Rattle.roadmark.specs.ScriptTexts.{ScriptLine, StopLine, StopWithinLine, as_line, line_of, pick_from, writing_from, is_pick, is_writing, are_of_stop, is_no_call, is_no_byte, stop_applies, script_line_code}
+use Rattle.roadmark.specs.ScriptTexts.{StopLine, StopWithinLine, as_line, line_of, pick_from, writing_from, is_pick, is_writing, are_of_stop, is_no_call, is_no_byte, stop_applies, script_line_code}
 use Rattle.roadmark.specs.ScriptReading.{three_fields, call_of_numeral, call_read, byte_of_numeral, pick_read, writing_read, cut_of, cut_read, ReadsEvent}
 use Rattle.roadmark.proofs.ScriptLines.{kept_refused, kept_number}
 

@@ -1,4 +1,5 @@
 pub mod Counting
+pub mod Failures
 pub mod Joint
 pub mod Printed
 pub mod ReadJoint

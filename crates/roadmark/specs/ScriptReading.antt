@@ -1,9 +1,8 @@
 -- One line of a script, read from left to right.
-use Rattle.std.specs.Prelude.{◌≡◌, ℕ, Bool, true, false, ◌||◌, List, [], ◌∷◌, Option, None, Some, option_map, Result, Ok, Err, map, if◌then◌else◌, ⊤}
+use Rattle.std.specs.Prelude.{◌≡◌, ℕ, true, false, ◌||◌, List, [], ◌∷◌, Option, None, Some, option_map, Result, Ok, Err, map, if◌then◌else◌, ⊤}
 use Rattle.std.specs.List.{find}
 use Rattle.std.specs.Str.{bytes_eq}
 use lib.Chars.{codes}
-use Rattle.roadnet.specs.declared.commands.Command.{Command}
 use Rattle.roadnet.specs.declared.commands.Command.TheVariants.{Set as set_arc, Close as close_arc, Reopen as reopen_arc, Mark as mark_node, Unmark as unmark_node}
 use Rattle.dimacs.specs.declared.numeral.Numeral.{Numeral}
 use Rattle.dimacs.specs.declared.fault.Code.{Code}

@@ -1,6 +1,9 @@
 //! The jobs of the program, on standard input and output and on files.
+ghost use Rattle.std.specs.Prelude.{◌≡◌, [], IfOk, IfErr};
 ghost use Rattle.std.specs.Option.{ForSome};
+ghost use Rattle.std.specs.Io.Buffered.{reader_inner, reader_buffer};
 ghost use Rattle.rows.specs.Kept.{IsWidth};
+ghost use Rattle.roadmark.specs.Failures.{IsUnopened};
 
 use crate::batch::batch_counted;
 use crate::failed::Failed;
@@ -18,7 +21,11 @@ use std::rt::Files;
 const BUFFER: usize = 1 << 16;
 
 /// A reader of larger pieces.
-fn buffered<F: Read + Drop>(alloc: Global, reader: F) -> Result<BufReader<F>, Failed> {
+fn buffered<F: Read + Drop>(alloc: Global, reader: F) -> Result<BufReader<F>, Failed>
+    ensures same { IfOk result (λ buffered. reader_inner buffered ≡ reader) }
+    ensures unread { IfOk result (λ buffered. reader_buffer buffered ≡ []) }
+    ensures refused { IfErr result (λ failed. failed ≡ Failed.Code Refusal.OutOfMemory) }
+{
     match BufReader::with_capacity(alloc, BUFFER, reader) {
         Ok(reader) => Ok(reader),
         Err(_) => Err(Failed::Code(Refusal::OutOfMemory)),
@@ -30,7 +37,9 @@ fn open_text<R: AllocGlobal + Files>(
     rt: &R,
     which: u8,
     name: &str,
-) -> Result<BufReader<R::File>, Failed> {
+) -> Result<BufReader<R::File>, Failed>
+    ensures { IfErr result (IsUnopened which) }
+{
     match fs::open(rt, name) {
         Ok(file) => buffered(rt.alloc(), file),
         Err(_) => {

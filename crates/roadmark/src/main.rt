@@ -4,8 +4,12 @@
 //! files.
 #![tactic(auto)]
 
+ghost use Rattle.std.specs.Prelude.{◌≡◌, ◌≢◌, ◌≤◌, is_ok, if◌then◌else◌};
 ghost use Rattle.std.specs.Option.{ForSome};
+ghost use Rattle.std.specs.IoError.{error_kind};
+ghost use Rattle.std.specs.Process.{exit_status};
 ghost use Rattle.rows.specs.Kept.{IsWidth};
+ghost use Rattle.roadmark.specs.Failures.{text_name};
 ghost use Rattle.roadmark.specs.Words.{delta_of};
 
 mod answers;
@@ -29,11 +33,12 @@ use jobs::{run_batch, run_joint, run_once};
 pub use joint::{joint_counted, joint_text};
 pub use once::{once_counted, once_text};
 pub use replied::{put_replies, put_reply};
-pub use script_texts::{parse_script, read_script_counted};
 use roadnet::Refusal;
+pub use script_texts::{parse_script, read_script_counted};
+use std::env;
+use std::io::{self, ErrorKind};
 use std::process::ExitCode;
 use std::rt::{Env, Files};
-use std::{env, io};
 pub use words::{Job, MISUSE, Usage, read_words};
 pub use writer::CountedWriter;
 
@@ -63,7 +68,9 @@ fn run<R: AllocGlobal + Files + Input + Print>(rt: &R, job: &Job<'_>) -> Result<
 }
 
 /// By what name a fault line calls the text of a failure.
-fn text_name<'w>(job: &Job<'w>, failed: &Failed) -> &'w str {
+fn text_name<'w>(job: &Job<'w>, failed: &Failed) -> &'w str
+    ensures { result.now ≡ text_name job.now failed.now }
+{
     let is_first = matches!(failed, Failed::Text { which: 0, fault: _ });
     match *job {
         Job::Joint { delta: _ } => { if is_first { "net" } else { "script" } }
@@ -73,7 +80,11 @@ fn text_name<'w>(job: &Job<'w>, failed: &Failed) -> &'w str {
 }
 
 /// Prints help on standard output and a misuse on standard error.
-fn show<R: Print + Eprint>(rt: &R, usage: &Usage) -> ExitCode {
+fn show<R: Print + Eprint>(rt: &R, usage: &Usage) -> ExitCode
+    ensures help { usage.now.status ≡ 0 → exit_status result ≤ 1 }
+    ensures memory { usage.now.status ≡ 1 → exit_status result ≡ 1 }
+    ensures misuse { usage.now.status ≡ 2 → exit_status result ≡ 2 }
+{
     let text = usage.text.as_str();
     let outcome = match usage.status {
         0 => match print!(rt; "{text}") {
@@ -90,7 +101,9 @@ fn show<R: Print + Eprint>(rt: &R, usage: &Usage) -> ExitCode {
 }
 
 /// Prints the fault line of a failure, if there is one, and gives the exit status.
-fn ended<R: Eprint>(rt: &R, outcome: &Result<(), Failed>, name: &str) -> ExitCode {
+fn ended<R: Eprint>(rt: &R, outcome: &Result<(), Failed>, name: &str) -> ExitCode
+    ensures { exit_status result ≡ (if is_ok outcome.now then 0 else 1) }
+{
     if let Err(failed) = outcome {
         let line = fault_line(failed, name);
         let _ = eprintln!(rt; "{line}");
@@ -99,12 +112,19 @@ fn ended<R: Eprint>(rt: &R, outcome: &Result<(), Failed>, name: &str) -> ExitCod
 }
 
 /// Words that are not text are a misuse.
-fn without_words<R: Eprint>(rt: &R, error: &io::Error) -> ExitCode {
-    if error.kind() == io::ErrorKind::OutOfMemory {
-        return ended(rt, &Err(Failed::Code(Refusal::OutOfMemory)), "");
+fn without_words<R: Eprint>(rt: &R, error: &io::Error) -> ExitCode
+    ensures memory { error_kind error.now ≡ ErrorKind.OutOfMemory → exit_status result ≡ 1 }
+    ensures misuse { error_kind error.now ≢ ErrorKind.OutOfMemory → exit_status result ≡ 2 }
+{
+    match error.kind() {
+        ErrorKind::OutOfMemory => ended(rt, &Err(Failed::Code(Refusal::OutOfMemory)), ""),
+        _ => {
+            let _ = eprintln!(rt;
+                "error: a word is not UTF-8\n\nFor more information, try '--help'."
+            );
+            ExitCode::from(MISUSE)
+        }
     }
-    let _ = eprintln!(rt; "error: a word is not UTF-8\n\nFor more information, try '--help'.");
-    ExitCode::from(MISUSE)
 }
 
 fn main(rt: HostRuntime) -> ExitCode {

@@ -40,10 +40,7 @@ fn put_opened<W: Write>(out: &mut CountedWriter<'_, W>, version: u64) -> Result<
 
 /// The lines of a reply: `t N`, `ok N`, `task V`, `shown V`, `v V` with an answer line, `no CODE`, `stopped` with `v V`, or
 /// `stopped` alone. Nothing else is written.
-pub fn put_reply<W: Write>(
-    out: &mut CountedWriter<'_, W>,
-    reply: &Replied,
-) -> Result<(), Failed>
+pub fn put_reply<W: Write>(out: &mut CountedWriter<'_, W>, reply: &Replied) -> Result<(), Failed>
     ensures ok { OnOk result (Appends (W.contents (writer_of out.old)) (W.contents (writer_of out.new)) (printed_reply reply.now)) }
     ensures refused { IfErr result (λ failed. failed ≡ Failed.Code Refusal.Write) }
     ensures counts { CountsFailure (failed_writes out.old) (failed_writes out.new) result }

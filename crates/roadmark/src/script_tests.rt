@@ -13,7 +13,10 @@ fn is_event(rt: &(impl Abort + AllocGlobal), line: &str, want: &str) -> Result<(
         Ok(events) => {
             assert_eq!(rt; events.len(), 1, "{line}");
             let event = &events[0];
-            assert!(rt; format!(in rt.alloc(); "{event:?}")?.as_str() == want, "{line}");
+            assert!(rt;
+                format!(in rt.alloc(); "{event:?}")?.as_str() == want,
+                "{line}"
+            );
         }
         Err(_) => assert!(rt; false, "{line}"),
     }
@@ -32,10 +35,7 @@ fn is_refused(rt: &(impl Abort + AllocGlobal), text: &str, line: u64, code: Code
 #[test]
 fn each_line_is_its_event(rt: HostRuntime) -> Result<(), Fail> {
     let table = [
-        (
-            "set 8 4",
-            "Submit { command: Set { arc: 8, length: 4 } }",
-        ),
+        ("set 8 4", "Submit { command: Set { arc: 8, length: 4 } }"),
         (" close\t07 \r", "Submit { command: Close { arc: 7 } }"),
         ("reopen 7", "Submit { command: Reopen { arc: 7 } }"),
         ("mark 3", "Submit { command: Mark { node: 3 } }"),
@@ -47,14 +47,8 @@ fn each_line_is_its_event(rt: HostRuntime) -> Result<(), Fail> {
         ("checkpoint", "Checkpoint"),
         ("task\n", "Task"),
         ("publish\r\n", "Publish"),
-        (
-            "dist 1 6",
-            "Ask { query: Dist { source: 1, target: 6 } }",
-        ),
-        (
-            "from 3 4",
-            "Ask { query: From { landmark: 3, target: 4 } }",
-        ),
+        ("dist 1 6", "Ask { query: Dist { source: 1, target: 6 } }"),
+        ("from 3 4", "Ask { query: From { landmark: 3, target: 4 } }"),
         ("stop", "Stop"),
         (
             "stop 4 old checkpoint",
@@ -86,20 +80,55 @@ fn each_line_is_its_event(rt: HostRuntime) -> Result<(), Fail> {
 #[test]
 fn faults_of_script_lines(rt: HostRuntime) {
     let bad = [
-        "run", "c", "lower 1 2", "step 64", "sets 1 2", "Flush", "set 1", "set 1 2 3", "close",
-        "close x", "reopen 7 7", "mark +3", "unmark 3.0", "flush 1", "checkpoint 64", "task 1",
-        "publish 1", "dist 1", "dist 1 2 3", "dist x 9223372036854775808", "from 1", "from 1 x",
-        "stop 1", "stop 1 old", "stop 1 old flush 1", "stop x old flush", "stop 1 Old flush",
-        "stop 1 - flush", "stop 1 old task", "stop 0 256 stop", "stop old flush",
+        "run",
+        "c",
+        "lower 1 2",
+        "step 64",
+        "sets 1 2",
+        "Flush",
+        "set 1",
+        "set 1 2 3",
+        "close",
+        "close x",
+        "reopen 7 7",
+        "mark +3",
+        "unmark 3.0",
+        "flush 1",
+        "checkpoint 64",
+        "task 1",
+        "publish 1",
+        "dist 1",
+        "dist 1 2 3",
+        "dist x 9223372036854775808",
+        "from 1",
+        "from 1 x",
+        "stop 1",
+        "stop 1 old",
+        "stop 1 old flush 1",
+        "stop x old flush",
+        "stop 1 Old flush",
+        "stop 1 - flush",
+        "stop 1 old task",
+        "stop 0 256 stop",
+        "stop old flush",
     ];
     for text in bad {
         is_refused(&rt, text, 1, Code::BadLine);
     }
     let range = [
-        "set 1 -2", "close 9223372036854775808", "reopen -0", "mark -1",
-        "unmark 18446744073709551616", "dist -1 2", "from 1 9223372036854775808",
-        "stop 0 old flush", "stop -1 new flush", "stop 9223372036854775808 0 flush",
-        "stop 1 256 flush", "stop 1 -1 checkpoint", "stop 1 9223372036854775808 checkpoint",
+        "set 1 -2",
+        "close 9223372036854775808",
+        "reopen -0",
+        "mark -1",
+        "unmark 18446744073709551616",
+        "dist -1 2",
+        "from 1 9223372036854775808",
+        "stop 0 old flush",
+        "stop -1 new flush",
+        "stop 9223372036854775808 0 flush",
+        "stop 1 256 flush",
+        "stop 1 -1 checkpoint",
+        "stop 1 9223372036854775808 checkpoint",
         "stop 1 18446744073709551617 flush",
     ];
     for text in range {
@@ -112,7 +141,8 @@ fn faults_of_script_lines(rt: HostRuntime) {
 #[test]
 fn a_script_is_read_in_order(rt: HostRuntime) -> Result<(), Fail> {
     let text = "close 7\r\n# comment\n\nstop 3 170 flush\ndist 1 2";
-    let want = "[Submit { command: Close { arc: 7 } }, StopWithin { call: 3, picks: [Byte(170)], writing: Flush }, Ask { query: Dist { source: 1, target: 2 } }]";
+    let want =
+        "[Submit { command: Close { arc: 7 } }, StopWithin { call: 3, picks: [Byte(170)], writing: Flush }, Ask { query: Dist { source: 1, target: 2 } }]";
     let mut reader = BufReader::with_capacity(rt.alloc(), 5, text.as_bytes())?;
     let mut counted = Counted::new(&mut reader);
     match read_script_counted(rt.alloc(), &mut counted) {
@@ -153,7 +183,8 @@ fn replies_are_printed(rt: HostRuntime) {
         Replied::Opened { version: 1 },
         Replied::Stopped,
     ];
-    let want = "t 1\nok 1\nv 0\nd 1 6 15\ntask 1\nshown 1\nv 1\nx 1 6\nv 1\nno 26\nno 53\nstopped\nv 1\nstopped\n";
+    let want =
+        "t 1\nok 1\nv 0\nd 1 6 15\ntask 1\nshown 1\nv 1\nx 1 6\nv 1\nno 26\nno 53\nstopped\nv 1\nstopped\n";
     let mut out = Vec::new(rt.alloc());
     let mut writer = CountedWriter::new(&mut out);
     let outcome = put_replies(&mut writer, &replies);

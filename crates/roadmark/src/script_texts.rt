@@ -9,7 +9,9 @@ ghost use Rattle.roadmark.specs.ScriptTexts.{as_line, script_text};
 ghost use Rattle.roadmark.specs.ScriptReading.{IsKind, spelling, ReadsEvent, ReadsLine};
 
 use crate::script_stops::{is_refused, stop_event};
-use crate::script_words::{Bare, OneNumber, TwoNumbers, Word, bare_event, one_event, two_event, word_of};
+use crate::script_words::{
+    Bare, OneNumber, TwoNumbers, Word, bare_event, one_event, two_event, word_of,
+};
 use dimacs::{
     Code, Counted, Ended, Fault, TakeLines, parse_lines, read_lines, split_field, split_one,
     split_two,

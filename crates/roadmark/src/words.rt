@@ -1,8 +1,10 @@
 //! The program's words.
-ghost use Rattle.std.specs.Prelude.{◌≡◌, ℕ, ◌≤◌, IfOk, IfErr};
+ghost use Rattle.std.specs.Prelude.{◌≡◌, ◌≢◌, ℕ, ◌≤◌, None, IsSome, IfOk, IfErr, IfSome};
 ghost use Rattle.std.specs.Option.{ForSome};
+ghost use lib.Chars.{codes};
+ghost use Rattle.clap.specs.Words.{found_of, kind_of, subcommand_name_of};
 ghost use Rattle.rows.specs.Kept.{IsWidth};
-ghost use Rattle.roadmark.specs.Words.{delta_of, IsUsage};
+ghost use Rattle.roadmark.specs.Words.{delta_of, subcommand_of, Gives, GivesOnce, GivesBatch, GivesJoint, IsLong, IsUsage};
 
 use clap::error::ErrorKind;
 use clap::{Arg, ArgAction, ArgMatches, Command, Error, value_parser};
@@ -124,9 +126,13 @@ fn program<'w>(alloc: Global) -> Result<Command<'w>, AllocError> {
 
 /// What a refusal of the words shows.
 fn usage_of(alloc: Global, error: &Error) -> Usage
-    ensures { IsUsage result }
+    ensures usage { IsUsage result }
+    ensures memory { kind_of error.now ≡ ErrorKind.OutOfMemory → result.status ≡ 1 }
+    ensures help { kind_of error.now ≡ ErrorKind.DisplayHelp → result.status ≤ 1 }
+    ensures version { kind_of error.now ≡ ErrorKind.DisplayVersion → result.status ≤ 1 }
+    ensures misuse { kind_of error.now ≢ ErrorKind.DisplayHelp → kind_of error.now ≢ ErrorKind.DisplayVersion → 1 ≤ result.status }
 {
-    if error.kind() == ErrorKind::OutOfMemory {
+    if let ErrorKind::OutOfMemory = error.kind() {
         return out_of_memory(alloc);
     }
     match format!(in alloc; "{error}") {
@@ -139,7 +145,8 @@ fn usage_of(alloc: Global, error: &Error) -> Usage
 }
 
 fn out_of_memory(alloc: Global) -> Usage
-    ensures { IsUsage result }
+    ensures usage { IsUsage result }
+    ensures status { result.status ≡ 1 }
 {
     Usage {
         status: 1,
@@ -149,7 +156,8 @@ fn out_of_memory(alloc: Global) -> Usage
 
 /// The width that these words give, if any; within its range, as the option's parser has it.
 fn width_in(matches: &ArgMatches<'_>) -> Option<u32>
-    ensures { ForSome result IsWidth }
+    ensures width { ForSome result IsWidth }
+    ensures given { Gives (found_of matches.now) (codes "delta") IsWidth result }
 {
     match matches.get_one::<u32>(DELTA) {
         Some(width) if 1 <= width && width <= 2147483647 => Some(width),
@@ -157,42 +165,65 @@ fn width_in(matches: &ArgMatches<'_>) -> Option<u32>
     }
 }
 
-fn once_in<'w>(matches: &ArgMatches<'w>) -> Option<Job<'w>>
-    ensures { ForSome result (λ job. ForSome (delta_of job) IsWidth) }
+/// The node's number that the word of this name gives.
+fn node_in(matches: &ArgMatches<'_>, name: &str) -> Option<u64>
+    ensures { Gives (found_of matches.now) name.now IsLong result }
 {
+    matches.get_one::<u64>(name)
+}
+
+fn once_in<'w>(matches: &ArgMatches<'w>) -> Option<Job<'w>>
+    ensures width { ForSome result (λ job. ForSome (delta_of job) IsWidth) }
+    ensures given { GivesOnce (found_of matches.now) result }
+{
+    let Some(network) = matches.get_str(NETWORK) else {
+        return None;
+    };
+    let Some(source) = node_in(matches, SOURCE) else {
+        return None;
+    };
+    let Some(target) = node_in(matches, TARGET) else {
+        return None;
+    };
     Some(Job::Once {
-        network: matches.get_str(NETWORK)?,
-        source: matches.get_one(SOURCE)?,
-        target: matches.get_one(TARGET)?,
+        network,
+        source,
+        target,
         delta: width_in(matches),
     })
 }
 
 fn batch_in<'w>(matches: &ArgMatches<'w>) -> Option<Job<'w>>
-    ensures { ForSome result (λ job. ForSome (delta_of job) IsWidth) }
+    ensures width { ForSome result (λ job. ForSome (delta_of job) IsWidth) }
+    ensures given { GivesBatch (found_of matches.now) result }
 {
+    let Some(network) = matches.get_str(NETWORK) else {
+        return None;
+    };
+    let Some(pairs) = matches.get_str(PAIRS) else {
+        return None;
+    };
     Some(Job::Batch {
-        network: matches.get_str(NETWORK)?,
-        pairs: matches.get_str(PAIRS)?,
+        network,
+        pairs,
         delta: width_in(matches),
     })
 }
 
 /// The job that was matched.
 fn job_in<'w>(matches: &ArgMatches<'w>) -> Option<Job<'w>>
-    ensures { ForSome result (λ job. ForSome (delta_of job) IsWidth) }
+    ensures width { ForSome result (λ job. ForSome (delta_of job) IsWidth) }
+    ensures kind { IfSome result (λ job. subcommand_name_of matches.now ≡ subcommand_of job) }
+    ensures joint { IfSome result (GivesJoint (found_of matches.now)) }
+    ensures given { subcommand_name_of matches.now ≡ None → IsSome result }
 {
     match matches.subcommand() {
         None => Some(Job::Joint {
             delta: width_in(matches),
         }),
-        Some((name, inner)) => {
-            if name == ONCE {
-                once_in(inner)
-            } else {
-                batch_in(inner)
-            }
-        }
+        Some((ONCE, inner)) => once_in(inner),
+        Some((BATCH, inner)) => batch_in(inner),
+        Some(_) => None,
     }
 }
 

@@ -1,4 +1,9 @@
 pub mod Accepted
 pub mod Flushed
 pub mod Held
+pub mod LifeKept
+pub mod LivesInRun
+pub mod Runs
 pub mod Shown
+pub mod Stopped
+pub mod Ticketed

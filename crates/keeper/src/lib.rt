@@ -6,11 +6,19 @@ mod asking;
 mod checkpoints;
 mod flushing;
 mod keepers;
+mod lives;
 mod numbers;
+mod rehearsing;
 mod same;
 mod starting;
 mod submitting;
 mod tasks;
 
 pub use keepers::Keeper;
+pub use rehearsing::{Rehearsal, rehearse};
 pub use tasks::Task;
+
+#[cfg(test)]
+mod rehearsing_tests;
+#[cfg(test)]
+mod tests;

@@ -1,0 +1,82 @@
+-- What each call does to a life of a rehearsal.
+use Rattle.std.proofs.Common.{◌≡◌, ⊎_elim, ℕ, ◌-◌, ◌≤◌, Bool, true, false, cond, eqb, take, Option, Some, None, Result, Ok, Err, refl, sym, ◌∙◌, ap, subst, arith, eq-eqb}
+use Rattle.std.specs.Prelude.{IfSome, is_some, ◌||◌, ◌==◌, nat_lt}
+use Rattle.std.proofs.lemmas.List.{take-take}
+use Rattle.roadnet.specs.declared.commands.Command.{Command}
+use Rattle.roadnet.specs.declared.refusals.Refusal.{Refusal}
+use Rattle.roadnet.specs.Net.{Net}
+use Rattle.roadnet.specs.Step.{after}
+use Rattle.machine.specs.declared.calls.Ticket.{Ticket}
+use Rattle.machine.specs.Machine.{Machine, IsState, network_at}
+use Rattle.machine.specs.Calls.{Submits, TakesTask, RefusesView, has_nothing_unchecked, checkpoint_of, with_part, with_pages_written, is_out, without_task}
+use Rattle.machine.specs.Runs.Happened.{Submitted}
+use Rattle.machine.specs.Laws.{IsLater}
+use Rattle.machine.proofs.Kept.{states_kept}
+use Rattle.machine.proofs.Later.{later_by_step, still}
+use Rattle.keeper.specs.Rehearsing.{IsLife}
+
+-- the network at a durable version stays
+pub network_still : (old new : Machine) (v : ℕ) → v ≤ old.durable → IsLater old new → network_at new v ≡ network_at old v
+network_still old new v le later =
+    let n = v - old.base_version in
+    let k = old.durable - old.base_version in
+    let fits : n ≤ k = omega arith in
+    ap (λ (b : ℕ). after new.base (take (v - b) new.accepted)) later.base_version
+    ∙ (ap (after new.base) (sym (take-take n k new.accepted fits) ∙ (ap (take n) (still old new later) ∙ take-take n k old.accepted fits))
+    ∙ ap (λ (b : Net). after b (take n old.accepted)) later.base)
+
+-- the task stays out
+life_same : (old new : Machine) (opened : ℕ) (aside : Option (ℕ × Net)) → IsLife old opened aside → IsState new → IsLater old new → new.task ≡ old.task → new.checkpoint ≡ None → IsLife new opened aside
+life_same old new opened None k s later task none = record { state = s; opened_is = later.base_version ∙ k.opened_is; none_going = none; task_is = task ∙ k.task_is; task_network = tt }
+life_same old new opened (Some view) k s later task none =
+    let between : (old.shown ≤ view.0) × (view.0 ≤ old.durable) = subst (λ (o : Option ℕ). IfSome o (λ t. (old.shown ≤ t) × (t ≤ old.durable))) k.task_is k.state.task_between in
+    record { state = s; opened_is = later.base_version ∙ k.opened_is; none_going = none; task_is = task ∙ k.task_is; task_network = network_still old new view.0 between.1 later ∙ k.task_network }
+
+module _ (old new : Machine) (opened : ℕ) (aside : Option (ℕ × Net)) (k : IsLife old opened aside) where
+  pub life_submit : (c : Command) (result : Result Ticket Refusal) → Submits old c result new → IsLife new opened aside
+  life_submit c result step =
+      life_same old new opened aside k (states_kept old new (Submitted c result) k.state step) (later_by_step old new (Submitted c result) k.state step) (task result step) (going result step ∙ k.none_going)
+    where
+      task : (result : Result Ticket Refusal) → Submits old c result new → new.task ≡ old.task
+      task (Ok t) step = ap (λ (m : Machine). m.task) step.2
+      task (Err r) step = ap (λ (m : Machine). m.task) step.1
+
+      going : (result : Result Ticket Refusal) → Submits old c result new → new.checkpoint ≡ old.checkpoint
+      going (Ok t) step = ap (λ (m : Machine). m.checkpoint) step.2
+      going (Err r) step = ap (λ (m : Machine). m.checkpoint) step.1
+
+-- ---- a step of a checkpoint
+abbrev by_part : Machine → ℕ → Bool → Bool → Machine
+by_part m pages a b = cond a m (cond b (record m { checkpoint = Some (with_pages_written (checkpoint_of m) pages) }) (record m { checkpoint = None; unchecked = (checkpoint_of m).flushed }))
+
+-- no command is accepted by it
+pub accepted_by_part : (m : Machine) (pages : ℕ) → (with_part m pages).accepted ≡ m.accepted
+accepted_by_part m pages = go (has_nothing_unchecked m) (nat_lt pages (checkpoint_of m).left)
+  where
+    go : (a b : Bool) → (by_part m pages a b).accepted ≡ m.accepted
+    go true b = refl
+    go false true = refl
+    go false false = refl
+
+-- ---- tasks and views
+no_task_out : (o : Option ℕ) (b : Bool) → (is_some o || b) ≡ false → o ≡ None
+no_task_out None b h = refl
+no_task_out (Some v) b h = cc
+
+-- a task that is given up leaves what was before it
+out_is : (n v : ℕ) → v ≡ n → eqb n v ≡ true
+out_is n v e = eq-eqb n v (sym e)
+
+pub given_back : (old mid new : Machine) (task : ℕ × Net) → TakesTask old (Ok (Some task)) mid → new ≡ without_task mid task.0 → new ≡ old
+given_back old mid new task step gave =
+    let none : old.task ≡ None = no_task_out old.task (old.shown == old.durable) step.0 in
+    let out : is_out (record old { task = Some old.durable }) task.0 ≡ true = out_is old.durable task.0 step.1 in
+    gave
+    ∙ (ap (λ (m : Machine). without_task m task.0) step.3
+    ∙ (ap (λ (b : Bool). cond b (record old { task = None }) (record old { task = Some old.durable })) out
+    ∙ ap (λ (o : Option ℕ). record old { task = o }) (sym none)))
+
+-- the view that is kept aside is not refused
+pub not_refused : (m : Machine) (opened : ℕ) (view : ℕ × Net) (refusal : Refusal) → IsLife m opened (Some view) → RefusesView m view.0 view.1 refusal → ⊥
+not_refused m opened view refusal k refuses =
+    ⊎_elim (λ none. let never : ◌≡◌ {A = Option ℕ} (Some view.0) None = sym k.task_is ∙ none.1 in cc) (λ other. other.2 (k.task_is, k.task_network)) refuses

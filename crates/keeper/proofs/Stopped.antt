@@ -1,0 +1,126 @@
+-- What is opened after a stop, and the life that begins with it.
+use Rattle.std.proofs.Common.{◌≡◌, ⊎_elim, inl, inr, ℕ, ◌+◌, ◌-◌, ◌≤◌, List, [], ◌∷◌, ◌++◌, length, take, Option, Some, None, refl, sym, ◌∙◌, ap, subst, arith, length-append, length-take, cond}
+use Rattle.std.specs.Prelude.{is_none, option_and_then}
+use Rattle.roadnet.specs.declared.commands.Command.{Command}
+use Rattle.roadnet.specs.declared.refusals.Refusal.{Refusal}
+use Rattle.roadnet.specs.Net.{Net}
+use Rattle.roadnet.specs.Step.{after, changed, refusal_of}
+use Rattle.roadnet.proofs.InTurn.{arcs_all, length-changed_arcs}
+use Rattle.roadnet.proofs.Stepped.{after_both}
+use Rattle.pages.specs.declared.header.Header.{Header}
+use Rattle.pages.specs.Layout.{pages_for, word_pages}
+use Rattle.storefile.specs.StoreFile.{Stored, StandsTidyBy, StandsTidyFor, commands_of}
+use Rattle.storefile.specs.Standing.{Standing, standing_of, IsTidyAt}
+use Rattle.storefile.proofs.Rests.{stored_as, standing_is}
+use Rattle.store.specs.Committing.{StandsTidily}
+use Rattle.machine.specs.Machine.{Sizes, Machine, IsState, start, network_at, commands_to}
+use Rattle.machine.specs.Calls.{StopsAndOpens}
+use Rattle.machine.specs.LifeInRun.{within}
+use Rattle.machine.specs.Lives.{HoldsDurable}
+use Rattle.machine.proofs.InRun.{stops_begin_lives}
+use Rattle.machine.proofs.Kept.{left_between}
+use Rattle.keeper.specs.Rehearsing.{HasSlotOfNetwork, BeginsAfter}
+
+-- ---- commands keep the number of arcs
+arcs_of_one : (net : Net) (c : Command) → length (changed net c).arcs ≡ length net.arcs
+arcs_of_one net c = ap length (arcs_all net (c ∷ [])) ∙ length-changed_arcs net.arcs c
+
+pub same_arcs : (net next : Net) (commands : List Command) → after net commands ≡ Some next → length next.arcs ≡ length net.arcs
+same_arcs net next [] e = let same : next ≡ net = cc in ap (λ (n : Net). length n.arcs) same
+same_arcs net next (c ∷ cs) e = go (refusal_of net c) (λ rest. same_arcs (changed net c) next cs rest) e
+  where
+    go : (o : Option Refusal) → (after (changed net c) cs ≡ Some next → length next.arcs ≡ length (changed net c).arcs) → option_and_then (λ n. after n cs) (cond (is_none o) (Some (changed net c)) None) ≡ Some next → length next.arcs ≡ length net.arcs
+    go None f e = f e ∙ arcs_of_one net c
+    go (Some r) f e = cc
+
+-- a file's header tells how many arcs its network has
+pub arcs_of_header : (content : List ℕ) (x : Standing) → standing_of content ≡ Some x → x.header.arcs ≡ length x.network.arcs
+arcs_of_header content x told =
+    let held = stored_as content x told in
+    let kept : length x.network.arcs ≡ length held.stored.network.arcs = same_arcs held.stored.network x.network (commands_of held.stored) held.stands.gives.network in
+    sym (kept ∙ (held.stands.is.arcs.count_is ∙ ap (λ (h : Header). h.arcs) held.header_is))
+
+-- ---- what opening tells of a content that stands for a network at a version
+pub record IsOpened (content : List ℕ) (net : Net) (version : ℕ) (x : Standing) : Type 0 where
+  pub network_is : x.network ≡ net
+  pub version_is : x.version ≡ version
+  pub stands : StandsTidily content x
+
+pub is_opened : (content : List ℕ) (net : Net) (version : ℕ) (x : Standing) → StandsTidyFor content net version → standing_of content ≡ Some x → IsOpened content net version x
+is_opened content net version x stands told =
+    let s : Stored = stands.0 in
+    let next : ℕ = stands.1 in
+    let by : StandsTidyBy content s net version next = stands.2 in
+    let y : Standing = record { header = s.header; slot = s.slot; epoch = s.epoch; network = net; version = version; next = next; unchecked = length s.unchecked } in
+    let told_too : standing_of content ≡ Some y = standing_is content s.header s.slot s.epoch net version next (length s.unchecked) (record { stored = s; stands = by.stands; header_is = refl; slot_is = refl; epoch_is = refl; unchecked_is = refl }) in
+    let same : y ≡ x = same_value y x (sym told_too ∙ told) in
+    record {
+      network_is = ap (λ (z : Standing). z.network) (sym same);
+      version_is = ap (λ (z : Standing). z.version) (sym same);
+      stands = (told, subst (λ (z : Standing). IsTidyAt content z.header z.next) same by.tidy);
+    }
+  where
+    same_value : (y x : Standing) → ◌≡◌ {A = Option Standing} (Some y) (Some x) → y ≡ x
+    same_value y x e = cc
+
+-- ---- the life that begins
+module _ (m : Machine) (content : List ℕ) (x : Standing) (s : IsState m) (held : HoldsDurable StandsTidyFor m content) (told : standing_of content ≡ Some x) (pages : x.header.journal_pages ≡ m.sizes.journal_pages) (slot : HasSlotOfNetwork m) where
+  same_sizes : ◌≡◌ {A = Sizes} (record { journal_pages = x.header.journal_pages; slot_pages = word_pages x.header }) m.sizes
+  same_sizes =
+      let o : IsOpened content held.network held.version x = is_opened content held.network held.version x held.stands told in
+      let arcs : x.header.arcs ≡ length m.base.arcs = arcs_of_header content x told ∙ (ap (λ (n : Net). length n.arcs) o.network_is ∙ same_arcs m.base held.network (commands_to m held.version) held.network_is) in
+      let words : word_pages x.header ≡ m.sizes.slot_pages = ap (pages_for 1023) arcs ∙ sym slot in
+      both x.header.journal_pages (word_pages x.header) m.sizes pages words
+    where
+      both : (j w : ℕ) (z : Sizes) → j ≡ z.journal_pages → w ≡ z.slot_pages → ◌≡◌ {A = Sizes} (record { journal_pages = j; slot_pages = w }) z
+      both j w z a b = rw (a, b) refl
+
+  pub begins_after : (next : Machine) → x.unchecked ≤ x.header.journal_pages → next ≡ start (record { journal_pages = x.header.journal_pages; slot_pages = word_pages x.header }) x.network x.version x.unchecked → BeginsAfter m next
+  begins_after next few is = subst (BeginsAfter m) (sym is) (record {
+    left = ⊎_elim (λ e. inl (o.version_is ∙ e)) (λ e. inr (o.version_is ∙ e)) held.left;
+    network_is = subst (λ (v : ℕ). network_at m v ≡ Some x.network) (sym o.version_is) (held.network_is ∙ ap Some (sym o.network_is));
+    begins = ap (λ (z : Sizes). start z x.network x.version x.unchecked) same_sizes;
+    unchecked_to = omega (arith, pages, few);
+  })
+    where
+      o : IsOpened content held.network held.version x
+      o = is_opened content held.network held.version x held.stands told
+
+  pub stands_after : StandsTidily content x
+  stands_after = (is_opened content held.network held.version x held.stands told).stands
+
+-- ---- the life that begins, within the run
+module _ (base : Net) (version : ℕ) (before : List Command) (m next : Machine) (begun : m.base_version ≡ version + length before) (s : IsState m) (b : BeginsAfter m next) where
+  -- what the stop left of the commands of the life before
+  abbrev pub left_commands : List Command
+  left_commands = commands_to m next.base_version
+
+  pub opens_in : StopsAndOpens (within base version before m) next.base_version (within base version (before ++ left_commands) next)
+  opens_in = (
+    b.left,
+    (
+      next.unchecked,
+      b.unchecked_to,
+      ap (within base version (before ++ left_commands)) b.begins ∙ sym (stops_begin_lives base version before m next.base_version next.unchecked next.base begun s b.left),
+    ),
+  )
+
+  pub there_after : after base before ≡ Some m.base → after base (before ++ left_commands) ≡ Some next.base
+  there_after there = after_both base before left_commands ∙ rw there (b.network_is)
+
+  pub begun_after : next.base_version ≡ version + length (before ++ left_commands)
+  begun_after =
+      let between = left_between m s next.base_version b.left in
+      let sizes : length (before ++ left_commands) ≡ length before + length left_commands = length-append before left_commands in
+      let taken : length left_commands ≡ next.base_version - m.base_version = length_of_front (next.base_version - m.base_version) m.accepted (omega (arith, between.1)) in
+      omega (arith, sizes, taken, between.0, s.base_opened, s.opened_shown, s.shown_durable)
+    where
+      length_of_front : (n : ℕ) (xs : List Command) → n ≤ length xs → length (take n xs) ≡ n
+      length_of_front n xs le = let is = length-take n xs in omega (arith, is)
+
+  pub sizes_after : next.sizes ≡ m.sizes
+  sizes_after = ap (λ (z : Machine). z.sizes) b.begins
+
+  pub slot_after : HasSlotOfNetwork m → HasSlotOfNetwork next
+  slot_after slot =
+      ap (λ (z : Sizes). z.slot_pages) sizes_after ∙ (slot ∙ ap (pages_for 1023) (sym (same_arcs m.base next.base left_commands b.network_is)))

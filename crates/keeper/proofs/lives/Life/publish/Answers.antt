@@ -1,0 +1,14 @@
+use Rattle.std.proofs.Common.{◌≡◌, Some, inl, refl}
+use Rattle.keeper.proofs.LifeKept.{not_refused}
+use Rattle.keeper.proofs.lives.Life.publish.Goals as goal
+use Rattle.keeper.proofs.lives.Life.publish.Goals.{in-Ok, in-Err}
+
+pub returns-clause-does : goal.returns-clause-does
+returns-clause-does g c =
+    let view = c.in-Some.view.value in
+    let told = c.in-Some.ensures.value in
+    let aside : c.args.self.now.aside ≡ Some c.in-Some.view = cc in
+    elim c.match-publish.branch [
+      | in-Ok w ↦ (let step = w.in-Ok.ensures.step in inl (view.version, view.network, (step.0, refl, step.2), cc (w.result-is, step.1)))
+      | in-Err w ↦ absurd (not_refused _ _ (view.version, view.network) _ (rw aside at c.requires.life) w.in-Err.ensures.step.0)
+    ]

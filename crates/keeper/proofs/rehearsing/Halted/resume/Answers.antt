@@ -1,0 +1,19 @@
+use Rattle.std.proofs.Common.{◌≡◌, ℕ, ◌-◌, ◌++◌, List, length, take, ◌∙◌, ap, arith}
+use Rattle.roadnet.specs.declared.commands.Command.{Command}
+use Rattle.machine.proofs.Kept.{left_between}
+use Rattle.keeper.proofs.rehearsing.Halted.resume.Goals as goal
+
+pub returns-in-Ok-clause-begins : goal.returns-in-Ok-clause-begins
+returns-in-Ok-clause-begins g c m slot honest halted = c.in-Ok.ensures.begins m halted.state slot halted.pages_are honest halted.held
+
+pub returns-in-Ok-clause-history : goal.returns-in-Ok-clause-history
+returns-in-Ok-clause-history g c m slot honest halted =
+    let next = c.in-Ok.life.keeper.machine in
+    let b = c.in-Ok.ensures.begins m halted.state slot halted.pages_are honest halted.held in
+    let between = left_between m halted.state next.base_version b.left in
+    let many : length c.args.self.commands.items ≡ length m.accepted = ap length halted.commands_are in
+    let kept : c.min-kept.result ≡ next.base_version - m.base_version =
+    omega (arith, many, between.0, between.1, c.in-Ok.ensures.life.opened_is, halted.opened_is, c.saturating_sub.ensures, c.len.ensures, c.min-kept.ensures, c.args.self.commands.ok.0) in
+    let front : take c.min-kept.result c.deref.result.now ≡ take (next.base_version - m.base_version) m.accepted =
+    ap (λ (n : ℕ). take n c.deref.result.now) kept ∙ ap (take (next.base_version - m.base_version)) (c.deref.ensures.value ∙ halted.commands_are) in
+    c.put_behind.ensures ∙ ap (λ (xs : List Command). c.args.self.history.items ++ xs) front

@@ -1,0 +1,33 @@
+use Rattle.std.proofs.Common.{◌≡◌, ◌++◌, ◌∷◌, [], false, refl, ap, arith, rules}
+use Rattle.disk.specs.declared.stoppable.Pick.{Pick}
+use Rattle.keeper.specs.Rehearsing.{is_stop, within_of}
+use Rattle.keeper.proofs.LivesInRun.{does_size}
+use Rattle.keeper.proofs.Runs.{run_as, run_more}
+use Rattle.keeper.proofs.rehearsing.Run.next.Goals as goal
+
+pub returns-in-Stop-clause-ends : goal.returns-in-Stop-clause-ends
+returns-in-Stop-clause-ends g c first done honest holds run rest = rw c.in-Stop.is (c.stop.ensures.ends first done honest holds run rest)
+
+pub returns-in-StopWithin-clause-goes : goal.returns-in-StopWithin-clause-goes
+returns-in-StopWithin-clause-goes g c first done honest holds run = c.stop_within.ensures.goes first done honest holds run c.args.event.now (ap (within_of {P = Pick}) c.in-StopWithin.is)
+
+pub returns-in-StopWithin-clause-ends : goal.returns-in-StopWithin-clause-ends
+returns-in-StopWithin-clause-ends g c first done honest holds run rest = c.stop_within.ensures.ends first done honest holds run c.args.event.now (ap (within_of {P = Pick}) c.in-StopWithin.is) rest
+
+pub returns-in_default : goal.returns-in_default
+returns-in_default g c =
+    let self = c.args.self in
+    let m = self.life.keeper.machine in
+    let new = c.reply-told.new.self.keeper.machine in
+    let told = c.reply-told.result ∷ [] in
+    let calm : is_stop {P = Pick} c.args.event.now ≡ false = search rules in
+    record {
+      life = c.reply-told.ensures.life;
+      room = omega (arith, does_size {P = Pick} c.args.event.now m new told calm c.reply-told.ensures.does, c.requires.room);
+      goes = λ first done honest holds run.
+          run_as first (done ++ c.args.event.now ∷ []) (self.replies.items ++ told) c.push_reserved.new.self.items self.history.items self.history.items new c.push_reserved.ensures.items refl
+          (run_more first done self.replies.items self.history.items m run c.args.event.now told new calm c.requires.life.state c.reply-told.ensures.does);
+      holds = λ first done honest holds run. c.reply-told.ensures.holds honest holds;
+      honest = λ first done honest holds run. c.reply-told.ensures.honest honest;
+      ends = λ first done honest holds run rest. tt;
+    }

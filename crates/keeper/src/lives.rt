@@ -1,0 +1,256 @@
+// One life of a keeper in a rehearsal: what each event of a script does in it.
+ghost use Rattle.std.specs.Prelude.{◌≡◌, ◌≤◌, ◌∷◌, [], false, None, Some, length, option_map, IfOk, IfErr};
+ghost use Rattle.std.specs.Option.{ForSome};
+ghost use Rattle.disk.specs.declared.stoppable.Pick.{Pick as StopPick};
+ghost use Rattle.pages.specs.Layout.{word_pages};
+ghost use Rattle.rows.specs.Kept.{IsWidth};
+ghost use Rattle.store.specs.Committing.{StandsTidily};
+ghost use Rattle.store.specs.Durable.{told_by};
+ghost use Rattle.machine.specs.declared.events.Event.TheVariants.{Submit, Task as TaskEvent, Publish, Ask};
+ghost use Rattle.machine.specs.Machine.{start};
+ghost use Rattle.machine.specs.Lives.{told_version, EndsCheckpoint, Writes, Does};
+ghost use Rattle.keeper.specs.Keeping.{Holds};
+ghost use Rattle.keeper.specs.Rehearsing.{is_stop, IsLife};
+
+use crate::keepers::Keeper;
+use crate::tasks::Task;
+use disk::{Pick, Stoppable};
+use machine::{Event, Replied, Writing};
+use relax::Solo;
+use roadnet::{Command, OutOfMemory, Refusal};
+use rows::{Query, View};
+use std::alloc::Global;
+use std::sync::Arc;
+use store::{Part, Store};
+
+/// How many pages each step of a checkpoint has.
+const PAGES_OF_STEP: u32 = 64;
+
+/// A keeper from an opening of its store to the next stop, and the view that is kept aside.
+#[derive(Drop)]
+pub(crate) struct Life<D: Stoppable> {
+    pub(crate) keeper: Keeper<D>,
+    /// The version that the store was opened at.
+    pub(crate) opened: u64,
+    /// The view of the task that is out.
+    pub(crate) aside: Option<Arc<View>>,
+}
+
+/// The reply to a flush or a checkpoint.
+pub(crate) fn told_version(written: &Result<u64, Refusal>) -> Replied
+    ensures { result ≡ told_version written.now }
+{
+    match written {
+        Ok(version) => Replied::Durable { version: *version },
+        Err(refusal) => Replied::Refused { refusal: *refusal },
+    }
+}
+
+/// The view of a task.
+fn view_of(alloc: Global, task: &Task, delta: Option<u32>) -> Result<Arc<View>, OutOfMemory>
+    requires { ForSome delta IsWidth }
+    ensures version { IfOk result (λ view. view.value.version ≡ task.now.version) }
+    ensures network { IfOk result (λ view. view.value.network ≡ task.now.network.value) }
+{
+    let Ok(network) = task.network.copy() else {
+        return Err(OutOfMemory);
+    };
+    let Ok(view) = View::build(alloc, task.version, network, delta, &Solo) else {
+        return Err(OutOfMemory);
+    };
+    match Arc::new(alloc, view) {
+        Ok(view) => Ok(view),
+        Err(_) => Err(OutOfMemory),
+    }
+}
+
+impl<D: Stoppable> Life<D> {
+    /// The life that an opened store begins.
+    pub(crate) fn begin(
+        alloc: Global,
+        store: Store<D>,
+        delta: Option<u32>,
+    ) -> Result<Life<D>, Store<D>>
+        requires calm { store.broken ≡ false }
+        requires width { ForSome delta IsWidth }
+        ensures begins { IfOk result (λ life. life.keeper.machine ≡ start (record { journal_pages = store.header.journal_pages; slot_pages = word_pages store.header }) store.network store.version store.unchecked) }
+        ensures life { IfOk result (λ life. IsLife life.keeper.machine life.opened (option_map (λ view. (view.value.version, view.value.network)) life.aside)) }
+        ensures disk { IfOk result (λ life. life.keeper.disk ≡ store.disk) }
+        ensures holds { D.honest store.disk → StandsTidily (D.content store.disk) (told_by store) → IfOk result (λ life. Holds (D.content life.keeper.disk) (D.left life.keeper.disk) life.keeper.machine life.keeper.standing) }
+        ensures handed_back { IfErr result (λ refused. refused ≡ store) }
+    {
+        let opened = store.version();
+        match Keeper::new(alloc, store, delta) {
+            Ok(keeper) => Ok(Life {
+                keeper,
+                opened,
+                aside: None,
+            }),
+            Err((_, store)) => Err(store),
+        }
+    }
+
+    /// How many commands were accepted in this life.
+    pub(crate) fn accepted(&self) -> usize
+        requires { IsLife self.now.keeper.machine self.now.opened (option_map (λ view. (view.value.version, view.value.network)) self.now.aside) }
+        ensures { result ≡ length self.now.keeper.machine.accepted }
+    {
+        (self.keeper.durable() + self.keeper.pending() - self.opened) as usize
+    }
+
+    /// A command is submitted.
+    pub(crate) fn submit(&mut self, command: Command) -> Replied
+        requires life { IsLife self.old.keeper.machine self.old.opened (option_map (λ view. (view.value.version, view.value.network)) self.old.aside) }
+        ensures does { Does {P = StopPick} self.old.keeper.machine (Submit command) (result ∷ []) self.new.keeper.machine }
+        ensures life { IsLife self.new.keeper.machine self.new.opened (option_map (λ view. (view.value.version, view.value.network)) self.new.aside) }
+        ensures holds { D.honest self.old.keeper.disk → Holds (D.content self.old.keeper.disk) (D.left self.old.keeper.disk) self.old.keeper.machine self.old.keeper.standing → Holds (D.content self.new.keeper.disk) (D.left self.new.keeper.disk) self.new.keeper.machine self.new.keeper.standing }
+        ensures honest { D.honest self.old.keeper.disk → D.honest self.new.keeper.disk }
+    {
+        match self.keeper.submit(command) {
+            Ok(ticket) => Replied::Accepted {
+                number: ticket.number,
+            },
+            Err(refusal) => Replied::Refused { refusal },
+        }
+    }
+
+    /// A flush, or a whole checkpoint.
+    pub(crate) fn write(&mut self, writing: Writing) -> Result<u64, Refusal>
+        requires life { IsLife self.old.keeper.machine self.old.opened (option_map (λ view. (view.value.version, view.value.network)) self.old.aside) }
+        ensures does { Writes self.old.keeper.machine writing result self.new.keeper.machine }
+        ensures life { IsLife self.new.keeper.machine self.new.opened (option_map (λ view. (view.value.version, view.value.network)) self.new.aside) }
+        ensures holds { D.honest self.old.keeper.disk → Holds (D.content self.old.keeper.disk) (D.left self.old.keeper.disk) self.old.keeper.machine self.old.keeper.standing → Holds (D.content self.new.keeper.disk) (D.left self.new.keeper.disk) self.new.keeper.machine self.new.keeper.standing }
+        ensures honest { D.honest self.old.keeper.disk → D.honest self.new.keeper.disk }
+    {
+        match writing {
+            Writing::Flush => self.keeper.flush(),
+            Writing::Checkpoint => self.checkpoint(),
+        }
+    }
+
+    /// Steps of a checkpoint until it is done. So far the first step writes the whole checkpoint.
+    fn checkpoint(&mut self) -> Result<u64, Refusal>
+        requires life { IsLife self.old.keeper.machine self.old.opened (option_map (λ view. (view.value.version, view.value.network)) self.old.aside) }
+        ensures does { EndsCheckpoint self.old.keeper.machine self.old.keeper.machine.sizes.slot_pages result self.new.keeper.machine }
+        ensures life { IsLife self.new.keeper.machine self.new.opened (option_map (λ view. (view.value.version, view.value.network)) self.new.aside) }
+        ensures holds { D.honest self.old.keeper.disk → Holds (D.content self.old.keeper.disk) (D.left self.old.keeper.disk) self.old.keeper.machine self.old.keeper.standing → Holds (D.content self.new.keeper.disk) (D.left self.new.keeper.disk) self.new.keeper.machine self.new.keeper.standing }
+        ensures honest { D.honest self.old.keeper.disk → D.honest self.new.keeper.disk }
+    {
+        match self.keeper.checkpoint_step(PAGES_OF_STEP) {
+            Ok(Part::Done(version)) => Ok(version),
+            Ok(Part::Going) => unreachable!(),
+            Err(refusal) => Err(refusal),
+        }
+    }
+
+    /// A task is taken, and its view is built and kept aside. A task whose view finds no memory is given up.
+    pub(crate) fn task(&mut self, alloc: Global, delta: Option<u32>) -> Replied
+        requires life { IsLife self.old.keeper.machine self.old.opened (option_map (λ view. (view.value.version, view.value.network)) self.old.aside) }
+        requires width { ForSome delta IsWidth }
+        ensures does { Does {P = StopPick} self.old.keeper.machine TaskEvent (result ∷ []) self.new.keeper.machine }
+        ensures life { IsLife self.new.keeper.machine self.new.opened (option_map (λ view. (view.value.version, view.value.network)) self.new.aside) }
+        ensures holds { D.honest self.old.keeper.disk → Holds (D.content self.old.keeper.disk) (D.left self.old.keeper.disk) self.old.keeper.machine self.old.keeper.standing → Holds (D.content self.new.keeper.disk) (D.left self.new.keeper.disk) self.new.keeper.machine self.new.keeper.standing }
+        ensures honest { D.honest self.old.keeper.disk → D.honest self.new.keeper.disk }
+    {
+        let task = match self.keeper.take_task() {
+            Ok(Some(task)) => task,
+            Ok(None) => {
+                return Replied::Refused {
+                    refusal: Refusal::NoTask,
+                };
+            }
+            Err(_) => {
+                return Replied::Refused {
+                    refusal: Refusal::OutOfMemory,
+                };
+            }
+        };
+        let version = task.version;
+        match view_of(alloc, &task, delta) {
+            Ok(view) => {
+                self.aside = Some(view);
+                Replied::Task { version }
+            }
+            Err(_) => {
+                self.keeper.give_up(version);
+                Replied::Refused {
+                    refusal: Refusal::OutOfMemory,
+                }
+            }
+        }
+    }
+
+    /// The view that is kept aside is shown.
+    pub(crate) fn publish(&mut self) -> Replied
+        requires life { IsLife self.old.keeper.machine self.old.opened (option_map (λ view. (view.value.version, view.value.network)) self.old.aside) }
+        ensures does { Does {P = StopPick} self.old.keeper.machine Publish (result ∷ []) self.new.keeper.machine }
+        ensures life { IsLife self.new.keeper.machine self.new.opened (option_map (λ view. (view.value.version, view.value.network)) self.new.aside) }
+        ensures holds { D.honest self.old.keeper.disk → Holds (D.content self.old.keeper.disk) (D.left self.old.keeper.disk) self.old.keeper.machine self.old.keeper.standing → Holds (D.content self.new.keeper.disk) (D.left self.new.keeper.disk) self.new.keeper.machine self.new.keeper.standing }
+        ensures honest { D.honest self.old.keeper.disk → D.honest self.new.keeper.disk }
+    {
+        let Some(view) = self.aside.take() else {
+            return Replied::Refused {
+                refusal: Refusal::NoTask,
+            };
+        };
+        match self.keeper.publish(view) {
+            Ok(version) => Replied::Shown { version },
+            Err((refusal, _)) => Replied::Refused { refusal },
+        }
+    }
+
+    /// A query is answered from the view that is shown.
+    pub(crate) fn ask(&mut self, query: Query) -> Replied
+        requires life { IsLife self.old.keeper.machine self.old.opened (option_map (λ view. (view.value.version, view.value.network)) self.old.aside) }
+        ensures does { Does {P = StopPick} self.old.keeper.machine (Ask query) (result ∷ []) self.new.keeper.machine }
+        ensures life { IsLife self.new.keeper.machine self.new.opened (option_map (λ view. (view.value.version, view.value.network)) self.new.aside) }
+        ensures holds { D.honest self.old.keeper.disk → Holds (D.content self.old.keeper.disk) (D.left self.old.keeper.disk) self.old.keeper.machine self.old.keeper.standing → Holds (D.content self.new.keeper.disk) (D.left self.new.keeper.disk) self.new.keeper.machine self.new.keeper.standing }
+        ensures honest { D.honest self.old.keeper.disk → D.honest self.new.keeper.disk }
+    {
+        match self.keeper.ask(query) {
+            Ok(answer) => Replied::Answered { query, answer },
+            Err(_) => Replied::Refused {
+                refusal: Refusal::OutOfMemory,
+            },
+        }
+    }
+
+    /// Arms the disk, so that its write or sync of this number from now on is cut. 0 arms nothing.
+    pub(crate) fn arm(&mut self, call: u64)
+        ensures machine { self.new.keeper.machine ≡ self.old.keeper.machine }
+        ensures opened { self.new.opened ≡ self.old.opened }
+        ensures aside { self.new.aside ≡ self.old.aside }
+        ensures holds { Holds (D.content self.old.keeper.disk) (D.left self.old.keeper.disk) self.old.keeper.machine self.old.keeper.standing → Holds (D.content self.new.keeper.disk) (D.left self.new.keeper.disk) self.new.keeper.machine self.new.keeper.standing }
+        ensures honest { D.honest self.old.keeper.disk → D.honest self.new.keeper.disk }
+    {
+        if call > 0 {
+            self.keeper.arm(call);
+        }
+    }
+
+    /// The reply to an event that is no stop.
+    pub(crate) fn reply(
+        &mut self,
+        alloc: Global,
+        delta: Option<u32>,
+        event: &Event<Pick>,
+    ) -> Replied
+        requires life { IsLife self.old.keeper.machine self.old.opened (option_map (λ view. (view.value.version, view.value.network)) self.old.aside) }
+        requires width { ForSome delta IsWidth }
+        requires no_stop { is_stop event.now ≡ false }
+        ensures does { Does self.old.keeper.machine event.now (result ∷ []) self.new.keeper.machine }
+        ensures life { IsLife self.new.keeper.machine self.new.opened (option_map (λ view. (view.value.version, view.value.network)) self.new.aside) }
+        ensures holds { D.honest self.old.keeper.disk → Holds (D.content self.old.keeper.disk) (D.left self.old.keeper.disk) self.old.keeper.machine self.old.keeper.standing → Holds (D.content self.new.keeper.disk) (D.left self.new.keeper.disk) self.new.keeper.machine self.new.keeper.standing }
+        ensures honest { D.honest self.old.keeper.disk → D.honest self.new.keeper.disk }
+    {
+        match event {
+            Event::Submit { command } => self.submit(*command),
+            Event::Flush => told_version(&self.write(Writing::Flush)),
+            Event::Checkpoint => told_version(&self.write(Writing::Checkpoint)),
+            Event::Task => self.task(alloc, delta),
+            Event::Publish => self.publish(),
+            Event::Ask { query } => self.ask(*query),
+            _ => unreachable!(),
+        }
+    }
+}

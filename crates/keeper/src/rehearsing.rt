@@ -1,0 +1,399 @@
+// A script's events over lives with stops.
+ghost use Rattle.std.specs.Prelude.{◌≡◌, ◌+◌, ◌<◌, ◌≤◌, ◌∷◌, ◌++◌, [], ℕ, Bool, true, false, List, Option, None, Some, Result, Err, length, take, option_map, ◌-◌, ◌⊎◌, IfOk, IfErr, OnOk, OnErr};
+ghost use Rattle.std.specs.Option.{ForSome};
+ghost use Rattle.std.specs.Vec.{vec_len, vec_capacity};
+ghost use Rattle.disk.specs.Contents.{Only, AreAmong};
+ghost use Rattle.disk.specs.declared.stoppable.Pick.{Pick as StopPick};
+ghost use Rattle.pages.specs.Layout.{word_pages};
+ghost use Rattle.rows.specs.Kept.{IsWidth};
+ghost use Rattle.roadnet.specs.declared.refusals.Refusal.TheVariants.{OutOfMemory as out_of_memory, Device as device};
+ghost use Rattle.storefile.specs.StoreFile.{StandsTidyFor};
+ghost use Rattle.store.specs.Committing.{StandsTidily};
+ghost use Rattle.store.specs.Durable.{told_by};
+ghost use Rattle.store.specs.Opening.{IsPassing, StandsForSome};
+ghost use Rattle.machine.specs.declared.events.Event.{Event as ScriptEvent};
+ghost use Rattle.machine.specs.declared.events.Event.TheVariants.{Stop};
+ghost use Rattle.machine.specs.declared.events.Replied.TheVariants.{Opened, Stopped};
+ghost use Rattle.machine.specs.Machine.{Machine, IsState, commands_to};
+ghost use Rattle.machine.specs.Lives.{told_version, HoldsDurable, LivesOn};
+ghost use Rattle.keeper.specs.Keeping.{Holds};
+ghost use Rattle.keeper.specs.Rehearsing.{within_of, IsLife, HasSlotOfNetwork, First, HasRun, HasHalted, BeginsAfter};
+
+use crate::lives::{Life, told_version};
+use disk::{Disk, Pick, Stoppable};
+use machine::{Event, Replied, Writing};
+use roadnet::{Command, Refusal};
+use std::alloc::Global;
+use store::{Store, open};
+
+/// How many replies an event has at most.
+const MOST_REPLIES: usize = 2;
+
+/// What a run of a script's events came to.
+#[derive(Drop)]
+pub struct Rehearsal<D: Disk> {
+    /// The commands that were accepted and that no stop took back, in order: they follow the version of the store that was handed in. Where
+    /// the run ended with a stop, those that were durable.
+    pub history: Vec<Command>,
+    /// The replies to the events that were run, in order.
+    pub replies: Vec<Replied>,
+    /// Why the run ended before its last event was run: the store was not opened, or its first view not built (43 or 11), or no memory was
+    /// given (11). Nothing where every event was run.
+    pub ended: Option<Refusal>,
+    /// The disk, as the run left it.
+    pub disk: D,
+}
+
+/// A run that goes on.
+#[derive(Drop)]
+struct Run<D: Stoppable> {
+    /// The commands that earlier lives accepted and stops left. There is room for those of this life too.
+    history: Vec<Command>,
+    /// The replies so far.
+    replies: Vec<Replied>,
+    life: Life<D>,
+}
+
+/// A run whose disk is stopped.
+#[derive(Drop)]
+struct Halted<D: Stoppable> {
+    history: Vec<Command>,
+    replies: Vec<Replied>,
+    /// The commands of the life that ended.
+    commands: Vec<Command>,
+    /// The version that it was opened at, and the one that was durable.
+    opened: u64,
+    durable: u64,
+    journal_pages: u32,
+    disk: D,
+}
+
+/// Puts commands behind a history that has room for them.
+fn put_behind(history: &mut Vec<Command>, commands: &[Command])
+    requires { vec_len history.old + length commands.now ≤ vec_capacity history.old }
+    ensures { history.new.items ≡ history.old.items ++ commands.now }
+{
+    let _ = history.extend_from_slice(commands);
+}
+
+/// Stops the disk with these picks, or where there is none with the old bytes. Answers whether an armed call came.
+fn stop_disk<D: Stoppable>(disk: &mut D, picks: &[Pick]) -> bool
+    ensures left { D.honest disk.old → D.left disk.old (D.content disk.new) }
+    ensures only { D.honest disk.old → Only (D.content disk.new) (D.left disk.new) }
+    ensures honest { D.honest disk.old → D.honest disk.new }
+{
+    if picks.is_empty() {
+        disk.stop(&[Pick::Old])
+    } else {
+        disk.stop(picks)
+    }
+}
+
+/// Tells what a flush or a checkpoint answered, unless the stop came within it.
+fn tell_write(replies: &mut Vec<Replied>, came: bool, written: &Result<u64, Refusal>)
+    requires { vec_len replies.old < vec_capacity replies.old }
+    ensures told { (replies.new.items ≡ replies.old.items ++ told_version written.now ∷ []) ⊎ ((written.now ≡ Err device) × (replies.new.items ≡ replies.old.items)) }
+    ensures room { vec_len replies.new ≤ vec_len replies.old + 1 }
+    ensures capacity { vec_capacity replies.new ≡ vec_capacity replies.old }
+{
+    match written {
+        Err(Refusal::Device) if came => {}
+        _ => replies.push_reserved(told_version(written)),
+    }
+}
+
+/// Opens the store that was stopped on this disk, and begins a life with it. The disk is handed back where the store isn't opened, or its
+/// first view not built.
+fn reopen<D: Stoppable>(
+    alloc: Global,
+    disk: D,
+    delta: Option<u32>,
+    journal_pages: u32,
+) -> Result<Life<D>, (Refusal, D)>
+    requires width { ForSome delta IsWidth }
+    ensures begins { (m : Machine) → IsState m → HasSlotOfNetwork m → journal_pages ≡ m.sizes.journal_pages → D.honest disk → HoldsDurable StandsTidyFor m (D.content disk) → IfOk result (λ life. BeginsAfter m life.keeper.machine) }
+    ensures holds { (m : Machine) → IsState m → HasSlotOfNetwork m → journal_pages ≡ m.sizes.journal_pages → D.honest disk → HoldsDurable StandsTidyFor m (D.content disk) → IfOk result (λ life. Holds (D.content life.keeper.disk) (D.left life.keeper.disk) life.keeper.machine life.keeper.standing) }
+    ensures life { IfOk result (λ life. IsLife life.keeper.machine life.opened (option_map (λ view. (view.value.version, view.value.network)) life.aside)) }
+    ensures empty { IfOk result (λ life. life.keeper.machine.accepted ≡ []) }
+    ensures honest { D.honest disk → IfOk result (λ life. D.honest life.keeper.disk) }
+    ensures passing { D.honest disk → ((c : List ℕ) → D.left disk c → StandsForSome c) → IfErr result (λ refused. IsPassing refused.0) }
+    ensures among { D.honest disk → IfErr result (λ refused. AreAmong (D.left refused.1) (D.left disk)) }
+{
+    let store = match open(alloc, disk) {
+        Ok(store) => store,
+        Err(refused) => return Err(refused),
+    };
+    // A disk that keeps the disk model leaves the sizes.
+    if store.journal_pages() != journal_pages {
+        return Err((Refusal::Device, store.close()));
+    }
+    match Life::begin(alloc, store, delta) {
+        Ok(life) => Ok(life),
+        Err(store) => Err((Refusal::OutOfMemory, store.close())),
+    }
+}
+
+impl<D: Stoppable> Halted<D> {
+    /// Opens what the stop left, and begins the next life; or ends the run, where the store isn't opened or its first view not built.
+    fn resume(self, alloc: Global, delta: Option<u32>) -> Result<Run<D>, Rehearsal<D>>
+        requires width { ForSome delta IsWidth }
+        requires opened { self.opened ≤ self.durable }
+        requires durable { self.durable ≤ self.opened + vec_len self.commands }
+        requires room { vec_len self.history + vec_len self.commands ≤ vec_capacity self.history }
+        requires reply { vec_len self.replies < vec_capacity self.replies }
+        ensures begins { (m : Machine) → HasSlotOfNetwork m → D.honest self.disk → HasHalted m self.commands.items self.opened self.durable self.journal_pages (D.content self.disk) (D.left self.disk) → IfOk result (λ run. BeginsAfter m run.life.keeper.machine) }
+        ensures history { (m : Machine) → HasSlotOfNetwork m → D.honest self.disk → HasHalted m self.commands.items self.opened self.durable self.journal_pages (D.content self.disk) (D.left self.disk) → IfOk result (λ run. run.history.items ≡ self.history.items ++ commands_to m run.life.keeper.machine.base_version) }
+        ensures holds { (m : Machine) → HasSlotOfNetwork m → D.honest self.disk → HasHalted m self.commands.items self.opened self.durable self.journal_pages (D.content self.disk) (D.left self.disk) → IfOk result (λ run. Holds (D.content run.life.keeper.disk) (D.left run.life.keeper.disk) run.life.keeper.machine run.life.keeper.standing) }
+        ensures told { IfOk result (λ run. run.replies.items ≡ self.replies.items ++ Opened run.life.keeper.machine.base_version ∷ []) }
+        ensures life { IfOk result (λ run. IsLife run.life.keeper.machine run.life.opened (option_map (λ view. (view.value.version, view.value.network)) run.life.aside)) }
+        ensures room { IfOk result (λ run. vec_len run.history + length run.life.keeper.machine.accepted ≤ vec_capacity run.history) }
+        ensures honest { D.honest self.disk → IfOk result (λ run. D.honest run.life.keeper.disk) }
+        ensures ended { (m : Machine) → D.honest self.disk → HasHalted m self.commands.items self.opened self.durable self.journal_pages (D.content self.disk) (D.left self.disk) → IfErr result (λ ended. (ended.ended ≡ Some out_of_memory) ⊎ (ended.ended ≡ Some device)) }
+        ensures left { (m : Machine) → D.honest self.disk → HasHalted m self.commands.items self.opened self.durable self.journal_pages (D.content self.disk) (D.left self.disk) → IfErr result (λ ended. (c : List ℕ) → D.left ended.disk c → HoldsDurable StandsTidyFor m c) }
+        ensures stopped { IfErr result (λ ended. ended.replies.items ≡ self.replies.items ++ Stopped ∷ []) }
+        ensures durable { IfErr result (λ ended. ended.history.items ≡ self.history.items ++ take (self.durable - self.opened) self.commands.items) }
+    {
+        let Halted {
+            mut history,
+            mut replies,
+            commands,
+            opened,
+            durable,
+            journal_pages,
+            disk,
+        } = self;
+        match reopen(alloc, disk, delta, journal_pages) {
+            Ok(life) => {
+                let kept = (life.opened.saturating_sub(opened) as usize).min(commands.len());
+                put_behind(&mut history, &commands[..kept]);
+                replies.push_reserved(Replied::Opened {
+                    version: life.opened,
+                });
+                Ok(Run {
+                    history,
+                    replies,
+                    life,
+                })
+            }
+            Err((refusal, disk)) => {
+                let kept = (durable - opened) as usize;
+                put_behind(&mut history, &commands[..kept]);
+                replies.push_reserved(Replied::Stopped);
+                Err(Rehearsal {
+                    history,
+                    replies,
+                    ended: Some(refusal),
+                    disk,
+                })
+            }
+        }
+    }
+}
+
+impl<D: Stoppable> Run<D> {
+    /// Makes room for the replies of one event, and for what the history may take.
+    fn grow(&mut self) -> Result<(), Refusal>
+        requires life { IsLife self.old.life.keeper.machine self.old.life.opened (option_map (λ view. (view.value.version, view.value.network)) self.old.life.aside) }
+        ensures history { self.new.history.items ≡ self.old.history.items }
+        ensures replies { self.new.replies.items ≡ self.old.replies.items }
+        ensures life { self.new.life ≡ self.old.life }
+        ensures room { OnOk result (vec_len self.new.history + length self.new.life.keeper.machine.accepted + 1 ≤ vec_capacity self.new.history) }
+        ensures reply { OnOk result (vec_len self.new.replies + 2 ≤ vec_capacity self.new.replies) }
+        ensures kept { vec_capacity self.old.history ≤ vec_capacity self.new.history }
+    {
+        let Ok(()) = self.replies.reserve(MOST_REPLIES) else {
+            return Err(Refusal::OutOfMemory);
+        };
+        let Ok(()) = self.history.reserve(self.life.accepted() + 1) else {
+            return Err(Refusal::OutOfMemory);
+        };
+        Ok(())
+    }
+
+    /// Closes the keeper and stops the disk. Answers whether an armed call came.
+    fn halt(self, picks: &[Pick]) -> (Halted<D>, bool)
+        requires life { IsLife self.life.keeper.machine self.life.opened (option_map (λ view. (view.value.version, view.value.network)) self.life.aside) }
+        ensures history { result.0.history ≡ self.history }
+        ensures replies { result.0.replies ≡ self.replies }
+        ensures commands { result.0.commands.items ≡ self.life.keeper.machine.accepted }
+        ensures opened { result.0.opened ≡ self.life.keeper.machine.base_version }
+        ensures durable { result.0.durable ≡ self.life.keeper.machine.durable }
+        ensures halted { D.honest self.life.keeper.disk → Holds (D.content self.life.keeper.disk) (D.left self.life.keeper.disk) self.life.keeper.machine self.life.keeper.standing → HasHalted self.life.keeper.machine result.0.commands.items result.0.opened result.0.durable result.0.journal_pages (D.content result.0.disk) (D.left result.0.disk) }
+        ensures honest { D.honest self.life.keeper.disk → D.honest result.0.disk }
+    {
+        let Run {
+            history,
+            replies,
+            life,
+        } = self;
+        let Life { keeper, opened, .. } = life;
+        let durable = keeper.durable();
+        let journal_pages = keeper.journal_pages();
+        let (commands, mut disk) = keeper.close();
+        let came = stop_disk(&mut disk, picks);
+        let halted = Halted {
+            history,
+            replies,
+            commands,
+            opened,
+            durable,
+            journal_pages,
+            disk,
+        };
+        (halted, came)
+    }
+
+    /// A stop between two calls.
+    fn stop(self, alloc: Global, delta: Option<u32>) -> Result<Run<D>, Rehearsal<D>>
+        requires life { IsLife self.life.keeper.machine self.life.opened (option_map (λ view. (view.value.version, view.value.network)) self.life.aside) }
+        requires width { ForSome delta IsWidth }
+        requires room { vec_len self.history + length self.life.keeper.machine.accepted + 1 ≤ vec_capacity self.history }
+        requires reply { vec_len self.replies + 2 ≤ vec_capacity self.replies }
+        ensures life { IfOk result (λ run. IsLife run.life.keeper.machine run.life.opened (option_map (λ view. (view.value.version, view.value.network)) run.life.aside)) }
+        ensures room { IfOk result (λ run. vec_len run.history + length run.life.keeper.machine.accepted ≤ vec_capacity run.history) }
+        // It has run this event too.
+        ensures goes { (first : First) (done : List (ScriptEvent StopPick)) → D.honest self.life.keeper.disk → Holds (D.content self.life.keeper.disk) (D.left self.life.keeper.disk) self.life.keeper.machine self.life.keeper.standing → HasRun first done self.replies.items self.history.items self.life.keeper.machine → IfOk result (λ run. HasRun first (done ++ Stop ∷ []) run.replies.items run.history.items run.life.keeper.machine) }
+        ensures holds { (first : First) (done : List (ScriptEvent StopPick)) → D.honest self.life.keeper.disk → Holds (D.content self.life.keeper.disk) (D.left self.life.keeper.disk) self.life.keeper.machine self.life.keeper.standing → HasRun first done self.replies.items self.history.items self.life.keeper.machine → IfOk result (λ run. Holds (D.content run.life.keeper.disk) (D.left run.life.keeper.disk) run.life.keeper.machine run.life.keeper.standing) }
+        ensures honest { (first : First) (done : List (ScriptEvent StopPick)) → D.honest self.life.keeper.disk → Holds (D.content self.life.keeper.disk) (D.left self.life.keeper.disk) self.life.keeper.machine self.life.keeper.standing → HasRun first done self.replies.items self.history.items self.life.keeper.machine → IfOk result (λ run. D.honest run.life.keeper.disk) }
+        // It has ended with the event.
+        ensures ends { (first : First) (done : List (ScriptEvent StopPick)) → D.honest self.life.keeper.disk → Holds (D.content self.life.keeper.disk) (D.left self.life.keeper.disk) self.life.keeper.machine self.life.keeper.standing → HasRun first done self.replies.items self.history.items self.life.keeper.machine → (rest : List (ScriptEvent StopPick)) → IfErr result (λ ended. LivesOn StandsTidyFor (D.left ended.disk) first.sizes first.network first.version ((done ++ Stop ∷ []) ++ rest) ended.replies.items ended.ended ended.history.items) }
+    {
+        let (halted, _) = self.halt(&[Pick::Old]);
+        halted.resume(alloc, delta)
+    }
+
+    /// A stop within the write or sync of this number of a flush or a checkpoint, or behind that where it makes fewer.
+    fn stop_within(
+        self,
+        alloc: Global,
+        delta: Option<u32>,
+        call: u64,
+        picks: &[Pick],
+        writing: Writing,
+    ) -> Result<Run<D>, Rehearsal<D>>
+        requires life { IsLife self.life.keeper.machine self.life.opened (option_map (λ view. (view.value.version, view.value.network)) self.life.aside) }
+        requires width { ForSome delta IsWidth }
+        requires room { vec_len self.history + length self.life.keeper.machine.accepted + 1 ≤ vec_capacity self.history }
+        requires reply { vec_len self.replies + 2 ≤ vec_capacity self.replies }
+        ensures life { IfOk result (λ run. IsLife run.life.keeper.machine run.life.opened (option_map (λ view. (view.value.version, view.value.network)) run.life.aside)) }
+        ensures room { IfOk result (λ run. vec_len run.history + length run.life.keeper.machine.accepted ≤ vec_capacity run.history) }
+        // It has run this event too.
+        ensures goes { (first : First) (done : List (ScriptEvent StopPick)) → D.honest self.life.keeper.disk → Holds (D.content self.life.keeper.disk) (D.left self.life.keeper.disk) self.life.keeper.machine self.life.keeper.standing → HasRun first done self.replies.items self.history.items self.life.keeper.machine → (event : ScriptEvent StopPick) → within_of event ≡ Some writing → IfOk result (λ run. HasRun first (done ++ event ∷ []) run.replies.items run.history.items run.life.keeper.machine) }
+        ensures holds { (first : First) (done : List (ScriptEvent StopPick)) → D.honest self.life.keeper.disk → Holds (D.content self.life.keeper.disk) (D.left self.life.keeper.disk) self.life.keeper.machine self.life.keeper.standing → HasRun first done self.replies.items self.history.items self.life.keeper.machine → IfOk result (λ run. Holds (D.content run.life.keeper.disk) (D.left run.life.keeper.disk) run.life.keeper.machine run.life.keeper.standing) }
+        ensures honest { (first : First) (done : List (ScriptEvent StopPick)) → D.honest self.life.keeper.disk → Holds (D.content self.life.keeper.disk) (D.left self.life.keeper.disk) self.life.keeper.machine self.life.keeper.standing → HasRun first done self.replies.items self.history.items self.life.keeper.machine → IfOk result (λ run. D.honest run.life.keeper.disk) }
+        // It has ended with the event.
+        ensures ends { (first : First) (done : List (ScriptEvent StopPick)) → D.honest self.life.keeper.disk → Holds (D.content self.life.keeper.disk) (D.left self.life.keeper.disk) self.life.keeper.machine self.life.keeper.standing → HasRun first done self.replies.items self.history.items self.life.keeper.machine → (event : ScriptEvent StopPick) → within_of event ≡ Some writing → (rest : List (ScriptEvent StopPick)) → IfErr result (λ ended. LivesOn StandsTidyFor (D.left ended.disk) first.sizes first.network first.version ((done ++ event ∷ []) ++ rest) ended.replies.items ended.ended ended.history.items) }
+    {
+        let mut run = self;
+        run.life.arm(call);
+        let written = run.life.write(writing);
+        let (mut halted, came) = run.halt(picks);
+        tell_write(&mut halted.replies, came, &written);
+        halted.resume(alloc, delta)
+    }
+
+    /// Runs an event.
+    fn next(
+        self,
+        alloc: Global,
+        delta: Option<u32>,
+        event: &Event<Pick>,
+    ) -> Result<Run<D>, Rehearsal<D>>
+        requires life { IsLife self.life.keeper.machine self.life.opened (option_map (λ view. (view.value.version, view.value.network)) self.life.aside) }
+        requires width { ForSome delta IsWidth }
+        requires room { vec_len self.history + length self.life.keeper.machine.accepted + 1 ≤ vec_capacity self.history }
+        requires reply { vec_len self.replies + 2 ≤ vec_capacity self.replies }
+        ensures life { IfOk result (λ run. IsLife run.life.keeper.machine run.life.opened (option_map (λ view. (view.value.version, view.value.network)) run.life.aside)) }
+        ensures room { IfOk result (λ run. vec_len run.history + length run.life.keeper.machine.accepted ≤ vec_capacity run.history) }
+        // It has run this event too.
+        ensures goes { (first : First) (done : List (ScriptEvent StopPick)) → D.honest self.life.keeper.disk → Holds (D.content self.life.keeper.disk) (D.left self.life.keeper.disk) self.life.keeper.machine self.life.keeper.standing → HasRun first done self.replies.items self.history.items self.life.keeper.machine → IfOk result (λ run. HasRun first (done ++ event.now ∷ []) run.replies.items run.history.items run.life.keeper.machine) }
+        ensures holds { (first : First) (done : List (ScriptEvent StopPick)) → D.honest self.life.keeper.disk → Holds (D.content self.life.keeper.disk) (D.left self.life.keeper.disk) self.life.keeper.machine self.life.keeper.standing → HasRun first done self.replies.items self.history.items self.life.keeper.machine → IfOk result (λ run. Holds (D.content run.life.keeper.disk) (D.left run.life.keeper.disk) run.life.keeper.machine run.life.keeper.standing) }
+        ensures honest { (first : First) (done : List (ScriptEvent StopPick)) → D.honest self.life.keeper.disk → Holds (D.content self.life.keeper.disk) (D.left self.life.keeper.disk) self.life.keeper.machine self.life.keeper.standing → HasRun first done self.replies.items self.history.items self.life.keeper.machine → IfOk result (λ run. D.honest run.life.keeper.disk) }
+        // It has ended with the event.
+        ensures ends { (first : First) (done : List (ScriptEvent StopPick)) → D.honest self.life.keeper.disk → Holds (D.content self.life.keeper.disk) (D.left self.life.keeper.disk) self.life.keeper.machine self.life.keeper.standing → HasRun first done self.replies.items self.history.items self.life.keeper.machine → (rest : List (ScriptEvent StopPick)) → IfErr result (λ ended. LivesOn StandsTidyFor (D.left ended.disk) first.sizes first.network first.version ((done ++ event.now ∷ []) ++ rest) ended.replies.items ended.ended ended.history.items) }
+    {
+        match event {
+            Event::Stop => self.stop(alloc, delta),
+            Event::StopWithin {
+                call,
+                picks,
+                writing,
+            } => self.stop_within(alloc, delta, *call, picks, *writing),
+            _ => {
+                let mut run = self;
+                let told = run.life.reply(alloc, delta, event);
+                run.replies.push_reserved(told);
+                Ok(run)
+            }
+        }
+    }
+
+    /// Ends the run, before an event or behind the last.
+    fn end(self, ended: Option<Refusal>) -> Rehearsal<D>
+        requires room { vec_len self.history + length self.life.keeper.machine.accepted ≤ vec_capacity self.history }
+        ensures history { result.history.items ≡ self.history.items ++ self.life.keeper.machine.accepted }
+        ensures replies { result.replies ≡ self.replies }
+        ensures ended { result.ended ≡ ended }
+        ensures disk { result.disk ≡ self.life.keeper.disk }
+    {
+        let Run {
+            mut history,
+            replies,
+            life,
+        } = self;
+        let (commands, disk) = life.keeper.close();
+        put_behind(&mut history, &commands);
+        Rehearsal {
+            history,
+            replies,
+            ended,
+            disk,
+        }
+    }
+}
+
+/// Runs a script's events over lives with stops, on a store that is not broken. It really drives the disk: a stop arms it, cuts it by its picks,
+/// and opens what is left. `delta`, 1 to 2147483647, is the width of the buckets of each view's searches; where none is given it is the
+/// network's default. A stop within a call of number 0 comes behind its event, and one without picks takes the old bytes.
+///
+/// Each event has one reply, and a stop that comes behind its event has a second one. A view that is kept aside and all pending commands are
+/// lost by a stop. The run ends before an event for want of memory (11), or with a stop whose store is not opened, or whose first view is not
+/// built (43 or 11).
+pub fn rehearse<D: Stoppable>(
+    alloc: Global,
+    store: Store<D>,
+    delta: Option<u32>,
+    events: &[Event<Pick>],
+) -> Rehearsal<D>
+    requires calm { store.broken ≡ false }
+    requires width { ForSome delta IsWidth }
+    // The run is one of the lives of the store's network and version, and a stop now leaves of the disk what its last state says.
+    ensures { D.honest store.disk → StandsTidily (D.content store.disk) (told_by store) → LivesOn StandsTidyFor (D.left result.disk) (record { journal_pages = store.header.journal_pages; slot_pages = word_pages store.header }) store.network store.version events.now result.replies.items result.ended result.history.items }
+{
+    let life = match Life::begin(alloc, store, delta) {
+        Ok(life) => life,
+        Err(store) => {
+            return Rehearsal {
+                history: Vec::new(alloc),
+                replies: Vec::new(alloc),
+                ended: Some(Refusal::OutOfMemory),
+                disk: store.close(),
+            };
+        }
+    };
+    let mut run = Run {
+        history: Vec::new(alloc),
+        replies: Vec::new(alloc),
+        life,
+    };
+    for event in events {
+        if run.grow().is_err() {
+            return run.end(Some(Refusal::OutOfMemory));
+        }
+        run = match run.next(alloc, delta, event) {
+            Ok(run) => run,
+            Err(rehearsal) => return rehearsal,
+        };
+    }
+    run.end(None)
+}

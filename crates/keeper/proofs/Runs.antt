@@ -57,15 +57,15 @@ run_as first events replies replies' history history' m a b r =
     subst (λ (rs : List Replied). HasRun first events rs history' m) (sym a) (subst (λ (cs : List Command). HasRun first events replies cs m) (sym b) r)
 
 pub lives_as : {P : Type 0} (left : List ℕ → Type 0) (first : First) (events : List (Event P)) (replies replies' : List Replied) (ended : Option Refusal) (history history' : List Command) → replies' ≡ replies → history' ≡ history
-    → LivesOn StandsTidyFor left first.sizes first.network first.version events replies ended history → LivesOn StandsTidyFor left first.sizes first.network first.version events replies' ended history'
+    → LivesOn StandsTidyFor left first.sizes first.network first.version first.unchecked events replies ended history → LivesOn StandsTidyFor left first.sizes first.network first.version first.unchecked events replies' ended history'
 lives_as left first events replies replies' ended history history' a b r =
-    subst (λ (rs : List Replied). LivesOn StandsTidyFor left first.sizes first.network first.version events rs ended history') (sym a)
-    (subst (λ (cs : List Command). LivesOn StandsTidyFor left first.sizes first.network first.version events replies ended cs) (sym b) r)
+    subst (λ (rs : List Replied). LivesOn StandsTidyFor left first.sizes first.network first.version first.unchecked events rs ended history') (sym a)
+    (subst (λ (cs : List Command). LivesOn StandsTidyFor left first.sizes first.network first.version first.unchecked events replies ended cs) (sym b) r)
 
 pub lives_of : {P : Type 0} (left : List ℕ → Type 0) (first : First) (events events' : List (Event P)) (replies : List Replied) (ended : Option Refusal) (history : List Command) → events ≡ events'
-    → LivesOn StandsTidyFor left first.sizes first.network first.version events replies ended history → LivesOn StandsTidyFor left first.sizes first.network first.version events' replies ended history
+    → LivesOn StandsTidyFor left first.sizes first.network first.version first.unchecked events replies ended history → LivesOn StandsTidyFor left first.sizes first.network first.version first.unchecked events' replies ended history
 lives_of left first events events' replies ended history e r =
-    subst (λ (es : List (Event _)). LivesOn StandsTidyFor left first.sizes first.network first.version es replies ended history) e r
+    subst (λ (es : List (Event _)). LivesOn StandsTidyFor left first.sizes first.network first.version first.unchecked es replies ended history) e r
 
 -- what a stop leaves of a store that was just opened
 pub held_at_start : (content : List ℕ) (left : List ℕ → Type 0) (x : Standing) (sizes : Sizes) (unchecked : ℕ) → Only content left → StandsTidily content x → (c : List ℕ) → left c → HoldsDurable StandsTidyFor (start sizes x.network x.version unchecked) c
@@ -140,9 +140,8 @@ module _ {P : Type 0} (first : First) (events : List (Event P)) (replies : List 
     -- what is left is not opened, or has no first view
     pub run_not_opened : (left : List ℕ → Type 0) (e : Event P) (now : List Replied) (rest : List (Event P)) (ended : Option Refusal) → StopsFor (in_run m) e now (in_run mid) → (ended ≡ Some OutOfMemory) ⊎ (ended ≡ Some Device)
         → ((c : List ℕ) → left c → HoldsDurable StandsTidyFor mid c)
-        → LivesOn StandsTidyFor left first.sizes first.network first.version ((events ++ e ∷ []) ++ rest) (replies ++ now) ended (history ++ take (mid.durable - mid.base_version) mid.accepted)
+        → LivesOn StandsTidyFor left first.sizes first.network first.version first.unchecked ((events ++ e ∷ []) ++ rest) (replies ++ now) ended (history ++ take (mid.durable - mid.base_version) mid.accepted)
     run_not_opened left e now rest ended stops why each = record {
-      unchecked = first.unchecked;
       unchecked_to = r.unchecked_to;
       last = in_run mid;
       lives = subst (λ (h : List Command). Lives (start first.sizes first.network first.version first.unchecked) ((events ++ e ∷ []) ++ rest) (replies ++ now) ended h (in_run mid))
@@ -188,9 +187,9 @@ module _ {P : Type 0} (first : First) (events : List (Event P)) (replies : List 
 
     pub not_opened_within : (left : List ℕ → Type 0) (e : Event P) (w : Writing) (told : List Replied) (rest : List (Event P)) (ended : Option Refusal) → within_of e ≡ Some w → TellsBefore w told → (ended ≡ Some OutOfMemory) ⊎ (ended ≡ Some Device)
         → ((c : List ℕ) → left c → HoldsDurable StandsTidyFor mid c)
-        → LivesOn StandsTidyFor left first.sizes first.network first.version ((events ++ e ∷ []) ++ rest) ((replies ++ told) ++ Stopped ∷ []) ended (history ++ take (mid.durable - mid.base_version) mid.accepted)
+        → LivesOn StandsTidyFor left first.sizes first.network first.version first.unchecked ((events ++ e ∷ []) ++ rest) ((replies ++ told) ++ Stopped ∷ []) ended (history ++ take (mid.durable - mid.base_version) mid.accepted)
     not_opened_within left e w told rest ended is tells why each =
-        subst (λ (rs : List Replied). LivesOn StandsTidyFor left first.sizes first.network first.version ((events ++ e ∷ []) ++ rest) rs ended (history ++ take (mid.durable - mid.base_version) mid.accepted)) (sym (append_assoc replies told (Stopped ∷ [])))
+        subst (λ (rs : List Replied). LivesOn StandsTidyFor left first.sizes first.network first.version first.unchecked ((events ++ e ∷ []) ++ rest) rs ended (history ++ take (mid.durable - mid.base_version) mid.accepted)) (sym (append_assoc replies told (Stopped ∷ [])))
         (run_not_opened left e (told ++ Stopped ∷ []) rest ended (stops e is) why each)
       where
         stops : (x : Event P) → within_of x ≡ Some w → StopsFor (in_run m) x (told ++ Stopped ∷ []) (in_run mid)
@@ -219,7 +218,7 @@ module _ {P : Type 0} (first : First) (events : List (Event P)) (replies : List 
 
     pub not_opened_told : (left : List ℕ → Type 0) (e : Event P) (w : Writing) (replies' : List Replied) (rest : List (Event P)) (ended : Option Refusal) → within_of e ≡ Some w → Told (in_run m) (in_run mid) w replies replies' → (ended ≡ Some OutOfMemory) ⊎ (ended ≡ Some Device)
         → ((c : List ℕ) → left c → HoldsDurable StandsTidyFor mid c)
-        → LivesOn StandsTidyFor left first.sizes first.network first.version ((events ++ e ∷ []) ++ rest) (replies' ++ Stopped ∷ []) ended (history ++ take (mid.durable - mid.base_version) mid.accepted)
+        → LivesOn StandsTidyFor left first.sizes first.network first.version first.unchecked ((events ++ e ∷ []) ++ rest) (replies' ++ Stopped ∷ []) ended (history ++ take (mid.durable - mid.base_version) mid.accepted)
     not_opened_told left e w replies' rest ended is t why each =
         lives_as left first ((events ++ e ∷ []) ++ rest) ((replies ++ t.told) ++ Stopped ∷ []) (replies' ++ Stopped ∷ []) ended (history ++ take (mid.durable - mid.base_version) mid.accepted) (history ++ take (mid.durable - mid.base_version) mid.accepted)
         (ap (λ (rs : List Replied). rs ++ Stopped ∷ []) t.is) refl
@@ -230,23 +229,21 @@ module _ {P : Type 0} (first : First) (events : List (Event P)) (replies : List 
   opened_by_stop next s b = run_opened m (later_none m s) Stop (Opened next.base_version ∷ []) next b (next.base_version, opens_then m (later_none m s) next b, refl)
 
   pub not_opened_by_stop : (left : List ℕ → Type 0) (rest : List (Event P)) (ended : Option Refusal) → IsState m → (ended ≡ Some OutOfMemory) ⊎ (ended ≡ Some Device) → ((c : List ℕ) → left c → HoldsDurable StandsTidyFor m c)
-      → LivesOn StandsTidyFor left first.sizes first.network first.version ((events ++ Stop ∷ []) ++ rest) (replies ++ Stopped ∷ []) ended (history ++ take (m.durable - m.base_version) m.accepted)
+      → LivesOn StandsTidyFor left first.sizes first.network first.version first.unchecked ((events ++ Stop ∷ []) ++ rest) (replies ++ Stopped ∷ []) ended (history ++ take (m.durable - m.base_version) m.accepted)
   not_opened_by_stop left rest ended s why each = run_not_opened m (later_none m s) left Stop (Stopped ∷ []) rest ended (refl, refl) why each
 
   -- ---- every event was run, or no memory is given for the next one
   module _ (left : List ℕ → Type 0) (s : IsState m) (each : (c : List ℕ) → left c → HoldsDurable StandsTidyFor m c) where
-    pub run_whole : LivesOn StandsTidyFor left first.sizes first.network first.version events replies None (history ++ m.accepted)
+    pub run_whole : LivesOn StandsTidyFor left first.sizes first.network first.version first.unchecked events replies None (history ++ m.accepted)
     run_whole = record {
-      unchecked = first.unchecked;
       unchecked_to = r.unchecked_to;
       last = in_run m;
       lives = lives_whole _ _ events replies ran;
       each_left = λ c was. holds_in StandsTidyFor first.network first.version history m c r.begun r.there s (each c was);
     }
 
-    pub run_no_memory : (rest : List (Event P)) → LivesOn StandsTidyFor left first.sizes first.network first.version (events ++ rest) replies (Some OutOfMemory) (history ++ m.accepted)
+    pub run_no_memory : (rest : List (Event P)) → LivesOn StandsTidyFor left first.sizes first.network first.version first.unchecked (events ++ rest) replies (Some OutOfMemory) (history ++ m.accepted)
     run_no_memory rest = record {
-      unchecked = first.unchecked;
       unchecked_to = r.unchecked_to;
       last = in_run m;
       lives = lives_no_memory _ _ events replies ran rest;

@@ -29,6 +29,7 @@ impl<D: Disk> Keeper<D> {
         ensures step { MatchResult result (λ part. StepsCheckpoint self.old.machine self.old.machine.sizes.slot_pages (Ok (done_version part)) self.new.machine) (λ refusal. StepsCheckpoint self.old.machine self.old.machine.sizes.slot_pages (Err refusal) self.new.machine) }
         ensures same { IfErr result (λ refusal. refusal ≢ device → self.new ≡ self.old) }
         ensures failed { IfErr result (λ refusal. refusal ≡ device → Rose (D.failures self.old.disk) (D.failures self.new.disk)) }
+        ensures width { self.new.width ≡ self.old.width }
         ensures adds_nothing { self.old.machine.broken ≡ true → AddsNothing D.moment D.left_since self.old.disk self.new.disk }
         // A stop at any moment of the call leaves what stands for what is durable.
         ensures any_moment { self.old.machine.broken ≡ false → D.honest self.old.disk → Holds (D.content self.old.disk) (D.left self.old.disk) self.old.machine self.old.standing → LeavesOnly D.moment D.left_since self.old.disk self.new.disk (HoldsDurable StandsTidyFor self.old.machine) }

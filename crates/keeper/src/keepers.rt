@@ -62,6 +62,7 @@ impl<D: Disk> Model for Keeper<D> {
         next = k.store.next_sequence;
         unchecked = k.store.unchecked;
       };
+      width = k.view.value.delta;
     } };
 
     ghost invariant = { λ k. IsKept (record {

@@ -1,9 +1,11 @@
 // One life of a keeper in a rehearsal: what each event of a script does in it.
-ghost use Rattle.std.specs.Prelude.{◌≡◌, ◌≤◌, ◌∷◌, [], false, None, Some, length, option_map, IfOk, IfErr};
+ghost use Rattle.std.specs.Prelude.{◌≡◌, ◌≤◌, ◌∷◌, [], false, None, Some, length, option_map, unwrap_or, IfOk, IfErr};
 ghost use Rattle.std.specs.Option.{ForSome};
+ghost use Rattle.disk.specs.Stop.{armed_at};
 ghost use Rattle.disk.specs.declared.stoppable.Pick.{Pick as StopPick};
 ghost use Rattle.pages.specs.Layout.{word_pages};
 ghost use Rattle.rows.specs.Kept.{IsWidth};
+ghost use Rattle.snapshot.specs.Groups.{default_width};
 ghost use Rattle.store.specs.Committing.{StandsTidily};
 ghost use Rattle.store.specs.Durable.{told_by};
 ghost use Rattle.machine.specs.declared.events.Event.TheVariants.{Submit, Task as TaskEvent, Publish, Ask};
@@ -51,6 +53,7 @@ fn view_of(alloc: Global, task: &Task, delta: Option<u32>) -> Result<Arc<View>, 
     requires { ForSome delta IsWidth }
     ensures version { IfOk result (λ view. view.value.version ≡ task.now.version) }
     ensures network { IfOk result (λ view. view.value.network ≡ task.now.network.value) }
+    ensures width { IfOk result (λ view. view.value.delta ≡ unwrap_or delta (default_width task.now.network.value)) }
 {
     let Ok(network) = task.network.copy() else {
         return Err(OutOfMemory);
@@ -217,6 +220,8 @@ impl<D: Stoppable> Life<D> {
 
     /// Arms the disk, so that its write or sync of this number from now on is cut. 0 arms nothing.
     pub(crate) fn arm(&mut self, call: u64)
+        ensures armed { 1 ≤ call → D.armed self.new.keeper.disk ≡ armed_at call (D.armed self.old.keeper.disk) }
+        ensures nothing { call ≡ 0 → self.new ≡ self.old }
         ensures machine { self.new.keeper.machine ≡ self.old.keeper.machine }
         ensures opened { self.new.opened ≡ self.old.opened }
         ensures aside { self.new.aside ≡ self.old.aside }

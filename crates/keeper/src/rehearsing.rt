@@ -1,9 +1,11 @@
 // A script's events over lives with stops.
-ghost use Rattle.std.specs.Prelude.{◌≡◌, ◌+◌, ◌<◌, ◌≤◌, ◌∷◌, ◌++◌, [], ℕ, Bool, true, false, List, Option, None, Some, Result, Err, length, take, option_map, ◌-◌, ◌⊎◌, IfOk, IfErr, OnOk, OnErr};
+ghost use Rattle.std.specs.Prelude.{◌≡◌, ◌+◌, ◌<◌, ◌≤◌, ◌∷◌, ◌++◌, [], ℕ, Bool, true, false, List, Option, None, Some, Result, Err, length, take, option_map, ◌-◌, ◌⊎◌, ◌↔◌, IsTrue, IfOk, IfErr, OnOk, OnErr};
 ghost use Rattle.std.specs.Option.{ForSome};
 ghost use Rattle.std.specs.Vec.{vec_len, vec_capacity};
 ghost use Rattle.disk.specs.Contents.{Only, AreAmong};
+ghost use Rattle.disk.specs.Stop.{TakesPicks};
 ghost use Rattle.disk.specs.declared.stoppable.Pick.{Pick as StopPick};
+ghost use Rattle.disk.specs.declared.stoppable.Pick.TheVariants.{Old};
 ghost use Rattle.pages.specs.Layout.{word_pages};
 ghost use Rattle.rows.specs.Kept.{IsWidth};
 ghost use Rattle.roadnet.specs.declared.refusals.Refusal.TheVariants.{OutOfMemory as out_of_memory, Device as device};
@@ -81,6 +83,9 @@ fn stop_disk<D: Stoppable>(disk: &mut D, picks: &[Pick]) -> bool
     ensures left { D.honest disk.old → D.left disk.old (D.content disk.new) }
     ensures only { D.honest disk.old → Only (D.content disk.new) (D.left disk.new) }
     ensures honest { D.honest disk.old → D.honest disk.new }
+    ensures came { IsTrue result ↔ (D.armed disk.old ≡ Some 0) }
+    ensures picks { D.honest disk.old → 1 ≤ length picks.now → TakesPicks picks.now (D.synced disk.old) (D.is_unsynced disk.old) (D.content disk.old) (D.content disk.new) }
+    ensures no_picks { D.honest disk.old → picks.now ≡ [] → TakesPicks (Old ∷ []) (D.synced disk.old) (D.is_unsynced disk.old) (D.content disk.old) (D.content disk.new) }
 {
     if picks.is_empty() {
         disk.stop(&[Pick::Old])
@@ -93,6 +98,8 @@ fn stop_disk<D: Stoppable>(disk: &mut D, picks: &[Pick]) -> bool
 fn tell_write(replies: &mut Vec<Replied>, came: bool, written: &Result<u64, Refusal>)
     requires { vec_len replies.old < vec_capacity replies.old }
     ensures told { (replies.new.items ≡ replies.old.items ++ told_version written.now ∷ []) ⊎ ((written.now ≡ Err device) × (replies.new.items ≡ replies.old.items)) }
+    ensures behind { came ≡ false → replies.new.items ≡ replies.old.items ++ told_version written.now ∷ [] }
+    ensures within { came ≡ true → written.now ≡ Err device → replies.new.items ≡ replies.old.items }
     ensures room { vec_len replies.new ≤ vec_len replies.old + 1 }
     ensures capacity { vec_capacity replies.new ≡ vec_capacity replies.old }
 {
@@ -200,6 +207,7 @@ impl<D: Stoppable> Run<D> {
         ensures room { OnOk result (vec_len self.new.history + length self.new.life.keeper.machine.accepted + 1 ≤ vec_capacity self.new.history) }
         ensures reply { OnOk result (vec_len self.new.replies + 2 ≤ vec_capacity self.new.replies) }
         ensures kept { vec_capacity self.old.history ≤ vec_capacity self.new.history }
+        ensures refused { IfErr result (λ refusal. refusal ≡ out_of_memory) }
     {
         let Ok(()) = self.replies.reserve(MOST_REPLIES) else {
             return Err(Refusal::OutOfMemory);
@@ -220,6 +228,8 @@ impl<D: Stoppable> Run<D> {
         ensures durable { result.0.durable ≡ self.life.keeper.machine.durable }
         ensures halted { D.honest self.life.keeper.disk → Holds (D.content self.life.keeper.disk) (D.left self.life.keeper.disk) self.life.keeper.machine self.life.keeper.standing → HasHalted self.life.keeper.machine result.0.commands.items result.0.opened result.0.durable result.0.journal_pages (D.content result.0.disk) (D.left result.0.disk) }
         ensures honest { D.honest self.life.keeper.disk → D.honest result.0.disk }
+        ensures came { IsTrue result.1 ↔ (D.armed self.life.keeper.disk ≡ Some 0) }
+        ensures picks { D.honest self.life.keeper.disk → 1 ≤ length picks.now → TakesPicks picks.now (D.synced self.life.keeper.disk) (D.is_unsynced self.life.keeper.disk) (D.content self.life.keeper.disk) (D.content result.0.disk) }
     {
         let Run {
             history,
@@ -256,7 +266,7 @@ impl<D: Stoppable> Run<D> {
         ensures holds { (first : First) (done : List (ScriptEvent StopPick)) → D.honest self.life.keeper.disk → Holds (D.content self.life.keeper.disk) (D.left self.life.keeper.disk) self.life.keeper.machine self.life.keeper.standing → HasRun first done self.replies.items self.history.items self.life.keeper.machine → IfOk result (λ run. Holds (D.content run.life.keeper.disk) (D.left run.life.keeper.disk) run.life.keeper.machine run.life.keeper.standing) }
         ensures honest { (first : First) (done : List (ScriptEvent StopPick)) → D.honest self.life.keeper.disk → Holds (D.content self.life.keeper.disk) (D.left self.life.keeper.disk) self.life.keeper.machine self.life.keeper.standing → HasRun first done self.replies.items self.history.items self.life.keeper.machine → IfOk result (λ run. D.honest run.life.keeper.disk) }
         // It has ended with the event.
-        ensures ends { (first : First) (done : List (ScriptEvent StopPick)) → D.honest self.life.keeper.disk → Holds (D.content self.life.keeper.disk) (D.left self.life.keeper.disk) self.life.keeper.machine self.life.keeper.standing → HasRun first done self.replies.items self.history.items self.life.keeper.machine → (rest : List (ScriptEvent StopPick)) → IfErr result (λ ended. LivesOn StandsTidyFor (D.left ended.disk) first.sizes first.network first.version ((done ++ Stop ∷ []) ++ rest) ended.replies.items ended.ended ended.history.items) }
+        ensures ends { (first : First) (done : List (ScriptEvent StopPick)) → D.honest self.life.keeper.disk → Holds (D.content self.life.keeper.disk) (D.left self.life.keeper.disk) self.life.keeper.machine self.life.keeper.standing → HasRun first done self.replies.items self.history.items self.life.keeper.machine → (rest : List (ScriptEvent StopPick)) → IfErr result (λ ended. LivesOn StandsTidyFor (D.left ended.disk) first.sizes first.network first.version first.unchecked ((done ++ Stop ∷ []) ++ rest) ended.replies.items ended.ended ended.history.items) }
     {
         let (halted, _) = self.halt(&[Pick::Old]);
         halted.resume(alloc, delta)
@@ -282,7 +292,7 @@ impl<D: Stoppable> Run<D> {
         ensures holds { (first : First) (done : List (ScriptEvent StopPick)) → D.honest self.life.keeper.disk → Holds (D.content self.life.keeper.disk) (D.left self.life.keeper.disk) self.life.keeper.machine self.life.keeper.standing → HasRun first done self.replies.items self.history.items self.life.keeper.machine → IfOk result (λ run. Holds (D.content run.life.keeper.disk) (D.left run.life.keeper.disk) run.life.keeper.machine run.life.keeper.standing) }
         ensures honest { (first : First) (done : List (ScriptEvent StopPick)) → D.honest self.life.keeper.disk → Holds (D.content self.life.keeper.disk) (D.left self.life.keeper.disk) self.life.keeper.machine self.life.keeper.standing → HasRun first done self.replies.items self.history.items self.life.keeper.machine → IfOk result (λ run. D.honest run.life.keeper.disk) }
         // It has ended with the event.
-        ensures ends { (first : First) (done : List (ScriptEvent StopPick)) → D.honest self.life.keeper.disk → Holds (D.content self.life.keeper.disk) (D.left self.life.keeper.disk) self.life.keeper.machine self.life.keeper.standing → HasRun first done self.replies.items self.history.items self.life.keeper.machine → (event : ScriptEvent StopPick) → within_of event ≡ Some writing → (rest : List (ScriptEvent StopPick)) → IfErr result (λ ended. LivesOn StandsTidyFor (D.left ended.disk) first.sizes first.network first.version ((done ++ event ∷ []) ++ rest) ended.replies.items ended.ended ended.history.items) }
+        ensures ends { (first : First) (done : List (ScriptEvent StopPick)) → D.honest self.life.keeper.disk → Holds (D.content self.life.keeper.disk) (D.left self.life.keeper.disk) self.life.keeper.machine self.life.keeper.standing → HasRun first done self.replies.items self.history.items self.life.keeper.machine → (event : ScriptEvent StopPick) → within_of event ≡ Some writing → (rest : List (ScriptEvent StopPick)) → IfErr result (λ ended. LivesOn StandsTidyFor (D.left ended.disk) first.sizes first.network first.version first.unchecked ((done ++ event ∷ []) ++ rest) ended.replies.items ended.ended ended.history.items) }
     {
         let mut run = self;
         run.life.arm(call);
@@ -310,7 +320,7 @@ impl<D: Stoppable> Run<D> {
         ensures holds { (first : First) (done : List (ScriptEvent StopPick)) → D.honest self.life.keeper.disk → Holds (D.content self.life.keeper.disk) (D.left self.life.keeper.disk) self.life.keeper.machine self.life.keeper.standing → HasRun first done self.replies.items self.history.items self.life.keeper.machine → IfOk result (λ run. Holds (D.content run.life.keeper.disk) (D.left run.life.keeper.disk) run.life.keeper.machine run.life.keeper.standing) }
         ensures honest { (first : First) (done : List (ScriptEvent StopPick)) → D.honest self.life.keeper.disk → Holds (D.content self.life.keeper.disk) (D.left self.life.keeper.disk) self.life.keeper.machine self.life.keeper.standing → HasRun first done self.replies.items self.history.items self.life.keeper.machine → IfOk result (λ run. D.honest run.life.keeper.disk) }
         // It has ended with the event.
-        ensures ends { (first : First) (done : List (ScriptEvent StopPick)) → D.honest self.life.keeper.disk → Holds (D.content self.life.keeper.disk) (D.left self.life.keeper.disk) self.life.keeper.machine self.life.keeper.standing → HasRun first done self.replies.items self.history.items self.life.keeper.machine → (rest : List (ScriptEvent StopPick)) → IfErr result (λ ended. LivesOn StandsTidyFor (D.left ended.disk) first.sizes first.network first.version ((done ++ event.now ∷ []) ++ rest) ended.replies.items ended.ended ended.history.items) }
+        ensures ends { (first : First) (done : List (ScriptEvent StopPick)) → D.honest self.life.keeper.disk → Holds (D.content self.life.keeper.disk) (D.left self.life.keeper.disk) self.life.keeper.machine self.life.keeper.standing → HasRun first done self.replies.items self.history.items self.life.keeper.machine → (rest : List (ScriptEvent StopPick)) → IfErr result (λ ended. LivesOn StandsTidyFor (D.left ended.disk) first.sizes first.network first.version first.unchecked ((done ++ event.now ∷ []) ++ rest) ended.replies.items ended.ended ended.history.items) }
     {
         match event {
             Event::Stop => self.stop(alloc, delta),
@@ -368,7 +378,7 @@ pub fn rehearse<D: Stoppable>(
     requires calm { store.broken ≡ false }
     requires width { ForSome delta IsWidth }
     // The run is one of the lives of the store's network and version, and a stop now leaves of the disk what its last state says.
-    ensures { D.honest store.disk → StandsTidily (D.content store.disk) (told_by store) → LivesOn StandsTidyFor (D.left result.disk) (record { journal_pages = store.header.journal_pages; slot_pages = word_pages store.header }) store.network store.version events.now result.replies.items result.ended result.history.items }
+    ensures { D.honest store.disk → StandsTidily (D.content store.disk) (told_by store) → LivesOn StandsTidyFor (D.left result.disk) (record { journal_pages = store.header.journal_pages; slot_pages = word_pages store.header }) store.network store.version store.unchecked events.now result.replies.items result.ended result.history.items }
 {
     let life = match Life::begin(alloc, store, delta) {
         Ok(life) => life,

@@ -1,7 +1,7 @@
 ghost use Rattle.std.specs.Prelude.{◌≡◌, ◌≤◌, false, IfOk};
 
 use crate::{Rehearsal, rehearse};
-use disk::{MemDisk, Pick};
+use disk::{Disk, MemDisk, Pick};
 use machine::{Answer, Event, Replied, Writing};
 use roadnet::{Command, Network, Refusal, RoadArc};
 use rows::{Query, Reply};
@@ -41,6 +41,26 @@ fn six(alloc: Global, journal_pages: u32) -> Result<Store<MemDisk>, Refusal>
     }
 }
 
+// What ended the run early, or the first reply of a want: of memory, or of a disk that failed.
+fn want_of(run: &Rehearsal<MemDisk>) -> Option<Refusal> {
+    if run.ended.is_some() {
+        return run.ended;
+    }
+    for reply in run.replies.as_slice() {
+        match reply {
+            Replied::Refused {
+                refusal: Refusal::OutOfMemory,
+            } => return Some(Refusal::OutOfMemory),
+            Replied::Refused {
+                refusal: Refusal::Device,
+            } => return Some(Refusal::Device),
+            _ => {}
+        }
+    }
+    None
+}
+
+// The run of these events on a new store, each told without a want.
 fn rehearsed(
     alloc: Global,
     journal_pages: u32,
@@ -49,8 +69,15 @@ fn rehearsed(
     requires some { 1 ≤ journal_pages }
     requires few { journal_pages ≤ 65536 }
 {
-    let store = six(alloc, journal_pages)?;
-    Ok(rehearse(alloc, store, None, events))
+    let store = match six(alloc, journal_pages) {
+        Ok(store) => store,
+        Err(refusal) => return Err(refusal),
+    };
+    let run = rehearse(alloc, store, None, events);
+    match want_of(&run) {
+        Some(refusal) => Err(refusal),
+        None => Ok(run),
+    }
 }
 
 fn submit(command: Command) -> Event<Pick> {
@@ -108,145 +135,66 @@ fn answered(version: u64, source: u64, target: u64, reply: Reply) -> Replied {
     }
 }
 
-#[test]
-fn closed_arc_lengthens(rt: HostRuntime) -> Result<(), Fail> {
-    let events = [
-        close(7),
-        Event::Flush,
-        dist(1, 6),
-        Event::Task,
-        Event::Publish,
-        dist(1, 6),
-    ];
-    let run = rehearsed(rt.alloc(), 64, &events)?;
-    let replies = [
-        accepted(1),
-        durable(1),
-        answered(0, 1, 6, Reply::Length(15)),
-        Replied::Task { version: 1 },
-        Replied::Shown { version: 1 },
-        answered(1, 1, 6, Reply::Length(22)),
-    ];
-    assert!(rt; run.replies.as_slice() == replies.as_slice());
-    assert!(rt; run.ended.is_none());
-    assert!(rt; run.history.as_slice() == [Command::Close { arc: 7 }].as_slice());
-    Ok(())
-}
-
-#[test]
-fn shorter_length_shortens(rt: HostRuntime) -> Result<(), Fail> {
-    let events = [
-        close(7),
-        Event::Flush,
-        Event::Task,
-        Event::Publish,
-        set(8, 4),
-        Event::Flush,
-        Event::Task,
-        Event::Publish,
-        dist(1, 6),
-        submit(Command::Reopen { arc: 7 }),
-        Event::Flush,
-        Event::Task,
-        Event::Task,
-        Event::Publish,
-        Event::Publish,
-        dist(1, 6),
-    ];
-    let run = rehearsed(rt.alloc(), 64, &events)?;
-    let replies = [
-        accepted(1),
-        durable(1),
-        Replied::Task { version: 1 },
-        Replied::Shown { version: 1 },
-        accepted(2),
-        durable(2),
-        Replied::Task { version: 2 },
-        Replied::Shown { version: 2 },
-        answered(2, 1, 6, Reply::Length(14)),
-        accepted(3),
-        durable(3),
-        Replied::Task { version: 3 },
-        no(Refusal::NoTask),
-        Replied::Shown { version: 3 },
-        no(Refusal::NoTask),
-        answered(3, 1, 6, Reply::Length(14)),
-    ];
-    assert!(rt; run.replies.as_slice() == replies.as_slice());
-    assert!(rt; run.ended.is_none() && run.history.len() == 3);
-    Ok(())
-}
-
-#[test]
-fn refusals_of_commands(rt: HostRuntime) -> Result<(), Fail> {
-    let events = [
-        set(9, 1),
-        set(1, 2147483648),
-        set(9, 2147483648),
-        submit(Command::Mark { node: 7 }),
-        submit(Command::Unmark { node: 3 }),
-        submit(Command::Reopen { arc: 7 }),
-        close(7),
-        close(7),
-        Event::Flush,
-        Event::Flush,
-    ];
-    let run = rehearsed(rt.alloc(), 64, &events)?;
-    let replies = [
-        no(Refusal::NoSuchArc),
-        no(Refusal::LengthRange),
-        no(Refusal::NoSuchArc),
-        no(Refusal::NoSuchNode),
-        no(Refusal::NotALandmark),
-        no(Refusal::AlreadyOpen),
-        accepted(1),
-        no(Refusal::AlreadyClosed),
-        durable(1),
-        no(Refusal::NothingPending),
-    ];
-    assert!(rt; run.replies.as_slice() == replies.as_slice());
-    assert!(rt; run.ended.is_none() && run.history.len() == 1);
-    Ok(())
-}
-
-// `close 7`, then a flush that is stopped within its call of this number, with this pick: the replies and what is kept.
-fn stopped_flush(alloc: Global, call: u64, pick: Pick) -> Result<(Vec<Replied>, usize), Refusal> {
+// Whether `close 7` and a flush that is stopped within its write or sync of this number, with this pick, have the replies of a run that
+// keeps so many commands. The flush makes four of them, so that a stop within the fifth comes behind it.
+fn keeps(alloc: Global, call: u64, pick: Pick, kept: u64) -> Result<bool, Refusal> {
     let events = [close(7), stop_within(alloc, call, pick, Writing::Flush)?];
     let run = rehearsed(alloc, 64, &events)?;
-    match run.ended {
-        None => Ok((run.replies, run.history.len())),
-        Some(refusal) => Err(refusal),
-    }
+    let is_told = if call < 5 {
+        run.replies.as_slice() == [accepted(1), opened(kept)].as_slice()
+    } else {
+        run.replies.as_slice() == [accepted(1), durable(1), opened(kept)].as_slice()
+    };
+    Ok(is_told && run.history.len() as u64 == kept)
 }
 
 #[test]
 fn stop_within_flush(rt: HostRuntime) -> Result<(), Fail> {
-    let alloc = rt.alloc();
-    for call in [1, 2] {
-        for pick in [Pick::Old, Pick::New, Pick::Byte(165), Pick::Byte(17)] {
-            let (replies, kept) = stopped_flush(alloc, call, pick)?;
-            assert!(rt; replies.as_slice() == [accepted(1), opened(0)].as_slice());
-            assert!(rt; kept == 0);
-        }
-    }
-    for call in [3, 4] {
-        for pick in [Pick::New, Pick::Byte(165)] {
-            let (replies, kept) = stopped_flush(alloc, call, pick)?;
-            assert!(rt; replies.as_slice() == [accepted(1), opened(1)].as_slice());
-            assert!(rt; kept == 1);
-        }
-        for pick in [Pick::Old, Pick::Byte(17)] {
-            let (replies, kept) = stopped_flush(alloc, call, pick)?;
-            assert!(rt; replies.as_slice() == [accepted(1), opened(0)].as_slice());
-            assert!(rt; kept == 0);
-        }
-    }
-    for pick in [Pick::Old, Pick::New, Pick::Byte(165), Pick::Byte(17)] {
-        let (replies, kept) = stopped_flush(alloc, 5, pick)?;
-        assert!(rt; replies.as_slice() == [accepted(1), durable(1), opened(1)].as_slice());
-        assert!(rt; kept == 1);
+    let table = [
+        (1, Pick::Old, 0),
+        (1, Pick::New, 0),
+        (1, Pick::Byte(165), 0),
+        (1, Pick::Byte(17), 0),
+        (2, Pick::Old, 0),
+        (2, Pick::New, 0),
+        (2, Pick::Byte(165), 0),
+        (2, Pick::Byte(17), 0),
+        (3, Pick::Old, 0),
+        (3, Pick::New, 1),
+        (3, Pick::Byte(165), 1),
+        (3, Pick::Byte(17), 0),
+        (4, Pick::Old, 0),
+        (4, Pick::New, 1),
+        (4, Pick::Byte(165), 1),
+        (4, Pick::Byte(17), 0),
+        (5, Pick::Old, 1),
+        (5, Pick::New, 1),
+        (5, Pick::Byte(165), 1),
+        (5, Pick::Byte(17), 1),
+    ];
+    for (call, pick, kept) in table {
+        assert!(rt; keeps(rt.alloc(), call, pick, kept)?);
     }
     Ok(())
+}
+
+// The head of the second slot after `close 7` and a checkpoint: epoch 2, version 1, next sequence 1, no landmarks.
+const HEAD_2: [u8; 28] =
+    *b"\x00\x00\x00\x00\x00\x00\x00\x02\x00\x00\x00\x00\x00\x00\x00\x01\x00\x00\x00\x00\x00\x00\x00\x01\x00\x00\x00\x00";
+
+// The page of a disk where the store of six nodes has the head of its second slot.
+fn head_of_second_slot(disk: &mut MemDisk) -> Result<[u8; 4096], Refusal> {
+    let Ok(length) = disk.len() else {
+        return Err(Refusal::Device);
+    };
+    if length < 20480 {
+        return Err(Refusal::Device);
+    }
+    let mut page = [0; 4096];
+    match disk.read(16384, &mut page) {
+        Ok(()) => Ok(page),
+        Err(_) => Err(Refusal::Device),
+    }
 }
 
 #[test]
@@ -270,98 +218,16 @@ fn stop_within_checkpoint(rt: HostRuntime) -> Result<(), Fail> {
         answered(1, 1, 6, Reply::Length(22)),
     ];
     assert!(rt; run.replies.as_slice() == replies.as_slice());
-    assert!(rt; run.ended.is_none() && run.history.len() == 1);
+    assert!(rt; run.history.len() == 1);
     // The slot that the last stop left is the second one, with its head's numbers.
-    let Ok(store) = open(alloc, run.disk) else {
+    let mut disk = run.disk;
+    let head = head_of_second_slot(&mut disk)?;
+    assert!(rt; head.starts_with(&HEAD_2) && head[28..4095].iter().all(|&byte| byte == 0));
+    assert_eq!(rt; head[4095], 165);
+    let Ok(store) = open(alloc, disk) else {
         return Err(Refusal::Device.into());
     };
     assert!(rt; store.version() == 1 && store.unchecked() == 0);
-    Ok(())
-}
-
-#[test]
-fn reuse_needs_a_checkpoint(rt: HostRuntime) -> Result<(), Fail> {
-    let alloc = rt.alloc();
-    let events = [
-        set(1, 1),
-        Event::Flush,
-        set(1, 2),
-        Event::Flush,
-        set(1, 3),
-        Event::Flush,
-        Event::Checkpoint,
-        stop_within(alloc, 3, Pick::Byte(170), Writing::Flush)?,
-        dist(1, 2),
-    ];
-    let run = rehearsed(alloc, 2, &events)?;
-    let replies = [
-        accepted(1),
-        durable(1),
-        accepted(2),
-        durable(2),
-        accepted(3),
-        no(Refusal::JournalFull),
-        durable(2),
-        opened(2),
-        answered(2, 1, 2, Reply::Length(2)),
-    ];
-    assert!(rt; run.replies.as_slice() == replies.as_slice());
-    assert!(rt; run.ended.is_none() && run.history.len() == 2);
-    Ok(())
-}
-
-#[test]
-fn closed_gate_is_not_rewritten(rt: HostRuntime) -> Result<(), Fail> {
-    let alloc = rt.alloc();
-    let events = [
-        set(1, 1),
-        Event::Flush,
-        set(1, 2),
-        Event::Flush,
-        set(1, 3),
-        Event::Flush,
-        Event::Checkpoint,
-        stop_within(alloc, 3, Pick::New, Writing::Flush)?,
-        dist(1, 2),
-        set(1, 9),
-        stop_within(alloc, 1, Pick::Byte(165), Writing::Flush)?,
-        dist(1, 2),
-    ];
-    let run = rehearsed(alloc, 2, &events)?;
-    let replies = [
-        accepted(1),
-        durable(1),
-        accepted(2),
-        durable(2),
-        accepted(3),
-        no(Refusal::JournalFull),
-        durable(2),
-        opened(2),
-        answered(2, 1, 2, Reply::Length(2)),
-        accepted(3),
-        opened(2),
-        answered(2, 1, 2, Reply::Length(2)),
-    ];
-    assert!(rt; run.replies.as_slice() == replies.as_slice());
-    assert!(rt; run.ended.is_none() && run.history.len() == 2);
-    Ok(())
-}
-
-#[test]
-fn full_page_of_commands(rt: HostRuntime) -> Result<(), Fail> {
-    let alloc = rt.alloc();
-    let mut events = Vec::new(alloc);
-    for _ in 0..254 {
-        events.push(set(1, 17))?;
-    }
-    events.push(Event::Flush)?;
-    events.push(Event::Stop)?;
-    let run = rehearsed(alloc, 64, &events)?;
-    assert!(rt; run.replies.len() == 256 && run.ended.is_none());
-    let mut replies = run.replies;
-    let last = [replies.pop(), replies.pop(), replies.pop()];
-    assert!(rt; last == [Some(opened(253)), Some(durable(253)), Some(accepted(254))]);
-    assert!(rt; run.history.len() == 253);
     Ok(())
 }
 
@@ -392,7 +258,6 @@ fn a_stop_forgets(rt: HostRuntime) -> Result<(), Fail> {
         opened(1),
     ];
     assert!(rt; run.replies.as_slice() == replies.as_slice());
-    assert!(rt; run.ended.is_none());
     assert!(rt; run.history.as_slice() == [Command::Close { arc: 7 }].as_slice());
     Ok(())
 }
@@ -401,6 +266,6 @@ fn a_stop_forgets(rt: HostRuntime) -> Result<(), Fail> {
 #[test]
 fn no_events(rt: HostRuntime) -> Result<(), Fail> {
     let run = rehearsed(rt.alloc(), 64, &[])?;
-    assert!(rt; run.replies.is_empty() && run.history.is_empty() && run.ended.is_none());
+    assert!(rt; run.replies.is_empty() && run.history.is_empty());
     Ok(())
 }

@@ -1,9 +1,10 @@
 // A keeper begun, armed and ended.
-ghost use Rattle.std.specs.Prelude.{◌≡◌, ◌≤◌, ◌↔◌, List, ℕ, false, IfOk, IfErr};
+ghost use Rattle.std.specs.Prelude.{◌≡◌, ◌≤◌, ◌↔◌, List, ℕ, false, unwrap_or, IfOk, IfErr};
 ghost use Rattle.std.specs.Option.{ForSome};
 ghost use Rattle.disk.specs.Stop.{armed_at};
 ghost use Rattle.pages.specs.Layout.{word_pages};
 ghost use Rattle.rows.specs.Kept.{IsWidth};
+ghost use Rattle.snapshot.specs.Groups.{default_width};
 ghost use Rattle.store.specs.Committing.{StandsTidily};
 ghost use Rattle.store.specs.Durable.{told_by};
 ghost use Rattle.machine.specs.Machine.{start};
@@ -32,6 +33,7 @@ fn first_view(
     requires { ForSome delta IsWidth }
     ensures version { IfOk result (λ view. view.value.version ≡ version) }
     ensures network { IfOk result (λ view. view.value.network ≡ network.now) }
+    ensures width { IfOk result (λ view. view.value.delta ≡ unwrap_or delta (default_width network.now)) }
 {
     let Ok(copy) = network.copy() else {
         return Err(OutOfMemory);
@@ -61,6 +63,7 @@ impl<D: Disk> Keeper<D> {
         ensures begins { IfOk result (λ keeper. keeper.machine ≡ start (record { journal_pages = store.header.journal_pages; slot_pages = word_pages store.header }) store.network store.version store.unchecked) }
         ensures disk { IfOk result (λ keeper. keeper.disk ≡ store.disk) }
         ensures standing { IfOk result (λ keeper. keeper.standing ≡ told_by store) }
+        ensures width { IfOk result (λ keeper. keeper.width ≡ unwrap_or delta (default_width store.network)) }
         ensures holds { D.honest store.disk → StandsTidily (D.content store.disk) (told_by store) → IfOk result (λ keeper. Holds (D.content keeper.disk) (D.left keeper.disk) keeper.machine keeper.standing) }
         ensures handed_back { IfErr result (λ refused. refused.1 ≡ store) }
     {
@@ -101,6 +104,7 @@ impl<D: Stoppable> Keeper<D> {
         requires { 1 ≤ k }
         ensures machine { self.new.machine ≡ self.old.machine }
         ensures standing { self.new.standing ≡ self.old.standing }
+        ensures width { self.new.width ≡ self.old.width }
         ensures holds { Holds (D.content self.old.disk) (D.left self.old.disk) self.old.machine self.old.standing → Holds (D.content self.new.disk) (D.left self.new.disk) self.new.machine self.new.standing }
         ensures armed { D.armed self.new.disk ≡ armed_at k (D.armed self.old.disk) }
         ensures content { D.content self.new.disk ≡ D.content self.old.disk }

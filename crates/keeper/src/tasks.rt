@@ -1,5 +1,5 @@
 // Views that are wanted: tasks handed out and given up, and the views of them shown.
-ghost use Rattle.std.specs.Prelude.{◌≡◌, Ok, Err, None, IfOk, IfErr, MatchResult, option_map};
+ghost use Rattle.std.specs.Prelude.{◌≡◌, Ok, Err, None, IfOk, IfErr, OnOk, OnErr, MatchResult, option_map};
 ghost use Rattle.roadnet.specs.declared.refusals.Refusal.TheVariants.{OutOfMemory as out_of_memory};
 ghost use Rattle.machine.specs.Calls.{TakesTask, without_task, IsTask, RefusesView, Publishes};
 ghost use Rattle.keeper.specs.Keeping.{Holds};
@@ -52,6 +52,7 @@ impl<D: Disk> Keeper<D> {
         ensures step { MatchResult result (λ task. TakesTask self.old.machine (Ok (option_map (λ t. (t.version, t.network.value)) task)) self.new.machine) (λ _. TakesTask self.old.machine (Err out_of_memory) self.new.machine) }
         ensures disk { self.new.disk ≡ self.old.disk }
         ensures standing { self.new.standing ≡ self.old.standing }
+        ensures width { self.new.width ≡ self.old.width }
         ensures holds { Holds (D.content self.old.disk) (D.left self.old.disk) self.old.machine self.old.standing → Holds (D.content self.new.disk) (D.left self.new.disk) self.new.machine self.new.standing }
     {
         if self.task.is_some() || self.view.version() == self.store.version() {
@@ -74,6 +75,7 @@ impl<D: Disk> Keeper<D> {
         ensures step { self.new.machine ≡ without_task self.old.machine version }
         ensures disk { self.new.disk ≡ self.old.disk }
         ensures standing { self.new.standing ≡ self.old.standing }
+        ensures width { self.new.width ≡ self.old.width }
         ensures holds { Holds (D.content self.old.disk) (D.left self.old.disk) self.old.machine self.old.standing → Holds (D.content self.new.disk) (D.left self.new.disk) self.new.machine self.new.standing }
     {
         if let Some(task) = &self.task
@@ -105,6 +107,8 @@ impl<D: Disk> Keeper<D> {
         ensures handed_back { IfErr result (λ refused. refused.1 ≡ view) }
         ensures disk { self.new.disk ≡ self.old.disk }
         ensures standing { self.new.standing ≡ self.old.standing }
+        ensures width { OnOk result (self.new.width ≡ view.value.delta) }
+        ensures same_width { OnErr result (self.new.width ≡ self.old.width) }
         ensures holds { Holds (D.content self.old.disk) (D.left self.old.disk) self.old.machine self.old.standing → Holds (D.content self.new.disk) (D.left self.new.disk) self.new.machine self.new.standing }
     {
         if let Err(refusal) = self.may_publish(&view) {

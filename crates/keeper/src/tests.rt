@@ -14,6 +14,51 @@ use store::{Part, Store, create, open};
 
 const CLOSE: Command = Command::Close { arc: 7 };
 
+const OPEN: Command = Command::Reopen { arc: 7 };
+
+// It leaves the network as it is.
+const SAME: Command = Command::Set { arc: 1, length: 17 };
+
+// A call of a keeper.
+#[derive(Clone, Copy)]
+enum Call {
+    Submit(Command),
+    // A command is submitted so many times. The last number is told, or the first refusal.
+    Fill(u64, Command),
+    Flush,
+    // A step of a checkpoint, of 64 pages.
+    Step,
+    Task,
+    GiveUp(u64),
+    // A task is taken, and the view of it shown.
+    Show,
+    // A view of this version and of the network of the worked rows is offered, with the seventh arc closed or not.
+    Offer(u64, bool),
+    Dist(u64, u64),
+    Pending,
+    Durable,
+    Shown,
+    Unchecked,
+    JournalPages,
+}
+
+// What a keeper tells.
+#[derive(Clone, Copy, Debug, PartialEq)]
+enum Told {
+    Number(u64),
+    // A reply, with its version.
+    Reply(u64, Reply),
+    Nothing,
+    Refused(Refusal),
+}
+
+// The first call that was told something else, and what; or why there is no keeper.
+#[derive(Clone, Copy, Debug)]
+struct Wrong {
+    at: usize,
+    told: Told,
+}
+
 // A network of these arcs, without landmarks.
 fn network(alloc: Global, nodes: u32, table: &[(u32, u32, u32)]) -> Result<Network, Refusal> {
     let mut arcs = Vec::new(alloc);
@@ -67,6 +112,17 @@ fn keeper(alloc: Global, network: &Network, journal_pages: u32) -> Result<Keeper
     }
 }
 
+// A keeper of a new store of the network of the worked rows.
+fn keeper_of_six(alloc: Global, journal_pages: u32) -> Result<Keeper<MemDisk>, Refusal>
+    requires some { 1 ≤ journal_pages }
+    requires few { journal_pages ≤ 65536 }
+{
+    match six(alloc) {
+        Ok(network) => keeper(alloc, &network, journal_pages),
+        Err(refusal) => Err(refusal),
+    }
+}
+
 // A keeper of what this disk has.
 fn reopened<D: Disk + Drop>(alloc: Global, disk: D) -> Result<Keeper<D>, Refusal> {
     match open(alloc, disk) {
@@ -75,105 +131,190 @@ fn reopened<D: Disk + Drop>(alloc: Global, disk: D) -> Result<Keeper<D>, Refusal
     }
 }
 
-// Takes a task, builds its view and shows it. It answers the version, or none where there is no task.
-fn show<D: Disk>(alloc: Global, keeper: &mut Keeper<D>) -> Result<Option<u64>, Refusal> {
-    let Some(task) = keeper.take_task()? else {
-        return Ok(None);
-    };
-    let view = View::build(alloc, task.version, task.network.copy()?, None, &Solo)?;
-    let Ok(view) = Arc::new(alloc, view) else {
+// A keeper of what a stop with this pick leaves of the keeper's disk, how many commands it had accepted, and whether an armed call came.
+fn stopped<D: Stoppable + Drop>(
+    alloc: Global,
+    keeper: Keeper<D>,
+    pick: Pick,
+) -> (Result<Keeper<D>, Refusal>, usize, bool) {
+    let (history, mut disk) = keeper.close();
+    let came = disk.stop(&[pick]);
+    (reopened(alloc, disk), history.len(), came)
+}
+
+// A view of this network.
+fn view(alloc: Global, version: u64, network: Network) -> Result<Arc<View>, Refusal> {
+    let Ok(view) = View::build(alloc, version, network, None, &Solo) else {
         return Err(Refusal::OutOfMemory);
     };
-    match keeper.publish(view) {
-        Ok(shown) => Ok(Some(shown)),
-        Err((refusal, _)) => Err(refusal),
+    match Arc::new(alloc, view) {
+        Ok(view) => Ok(view),
+        Err(_) => Err(Refusal::OutOfMemory),
     }
 }
 
-// The number that the command is accepted as.
-fn number<D: Disk>(keeper: &mut Keeper<D>, command: Command) -> Result<u64, Refusal> {
-    let ticket = keeper.submit(command)?;
-    if ticket.command != command {
-        return Err(Refusal::NotYet);
+fn number(told: Result<u64, Refusal>) -> Told {
+    match told {
+        Ok(number) => Told::Number(number),
+        Err(refusal) => Told::Refused(refusal),
     }
-    Ok(ticket.number)
 }
 
-fn flush<D: Disk>(keeper: &mut Keeper<D>) -> Result<u64, Refusal> {
-    keeper.flush()
+fn submit<D: Disk>(keeper: &mut Keeper<D>, command: Command) -> Told {
+    match keeper.submit(command) {
+        Ok(ticket) => Told::Number(ticket.number),
+        Err(refusal) => Told::Refused(refusal),
+    }
 }
 
-fn step<D: Disk>(keeper: &mut Keeper<D>) -> Result<Part, Refusal> {
-    keeper.checkpoint_step(64)
-}
-
-// The history and the disk.
-fn closed<D: Disk>(keeper: Keeper<D>) -> (Vec<Command>, D) {
-    keeper.close()
-}
-
-// How many commands are pending, the durable version and the shown one.
-fn versions<D: Disk>(keeper: &Keeper<D>) -> (u64, u64, u64) {
-    (keeper.pending(), keeper.durable(), keeper.shown())
-}
-
-// The unchecked pages of the journal, and all.
-fn pages<D: Disk>(keeper: &Keeper<D>) -> (u32, u32) {
-    (keeper.unchecked(), keeper.journal_pages())
-}
-
-// Submits the command, flushes it and shows it. It answers the number, the durable version and the shown one.
-fn changed<D: Disk>(
-    alloc: Global,
-    keeper: &mut Keeper<D>,
-    command: Command,
-) -> Result<(u64, u64, Option<u64>), Refusal> {
-    let number = number(keeper, command)?;
-    let durable = flush(keeper)?;
-    let shown = show(alloc, keeper)?;
-    Ok((number, durable, shown))
-}
-
-// The reply of a query from one node to another, with its version.
-fn dist<D: Disk>(
-    keeper: &mut Keeper<D>,
-    source: u64,
-    target: u64,
-) -> Result<(u64, Reply), Refusal> {
-    let answer = keeper.ask(Query::Dist { source, target })?;
-    Ok((answer.version, answer.reply))
-}
-
-// Submits a command so many times. It answers whether the tickets are numbered from 1 on.
-fn fills<D: Disk>(keeper: &mut Keeper<D>, command: Command, count: u64) -> bool {
-    for at in 0..count {
-        if number(keeper, command) != Ok(at + 1) {
-            return false;
+fn fill<D: Disk>(keeper: &mut Keeper<D>, count: u64, command: Command) -> Told {
+    let mut told = Told::Nothing;
+    for _ in 0..count {
+        told = submit(keeper, command);
+        if let Told::Refused(_) = told {
+            return told;
         }
     }
-    true
+    told
 }
 
-// A command, its receipt before the flush and behind it, and the flush.
-fn received<D: Disk>(
-    keeper: &mut Keeper<D>,
-    command: Command,
-) -> Result<(Refused, Result<u64, Refusal>, Refused), Refusal> {
-    let ticket = submitted(keeper, command)?;
-    let before = refused(keeper.receipt(&ticket), &ticket);
-    let (answer, receipt) = flushed(keeper, &ticket);
-    Ok((before, answer, refused(receipt, &ticket)))
-}
-
-type Refused = Option<Refusal>;
-
-// Why there is no receipt. One that is not the ticket's is told as 62.
-fn refused(receipt: Result<Receipt, Refusal>, ticket: &Ticket) -> Refused {
-    match receipt {
-        Ok(receipt) if receipt.number == ticket.number && receipt.command == ticket.command => None,
-        Ok(_) => Some(Refusal::HistoryFull),
-        Err(refusal) => Some(refusal),
+fn step<D: Disk>(keeper: &mut Keeper<D>) -> Told {
+    match keeper.checkpoint_step(64) {
+        Ok(Part::Done(version)) => Told::Number(version),
+        Ok(Part::Going) => Told::Nothing,
+        Err(refusal) => Told::Refused(refusal),
     }
+}
+
+fn task<D: Disk>(keeper: &mut Keeper<D>) -> Told {
+    match keeper.take_task() {
+        Ok(Some(task)) => Told::Number(task.version),
+        Ok(None) => Told::Nothing,
+        Err(_) => Told::Refused(Refusal::OutOfMemory),
+    }
+}
+
+// The view is published, and it is known before what is told.
+fn publish<D: Disk>(keeper: &mut Keeper<D>, view: Arc<View>) -> Told {
+    let may = keeper.may_publish(&view);
+    match keeper.publish(view) {
+        Ok(_) if may.is_err() => Told::Nothing,
+        Ok(version) => Told::Number(version),
+        Err((refusal, _)) if may == Err(refusal) => Told::Refused(refusal),
+        Err(_) => Told::Nothing,
+    }
+}
+
+fn show<D: Disk>(alloc: Global, keeper: &mut Keeper<D>) -> Told {
+    let Ok(task) = keeper.take_task() else {
+        return Told::Refused(Refusal::OutOfMemory);
+    };
+    let Some(task) = task else {
+        return Told::Nothing;
+    };
+    let Ok(network) = task.network.copy() else {
+        return Told::Refused(Refusal::OutOfMemory);
+    };
+    match view(alloc, task.version, network) {
+        Ok(view) => publish(keeper, view),
+        Err(refusal) => Told::Refused(refusal),
+    }
+}
+
+fn offer<D: Disk>(alloc: Global, keeper: &mut Keeper<D>, version: u64, closed: bool) -> Told {
+    let Ok(mut network) = six(alloc) else {
+        return Told::Refused(Refusal::OutOfMemory);
+    };
+    if closed {
+        let _ = network.apply(CLOSE);
+    }
+    match view(alloc, version, network) {
+        Ok(view) => publish(keeper, view),
+        Err(refusal) => Told::Refused(refusal),
+    }
+}
+
+fn dist<D: Disk>(keeper: &mut Keeper<D>, source: u64, target: u64) -> Told {
+    match keeper.ask(Query::Dist { source, target }) {
+        Ok(answer) => Told::Reply(answer.version, answer.reply),
+        Err(_) => Told::Refused(Refusal::OutOfMemory),
+    }
+}
+
+// What the keeper tells at a call.
+fn reply_to<D: Disk>(alloc: Global, keeper: &mut Keeper<D>, call: Call) -> Told {
+    match call {
+        Call::Submit(command) => submit(keeper, command),
+        Call::Fill(count, command) => fill(keeper, count, command),
+        Call::Flush => number(keeper.flush()),
+        Call::Step => step(keeper),
+        Call::Task => task(keeper),
+        Call::GiveUp(version) => {
+            keeper.give_up(version);
+            Told::Nothing
+        }
+        Call::Show => show(alloc, keeper),
+        Call::Offer(version, closed) => offer(alloc, keeper, version, closed),
+        Call::Dist(source, target) => dist(keeper, source, target),
+        Call::Pending => Told::Number(keeper.pending()),
+        Call::Durable => Told::Number(keeper.durable()),
+        Call::Shown => Told::Number(keeper.shown()),
+        Call::Unchecked => Told::Number(u64::from(keeper.unchecked())),
+        Call::JournalPages => Told::Number(u64::from(keeper.journal_pages())),
+    }
+}
+
+// Makes these calls in turn, up to the first that is told something else.
+fn plays<D: Disk>(
+    alloc: Global,
+    keeper: &mut Keeper<D>,
+    table: &[(Call, Told)],
+) -> Result<(), Wrong> {
+    for at in 0..table.len() {
+        let (call, want) = table[at];
+        let told = reply_to(alloc, keeper, call);
+        if told != want {
+            return Err(Wrong { at, told });
+        }
+    }
+    Ok(())
+}
+
+// The keeper, once it was told what the table says.
+fn played<D: Disk + Drop>(
+    alloc: Global,
+    keeper: Result<Keeper<D>, Refusal>,
+    table: &[(Call, Told)],
+) -> Result<Keeper<D>, Wrong> {
+    let mut keeper = match keeper {
+        Ok(keeper) => keeper,
+        Err(refusal) => {
+            return Err(Wrong {
+                at: 0,
+                told: Told::Refused(refusal),
+            });
+        }
+    };
+    match plays(alloc, &mut keeper, table) {
+        Ok(()) => Ok(keeper),
+        Err(wrong) => Err(wrong),
+    }
+}
+
+// The same, and the keeper is let go.
+fn plays_on<D: Disk + Drop>(
+    alloc: Global,
+    keeper: Result<Keeper<D>, Refusal>,
+    table: &[(Call, Told)],
+) -> Result<(), Wrong> {
+    match played(alloc, keeper, table) {
+        Ok(_) => Ok(()),
+        Err(wrong) => Err(wrong),
+    }
+}
+
+fn plays_on_six(alloc: Global, table: &[(Call, Told)]) -> Result<(), Wrong> {
+    plays_on(alloc, keeper_of_six(alloc, 64), table)
 }
 
 // A ticket of this life.
@@ -195,150 +336,154 @@ fn flushed<D: Disk>(
     (answer, receipt)
 }
 
-// Whether the view is refused, told beforehand and then, with this refusal.
-fn refuses<D: Disk>(keeper: &mut Keeper<D>, view: Arc<View>, want: Refusal) -> bool {
-    if keeper.may_publish(&view) != Err(want) {
-        return false;
-    }
-    match keeper.publish(view) {
-        Ok(_) => false,
-        Err((refusal, _)) => refusal == want,
-    }
-}
+// What is told at a submit, of the receipt, of a flush and of the receipt behind it.
+type Received = (
+    Result<Receipt, Refusal>,
+    Result<u64, Refusal>,
+    Result<Receipt, Refusal>,
+);
 
-// A view of this network.
-fn view(alloc: Global, version: u64, network: Network) -> Result<Arc<View>, Refusal> {
-    let view = View::build(alloc, version, network, None, &Solo)?;
-    match Arc::new(alloc, view) {
-        Ok(view) => Ok(view),
-        Err(_) => Err(Refusal::OutOfMemory),
-    }
+fn received<D: Disk>(keeper: &mut Keeper<D>, command: Command) -> Result<Received, Refusal> {
+    let ticket = match submitted(keeper, command) {
+        Ok(ticket) => ticket,
+        Err(refusal) => return Err(refusal),
+    };
+    let before = keeper.receipt(&ticket);
+    let (answer, behind) = flushed(keeper, &ticket);
+    Ok((before, answer, behind))
 }
 
 #[test]
-fn closed_arc_lengthens(rt: HostRuntime) -> Result<(), Fail> {
-    let alloc = rt.alloc();
-    let mut keeper = keeper(alloc, &six(alloc)?, 64)?;
-    assert_eq!(rt; number(&mut keeper, CLOSE), Ok(1));
-    assert_eq!(rt; flush(&mut keeper), Ok(1));
-    assert!(rt; dist(&mut keeper, 1, 6)? == (0, Reply::Length(15)));
-    assert_eq!(rt; show(alloc, &mut keeper)?, Some(1));
-    assert!(rt; dist(&mut keeper, 1, 6)? == (1, Reply::Length(22)));
-    Ok(())
-}
-
-#[test]
-fn shorter_length_shortens(rt: HostRuntime) -> Result<(), Fail> {
-    let alloc = rt.alloc();
-    let mut keeper = keeper(alloc, &six(alloc)?, 64)?;
-    assert_eq!(rt; changed(alloc, &mut keeper, CLOSE)?, (1, 1, Some(1)));
-    assert!(rt; dist(&mut keeper, 1, 6)? == (1, Reply::Length(22)));
-    let shorter = Command::Set { arc: 8, length: 4 };
-    assert_eq!(rt; changed(alloc, &mut keeper, shorter)?, (2, 2, Some(2)));
-    assert!(rt; dist(&mut keeper, 1, 6)? == (2, Reply::Length(14)));
-    let reopen = Command::Reopen { arc: 7 };
-    assert_eq!(rt; changed(alloc, &mut keeper, reopen)?, (3, 3, Some(3)));
-    assert!(rt; dist(&mut keeper, 1, 6)? == (3, Reply::Length(14)));
-    Ok(())
-}
-
-#[test]
-fn second_close_refused(rt: HostRuntime) -> Result<(), Fail> {
-    let alloc = rt.alloc();
-    let mut keeper = keeper(alloc, &six(alloc)?, 64)?;
-    assert_eq!(rt; number(&mut keeper, CLOSE), Ok(1));
-    assert_eq!(rt; number(&mut keeper, CLOSE), Err(Refusal::AlreadyClosed));
-    assert_eq!(rt; flush(&mut keeper), Ok(1));
-    assert_eq!(rt; flush(&mut keeper), Err(Refusal::NothingPending));
-    Ok(())
-}
-
-#[test]
-fn refusals_of_commands(rt: HostRuntime) -> Result<(), Fail> {
-    let alloc = rt.alloc();
-    let mut keeper = keeper(alloc, &six(alloc)?, 64)?;
-    let long = 2147483648;
+fn closed_arc_lengthens(rt: HostRuntime) -> Result<(), Wrong> {
     let table = [
-        (Command::Set { arc: 9, length: 1 }, Refusal::NoSuchArc),
-        (
-            Command::Set {
-                arc: 1,
-                length: long,
-            },
-            Refusal::LengthRange,
-        ),
-        (
-            Command::Set {
-                arc: 9,
-                length: long,
-            },
-            Refusal::NoSuchArc,
-        ),
-        (Command::Mark { node: 7 }, Refusal::NoSuchNode),
-        (Command::Unmark { node: 3 }, Refusal::NotALandmark),
-        (Command::Reopen { arc: 7 }, Refusal::AlreadyOpen),
+        (Call::Submit(CLOSE), Told::Number(1)),
+        (Call::Flush, Told::Number(1)),
+        (Call::Dist(1, 6), Told::Reply(0, Reply::Length(15))),
+        (Call::Show, Told::Number(1)),
+        (Call::Dist(1, 6), Told::Reply(1, Reply::Length(22))),
     ];
-    for (command, want) in table {
-        assert_eq!(rt; number(&mut keeper, command), Err(want));
+    plays_on_six(rt.alloc(), &table)
+}
+
+#[test]
+fn shorter_length_shortens(rt: HostRuntime) -> Result<(), Wrong> {
+    let shorter = Command::Set { arc: 8, length: 4 };
+    let table = [
+        (Call::Submit(CLOSE), Told::Number(1)),
+        (Call::Flush, Told::Number(1)),
+        (Call::Show, Told::Number(1)),
+        (Call::Dist(1, 6), Told::Reply(1, Reply::Length(22))),
+        (Call::Submit(shorter), Told::Number(2)),
+        (Call::Flush, Told::Number(2)),
+        (Call::Show, Told::Number(2)),
+        (Call::Dist(1, 6), Told::Reply(2, Reply::Length(14))),
+        (Call::Submit(OPEN), Told::Number(3)),
+        (Call::Flush, Told::Number(3)),
+        (Call::Show, Told::Number(3)),
+        (Call::Dist(1, 6), Told::Reply(3, Reply::Length(14))),
+    ];
+    plays_on_six(rt.alloc(), &table)
+}
+
+#[test]
+fn second_close_refused(rt: HostRuntime) -> Result<(), Wrong> {
+    let table = [
+        (Call::Submit(CLOSE), Told::Number(1)),
+        (Call::Submit(CLOSE), Told::Refused(Refusal::AlreadyClosed)),
+        (Call::Flush, Told::Number(1)),
+        (Call::Flush, Told::Refused(Refusal::NothingPending)),
+    ];
+    plays_on_six(rt.alloc(), &table)
+}
+
+// A `set` that is refused with this.
+fn unset(arc: u64, length: u64, refusal: Refusal) -> (Call, Told) {
+    (
+        Call::Submit(Command::Set { arc, length }),
+        Told::Refused(refusal),
+    )
+}
+
+#[test]
+fn refusals_of_commands(rt: HostRuntime) -> Result<(), Wrong> {
+    let mark = Call::Submit(Command::Mark { node: 7 });
+    let unmark = Call::Submit(Command::Unmark { node: 3 });
+    let table = [
+        unset(9, 1, Refusal::NoSuchArc),
+        unset(1, 2147483648, Refusal::LengthRange),
+        unset(9, 2147483648, Refusal::NoSuchArc),
+        (mark, Told::Refused(Refusal::NoSuchNode)),
+        (unmark, Told::Refused(Refusal::NotALandmark)),
+        (Call::Submit(OPEN), Told::Refused(Refusal::AlreadyOpen)),
+        (Call::Pending, Told::Number(0)),
+        (Call::Durable, Told::Number(0)),
+        (Call::Shown, Told::Number(0)),
+    ];
+    plays_on_six(rt.alloc(), &table)
+}
+
+// A keeper of two nodes, with two arcs between them and a loop.
+fn keeper_of_two(alloc: Global) -> Result<Keeper<MemDisk>, Refusal> {
+    match network(alloc, 2, &[(1, 2, 5), (1, 2, 3), (1, 1, 0)]) {
+        Ok(network) => keeper(alloc, &network, 64),
+        Err(refusal) => Err(refusal),
     }
-    assert_eq!(rt; versions(&keeper), (0, 0, 0));
-    Ok(())
 }
 
 #[test]
-fn parallel_arcs_and_loops(rt: HostRuntime) -> Result<(), Fail> {
+fn parallel_arcs_and_loops(rt: HostRuntime) -> Result<(), Wrong> {
     let alloc = rt.alloc();
-    let network = network(alloc, 2, &[(1, 2, 5), (1, 2, 3), (1, 1, 0)])?;
-    let mut keeper = keeper(alloc, &network, 64)?;
-    assert!(rt; dist(&mut keeper, 1, 2)? == (0, Reply::Length(3)));
-    let close = Command::Close { arc: 2 };
-    assert_eq!(rt; changed(alloc, &mut keeper, close)?, (1, 1, Some(1)));
-    assert!(rt; dist(&mut keeper, 1, 2)? == (1, Reply::Length(5)));
-    Ok(())
+    let table = [
+        (Call::Dist(1, 2), Told::Reply(0, Reply::Length(3))),
+        (Call::Submit(Command::Close { arc: 2 }), Told::Number(1)),
+        (Call::Flush, Told::Number(1)),
+        (Call::Show, Told::Number(1)),
+        (Call::Dist(1, 2), Told::Reply(1, Reply::Length(5))),
+    ];
+    plays_on(alloc, keeper_of_two(alloc), &table)
 }
 
 #[test]
-fn full_page_of_commands(rt: HostRuntime) -> Result<(), Fail> {
+fn full_page_of_commands(rt: HostRuntime) -> Result<(), Wrong> {
     let alloc = rt.alloc();
-    let mut keeper = keeper(alloc, &six(alloc)?, 64)?;
-    assert!(rt; fills(&mut keeper, Command::Set { arc: 1, length: 17 }, 254));
-    assert_eq!(rt; flush(&mut keeper), Ok(253));
-    assert_eq!(rt; versions(&keeper), (1, 253, 0));
-    let (history, mut disk) = closed(keeper);
-    assert_eq!(rt; history.len(), 254);
-    let _ = disk.stop(&[Pick::New]);
-    let keeper = reopened(alloc, disk)?;
-    assert_eq!(rt; versions(&keeper), (0, 253, 253));
-    Ok(())
+    let table = [
+        (Call::Fill(254, SAME), Told::Number(254)),
+        (Call::Flush, Told::Number(253)),
+        (Call::Pending, Told::Number(1)),
+        (Call::Durable, Told::Number(253)),
+        (Call::Shown, Told::Number(0)),
+    ];
+    let keeper = played(alloc, keeper_of_six(alloc, 64), &table)?;
+    let (reopened, accepted, _) = stopped(alloc, keeper, Pick::New);
+    assert!(rt; accepted == 254);
+    let left = [
+        (Call::Pending, Told::Number(0)),
+        (Call::Durable, Told::Number(253)),
+        (Call::Shown, Told::Number(253)),
+    ];
+    plays_on(alloc, reopened, &left)
 }
 
 #[test]
-fn queue_is_full_at_4096(rt: HostRuntime) -> Result<(), Fail> {
-    let alloc = rt.alloc();
-    let mut keeper = keeper(alloc, &six(alloc)?, 64)?;
-    let command = Command::Set { arc: 1, length: 17 };
-    assert!(rt; fills(&mut keeper, command, 4096));
-    assert_eq!(rt; number(&mut keeper, command), Err(Refusal::QueueFull));
-    // It is told before what the command would be refused for.
-    let open = Command::Reopen { arc: 7 };
-    assert_eq!(rt; number(&mut keeper, open), Err(Refusal::QueueFull));
-    assert_eq!(rt; flush(&mut keeper), Ok(253));
-    assert_eq!(rt; number(&mut keeper, command), Ok(4097));
-    Ok(())
+fn queue_is_full_at_4096(rt: HostRuntime) -> Result<(), Wrong> {
+    let table = [
+        (Call::Fill(4096, SAME), Told::Number(4096)),
+        (Call::Submit(SAME), Told::Refused(Refusal::QueueFull)),
+        // It is told before what the command would be refused for.
+        (Call::Submit(OPEN), Told::Refused(Refusal::QueueFull)),
+        (Call::Flush, Told::Number(253)),
+        (Call::Submit(SAME), Told::Number(4097)),
+    ];
+    plays_on_six(rt.alloc(), &table)
 }
 
 // A keeper whose first flush fails at its second sync. Opening makes nine calls of the disk; the flush reads the gate, writes the body,
 // syncs, opens the gate, and then its second sync fails.
 fn failing(alloc: Global) -> Result<Keeper<FailOnce<MemDisk>>, Refusal> {
-    let (_, disk) = closed(keeper(alloc, &six(alloc)?, 64)?);
-    reopened(alloc, FailOnce::new(disk, 9 + 5))
-}
-
-// A keeper of what a stop leaves of the disk inside.
-fn stopped(alloc: Global, disk: FailOnce<MemDisk>) -> Result<Keeper<MemDisk>, Refusal> {
-    let mut disk = disk.into_inner();
-    let _ = disk.stop(&[Pick::Old]);
-    reopened(alloc, disk)
+    match keeper_of_six(alloc, 64) {
+        Ok(keeper) => reopened(alloc, FailOnce::new(keeper.close().1, 9 + 5)),
+        Err(refusal) => Err(refusal),
+    }
 }
 
 #[test]
@@ -348,104 +493,122 @@ fn sync_fails_once(rt: HostRuntime) -> Result<(), Fail> {
     let told = received(&mut keeper, CLOSE)?;
     assert!(rt;
         told == (
-            Some(Refusal::NotYet),
+            Err(Refusal::NotYet),
             Err(Refusal::Device),
-            Some(Refusal::Broken)
+            Err(Refusal::Broken)
         )
     );
-    assert_eq!(rt; number(&mut keeper, CLOSE), Err(Refusal::Broken));
-    assert_eq!(rt; flush(&mut keeper), Err(Refusal::Broken));
-    assert!(rt; step(&mut keeper) == Err(Refusal::Broken));
-    assert!(rt; dist(&mut keeper, 1, 6)? == (0, Reply::Length(15)));
+    let table = [
+        (Call::Submit(CLOSE), Told::Refused(Refusal::Broken)),
+        (Call::Flush, Told::Refused(Refusal::Broken)),
+        (Call::Step, Told::Refused(Refusal::Broken)),
+        (Call::Dist(1, 6), Told::Reply(0, Reply::Length(15))),
+    ];
+    plays(alloc, &mut keeper, &table)?;
     Ok(())
 }
 
 #[test]
-fn failed_flush_is_there_when_opened(rt: HostRuntime) -> Result<(), Fail> {
+fn failed_flush_is_there_when_opened(rt: HostRuntime) -> Result<(), Wrong> {
     let alloc = rt.alloc();
-    let mut keeper = failing(alloc)?;
-    assert_eq!(rt; number(&mut keeper, CLOSE), Ok(1));
-    assert_eq!(rt; flush(&mut keeper), Err(Refusal::Device));
-    let (_, disk) = closed(keeper);
-    let keeper = reopened(alloc, disk)?;
-    assert_eq!(rt; versions(&keeper), (0, 1, 1));
-    let (_, disk) = closed(keeper);
-    let mut keeper = stopped(alloc, disk)?;
-    assert!(rt; dist(&mut keeper, 1, 6)? == (1, Reply::Length(22)));
-    Ok(())
+    let table = [
+        (Call::Submit(CLOSE), Told::Number(1)),
+        (Call::Flush, Told::Refused(Refusal::Device)),
+    ];
+    let keeper = played(alloc, failing(alloc), &table)?;
+    let keeper = reopened(alloc, keeper.close().1);
+    let left = [
+        (Call::Pending, Told::Number(0)),
+        (Call::Durable, Told::Number(1)),
+        (Call::Shown, Told::Number(1)),
+    ];
+    let keeper = played(alloc, keeper, &left)?;
+    let mut disk = keeper.close().1.into_inner();
+    let _ = disk.stop(&[Pick::Old]);
+    let reply = [(Call::Dist(1, 6), Told::Reply(1, Reply::Length(22)))];
+    plays_on(alloc, reopened(alloc, disk), &reply)
 }
 
 #[test]
 fn receipt_behind_a_flush(rt: HostRuntime) -> Result<(), Fail> {
     let alloc = rt.alloc();
-    let mut keeper = keeper(alloc, &six(alloc)?, 64)?;
-    let told = received(&mut keeper, CLOSE)?;
-    assert!(rt; told == (Some(Refusal::NotYet), Ok(1), None));
-    Ok(())
-}
-
-#[test]
-fn checkpoint_frees_the_journal(rt: HostRuntime) -> Result<(), Fail> {
-    let alloc = rt.alloc();
-    let mut keeper = keeper(alloc, &six(alloc)?, 2)?;
-    assert!(rt; step(&mut keeper) == Ok(Part::Done(0)));
-    for length in 1..=2 {
-        let command = Command::Set { arc: 1, length };
-        assert_eq!(rt; number(&mut keeper, command), Ok(length));
-        assert_eq!(rt; flush(&mut keeper), Ok(length));
-    }
-    assert_eq!(rt; pages(&keeper), (2, 2));
-    assert_eq!(rt; number(&mut keeper, CLOSE), Ok(3));
-    assert_eq!(rt; flush(&mut keeper), Err(Refusal::JournalFull));
-    assert!(rt; step(&mut keeper) == Ok(Part::Done(2)));
-    assert_eq!(rt; pages(&keeper), (0, 2));
-    assert_eq!(rt; flush(&mut keeper), Ok(3));
-    let (_, disk) = closed(keeper);
-    let mut keeper = reopened(alloc, disk)?;
-    assert_eq!(rt; pages(&keeper), (1, 2));
-    assert!(rt; dist(&mut keeper, 1, 6)? == (3, Reply::Length(7)));
-    Ok(())
-}
-
-#[test]
-fn another_view_is_refused(rt: HostRuntime) -> Result<(), Fail> {
-    let alloc = rt.alloc();
-    let mut keeper = keeper(alloc, &six(alloc)?, 64)?;
-    assert!(rt; refuses(&mut keeper, view(alloc, 1, six(alloc)?)?, Refusal::NoTask));
-    assert_eq!(rt; number(&mut keeper, CLOSE), Ok(1));
-    assert_eq!(rt; show(alloc, &mut keeper)?, None);
-    assert_eq!(rt; flush(&mut keeper), Ok(1));
-    let Some(task) = keeper.take_task()? else {
-        return Err(Refusal::NoTask.into());
+    let told = received(&mut keeper_of_six(alloc, 64)?, CLOSE)?;
+    let receipt = Receipt {
+        number: 1,
+        command: CLOSE,
     };
-    assert_eq!(rt; show(alloc, &mut keeper)?, None);
-    // A view of the task's version with the network before it, and one of its network at another version.
-    assert!(rt;
-        refuses(
-            &mut keeper,
-            view(alloc, 1, six(alloc)?)?,
-            Refusal::OtherNetwork
-        )
-    );
-    let copy = task.network.copy()?;
-    assert!(rt; refuses(&mut keeper, view(alloc, 2, copy)?, Refusal::OtherNetwork));
-    keeper.give_up(2);
-    assert_eq!(rt; show(alloc, &mut keeper)?, None);
-    keeper.give_up(1);
-    assert_eq!(rt; show(alloc, &mut keeper)?, Some(1));
+    assert!(rt; told == (Err(Refusal::NotYet), Ok(1), Ok(receipt)));
     Ok(())
+}
+
+#[test]
+fn checkpoint_frees_the_journal(rt: HostRuntime) -> Result<(), Wrong> {
+    let alloc = rt.alloc();
+    let table = [
+        (Call::Step, Told::Number(0)),
+        (Call::Submit(SAME), Told::Number(1)),
+        (Call::Flush, Told::Number(1)),
+        (
+            Call::Submit(Command::Set { arc: 1, length: 2 }),
+            Told::Number(2),
+        ),
+        (Call::Flush, Told::Number(2)),
+        (Call::Unchecked, Told::Number(2)),
+        (Call::JournalPages, Told::Number(2)),
+        (Call::Submit(CLOSE), Told::Number(3)),
+        (Call::Flush, Told::Refused(Refusal::JournalFull)),
+        (Call::Step, Told::Number(2)),
+        (Call::Unchecked, Told::Number(0)),
+        (Call::Flush, Told::Number(3)),
+    ];
+    let keeper = played(alloc, keeper_of_six(alloc, 2), &table)?;
+    let left = [
+        (Call::Unchecked, Told::Number(1)),
+        (Call::JournalPages, Told::Number(2)),
+        (Call::Dist(1, 6), Told::Reply(3, Reply::Length(7))),
+    ];
+    plays_on(alloc, reopened(alloc, keeper.close().1), &left)
+}
+
+#[test]
+fn another_view_is_refused(rt: HostRuntime) -> Result<(), Wrong> {
+    let other = Told::Refused(Refusal::OtherNetwork);
+    let table = [
+        (Call::Offer(1, false), Told::Refused(Refusal::NoTask)),
+        (Call::Submit(CLOSE), Told::Number(1)),
+        (Call::Task, Told::Nothing),
+        (Call::Flush, Told::Number(1)),
+        (Call::Task, Told::Number(1)),
+        (Call::Task, Told::Nothing),
+        // The task's version with the network before it, and its network at another version.
+        (Call::Offer(1, false), other),
+        (Call::Offer(2, true), other),
+        (Call::GiveUp(2), Told::Nothing),
+        (Call::Task, Told::Nothing),
+        (Call::GiveUp(1), Told::Nothing),
+        (Call::Offer(1, true), Told::Refused(Refusal::NoTask)),
+        (Call::Show, Told::Number(1)),
+    ];
+    plays_on_six(rt.alloc(), &table)
 }
 
 #[test]
 fn armed_flush_fails(rt: HostRuntime) -> Result<(), Fail> {
     let alloc = rt.alloc();
-    let mut keeper = keeper(alloc, &six(alloc)?, 64)?;
-    assert_eq!(rt; number(&mut keeper, CLOSE), Ok(1));
+    let mut keeper = keeper_of_six(alloc, 64)?;
     keeper.arm(3);
-    assert_eq!(rt; flush(&mut keeper), Err(Refusal::Device));
-    let (_, mut disk) = closed(keeper);
-    assert!(rt; disk.stop(&[Pick::Old]));
-    let keeper = reopened(alloc, disk)?;
-    assert_eq!(rt; versions(&keeper), (0, 0, 0));
+    let table = [
+        (Call::Submit(CLOSE), Told::Number(1)),
+        (Call::Flush, Told::Refused(Refusal::Device)),
+    ];
+    plays(alloc, &mut keeper, &table)?;
+    let (reopened, _, came) = stopped(alloc, keeper, Pick::Old);
+    assert!(rt; came);
+    let left = [
+        (Call::Pending, Told::Number(0)),
+        (Call::Durable, Told::Number(0)),
+        (Call::Shown, Told::Number(0)),
+    ];
+    plays_on(alloc, reopened, &left)?;
     Ok(())
 }

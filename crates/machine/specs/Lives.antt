@@ -127,9 +127,9 @@ pub record HoldsDurable (StandsFor : List ℕ → Net → ℕ → Type 0) (m : M
   pub network_is : network_at m version ≡ Some network
   pub stands : StandsFor content network version
 
--- The run is one of a store of this network and version, and a stop now leaves of the disk what its last state says.
-pub record LivesOn {P : Type 0} (StandsFor : List ℕ → Net → ℕ → Type 0) (left : List ℕ → Type 0) (sizes : Sizes) (base : Net) (version : ℕ) (events : List (Event P)) (replies : List Replied) (ended : Option Refusal) (history : List Command) : Type 0 where
-  pub unchecked : ℕ
+-- The run is one of a store of this network and version, with so many pages unchecked, and a stop now leaves of the disk what its last
+-- state says.
+pub record LivesOn {P : Type 0} (StandsFor : List ℕ → Net → ℕ → Type 0) (left : List ℕ → Type 0) (sizes : Sizes) (base : Net) (version unchecked : ℕ) (events : List (Event P)) (replies : List Replied) (ended : Option Refusal) (history : List Command) : Type 0 where
   pub unchecked_to : unchecked ≤ sizes.journal_pages
   pub last : Machine
   pub lives : Lives (start sizes base version unchecked) events replies ended history last

@@ -1,9 +1,1 @@
-pub mod Answered
-pub mod Batched
-pub mod JointRead
-pub mod ScriptRows
-pub mod ScriptEnds
-pub mod ScriptLines
-pub mod ScriptStops
-pub mod ReplyLines
 mod WordsRead

@@ -1,25 +1,49 @@
 -- What the program says of failures.
-use Rattle.std.specs.Prelude.{◌≡◌, ℕ, Bool, false, List, ◌==◌, if◌then◌else◌}
+use Rattle.std.specs.Prelude.{◌≡◌, ◌⊎◌, ℕ, Bool, true, false, List, ◌==◌, if◌then◌else◌}
 use lib.Chars.{codes}
+use Rattle.roadnet.specs.declared.refusals.Refusal.{Refusal}
 use Rattle.roadnet.specs.declared.refusals.Refusal.TheVariants.{OutOfMemory}
+use Rattle.store.specs.Opening.{MayRefuseToOpen, StandsForSome}
 use Rattle.dimacs.specs.declared.fault.Code.TheVariants.{Read}
-use Rattle.roadmark.specs.declared.failed.Failed.{Failed}
-use Rattle.roadmark.specs.declared.failed.Failed.TheVariants.{Text, Code}
+use Rattle.printing.specs.declared.failed.Failed.{Failed}
+use Rattle.printing.specs.declared.failed.Failed.TheVariants.{Text, Code}
 use Rattle.roadmark.specs.declared.words.Job.{Job}
-use Rattle.roadmark.specs.declared.words.Job.TheVariants.{Joint, Once, Batch}
+use Rattle.roadmark.specs.declared.words.Job.TheVariants.{Joint, Once, Batch, Rehearse, Create, Apply, Ask}
 
 -- the failure is one of the call's first text
 abbrev pub is_of_first : Failed → Bool
 is_of_first (Text which fault) = which == 0
 is_of_first (Code refusal) = false
 
+-- the failure is one of the call's second text
+abbrev pub is_of_second : Failed → Bool
+is_of_second (Text which fault) = which == 1
+is_of_second (Code refusal) = false
+
 -- by what name a fault line calls the text of a failure
 abbrev pub text_name : Job → Failed → List ℕ
 text_name (Joint delta) failed = if is_of_first failed then codes "net" else codes "script"
 text_name (Once network source target delta) failed = network.now
 text_name (Batch network pairs delta) failed = if is_of_first failed then network.now else pairs.now
+text_name (Rehearse network script journal_pages delta) failed = if is_of_first failed then network.now else script.now
+text_name (Create store network landmarks journal_pages) failed =
+    if is_of_first failed then network.now else if is_of_second failed then landmarks.now else store.now
+text_name (Apply store commands delta) failed = if is_of_first failed then commands.now else store.now
+text_name (Ask store pairs delta) failed = if is_of_first failed then pairs.now else store.now
 
--- the file of this text can't be opened, or memory ran out
+-- what is told of a file that can't be opened
+abbrev pub unopened : ℕ → Failed
+unopened which = Text which (record { line = 0; code = Read })
+
+-- a text's file is not read: it can't be opened, or memory ran out
 abbrev pub IsUnopened : ℕ → Failed → Type 0
-IsUnopened which (Text text fault) = (text ≡ which) × (fault.line ≡ 0) × (fault.code ≡ Read)
-IsUnopened which (Code refusal) = refusal ≡ OutOfMemory
+IsUnopened which failed = (failed ≡ unopened which) ⊎ (failed ≡ Code OutOfMemory)
+
+-- the second text's file is not read, or the first text has a fault
+abbrev pub IsFaultOrUnopened : Failed → Type 0
+IsFaultOrUnopened failed = (is_of_first failed ≡ true) ⊎ IsUnopened 1 failed
+
+-- what is told of a store in this file, and of a text that is not read: that failure where the store opens, else a refusal of the store
+abbrev pub IsToldAfterOpening : List ℕ → Failed → Failed → Type 0
+IsToldAfterOpening file failed told =
+    (StandsForSome file × (told ≡ failed)) ⊎ ((refusal : Refusal) × (told ≡ Code refusal) × MayRefuseToOpen file refusal)

@@ -1,14 +1,2 @@
-pub mod Counting
 pub mod Failures
-pub mod Joint
-pub mod Printed
-pub mod ReadJoint
-pub mod Replies
-pub mod Script
-pub mod ScriptKinds
-pub mod Once
 pub mod Words
-pub mod Batch
-pub mod ScriptTexts
-pub mod ScriptReading
-pub mod Replied

@@ -7,7 +7,7 @@ use Rattle.clap.specs.declared.parser.matches.Found.{Found}
 use Rattle.clap.specs.Words.{first_value, one_text}
 use Rattle.rows.specs.Kept.{IsWidth}
 use Rattle.roadmark.specs.declared.words.Job.{Job}
-use Rattle.roadmark.specs.declared.words.Job.TheVariants.{Joint, Once, Batch}
+use Rattle.roadmark.specs.declared.words.Job.TheVariants.{Joint, Once, Batch, Rehearse, Create, Apply, Ask}
 use Rattle.roadmark.specs.declared.words.Usage.{Usage}
 
 -- the width of the search's buckets that they give, if any
@@ -15,12 +15,34 @@ abbrev pub delta_of : Job → Option ℕ
 delta_of (Joint delta) = delta
 delta_of (Once network source target delta) = delta
 delta_of (Batch network pairs delta) = delta
+delta_of (Rehearse network script journal_pages delta) = delta
+delta_of (Create store network landmarks journal_pages) = None
+delta_of (Apply store commands delta) = delta
+delta_of (Ask store pairs delta) = delta
+
+-- the pages of the store's journal, where it makes a store
+abbrev pub journal_of : Job → Option ℕ
+journal_of (Joint delta) = None
+journal_of (Once network source target delta) = None
+journal_of (Batch network pairs delta) = None
+journal_of (Rehearse network script journal_pages delta) = Some journal_pages
+journal_of (Create store network landmarks journal_pages) = Some journal_pages
+journal_of (Apply store commands delta) = None
+journal_of (Ask store pairs delta) = None
+
+-- a number of journal pages
+abbrev pub IsJournal : ℕ → Type 0
+IsJournal pages = (1 ≤ pages) × (pages ≤ 65536)
 
 -- the subcommand that asks for a job, if it needs one
 abbrev pub subcommand_of : Job → Option (List ℕ)
 subcommand_of (Joint delta) = None
 subcommand_of (Once network source target delta) = Some (codes "once")
 subcommand_of (Batch network pairs delta) = Some (codes "batch")
+subcommand_of (Rehearse network script journal_pages delta) = Some (codes "rehearse")
+subcommand_of (Create store network landmarks journal_pages) = Some (codes "create")
+subcommand_of (Apply store commands delta) = Some (codes "apply")
+subcommand_of (Ask store pairs delta) = Some (codes "ask")
 
 -- this word is a numeral of this number
 abbrev pub IsWordOf : List ℕ → ℕ → Type 0
@@ -49,6 +71,44 @@ GivesBatch found None = (first_value found (codes "GR") ≡ None) ⊎ (first_val
 GivesBatch found (Some (Batch network pairs delta)) =
     (first_value found (codes "GR") ≡ Some network.now) × (first_value found (codes "P2P") ≡ Some pairs.now) × Gives found (codes "delta") IsWidth delta
 GivesBatch found (Some job) = ⊥
+
+-- the journal pages that the words give; 64 where they give none
+abbrev pub GivesJournal : Found → ℕ → Type 0
+GivesJournal found pages =
+    Gives found (codes "journal") IsJournal (Some pages) ⊎ ((pages ≡ 64) × Gives found (codes "journal") IsJournal None)
+
+-- the words of `rehearse` give this job, or a word is missing
+abbrev pub GivesRehearse : Found → Option Job → Type 0
+GivesRehearse found None = (first_value found (codes "GR") ≡ None) ⊎ (first_value found (codes "SCRIPT") ≡ None)
+GivesRehearse found (Some (Rehearse network script journal_pages delta)) =
+    (first_value found (codes "GR") ≡ Some network.now) × (first_value found (codes "SCRIPT") ≡ Some script.now)
+    × GivesJournal found journal_pages × Gives found (codes "delta") IsWidth delta
+GivesRehearse found (Some job) = ⊥
+
+-- the words of `create` give this job, or a word is missing
+abbrev pub GivesCreate : Found → Option Job → Type 0
+GivesCreate found None =
+    (first_value found (codes "STORE") ≡ None) ⊎ ((first_value found (codes "GR") ≡ None) ⊎ (first_value found (codes "SS") ≡ None))
+GivesCreate found (Some (Create store network landmarks journal_pages)) =
+    (first_value found (codes "STORE") ≡ Some store.now) × (first_value found (codes "GR") ≡ Some network.now)
+    × (first_value found (codes "SS") ≡ Some landmarks.now) × GivesJournal found journal_pages
+GivesCreate found (Some job) = ⊥
+
+-- the words of `apply` give this job, or a word is missing
+abbrev pub GivesApply : Found → Option Job → Type 0
+GivesApply found None = (first_value found (codes "STORE") ≡ None) ⊎ (first_value found (codes "COMMANDS") ≡ None)
+GivesApply found (Some (Apply store commands delta)) =
+    (first_value found (codes "STORE") ≡ Some store.now) × (first_value found (codes "COMMANDS") ≡ Some commands.now)
+    × Gives found (codes "delta") IsWidth delta
+GivesApply found (Some job) = ⊥
+
+-- the words of `ask` give this job, or a word is missing
+abbrev pub GivesAsk : Found → Option Job → Type 0
+GivesAsk found None = (first_value found (codes "STORE") ≡ None) ⊎ (first_value found (codes "P2P") ≡ None)
+GivesAsk found (Some (Ask store pairs delta)) =
+    (first_value found (codes "STORE") ≡ Some store.now) × (first_value found (codes "P2P") ≡ Some pairs.now)
+    × Gives found (codes "delta") IsWidth delta
+GivesAsk found (Some job) = ⊥
 
 -- the words give the width of a joint form
 abbrev pub GivesJoint : Found → Job → Type 0

@@ -10,46 +10,35 @@ ghost use Rattle.std.specs.IoError.{error_kind};
 ghost use Rattle.std.specs.Process.{exit_status};
 ghost use Rattle.rows.specs.Kept.{IsWidth};
 ghost use Rattle.roadmark.specs.Failures.{text_name};
-ghost use Rattle.roadmark.specs.Words.{delta_of};
+ghost use Rattle.roadmark.specs.Words.{IsJournal, delta_of, journal_of};
 
-mod answers;
-mod batch;
-mod failed;
+mod commands;
+mod files;
 mod jobs;
-mod joint;
-mod once;
-mod printed;
-mod replied;
-mod script;
-mod script_stops;
-mod script_texts;
-mod script_words;
+mod store_jobs;
 mod words;
-mod writer;
 
-pub use batch::{batch_counted, batch_text};
-pub use failed::{Failed, FaultLine, fault_line, status};
-use jobs::{run_batch, run_joint, run_once};
-pub use joint::{joint_counted, joint_text};
-pub use once::{once_counted, once_text};
-pub use replied::{put_replies, put_reply};
+use jobs::{run_batch, run_joint, run_once, run_rehearse};
+use printing::{Failed, fault_line, status};
 use roadnet::Refusal;
-pub use script_texts::{parse_script, read_script_counted};
 use std::env;
+use std::fs::File;
 use std::io::{self, ErrorKind};
 use std::process::ExitCode;
 use std::rt::{Env, Files};
+use store_jobs::{run_apply, run_ask, run_create};
 pub use words::{Job, MISUSE, Usage, read_words};
-pub use writer::CountedWriter;
 
-#[cfg(test)]
-mod script_tests;
 #[cfg(test)]
 mod tests;
 
 /// Does a job.
-fn run<R: AllocGlobal + Files + Input + Print>(rt: &R, job: &Job<'_>) -> Result<(), Failed>
-    requires { ForSome (delta_of job.now) IsWidth }
+fn run<R: AllocGlobal + Files<File = File> + Input + Print>(
+    rt: &R,
+    job: &Job<'_>,
+) -> Result<(), Failed>
+    requires width { ForSome (delta_of job.now) IsWidth }
+    requires journal { ForSome (journal_of job.now) IsJournal }
 {
     match *job {
         Job::Joint { delta } => run_joint(rt, delta),
@@ -64,6 +53,28 @@ fn run<R: AllocGlobal + Files + Input + Print>(rt: &R, job: &Job<'_>) -> Result<
             pairs,
             delta,
         } => run_batch(rt, network, pairs, delta),
+        Job::Rehearse {
+            network,
+            script,
+            journal_pages,
+            delta,
+        } => run_rehearse(rt, network, script, journal_pages, delta),
+        Job::Create {
+            store,
+            network,
+            landmarks,
+            journal_pages,
+        } => run_create(rt, store, network, landmarks, journal_pages),
+        Job::Apply {
+            store,
+            commands,
+            delta,
+        } => run_apply(rt, store, commands, delta),
+        Job::Ask {
+            store,
+            pairs,
+            delta,
+        } => run_ask(rt, store, pairs, delta),
     }
 }
 
@@ -72,10 +83,36 @@ fn text_name<'w>(job: &Job<'w>, failed: &Failed) -> &'w str
     ensures { result.now ≡ text_name job.now failed.now }
 {
     let is_first = matches!(failed, Failed::Text { which: 0, fault: _ });
+    let is_second = matches!(failed, Failed::Text { which: 1, fault: _ });
     match *job {
         Job::Joint { delta: _ } => { if is_first { "net" } else { "script" } }
         Job::Once { network, .. } => network,
         Job::Batch { network, pairs, .. } => { if is_first { network } else { pairs } }
+        Job::Rehearse {
+            network,
+            script,
+            ..
+        } => { if is_first { network } else { script } }
+        Job::Create {
+            store,
+            network,
+            landmarks,
+            ..
+        } => {
+            if is_first {
+                network
+            } else if is_second {
+                landmarks
+            } else {
+                store
+            }
+        }
+        Job::Apply {
+            store,
+            commands,
+            ..
+        } => { if is_first { commands } else { store } }
+        Job::Ask { store, pairs, .. } => { if is_first { pairs } else { store } }
     }
 }
 

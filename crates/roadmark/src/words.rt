@@ -4,11 +4,15 @@ ghost use Rattle.std.specs.Option.{ForSome};
 ghost use lib.Chars.{codes};
 ghost use Rattle.clap.specs.Words.{found_of, kind_of, subcommand_name_of};
 ghost use Rattle.rows.specs.Kept.{IsWidth};
-ghost use Rattle.roadmark.specs.Words.{delta_of, subcommand_of, Gives, GivesOnce, GivesBatch, GivesJoint, IsLong, IsUsage};
+ghost use Rattle.roadmark.specs.Words.{delta_of, journal_of, subcommand_of, Gives, GivesOnce, GivesBatch, GivesRehearse, GivesCreate, GivesApply, GivesAsk, GivesJoint, GivesJournal, IsJournal, IsLong, IsUsage};
 
+use crate::commands::{
+    APPLY, ASK, BATCH, COMMANDS, CREATE, DELTA, JOURNAL, LANDMARKS, NETWORK, ONCE, PAIRS, REHEARSE,
+    SCRIPT, SOURCE, STORE, TARGET, program,
+};
 use clap::error::ErrorKind;
-use clap::{Arg, ArgAction, ArgMatches, Command, Error, value_parser};
-use std::alloc::{AllocError, Global};
+use clap::{ArgMatches, Error};
+use std::alloc::Global;
 use std::convert::AsStr;
 
 /// What the program is asked to do. A name of a file is as it was written.
@@ -31,6 +35,32 @@ pub enum Job<'w> {
         pairs: &'w str,
         delta: Option<u32>,
     },
+    /// The script of one file, on a store in memory for the network of another.
+    Rehearse {
+        network: &'w str,
+        script: &'w str,
+        journal_pages: u32,
+        delta: Option<u32>,
+    },
+    /// A new store, for the network of one file with the landmarks of another.
+    Create {
+        store: &'w str,
+        network: &'w str,
+        landmarks: &'w str,
+        journal_pages: u32,
+    },
+    /// The commands of a file, on a store.
+    Apply {
+        store: &'w str,
+        commands: &'w str,
+        delta: Option<u32>,
+    },
+    /// The pairs of a file, in the network of a store.
+    Ask {
+        store: &'w str,
+        pairs: &'w str,
+        delta: Option<u32>,
+    },
 }
 
 /// Why the words are no job: help was asked for (status 0), they were not understood (2), or memory ran out (1, without a text).
@@ -40,89 +70,11 @@ pub struct Usage {
     pub text: String,
 }
 
-const NETWORK: &str = "GR";
-
-const PAIRS: &str = "P2P";
-
-const SOURCE: &str = "S";
-
-const TARGET: &str = "T";
-
-const DELTA: &str = "delta";
-
-const ONCE: &str = "once";
-
-const BATCH: &str = "batch";
+/// The journal pages of a store where none are given.
+const DEFAULT_JOURNAL: u32 = 64;
 
 /// The status of a command line that was not understood.
 pub const MISUSE: u8 = 2;
-
-const ABOUT: &str = "Exact least distances in a road network.
-
-Without a word it reads the joint form from standard input: a .gr text, a line `run`, and a script, whose lines `dist S T` it answers.
-
-The exit status is 0 where all was done, 1 after a fault in a text, a file or the output, and 2 where the words were not understood.";
-
-const ABOUT_ONCE: &str =
-    "Prints the least length of a walk from S to T in the network of the file GR: the lines `v 0` and `d S T LENGTH`, `x S T` where no walk leads there, or `no 24` where S or T is no node.";
-
-const ABOUT_BATCH: &str =
-    "Answers the pairs of the file P2P in the network of the file GR: the line `v 0`, then one line a pair, in their order: `d S T LENGTH`, or `x S T` where no walk leads there.";
-
-/// An option `--delta D`.
-fn delta_option<'w>(alloc: Global) -> Arg<'w> {
-    Arg::new(alloc, DELTA)
-        .long(DELTA)
-        .value_name("D")
-        .value_parser(value_parser!(u32).range(1..=2147483647))
-        .help("Width of the search's buckets, 1 to 2147483647: every width gives the same answers")
-}
-
-/// A word that has to stand at its place.
-fn required_word<'w>(alloc: Global, name: &'w str, help: &'w str) -> Arg<'w> {
-    Arg::new(alloc, name)
-        .required(true)
-        .action(ArgAction::Set)
-        .help(help)
-}
-
-/// A node's number that has to stand at its place.
-fn required_node<'w>(alloc: Global, name: &'w str, help: &'w str) -> Arg<'w> {
-    required_word(alloc, name, help).value_parser(value_parser!(u64))
-}
-
-fn once_command<'w>(alloc: Global) -> Result<Command<'w>, AllocError> {
-    Command::new(alloc, ONCE)
-        .about("Prints the least length of a walk between two nodes")
-        .long_about(ABOUT_ONCE)
-        .after_help("Example: roadmark once examples/six.gr 1 6")
-        .arg(required_word(alloc, NETWORK, "File of the network, a .gr text"))?
-        .arg(required_node(alloc, SOURCE, "Node where the walk begins"))?
-        .arg(required_node(alloc, TARGET, "Node where the walk ends"))?
-        .arg(delta_option(alloc))
-}
-
-fn batch_command<'w>(alloc: Global) -> Result<Command<'w>, AllocError> {
-    Command::new(alloc, BATCH)
-        .about("Prints the least length of a walk for each pair of a file")
-        .long_about(ABOUT_BATCH)
-        .after_help("Example: roadmark batch examples/six.gr examples/six.p2p")
-        .arg(required_word(alloc, NETWORK, "File of the network, a .gr text"))?
-        .arg(required_word(alloc, PAIRS, "File of the pairs, a .p2p text"))?
-        .arg(delta_option(alloc))
-}
-
-fn program<'w>(alloc: Global) -> Result<Command<'w>, AllocError> {
-    Command::new(alloc, "roadmark")
-        .version("0.1.0")
-        .about("Exact least distances in a road network")
-        .long_about(ABOUT)
-        .after_help("Example: roadmark < examples/six.txt")
-        .args_conflicts_with_subcommands(true)
-        .arg(delta_option(alloc))?
-        .subcommand(once_command(alloc)?)?
-        .subcommand(batch_command(alloc)?)
-}
 
 /// What a refusal of the words shows.
 fn usage_of(alloc: Global, error: &Error) -> Usage
@@ -165,6 +117,17 @@ fn width_in(matches: &ArgMatches<'_>) -> Option<u32>
     }
 }
 
+/// The journal pages that these words give, or 64; within their range, as the option's parser has it.
+fn journal_in(matches: &ArgMatches<'_>) -> u32
+    ensures journal { IsJournal result }
+    ensures given { GivesJournal (found_of matches.now) result }
+{
+    match matches.get_one::<u32>(JOURNAL) {
+        Some(pages) if 1 <= pages && pages <= 65536 => pages,
+        _ => DEFAULT_JOURNAL,
+    }
+}
+
 /// The node's number that the word of this name gives.
 fn node_in(matches: &ArgMatches<'_>, name: &str) -> Option<u64>
     ensures { Gives (found_of matches.now) name.now IsLong result }
@@ -174,6 +137,7 @@ fn node_in(matches: &ArgMatches<'_>, name: &str) -> Option<u64>
 
 fn once_in<'w>(matches: &ArgMatches<'w>) -> Option<Job<'w>>
     ensures width { ForSome result (λ job. ForSome (delta_of job) IsWidth) }
+    ensures journal { ForSome result (λ job. ForSome (journal_of job) IsJournal) }
     ensures given { GivesOnce (found_of matches.now) result }
 {
     let Some(network) = matches.get_str(NETWORK) else {
@@ -195,6 +159,7 @@ fn once_in<'w>(matches: &ArgMatches<'w>) -> Option<Job<'w>>
 
 fn batch_in<'w>(matches: &ArgMatches<'w>) -> Option<Job<'w>>
     ensures width { ForSome result (λ job. ForSome (delta_of job) IsWidth) }
+    ensures journal { ForSome result (λ job. ForSome (journal_of job) IsJournal) }
     ensures given { GivesBatch (found_of matches.now) result }
 {
     let Some(network) = matches.get_str(NETWORK) else {
@@ -210,9 +175,87 @@ fn batch_in<'w>(matches: &ArgMatches<'w>) -> Option<Job<'w>>
     })
 }
 
+fn rehearse_in<'w>(matches: &ArgMatches<'w>) -> Option<Job<'w>>
+    ensures width { ForSome result (λ job. ForSome (delta_of job) IsWidth) }
+    ensures journal { ForSome result (λ job. ForSome (journal_of job) IsJournal) }
+    ensures given { GivesRehearse (found_of matches.now) result }
+{
+    let Some(network) = matches.get_str(NETWORK) else {
+        return None;
+    };
+    let Some(script) = matches.get_str(SCRIPT) else {
+        return None;
+    };
+    Some(Job::Rehearse {
+        network,
+        script,
+        journal_pages: journal_in(matches),
+        delta: width_in(matches),
+    })
+}
+
+fn create_in<'w>(matches: &ArgMatches<'w>) -> Option<Job<'w>>
+    ensures width { ForSome result (λ job. ForSome (delta_of job) IsWidth) }
+    ensures journal { ForSome result (λ job. ForSome (journal_of job) IsJournal) }
+    ensures given { GivesCreate (found_of matches.now) result }
+{
+    let Some(store) = matches.get_str(STORE) else {
+        return None;
+    };
+    let Some(network) = matches.get_str(NETWORK) else {
+        return None;
+    };
+    let Some(landmarks) = matches.get_str(LANDMARKS) else {
+        return None;
+    };
+    Some(Job::Create {
+        store,
+        network,
+        landmarks,
+        journal_pages: journal_in(matches),
+    })
+}
+
+fn apply_in<'w>(matches: &ArgMatches<'w>) -> Option<Job<'w>>
+    ensures width { ForSome result (λ job. ForSome (delta_of job) IsWidth) }
+    ensures journal { ForSome result (λ job. ForSome (journal_of job) IsJournal) }
+    ensures given { GivesApply (found_of matches.now) result }
+{
+    let Some(store) = matches.get_str(STORE) else {
+        return None;
+    };
+    let Some(commands) = matches.get_str(COMMANDS) else {
+        return None;
+    };
+    Some(Job::Apply {
+        store,
+        commands,
+        delta: width_in(matches),
+    })
+}
+
+fn ask_in<'w>(matches: &ArgMatches<'w>) -> Option<Job<'w>>
+    ensures width { ForSome result (λ job. ForSome (delta_of job) IsWidth) }
+    ensures journal { ForSome result (λ job. ForSome (journal_of job) IsJournal) }
+    ensures given { GivesAsk (found_of matches.now) result }
+{
+    let Some(store) = matches.get_str(STORE) else {
+        return None;
+    };
+    let Some(pairs) = matches.get_str(PAIRS) else {
+        return None;
+    };
+    Some(Job::Ask {
+        store,
+        pairs,
+        delta: width_in(matches),
+    })
+}
+
 /// The job that was matched.
 fn job_in<'w>(matches: &ArgMatches<'w>) -> Option<Job<'w>>
     ensures width { ForSome result (λ job. ForSome (delta_of job) IsWidth) }
+    ensures journal { ForSome result (λ job. ForSome (journal_of job) IsJournal) }
     ensures kind { IfSome result (λ job. subcommand_name_of matches.now ≡ subcommand_of job) }
     ensures joint { IfSome result (GivesJoint (found_of matches.now)) }
     ensures given { subcommand_name_of matches.now ≡ None → IsSome result }
@@ -223,6 +266,10 @@ fn job_in<'w>(matches: &ArgMatches<'w>) -> Option<Job<'w>>
         }),
         Some((ONCE, inner)) => once_in(inner),
         Some((BATCH, inner)) => batch_in(inner),
+        Some((REHEARSE, inner)) => rehearse_in(inner),
+        Some((CREATE, inner)) => create_in(inner),
+        Some((APPLY, inner)) => apply_in(inner),
+        Some((ASK, inner)) => ask_in(inner),
         Some(_) => None,
     }
 }
@@ -230,6 +277,7 @@ fn job_in<'w>(matches: &ArgMatches<'w>) -> Option<Job<'w>>
 /// Reads the program's words, the first of which is its own name.
 pub fn read_words<'w, S: AsStr>(alloc: Global, words: &'w [S]) -> Result<Job<'w>, Usage>
     ensures width { IfOk result (λ job. ForSome (delta_of job) IsWidth) }
+    ensures journal { IfOk result (λ job. ForSome (journal_of job) IsJournal) }
     ensures usage { IfErr result IsUsage }
 {
     let matched = match program(alloc) {

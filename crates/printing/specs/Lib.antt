@@ -1,0 +1,4 @@
+pub mod Counting
+pub mod Printed
+pub mod Replied
+pub mod Failing

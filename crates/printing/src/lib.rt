@@ -1,0 +1,16 @@
+//! What the program prints: answer lines, the lines of a script's replies, fault lines and statuses, through a writer that counts its
+//! failed calls.
+#![tactic(auto)]
+
+mod failed;
+mod printed;
+mod replied;
+mod writer;
+
+pub use failed::{Failed, FaultLine, fault_line, status};
+pub use printed::{put_answer, put_lines, put_number, put_refusal, put_version};
+pub use replied::{put_replies, put_reply};
+pub use writer::CountedWriter;
+
+#[cfg(test)]
+mod tests;

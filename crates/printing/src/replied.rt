@@ -1,0 +1,77 @@
+//! What is told of a script's events, as bytes.
+ghost use Rattle.std.specs.Prelude.{◌≡◌, OnOk, IfErr};
+ghost use Rattle.std.specs.Io.KnownBytes.{Appends};
+ghost use Rattle.printing.specs.Counting.{failed_writes, writer_of, IsSameWriter, CountsFailure};
+ghost use Rattle.printing.specs.Replied.{number_line, printed_reply, printed_replies};
+
+use crate::failed::Failed;
+use crate::printed::{put_lines, put_number, put_refusal, put_version};
+use crate::writer::CountedWriter;
+use machine::Replied;
+use roadnet::Refusal;
+use std::io::Write;
+
+/// A word with a blank behind it, and a number.
+fn put_numbered<W: Write>(
+    out: &mut CountedWriter<'_, W>,
+    word: &[u8],
+    number: u64,
+) -> Result<(), Failed>
+    ensures ok { OnOk result (Appends (W.contents (writer_of out.old)) (W.contents (writer_of out.new)) (number_line word.now number)) }
+    ensures refused { IfErr result (λ failed. failed ≡ Failed.Code Refusal.Write) }
+    ensures counts { CountsFailure (failed_writes out.old) (failed_writes out.new) result }
+    ensures same { IsSameWriter out.old out.new }
+{
+    out.write_all(word)?;
+    put_number(out, number)?;
+    out.write_all(b"\n")
+}
+
+/// `stopped` and `v V`
+fn put_opened<W: Write>(out: &mut CountedWriter<'_, W>, version: u64) -> Result<(), Failed>
+    ensures ok { OnOk result (Appends (W.contents (writer_of out.old)) (W.contents (writer_of out.new)) (printed_reply (Replied.Opened version))) }
+    ensures refused { IfErr result (λ failed. failed ≡ Failed.Code Refusal.Write) }
+    ensures counts { CountsFailure (failed_writes out.old) (failed_writes out.new) result }
+    ensures same { IsSameWriter out.old out.new }
+{
+    out.write_all(b"stopped\n")?;
+    put_version(out, version)
+}
+
+/// The lines of a reply: `t N`, `ok N`, `task V`, `shown V`, `v V` with an answer line, `no CODE`, `stopped` with `v V`, or
+/// `stopped` alone. Nothing else is written.
+pub fn put_reply<W: Write>(out: &mut CountedWriter<'_, W>, reply: &Replied) -> Result<(), Failed>
+    ensures ok { OnOk result (Appends (W.contents (writer_of out.old)) (W.contents (writer_of out.new)) (printed_reply reply.now)) }
+    ensures refused { IfErr result (λ failed. failed ≡ Failed.Code Refusal.Write) }
+    ensures counts { CountsFailure (failed_writes out.old) (failed_writes out.new) result }
+    ensures same { IsSameWriter out.old out.new }
+{
+    match *reply {
+        Replied::Accepted { number } => put_numbered(out, b"t ", number),
+        Replied::Durable { version } => put_numbered(out, b"ok ", version),
+        Replied::Task { version } => put_numbered(out, b"task ", version),
+        Replied::Shown { version } => put_numbered(out, b"shown ", version),
+        Replied::Answered { query, answer } => {
+            put_lines(out, answer.version, &query, Some(answer.reply))
+        }
+        Replied::Refused { refusal } => put_refusal(out, refusal.number()),
+        Replied::Opened { version } => put_opened(out, version),
+        Replied::Stopped => out.write_all(b"stopped\n"),
+    }
+}
+
+/// The lines of these replies, in their order, and nothing else.
+pub fn put_replies<W: Write>(
+    out: &mut CountedWriter<'_, W>,
+    replies: &[Replied],
+) -> Result<(), Failed>
+    ensures ok { OnOk result (Appends (W.contents (writer_of out.old)) (W.contents (writer_of out.new)) (printed_replies replies.now)) }
+    ensures refused { IfErr result (λ failed. failed ≡ Failed.Code Refusal.Write) }
+    ensures counts { CountsFailure (failed_writes out.old) (failed_writes out.new) result }
+    ensures same { IsSameWriter out.old out.new }
+{
+    for reply in replies {
+        put_reply(out, reply)?;
+    }
+    Ok(())
+}

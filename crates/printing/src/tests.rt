@@ -1,0 +1,78 @@
+use crate::{CountedWriter, Failed, fault_line, put_replies, status};
+use dimacs::{Code, Fault};
+use machine::{Answer, Replied};
+use roadnet::Refusal;
+use rows::{Query, Reply};
+use std::process::Abort;
+use std::test::Fail;
+
+#[test]
+fn fault_lines_and_statuses(rt: HostRuntime) -> Result<(), Fail> {
+    let fault = Fault {
+        line: 3,
+        code: Code::LengthRange,
+    };
+    let table = [
+        (
+            Failed::Text { which: 0, fault },
+            "roadmark: net: line 3: 7 LengthRange",
+        ),
+        (
+            Failed::Code(Refusal::Damaged { page: 6 }),
+            "roadmark: 42 Damaged page 6",
+        ),
+        (Failed::Code(Refusal::Write), "roadmark: 12 Write"),
+        (
+            Failed::Code(Refusal::OutOfMemory),
+            "roadmark: 11 OutOfMemory",
+        ),
+    ];
+    for (failed, want) in table {
+        let line = fault_line(&failed, "net");
+        assert!(rt;
+            format!(in rt.alloc(); "{line}")?.as_str() == want,
+            "{want}"
+        );
+        assert_eq!(rt; status(&Err(failed)), 1);
+    }
+    assert_eq!(rt; status(&Ok(())), 0);
+    Ok(())
+}
+
+#[test]
+fn replies_are_printed(rt: HostRuntime) {
+    let query = Query::Dist {
+        source: 1,
+        target: 6,
+    };
+    let answer = |version, reply| Replied::Answered {
+        query,
+        answer: Answer { version, reply },
+    };
+    let replies = [
+        Replied::Accepted { number: 1 },
+        Replied::Durable { version: 1 },
+        answer(0, Reply::Length(15)),
+        Replied::Task { version: 1 },
+        Replied::Shown { version: 1 },
+        answer(1, Reply::NoWalk),
+        answer(1, Reply::Refused(Refusal::NotALandmark)),
+        Replied::Refused {
+            refusal: Refusal::NothingPending,
+        },
+        Replied::Opened { version: 1 },
+        Replied::Stopped,
+    ];
+    let want =
+        "t 1\nok 1\nv 0\nd 1 6 15\ntask 1\nshown 1\nv 1\nx 1 6\nv 1\nno 26\nno 53\nstopped\nv 1\nstopped\n";
+    let mut out = Vec::new(rt.alloc());
+    let mut writer = CountedWriter::new(&mut out);
+    let outcome = put_replies(&mut writer, &replies);
+    assert!(rt; outcome == Ok(()) && writer.failed_writes() == 0);
+    assert!(rt; out.as_slice() == want.as_bytes());
+    let mut short = [0; 3];
+    let mut rest = short.as_mut_slice();
+    let mut writer = CountedWriter::new(&mut rest);
+    let outcome = put_replies(&mut writer, &replies);
+    assert!(rt; outcome == Err(Failed::Code(Refusal::Write)) && writer.failed_writes() == 1);
+}

@@ -1,0 +1,10 @@
+use Rattle.std.proofs.Common.{take}
+use Rattle.rows.specs.Kept.{AreOf}
+use Rattle.querytexts.specs.Batch.{AreRight}
+use Rattle.querytexts.proofs.batch.reply_to_all.Given as goal
+
+abbrev pub invariant-loop-pair : goal.invariant-loop-pair
+invariant-loop-pair l = record {
+  right : AreRight l.network (take l.pair-index l.pairs) l.replies.items;
+  kept : AreOf l.network l.searches;
+}

@@ -1,0 +1,74 @@
+-- What the pairs of a text are answered with, and for what they are refused.
+use Rattle.std.specs.Prelude.{◌≡◌, ℕ, zero, suc, List, [], ◌∷◌, ◌++◌, Option, Result, Ok, Err}
+use Rattle.std.specs.List.{AllZip}
+use Rattle.std.specs.Io.KnownBytes.{Appends}
+use Rattle.roadnet.specs.Net.{Net}
+use Rattle.dimacs.specs.declared.fault.Fault.{Fault}
+use Rattle.dimacs.specs.declared.pairs.Pair.{Pair}
+use Rattle.dimacs.specs.Faults.{code_of}
+use Rattle.dimacs.specs.Format.{gr, p2p}
+use Rattle.dimacs.specs.Lines.{rows}
+use Rattle.dimacs.specs.Content.{content}
+use Rattle.dimacs.specs.Taking.{ByCode, ByMemory}
+use Rattle.dimacs.specs.Ends.{BreaksOff, FailsIn}
+use Rattle.dimacs.specs.Gr.{FaultOfLines}
+use Rattle.dimacs.specs.Texts.{content_by}
+use Rattle.dimacs.specs.Pairs.{p2p_text}
+use Rattle.rows.specs.declared.queries.Query.{Query}
+use Rattle.rows.specs.declared.queries.Query.TheVariants.{Dist}
+use Rattle.rows.specs.declared.queries.Reply.{Reply}
+use Rattle.rows.specs.Replies.{IsRight}
+use Rattle.printing.specs.Printed.{version_line, answer_line}
+use Rattle.printing.specs.declared.failed.Failed.{Failed}
+use Rattle.printing.specs.declared.failed.Failed.TheVariants.{Text}
+use Rattle.querytexts.specs.Once.{IsUnanswered}
+
+abbrev pub query_of : Pair → Query
+query_of pair = Dist pair.source pair.target
+
+-- a right reply to each pair, in their order
+abbrev pub AreRight : Net → List Pair → List Reply → Type 0
+AreRight net pairs replies = AllZip (λ pair reply. IsRight net (query_of pair) reply) pairs replies
+
+-- one answer line a pair
+abbrev pub answer_lines : List Pair → List Reply → List ℕ
+answer_lines [] replies = []
+answer_lines (pair ∷ pairs) [] = []
+answer_lines (pair ∷ pairs) (reply ∷ replies) = answer_line (query_of pair) reply ++ answer_lines pairs replies
+
+-- the line of the version, and the lines of right answers to the pairs, and nothing else
+pub record AnswersAll (net : Net) (version : ℕ) (pairs : List Pair) (old new : Option (List ℕ)) : Type 0 where
+  pub replies : List Reply
+  pub right : AreRight net pairs replies
+  pub written : Appends old new (version_line version ++ answer_lines pairs replies)
+
+-- the pairs of a text, or its fault; their nodes are judged by the network
+abbrev pub pairs_in : Net → List ℕ → Result (List Pair) Fault
+pairs_in net text = content_by (p2p_text net.nodes) (rows text)
+
+-- what is written are the lines of right replies to the pairs of one text, in the network of the other, and nothing else
+pub record IsAnsweredBatch (network pairs : List ℕ) (old new : Option (List ℕ)) : Type 0 where
+  pub net : Net
+  pub network_is : content network ≡ Ok net
+  pub list : List Pair
+  pub pairs_are : pairs_in net pairs ≡ Ok list
+  pub answers : AnswersAll net 0 list old new
+
+-- the network has no fault, and the pairs' text is refused
+pub record AfterNetwork (network : List ℕ) (Refused : Net → Type 0) : Type 0 where
+  pub net : Net
+  pub network_is : content network ≡ Ok net
+  pub refused : Refused net
+
+-- the fault of a reader's first text is told, or, where that has none, that of the second; or a reader failed in its text; or the writer
+-- failed, or memory ran out
+abbrev pub IsRefusedBatch : List ℕ → List ℕ → Option (List ℕ) → Option (List ℕ) → Failed → Type 0
+IsRefusedBatch network pairs network_left pairs_left (Text zero fault) = FaultOfLines network (rows network) network_left fault
+IsRefusedBatch network pairs network_left pairs_left (Text (suc zero) fault) = AfterNetwork network (λ net. ByCode fault.code (pairs_in net pairs ≡ Err fault) (FailsIn (code_of (p2p net.nodes)) pairs (rows pairs) pairs_left fault.line) (BreaksOff (code_of (p2p net.nodes)) (rows pairs) (rows pairs) fault.line))
+IsRefusedBatch network pairs network_left pairs_left failed = IsUnanswered failed
+
+-- the same of texts in memory, in which no reader can fail
+abbrev pub IsTextRefusedBatch : List ℕ → List ℕ → Failed → Type 0
+IsTextRefusedBatch network pairs (Text zero fault) = ByMemory fault.code (content network ≡ Err fault) (BreaksOff (code_of gr) (rows network) (rows network) fault.line)
+IsTextRefusedBatch network pairs (Text (suc zero) fault) = AfterNetwork network (λ net. ByMemory fault.code (pairs_in net pairs ≡ Err fault) (BreaksOff (code_of (p2p net.nodes)) (rows pairs) (rows pairs) fault.line))
+IsTextRefusedBatch network pairs failed = IsUnanswered failed

@@ -1,0 +1,185 @@
+//! The pairs of a text.
+ghost use Rattle.std.specs.Prelude.{◌≡◌, ℕ, length, OnOk, IfOk, IfErr, IfSome};
+ghost use Rattle.std.specs.Option.{ForSome};
+ghost use Rattle.rows.specs.Kept.{IsWidth};
+ghost use Rattle.std.specs.Io.KnownBytes.{Appends};
+ghost use Rattle.roadnet.specs.Net.{IsNetwork};
+ghost use Rattle.dimacs.specs.Counts.{failed_calls, reader_of, IsSameReader};
+ghost use Rattle.printing.specs.Counting.{failed_writes, writer_of, IsSameWriter, CountsFailure};
+ghost use Rattle.printing.specs.Failing.{CountsFirst, CountsSecond, CountsWrites, LeavesUnwritten};
+ghost use Rattle.querytexts.specs.Once.{IsUnanswered};
+ghost use Rattle.querytexts.specs.Batch.{AreRight, query_of, answer_lines, AnswersAll, IsAnsweredBatch, IsRefusedBatch, IsTextRefusedBatch};
+
+use dimacs::{Counted, Pair, parse_gr, parse_p2p, read_gr_counted, read_p2p_counted};
+use printing::{CountedWriter, Failed, put_answer, put_version};
+use roadnet::{Network, Refusal};
+use rows::{Query, Reply, Searches};
+use std::alloc::Global;
+use std::io::{BufRead, Write};
+
+const NETWORK: u8 = 0;
+
+const PAIRS: u8 = 1;
+
+/// The query that a pair asks.
+fn query_of(pair: Pair) -> Query
+    ensures { result ≡ query_of pair }
+{
+    Query::Dist {
+        source: u64::from(pair.source),
+        target: u64::from(pair.target),
+    }
+}
+
+/// A right reply to each pair, in their order, or none at all. Pairs of one source that follow one another search once.
+fn reply_to_all(
+    alloc: Global,
+    network: &Network,
+    delta: Option<u32>,
+    pairs: &[Pair],
+) -> Result<Vec<Reply>, Failed>
+    requires { ForSome delta IsWidth }
+    ensures right { IfOk result (λ replies. AreRight network.now pairs.now replies.items) }
+    ensures refused { IfErr result (λ failed. failed ≡ Failed.Code Refusal.OutOfMemory) }
+{
+    let mut searches = Searches::new(delta);
+    let mut replies = match Vec::with_capacity(alloc, pairs.len()) {
+        Ok(replies) => replies,
+        Err(_) => return Err(Failed::Code(Refusal::OutOfMemory)),
+    };
+    for pair in pairs {
+        let reply = match searches.answer(alloc, network, &query_of(*pair)) {
+            Ok(reply) => reply,
+            Err(_) => return Err(Failed::Code(Refusal::OutOfMemory)),
+        };
+        if replies.push(reply).is_err() {
+            return Err(Failed::Code(Refusal::OutOfMemory));
+        }
+    }
+    Ok(replies)
+}
+
+/// Writes one line a pair.
+fn put_answers<W: Write>(
+    out: &mut CountedWriter<'_, W>,
+    pairs: &[Pair],
+    replies: &[Reply],
+) -> Result<(), Failed>
+    requires { length replies.now ≡ length pairs.now }
+    ensures ok { OnOk result (Appends (W.contents (writer_of out.old)) (W.contents (writer_of out.new)) (answer_lines pairs.now replies.now)) }
+    ensures refused { IfErr result (λ failed. failed ≡ Failed.Code Refusal.Write) }
+    ensures counts { CountsFailure (failed_writes out.old) (failed_writes out.new) result }
+    ensures same { IsSameWriter out.old out.new }
+{
+    for (index, pair) in pairs.iter().enumerate() {
+        put_answer(out, &query_of(*pair), replies[index])?;
+    }
+    Ok(())
+}
+
+/// Writes the network's version and a right answer to each pair, in their order, and sends them out; or nothing, where no memory is
+/// there for all replies (11). A failed write is 12, and then an unknown part was written. `delta` is the width of a search's buckets, 1
+/// to 2147483647; without one it is the network's default. Pairs of one source that follow one another search once.
+pub fn answer_pairs<W: Write>(
+    alloc: Global,
+    network: &Network,
+    version: u64,
+    delta: Option<u32>,
+    pairs: &[Pair],
+    out: &mut CountedWriter<'_, W>,
+) -> Result<(), Failed>
+    requires { ForSome delta IsWidth }
+    ensures answered { OnOk result (AnswersAll network.now version pairs.now (W.contents (writer_of out.old)) (W.contents (writer_of out.new))) }
+    ensures refused { IfErr result IsUnanswered }
+    ensures unwritten { IfErr result (LeavesUnwritten (writer_of out.old) (writer_of out.new)) }
+    ensures writes { CountsWrites (failed_writes out.old) (failed_writes out.new) result }
+    ensures same { IsSameWriter out.old out.new }
+{
+    let replies = match reply_to_all(alloc, network, delta, pairs) {
+        Ok(replies) => replies,
+        Err(failed) => return Err(failed),
+    };
+    if let Err(failed) = put_version(out, version) {
+        return Err(failed);
+    }
+    if let Err(failed) = put_answers(out, pairs, &replies) {
+        return Err(failed);
+    }
+    out.flush()
+}
+
+/// Writes the answer to each pair of a reader's `.p2p` text, in the network of another reader's `.gr` text, and nothing else: `v 0`,
+/// then one line a pair, in their order. Both texts are read whole before anything is written, the network first, and the first fault
+/// decides. Nodes of the pairs are judged by the network's number of nodes.
+///
+/// `delta` is the width of a search's buckets, 1 to 2147483647: every width gives the same answers; without one it is
+/// the network's default. Pairs of one source that follow one another search once. Where no memory is there for all replies the call is refused with 11 and nothing is
+/// written. A failed read is fault 10 of the text and line being read, and a failed write is 12: both are told only where the count of
+/// that reader's or the writer's failed calls rose. After an `Err` readers and writer are not used again.
+pub fn batch_counted<R: BufRead, Q: BufRead, W: Write>(
+    alloc: Global,
+    gr: &mut Counted<'_, R>,
+    p2p: &mut Counted<'_, Q>,
+    delta: Option<u32>,
+    out: &mut CountedWriter<'_, W>,
+) -> Result<(), Failed>
+    requires { ForSome delta IsWidth }
+    ensures answered { OnOk result (IfSome (R.remaining (reader_of gr.old)) (λ network. IfSome (Q.remaining (reader_of p2p.old))
+        (λ pairs. IsAnsweredBatch network pairs (W.contents (writer_of out.old)) (W.contents (writer_of out.new))))) }
+    ensures refused { IfErr result (λ failed. IfSome (R.remaining (reader_of gr.old)) (λ network. IfSome (Q.remaining (reader_of p2p.old))
+        (λ pairs. IsRefusedBatch network pairs (R.remaining (reader_of gr.new)) (Q.remaining (reader_of p2p.new)) failed))) }
+    ensures unwritten { IfErr result (LeavesUnwritten (writer_of out.old) (writer_of out.new)) }
+    ensures reads_network { CountsFirst (failed_calls gr.old) (failed_calls gr.new) result }
+    ensures reads_pairs { CountsSecond (failed_calls p2p.old) (failed_calls p2p.new) result }
+    ensures writes { CountsWrites (failed_writes out.old) (failed_writes out.new) result }
+    ensures same_network_reader { IsSameReader gr.old gr.new }
+    ensures same_pair_reader { IsSameReader p2p.old p2p.new }
+    ensures same_writer { IsSameWriter out.old out.new }
+{
+    let network = match read_gr_counted(alloc, gr) {
+        Ok(network) => network,
+        Err(fault) => return Err(Failed::Text {
+            which: NETWORK,
+            fault,
+        }),
+    };
+    let pairs = match read_p2p_counted(alloc, p2p, network.nodes()) {
+        Ok(pairs) => pairs,
+        Err(fault) => return Err(Failed::Text {
+            which: PAIRS,
+            fault,
+        }),
+    };
+    answer_pairs(alloc, &network, 0, delta, &pairs, out)
+}
+
+/// The same for texts in memory, over any writer, whose failed calls nobody counts.
+pub fn batch_text<W: Write>(
+    alloc: Global,
+    gr: &[u8],
+    p2p: &[u8],
+    delta: Option<u32>,
+    out: &mut W,
+) -> Result<(), Failed>
+    requires { ForSome delta IsWidth }
+    ensures answered { OnOk result (IsAnsweredBatch gr.now p2p.now (W.contents out.old) (W.contents out.new)) }
+    ensures refused { IfErr result (IsTextRefusedBatch gr.now p2p.now) }
+    ensures unwritten { IfErr result (LeavesUnwritten out.old out.new) }
+{
+    let network = match parse_gr(alloc, gr) {
+        Ok(network) => network,
+        Err(fault) => return Err(Failed::Text {
+            which: NETWORK,
+            fault,
+        }),
+    };
+    let pairs = match parse_p2p(alloc, p2p, network.nodes()) {
+        Ok(pairs) => pairs,
+        Err(fault) => return Err(Failed::Text {
+            which: PAIRS,
+            fault,
+        }),
+    };
+    let mut out = CountedWriter::new(out);
+    answer_pairs(alloc, &network, 0, delta, &pairs, &mut out)
+}

@@ -1,0 +1,2 @@
+pub mod JointRead
+pub mod NewRuns

@@ -1,0 +1,52 @@
+-- A run on a new store, without its disk.
+use Rattle.std.proofs.Common.{◌≡◌, ⊎_elim, inl, inr, ℕ, List, length, Option, Some, IfSome, refl, sym, ap, subst}
+use Rattle.roadnet.specs.declared.commands.Command.{Command}
+use Rattle.roadnet.specs.declared.refusals.Refusal.{Refusal}
+use Rattle.roadnet.specs.declared.refusals.Refusal.TheVariants.{OutOfMemory, Device}
+use Rattle.roadnet.specs.Net.{Net}
+use Rattle.disk.specs.declared.stoppable.Pick.{Pick}
+use Rattle.pages.specs.Layout.{pages_for, word_pages}
+use Rattle.storefile.specs.StoreFile.{StandsTidyFor}
+use Rattle.storefile.specs.Standing.{Standing, standing_of}
+use Rattle.store.specs.Opening.{IsPassing}
+use Rattle.machine.specs.declared.events.Event.{Event}
+use Rattle.machine.specs.declared.events.Replied.{Replied}
+use Rattle.machine.specs.Machine.{Sizes, Machine}
+use Rattle.machine.specs.Lives.{Turn, Ends, Whole, NoMemory, NotOpened, LivesOn}
+use Rattle.keeper.proofs.Stopped.{arcs_of_header}
+use Rattle.rehearsals.specs.Rehearsed.{sizes_of, RepliesTo}
+
+same_sizes : (j w j' w' : ℕ) → j ≡ j' → w ≡ w' → ◌≡◌ {A = Sizes} (record { journal_pages = j; slot_pages = w }) (record { journal_pages = j'; slot_pages = w' })
+same_sizes j w j' w' same_j same_w = cc
+
+-- the content of a new store stands for this network at version 0 with no page unchecked, and its header tells the sizes
+pub replies_to : (net : Net) (journal_pages : ℕ) (content : List ℕ) (x : Standing) (left : List ℕ → Type 0) (events : List (Event Pick)) (replies : List Replied) (ended : Option Refusal) (history : List Command)
+    → standing_of content ≡ Some x → x.network ≡ net → x.version ≡ 0 → x.unchecked ≡ 0 → x.header.journal_pages ≡ journal_pages
+    → LivesOn StandsTidyFor left (record { journal_pages = x.header.journal_pages; slot_pages = word_pages x.header }) x.network x.version x.unchecked events replies ended history
+    → RepliesTo net journal_pages events replies ended
+replies_to net journal_pages content x left events replies ended history told network_is version_is unchecked_is pages_are run =
+    let arcs : x.header.arcs ≡ length x.network.arcs = arcs_of_header content x told in
+    let sizes : ◌≡◌ {A = Sizes} (record { journal_pages = x.header.journal_pages; slot_pages = word_pages x.header }) (sizes_of x.network journal_pages) =
+    same_sizes x.header.journal_pages (word_pages x.header) journal_pages (pages_for 1023 (length x.network.arcs)) pages_are (ap (pages_for 1023) arcs) in
+    let sized : LivesOn StandsTidyFor left (sizes_of x.network journal_pages) x.network x.version x.unchecked events replies ended history =
+    subst (λ (z : Sizes). LivesOn StandsTidyFor left z x.network x.version x.unchecked events replies ended history) sizes run in
+    let of_net : LivesOn StandsTidyFor left (sizes_of net journal_pages) net x.version x.unchecked events replies ended history =
+    subst (λ (n : Net). LivesOn StandsTidyFor left (sizes_of n journal_pages) n x.version x.unchecked events replies ended history) network_is sized in
+    let of_version : LivesOn StandsTidyFor left (sizes_of net journal_pages) net 0 x.unchecked events replies ended history =
+    subst (λ (v : ℕ). LivesOn StandsTidyFor left (sizes_of net journal_pages) net v x.unchecked events replies ended history) version_is of_net in
+    let new : LivesOn StandsTidyFor left (sizes_of net journal_pages) net 0 0 events replies ended history =
+    subst (λ (u : ℕ). LivesOn StandsTidyFor left (sizes_of net journal_pages) net 0 u events replies ended history) unchecked_is of_version in
+    record { history = history; last = new.last; lives = new.lives }
+
+-- ---- for what a run ends early
+passing : (o : Option Refusal) (r : Refusal) → o ≡ Some r → IsPassing r → IfSome o IsPassing
+passing o r is p = subst (λ (x : Option Refusal). IfSome x IsPassing) (sym is) p
+
+ends_passing : (first : Machine) (turns : List (Turn Pick)) (rest : List (Event Pick)) (ended : Option Refusal) (history : List Command) (last : Machine) → Ends first turns rest ended history last → IfSome ended IsPassing
+ends_passing first turns rest ended history last (Whole passes all none same) = subst (λ (x : Option Refusal). IfSome x IsPassing) (sym none) tt
+ends_passing first turns rest ended history last (NoMemory passes is same) = passing ended OutOfMemory is (inl refl)
+ends_passing first turns rest ended history last (NotOpened before turn mid split passes stops why same) =
+    ⊎_elim (λ is. passing ended OutOfMemory is (inl refl)) (λ is. passing ended Device is (inr refl)) why
+
+pub run_ends_passing : (net : Net) (journal_pages : ℕ) (events : List (Event Pick)) (replies : List Replied) (ended : Option Refusal) → RepliesTo net journal_pages events replies ended → IfSome ended IsPassing
+run_ends_passing net journal_pages events replies ended run = ends_passing _ run.lives.turns run.lives.rest ended run.history run.last run.lives.ends

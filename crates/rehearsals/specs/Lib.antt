@@ -1,0 +1,3 @@
+pub mod Rehearsed
+pub mod Texts
+pub mod Joint

@@ -1,0 +1,125 @@
+//! The joint form: a network, a line `run`, and a script.
+ghost use Rattle.std.specs.Prelude.{IfSome, OnOk, IfErr};
+ghost use Rattle.std.specs.Option.{ForSome};
+ghost use Rattle.rows.specs.Kept.{IsWidth};
+ghost use Rattle.dimacs.specs.Counts.{failed_calls, reader_of, IsSameReader};
+ghost use Rattle.printing.specs.Counting.{failed_writes, writer_of, IsSameWriter};
+ghost use Rattle.printing.specs.Failing.{CountsReads, CountsWrites, IsOfText};
+ghost use Rattle.rehearsals.specs.Joint.{IsAnswered, IsRefused, ReadsJoint};
+ghost use Rattle.rehearsals.specs.Texts.{IsOfRehearsal, KeepsWriter};
+
+use crate::running::run_events;
+use dimacs::{Counted, read_gr_before_run};
+use disk::Pick;
+use machine::Event;
+use printing::{CountedWriter, Failed};
+use roadnet::Network;
+use scripts::read_script_counted;
+use std::alloc::Global;
+use std::io::{BufRead, Write};
+
+const NETWORK: u8 = 0;
+
+const SCRIPT: u8 = 1;
+
+/// How many pages the journal of a joint text's store has.
+const JOURNAL_PAGES: u32 = 64;
+
+/// What a joint text says: a network, and the events of its script.
+#[derive(Drop)]
+struct Joint {
+    network: Network,
+    events: Vec<Event<Pick>>,
+}
+
+/// The network before the first line `run`, and the events behind it.
+fn read_joint<R: BufRead>(alloc: Global, reader: &mut Counted<'_, R>) -> Result<Joint, Failed>
+    ensures read { IfSome (R.remaining (reader_of reader.old))
+        (λ text. ReadsJoint text (R.remaining (reader_of reader.new)) result) }
+    ensures texts { IfErr result IsOfText }
+    ensures codes { IfErr result IsOfRehearsal }
+    ensures counts { CountsReads (failed_calls reader.old) (failed_calls reader.new) result }
+    ensures same { IsSameReader reader.old reader.new }
+{
+    let (network, at_run) = match read_gr_before_run(alloc, reader) {
+        Ok(found) => found,
+        Err(fault) => {
+            return Err(Failed::Text {
+                which: NETWORK,
+                fault,
+            });
+        }
+    };
+    if !at_run {
+        let events = Vec::new(alloc);
+        return Ok(Joint { network, events });
+    }
+    match read_script_counted(alloc, reader) {
+        Ok(events) => Ok(Joint { network, events }),
+        Err(fault) => Err(Failed::Text {
+            which: SCRIPT,
+            fault,
+        }),
+    }
+}
+
+/// Reads a joint text, runs the events of its script on a new store of its network, in memory and with 64 journal pages, and writes the
+/// lines of the replies, and nothing else. Both texts are read whole before anything is run or written; the first fault decides. Without
+/// a line `run` the script is empty.
+///
+/// `delta`, 1 to 2147483647, is the width of the buckets of each view's searches: every width gives the same answers; without one it is
+/// the network's default. An event that finds no memory is answered with `no 11`. Where the store cannot be made (11, or 43 where memory
+/// is wanting in the disk), nothing is written; where the run ends early (11 or 43), the replies so far are. A failed read is fault 10 of
+/// the text and line being read, and a failed write is 12: both are told only where the count of the reader's or writer's failed calls
+/// rose. After an `Err` reader and writer are not used again.
+pub fn joint_counted<R: BufRead, W: Write>(
+    alloc: Global,
+    reader: &mut Counted<'_, R>,
+    delta: Option<u32>,
+    out: &mut CountedWriter<'_, W>,
+) -> Result<(), Failed>
+    requires { ForSome delta IsWidth }
+    ensures answered { OnOk result (IfSome (R.remaining (reader_of reader.old))
+        (λ text. IsAnswered text (W.contents (writer_of out.old)) (W.contents (writer_of out.new)))) }
+    ensures refused { IfErr result (λ failed. IfSome (R.remaining (reader_of reader.old))
+        (λ text. IsRefused text (R.remaining (reader_of reader.new)) (W.contents (writer_of out.old)) (W.contents (writer_of out.new)) failed)) }
+    ensures codes { IfErr result IsOfRehearsal }
+    ensures unwritten { IfErr result (KeepsWriter (writer_of out.old) (writer_of out.new)) }
+    ensures reads { CountsReads (failed_calls reader.old) (failed_calls reader.new) result }
+    ensures writes { CountsWrites (failed_writes out.old) (failed_writes out.new) result }
+    ensures same_reader { IsSameReader reader.old reader.new }
+    ensures same_writer { IsSameWriter out.old out.new }
+{
+    let joint = match read_joint(alloc, reader) {
+        Ok(joint) => joint,
+        Err(failed) => return Err(failed),
+    };
+    run_events(
+        alloc,
+        &joint.network,
+        JOURNAL_PAGES,
+        delta,
+        &joint.events,
+        out,
+    )
+}
+
+/// The same over any reader and writer, whose failed calls nobody counts.
+pub fn joint_text<R: BufRead, W: Write>(
+    alloc: Global,
+    reader: &mut R,
+    delta: Option<u32>,
+    out: &mut W,
+) -> Result<(), Failed>
+    requires { ForSome delta IsWidth }
+    ensures answered { OnOk result (IfSome (R.remaining reader.old)
+        (λ text. IsAnswered text (W.contents out.old) (W.contents out.new))) }
+    ensures refused { IfErr result (λ failed. IfSome (R.remaining reader.old)
+        (λ text. IsRefused text (R.remaining reader.new) (W.contents out.old) (W.contents out.new) failed)) }
+    ensures codes { IfErr result IsOfRehearsal }
+    ensures unwritten { IfErr result (KeepsWriter out.old out.new) }
+{
+    let mut reader = Counted::new(reader);
+    let mut out = CountedWriter::new(out);
+    joint_counted(alloc, &mut reader, delta, &mut out)
+}

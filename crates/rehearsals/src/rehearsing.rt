@@ -1,0 +1,104 @@
+//! A network's text, and a script that is run on it.
+ghost use Rattle.std.specs.Prelude.{◌≤◌, OnOk, IfErr, IfSome};
+ghost use Rattle.std.specs.Option.{ForSome};
+ghost use Rattle.rows.specs.Kept.{IsWidth};
+ghost use Rattle.dimacs.specs.Counts.{failed_calls, reader_of, IsSameReader};
+ghost use Rattle.dimacs.specs.Lines.{rows};
+ghost use Rattle.printing.specs.Counting.{failed_writes, writer_of, IsSameWriter};
+ghost use Rattle.printing.specs.Failing.{CountsFirst, CountsSecond, CountsWrites};
+ghost use Rattle.rehearsals.specs.Texts.{IsRehearsed, IsRefusedRehearsal, IsTextRefusedRehearsal, IsOfRehearsal, KeepsWriter};
+
+use crate::running::run_events;
+use dimacs::{Counted, parse_gr, read_gr_counted};
+use printing::{CountedWriter, Failed};
+use scripts::{parse_script, read_script_counted};
+use std::alloc::Global;
+use std::io::{BufRead, Write};
+
+const NETWORK: u8 = 0;
+
+const SCRIPT: u8 = 1;
+
+/// Runs the events of a reader's script on a new store, in memory, of the network of another reader's `.gr` text, and writes the lines of
+/// the replies, and nothing else. Both texts are read whole before anything is run or written, the network first, and the first fault
+/// decides.
+///
+/// The store has `journal_pages` pages in its journal, 1 to 65,536. `delta`, 1 to 2147483647, is the width of the buckets of each view's
+/// searches: every width gives the same answers; without one it is the network's default. An event that finds no memory is answered with
+/// `no 11`. Where the store cannot be made (11, or 43 where memory is wanting in the disk), nothing is written; where the run ends early
+/// (11 or 43), the replies so far are. A failed read is fault 10 of the text and line being read, and a failed write is 12: both are told
+/// only where the count of that reader's or the writer's failed calls rose. After an `Err` readers and writer are not used again.
+pub fn rehearse_counted<R: BufRead, Q: BufRead, W: Write>(
+    alloc: Global,
+    gr: &mut Counted<'_, R>,
+    script: &mut Counted<'_, Q>,
+    journal_pages: u32,
+    delta: Option<u32>,
+    out: &mut CountedWriter<'_, W>,
+) -> Result<(), Failed>
+    requires width { ForSome delta IsWidth }
+    requires some { 1 ≤ journal_pages }
+    requires few { journal_pages ≤ 65536 }
+    ensures answered { OnOk result (IfSome (R.remaining (reader_of gr.old)) (λ network. IfSome (Q.remaining (reader_of script.old))
+        (λ events. IsRehearsed journal_pages (rows network) (rows events) (W.contents (writer_of out.old)) (W.contents (writer_of out.new))))) }
+    ensures refused { IfErr result (λ failed. IfSome (R.remaining (reader_of gr.old)) (λ network. IfSome (Q.remaining (reader_of script.old))
+        (λ events. IsRefusedRehearsal journal_pages network events (R.remaining (reader_of gr.new)) (Q.remaining (reader_of script.new)) (W.contents (writer_of out.old)) (W.contents (writer_of out.new)) failed))) }
+    ensures codes { IfErr result IsOfRehearsal }
+    ensures unwritten { IfErr result (KeepsWriter (writer_of out.old) (writer_of out.new)) }
+    ensures reads_network { CountsFirst (failed_calls gr.old) (failed_calls gr.new) result }
+    ensures reads_script { CountsSecond (failed_calls script.old) (failed_calls script.new) result }
+    ensures writes { CountsWrites (failed_writes out.old) (failed_writes out.new) result }
+    ensures same_network_reader { IsSameReader gr.old gr.new }
+    ensures same_script_reader { IsSameReader script.old script.new }
+    ensures same_writer { IsSameWriter out.old out.new }
+{
+    let network = match read_gr_counted(alloc, gr) {
+        Ok(network) => network,
+        Err(fault) => return Err(Failed::Text {
+            which: NETWORK,
+            fault,
+        }),
+    };
+    let events = match read_script_counted(alloc, script) {
+        Ok(events) => events,
+        Err(fault) => return Err(Failed::Text {
+            which: SCRIPT,
+            fault,
+        }),
+    };
+    run_events(alloc, &network, journal_pages, delta, &events, out)
+}
+
+/// The same for texts in memory, over any writer, whose failed calls nobody counts.
+pub fn rehearse_text<W: Write>(
+    alloc: Global,
+    gr: &[u8],
+    script: &[u8],
+    journal_pages: u32,
+    delta: Option<u32>,
+    out: &mut W,
+) -> Result<(), Failed>
+    requires width { ForSome delta IsWidth }
+    requires some { 1 ≤ journal_pages }
+    requires few { journal_pages ≤ 65536 }
+    ensures answered { OnOk result (IsRehearsed journal_pages (rows gr.now) (rows script.now) (W.contents out.old) (W.contents out.new)) }
+    ensures refused { IfErr result (IsTextRefusedRehearsal journal_pages gr.now script.now (W.contents out.old) (W.contents out.new)) }
+    ensures unwritten { IfErr result (KeepsWriter out.old out.new) }
+{
+    let network = match parse_gr(alloc, gr) {
+        Ok(network) => network,
+        Err(fault) => return Err(Failed::Text {
+            which: NETWORK,
+            fault,
+        }),
+    };
+    let events = match parse_script(alloc, script) {
+        Ok(events) => events,
+        Err(fault) => return Err(Failed::Text {
+            which: SCRIPT,
+            fault,
+        }),
+    };
+    let mut out = CountedWriter::new(out);
+    run_events(alloc, &network, journal_pages, delta, &events, &mut out)
+}

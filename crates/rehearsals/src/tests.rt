@@ -1,0 +1,413 @@
+ghost use Rattle.std.specs.Prelude.{◌≤◌};
+
+use crate::{joint_counted, joint_text, rehearse_counted, rehearse_text};
+use dimacs::{Code, Counted, Fault};
+use printing::{CountedWriter, Failed};
+use roadnet::Refusal;
+use std::io;
+use std::io::{BufReader, ErrorKind, Read, Write};
+use std::process::Abort;
+use std::test::Fail;
+
+/// The network of the worked rows.
+const SIX: &[u8] =
+    b"c S6\np sp 6 8\na 1 2 17\na 1 3 10\na 2 4 2\na 3 5 0\na 4 3 0\na 4 6 3\na 5 2 0\na 5 6 20\n";
+
+const PARALLEL: &[u8] = b"p sp 2 3\na 1 2 5\na 1 2 3\na 1 1 0\n";
+
+const CLOSED: &[u8] = b"close 7\nflush\ndist 1 6\ntask\npublish\ndist 1 6\n";
+
+/// A script on a new store of the network is told of with just these bytes.
+fn is_rehearsed(
+    rt: &(impl Abort + AllocGlobal),
+    name: &str,
+    gr: &[u8],
+    journal_pages: u32,
+    script: &[u8],
+    want: &[u8],
+)
+    requires some { 1 ≤ journal_pages }
+    requires few { journal_pages ≤ 65536 }
+{
+    let mut out = Vec::new(rt.alloc());
+    let outcome = rehearse_text(rt.alloc(), gr, script, journal_pages, None, &mut out);
+    assert!(rt; outcome == Ok(()), "{name}");
+    assert!(rt; out.as_slice() == want, "{name}");
+}
+
+/// A joint text is answered with just these bytes.
+fn is_answered(rt: &(impl Abort + AllocGlobal), name: &str, text: &[u8], want: &[u8]) {
+    let mut reader = text;
+    let mut out = Vec::new(rt.alloc());
+    let outcome = joint_text(rt.alloc(), &mut reader, None, &mut out);
+    assert!(rt; outcome == Ok(()), "{name}");
+    assert!(rt; out.as_slice() == want, "{name}");
+}
+
+#[test]
+fn joint_texts(rt: HostRuntime) {
+    let table: [(&str, &[u8], &[u8]); 5] = [
+        (
+            "first_run",
+            b"c S6\np sp 6 8\na 1 2 17\na 1 3 10\na 2 4 2\na 3 5 0\na 4 3 0\na 4 6 3\na 5 2 0\na 5 6 20\nrun\ndist 1 6\n",
+            b"v 0\nd 1 6 15\n",
+        ),
+        (
+            "spelling_of_lines",
+            b"c S6\r\np\tsp 6 8\r\na 1 2\t17\r\nc\r\na 1 3 10\r\na 2 4 2\r\na 3 5 0\r\na 4 3 0\r\na 4 6 3\r\na 5 2 0\r\na 5 6 20\r\n run\t\r\ndist 1 6",
+            b"v 0\nd 1 6 15\n",
+        ),
+        (
+            "one node",
+            b"p sp 1 0\nrun\n# none but one\n\nclose 1\n  dist\t1 1 \r\nstop",
+            b"no 20\nv 0\nd 1 1 0\nstopped\nv 0\n",
+        ),
+        ("no run", b"p sp 1 0", b""),
+        ("no script", b"p sp 1 0\nrun", b""),
+    ];
+    for (name, text, want) in table {
+        is_answered(&rt, name, text, want);
+    }
+}
+
+#[test]
+fn scripts_of_the_default_journal(rt: HostRuntime) {
+    let table: [(&str, &[u8], &[u8], &[u8]); 10] = [
+        (
+            "no_walk_itself_no_node",
+            SIX,
+            b"dist 6 1\ndist 4 4\ndist 1 7\n",
+            b"v 0\nx 6 1\nv 0\nd 4 4 0\nv 0\nno 24\n",
+        ),
+        (
+            "closed_arc_lengthens",
+            SIX,
+            CLOSED,
+            b"t 1\nok 1\nv 0\nd 1 6 15\ntask 1\nshown 1\nv 1\nd 1 6 22\n",
+        ),
+        (
+            "shorter_length_shortens",
+            SIX,
+            b"close 7\nflush\ndist 1 6\ntask\npublish\ndist 1 6\nset 8 4\nflush\ntask\npublish\ndist 1 6\nreopen 7\nflush\ntask\npublish\ndist 1 6\n",
+            b"t 1\nok 1\nv 0\nd 1 6 15\ntask 1\nshown 1\nv 1\nd 1 6 22\nt 2\nok 2\ntask 2\nshown 2\nv 2\nd 1 6 14\nt 3\nok 3\ntask 3\nshown 3\nv 3\nd 1 6 14\n",
+        ),
+        (
+            "second_close_refused",
+            SIX,
+            b"close 7\nclose 7\nflush\nflush\n",
+            b"t 1\nno 22\nok 1\nno 53\n",
+        ),
+        (
+            "refusals_of_commands",
+            SIX,
+            b"set 9 1\nset 1 2147483648\nset 9 2147483648\nmark 7\nunmark 3\nreopen 7\n",
+            b"no 20\nno 21\nno 20\nno 24\nno 26\nno 23\n",
+        ),
+        (
+            "greatest_lengths",
+            b"p sp 4 3\na 1 2 2147483647\na 2 3 2147483647\na 3 4 2147483647\n",
+            b"dist 1 4\n",
+            b"v 0\nd 1 4 6442450941\n",
+        ),
+        (
+            "parallel_arcs_and_loops",
+            PARALLEL,
+            b"dist 1 2\nclose 2\nflush\ntask\npublish\ndist 1 2\n",
+            b"v 0\nd 1 2 3\nt 1\nok 1\ntask 1\nshown 1\nv 1\nd 1 2 5\n",
+        ),
+        (
+            "stop_within_checkpoint",
+            SIX,
+            b"close 7\nflush\nstop 4 old checkpoint\ndist 1 6\nstop 4 new checkpoint\ndist 1 6\n",
+            b"t 1\nok 1\nstopped\nv 1\nv 1\nd 1 6 22\nstopped\nv 1\nv 1\nd 1 6 22\n",
+        ),
+        (
+            "rows of a landmark",
+            SIX,
+            b"mark 3\nflush\ntask\npublish\ndist 5 6\nfrom 3 4\nfrom 1 4\n",
+            b"t 1\nok 1\ntask 1\nshown 1\nv 1\nd 5 6 5\nv 1\nd 3 4 2\nv 1\nno 26\n",
+        ),
+        ("no_events", SIX, b"# none\n", b""),
+    ];
+    for (name, gr, script, want) in table {
+        is_rehearsed(&rt, name, gr, 64, script, want);
+    }
+}
+
+#[test]
+fn scripts_of_two_journal_pages(rt: HostRuntime) {
+    let table: [(&str, &[u8], &[u8]); 2] = [
+        (
+            "reuse_needs_a_checkpoint",
+            b"set 1 1\nflush\nset 1 2\nflush\nset 1 3\nflush\ncheckpoint\nstop 3 170 flush\ndist 1 2\n",
+            b"t 1\nok 1\nt 2\nok 2\nt 3\nno 44\nok 2\nstopped\nv 2\nv 2\nd 1 2 2\n",
+        ),
+        (
+            "closed_gate_is_not_rewritten",
+            b"set 1 1\nflush\nset 1 2\nflush\nset 1 3\nflush\ncheckpoint\nstop 3 new flush\ndist 1 2\nset 1 9\nstop 1 165 flush\ndist 1 2\n",
+            b"t 1\nok 1\nt 2\nok 2\nt 3\nno 44\nok 2\nstopped\nv 2\nv 2\nd 1 2 2\nt 3\nstopped\nv 2\nv 2\nd 1 2 2\n",
+        ),
+    ];
+    for (name, script, want) in table {
+        is_rehearsed(&rt, name, SIX, 2, script, want);
+    }
+}
+
+#[test]
+fn stop_within_flush(rt: HostRuntime) -> Result<(), Fail> {
+    for call in 1..6 {
+        for (pick, left) in [("old", 0), ("new", 1), ("165", 1), ("17", 0)] {
+            let script = format!(in rt.alloc(); "close 7\nstop {call} {pick} flush\n")?;
+            let want = match call {
+                1 | 2 => format!(in rt.alloc(); "t 1\nstopped\nv 0\n")?,
+                3 | 4 => format!(in rt.alloc(); "t 1\nstopped\nv {left}\n")?,
+                _ => format!(in rt.alloc(); "t 1\nok 1\nstopped\nv 1\n")?,
+            };
+            is_rehearsed(
+                &rt,
+                script.as_str(),
+                SIX,
+                64,
+                script.as_bytes(),
+                want.as_bytes(),
+            );
+        }
+    }
+    Ok(())
+}
+
+#[test]
+fn full_page_of_commands(rt: HostRuntime) -> Result<(), Fail> {
+    let mut script = Vec::new(rt.alloc());
+    let mut want = Vec::new(rt.alloc());
+    for number in 1..255 {
+        script.extend_from_slice(b"set 1 17\n")?;
+        let line = format!(in rt.alloc(); "t {number}\n")?;
+        want.extend_from_slice(line.as_bytes())?;
+    }
+    script.extend_from_slice(b"flush\nstop\n")?;
+    want.extend_from_slice(b"ok 253\nstopped\nv 253\n")?;
+    is_rehearsed(&rt, "full_page_of_commands", SIX, 64, &script, &want);
+    Ok(())
+}
+
+/// The network is judged before the script, and nothing is written.
+#[test]
+fn faults_of_texts(rt: HostRuntime) {
+    let table: [(&[u8], &[u8], u8, u64, Code); 7] = [
+        (b"p sp 0 0\n", b"q", 0, 1, Code::NumberRange),
+        (b"", b"lower 1 2", 0, 0, Code::NoProblemLine),
+        (b"p sp 1 0\nrun\n", b"", 0, 2, Code::BadLine),
+        (SIX, b"lower 5 6\n", 1, 1, Code::BadLine),
+        (
+            SIX,
+            b"dist 1 6\n\nstop 0 old flush\n",
+            1,
+            3,
+            Code::NumberRange,
+        ),
+        (SIX, b"close 7\nstop 1 256 flush", 1, 2, Code::NumberRange),
+        (SIX, b"flush\nrun\n", 1, 2, Code::BadLine),
+    ];
+    for (gr, script, which, line, code) in table {
+        let mut out = Vec::new(rt.alloc());
+        let fault = Fault { line, code };
+        let outcome = rehearse_text(rt.alloc(), gr, script, 64, None, &mut out);
+        assert!(rt; outcome == Err(Failed::Text { which, fault }), "{fault}");
+        assert!(rt; out.is_empty(), "{fault}");
+    }
+}
+
+#[test]
+fn faults_of_joint_texts(rt: HostRuntime) {
+    let table: [(&[u8], u8, u64, Code); 16] = [
+        (&SIX[..SIX.len() - 9], 0, 9, Code::LineCount),
+        (b"a 1 2 3\nrun\ndist\n", 0, 1, Code::NoProblemLine),
+        (b"p sp 6 8\na 1 2 17\na 1 2 -5\n", 0, 3, Code::LengthRange),
+        (b"", 0, 0, Code::NoProblemLine),
+        (b"p sp 33554433 0\n", 0, 1, Code::TooLarge),
+        (b"p max 6 8\n", 0, 1, Code::WrongKind),
+        (b"p sp 6 8\na 1 2 17\na 1 2 5.0\n", 0, 3, Code::BadLine),
+        (b"run\n", 0, 0, Code::NoProblemLine),
+        (b"p sp 2 1\nrun\n", 0, 1, Code::LineCount),
+        (b"p sp 2 0\nrun\ndist 1\n", 1, 1, Code::BadLine),
+        (
+            b"p sp 2 0\nrun\n\ndist 1 2\nlower 1 2\n",
+            1,
+            3,
+            Code::BadLine,
+        ),
+        (b"p sp 2 0\nrun\nc\n", 1, 1, Code::BadLine),
+        (b"p sp 2 0\nrun\nrun\n", 1, 1, Code::BadLine),
+        (b"p sp 2 0\nrun\ndist 1 -0\n", 1, 1, Code::NumberRange),
+        (
+            b"p sp 2 0\nrun\ndist 9223372036854775808 1\n",
+            1,
+            1,
+            Code::NumberRange,
+        ),
+        (
+            b"p sp 2 0\nrun\ndist 9223372036854775808 x\n",
+            1,
+            1,
+            Code::BadLine,
+        ),
+    ];
+    for (text, which, line, code) in table {
+        let mut reader = text;
+        let mut out = Vec::new(rt.alloc());
+        let fault = Fault { line, code };
+        let outcome = joint_text(rt.alloc(), &mut reader, None, &mut out);
+        assert!(rt; outcome == Err(Failed::Text { which, fault }), "{fault}");
+        assert!(rt; out.is_empty(), "{fault}");
+    }
+}
+
+/// Every width of the buckets gives the same answers.
+#[test]
+fn widths_give_one_answer(rt: HostRuntime) {
+    for delta in [Some(1), Some(5), Some(2147483647)] {
+        let mut out = Vec::new(rt.alloc());
+        let outcome = rehearse_text(rt.alloc(), SIX, CLOSED, 1, delta, &mut out);
+        assert!(rt; outcome == Ok(()), "{delta:?}");
+        assert!(rt;
+            out.as_slice()
+                == b"t 1\nok 1\nv 0\nd 1 6 15\ntask 1\nshown 1\nv 1\nd 1 6 22\n".as_slice(),
+            "{delta:?}"
+        );
+    }
+}
+
+/// A reader whose n-th read fails.
+#[derive(Drop)]
+struct FailingReader<'a> {
+    bytes: &'a [u8],
+    reads: u32,
+}
+
+impl Read for FailingReader<'_> {
+    fn read(&mut self, buf: &mut [u8]) -> io::Result<usize> {
+        self.reads = self.reads.wrapping_sub(1);
+        if self.reads == 0 {
+            return Err(io::Error::from(ErrorKind::BrokenPipe));
+        }
+        self.bytes.read(buf)
+    }
+}
+
+#[test]
+fn a_reader_fails_at_each_read(rt: HostRuntime) -> Result<(), Fail> {
+    let mut text = Vec::from_slice(rt.alloc(), SIX)?;
+    text.extend_from_slice(b"run\ndist 1 6\n")?;
+    for reads in 1..30 {
+        let failing = FailingReader {
+            bytes: &text,
+            reads,
+        };
+        let mut reader = BufReader::with_capacity(rt.alloc(), 8, failing)?;
+        let mut counted = Counted::new(&mut reader);
+        let mut out = Vec::new(rt.alloc());
+        let mut writer = CountedWriter::new(&mut out);
+        let outcome = joint_counted(rt.alloc(), &mut counted, None, &mut writer);
+        let failed = counted.failed_calls();
+        if let Err(Failed::Text { which: _, fault }) = outcome {
+            assert!(rt; fault.code == Code::Read && failed == 1, "read {reads}");
+            assert!(rt; out.is_empty(), "read {reads}");
+        } else {
+            assert!(rt; outcome == Ok(()) && failed == 0, "read {reads}");
+            assert!(rt; out.as_slice() == b"v 0\nd 1 6 15\n".as_slice());
+            assert!(rt; reads > 12);
+        }
+    }
+    Ok(())
+}
+
+#[test]
+fn a_reader_of_a_script_fails(rt: HostRuntime) -> Result<(), Fail> {
+    for reads in 1..10 {
+        let mut gr = SIX;
+        let failing = FailingReader {
+            bytes: b"dist 1 6\ndist 4 4\n",
+            reads,
+        };
+        let mut reader = BufReader::with_capacity(rt.alloc(), 8, failing)?;
+        let mut script = Counted::new(&mut reader);
+        let mut out = Vec::new(rt.alloc());
+        let mut writer = CountedWriter::new(&mut out);
+        let outcome = rehearse_counted(
+            rt.alloc(),
+            &mut Counted::new(&mut gr),
+            &mut script,
+            64,
+            None,
+            &mut writer,
+        );
+        let failed = script.failed_calls();
+        if let Err(Failed::Text { which, fault }) = outcome {
+            assert!(rt;
+                which == 1 && fault.code == Code::Read && failed == 1,
+                "read {reads}"
+            );
+            assert!(rt; out.is_empty(), "read {reads}");
+        } else {
+            assert!(rt; outcome == Ok(()) && failed == 0, "read {reads}");
+            assert!(rt; out.as_slice() == b"v 0\nd 1 6 15\nv 0\nd 4 4 0\n".as_slice());
+            assert!(rt; reads > 3);
+        }
+    }
+    Ok(())
+}
+
+/// A writer of 96 bytes at most, which takes no memory.
+#[derive(Drop)]
+struct Page {
+    bytes: [u8; 96],
+    len: usize,
+}
+
+impl Write for Page {
+    fn write(&mut self, buf: &[u8]) -> io::Result<usize> {
+        for &byte in buf {
+            if self.len < 96 {
+                self.bytes[self.len] = byte;
+                self.len += 1;
+            }
+        }
+        Ok(buf.len())
+    }
+
+    fn flush(&mut self) -> io::Result<()> {
+        Ok(())
+    }
+}
+
+/// With enough memory all is told. Where an allocation fails, 11 is told as a text's fault or in place of one reply, or the disk fails, or
+/// the run ends with the replies so far; and no answer is wrong.
+#[test]
+fn allocations_fail_in_turn(rt: HostRuntime) {
+    let whole: [&[u8]; 7] = [
+        b"t 1\nok 1\nv 0\nd 1 6 15\ntask 1\nshown 1\nv 1\nd 1 6 22\n",
+        b"no 11\nno 53\nv 0\nd 1 6 15\nno 51\nno 51\nv 0\nd 1 6 15\n",
+        b"t 1\nno 11\nv 0\nd 1 6 15\nno 51\nno 51\nv 0\nd 1 6 15\n",
+        b"t 1\nno 43\nv 0\nd 1 6 15\nno 51\nno 51\nv 0\nd 1 6 15\n",
+        b"t 1\nok 1\nno 11\ntask 1\nshown 1\nv 1\nd 1 6 22\n",
+        b"t 1\nok 1\nv 0\nd 1 6 15\nno 11\nno 51\nv 0\nd 1 6 15\n",
+        b"t 1\nok 1\nv 0\nd 1 6 15\ntask 1\nshown 1\nno 11\n",
+    ];
+    let mut page = Page {
+        bytes: [0; 96],
+        len: 0,
+    };
+    let outcome = rehearse_text(rt.alloc(), SIX, CLOSED, 64, None, &mut page);
+    let told = &page.bytes[..page.len.min(96)];
+    match outcome {
+        Ok(()) => assert!(rt; whole.iter().any(|want| *want == told)),
+        Err(Failed::Text { which: _, fault }) => {
+            assert!(rt; fault.code == Code::OutOfMemory && told.is_empty());
+        }
+        Err(Failed::Code(refusal)) => {
+            assert!(rt; refusal == Refusal::OutOfMemory || refusal == Refusal::Device);
+            assert!(rt; whole[0].starts_with(told));
+        }
+    }
+}

@@ -1,4 +1,0 @@
-use Rattle.roadmark.proofs.once.answer_one.Goals as goal
-
-pub answer-requires : goal.answer-requires
-answer-requires g c = c.new.ensures.kept c.args.network.now

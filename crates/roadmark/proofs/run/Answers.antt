@@ -1,0 +1,10 @@
+-- The journal pages of a job are those of its words.
+use Rattle.std.proofs.Common.{ap}
+use Rattle.roadmark.specs.Words.{journal_of}
+use Rattle.roadmark.proofs.run.Goals as goal
+
+pub run_rehearse-requires-clause-journal : goal.run_rehearse-requires-clause-journal
+run_rehearse-requires-clause-journal g c = c.requires.journal c.in-Rehearse.journal_pages (ap journal_of c.in-Rehearse.is)
+
+pub run_create-requires : goal.run_create-requires
+run_create-requires g c = c.requires.journal c.in-Create.journal_pages (ap journal_of c.in-Create.is)

@@ -1,5 +1,0 @@
-use Rattle.roadmark.proofs.ScriptLines.{takes_remark}
-use Rattle.roadmark.proofs.script_texts.EventLinesTakeLines.pass_comment.Goals as goal
-
-pub returns : goal.returns
-returns c earlier row e taken = takes_remark earlier row c.args.self.now e taken

@@ -1,0 +1,179 @@
+//! The words that the program takes, and their help.
+use clap::{Arg, ArgAction, Command, value_parser};
+use std::alloc::{AllocError, Global};
+
+// Ids of the words and options that a job has.
+pub const NETWORK: &str = "GR";
+
+pub const PAIRS: &str = "P2P";
+
+pub const SCRIPT: &str = "SCRIPT";
+
+pub const STORE: &str = "STORE";
+
+pub const LANDMARKS: &str = "SS";
+
+pub const COMMANDS: &str = "COMMANDS";
+
+pub const SOURCE: &str = "S";
+
+pub const TARGET: &str = "T";
+
+pub const DELTA: &str = "delta";
+
+pub const JOURNAL: &str = "journal";
+
+// The words that name a job.
+pub const ONCE: &str = "once";
+
+pub const BATCH: &str = "batch";
+
+pub const REHEARSE: &str = "rehearse";
+
+pub const CREATE: &str = "create";
+
+pub const APPLY: &str = "apply";
+
+pub const ASK: &str = "ask";
+
+const ABOUT: &str =
+    "Exact least distances in a road network, which may be kept in a store: a file that survives a power cut.
+
+Without a word it reads the joint form from standard input: a .gr text, a line `run`, and a script, which it runs on a store in memory.
+
+The exit status is 0 where all was done, 1 after a fault in a text, a file or the output, and 2 where the words were not understood.";
+
+const ABOUT_ONCE: &str =
+    "Prints the least length of a walk from S to T in the network of the file GR: the lines `v 0` and `d S T LENGTH`, `x S T` where no walk leads there, or `no 24` where S or T is no node.";
+
+const ABOUT_BATCH: &str =
+    "Answers the pairs of the file P2P in the network of the file GR: the line `v 0`, then one line a pair, in their order: `d S T LENGTH`, or `x S T` where no walk leads there.";
+
+const ABOUT_REHEARSE: &str =
+    "Makes a store in memory for the network of the file GR, runs the script of the file SCRIPT on it, and prints the lines of its events: commands, flushes, checkpoints, queries, and stops as a power cut makes them. No file is written.";
+
+const ABOUT_CREATE: &str =
+    "Makes a store in the file STORE, which is absent or empty: it holds the network of the file GR with the landmarks of the file SS, at version 0. It prints `ok 0` once the store is there for good.";
+
+const ABOUT_APPLY: &str =
+    "Applies the commands of the file COMMANDS to the store in the file STORE, and prints one line a command, in their order: `ok N`, once the command is version N of the store for good, or `no CODE` where it is refused.";
+
+const ABOUT_ASK: &str =
+    "Answers the pairs of the file P2P in the network of the store in the file STORE, which stays as it is: the line `v V`, V the store's version, then one line a pair, in their order: `d S T LENGTH`, or `x S T` where no walk leads there.";
+
+const GR_HELP: &str = "File of the network, a .gr text";
+
+const P2P_HELP: &str = "File of the pairs, a .p2p text";
+
+const STORE_HELP: &str = "File of the store";
+
+/// An option `--delta D`.
+fn delta_option<'w>(alloc: Global) -> Arg<'w> {
+    Arg::new(alloc, DELTA)
+        .long(DELTA)
+        .value_name("D")
+        .value_parser(value_parser!(u32).range(1..=2147483647))
+        .help("Width of the search's buckets, 1 to 2147483647: every width gives the same answers")
+}
+
+/// An option `--journal J`.
+fn journal_option<'w>(alloc: Global) -> Arg<'w> {
+    Arg::new(alloc, JOURNAL)
+        .long(JOURNAL)
+        .value_name("J")
+        .value_parser(value_parser!(u32).range(1..=65536))
+        .help("Pages of the store's journal, 1 to 65536; 64 where none are given")
+}
+
+/// A word that has to stand at its place.
+fn required_word<'w>(alloc: Global, name: &'w str, help: &'w str) -> Arg<'w> {
+    Arg::new(alloc, name)
+        .required(true)
+        .action(ArgAction::Set)
+        .help(help)
+}
+
+/// A node's number that has to stand at its place.
+fn required_node<'w>(alloc: Global, name: &'w str, help: &'w str) -> Arg<'w> {
+    required_word(alloc, name, help).value_parser(value_parser!(u64))
+}
+
+fn once_command<'w>(alloc: Global) -> Result<Command<'w>, AllocError> {
+    Command::new(alloc, ONCE)
+        .about("Prints the least length of a walk between two nodes")
+        .long_about(ABOUT_ONCE)
+        .after_help("Example: roadmark once examples/six.gr 1 6")
+        .arg(required_word(alloc, NETWORK, GR_HELP))?
+        .arg(required_node(alloc, SOURCE, "Node where the walk begins"))?
+        .arg(required_node(alloc, TARGET, "Node where the walk ends"))?
+        .arg(delta_option(alloc))
+}
+
+fn batch_command<'w>(alloc: Global) -> Result<Command<'w>, AllocError> {
+    Command::new(alloc, BATCH)
+        .about("Prints the least length of a walk for each pair of a file")
+        .long_about(ABOUT_BATCH)
+        .after_help("Example: roadmark batch examples/six.gr examples/six.p2p")
+        .arg(required_word(alloc, NETWORK, GR_HELP))?
+        .arg(required_word(alloc, PAIRS, P2P_HELP))?
+        .arg(delta_option(alloc))
+}
+
+fn rehearse_command<'w>(alloc: Global) -> Result<Command<'w>, AllocError> {
+    Command::new(alloc, REHEARSE)
+        .about("Runs a script on a store in memory")
+        .long_about(ABOUT_REHEARSE)
+        .after_help("Example: roadmark rehearse examples/six.gr examples/six.script")
+        .arg(required_word(alloc, NETWORK, GR_HELP))?
+        .arg(required_word(alloc, SCRIPT, "File of the script"))?
+        .arg(journal_option(alloc))?
+        .arg(delta_option(alloc))
+}
+
+fn create_command<'w>(alloc: Global) -> Result<Command<'w>, AllocError> {
+    Command::new(alloc, CREATE)
+        .about("Makes a store for a network and its landmarks")
+        .long_about(ABOUT_CREATE)
+        .after_help("Example: roadmark create six.store examples/six.gr examples/six.ss")
+        .arg(required_word(alloc, STORE, "File of the store, absent or empty"))?
+        .arg(required_word(alloc, NETWORK, GR_HELP))?
+        .arg(required_word(alloc, LANDMARKS, "File of the landmarks, a .ss text"))?
+        .arg(journal_option(alloc))
+}
+
+fn apply_command<'w>(alloc: Global) -> Result<Command<'w>, AllocError> {
+    Command::new(alloc, APPLY)
+        .about("Applies the commands of a file to a store")
+        .long_about(ABOUT_APPLY)
+        .after_help("Example: roadmark apply six.store examples/six.commands")
+        .arg(required_word(alloc, STORE, STORE_HELP))?
+        .arg(required_word(alloc, COMMANDS, "File of the commands"))?
+        .arg(delta_option(alloc))
+}
+
+fn ask_command<'w>(alloc: Global) -> Result<Command<'w>, AllocError> {
+    Command::new(alloc, ASK)
+        .about("Prints the least length of a walk for each pair of a file, in a store's network")
+        .long_about(ABOUT_ASK)
+        .after_help("Example: roadmark ask six.store examples/six.p2p")
+        .arg(required_word(alloc, STORE, STORE_HELP))?
+        .arg(required_word(alloc, PAIRS, P2P_HELP))?
+        .arg(delta_option(alloc))
+}
+
+/// The program's words.
+pub fn program<'w>(alloc: Global) -> Result<Command<'w>, AllocError> {
+    Command::new(alloc, "roadmark")
+        .version("0.1.0")
+        .about("Exact least distances in a road network")
+        .long_about(ABOUT)
+        .after_help("Example: roadmark < examples/six.txt")
+        .args_conflicts_with_subcommands(true)
+        .arg(delta_option(alloc))?
+        .subcommand(once_command(alloc)?)?
+        .subcommand(batch_command(alloc)?)?
+        .subcommand(rehearse_command(alloc)?)?
+        .subcommand(create_command(alloc)?)?
+        .subcommand(apply_command(alloc)?)?
+        .subcommand(ask_command(alloc)?)
+}

@@ -1,0 +1,102 @@
+//! The files of the program's jobs.
+ghost use Rattle.std.specs.Prelude.{◌≡◌, ◌⊎◌, [], IfOk, IfErr};
+ghost use Rattle.std.specs.Io.Buffered.{reader_inner, reader_buffer};
+ghost use Rattle.roadmark.specs.Failures.{unopened, IsUnopened, IsFaultOrUnopened};
+
+use dimacs::{Code, Fault, read_gr};
+use filedisk::{FileDisk, OpenError, create_file, open_file};
+use printing::Failed;
+use roadnet::Refusal;
+use std::alloc::Global;
+use std::fs::{self, File};
+use std::io::{BufReader, Read};
+use std::rt::Files;
+
+/// The bytes that are read or written at once.
+pub const BUFFER: usize = 1 << 16;
+
+/// By what number a failure names the store's file; the texts are 0 and 1.
+const STORE: u8 = 2;
+
+/// A reader of larger pieces.
+pub fn buffered<F: Read + Drop>(alloc: Global, reader: F) -> Result<BufReader<F>, Failed>
+    ensures same { IfOk result (λ buffered. reader_inner buffered ≡ reader) }
+    ensures unread { IfOk result (λ buffered. reader_buffer buffered ≡ []) }
+    ensures refused { IfErr result (λ failed. failed ≡ Failed.Code Refusal.OutOfMemory) }
+{
+    match BufReader::with_capacity(alloc, BUFFER, reader) {
+        Ok(reader) => Ok(reader),
+        Err(_) => Err(Failed::Code(Refusal::OutOfMemory)),
+    }
+}
+
+/// What is told of a file that can't be opened: fault 10 of line 0.
+fn unopened(which: u8) -> Failed
+    ensures { result ≡ unopened which }
+{
+    let fault = Fault {
+        line: 0,
+        code: Code::Read,
+    };
+    Failed::Text { which, fault }
+}
+
+/// The file of a call's text `which`. One that can't be opened is fault 10 of line 0.
+pub fn open_text<R: AllocGlobal + Files>(
+    rt: &R,
+    which: u8,
+    name: &str,
+) -> Result<BufReader<R::File>, Failed>
+    ensures { IfErr result (IsUnopened which) }
+{
+    match fs::open(rt, name) {
+        Ok(file) => buffered(rt.alloc(), file),
+        Err(_) => Err(unopened(which)),
+    }
+}
+
+/// The files of a network and of the text that follows it. Where the second can't be opened, a fault of the network is still told first.
+pub fn open_texts<R: AllocGlobal + Files>(
+    rt: &R,
+    network: &str,
+    second: &str,
+) -> Result<(BufReader<R::File>, BufReader<R::File>), Failed>
+    ensures { IfErr result IsFaultOrUnopened }
+{
+    let mut gr = match open_text(rt, 0, network) {
+        Ok(gr) => gr,
+        Err(failed) => return Err(failed),
+    };
+    match open_text(rt, 1, second) {
+        Ok(second) => Ok((gr, second)),
+        Err(failed) => match read_gr(rt.alloc(), &mut gr) {
+            Ok(_) => Err(failed),
+            Err(fault) => Err(Failed::Text { which: 0, fault }),
+        },
+    }
+}
+
+/// The file of a store. One that can't be opened, is no file, or is in use is fault 10 of line 0.
+pub fn open_store<R: Files<File = File>>(rt: &R, name: &str) -> Result<FileDisk<File>, Failed>
+    ensures { IfErr result (λ failed. failed ≡ unopened 2) }
+{
+    match open_file(rt, name) {
+        Ok(disk) => Ok(disk),
+        Err(_) => Err(unopened(STORE)),
+    }
+}
+
+/// The file for a new store, which is made where there is none. It is refused as by `open_store`, and with 43 where its name is not made
+/// durable.
+pub fn create_store_file<R: Files<File = File>>(
+    rt: &R,
+    name: &str,
+) -> Result<FileDisk<File>, Failed>
+    ensures { IfErr result (λ failed. (failed ≡ unopened 2) ⊎ (failed ≡ Failed.Code Refusal.Device)) }
+{
+    match create_file(rt, name) {
+        Ok(disk) => Ok(disk),
+        Err(OpenError::NameNotSynced) => Err(Failed::Code(Refusal::Device)),
+        Err(_) => Err(unopened(STORE)),
+    }
+}

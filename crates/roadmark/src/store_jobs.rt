@@ -1,0 +1,97 @@
+//! The jobs of the program on a store in a file, answered on standard output.
+ghost use Rattle.std.specs.Option.{ForSome};
+ghost use Rattle.rows.specs.Kept.{IsWidth};
+ghost use Rattle.roadmark.specs.Failures.{IsToldAfterOpening};
+ghost use Rattle.roadmark.specs.Words.{IsJournal};
+
+use crate::files::{BUFFER, create_store_file, open_store, open_text, open_texts};
+use dimacs::Counted;
+use disk::Disk;
+use printing::{CountedWriter, Failed};
+use roadnet::Refusal;
+use std::alloc::Global;
+use std::fs::File;
+use std::io::{self, BufWriter};
+use std::rt::Files;
+use store::open;
+use storetexts::{apply_counted, ask_counted, create_store, read_planned};
+
+/// A new store in a file, for the network of another with the landmarks of a third. Both texts are read whole before the store's file is
+/// opened or made.
+pub fn run_create<R: AllocGlobal + Files<File = File> + Print>(
+    rt: &R,
+    store: &str,
+    network: &str,
+    landmarks: &str,
+    journal_pages: u32,
+) -> Result<(), Failed>
+    requires { IsJournal journal_pages }
+{
+    let (mut gr, mut ss) = open_texts(rt, network, landmarks)?;
+    let mut gr = Counted::new(&mut gr);
+    let mut ss = Counted::new(&mut ss);
+    let network = read_planned(rt.alloc(), &mut gr, &mut ss)?;
+    let Ok(mut writer) = BufWriter::with_capacity(rt.alloc(), BUFFER, io::writer(rt)) else {
+        return Err(Failed::Code(Refusal::OutOfMemory));
+    };
+    let mut writer = CountedWriter::new(&mut writer);
+    let disk = create_store_file(rt, store)?;
+    let (outcome, _disk) = create_store(rt.alloc(), disk, &network, journal_pages, &mut writer);
+    outcome
+}
+
+/// The failure of a text that is read for a store: a refusal of the store is told before it.
+fn after_opening<D: Disk + Drop>(alloc: Global, disk: D, failed: Failed) -> Failed
+    ensures { D.honest disk → IsToldAfterOpening (D.content disk) failed result }
+{
+    match open(alloc, disk) {
+        Ok(_) => failed,
+        Err((refusal, _)) => Failed::Code(refusal),
+    }
+}
+
+/// The commands of a file, on the store of another. A fault of the store is told before one of the commands.
+pub fn run_apply<R: AllocGlobal + Files<File = File> + Print>(
+    rt: &R,
+    store: &str,
+    commands: &str,
+    delta: Option<u32>,
+) -> Result<(), Failed>
+    requires { ForSome delta IsWidth }
+{
+    let disk = open_store(rt, store)?;
+    let mut commands = match open_text(rt, 0, commands) {
+        Ok(commands) => commands,
+        Err(failed) => return Err(after_opening(rt.alloc(), disk, failed)),
+    };
+    let Ok(mut writer) = BufWriter::with_capacity(rt.alloc(), BUFFER, io::writer(rt)) else {
+        return Err(Failed::Code(Refusal::OutOfMemory));
+    };
+    let mut commands = Counted::new(&mut commands);
+    let mut writer = CountedWriter::new(&mut writer);
+    let (outcome, _disk) = apply_counted(rt.alloc(), disk, &mut commands, delta, &mut writer);
+    outcome
+}
+
+/// The pairs of a file in the network of a store, which stays as it is. A fault of the store is told before one of the pairs.
+pub fn run_ask<R: AllocGlobal + Files<File = File> + Print>(
+    rt: &R,
+    store: &str,
+    pairs: &str,
+    delta: Option<u32>,
+) -> Result<(), Failed>
+    requires { ForSome delta IsWidth }
+{
+    let disk = open_store(rt, store)?;
+    let mut p2p = match open_text(rt, 0, pairs) {
+        Ok(p2p) => p2p,
+        Err(failed) => return Err(after_opening(rt.alloc(), disk, failed)),
+    };
+    let Ok(mut writer) = BufWriter::with_capacity(rt.alloc(), BUFFER, io::writer(rt)) else {
+        return Err(Failed::Code(Refusal::OutOfMemory));
+    };
+    let mut p2p = Counted::new(&mut p2p);
+    let mut writer = CountedWriter::new(&mut writer);
+    let (outcome, _disk) = ask_counted(rt.alloc(), disk, &mut p2p, delta, &mut writer);
+    outcome
+}

@@ -1,0 +1,3 @@
+pub mod ScriptEnds
+pub mod ScriptLines
+pub mod ScriptStops

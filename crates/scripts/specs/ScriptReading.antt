@@ -1,0 +1,129 @@
+-- One line of a script, read from left to right.
+use Rattle.std.specs.Prelude.{◌≡◌, ℕ, true, false, ◌||◌, List, [], ◌∷◌, Option, None, Some, option_map, Result, Ok, Err, map, if◌then◌else◌, ⊤}
+use Rattle.std.specs.List.{find}
+use Rattle.std.specs.Str.{bytes_eq}
+use lib.Chars.{codes}
+use Rattle.roadnet.specs.declared.commands.Command.TheVariants.{Set as set_arc, Close as close_arc, Reopen as reopen_arc, Mark as mark_node, Unmark as unmark_node}
+use Rattle.dimacs.specs.declared.numeral.Numeral.{Numeral}
+use Rattle.dimacs.specs.declared.fault.Code.{Code}
+use Rattle.dimacs.specs.declared.fault.Code.TheVariants.{BadLine, NumberRange}
+use Rattle.dimacs.specs.Commands.{form_of}
+use Rattle.dimacs.specs.Faults.{Row, is_empty, is_remark}
+use Rattle.dimacs.specs.Lines.{fields}
+use Rattle.dimacs.specs.Numerals.{numeral, kept}
+use Rattle.dimacs.specs.Taking.{ByMemory}
+use Rattle.disk.specs.declared.stoppable.Pick.{Pick}
+use Rattle.disk.specs.declared.stoppable.Pick.TheVariants.{Old, New, Byte}
+use Rattle.rows.specs.declared.queries.Query.TheVariants.{Dist as distance, From as distance_from}
+use Rattle.machine.specs.declared.events.Event.{Event}
+use Rattle.machine.specs.declared.events.Writing.{Writing}
+use Rattle.machine.specs.declared.events.Writing.TheVariants.{Flush as a_flush, Checkpoint as a_checkpoint}
+use Rattle.scripts.specs.declared.script_words.Bare.{Bare}
+use Rattle.scripts.specs.declared.script_words.Bare.TheVariants.{Flush, Checkpoint, Task, Publish}
+use Rattle.scripts.specs.declared.script_words.OneNumber.{OneNumber}
+use Rattle.scripts.specs.declared.script_words.OneNumber.TheVariants.{Close, Reopen, Mark, Unmark}
+use Rattle.scripts.specs.declared.script_words.TwoNumbers.{TwoNumbers}
+use Rattle.scripts.specs.declared.script_words.TwoNumbers.TheVariants.{Set, Dist, From}
+use Rattle.scripts.specs.declared.script_words.Word.{Word}
+use Rattle.scripts.specs.declared.script_words.Word.TheVariants.{WithNone, WithOne, WithTwo, Stop}
+use Rattle.scripts.specs.declared.script_stops.Cut.{Cut}
+use Rattle.scripts.specs.declared.script_texts.Kind.{Kind}
+use Rattle.scripts.specs.declared.script_texts.Kind.TheVariants.{Ignored, Known, Unknown}
+use Rattle.scripts.specs.declared.script_texts.EventLines.{EventLines}
+use Rattle.scripts.specs.ScriptTexts.{ScriptLine, CommandLine, FlushLine, CheckpointLine, TaskLine, PublishLine, QueryLine, as_line, line_of, lines_in, numbered, is_stop, is_no_call, is_no_byte, script_line_code}
+
+-- WORDS
+
+abbrev pub spelling : Word → List ℕ
+spelling (WithNone Flush) = codes "flush"
+spelling (WithNone Checkpoint) = codes "checkpoint"
+spelling (WithNone Task) = codes "task"
+spelling (WithNone Publish) = codes "publish"
+spelling (WithOne Close) = codes "close"
+spelling (WithOne Reopen) = codes "reopen"
+spelling (WithOne Mark) = codes "mark"
+spelling (WithOne Unmark) = codes "unmark"
+spelling (WithTwo Set) = codes "set"
+spelling (WithTwo Dist) = codes "dist"
+spelling (WithTwo From) = codes "from"
+spelling Stop = codes "stop"
+
+abbrev pub words : List Word
+words = WithNone Flush ∷ WithNone Checkpoint ∷ WithNone Task ∷ WithNone Publish ∷ WithOne Close ∷ WithOne Reopen ∷ WithOne Mark ∷ WithOne Unmark ∷ WithTwo Set ∷ WithTwo Dist ∷ WithTwo From ∷ Stop ∷ []
+
+-- the word that a field spells
+abbrev pub word_from : List ℕ → Option Word
+word_from field = find (λ word. bytes_eq field (spelling word)) words
+
+abbrev pub IsKind : Row → Kind → Type 0
+IsKind row Ignored = (is_empty row || is_remark 35 row) ≡ true
+IsKind row (Known word rest) = row ≡ spelling word ∷ fields rest.now
+IsKind row Unknown = ((is_empty row || is_remark 35 row) ≡ false) × (is_stop row ≡ false) × (form_of numbered row ≡ None)
+
+-- what a word says with its numbers
+abbrev pub bare_line : Bare → ScriptLine
+bare_line Flush = FlushLine
+bare_line Checkpoint = CheckpointLine
+bare_line Task = TaskLine
+bare_line Publish = PublishLine
+
+abbrev pub one_line : OneNumber → ℕ → ScriptLine
+one_line Close n = CommandLine (close_arc n)
+one_line Reopen n = CommandLine (reopen_arc n)
+one_line Mark n = CommandLine (mark_node n)
+one_line Unmark n = CommandLine (unmark_node n)
+
+abbrev pub two_line : TwoNumbers → ℕ → ℕ → ScriptLine
+two_line Set n m = CommandLine (set_arc n m)
+two_line Dist n m = QueryLine (distance n m)
+two_line From n m = QueryLine (distance_from n m)
+
+-- FIELDS BEHIND `stop`
+
+abbrev pub three_fields : Row → Option (List ℕ × List ℕ × List ℕ)
+three_fields (call ∷ pick ∷ event ∷ []) = Some (call, pick, event)
+three_fields others = None
+
+-- the number of a call, which is refused or told; or the field is no numeral
+abbrev pub call_of_numeral : Numeral → Result ℕ Code
+call_of_numeral n = if is_no_call n then Err NumberRange else Ok n.size
+
+abbrev pub call_read : List ℕ → Option (Result ℕ Code)
+call_read field = option_map (λ n. call_of_numeral (kept n)) (numeral field)
+
+abbrev pub byte_of_numeral : Numeral → Result Pick Code
+byte_of_numeral n = if is_no_byte n then Err NumberRange else Ok (Byte n.size)
+
+abbrev pub pick_read : List ℕ → Option (Result Pick Code)
+pick_read field = if bytes_eq field (codes "old") then Some (Ok Old) else (if bytes_eq field (codes "new") then Some (Ok New)
+    else option_map (λ n. byte_of_numeral (kept n)) (numeral field))
+
+abbrev pub writing_read : List ℕ → Option Writing
+writing_read field = if bytes_eq field (codes "flush") then Some a_flush else (if bytes_eq field (codes "checkpoint") then Some a_checkpoint else None)
+
+abbrev pub cut_of : Option (Result ℕ Code) → Option (Result Pick Code) → Option Writing → Result Cut Code
+cut_of None pick writing = Err BadLine
+cut_of (Some call) None writing = Err BadLine
+cut_of (Some call) (Some pick) None = Err BadLine
+cut_of (Some (Ok call)) (Some (Ok pick)) (Some writing) = Ok (record { call = call; pick = pick; writing = writing })
+cut_of (Some (Ok call)) (Some (Err code)) (Some writing) = Err NumberRange
+cut_of (Some (Err code)) (Some pick) (Some writing) = Err NumberRange
+
+abbrev pub cut_read : List ℕ → List ℕ → List ℕ → Result Cut Code
+cut_read call pick event = cut_of (call_read call) (pick_read pick) (writing_read event)
+
+-- LINES
+
+-- the line has no fault and is this event, or none; or its code is told, or memory ran out
+abbrev pub ReadsEvent : Row → Result (Event Pick) Code → Type 0
+ReadsEvent row (Ok event) = ((earlier : List Row) → script_line_code earlier row ≡ None) × (line_of row ≡ Some (as_line event))
+ReadsEvent row (Err code) = ByMemory code ((earlier : List Row) → script_line_code earlier row ≡ Some code) ⊤
+
+abbrev pub ReadsLine : Row → Result (Option (Event Pick)) Code → Type 0
+ReadsLine row (Ok None) = ((earlier : List Row) → script_line_code earlier row ≡ None) × (line_of row ≡ None)
+ReadsLine row (Ok (Some event)) = ReadsEvent row (Ok event)
+ReadsLine row (Err code) = ReadsEvent row (Err code)
+
+-- these lines were taken
+abbrev pub HasEvents : List Row → EventLines → Type 0
+HasEvents lines taken = map as_line taken.events.items ≡ lines_in lines

@@ -1,0 +1,11 @@
+//! The texts of scripts: command texts with the lines of further events.
+#![tactic(auto)]
+
+mod script_stops;
+mod script_texts;
+mod script_words;
+
+pub use script_texts::{parse_script, read_script_counted};
+
+#[cfg(test)]
+mod tests;

@@ -1,0 +1,138 @@
+//! The words with which the lines of a script begin.
+ghost use Rattle.std.specs.Prelude.{◌≡◌};
+ghost use Rattle.scripts.specs.ScriptTexts.{as_line};
+ghost use Rattle.scripts.specs.ScriptReading.{word_from, bare_line, one_line, two_line};
+
+use disk::Pick;
+use machine::Event;
+use roadnet::Command;
+use rows::Query;
+
+/// A word with no field behind it.
+#[derive(Clone, Copy)]
+pub(crate) enum Bare {
+    Flush,
+    Checkpoint,
+    Task,
+    Publish,
+}
+
+/// A word with one number behind it.
+#[derive(Clone, Copy)]
+pub(crate) enum OneNumber {
+    Close,
+    Reopen,
+    Mark,
+    Unmark,
+}
+
+/// A word with two numbers behind it.
+#[derive(Clone, Copy)]
+pub(crate) enum TwoNumbers {
+    Set,
+    Dist,
+    From,
+}
+
+/// A word by what stands behind it.
+#[derive(Clone, Copy)]
+pub(crate) enum Word {
+    WithNone(Bare),
+    WithOne(OneNumber),
+    WithTwo(TwoNumbers),
+    Stop,
+}
+
+/// The word that a field spells.
+pub(crate) fn word_of(field: &[u8]) -> Option<Word>
+    ensures { result ≡ word_from field.now }
+{
+    if field == b"flush".as_slice() {
+        return Some(Word::WithNone(Bare::Flush));
+    }
+    if field == b"checkpoint".as_slice() {
+        return Some(Word::WithNone(Bare::Checkpoint));
+    }
+    if field == b"task".as_slice() {
+        return Some(Word::WithNone(Bare::Task));
+    }
+    if field == b"publish".as_slice() {
+        return Some(Word::WithNone(Bare::Publish));
+    }
+    if field == b"close".as_slice() {
+        return Some(Word::WithOne(OneNumber::Close));
+    }
+    if field == b"reopen".as_slice() {
+        return Some(Word::WithOne(OneNumber::Reopen));
+    }
+    if field == b"mark".as_slice() {
+        return Some(Word::WithOne(OneNumber::Mark));
+    }
+    if field == b"unmark".as_slice() {
+        return Some(Word::WithOne(OneNumber::Unmark));
+    }
+    if field == b"set".as_slice() {
+        return Some(Word::WithTwo(TwoNumbers::Set));
+    }
+    if field == b"dist".as_slice() {
+        return Some(Word::WithTwo(TwoNumbers::Dist));
+    }
+    if field == b"from".as_slice() {
+        return Some(Word::WithTwo(TwoNumbers::From));
+    }
+    if field == b"stop".as_slice() {
+        return Some(Word::Stop);
+    }
+    None
+}
+
+/// The event of a word alone.
+pub(crate) fn bare_event(word: Bare) -> Event<Pick>
+    ensures { as_line result ≡ bare_line word }
+{
+    match word {
+        Bare::Flush => Event::Flush,
+        Bare::Checkpoint => Event::Checkpoint,
+        Bare::Task => Event::Task,
+        Bare::Publish => Event::Publish,
+    }
+}
+
+/// The event of a word with a number.
+pub(crate) fn one_event(word: OneNumber, number: u64) -> Event<Pick>
+    ensures { as_line result ≡ one_line word number }
+{
+    let command = match word {
+        OneNumber::Close => Command::Close { arc: number },
+        OneNumber::Reopen => Command::Reopen { arc: number },
+        OneNumber::Mark => Command::Mark { node: number },
+        OneNumber::Unmark => Command::Unmark { node: number },
+    };
+    Event::Submit { command }
+}
+
+/// The event of a word with two numbers.
+pub(crate) fn two_event(word: TwoNumbers, first: u64, second: u64) -> Event<Pick>
+    ensures { as_line result ≡ two_line word first second }
+{
+    match word {
+        TwoNumbers::Set => Event::Submit {
+            command: Command::Set {
+                arc: first,
+                length: second,
+            },
+        },
+        TwoNumbers::Dist => Event::Ask {
+            query: Query::Dist {
+                source: first,
+                target: second,
+            },
+        },
+        TwoNumbers::From => Event::Ask {
+            query: Query::From {
+                landmark: first,
+                target: second,
+            },
+        },
+    }
+}

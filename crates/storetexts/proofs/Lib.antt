@@ -1,0 +1,10 @@
+pub mod Marked
+pub mod Made
+pub mod Judged
+pub mod Answered
+pub mod Comings
+pub mod Stepping
+pub mod Telling
+pub mod Remaining
+pub mod Beginning
+pub mod Unbegun

@@ -1,0 +1,175 @@
+-- What a stop leaves of a store to which commands were applied.
+use Rattle.std.proofs.Common.{◌≡◌, ◌∙◌, ℕ, ◌+◌, ◌-◌, ◌<◌, ◌≤◌, false, List, [], ◌∷◌, ◌++◌, length, get_or, take, Option, None, Some, Result, ◌⊎◌, inr, Ok, Err, sym, ap, subst, arith}
+use Rattle.std.specs.Prelude.{All, OnOk, IfErr, IfSome}
+use Rattle.std.proofs.lemmas.List.{take_all, take_more}
+use Rattle.std.proofs.lemmas.List.Elements.{All-weaker}
+use Rattle.roadnet.specs.declared.commands.Command.{Command}
+use Rattle.roadnet.specs.Net.{Net}
+use Rattle.roadnet.specs.Step.{after}
+use Rattle.dimacs.specs.Commanded.{command_text}
+use Rattle.dimacs.specs.Texts.{Reads}
+use Rattle.storefile.specs.StoreFile.{StandsTidyFor}
+use Rattle.storefile.specs.Standing.{Standing}
+use Rattle.machine.specs.Machine.{Machine, latest, pending, network_at}
+use Rattle.machine.specs.Lives.{HoldsDurable}
+use Rattle.machine.proofs.Kept.{left_between}
+use Rattle.keeper.specs.Keeping.{Holds}
+use Rattle.printing.specs.declared.failed.Failed.{Failed}
+use Rattle.storetexts.specs.declared.outcomes.Outcome.{Outcome}
+use Rattle.storetexts.specs.declared.outcomes.Outcome.TheVariants.{Accepted, Refused}
+use Rattle.storetexts.specs.Outcomes.{ComesTo, accepted_in, outcome_lines}
+use Rattle.storetexts.specs.Applied.{commands_of, StandsAfter, AppliesAll, IsApplied, KeepsTold, AppliesSome, IsCutOff, IfNotWrite}
+use Rattle.storetexts.specs.Applying.{IsSteady, IsSettled, HaveCome, HaveComeSome, KeepsAccepted, AreTold, IfTold}
+use Rattle.storetexts.proofs.Comings.{IsPlace, place, as_many}
+use Rattle.storetexts.proofs.Stepping.{latest_is, settled_all, come_kept, come_told}
+
+settled_later : (a b : ℕ) → a ≤ b → (o : Outcome) → IsSettled a o → IsSettled b o
+settled_later a b le (Accepted n) s = omega (arith, s, le)
+settled_later a b le (Refused r) s = tt
+
+module _ (net : Net) (version told : ℕ) (cs : List Command) (os : List Outcome) (m : Machine) (h : HaveCome net version cs os told m) (s : IsSteady m) where
+  network_there : (v : ℕ) → network_at m v ≡ after net (take (v - version) (accepted_in cs os))
+  network_there v =
+      ap (λ (n : Net). after n (take (v - m.base_version) m.accepted)) h.base_is
+      ∙ (ap (λ (b : ℕ). after net (take (v - b) m.accepted)) h.version_is
+      ∙ ap (λ (l : List Command). after net (take (v - version) l)) h.accepted_is)
+
+  -- a content that holds what is durable keeps what was told
+  pub kept_told : (content : List ℕ) → HoldsDurable StandsTidyFor m content → KeepsTold net version cs os told content
+  kept_told content held =
+      let v = held.version in
+      let between = left_between m s.state v held.left in
+      let from : m.durable ≤ v = between.0 in
+      let to : v ≤ latest m = between.1 in
+      let base : m.base_version ≤ m.durable = let a = s.state.base_opened in let b = s.state.opened_shown in let d = s.state.shown_durable in omega (arith, a, b, d) in
+      let p : IsPlace net version v told cs os = place version net version v told cs os h.come (omega (arith, base, from, h.version_is)) (omega (arith, to, latest_is net version told cs os m h)) h.told_to
+      (All-weaker (IsSettled m.durable) (IsSettled v) (settled_later m.durable v from) (take told os) h.settled) in
+      record {
+        kept = p.kept;
+        told_kept = p.told_kept;
+        kept_to = p.kept_to;
+        stands = record {
+          network = held.network;
+          network_is = ap (after net) p.same ∙ (sym (network_there v) ∙ held.network_is);
+          stands = subst (StandsTidyFor content held.network) p.counted held.stands;
+        };
+      }
+
+-- where all is told, it keeps all
+pub kept_all : (net : Net) (version : ℕ) (cs : List Command) (os : List Outcome) (content : List ℕ) → ComesTo version net version cs os → KeepsTold net version cs os (length os) content → StandsAfter net version cs os content
+kept_all net version cs os content come k =
+    let long : length os ≡ length cs = as_many version net version cs os come in
+    let same_cs : take k.kept cs ≡ cs = take_all k.kept cs (omega (arith, k.told_kept, long)) in
+    let same_os : take k.kept os ≡ os = take_all k.kept os k.told_kept in
+    subst (λ (l : List Outcome). StandsAfter net version cs l content) same_os (subst (λ (l : List Command). StandsAfter net version l (take k.kept os) content) same_cs k.stands)
+
+pub applies_all : (net : Net) (version : ℕ) (cs : List Command) (os : List Outcome) (told : ℕ) (m : Machine) (standing : Standing) (content : List ℕ) (left : List ℕ → Type 0) (old new : Option (List ℕ))
+    → HaveCome net version cs os (length os) m → IsSteady m → m.broken ≡ false → Holds content left m standing → left content → told ≡ length os → AreTold old new os told
+    → AppliesAll net version cs content left old new
+applies_all net version cs os told m standing content left old new h s calm holds now all lines = record {
+  outcomes = os;
+  come = h.come;
+  stands = kept_all net version cs os content h.come (kept_told net version (length os) cs os m h s content (holds.each_left content now));
+  only = holds.only calm;
+  written =
+      let same : outcome_lines (take told os) ≡ outcome_lines os = ap outcome_lines (take_all told os (omega (arith, all))) in
+      rw same at lines;
+}
+
+pub applies_some : (net : Net) (version : ℕ) (cs : List Command) (os : List Outcome) (told : ℕ) (m : Machine) (standing : Standing) (content : List ℕ) (left : List ℕ → Type 0) (old new : Option (List ℕ)) (failed : Failed)
+    → HaveComeSome net version cs os told m → IsSteady m → Holds content left m standing → IfNotWrite failed (AreTold old new os told)
+    → AppliesSome net version cs left old new failed
+applies_some net version cs os told m standing content left old new failed h s holds lines = record {
+  taken = h.taken;
+  outcomes = os;
+  come = h.come.come;
+  told = told;
+  told_to = h.come.told_to;
+  each_left = λ c was. kept_told net version told (take h.taken cs) os m h.come s c (holds.each_left c was);
+  written = lines;
+}
+
+-- ---- a flush, and what is told behind it
+pub settle_come : (net : Net) (version told told' : ℕ) (cs : List Command) (os : List Outcome) (m m' : Machine)
+    → KeepsAccepted m m' → told' ≤ length os → (All (IsSettled m'.durable) (take told os) → All (IsSettled m'.durable) (take told' os))
+    → HaveCome net version cs os told m → HaveCome net version cs os told' m'
+settle_come net version told told' cs os m m' k to more h =
+    let later = come_kept net version told cs os m h m' k in
+    come_told net version told cs os m' later told' to (more later.settled)
+
+pub settle_all : (net : Net) (version told told' : ℕ) (cs : List Command) (os : List Outcome) (m m' : Machine)
+    → KeepsAccepted m m' → IsSteady m' → pending m' ≡ 0 → (All (IsSettled m'.durable) os → told' ≡ length os)
+    → HaveCome net version cs os told m → told' ≡ length os
+settle_all net version told told' cs os m m' k s none all h =
+    let later = come_kept net version told cs os m h m' k in
+    let within = s.state.durable_accepted in
+    all (settled_all net version told cs os m' later (omega (arith, within, none)))
+
+-- ---- commands taken one by one
+pub come_next : (net : Net) (version : ℕ) (cs : List Command) (i : ℕ) (d : Command) (os : List Outcome) (told : ℕ) (m : Machine) → i < length cs
+    → HaveCome net version (take i cs ++ get_or cs i d ∷ []) os told m → HaveCome net version (take (i + 1) cs) os told m
+come_next net version cs i d os told m lt h = subst (λ (l : List Command). HaveCome net version l os told m) (sym (take_more cs i d lt)) h
+
+pub come_end : (net : Net) (version : ℕ) (cs : List Command) (i : ℕ) (os : List Outcome) (told : ℕ) (m : Machine) → length cs ≤ i
+    → HaveCome net version (take i cs) os told m → HaveCome net version cs os told m
+come_end net version cs i os told m end h = subst (λ (l : List Command). HaveCome net version l os told m) (take_all i cs end) h
+
+pub on_ok_too : {X E : Type 0} (r : Result X E) (P Q : Type 0) → OnOk r P → (P → Q) → OnOk r Q
+on_ok_too (Ok x) P Q p f = f p
+on_ok_too (Err e) P Q p f = tt
+
+-- ---- how it ends
+module _ (net : Net) (version : ℕ) (first m : Machine) (cs : List Command) (os : List Outcome) (told : ℕ) (standing : Standing) (content : List ℕ) (left : List ℕ → Type 0) (old new : Option (List ℕ)) (begun : HaveCome net version [] [] 0 first) (s : IsSteady m) (holds : Holds content left m standing) where
+  pub ended_all : (r : Result (Unit {0}) Failed) → OnOk r ((n : Net) (v : ℕ) → HaveCome n v [] [] 0 first → HaveCome n v cs os (length os) m) → OnOk r (m.broken ≡ false)
+      → OnOk r ((n : Net) (v : ℕ) → HaveCome n v [] [] 0 first → told ≡ length os) → IfTold r (AreTold old new os told) → left content → OnOk r (AppliesAll net version cs content left old new)
+  ended_all (Ok done) come calm all lines now = applies_all net version cs os told m standing content left old new (come net version begun) s calm holds now (all net version begun) lines
+  ended_all (Err failed) come calm all lines now = tt
+
+  pub ended_some : (r : Result (Unit {0}) Failed) → ((n : Net) (v : ℕ) → HaveCome n v [] [] 0 first → HaveComeSome n v cs os told m) → IfTold r (AreTold old new os told) → IfErr r (AppliesSome net version cs left old new)
+  ended_some (Ok done) some lines = tt
+  ended_some (Err failed) some lines = applies_some net version cs os told m standing content left old new failed (some net version begun) s holds lines
+
+-- ---- the same of a text
+pub if_known : (known : Option (List ℕ)) (P : List ℕ → Type 0) → ((text : List ℕ) → P text) → IfSome known P
+if_known None P p = tt
+if_known (Some text) P p = p text
+
+module _ (net : Net) (version : ℕ) (list : List Command) (left : List ℕ → Type 0) (r : Result (Unit {0}) Failed) where
+  pub applied_known : (content : List ℕ) (known rest : Option (List ℕ)) (old new : Option (List ℕ)) → OnOk r (AppliesAll net version list content left old new) → IfSome known (λ text. Reads command_text text rest (Ok list))
+      → OnOk r (IfSome known (λ text. IsApplied net version text content left old new))
+  applied_known content known rest old new applies read = go r applies
+    where
+      read_so : (k : Option (List ℕ)) → IfSome k (λ text. Reads command_text text rest (Ok list)) → AppliesAll net version list content left old new → IfSome k (λ text. IsApplied net version text content left old new)
+      read_so None said a = tt
+      read_so (Some text) said a = record { list = list; list_is = said.0; applies = a }
+
+      go : (e : Result (Unit {0}) Failed) → OnOk e (AppliesAll net version list content left old new) → OnOk e (IfSome known (λ text. IsApplied net version text content left old new))
+      go (Ok done) a = read_so known read a
+      go (Err failed) a = tt
+
+  pub applied_text : (content text : List ℕ) (old old' new new' : Option (List ℕ)) → old' ≡ old → new' ≡ new → OnOk r (AppliesAll net version list content left old' new') → commands_of text ≡ Ok list → OnOk r (IsApplied net version text content left old new)
+  applied_text content text old old' new new' e f applies said = go r applies
+    where
+      go : (x : Result (Unit {0}) Failed) → OnOk x (AppliesAll net version list content left old' new') → OnOk x (IsApplied net version text content left old new)
+      go (Ok done) a = record { list = list; list_is = said; applies = subst (λ (o : Option (List ℕ)). AppliesAll net version list content left o new) e (subst (λ (o : Option (List ℕ)). AppliesAll net version list content left old' o) f a) }
+      go (Err failed) a = tt
+
+  pub cut_off_known : (A : Type 0) (known rest : Option (List ℕ)) (old new : Option (List ℕ)) → IfErr r (AppliesSome net version list left old new) → IfSome known (λ text. Reads command_text text rest (Ok list))
+      → IfErr r (λ failed. IfSome known (λ text. A ⊎ IsCutOff net version text left old new failed))
+  cut_off_known A known rest old new applies read = go r applies
+    where
+      read_so : (failed : Failed) (k : Option (List ℕ)) → IfSome k (λ text. Reads command_text text rest (Ok list)) → AppliesSome net version list left old new failed → IfSome k (λ text. A ⊎ IsCutOff net version text left old new failed)
+      read_so failed None said a = tt
+      read_so failed (Some text) said a = inr (record { list = list; list_is = said.0; applies = a })
+
+      go : (e : Result (Unit {0}) Failed) → IfErr e (AppliesSome net version list left old new) → IfErr e (λ failed. IfSome known (λ text. A ⊎ IsCutOff net version text left old new failed))
+      go (Ok done) a = tt
+      go (Err failed) a = read_so failed known read a
+
+  pub cut_off_text : (A : Type 0) (text : List ℕ) (old old' new new' : Option (List ℕ)) → old' ≡ old → new' ≡ new → IfErr r (AppliesSome net version list left old' new') → commands_of text ≡ Ok list
+      → IfErr r (λ failed. A ⊎ IsCutOff net version text left old new failed)
+  cut_off_text A text old old' new new' e f applies said = go r applies
+    where
+      go : (x : Result (Unit {0}) Failed) → IfErr x (AppliesSome net version list left old' new') → IfErr x (λ failed. A ⊎ IsCutOff net version text left old new failed)
+      go (Ok done) a = tt
+      go (Err failed) a = inr (record { list = list; list_is = said; applies = subst (λ (o : Option (List ℕ)). AppliesSome net version list left o new failed) e (subst (λ (o : Option (List ℕ)). AppliesSome net version list left old' o failed) f a) })

@@ -1,0 +1,36 @@
+-- Where nothing was begun.
+use Rattle.std.proofs.Common.{◌≡◌, ⊎_elim, ℕ, Result, Ok, Err}
+use Rattle.std.specs.Prelude.{IfErr}
+use Rattle.roadnet.specs.declared.refusals.Refusal.{Refusal}
+use Rattle.roadnet.specs.declared.refusals.Refusal.TheVariants.{NotAStore, WrongFormat, Damaged, OutOfMemory, Device}
+use Rattle.printing.specs.declared.failed.Failed.{Failed}
+use Rattle.printing.specs.declared.failed.Failed.TheVariants.{Text, Code}
+use Rattle.storetexts.specs.Applied.{IfUnbegun}
+use Rattle.storetexts.specs.Applying.{IsCutOffBy, IsOfDevice}
+
+pub unbegun : (failed : Failed) (P : Type 0) → P → IfUnbegun failed P
+unbegun (Text which fault) P p = p
+unbegun (Code NotAStore) P p = p
+unbegun (Code WrongFormat) P p = p
+unbegun (Code (Damaged page)) P p = p
+unbegun (Code _) P p = tt
+
+no_store : IsOfDevice NotAStore → ⊥
+no_store h = ⊎_elim (λ (e : ◌≡◌ {A = Refusal} NotAStore OutOfMemory). absurd cc) (λ (e : ◌≡◌ {A = Refusal} NotAStore Device). absurd cc) h
+
+no_format : IsOfDevice WrongFormat → ⊥
+no_format h = ⊎_elim (λ (e : ◌≡◌ {A = Refusal} WrongFormat OutOfMemory). absurd cc) (λ (e : ◌≡◌ {A = Refusal} WrongFormat Device). absurd cc) h
+
+no_damage : (page : ℕ) → IsOfDevice (Damaged page) → ⊥
+no_damage page h = ⊎_elim (λ (e : ◌≡◌ {A = Refusal} (Damaged page) OutOfMemory). absurd cc) (λ (e : ◌≡◌ {A = Refusal} (Damaged page) Device). absurd cc) h
+
+begun : (failed : Failed) (P : Type 0) → IsCutOffBy failed → IfUnbegun failed P
+begun (Text which fault) P h = absurd h
+begun (Code NotAStore) P h = absurd (no_store h)
+begun (Code WrongFormat) P h = absurd (no_format h)
+begun (Code (Damaged page)) P h = absurd (no_damage page h)
+begun (Code _) P h = tt
+
+pub cut_off_begun : (r : Result (Unit {0}) Failed) (P : Type 0) → IfErr r IsCutOffBy → IfErr r (λ failed. IfUnbegun failed P)
+cut_off_begun (Ok done) P h = tt
+cut_off_begun (Err failed) P h = begun failed P h

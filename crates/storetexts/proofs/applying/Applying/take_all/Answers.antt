@@ -1,0 +1,36 @@
+use Rattle.std.proofs.Common.{◌∙◌, ◌+◌, ◌<◌, length, arith}
+use Rattle.storetexts.proofs.Remaining.{come_next, come_end}
+use Rattle.storetexts.proofs.applying.Applying.take_all.Goals as goal
+
+pub returns-in-Err-clause-some : goal.returns-in-Err-clause-some
+returns-in-Err-clause-some g c net version have =
+    let i = c.loop-index.index in
+    let lt : i < length c.args.commands.now = c.loop-index-test.true in
+    record { taken = i + 1; come = come_next net version c.args.commands.now i _ _ _ _ lt (c.advance.ensures.come net version _ (c.loop-index.invariant.come net version have)) }
+
+pub loop-index-preserved : goal.loop-index-preserved
+loop-index-preserved g c =
+    let i = c.loop-index.index in
+    let lt : i < length c.args.commands.now = c.loop-index-test.true in
+    let before = c.loop-index.invariant in
+    record {
+      steady = c.in_default.ensures.steady;
+      calm = c.in_default.ensures.calm;
+      few = c.in_default.ensures.few;
+      told_to = c.in_default.ensures.told_to;
+      noted = omega (arith, c.in_default.ensures.noted, before.noted);
+      room = c.in_default.ensures.room ∙ before.room;
+      come = λ net version have. come_next net version c.args.commands.now i _ _ _ _ lt (c.in_default.ensures.come net version _ (before.come net version have));
+      lines = c.in_default.ensures.lines _ before.lines;
+      counts = c.in_default.ensures.writes ∙ before.counts;
+      same = c.in_default.ensures.same ∙ before.same;
+      holds = λ honest old. c.in_default.ensures.holds (before.back honest) (before.holds honest old);
+      forth = λ honest. before.forth (c.in_default.ensures.honest.0 honest);
+      back = λ honest. c.in_default.ensures.honest.1 (before.back honest);
+    }
+
+pub returns-clause-some : goal.returns-clause-some
+returns-clause-some g c net version have = record { taken = c.loop-index.index; come = c.loop-index.invariant.come net version have }
+
+pub returns-clause-come : goal.returns-clause-come
+returns-clause-come g c net version have = come_end net version c.args.commands.now c.loop-index.index _ _ _ c.loop-index-test.false (c.loop-index.invariant.come net version have)

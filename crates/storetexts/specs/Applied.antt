@@ -1,0 +1,96 @@
+-- What a store and a writer are left with once the commands of a text were applied, and for what that is refused.
+use Rattle.std.specs.Prelude.{◌≡◌, ℕ, zero, ◌+◌, ◌≤◌, List, Option, Some, Ok, Err, Result, ⊤, length, take}
+use Rattle.std.specs.Io.KnownBytes.{Appends}
+use Rattle.roadnet.specs.declared.commands.Command.{Command}
+use Rattle.roadnet.specs.declared.refusals.Refusal.TheVariants.{NotAStore, WrongFormat, Damaged, Write}
+use Rattle.roadnet.specs.Net.{Net}
+use Rattle.roadnet.specs.Step.{after}
+use Rattle.dimacs.specs.declared.fault.Fault.{Fault}
+use Rattle.dimacs.specs.Commands.{command_code, commands}
+use Rattle.dimacs.specs.Commanded.{command_text}
+use Rattle.dimacs.specs.Ends.{BreaksOff, FailsIn}
+use Rattle.dimacs.specs.Lines.{rows}
+use Rattle.dimacs.specs.Taking.{ByCode, ByMemory}
+use Rattle.dimacs.specs.Texts.{content_by}
+use Rattle.disk.specs.Contents.{Only}
+use Rattle.storefile.specs.StoreFile.{StandsTidyFor}
+use Rattle.store.specs.Opening.{MayRefuseToOpen}
+use Rattle.printing.specs.declared.failed.Failed.{Failed}
+use Rattle.printing.specs.declared.failed.Failed.TheVariants.{Text, Code}
+use Rattle.storetexts.specs.declared.outcomes.Outcome.{Outcome}
+use Rattle.storetexts.specs.Outcomes.{ComesTo, accepted_in, outcome_lines}
+
+-- the commands of a text, in order, or its fault
+abbrev pub commands_of : List ℕ → Result (List Command) Fault
+commands_of text = content_by command_text (rows text)
+
+-- the content is tidy and stands for the network after the accepted ones of these commands, each counted
+pub record StandsAfter (net : Net) (version : ℕ) (commands : List Command) (outcomes : List Outcome) (content : List ℕ) : Type 0 where
+  pub network : Net
+  pub network_is : after net (accepted_in commands outcomes) ≡ Some network
+  pub stands : StandsTidyFor content network (version + length (accepted_in commands outcomes))
+
+-- All of a store's commands came to these outcomes, each of which is told; the content is what a stop leaves, and stands for the network after them.
+pub record AppliesAll (net : Net) (version : ℕ) (list : List Command) (content : List ℕ) (left : List ℕ → Type 0) (old new : Option (List ℕ)) : Type 0 where
+  pub outcomes : List Outcome
+  pub come : ComesTo version net version list outcomes
+  pub stands : StandsAfter net version list outcomes content
+  pub only : Only content left
+  pub written : Appends old new (outcome_lines outcomes)
+
+-- the same for the commands of a text
+pub record IsApplied (net : Net) (version : ℕ) (text content : List ℕ) (left : List ℕ → Type 0) (old new : Option (List ℕ)) : Type 0 where
+  pub list : List Command
+  pub list_is : commands_of text ≡ Ok list
+  pub applies : AppliesAll net version list content left old new
+
+-- The content stands for the network after the first of these commands, with their outcomes: no fewer than were told.
+pub record KeepsTold (net : Net) (version : ℕ) (commands : List Command) (outcomes : List Outcome) (told : ℕ) (content : List ℕ) : Type 0 where
+  pub kept : ℕ
+  pub told_kept : told ≤ kept
+  pub kept_to : kept ≤ length outcomes
+  pub stands : StandsAfter net version (take kept commands) (take kept outcomes) content
+
+-- what holds where the writer did not fail
+abbrev pub IfNotWrite : Failed → Type 0 → Type 0
+IfNotWrite (Code Write) written = ⊤
+IfNotWrite failed written = written
+
+-- Only the first commands were taken, and came to these outcomes, of which the first are told. Each content that a stop may leave stands
+-- for the network after the first commands, no fewer than were told: nothing that was told is lost.
+pub record AppliesSome (net : Net) (version : ℕ) (list : List Command) (left : List ℕ → Type 0) (old new : Option (List ℕ)) (failed : Failed) : Type 0 where
+  pub taken : ℕ
+  pub outcomes : List Outcome
+  pub come : ComesTo version net version (take taken list) outcomes
+  pub told : ℕ
+  pub told_to : told ≤ length outcomes
+  pub each_left : (content : List ℕ) → left content → KeepsTold net version (take taken list) outcomes told content
+  pub written : IfNotWrite failed (Appends old new (outcome_lines (take told outcomes)))
+
+-- the same for the commands of a text
+pub record IsCutOff (net : Net) (version : ℕ) (text : List ℕ) (left : List ℕ → Type 0) (old new : Option (List ℕ)) (failed : Failed) : Type 0 where
+  pub list : List Command
+  pub list_is : commands_of text ≡ Ok list
+  pub applies : AppliesSome net version list left old new failed
+
+-- nothing was begun: the text has a fault, or the file is refused as it is opened
+abbrev pub IfUnbegun : Failed → Type 0 → Type 0
+IfUnbegun (Text which fault) same = same
+IfUnbegun (Code NotAStore) same = same
+IfUnbegun (Code WrongFormat) same = same
+IfUnbegun (Code (Damaged page)) same = same
+IfUnbegun (Code refusal) same = ⊤
+
+-- The text has its fault told, or the reader failed in it; or the writer failed; or opening is refused, memory ran out, or the disk failed.
+abbrev pub IsRefusedApply : List ℕ → List ℕ → Option (List ℕ) → Failed → Type 0
+IsRefusedApply file text left (Text zero fault) = ByCode fault.code (commands_of text ≡ Err fault) (FailsIn (command_code commands) text (rows text) left fault.line) (BreaksOff (command_code commands) (rows text) (rows text) fault.line)
+IsRefusedApply file text left (Code Write) = ⊤
+IsRefusedApply file text left (Code refusal) = MayRefuseToOpen file refusal
+IsRefusedApply file text left failed = ⊥
+
+-- the same of a text in memory, in which no reader can fail
+abbrev pub IsTextRefusedApply : List ℕ → List ℕ → Failed → Type 0
+IsTextRefusedApply file text (Text zero fault) = ByMemory fault.code (commands_of text ≡ Err fault) (BreaksOff (command_code commands) (rows text) (rows text) fault.line)
+IsTextRefusedApply file text (Code Write) = ⊤
+IsTextRefusedApply file text (Code refusal) = MayRefuseToOpen file refusal
+IsTextRefusedApply file text failed = ⊥

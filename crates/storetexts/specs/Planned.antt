@@ -1,0 +1,90 @@
+-- The network of one text with the landmarks of another, and the store made of it.
+use Rattle.std.specs.Prelude.{◌≡◌, ℕ, zero, suc, ◌<◌, List, Option, Some, length, Result, Ok, Err, ⊤}
+use Rattle.roadnet.specs.declared.refusals.Refusal.TheVariants.{OutOfMemory, Write, Device, NotEmpty, TooManyLandmarks}
+use Rattle.roadnet.specs.Net.{Net, most_landmarks}
+use Rattle.dimacs.specs.declared.fault.Fault.{Fault}
+use Rattle.dimacs.specs.Content.{content}
+use Rattle.dimacs.specs.Ends.{BreaksOff, FailsIn}
+use Rattle.dimacs.specs.Faults.{code_of}
+use Rattle.dimacs.specs.Format.{gr, ss}
+use Rattle.dimacs.specs.Gr.{FaultOfLines}
+use Rattle.dimacs.specs.Landmarks.{ss_text}
+use Rattle.dimacs.specs.Lines.{rows}
+use Rattle.dimacs.specs.Taking.{ByCode, ByMemory}
+use Rattle.dimacs.specs.Texts.{content_by}
+use Rattle.disk.specs.Contents.{Only}
+use Rattle.storefile.specs.StoreFile.{StandsTidyFor}
+use Rattle.storefile.specs.Standing.{Standing, standing_of}
+use Rattle.printing.specs.declared.failed.Failed.{Failed}
+use Rattle.printing.specs.declared.failed.Failed.TheVariants.{Text, Code}
+use Rattle.querytexts.specs.Batch.{AfterNetwork}
+
+-- the landmarks of a text, ascending, or its fault; they are judged by the network
+abbrev pub landmarks_of : Net → List ℕ → Result (List ℕ) Fault
+landmarks_of net text = content_by (ss_text net.nodes) (rows text)
+
+-- the network with these landmarks
+abbrev pub with_landmarks : Net → List ℕ → Net
+with_landmarks net landmarks = record net { landmarks = landmarks }
+
+-- this is the network of the one text with the landmarks of the other, at most 1,000
+pub record IsPlanned (network landmarks : List ℕ) (planned : Net) : Type 0 where
+  pub net : Net
+  pub network_is : content network ≡ Ok net
+  pub marks : List ℕ
+  pub marks_are : landmarks_of net landmarks ≡ Ok marks
+  pub planned_is : planned ≡ with_landmarks net marks
+
+-- the landmarks of a text are too many
+abbrev pub HasTooMany : List ℕ → Net → Type 0
+HasTooMany landmarks net = (marks : List ℕ) × (landmarks_of net landmarks ≡ Ok marks) × (most_landmarks < length marks)
+
+-- The fault of a reader's first text is told, or, where that has none, that of the second; or a reader failed in its text; or the landmarks
+-- are too many, or memory ran out.
+abbrev pub IsRefusedPlan : List ℕ → List ℕ → Option (List ℕ) → Option (List ℕ) → Failed → Type 0
+IsRefusedPlan network landmarks network_left landmarks_left (Text zero fault) = FaultOfLines network (rows network) network_left fault
+IsRefusedPlan network landmarks network_left landmarks_left (Text (suc zero) fault) = AfterNetwork network (λ net. ByCode fault.code (landmarks_of net landmarks ≡ Err fault) (FailsIn (code_of (ss net.nodes)) landmarks (rows landmarks) landmarks_left fault.line) (BreaksOff (code_of (ss net.nodes)) (rows landmarks) (rows landmarks) fault.line))
+IsRefusedPlan network landmarks network_left landmarks_left (Code TooManyLandmarks) = AfterNetwork network (HasTooMany landmarks)
+IsRefusedPlan network landmarks network_left landmarks_left (Code OutOfMemory) = ⊤
+IsRefusedPlan network landmarks network_left landmarks_left failed = ⊥
+
+-- the same of texts in memory, in which no reader can fail
+abbrev pub IsTextRefusedPlan : List ℕ → List ℕ → Failed → Type 0
+IsTextRefusedPlan network landmarks (Text zero fault) = ByMemory fault.code (content network ≡ Err fault) (BreaksOff (code_of gr) (rows network) (rows network) fault.line)
+IsTextRefusedPlan network landmarks (Text (suc zero) fault) = AfterNetwork network (λ net. ByMemory fault.code (landmarks_of net landmarks ≡ Err fault) (BreaksOff (code_of (ss net.nodes)) (rows landmarks) (rows landmarks) fault.line))
+IsTextRefusedPlan network landmarks (Code TooManyLandmarks) = AfterNetwork network (HasTooMany landmarks)
+IsTextRefusedPlan network landmarks (Code OutOfMemory) = ⊤
+IsTextRefusedPlan network landmarks failed = ⊥
+
+-- a text is refused, its landmarks are too many, or memory ran out
+abbrev pub IsOfPlan : Failed → Type 0
+IsOfPlan (Text which fault) = ⊤
+IsOfPlan (Code TooManyLandmarks) = ⊤
+IsOfPlan (Code OutOfMemory) = ⊤
+IsOfPlan failed = ⊥
+
+-- making the store is refused: the disk is not empty or fails, memory ran out, or the writer failed
+abbrev pub IsUnmade : Failed → Type 0
+IsUnmade (Code NotEmpty) = ⊤
+IsUnmade (Code Device) = ⊤
+IsUnmade (Code OutOfMemory) = ⊤
+IsUnmade (Code Write) = ⊤
+IsUnmade failed = ⊥
+
+-- the journal of the file has so many pages
+pub record HasJournal (file : List ℕ) (pages : ℕ) : Type 0 where
+  pub standing : Standing
+  pub standing_is : standing_of file ≡ Some standing
+  pub pages_are : standing.header.journal_pages ≡ pages
+
+-- The content stands for the network at version 0, with so many journal pages, is tidy, and is all that a stop may leave.
+pub record IsNewStore (net : Net) (journal_pages : ℕ) (content : List ℕ) (left : List ℕ → Type 0) : Type 0 where
+  pub stands : StandsTidyFor content net 0
+  pub journal : HasJournal content journal_pages
+  pub only : Only content left
+
+-- the same for the network of two texts
+pub record IsNewStoreOf (network landmarks : List ℕ) (journal_pages : ℕ) (content : List ℕ) (left : List ℕ → Type 0) : Type 0 where
+  pub net : Net
+  pub planned : IsPlanned network landmarks net
+  pub made : IsNewStore net journal_pages content left

@@ -1,0 +1,490 @@
+// The commands of a text, applied to a store.
+ghost use Rattle.std.specs.Prelude.{◌≡◌, ◌⊎◌, ◌+◌, ◌≤◌, ◌<◌, ◌↔◌, ℕ, List, [], ◌∷◌, ◌++◌, Option, Ok, Err, false, All, length, take, vec_capacity, OnOk, IfOk, IfErr, IfSome};
+ghost use Rattle.std.specs.Bool.{Decides};
+ghost use Rattle.std.specs.Option.{ForSome};
+ghost use Rattle.dimacs.specs.Counts.{failed_calls, reader_of, IsSameReader};
+ghost use Rattle.disk.specs.Moments.{StaysSame};
+ghost use Rattle.keeper.specs.Keeping.{Holds};
+ghost use Rattle.machine.specs.Machine.{latest, pending};
+ghost use Rattle.roadnet.specs.declared.commands.Command.{Command as TheCommand};
+ghost use Rattle.roadnet.specs.Net.{Net};
+ghost use Rattle.rows.specs.Kept.{IsWidth};
+ghost use Rattle.storefile.specs.StoreFile.{StandsTidyFor};
+ghost use Rattle.store.specs.Opening.{MayRefuseToOpen};
+ghost use Rattle.printing.specs.Counting.{failed_writes, writer_of, IsSameWriter, CountsFailure};
+ghost use Rattle.printing.specs.Failing.{CountsReads, CountsWrites};
+ghost use Rattle.storetexts.specs.Applied.{AppliesAll, IsApplied, AppliesSome, IsCutOff, IsRefusedApply, IsTextRefusedApply, IfUnbegun};
+ghost use Rattle.storetexts.specs.Applying.{IsSteady, IsSettled, HaveCome, HaveComeSome, KeepsAccepted, AreTold, IfTold, IsOfDevice, IsCutOffBy};
+
+use crate::outcomes::{Outcome, reply_of};
+use dimacs::{Counted, parse_commands, read_commands_counted};
+use disk::Disk;
+use keeper::Keeper;
+use printing::{CountedWriter, Failed, put_reply};
+use roadnet::{Command, Refusal};
+use std::alloc::Global;
+use std::io::{BufRead, Write};
+use store::{Part, open};
+
+const COMMANDS: u8 = 0;
+
+/// How many commands are made durable at a time.
+const MOST_OF_PAGE: u64 = 253;
+
+/// How many pages a step of a checkpoint writes.
+const PAGES_OF_STEP: u32 = 64;
+
+/// Commands being applied, one after the other: the keeper of the store, what the commands came to, in order, and how many of these
+/// outcomes are told.
+#[derive(Drop)]
+struct Applying<D: Disk> {
+    keeper: Keeper<D>,
+    outcomes: Vec<Outcome>,
+    told: usize,
+}
+
+impl<D: Disk> Applying<D> {
+    /// Submits the next command, and notes what it came to.
+    fn take(&mut self, command: Command)
+        requires steady { IsSteady self.old.keeper.machine }
+        requires calm { self.old.keeper.machine.broken ≡ false }
+        requires few { pending self.old.keeper.machine < 4096 }
+        requires room { length self.old.outcomes.items < vec_capacity self.old.outcomes }
+        ensures steady { IsSteady self.new.keeper.machine }
+        ensures calm { self.new.keeper.machine.broken ≡ false }
+        ensures come { (net : Net) (version : ℕ) (commands : List TheCommand) → HaveCome net version commands self.old.outcomes.items self.old.told self.old.keeper.machine → HaveCome net version (commands ++ command ∷ []) self.new.outcomes.items self.new.told self.new.keeper.machine }
+        ensures one { pending self.new.keeper.machine ≤ pending self.old.keeper.machine + 1 }
+        ensures noted { length self.new.outcomes.items ≡ length self.old.outcomes.items + 1 }
+        ensures room { vec_capacity self.new.outcomes ≡ vec_capacity self.old.outcomes }
+        ensures told { self.new.told ≡ self.old.told }
+        ensures first { self.old.told ≤ length self.old.outcomes.items → take self.old.told self.new.outcomes.items ≡ take self.old.told self.old.outcomes.items }
+        ensures disk { self.new.keeper.disk ≡ self.old.keeper.disk }
+        ensures holds { Holds (D.content self.old.keeper.disk) (D.left self.old.keeper.disk) self.old.keeper.machine self.old.keeper.standing → Holds (D.content self.new.keeper.disk) (D.left self.new.keeper.disk) self.new.keeper.machine self.new.keeper.standing }
+    {
+        let outcome = match self.keeper.submit(command) {
+            Ok(ticket) => Outcome::Accepted {
+                number: ticket.number,
+            },
+            Err(refusal) => Outcome::Refused { refusal },
+        };
+        self.outcomes.push_reserved(outcome);
+    }
+
+    /// A whole checkpoint.
+    fn checkpoint(&mut self) -> Result<(), Refusal>
+        requires steady { IsSteady self.old.keeper.machine }
+        requires calm { self.old.keeper.machine.broken ≡ false }
+        ensures steady { IsSteady self.new.keeper.machine }
+        ensures kept { KeepsAccepted self.old.keeper.machine self.new.keeper.machine }
+        ensures pending { pending self.new.keeper.machine ≡ pending self.old.keeper.machine }
+        ensures calm { OnOk result (self.new.keeper.machine.broken ≡ false) }
+        ensures free { OnOk result (self.new.keeper.machine.unchecked ≡ 0) }
+        ensures refused { IfErr result IsOfDevice }
+        ensures outcomes { self.new.outcomes ≡ self.old.outcomes }
+        ensures told { self.new.told ≡ self.old.told }
+        ensures holds { D.honest self.old.keeper.disk → Holds (D.content self.old.keeper.disk) (D.left self.old.keeper.disk) self.old.keeper.machine self.old.keeper.standing → Holds (D.content self.new.keeper.disk) (D.left self.new.keeper.disk) self.new.keeper.machine self.new.keeper.standing }
+        ensures honest { D.honest self.new.keeper.disk ↔ D.honest self.old.keeper.disk }
+    {
+        match self.keeper.checkpoint_step(PAGES_OF_STEP) {
+            Ok(Part::Done(_)) => Ok(()),
+            Ok(Part::Going) => unreachable!(),
+            Err(refusal) => Err(refusal),
+        }
+    }
+
+    /// A checkpoint, and then a flush of the pending commands, of which there are some.
+    fn flush_anew(&mut self) -> Result<(), Refusal>
+        requires steady { IsSteady self.old.keeper.machine }
+        requires calm { self.old.keeper.machine.broken ≡ false }
+        requires some { 1 ≤ pending self.old.keeper.machine }
+        requires few { pending self.old.keeper.machine ≤ 253 }
+        ensures steady { IsSteady self.new.keeper.machine }
+        ensures kept { KeepsAccepted self.old.keeper.machine self.new.keeper.machine }
+        ensures calm { OnOk result (self.new.keeper.machine.broken ≡ false) }
+        ensures done { OnOk result (pending self.new.keeper.machine ≡ 0) }
+        ensures refused { IfErr result IsOfDevice }
+        ensures outcomes { self.new.outcomes ≡ self.old.outcomes }
+        ensures told { self.new.told ≡ self.old.told }
+        ensures holds { D.honest self.old.keeper.disk → Holds (D.content self.old.keeper.disk) (D.left self.old.keeper.disk) self.old.keeper.machine self.old.keeper.standing → Holds (D.content self.new.keeper.disk) (D.left self.new.keeper.disk) self.new.keeper.machine self.new.keeper.standing }
+        ensures honest { D.honest self.new.keeper.disk ↔ D.honest self.old.keeper.disk }
+    {
+        if let Err(refusal) = self.checkpoint() {
+            return Err(refusal);
+        }
+        match self.keeper.flush() {
+            Ok(_) => Ok(()),
+            Err(refusal) => Err(refusal),
+        }
+    }
+
+    /// Makes the pending commands durable, at most 253. Where the journal is full a checkpoint is written first.
+    fn flush(&mut self) -> Result<(), Refusal>
+        requires steady { IsSteady self.old.keeper.machine }
+        requires calm { self.old.keeper.machine.broken ≡ false }
+        requires few { pending self.old.keeper.machine ≤ 253 }
+        ensures steady { IsSteady self.new.keeper.machine }
+        ensures kept { KeepsAccepted self.old.keeper.machine self.new.keeper.machine }
+        ensures calm { OnOk result (self.new.keeper.machine.broken ≡ false) }
+        ensures done { OnOk result (pending self.new.keeper.machine ≡ 0) }
+        ensures refused { IfErr result IsOfDevice }
+        ensures outcomes { self.new.outcomes ≡ self.old.outcomes }
+        ensures told { self.new.told ≡ self.old.told }
+        ensures holds { D.honest self.old.keeper.disk → Holds (D.content self.old.keeper.disk) (D.left self.old.keeper.disk) self.old.keeper.machine self.old.keeper.standing → Holds (D.content self.new.keeper.disk) (D.left self.new.keeper.disk) self.new.keeper.machine self.new.keeper.standing }
+        ensures honest { D.honest self.new.keeper.disk ↔ D.honest self.old.keeper.disk }
+    {
+        if self.keeper.pending() == 0 {
+            return Ok(());
+        }
+        match self.keeper.flush() {
+            Ok(_) => Ok(()),
+            Err(Refusal::JournalFull) => self.flush_anew(),
+            Err(refusal) => Err(refusal),
+        }
+    }
+
+    /// Whether the outcome may be told: the command is durable, or was refused.
+    fn is_settled(&self, outcome: &Outcome) -> bool
+        ensures { Decides result (IsSettled self.now.keeper.machine.durable outcome.now) }
+    {
+        match outcome {
+            Outcome::Accepted { number } => *number <= self.keeper.durable(),
+            Outcome::Refused { refusal: _ } => true,
+        }
+    }
+
+    /// Writes a line for each outcome that is not told yet, up to the first command that is not durable.
+    fn tell<W: Write>(&mut self, out: &mut CountedWriter<'_, W>) -> Result<(), Failed>
+        requires { self.old.told ≤ length self.old.outcomes.items }
+        ensures keeper { self.new.keeper ≡ self.old.keeper }
+        ensures outcomes { self.new.outcomes ≡ self.old.outcomes }
+        ensures told_to { self.new.told ≤ length self.old.outcomes.items }
+        ensures settled { All (IsSettled self.old.keeper.machine.durable) (take self.old.told self.old.outcomes.items) → All (IsSettled self.old.keeper.machine.durable) (take self.new.told self.old.outcomes.items) }
+        ensures all { OnOk result (All (IsSettled self.old.keeper.machine.durable) self.old.outcomes.items → self.new.told ≡ length self.old.outcomes.items) }
+        ensures lines { OnOk result ((before : Option (List ℕ)) → AreTold before (W.contents (writer_of out.old)) self.old.outcomes.items self.old.told → AreTold before (W.contents (writer_of out.new)) self.old.outcomes.items self.new.told) }
+        ensures refused { IfErr result (λ failed. failed ≡ Failed.Code Refusal.Write) }
+        ensures counts { CountsFailure (failed_writes out.old) (failed_writes out.new) result }
+        ensures same { IsSameWriter out.old out.new }
+    {
+        for index in self.told..self.outcomes.len() {
+            let outcome = self.outcomes[index];
+            if !self.is_settled(&outcome) {
+                return Ok(());
+            }
+            if let Err(failed) = put_reply(out, &reply_of(outcome)) {
+                return Err(failed);
+            }
+            self.told = index + 1;
+        }
+        Ok(())
+    }
+
+    /// Makes the pending commands durable, tells what may be told, also where that is refused, and sends it out.
+    fn settle<W: Write>(&mut self, out: &mut CountedWriter<'_, W>) -> Result<(), Failed>
+        requires steady { IsSteady self.old.keeper.machine }
+        requires calm { self.old.keeper.machine.broken ≡ false }
+        requires few { pending self.old.keeper.machine ≤ 253 }
+        requires told_to { self.old.told ≤ length self.old.outcomes.items }
+        ensures steady { IsSteady self.new.keeper.machine }
+        ensures come { (net : Net) (version : ℕ) (commands : List TheCommand) → HaveCome net version commands self.old.outcomes.items self.old.told self.old.keeper.machine → HaveCome net version commands self.new.outcomes.items self.new.told self.new.keeper.machine }
+        ensures calm { OnOk result (self.new.keeper.machine.broken ≡ false) }
+        ensures done { OnOk result (pending self.new.keeper.machine ≡ 0) }
+        ensures told_to { self.new.told ≤ length self.new.outcomes.items }
+        ensures all { OnOk result ((net : Net) (version : ℕ) (commands : List TheCommand) → HaveCome net version commands self.old.outcomes.items self.old.told self.old.keeper.machine → self.new.told ≡ length self.new.outcomes.items) }
+        ensures lines { IfTold result ((before : Option (List ℕ)) → AreTold before (W.contents (writer_of out.old)) self.old.outcomes.items self.old.told → AreTold before (W.contents (writer_of out.new)) self.new.outcomes.items self.new.told) }
+        ensures outcomes { self.new.outcomes ≡ self.old.outcomes }
+        ensures refused { IfErr result IsCutOffBy }
+        ensures writes { CountsWrites (failed_writes out.old) (failed_writes out.new) result }
+        ensures same { IsSameWriter out.old out.new }
+        ensures holds { D.honest self.old.keeper.disk → Holds (D.content self.old.keeper.disk) (D.left self.old.keeper.disk) self.old.keeper.machine self.old.keeper.standing → Holds (D.content self.new.keeper.disk) (D.left self.new.keeper.disk) self.new.keeper.machine self.new.keeper.standing }
+        ensures honest { D.honest self.new.keeper.disk ↔ D.honest self.old.keeper.disk }
+    {
+        let flushed = self.flush();
+        if let Err(failed) = self.tell(out) {
+            return Err(failed);
+        }
+        if let Err(failed) = out.flush() {
+            return Err(failed);
+        }
+        match flushed {
+            Ok(()) => Ok(()),
+            Err(refusal) => Err(Failed::Code(refusal)),
+        }
+    }
+
+    /// Takes the next command, and settles what is pending where that is as much as a page holds.
+    fn advance<W: Write>(
+        &mut self,
+        command: Command,
+        out: &mut CountedWriter<'_, W>,
+    ) -> Result<(), Failed>
+        requires steady { IsSteady self.old.keeper.machine }
+        requires calm { self.old.keeper.machine.broken ≡ false }
+        requires few { pending self.old.keeper.machine < 253 }
+        requires told_to { self.old.told ≤ length self.old.outcomes.items }
+        requires room { length self.old.outcomes.items < vec_capacity self.old.outcomes }
+        ensures steady { IsSteady self.new.keeper.machine }
+        ensures come { (net : Net) (version : ℕ) (commands : List TheCommand) → HaveCome net version commands self.old.outcomes.items self.old.told self.old.keeper.machine → HaveCome net version (commands ++ command ∷ []) self.new.outcomes.items self.new.told self.new.keeper.machine }
+        ensures calm { OnOk result (self.new.keeper.machine.broken ≡ false) }
+        ensures few { OnOk result (pending self.new.keeper.machine < 253) }
+        ensures told_to { self.new.told ≤ length self.new.outcomes.items }
+        ensures noted { length self.new.outcomes.items ≡ length self.old.outcomes.items + 1 }
+        ensures room { vec_capacity self.new.outcomes ≡ vec_capacity self.old.outcomes }
+        ensures lines { IfTold result ((before : Option (List ℕ)) → AreTold before (W.contents (writer_of out.old)) self.old.outcomes.items self.old.told → AreTold before (W.contents (writer_of out.new)) self.new.outcomes.items self.new.told) }
+        ensures refused { IfErr result IsCutOffBy }
+        ensures writes { CountsWrites (failed_writes out.old) (failed_writes out.new) result }
+        ensures same { IsSameWriter out.old out.new }
+        ensures holds { D.honest self.old.keeper.disk → Holds (D.content self.old.keeper.disk) (D.left self.old.keeper.disk) self.old.keeper.machine self.old.keeper.standing → Holds (D.content self.new.keeper.disk) (D.left self.new.keeper.disk) self.new.keeper.machine self.new.keeper.standing }
+        ensures honest { D.honest self.new.keeper.disk ↔ D.honest self.old.keeper.disk }
+    {
+        self.take(command);
+        if self.keeper.pending() < MOST_OF_PAGE {
+            return Ok(());
+        }
+        self.settle(out)
+    }
+
+    /// Takes the commands in their order, and settles them, 253 at a time.
+    fn take_all<W: Write>(
+        &mut self,
+        commands: &[Command],
+        out: &mut CountedWriter<'_, W>,
+    ) -> Result<(), Failed>
+        requires steady { IsSteady self.old.keeper.machine }
+        requires calm { self.old.keeper.machine.broken ≡ false }
+        requires none { pending self.old.keeper.machine ≡ 0 }
+        requires new { self.old.outcomes.items ≡ [] }
+        requires untold { self.old.told ≡ 0 }
+        requires room { length commands.now ≤ vec_capacity self.old.outcomes }
+        ensures steady { IsSteady self.new.keeper.machine }
+        ensures some { (net : Net) (version : ℕ) → HaveCome net version [] [] 0 self.old.keeper.machine → HaveComeSome net version commands.now self.new.outcomes.items self.new.told self.new.keeper.machine }
+        ensures come { OnOk result ((net : Net) (version : ℕ) → HaveCome net version [] [] 0 self.old.keeper.machine → HaveCome net version commands.now self.new.outcomes.items self.new.told self.new.keeper.machine) }
+        ensures calm { OnOk result (self.new.keeper.machine.broken ≡ false) }
+        ensures few { OnOk result (pending self.new.keeper.machine ≤ 253) }
+        ensures told_to { self.new.told ≤ length self.new.outcomes.items }
+        ensures lines { IfTold result (AreTold (W.contents (writer_of out.old)) (W.contents (writer_of out.new)) self.new.outcomes.items self.new.told) }
+        ensures refused { IfErr result IsCutOffBy }
+        ensures writes { CountsWrites (failed_writes out.old) (failed_writes out.new) result }
+        ensures same { IsSameWriter out.old out.new }
+        ensures holds { D.honest self.old.keeper.disk → Holds (D.content self.old.keeper.disk) (D.left self.old.keeper.disk) self.old.keeper.machine self.old.keeper.standing → Holds (D.content self.new.keeper.disk) (D.left self.new.keeper.disk) self.new.keeper.machine self.new.keeper.standing }
+        ensures honest { D.honest self.new.keeper.disk ↔ D.honest self.old.keeper.disk }
+    {
+        for index in 0..commands.len() {
+            if let Err(failed) = self.advance(commands[index], out) {
+                return Err(failed);
+            }
+        }
+        Ok(())
+    }
+
+    /// Takes the commands and settles them all.
+    fn run<W: Write>(
+        &mut self,
+        commands: &[Command],
+        out: &mut CountedWriter<'_, W>,
+    ) -> Result<(), Failed>
+        requires steady { IsSteady self.old.keeper.machine }
+        requires calm { self.old.keeper.machine.broken ≡ false }
+        requires none { pending self.old.keeper.machine ≡ 0 }
+        requires new { self.old.outcomes.items ≡ [] }
+        requires untold { self.old.told ≡ 0 }
+        requires room { length commands.now ≤ vec_capacity self.old.outcomes }
+        ensures steady { IsSteady self.new.keeper.machine }
+        ensures some { (net : Net) (version : ℕ) → HaveCome net version [] [] 0 self.old.keeper.machine → HaveComeSome net version commands.now self.new.outcomes.items self.new.told self.new.keeper.machine }
+        ensures come { OnOk result ((net : Net) (version : ℕ) → HaveCome net version [] [] 0 self.old.keeper.machine → HaveCome net version commands.now self.new.outcomes.items (length self.new.outcomes.items) self.new.keeper.machine) }
+        ensures calm { OnOk result (self.new.keeper.machine.broken ≡ false) }
+        ensures done { OnOk result (pending self.new.keeper.machine ≡ 0) }
+        ensures lines { IfTold result (AreTold (W.contents (writer_of out.old)) (W.contents (writer_of out.new)) self.new.outcomes.items self.new.told) }
+        ensures all { OnOk result ((net : Net) (version : ℕ) → HaveCome net version [] [] 0 self.old.keeper.machine → self.new.told ≡ length self.new.outcomes.items) }
+        ensures refused { IfErr result IsCutOffBy }
+        ensures writes { CountsWrites (failed_writes out.old) (failed_writes out.new) result }
+        ensures same { IsSameWriter out.old out.new }
+        ensures holds { D.honest self.old.keeper.disk → Holds (D.content self.old.keeper.disk) (D.left self.old.keeper.disk) self.old.keeper.machine self.old.keeper.standing → Holds (D.content self.new.keeper.disk) (D.left self.new.keeper.disk) self.new.keeper.machine self.new.keeper.standing }
+        ensures honest { D.honest self.new.keeper.disk ↔ D.honest self.old.keeper.disk }
+    {
+        match self.take_all(commands, out) {
+            Ok(()) => self.settle(out),
+            Err(failed) => Err(failed),
+        }
+    }
+
+    /// The disk, of which no call is made.
+    fn close(self) -> D
+        ensures { result ≡ self.keeper.disk }
+    {
+        let Applying {
+            keeper,
+            outcomes: _,
+            told: _,
+        } = self;
+        let (_, disk) = keeper.close();
+        disk
+    }
+}
+
+/// The keeper of the store on a disk.
+fn keeper_on<D: Disk>(alloc: Global, disk: D, delta: Option<u32>) -> Result<Keeper<D>, (Refusal, D)>
+    requires { ForSome delta IsWidth }
+    ensures steady { IfOk result (λ keeper. IsSteady keeper.machine) }
+    ensures calm { IfOk result (λ keeper. keeper.machine.broken ≡ false) }
+    ensures none { IfOk result (λ keeper. pending keeper.machine ≡ 0) }
+    ensures begins { D.honest disk → (net : Net) (version : ℕ) → StandsTidyFor (D.content disk) net version → IfOk result (λ keeper. HaveCome net version [] [] 0 keeper.machine) }
+    ensures holds { D.honest disk → (net : Net) (version : ℕ) → StandsTidyFor (D.content disk) net version → IfOk result (λ keeper. Holds (D.content keeper.disk) (D.left keeper.disk) keeper.machine keeper.standing) }
+    ensures same { D.honest disk → IfOk result (λ keeper. StaysSame D.content D.left D.moment D.left_since disk keeper.disk) }
+    ensures handed_back { D.honest disk → IfErr result (λ refused. StaysSame D.content D.left D.moment D.left_since disk refused.1) }
+    ensures refused { D.honest disk → IfErr result (λ refused. MayRefuseToOpen (D.content disk) refused.0) }
+    ensures honest { (IfOk result (λ keeper. D.honest keeper.disk ↔ D.honest disk)) × (IfErr result (λ refused. D.honest refused.1 ↔ D.honest disk)) }
+{
+    let store = match open(alloc, disk) {
+        Ok(store) => store,
+        Err(refused) => return Err(refused),
+    };
+    match Keeper::new(alloc, store, delta) {
+        Ok(keeper) => Ok(keeper),
+        Err((_, store)) => Err((Refusal::OutOfMemory, store.close())),
+    }
+}
+
+/// Applies these commands to the store of a keeper that has just begun.
+fn apply_commands<D: Disk, W: Write>(
+    alloc: Global,
+    keeper: Keeper<D>,
+    commands: &[Command],
+    out: &mut CountedWriter<'_, W>,
+) -> (Result<(), Failed>, D)
+    requires steady { IsSteady keeper.machine }
+    requires calm { keeper.machine.broken ≡ false }
+    requires none { pending keeper.machine ≡ 0 }
+    ensures applied { D.honest keeper.disk → Holds (D.content keeper.disk) (D.left keeper.disk) keeper.machine keeper.standing → (net : Net) (version : ℕ) → HaveCome net version [] [] 0 keeper.machine → OnOk result.0 (AppliesAll net version commands.now (D.content result.1) (D.left result.1) (W.contents (writer_of out.old)) (W.contents (writer_of out.new))) }
+    ensures cut_off { D.honest keeper.disk → Holds (D.content keeper.disk) (D.left keeper.disk) keeper.machine keeper.standing → (net : Net) (version : ℕ) → HaveCome net version [] [] 0 keeper.machine → IfErr result.0 (AppliesSome net version commands.now (D.left result.1) (W.contents (writer_of out.old)) (W.contents (writer_of out.new))) }
+    ensures refused { IfErr result.0 IsCutOffBy }
+    ensures writes { CountsWrites (failed_writes out.old) (failed_writes out.new) result.0 }
+    ensures same { IsSameWriter out.old out.new }
+    ensures honest { D.honest result.1 ↔ D.honest keeper.disk }
+{
+    let outcomes = match Vec::with_capacity(alloc, commands.len()) {
+        Ok(outcomes) => outcomes,
+        Err(_) => {
+            let (_, disk) = keeper.close();
+            return (Err(Failed::Code(Refusal::OutOfMemory)), disk);
+        }
+    };
+    let mut applying = Applying {
+        keeper,
+        outcomes,
+        told: 0,
+    };
+    let ended = applying.run(commands, out);
+    (ended, applying.close())
+}
+
+/// The same over any writer, whose failed calls nobody counts.
+fn apply_to_writer<D: Disk, W: Write>(
+    alloc: Global,
+    keeper: Keeper<D>,
+    commands: &[Command],
+    out: &mut W,
+) -> (Result<(), Failed>, D)
+    requires steady { IsSteady keeper.machine }
+    requires calm { keeper.machine.broken ≡ false }
+    requires none { pending keeper.machine ≡ 0 }
+    ensures applied { D.honest keeper.disk → Holds (D.content keeper.disk) (D.left keeper.disk) keeper.machine keeper.standing → (net : Net) (version : ℕ) → HaveCome net version [] [] 0 keeper.machine → OnOk result.0 (AppliesAll net version commands.now (D.content result.1) (D.left result.1) (W.contents out.old) (W.contents out.new)) }
+    ensures cut_off { D.honest keeper.disk → Holds (D.content keeper.disk) (D.left keeper.disk) keeper.machine keeper.standing → (net : Net) (version : ℕ) → HaveCome net version [] [] 0 keeper.machine → IfErr result.0 (AppliesSome net version commands.now (D.left result.1) (W.contents out.old) (W.contents out.new)) }
+    ensures refused { IfErr result.0 IsCutOffBy }
+    ensures honest { D.honest result.1 ↔ D.honest keeper.disk }
+{
+    let mut counted = CountedWriter::new(out);
+    apply_commands(alloc, keeper, commands, &mut counted)
+}
+
+/// Applies the commands of a reader's text to the store on a disk, in their order, and writes one line a command: `ok N` once the command is
+/// durable as version N, or `no CODE` for one that is refused (20 to 28, 62, 11). The disk is handed back.
+///
+/// The store is opened first, then the text is read whole, then the commands are applied. 253 commands at a time are made durable; where
+/// the journal is full a checkpoint is written. It takes 24 bytes a command for what it came to, beside the text's 24 and the keeper.
+///
+/// Refused is what is refused on opening: no store (40), another format (41), a damaged page (42), a disk that fails (43), want of memory
+/// (11); then a fault of the text, `which` 0. Nothing is applied or written then. A disk that fails later (43) and want of memory for a
+/// flush or checkpoint (11) end it after the lines before the first command that is not durable: no command that is told is lost. A failed
+/// write (12) ends it too: then the last commands may be durable and not told, or lost. A failed read is fault 10 of the line being read; it
+/// and 12 are told only where the count of the reader's or the writer's failed calls rose. After an `Err` reader and writer are not used
+/// again.
+pub fn apply_counted<D: Disk, R: BufRead, W: Write>(
+    alloc: Global,
+    disk: D,
+    commands: &mut Counted<'_, R>,
+    delta: Option<u32>,
+    out: &mut CountedWriter<'_, W>,
+) -> (Result<(), Failed>, D)
+    requires { ForSome delta IsWidth }
+    // Where the disk stands, tidy, for this network at this version, all that a stop may leave stands for that network after the accepted
+    // commands, and the lines of all commands are written.
+    ensures applied { D.honest disk → (net : Net) (version : ℕ) → StandsTidyFor (D.content disk) net version → OnOk result.0 (IfSome (R.remaining (reader_of commands.old))
+        (λ text. IsApplied net version text (D.content result.1) (D.left result.1) (W.contents (writer_of out.old)) (W.contents (writer_of out.new)))) }
+    // Where it ends early, nothing was begun, or nothing that was told is lost.
+    ensures cut_off { D.honest disk → (net : Net) (version : ℕ) → StandsTidyFor (D.content disk) net version → IfErr result.0 (λ failed. IfSome (R.remaining (reader_of commands.old))
+        (λ text. (StaysSame D.content D.left D.moment D.left_since disk result.1 × (writer_of out.new ≡ writer_of out.old)) ⊎ IsCutOff net version text (D.left result.1) (W.contents (writer_of out.old)) (W.contents (writer_of out.new)) failed)) }
+    ensures refused { D.honest disk → IfErr result.0 (λ failed. IfSome (R.remaining (reader_of commands.old))
+        (λ text. IsRefusedApply (D.content disk) text (R.remaining (reader_of commands.new)) failed)) }
+    ensures untouched { D.honest disk → IfErr result.0 (λ failed. IfUnbegun failed (StaysSame D.content D.left D.moment D.left_since disk result.1)) }
+    ensures unwritten { IfErr result.0 (λ failed. IfUnbegun failed (writer_of out.new ≡ writer_of out.old)) }
+    ensures honest { D.honest result.1 ↔ D.honest disk }
+    ensures reads { CountsReads (failed_calls commands.old) (failed_calls commands.new) result.0 }
+    ensures writes { D.honest disk → CountsWrites (failed_writes out.old) (failed_writes out.new) result.0 }
+    ensures same_reader { IsSameReader commands.old commands.new }
+    ensures same_writer { IsSameWriter out.old out.new }
+{
+    let keeper = match keeper_on(alloc, disk, delta) {
+        Ok(keeper) => keeper,
+        Err((refusal, disk)) => return (Err(Failed::Code(refusal)), disk),
+    };
+    let commands = match read_commands_counted(alloc, commands) {
+        Ok(commands) => commands,
+        Err(fault) => {
+            let (_, disk) = keeper.close();
+            return (
+                Err(Failed::Text {
+                    which: COMMANDS,
+                    fault,
+                }),
+                disk,
+            );
+        }
+    };
+    apply_commands(alloc, keeper, &commands, out)
+}
+
+/// The same for a text in memory, over any writer, whose failed calls nobody counts.
+pub fn apply_text<D: Disk, W: Write>(
+    alloc: Global,
+    disk: D,
+    commands: &[u8],
+    delta: Option<u32>,
+    out: &mut W,
+) -> (Result<(), Failed>, D)
+    requires { ForSome delta IsWidth }
+    ensures applied { D.honest disk → (net : Net) (version : ℕ) → StandsTidyFor (D.content disk) net version → OnOk result.0 (IsApplied net version commands.now (D.content result.1) (D.left result.1) (W.contents out.old) (W.contents out.new)) }
+    ensures cut_off { D.honest disk → (net : Net) (version : ℕ) → StandsTidyFor (D.content disk) net version → IfErr result.0 (λ failed. (StaysSame D.content D.left D.moment D.left_since disk result.1 × (out.new ≡ out.old)) ⊎ IsCutOff net version commands.now (D.left result.1) (W.contents out.old) (W.contents out.new) failed) }
+    ensures refused { D.honest disk → IfErr result.0 (IsTextRefusedApply (D.content disk) commands.now) }
+    ensures untouched { D.honest disk → IfErr result.0 (λ failed. IfUnbegun failed (StaysSame D.content D.left D.moment D.left_since disk result.1)) }
+    ensures unwritten { IfErr result.0 (λ failed. IfUnbegun failed (out.new ≡ out.old)) }
+    ensures honest { D.honest result.1 ↔ D.honest disk }
+{
+    let keeper = match keeper_on(alloc, disk, delta) {
+        Ok(keeper) => keeper,
+        Err((refusal, disk)) => return (Err(Failed::Code(refusal)), disk),
+    };
+    let commands = match parse_commands(alloc, commands) {
+        Ok(commands) => commands,
+        Err(fault) => {
+            let (_, disk) = keeper.close();
+            return (
+                Err(Failed::Text {
+                    which: COMMANDS,
+                    fault,
+                }),
+                disk,
+            );
+        }
+    };
+    apply_to_writer(alloc, keeper, &commands, out)
+}

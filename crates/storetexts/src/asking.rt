@@ -1,0 +1,126 @@
+// The pairs of a text, asked of a store.
+ghost use Rattle.std.specs.Prelude.{◌≡◌, ◌↔◌, OnOk, IfErr, IfSome};
+ghost use Rattle.std.specs.Option.{ForSome};
+ghost use Rattle.dimacs.specs.Counts.{failed_calls, reader_of, IsSameReader};
+ghost use Rattle.disk.specs.Moments.{StaysSame};
+ghost use Rattle.rows.specs.Kept.{IsWidth};
+ghost use Rattle.printing.specs.Counting.{failed_writes, writer_of, IsSameWriter};
+ghost use Rattle.printing.specs.Failing.{CountsReads, CountsWrites, LeavesUnwritten};
+ghost use Rattle.querytexts.specs.Batch.{AnswersAll};
+ghost use Rattle.querytexts.specs.Once.{IsUnanswered};
+ghost use Rattle.storetexts.specs.Asked.{IsAsked, IsRefusedAsk, IsTextRefusedAsk};
+
+use dimacs::{Counted, Pair, parse_p2p, read_p2p_counted};
+use disk::Disk;
+use printing::{CountedWriter, Failed};
+use querytexts::answer_pairs;
+use std::alloc::Global;
+use std::io::{BufRead, Write};
+use store::{Store, open};
+
+const PAIRS: u8 = 0;
+
+/// Writes the version of the store and a right answer to each pair, and hands the disk back.
+fn ask_opened<D: Disk, W: Write>(
+    alloc: Global,
+    store: Store<D>,
+    pairs: &[Pair],
+    delta: Option<u32>,
+    out: &mut CountedWriter<'_, W>,
+) -> (Result<(), Failed>, D)
+    requires { ForSome delta IsWidth }
+    ensures answered { OnOk result.0 (AnswersAll store.network store.version pairs.now (W.contents (writer_of out.old)) (W.contents (writer_of out.new))) }
+    ensures refused { IfErr result.0 IsUnanswered }
+    ensures disk { result.1 ≡ store.disk }
+    ensures unwritten { IfErr result.0 (LeavesUnwritten (writer_of out.old) (writer_of out.new)) }
+    ensures writes { CountsWrites (failed_writes out.old) (failed_writes out.new) result.0 }
+    ensures same { IsSameWriter out.old out.new }
+{
+    let answered = answer_pairs(alloc, store.network(), store.version(), delta, pairs, out);
+    (answered, store.close())
+}
+
+/// Opens the store on a disk, and writes its version and a right answer to each pair of a reader's `.p2p` text, in their order. The store is opened first, then
+/// the text is read whole, then the answers are written. Nodes of the pairs are judged by the store's network. Nothing is written to the disk, which is handed back.
+///
+/// Refused is what is refused on opening: no store (40), another format (41), a damaged page (42), a disk that fails (43), want of memory
+/// (11); then a fault of the text, `which` 0; then want of memory for all replies (11). Nothing is written then. A failed read is fault 10
+/// of the line being read, and a failed write is 12: both are told only where the count of the reader's or the writer's failed calls rose.
+/// After an `Err` reader and writer are not used again.
+///
+/// `delta` is the width of a search's buckets, 1 to 2147483647: every width gives the same answers; without one it is the network's
+/// default.
+pub fn ask_counted<D: Disk, R: BufRead, W: Write>(
+    alloc: Global,
+    disk: D,
+    p2p: &mut Counted<'_, R>,
+    delta: Option<u32>,
+    out: &mut CountedWriter<'_, W>,
+) -> (Result<(), Failed>, D)
+    requires { ForSome delta IsWidth }
+    ensures answered { D.honest disk → OnOk result.0 (IfSome (R.remaining (reader_of p2p.old))
+        (λ text. IsAsked text (D.content disk) (W.contents (writer_of out.old)) (W.contents (writer_of out.new)))) }
+    ensures refused { D.honest disk → IfErr result.0 (λ failed. IfSome (R.remaining (reader_of p2p.old))
+        (λ text. IsRefusedAsk (D.content disk) text (R.remaining (reader_of p2p.new)) failed)) }
+    // Nothing is written to the disk.
+    ensures untouched { D.honest disk → StaysSame D.content D.left D.moment D.left_since disk result.1 }
+    ensures honest { D.honest result.1 ↔ D.honest disk }
+    ensures unwritten { IfErr result.0 (LeavesUnwritten (writer_of out.old) (writer_of out.new)) }
+    ensures reads { CountsReads (failed_calls p2p.old) (failed_calls p2p.new) result.0 }
+    ensures writes { D.honest disk → CountsWrites (failed_writes out.old) (failed_writes out.new) result.0 }
+    ensures same_reader { IsSameReader p2p.old p2p.new }
+    ensures same_writer { IsSameWriter out.old out.new }
+{
+    let store = match open(alloc, disk) {
+        Ok(store) => store,
+        Err((refusal, disk)) => return (Err(Failed::Code(refusal)), disk),
+    };
+    let pairs = match read_p2p_counted(alloc, p2p, store.network().nodes()) {
+        Ok(pairs) => pairs,
+        Err(fault) => {
+            return (
+                Err(Failed::Text {
+                    which: PAIRS,
+                    fault,
+                }),
+                store.close(),
+            );
+        }
+    };
+    ask_opened(alloc, store, &pairs, delta, out)
+}
+
+/// The same for a text in memory, over any writer, whose failed calls nobody counts.
+pub fn ask_text<D: Disk, W: Write>(
+    alloc: Global,
+    disk: D,
+    p2p: &[u8],
+    delta: Option<u32>,
+    out: &mut W,
+) -> (Result<(), Failed>, D)
+    requires { ForSome delta IsWidth }
+    ensures answered { D.honest disk → OnOk result.0 (IsAsked p2p.now (D.content disk) (W.contents out.old) (W.contents out.new)) }
+    ensures refused { D.honest disk → IfErr result.0 (IsTextRefusedAsk (D.content disk) p2p.now) }
+    ensures untouched { D.honest disk → StaysSame D.content D.left D.moment D.left_since disk result.1 }
+    ensures honest { D.honest result.1 ↔ D.honest disk }
+    ensures unwritten { IfErr result.0 (LeavesUnwritten out.old out.new) }
+{
+    let store = match open(alloc, disk) {
+        Ok(store) => store,
+        Err((refusal, disk)) => return (Err(Failed::Code(refusal)), disk),
+    };
+    let pairs = match parse_p2p(alloc, p2p, store.network().nodes()) {
+        Ok(pairs) => pairs,
+        Err(fault) => {
+            return (
+                Err(Failed::Text {
+                    which: PAIRS,
+                    fault,
+                }),
+                store.close(),
+            );
+        }
+    };
+    let mut out = CountedWriter::new(out);
+    ask_opened(alloc, store, &pairs, delta, &mut out)
+}

@@ -1,0 +1,220 @@
+// A store made from two texts.
+ghost use Rattle.std.specs.Prelude.{◌≡◌, ◌≢◌, ◌⊎◌, ◌<◌, ◌≤◌, ◌↔◌, [], length, OnOk, IfOk, IfErr, IfSome};
+ghost use Rattle.std.specs.Io.KnownBytes.{Appends};
+ghost use Rattle.std.specs.List.Sorted.{IsStrictlyIncreasing};
+ghost use lib.Chars.{codes};
+ghost use Rattle.dimacs.specs.Counts.{failed_calls, reader_of, IsSameReader};
+ghost use Rattle.disk.specs.Contents.{Rose};
+ghost use Rattle.disk.specs.Moments.{StaysSame};
+ghost use Rattle.printing.specs.Counting.{failed_writes, writer_of, IsSameWriter};
+ghost use Rattle.printing.specs.Failing.{CountsFirst, CountsSecond, CountsWrites, LeavesUnwritten};
+ghost use Rattle.printing.specs.Replied.{number_line};
+ghost use Rattle.storetexts.specs.Planned.{with_landmarks, IsPlanned, IsRefusedPlan, IsTextRefusedPlan, IsOfPlan, IsUnmade, IsNewStore, IsNewStoreOf};
+ghost use Rattle.storetexts.specs.Refused.{IfDone, IfNoDevice, IfOfTexts, IfNotEmpty, IfDevice};
+
+use dimacs::{Counted, parse_gr, parse_ss, read_gr_counted, read_ss_counted};
+use disk::Disk;
+use machine::Replied;
+use printing::{CountedWriter, Failed, put_reply};
+use roadnet::{Command, Network, Refusal};
+use std::alloc::Global;
+use std::io::{BufRead, Write};
+use store::create;
+
+const NETWORK: u8 = 0;
+
+const LANDMARKS: u8 = 1;
+
+/// The most landmarks that a network may have.
+const MOST_LANDMARKS: usize = 1000;
+
+/// The network with these landmarks, ascending, in place of none. More than 1,000 are refused with 27, and want of memory with 11.
+fn with_landmarks(network: Network, landmarks: &[u32]) -> Result<Network, Refusal>
+    requires { IsStrictlyIncreasing landmarks.now }
+    ensures marked { network.landmarks ≡ [] → IfOk result (λ marked. marked ≡ with_landmarks network landmarks.now) }
+    ensures refused { IfErr result (λ refusal. ((refusal ≡ Refusal.TooManyLandmarks) × (1000 < length landmarks.now)) ⊎ (refusal ≡ Refusal.OutOfMemory)) }
+{
+    if landmarks.len() > MOST_LANDMARKS {
+        return Err(Refusal::TooManyLandmarks);
+    }
+    let mut marked = network;
+    for node in landmarks {
+        let mark = Command::Mark {
+            node: u64::from(*node),
+        };
+        match marked.apply(mark) {
+            Ok(()) => {}
+            Err(_) => return Err(Refusal::OutOfMemory),
+        }
+    }
+    Ok(marked)
+}
+
+/// The network of a reader's `.gr` text, with the landmarks of another reader's `.ss` text. Both texts are read whole, the network first,
+/// and the first fault decides: `which` is 0 for the network and 1 for the landmarks. Nodes of the landmarks are judged by the network's
+/// number of nodes.
+///
+/// More than 1,000 landmarks are refused with 27, and want of memory outside the texts with 11. A failed read is fault 10 of the text and
+/// line being read: it is told only where the count of that reader's failed calls rose. After an `Err` the readers are not used again.
+pub fn read_planned<R: BufRead, Q: BufRead>(
+    alloc: Global,
+    gr: &mut Counted<'_, R>,
+    ss: &mut Counted<'_, Q>,
+) -> Result<Network, Failed>
+    ensures planned { IfOk result (λ planned. IfSome (R.remaining (reader_of gr.old)) (λ network. IfSome (Q.remaining (reader_of ss.old))
+        (λ landmarks. IsPlanned network landmarks planned))) }
+    ensures refused { IfErr result (λ failed. IfSome (R.remaining (reader_of gr.old)) (λ network. IfSome (Q.remaining (reader_of ss.old))
+        (λ landmarks. IsRefusedPlan network landmarks (R.remaining (reader_of gr.new)) (Q.remaining (reader_of ss.new)) failed))) }
+    ensures kinds { IfErr result IsOfPlan }
+    ensures reads_network { CountsFirst (failed_calls gr.old) (failed_calls gr.new) result }
+    ensures reads_landmarks { CountsSecond (failed_calls ss.old) (failed_calls ss.new) result }
+    ensures same_network_reader { IsSameReader gr.old gr.new }
+    ensures same_landmark_reader { IsSameReader ss.old ss.new }
+{
+    let network = match read_gr_counted(alloc, gr) {
+        Ok(network) => network,
+        Err(fault) => return Err(Failed::Text {
+            which: NETWORK,
+            fault,
+        }),
+    };
+    let landmarks = match read_ss_counted(alloc, ss, network.nodes()) {
+        Ok(landmarks) => landmarks,
+        Err(fault) => return Err(Failed::Text {
+            which: LANDMARKS,
+            fault,
+        }),
+    };
+    match with_landmarks(network, &landmarks) {
+        Ok(planned) => Ok(planned),
+        Err(refusal) => Err(Failed::Code(refusal)),
+    }
+}
+
+/// The same for texts in memory.
+fn parse_planned(alloc: Global, gr: &[u8], ss: &[u8]) -> Result<Network, Failed>
+    ensures planned { IfOk result (IsPlanned gr.now ss.now) }
+    ensures refused { IfErr result (IsTextRefusedPlan gr.now ss.now) }
+{
+    let network = match parse_gr(alloc, gr) {
+        Ok(network) => network,
+        Err(fault) => return Err(Failed::Text {
+            which: NETWORK,
+            fault,
+        }),
+    };
+    let landmarks = match parse_ss(alloc, ss, network.nodes()) {
+        Ok(landmarks) => landmarks,
+        Err(fault) => return Err(Failed::Text {
+            which: LANDMARKS,
+            fault,
+        }),
+    };
+    match with_landmarks(network, &landmarks) {
+        Ok(planned) => Ok(planned),
+        Err(refusal) => Err(Failed::Code(refusal)),
+    }
+}
+
+/// Makes a store of the network on an empty disk, with so many journal pages, 1 to 65,536, at version 0; then writes `ok 0` and sends it
+/// out. The disk is handed back.
+///
+/// Refused is a disk that is not empty (46), one that fails (43), and want of memory (11): nothing is written to `out` then, and at 46 and 11 the
+/// disk is as it was. A failed write is 12, and then the store is made.
+pub fn create_store<D: Disk, W: Write>(
+    alloc: Global,
+    disk: D,
+    network: &Network,
+    journal_pages: u32,
+    out: &mut CountedWriter<'_, W>,
+) -> (Result<(), Failed>, D)
+    requires some { 1 ≤ journal_pages }
+    requires few { journal_pages ≤ 65536 }
+    ensures made { D.honest disk → IfDone result.0 (IsNewStore network.now journal_pages (D.content result.1) (D.left result.1)) }
+    ensures empty { D.honest disk → IfDone result.0 (D.content disk ≡ []) }
+    ensures refused { IfErr result.0 IsUnmade }
+    ensures not_empty { D.honest disk → IfErr result.0 (λ failed. IfNotEmpty failed (D.content disk ≢ [])) }
+    ensures untouched { D.honest disk → IfErr result.0 (λ failed. IfNoDevice failed (StaysSame D.content D.left D.moment D.left_since disk result.1)) }
+    ensures failed { IfErr result.0 (λ failed. IfDevice failed (Rose (D.failures disk) (D.failures result.1))) }
+    ensures honest { D.honest result.1 ↔ D.honest disk }
+    ensures told { OnOk result.0 (Appends (W.contents (writer_of out.old)) (W.contents (writer_of out.new)) (number_line (codes "ok ") 0)) }
+    ensures unwritten { IfErr result.0 (LeavesUnwritten (writer_of out.old) (writer_of out.new)) }
+    ensures writes { CountsWrites (failed_writes out.old) (failed_writes out.new) result.0 }
+    ensures same_writer { IsSameWriter out.old out.new }
+{
+    let store = match create(alloc, disk, network, journal_pages) {
+        Ok(store) => store,
+        Err((refusal, disk)) => return (Err(Failed::Code(refusal)), disk),
+    };
+    let disk = store.close();
+    if let Err(failed) = put_reply(out, &Replied::Durable { version: 0 }) {
+        return (Err(failed), disk);
+    }
+    (out.flush(), disk)
+}
+
+/// Makes a store on an empty disk, of the network of a reader's `.gr` text with the landmarks of another reader's `.ss` text, and writes
+/// `ok 0`. The texts are read whole, as by `read_planned`, before any call of the disk; then it is `create_store`.
+pub fn create_counted<D: Disk, R: BufRead, Q: BufRead, W: Write>(
+    alloc: Global,
+    disk: D,
+    gr: &mut Counted<'_, R>,
+    ss: &mut Counted<'_, Q>,
+    journal_pages: u32,
+    out: &mut CountedWriter<'_, W>,
+) -> (Result<(), Failed>, D)
+    requires some { 1 ≤ journal_pages }
+    requires few { journal_pages ≤ 65536 }
+    ensures made { D.honest disk → IfDone result.0 (IfSome (R.remaining (reader_of gr.old)) (λ network. IfSome (Q.remaining (reader_of ss.old))
+        (λ landmarks. IsNewStoreOf network landmarks journal_pages (D.content result.1) (D.left result.1)))) }
+    ensures refused { IfErr result.0 (λ failed. IfSome (R.remaining (reader_of gr.old)) (λ network. IfSome (Q.remaining (reader_of ss.old))
+        (λ landmarks. IsUnmade failed ⊎ IsRefusedPlan network landmarks (R.remaining (reader_of gr.new)) (Q.remaining (reader_of ss.new)) failed))) }
+    ensures unread { IfErr result.0 (λ failed. IfOfTexts failed (result.1 ≡ disk)) }
+    ensures not_empty { D.honest disk → IfErr result.0 (λ failed. IfNotEmpty failed (D.content disk ≢ [])) }
+    ensures untouched { D.honest disk → IfErr result.0 (λ failed. IfNoDevice failed (StaysSame D.content D.left D.moment D.left_since disk result.1)) }
+    ensures failed { IfErr result.0 (λ failed. IfDevice failed (Rose (D.failures disk) (D.failures result.1))) }
+    ensures honest { D.honest result.1 ↔ D.honest disk }
+    ensures told { OnOk result.0 (Appends (W.contents (writer_of out.old)) (W.contents (writer_of out.new)) (number_line (codes "ok ") 0)) }
+    ensures unwritten { IfErr result.0 (LeavesUnwritten (writer_of out.old) (writer_of out.new)) }
+    ensures reads_network { CountsFirst (failed_calls gr.old) (failed_calls gr.new) result.0 }
+    ensures reads_landmarks { CountsSecond (failed_calls ss.old) (failed_calls ss.new) result.0 }
+    ensures writes { CountsWrites (failed_writes out.old) (failed_writes out.new) result.0 }
+    ensures same_network_reader { IsSameReader gr.old gr.new }
+    ensures same_landmark_reader { IsSameReader ss.old ss.new }
+    ensures same_writer { IsSameWriter out.old out.new }
+{
+    match read_planned(alloc, gr, ss) {
+        Ok(network) => create_store(alloc, disk, &network, journal_pages, out),
+        Err(failed) => (Err(failed), disk),
+    }
+}
+
+/// The same for texts in memory, over any writer, whose failed calls nobody counts.
+pub fn create_text<D: Disk, W: Write>(
+    alloc: Global,
+    disk: D,
+    gr: &[u8],
+    ss: &[u8],
+    journal_pages: u32,
+    out: &mut W,
+) -> (Result<(), Failed>, D)
+    requires some { 1 ≤ journal_pages }
+    requires few { journal_pages ≤ 65536 }
+    ensures made { D.honest disk → IfDone result.0 (IsNewStoreOf gr.now ss.now journal_pages (D.content result.1) (D.left result.1)) }
+    ensures refused { IfErr result.0 (λ failed. IsUnmade failed ⊎ IsTextRefusedPlan gr.now ss.now failed) }
+    ensures unread { IfErr result.0 (λ failed. IfOfTexts failed (result.1 ≡ disk)) }
+    ensures not_empty { D.honest disk → IfErr result.0 (λ failed. IfNotEmpty failed (D.content disk ≢ [])) }
+    ensures untouched { D.honest disk → IfErr result.0 (λ failed. IfNoDevice failed (StaysSame D.content D.left D.moment D.left_since disk result.1)) }
+    ensures failed { IfErr result.0 (λ failed. IfDevice failed (Rose (D.failures disk) (D.failures result.1))) }
+    ensures honest { D.honest result.1 ↔ D.honest disk }
+    ensures told { OnOk result.0 (Appends (W.contents out.old) (W.contents out.new) (number_line (codes "ok ") 0)) }
+    ensures unwritten { IfErr result.0 (LeavesUnwritten out.old out.new) }
+{
+    match parse_planned(alloc, gr, ss) {
+        Ok(network) => {
+            let mut out = CountedWriter::new(out);
+            create_store(alloc, disk, &network, journal_pages, &mut out)
+        }
+        Err(failed) => (Err(failed), disk),
+    }
+}

@@ -1,0 +1,15 @@
+//! Texts that run on a store: made from a network and its landmarks, changed by commands, asked for pairs.
+#![tactic(auto)]
+
+mod applying;
+mod asking;
+mod creating;
+mod outcomes;
+
+pub use applying::{apply_counted, apply_text};
+pub use asking::{ask_counted, ask_text};
+pub use creating::{create_counted, create_store, create_text, read_planned};
+pub use outcomes::Outcome;
+
+#[cfg(test)]
+mod tests;

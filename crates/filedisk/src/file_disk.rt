@@ -46,6 +46,13 @@ impl<F> FileDisk<F> {
         self.failures
     }
 
+    /// The file, lent.
+    pub fn file(&self) -> &F
+        ensures { result.now ≡ file_of self.now }
+    {
+        &self.file
+    }
+
     /// The file.
     pub fn into_file(self) -> F
         ensures { result ≡ file_of self }

@@ -2,12 +2,13 @@
 #![tactic(auto)]
 
 mod file_disk;
+mod names;
 mod opened;
 mod raw_file;
 mod whole;
 
 pub use file_disk::FileDisk;
-pub use opened::{OpenError, create_file, open_file};
+pub use opened::{MadeFile, NewFile, OpenError, create_file, open_file, open_to_read};
 pub use raw_file::RawFile;
 
 #[cfg(test)]

@@ -1,6 +1,9 @@
-use crate::{FileDisk, OpenError, RawFile, create_file, open_file};
+use crate::names::{folder_of, resolve};
+use crate::{FileDisk, OpenError, RawFile, create_file, open_file, open_to_read};
 use disk::Disk;
 use std::io::ErrorKind;
+use std::os::unix::fs::symlink;
+use std::path::Path;
 use std::process::Abort;
 use std::test::Fail;
 use std::{env, fs, io, process};
@@ -148,12 +151,16 @@ fn a_real_file(rt: HostRuntime) -> Result<(), Fail> {
     let path = format!(in rt.alloc(); "{}/filedisk-{id}", folder.as_str())?;
     let path = path.as_str();
     assert!(rt; matches!(open_file(&rt, path), Err(OpenError::NotOpened)));
-    assert!(rt; matches!(open_file(&rt, folder.as_str()), Err(OpenError::NotOpened)));
-    assert!(rt; matches!(open_file(&rt, "/dev/null"), Err(OpenError::NoFile)));
+    assert!(rt; matches!(open_to_read(&rt, path), Err(OpenError::NotOpened)));
+    assert!(rt; matches!(open_file(&rt, folder.as_str()), Err(OpenError::NoFile)));
+    assert!(rt; matches!(open_to_read(&rt, "/dev/null"), Err(OpenError::NoFile)));
+    assert!(rt; matches!(create_file(&rt, "/dev/null"), Err(OpenError::NoFile)));
     match create_file(&rt, path) {
-        Ok(made) => {
-            let mut disk = made;
+        Ok(new) => {
+            let mut disk = new.disk;
+            assert!(rt; new.made.is_some());
             assert!(rt; matches!(open_file(&rt, path), Err(OpenError::InUse)));
+            assert!(rt; matches!(open_to_read(&rt, path), Err(OpenError::InUse)));
             assert!(rt; disk.len() == Ok(0));
             assert!(rt; disk.write_at(0, b"abcdefgh") == Ok(()));
             assert!(rt; disk.write_at(6, b"GHI") == Ok(()));
@@ -162,9 +169,10 @@ fn a_real_file(rt: HostRuntime) -> Result<(), Fail> {
         Err(_) => assert!(rt; false),
     }
     match create_file(&rt, path) {
-        Ok(opened) => {
-            let mut disk = opened;
+        Ok(new) => {
+            let mut disk = new.disk;
             let mut into = [0u8; 4];
+            assert!(rt; new.made.is_none());
             assert!(rt; disk.len() == Ok(9));
             assert!(rt; disk.read(5, &mut into) == Ok(()));
             assert!(rt; into.as_slice() == b"fGHI".as_slice());
@@ -174,5 +182,47 @@ fn a_real_file(rt: HostRuntime) -> Result<(), Fail> {
         Err(_) => assert!(rt; false),
     }
     fs::remove_file(&rt, path)?;
+    Ok(())
+}
+
+/// A disk that is read is shared with those who read it, syncs, and refuses each write.
+#[test]
+fn a_real_file_that_is_read(rt: HostRuntime) -> Result<(), Fail> {
+    let folder = env::temp_dir(&rt)?;
+    let id = process::id(rt.process());
+    let path = format!(in rt.alloc(); "{}/filedisk-read-{id}", folder.as_str())?;
+    let path = path.as_str();
+    fs::write(&rt, path, "abcdefgh")?;
+    match (open_to_read(&rt, path), open_to_read(&rt, path)) {
+        (Ok(mut disk), Ok(mut other)) => {
+            let mut into = [0u8; 4];
+            assert!(rt; matches!(open_file(&rt, path), Err(OpenError::InUse)));
+            assert!(rt; disk.sync() == Ok(()) && other.sync() == Ok(()));
+            assert!(rt; disk.read(2, &mut into) == Ok(()) && into.as_slice() == b"cdef".as_slice());
+            assert!(rt; disk.write_at(0, b"x").is_err() && disk.write_at(8, b"x").is_err());
+            assert!(rt;
+                other.read(0, &mut into) == Ok(()) && into.as_slice() == b"abcd".as_slice()
+            );
+        }
+        _ => assert!(rt; false),
+    }
+    assert!(rt; open_file(&rt, path).is_ok());
+    fs::remove_file(&rt, path)?;
+    Ok(())
+}
+
+#[test]
+fn names_of_files(rt: HostRuntime) -> Result<(), Fail> {
+    assert!(rt; folder_of(Path::new("a")).as_str() == ".");
+    assert!(rt; folder_of(Path::new("a/b")).as_str() == "a");
+    assert!(rt; folder_of(Path::new("/b")).as_str() == "/");
+    assert!(rt; resolve(&rt, "/none/b")?.as_str() == "/none/b");
+    let folder = env::temp_dir(&rt)?;
+    let id = process::id(rt.process());
+    let circle = format!(in rt.alloc(); "{}/filedisk-circle-{id}", folder.as_str())?;
+    symlink(&rt, circle.as_str(), circle.as_str())?;
+    assert!(rt; resolve(&rt, circle.as_str()).is_err());
+    assert!(rt; matches!(create_file(&rt, circle.as_str()), Err(OpenError::NotOpened)));
+    fs::remove_file(&rt, circle.as_str())?;
     Ok(())
 }

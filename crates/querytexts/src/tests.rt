@@ -2,6 +2,7 @@ use crate::{batch_text, once_counted, once_text};
 use dimacs::{Code, Counted, Fault};
 use printing::{CountedWriter, Failed};
 use roadnet::Refusal;
+use std::alloc::Global;
 use std::io;
 use std::io::{ErrorKind, Write};
 use std::process::Abort;
@@ -166,4 +167,41 @@ fn faults_of_batches(rt: HostRuntime) {
         assert!(rt; outcome == Err(Failed::Text { which, fault }), "{fault}");
         assert!(rt; out.is_empty(), "{fault}");
     }
+}
+
+/// A writer that notes how many bytes each flush sends out.
+#[derive(Drop)]
+struct SendingWriter {
+    waiting: usize,
+    sent: Vec<usize>,
+}
+
+impl Write for SendingWriter {
+    fn write(&mut self, buf: &[u8]) -> io::Result<usize> {
+        self.waiting = self.waiting.wrapping_add(buf.len());
+        Ok(buf.len())
+    }
+
+    fn flush(&mut self) -> io::Result<()> {
+        self.sent.push(self.waiting)?;
+        self.waiting = 0;
+        Ok(())
+    }
+}
+
+fn sending_writer(alloc: Global) -> SendingWriter {
+    SendingWriter {
+        waiting: 0,
+        sent: Vec::new(alloc),
+    }
+}
+
+/// What is written is sent out, once a call.
+#[test]
+fn answers_are_sent_out(rt: HostRuntime) {
+    let mut out = sending_writer(rt.alloc());
+    assert!(rt; once_text(rt.alloc(), SIX, 1, 6, None, &mut out) == Ok(()));
+    let pairs = b"p aux sp p2p 2\nq 1 6\nq 6 1\n";
+    assert!(rt; batch_text(rt.alloc(), SIX, pairs, None, &mut out) == Ok(()));
+    assert!(rt; out.sent.as_slice() == [13, 19].as_slice() && out.waiting == 0);
 }

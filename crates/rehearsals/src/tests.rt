@@ -4,6 +4,7 @@ use crate::{joint_counted, joint_text, rehearse_counted, rehearse_text};
 use dimacs::{Code, Counted, Fault};
 use printing::{CountedWriter, Failed};
 use roadnet::Refusal;
+use std::alloc::Global;
 use std::io;
 use std::io::{BufReader, ErrorKind, Read, Write};
 use std::process::Abort;
@@ -410,4 +411,42 @@ fn allocations_fail_in_turn(rt: HostRuntime) {
             assert!(rt; whole[0].starts_with(told));
         }
     }
+}
+
+/// A writer that notes how many bytes each flush sends out.
+#[derive(Drop)]
+struct SendingWriter {
+    waiting: usize,
+    sent: Vec<usize>,
+}
+
+impl Write for SendingWriter {
+    fn write(&mut self, buf: &[u8]) -> io::Result<usize> {
+        self.waiting = self.waiting.wrapping_add(buf.len());
+        Ok(buf.len())
+    }
+
+    fn flush(&mut self) -> io::Result<()> {
+        self.sent.push(self.waiting)?;
+        self.waiting = 0;
+        Ok(())
+    }
+}
+
+fn sending_writer(alloc: Global) -> SendingWriter {
+    SendingWriter {
+        waiting: 0,
+        sent: Vec::new(alloc),
+    }
+}
+
+/// What is written is sent out, once a call.
+#[test]
+fn replies_are_sent_out(rt: HostRuntime) {
+    let mut out = sending_writer(rt.alloc());
+    let outcome = rehearse_text(rt.alloc(), SIX, b"close 7\nflush\n", 64, None, &mut out);
+    assert!(rt; outcome == Ok(()));
+    let mut text: &[u8] = b"p sp 1 0\nrun\ndist 1 1\n";
+    assert!(rt; joint_text(rt.alloc(), &mut text, None, &mut out) == Ok(()));
+    assert!(rt; out.sent.as_slice() == [9, 12].as_slice() && out.waiting == 0);
 }

@@ -1,8 +1,8 @@
 -- What the program says of failures.
-use Rattle.std.specs.Prelude.{◌≡◌, ◌⊎◌, ℕ, Bool, true, false, List, ◌==◌, if◌then◌else◌}
+use Rattle.std.specs.Prelude.{◌≡◌, ◌⊎◌, ℕ, Bool, true, false, List, ◌==◌, if◌then◌else◌, Result, MatchResult, ⊤}
 use lib.Chars.{codes}
 use Rattle.roadnet.specs.declared.refusals.Refusal.{Refusal}
-use Rattle.roadnet.specs.declared.refusals.Refusal.TheVariants.{OutOfMemory}
+use Rattle.roadnet.specs.declared.refusals.Refusal.TheVariants.{Device, OutOfMemory, Write}
 use Rattle.store.specs.Opening.{MayRefuseToOpen, StandsForSome}
 use Rattle.dimacs.specs.declared.fault.Code.TheVariants.{Read}
 use Rattle.printing.specs.declared.failed.Failed.{Failed}
@@ -47,3 +47,11 @@ IsFaultOrUnopened failed = (is_of_first failed ≡ true) ⊎ IsUnopened 1 failed
 abbrev pub IsToldAfterOpening : List ℕ → Failed → Failed → Type 0
 IsToldAfterOpening file failed told =
     (StandsForSome file × (told ≡ failed)) ⊎ ((refusal : Refusal) × (told ≡ Code refusal) × MayRefuseToOpen file refusal)
+
+-- there is no file for a new store: it can't be opened, its name can't be made durable, or memory ran out
+abbrev pub IsFileUnmade : Failed → Type 0
+IsFileUnmade failed = (failed ≡ unopened 2) ⊎ ((failed ≡ Code Device) ⊎ (failed ≡ Code OutOfMemory))
+
+-- the new store is there, whether or not this could be told
+abbrev pub IsStoreMade : {T : Type 0} → Result T Failed → Type 0
+IsStoreMade outcome = MatchResult outcome (λ _. ⊤) (λ failed. failed ≡ Code Write)

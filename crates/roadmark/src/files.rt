@@ -1,10 +1,10 @@
 //! The files of the program's jobs.
-ghost use Rattle.std.specs.Prelude.{◌≡◌, ◌⊎◌, [], IfOk, IfErr};
+ghost use Rattle.std.specs.Prelude.{◌≡◌, [], IfOk, IfErr};
 ghost use Rattle.std.specs.Io.Buffered.{reader_inner, reader_buffer};
-ghost use Rattle.roadmark.specs.Failures.{unopened, IsUnopened, IsFaultOrUnopened};
+ghost use Rattle.roadmark.specs.Failures.{unopened, IsUnopened, IsFaultOrUnopened, IsFileUnmade};
 
 use dimacs::{Code, Fault, read_gr};
-use filedisk::{FileDisk, OpenError, create_file, open_file};
+use filedisk::{FileDisk, NewFile, OpenError, create_file, open_file, open_to_read};
 use printing::Failed;
 use roadnet::Refusal;
 use std::alloc::Global;
@@ -76,7 +76,7 @@ pub fn open_texts<R: AllocGlobal + Files>(
     }
 }
 
-/// The file of a store. One that can't be opened, is no file, or is in use is fault 10 of line 0.
+/// The file of a store that is changed. One that can't be opened to be read and written, is no file, or is in use is fault 10 of line 0.
 pub fn open_store<R: Files<File = File>>(rt: &R, name: &str) -> Result<FileDisk<File>, Failed>
     ensures { IfErr result (λ failed. failed ≡ unopened 2) }
 {
@@ -86,17 +86,31 @@ pub fn open_store<R: Files<File = File>>(rt: &R, name: &str) -> Result<FileDisk<
     }
 }
 
-/// The file for a new store, which is made where there is none. It is refused as by `open_store`, and with 43 where its name is not made
-/// durable.
-pub fn create_store_file<R: Files<File = File>>(
+/// The file of a store that is read. One that can't be opened to be read, is no file, or is being changed is fault 10 of line 0.
+pub fn open_store_to_read<R: Files<File = File>>(
     rt: &R,
     name: &str,
 ) -> Result<FileDisk<File>, Failed>
-    ensures { IfErr result (λ failed. (failed ≡ unopened 2) ⊎ (failed ≡ Failed.Code Refusal.Device)) }
+    ensures { IfErr result (λ failed. failed ≡ unopened 2) }
+{
+    match open_to_read(rt, name) {
+        Ok(disk) => Ok(disk),
+        Err(_) => Err(unopened(STORE)),
+    }
+}
+
+/// The file for a new store, which is made where there is none. It is refused as by `open_store`, with 43 where its name is not made
+/// durable, and with 11 where there is no memory for the name; after a refusal no file is there that was not there before.
+pub fn create_store_file<R: AllocGlobal + Files<File = File>>(
+    rt: &R,
+    name: &str,
+) -> Result<NewFile, Failed>
+    ensures { IfErr result IsFileUnmade }
 {
     match create_file(rt, name) {
-        Ok(disk) => Ok(disk),
+        Ok(file) => Ok(file),
         Err(OpenError::NameNotSynced) => Err(Failed::Code(Refusal::Device)),
-        Err(_) => Err(unopened(STORE)),
+        Err(OpenError::OutOfMemory) => Err(Failed::Code(Refusal::OutOfMemory)),
+        Err(OpenError::NotOpened | OpenError::NoFile | OpenError::InUse) => Err(unopened(STORE)),
     }
 }

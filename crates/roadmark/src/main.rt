@@ -2,12 +2,14 @@
 //!
 //! With no words the program reads the joint form from standard input: a `.gr` text, a line `run`, and a script. Its words name jobs on
 //! files.
+//!
+//! Before any other file is opened, the program sees to it that the standard streams are taken: in a process that begins with one of them
+//! closed, the next file that is opened takes its number, and what is printed would be written into that file.
 #![tactic(auto)]
 
 ghost use Rattle.std.specs.Prelude.{◌≡◌, ◌≢◌, ◌≤◌, is_ok, if◌then◌else◌};
 ghost use Rattle.std.specs.Option.{ForSome};
 ghost use Rattle.std.specs.IoError.{error_kind};
-ghost use Rattle.std.specs.Process.{exit_status};
 ghost use Rattle.rows.specs.Kept.{IsWidth};
 ghost use Rattle.roadmark.specs.Failures.{text_name};
 ghost use Rattle.roadmark.specs.Words.{IsJournal, delta_of, journal_of};
@@ -16,6 +18,7 @@ mod commands;
 mod files;
 mod jobs;
 mod store_jobs;
+mod streams;
 mod words;
 
 use jobs::{run_batch, run_joint, run_once, run_rehearse};
@@ -27,8 +30,15 @@ use std::io::{self, ErrorKind};
 use std::process::ExitCode;
 use std::rt::{Env, Files};
 use store_jobs::{run_apply, run_ask, run_create};
+use streams::hold_streams;
 pub use words::{Job, MISUSE, Usage, read_words};
 
+#[cfg(test)]
+mod program_tests;
+#[cfg(test)]
+mod shell;
+#[cfg(test)]
+mod store_tests;
 #[cfg(test)]
 mod tests;
 
@@ -116,11 +126,11 @@ fn text_name<'w>(job: &Job<'w>, failed: &Failed) -> &'w str
     }
 }
 
-/// Prints help on standard output and a misuse on standard error.
-fn show<R: Print + Eprint>(rt: &R, usage: &Usage) -> ExitCode
-    ensures help { usage.now.status ≡ 0 → exit_status result ≤ 1 }
-    ensures memory { usage.now.status ≡ 1 → exit_status result ≡ 1 }
-    ensures misuse { usage.now.status ≡ 2 → exit_status result ≡ 2 }
+/// Prints help on standard output and a misuse on standard error, and gives the exit status.
+fn show<R: Print + Eprint>(rt: &R, usage: &Usage) -> u8
+    ensures help { usage.now.status ≡ 0 → result ≤ 1 }
+    ensures memory { usage.now.status ≡ 1 → result ≡ 1 }
+    ensures misuse { usage.now.status ≡ 2 → result ≡ 2 }
 {
     let text = usage.text.as_str();
     let outcome = match usage.status {
@@ -130,7 +140,7 @@ fn show<R: Print + Eprint>(rt: &R, usage: &Usage) -> ExitCode
         },
         MISUSE => {
             let _ = eprint!(rt; "{text}");
-            return ExitCode::from(MISUSE);
+            return MISUSE;
         }
         _ => Err(Failed::Code(Refusal::OutOfMemory)),
     };
@@ -138,20 +148,20 @@ fn show<R: Print + Eprint>(rt: &R, usage: &Usage) -> ExitCode
 }
 
 /// Prints the fault line of a failure, if there is one, and gives the exit status.
-fn ended<R: Eprint>(rt: &R, outcome: &Result<(), Failed>, name: &str) -> ExitCode
-    ensures { exit_status result ≡ (if is_ok outcome.now then 0 else 1) }
+fn ended<R: Eprint>(rt: &R, outcome: &Result<(), Failed>, name: &str) -> u8
+    ensures { result ≡ (if is_ok outcome.now then 0 else 1) }
 {
     if let Err(failed) = outcome {
         let line = fault_line(failed, name);
         let _ = eprintln!(rt; "{line}");
     }
-    ExitCode::from(status(outcome))
+    status(outcome)
 }
 
 /// Words that are not text are a misuse.
-fn without_words<R: Eprint>(rt: &R, error: &io::Error) -> ExitCode
-    ensures memory { error_kind error.now ≡ ErrorKind.OutOfMemory → exit_status result ≡ 1 }
-    ensures misuse { error_kind error.now ≢ ErrorKind.OutOfMemory → exit_status result ≡ 2 }
+fn without_words<R: Eprint>(rt: &R, error: &io::Error) -> u8
+    ensures memory { error_kind error.now ≡ ErrorKind.OutOfMemory → result ≡ 1 }
+    ensures misuse { error_kind error.now ≢ ErrorKind.OutOfMemory → result ≡ 2 }
 {
     match error.kind() {
         ErrorKind::OutOfMemory => ended(rt, &Err(Failed::Code(Refusal::OutOfMemory)), ""),
@@ -159,27 +169,38 @@ fn without_words<R: Eprint>(rt: &R, error: &io::Error) -> ExitCode
             let _ = eprintln!(rt;
                 "error: a word is not UTF-8\n\nFor more information, try '--help'."
             );
-            ExitCode::from(MISUSE)
+            MISUSE
         }
     }
 }
 
-fn main(rt: HostRuntime) -> ExitCode {
-    let words = match env::args(&rt) {
+/// Does what the program's words ask for, and gives the exit status: 0 where all was done, 1 after a fault, 2 where the words are not
+/// ones that it takes. The standard streams are held first.
+fn program<R: AllocGlobal + Env + Eprint + Files<File = File> + Input + Print>(rt: &R) -> u8
+    ensures { result ≤ 2 }
+{
+    let Ok(_streams) = hold_streams(rt) else {
+        return ended(rt, &Err(Failed::Code(Refusal::Write)), "");
+    };
+    let words = match env::args(rt) {
         Ok(words) => words,
-        Err(error) => return without_words(&rt, &error),
+        Err(error) => return without_words(rt, &error),
     };
     let Ok(words) = words.collect::<Vec<String>>(rt.alloc()) else {
-        return ended(&rt, &Err(Failed::Code(Refusal::OutOfMemory)), "");
+        return ended(rt, &Err(Failed::Code(Refusal::OutOfMemory)), "");
     };
     let job = match read_words(rt.alloc(), &words) {
         Ok(job) => job,
-        Err(usage) => return show(&rt, &usage),
+        Err(usage) => return show(rt, &usage),
     };
-    let outcome = run(&rt, &job);
+    let outcome = run(rt, &job);
     let name = match &outcome {
         Ok(()) => "",
         Err(failed) => text_name(&job, failed),
     };
-    ended(&rt, &outcome, name)
+    ended(rt, &outcome, name)
+}
+
+fn main(rt: HostRuntime) -> ExitCode {
+    ExitCode::from(program(&rt))
 }

@@ -1,12 +1,16 @@
 //! The jobs of the program on a store in a file, answered on standard output.
 ghost use Rattle.std.specs.Option.{ForSome};
 ghost use Rattle.rows.specs.Kept.{IsWidth};
-ghost use Rattle.roadmark.specs.Failures.{IsToldAfterOpening};
+ghost use Rattle.std.specs.Bool.{Decides};
+ghost use Rattle.roadmark.specs.Failures.{IsStoreMade, IsToldAfterOpening};
 ghost use Rattle.roadmark.specs.Words.{IsJournal};
 
-use crate::files::{BUFFER, create_store_file, open_store, open_text, open_texts};
+use crate::files::{
+    BUFFER, create_store_file, open_store, open_store_to_read, open_text, open_texts,
+};
 use dimacs::Counted;
 use disk::Disk;
+use filedisk::NewFile;
 use printing::{CountedWriter, Failed};
 use roadnet::Refusal;
 use std::alloc::Global;
@@ -16,8 +20,18 @@ use std::rt::Files;
 use store::open;
 use storetexts::{apply_counted, ask_counted, create_store, read_planned};
 
+/// Whether a store that was to be made is there: all was done, or only its line could not be told.
+fn is_store_made(outcome: &Result<(), Failed>) -> bool
+    ensures { Decides result (IsStoreMade outcome.now) }
+{
+    match outcome {
+        Ok(()) | Err(Failed::Code(Refusal::Write)) => true,
+        Err(_) => false,
+    }
+}
+
 /// A new store in a file, for the network of another with the landmarks of a third. Both texts are read whole before the store's file is
-/// opened or made.
+/// opened or made. A file that was made and holds no store in the end is removed, while it is still locked.
 pub fn run_create<R: AllocGlobal + Files<File = File> + Print>(
     rt: &R,
     store: &str,
@@ -35,8 +49,13 @@ pub fn run_create<R: AllocGlobal + Files<File = File> + Print>(
         return Err(Failed::Code(Refusal::OutOfMemory));
     };
     let mut writer = CountedWriter::new(&mut writer);
-    let disk = create_store_file(rt, store)?;
-    let (outcome, _disk) = create_store(rt.alloc(), disk, &network, journal_pages, &mut writer);
+    let NewFile { disk, made } = create_store_file(rt, store)?;
+    let (outcome, _locked) = create_store(rt.alloc(), disk, &network, journal_pages, &mut writer);
+    if let Some(made) = made
+        && !is_store_made(&outcome)
+    {
+        let _ = made.remove(rt);
+    }
     outcome
 }
 
@@ -73,7 +92,8 @@ pub fn run_apply<R: AllocGlobal + Files<File = File> + Print>(
     outcome
 }
 
-/// The pairs of a file in the network of a store, which stays as it is. A fault of the store is told before one of the pairs.
+/// The pairs of a file in the network of a store, which is read alone and stays as it is. A fault of the store is told before one of the
+/// pairs.
 pub fn run_ask<R: AllocGlobal + Files<File = File> + Print>(
     rt: &R,
     store: &str,
@@ -82,7 +102,7 @@ pub fn run_ask<R: AllocGlobal + Files<File = File> + Print>(
 ) -> Result<(), Failed>
     requires { ForSome delta IsWidth }
 {
-    let disk = open_store(rt, store)?;
+    let disk = open_store_to_read(rt, store)?;
     let mut p2p = match open_text(rt, 0, pairs) {
         Ok(p2p) => p2p,
         Err(failed) => return Err(after_opening(rt.alloc(), disk, failed)),

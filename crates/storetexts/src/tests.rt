@@ -6,6 +6,8 @@ use disk::{Disk, FailOnce, MemDisk};
 use printing::Failed;
 use roadnet::Refusal;
 use std::alloc::Global;
+use std::io;
+use std::io::Write;
 use std::test::Fail;
 use store::open;
 
@@ -246,5 +248,51 @@ fn other_files_are_refused(rt: HostRuntime) -> Result<(), Refusal> {
         assert!(rt; outcome == Err(Failed::Code(refusal)), "{refusal}");
         assert!(rt; out.is_empty(), "{refusal}");
     }
+    Ok(())
+}
+
+/// A writer that notes how many bytes each flush sends out.
+#[derive(Drop)]
+struct SendingWriter {
+    waiting: usize,
+    sent: Vec<usize>,
+}
+
+impl Write for SendingWriter {
+    fn write(&mut self, buf: &[u8]) -> io::Result<usize> {
+        self.waiting = self.waiting.wrapping_add(buf.len());
+        Ok(buf.len())
+    }
+
+    fn flush(&mut self) -> io::Result<()> {
+        self.sent.push(self.waiting)?;
+        self.waiting = 0;
+        Ok(())
+    }
+}
+
+fn sending_writer(alloc: Global) -> SendingWriter {
+    SendingWriter {
+        waiting: 0,
+        sent: Vec::new(alloc),
+    }
+}
+
+/// The lines of each page of commands are sent out when the page is durable, and the last ones at the end; `create` and `ask` send theirs
+/// out once.
+#[test]
+fn lines_are_sent_page_by_page(rt: HostRuntime) -> Result<(), Refusal> {
+    let alloc = rt.alloc();
+    let mut out = sending_writer(alloc);
+    let (outcome, disk) = create_text(alloc, MemDisk::new(alloc), SIX, LANDMARKS, 64, &mut out);
+    assert!(rt; outcome == Ok(()));
+    let (outcome, disk) = ask_text(alloc, disk, PAIR, None, &mut out);
+    assert!(rt; outcome == Ok(()));
+    let text = repeated(alloc, 300)?;
+    let (outcome, _) = apply_text(alloc, disk, &text, None, &mut out);
+    assert!(rt; outcome == Ok(()));
+    // Of 253 lines 9 have 5 bytes, 90 have 6 and 154 have 7; 47 of 7 bytes follow.
+    assert!(rt; out.sent.as_slice() == [5, 13, 1663, 329].as_slice());
+    assert_eq!(rt; out.waiting, 0);
     Ok(())
 }

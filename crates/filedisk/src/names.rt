@@ -1,0 +1,39 @@
+//! The names of files: to which file a link leads, and in which folder a file stands.
+use std::fs::{self, File};
+use std::io::{self, ErrorKind};
+use std::path::{Path, PathBuf};
+use std::rt::Files;
+
+/// How many links are followed, one to the next.
+const MOST_LINKS: u32 = 40;
+
+/// The name of the file to which a path leads, also where there is none yet. A link is followed to what it names, and a relative name is
+/// taken from the link's own folder. Refused are more than 40 links, and want of memory.
+pub(crate) fn resolve<R: AllocGlobal + Files>(rt: &R, path: &str) -> io::Result<PathBuf> {
+    let mut path = PathBuf::from_str(rt.alloc(), path)?;
+    for _ in 0..MOST_LINKS {
+        match fs::read_link(rt, path.as_path()) {
+            Ok(target) => {
+                path.pop();
+                path.push(target)?;
+            }
+            Err(error) if error.kind() == ErrorKind::OutOfMemory => return Err(error),
+            Err(_) => return Ok(path),
+        }
+    }
+    Err(io::Error::from(ErrorKind::FilesystemLoop))
+}
+
+/// The folder in which the file of this name stands.
+pub(crate) fn folder_of(path: Path<'_>) -> Path<'_> {
+    match path.parent() {
+        Some(folder) if !folder.as_str().is_empty() => folder,
+        _ => Path::new("."),
+    }
+}
+
+/// Syncs the folder in which the file stands, so that its name is there after a stop.
+pub(crate) fn sync_folder<R: Files<File = File>>(rt: &R, path: Path<'_>) -> io::Result<()> {
+    let folder = File::open(rt, folder_of(path))?;
+    folder.sync_all()
+}

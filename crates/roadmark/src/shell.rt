@@ -1,0 +1,253 @@
+//! A shell for tests: it gives a run of the program its words and its input, and keeps what the run prints and which files it opens.
+use std::alloc::{AllocError, Allocator, Global};
+use std::cell::RefCell;
+use std::env::FillError;
+use std::fmt::Display;
+use std::fs::{File, Metadata, OpenOptions};
+use std::io;
+use std::io::{ErrorKind, Lines};
+use std::path::PathBuf;
+use std::rt::{Env, Files};
+
+/// A run's words, input and output, over the files of a runtime.
+#[derive(Drop)]
+pub struct Shell<'a, R> {
+    rt: &'a R,
+    /// The folder of the run: a relative name is one in it.
+    folder: String,
+    /// The words of the run, the program's own name first; `None` is a word that is not text.
+    pub words: &'static [Option<&'static str>],
+    /// The standard input.
+    pub input: &'static [u8],
+    /// The standard output.
+    pub out: RefCell<String>,
+    /// How many bytes each write to the standard output had.
+    pub writes: RefCell<Vec<usize>>,
+    /// The standard error.
+    pub err: RefCell<String>,
+    /// Each file that was opened, in order: how, a blank, its name, a line end.
+    pub opened: RefCell<String>,
+    /// A file that can't be opened.
+    pub absent: &'static str,
+    /// New files are opened for reading alone, so each write to them fails.
+    pub blunt: bool,
+    /// The write to the standard output that fails, counted from 1.
+    pub fails_at: usize,
+}
+
+impl<'a, R: AllocGlobal> Shell<'a, R> {
+    /// A run of these words in this folder.
+    pub fn new(
+        rt: &'a R,
+        folder: &str,
+        words: &'static [Option<&'static str>],
+    ) -> Result<Shell<'a, R>, AllocError> {
+        let folder = String::from_str(rt.alloc(), folder)?;
+        Ok(Shell {
+            rt,
+            folder,
+            words,
+            input: &[],
+            out: RefCell::new(String::new(rt.alloc())),
+            writes: RefCell::new(Vec::new(rt.alloc())),
+            err: RefCell::new(String::new(rt.alloc())),
+            opened: RefCell::new(String::new(rt.alloc())),
+            absent: "",
+            blunt: false,
+            fails_at: 0,
+        })
+    }
+}
+
+impl<'a, R: AllocGlobal> Shell<'a, R> {
+    /// The whole name of a file.
+    fn at(&self, path: &str) -> io::Result<PathBuf> {
+        let mut whole = PathBuf::from_str(self.rt.alloc(), self.folder.as_str())?;
+        whole.push(path)?;
+        Ok(whole)
+    }
+}
+
+fn append(to: &RefCell<String>, text: &str) -> io::Result<()> {
+    let Ok(mut kept) = to.try_borrow_mut() else {
+        return Err(io::Error::from(ErrorKind::Other));
+    };
+    kept.push_str(text)?;
+    Ok(())
+}
+
+/// Whether the text that is kept is this one.
+pub fn is_kept(kept: &RefCell<String>, text: &str) -> bool {
+    match kept.try_borrow() {
+        Ok(kept) => kept.as_str() == text,
+        Err(_) => false,
+    }
+}
+
+/// Whether the writes had these sizes.
+pub fn have_sizes(writes: &RefCell<Vec<usize>>, sizes: &[usize]) -> bool {
+    match writes.try_borrow() {
+        Ok(writes) => writes.as_slice() == sizes,
+        Err(_) => false,
+    }
+}
+
+impl<'a, R: AllocGlobal> Alloc for Shell<'a, R> {
+    type A = Global;
+
+    fn alloc(&self) -> Global {
+        self.rt.alloc()
+    }
+}
+
+impl<'a, R: AllocGlobal> Print for Shell<'a, R> {
+    fn print<D: Display + Drop>(&self, value: D) -> io::Result<()> {
+        let text = format!(in self.rt.alloc(); "{value}")?;
+        Print::write_all(self, text.as_bytes())
+    }
+
+    fn println<D: Display + Drop>(&self, value: D) -> io::Result<()> {
+        let text = format!(in self.rt.alloc(); "{value}\n")?;
+        Print::write_all(self, text.as_bytes())
+    }
+
+    fn write_all(&self, bytes: &[u8]) -> io::Result<()> {
+        let Ok(mut writes) = self.writes.try_borrow_mut() else {
+            return Err(io::Error::from(ErrorKind::Other));
+        };
+        writes.push(bytes.len())?;
+        if writes.len() == self.fails_at {
+            return Err(io::Error::from(ErrorKind::BrokenPipe));
+        }
+        match str::from_utf8(bytes) {
+            Ok(text) => append(&self.out, text),
+            Err(_) => Err(io::Error::from(ErrorKind::InvalidData)),
+        }
+    }
+}
+
+impl<'a, R: AllocGlobal> Eprint for Shell<'a, R> {
+    fn eprint<D: Display + Drop>(&self, value: D) -> io::Result<()> {
+        let text = format!(in self.rt.alloc(); "{value}")?;
+        append(&self.err, text.as_str())
+    }
+
+    fn eprintln<D: Display + Drop>(&self, value: D) -> io::Result<()> {
+        let text = format!(in self.rt.alloc(); "{value}\n")?;
+        append(&self.err, text.as_str())
+    }
+}
+
+impl<'a, R> Input for Shell<'a, R> {
+    type Reader = &'static [u8];
+
+    fn read_line<A: Allocator + Clone>(&self, _buf: &mut String<A>) -> io::Result<usize> {
+        Err(io::Error::from(ErrorKind::Unsupported))
+    }
+
+    fn lines<A: Allocator>(&self, alloc: A) -> Lines<&'static [u8], A> {
+        io::BufRead::lines(self.input, alloc)
+    }
+
+    fn reader(&self) -> &'static [u8] {
+        self.input
+    }
+}
+
+impl<'a, R> Env for Shell<'a, R> {
+    fn arg(&self, i: usize, buf: &mut [u8]) -> Result<usize, FillError> {
+        let Some(word) = self.words.get(i) else {
+            return Err(FillError::NotPresent);
+        };
+        let bytes = match word {
+            Some(word) => word.as_bytes(),
+            None => &[255u8],
+        };
+        if bytes.len() > buf.len() {
+            return Err(FillError::TooLong);
+        }
+        buf[..bytes.len()].copy_from_slice(bytes);
+        Ok(bytes.len())
+    }
+
+    fn var(&self, _name: &str, _buf: &mut [u8]) -> Result<usize, FillError> {
+        Err(FillError::NotPresent)
+    }
+
+    fn var_at(&self, _i: usize, _buf: &mut [u8]) -> Result<usize, FillError> {
+        Err(FillError::NotPresent)
+    }
+}
+
+/// How a file is opened.
+fn kind_of(how: &OpenOptions) -> &'static str {
+    if how.asks_create_new() {
+        "new"
+    } else if how.asks_write() {
+        "write"
+    } else {
+        "read"
+    }
+}
+
+impl<'a, R: AllocGlobal + Files<File = File>> Files for Shell<'a, R> {
+    type File = File;
+
+    type Dir = R::Dir;
+
+    fn open_file(&self, how: &OpenOptions, path: &str) -> io::Result<File> {
+        append(&self.opened, kind_of(how))?;
+        append(&self.opened, " ")?;
+        append(&self.opened, path)?;
+        append(&self.opened, "\n")?;
+        if path == self.absent {
+            return Err(io::Error::from(ErrorKind::PermissionDenied));
+        }
+        let file = self.rt.open_file(how, self.at(path)?.as_str())?;
+        if self.blunt && how.asks_create_new() {
+            return File::open(self.rt, self.at(path)?.as_str());
+        }
+        Ok(file)
+    }
+
+    fn open_dir(&self, path: &str) -> io::Result<R::Dir> {
+        self.rt.open_dir(self.at(path)?.as_str())
+    }
+
+    fn metadata(&self, path: &str) -> io::Result<Metadata> {
+        self.rt.metadata(self.at(path)?.as_str())
+    }
+
+    fn symlink_metadata(&self, path: &str) -> io::Result<Metadata> {
+        self.rt.symlink_metadata(self.at(path)?.as_str())
+    }
+
+    fn copy(&self, from: &str, to: &str) -> io::Result<u64> {
+        self.rt.copy(self.at(from)?.as_str(), self.at(to)?.as_str())
+    }
+
+    fn rename(&self, from: &str, to: &str) -> io::Result<()> {
+        self.rt
+            .rename(self.at(from)?.as_str(), self.at(to)?.as_str())
+    }
+
+    fn remove_file(&self, path: &str) -> io::Result<()> {
+        self.rt.remove_file(self.at(path)?.as_str())
+    }
+
+    fn create_dir(&self, path: &str) -> io::Result<()> {
+        self.rt.create_dir(self.at(path)?.as_str())
+    }
+
+    fn remove_dir(&self, path: &str) -> io::Result<()> {
+        self.rt.remove_dir(self.at(path)?.as_str())
+    }
+
+    fn remove_dir_all<B: Allocator>(&self, alloc: B, path: &str) -> io::Result<()> {
+        self.rt.remove_dir_all(alloc, self.at(path)?.as_str())
+    }
+
+    fn read_link<B: Allocator>(&self, alloc: B, path: &str) -> io::Result<PathBuf<B>> {
+        self.rt.read_link(alloc, self.at(path)?.as_str())
+    }
+}

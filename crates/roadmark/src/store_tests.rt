@@ -1,0 +1,164 @@
+//! What the program does with the file of a store: when it is opened and how, who else may have it, and which file a refusal leaves.
+use crate::program;
+use crate::program_tests::new_folder;
+use crate::shell::{Shell, have_sizes, is_kept};
+use filedisk::{open_file, open_to_read};
+use std::os::unix::fs::symlink;
+use std::test::Fail;
+use std::{fs, process};
+
+const NAME: Option<&str> = Some("roadmark");
+
+const CREATE: [Option<&str>; 5] = [
+    NAME,
+    Some("create"),
+    Some("new.store"),
+    Some("six.gr"),
+    Some("six.ss"),
+];
+
+const APPLY: [Option<&str>; 4] = [NAME, Some("apply"), Some("new.store"), Some("six.commands")];
+
+const ASK: [Option<&str>; 4] = [NAME, Some("ask"), Some("new.store"), Some("six.p2p")];
+
+/// What each run opens before its own files.
+const STREAMS: &str = "read /dev/null\nread /dev/null\nread /dev/null\n";
+
+/// `create` opens the store's file when both texts are read, makes it, and opens its folder to sync it; `apply` and `ask` open the store
+/// first, `ask` for reading alone.
+#[test]
+fn files_are_opened_in_order(rt: HostRuntime) -> Result<(), Fail> {
+    let id = process::id(rt.process());
+    let name = format!(in rt.alloc(); "roadmark-order-{id}")?;
+    let folder = new_folder(&rt, name.as_str())?;
+    let table: [(&'static [Option<&'static str>], &str); 3] = [
+        (&CREATE, "read six.gr\nread six.ss\nnew new.store\nread .\n"),
+        (&APPLY, "write new.store\nread six.commands\n"),
+        (&ASK, "read new.store\nread six.p2p\n"),
+    ];
+    for (words, opened) in table {
+        let shell = Shell::new(&rt, folder.as_str(), words)?;
+        assert!(rt; program(&shell) == 0, "{words:?}");
+        let whole = format!(in rt.alloc(); "{STREAMS}{opened}")?;
+        assert!(rt; is_kept(&shell.opened, whole.as_str()), "{words:?}");
+    }
+    fs::remove_dir_all(&rt, folder.as_str())?;
+    Ok(())
+}
+
+/// A store that is changed is had by nobody else; one that is read is shared with those who read it.
+#[test]
+fn a_store_in_use(rt: HostRuntime) -> Result<(), Fail> {
+    let id = process::id(rt.process());
+    let name = format!(in rt.alloc(); "roadmark-locks-{id}")?;
+    let folder = new_folder(&rt, name.as_str())?;
+    let path = format!(in rt.alloc(); "{}/new.store", folder.as_str())?;
+    assert_eq!(rt; program(&Shell::new(&rt, folder.as_str(), &CREATE)?), 0);
+    let in_use = "roadmark: new.store: line 0: 10 Read\n";
+    if let Ok(disk) = open_file(&rt, path.as_str()) {
+        let table: [&'static [Option<&'static str>]; 3] = [&CREATE, &APPLY, &ASK];
+        for words in table {
+            let shell = Shell::new(&rt, folder.as_str(), words)?;
+            assert!(rt;
+                program(&shell) == 1 && is_kept(&shell.err, in_use),
+                "{words:?}"
+            );
+        }
+        assert_eq!(rt; disk.failed_calls(), 0);
+    } else {
+        assert!(rt; false, "the store is not opened");
+    }
+    if let Ok(disk) = open_to_read(&rt, path.as_str()) {
+        let shell = Shell::new(&rt, folder.as_str(), &APPLY)?;
+        assert!(rt; program(&shell) == 1 && is_kept(&shell.err, in_use));
+        let shell = Shell::new(&rt, folder.as_str(), &ASK)?;
+        assert!(rt; program(&shell) == 0 && is_kept(&shell.out, "v 0\nd 1 6 15\nx 6 1\n"));
+        assert_eq!(rt; disk.failed_calls(), 0);
+    } else {
+        assert!(rt; false, "the store is not opened to be read");
+    }
+    fs::remove_dir_all(&rt, folder.as_str())?;
+    Ok(())
+}
+
+/// Where no store is made no file is left that was not there before; an empty file that was there stays.
+#[test]
+fn a_file_without_a_store(rt: HostRuntime) -> Result<(), Fail> {
+    let id = process::id(rt.process());
+    let name = format!(in rt.alloc(); "roadmark-unmade-{id}")?;
+    let folder = new_folder(&rt, name.as_str())?;
+    let path = format!(in rt.alloc(); "{}/new.store", folder.as_str())?;
+    let failed = "roadmark: 43 Device\n";
+    let mut unsynced = Shell::new(&rt, folder.as_str(), &CREATE)?;
+    unsynced.absent = ".";
+    assert!(rt; program(&unsynced) == 1 && is_kept(&unsynced.err, failed));
+    assert!(rt; fs::metadata(&rt, path.as_str()).is_err());
+    let mut blunt = Shell::new(&rt, folder.as_str(), &CREATE)?;
+    blunt.blunt = true;
+    assert!(rt; program(&blunt) == 1 && is_kept(&blunt.err, failed));
+    assert!(rt; fs::metadata(&rt, path.as_str()).is_err());
+    fs::write(&rt, path.as_str(), "")?;
+    let mut unsynced = Shell::new(&rt, folder.as_str(), &CREATE)?;
+    unsynced.absent = ".";
+    assert!(rt; program(&unsynced) == 1 && is_kept(&unsynced.err, failed));
+    assert_eq!(rt; fs::metadata(&rt, path.as_str())?.len(), 0);
+    let mut untold = Shell::new(&rt, folder.as_str(), &CREATE)?;
+    untold.fails_at = 1;
+    assert!(rt; program(&untold) == 1 && is_kept(&untold.err, "roadmark: 12 Write\n"));
+    assert_eq!(rt; fs::metadata(&rt, path.as_str())?.len(), 286720);
+    assert_eq!(rt; program(&Shell::new(&rt, folder.as_str(), &ASK)?), 0);
+    fs::remove_dir_all(&rt, folder.as_str())?;
+    Ok(())
+}
+
+/// A link that leads to no file is followed: the file is made where it leads, and the folder there is synced.
+#[test]
+fn a_link_to_a_new_store(rt: HostRuntime) -> Result<(), Fail> {
+    let id = process::id(rt.process());
+    let name = format!(in rt.alloc(); "roadmark-links-{id}")?;
+    let folder = new_folder(&rt, name.as_str())?;
+    let link = format!(in rt.alloc(); "{}/new.store", folder.as_str())?;
+    let inner = format!(in rt.alloc(); "{}/inner", folder.as_str())?;
+    let middle = format!(in rt.alloc(); "{}/middle", inner.as_str())?;
+    let made = format!(in rt.alloc(); "{}/made.store", folder.as_str())?;
+    fs::create_dir(&rt, inner.as_str())?;
+    symlink(&rt, "inner/middle", link.as_str())?;
+    symlink(&rt, made.as_str(), middle.as_str())?;
+    let shell = Shell::new(&rt, folder.as_str(), &CREATE)?;
+    assert!(rt; program(&shell) == 0 && is_kept(&shell.out, "ok 0\n"));
+    let opened = format!(in rt.alloc();
+        "{STREAMS}read six.gr\nread six.ss\nnew {}\nread {}\n",
+        made.as_str(),
+        folder.as_str()
+    )?;
+    assert!(rt; is_kept(&shell.opened, opened.as_str()));
+    assert_eq!(rt; fs::metadata(&rt, made.as_str())?.len(), 286720);
+    assert_eq!(rt; program(&Shell::new(&rt, folder.as_str(), &ASK)?), 0);
+    fs::remove_dir_all(&rt, folder.as_str())?;
+    Ok(())
+}
+
+/// The lines of each page of commands are sent out when the page is durable; the last ones follow.
+#[test]
+fn lines_page_by_page(rt: HostRuntime) -> Result<(), Fail> {
+    let id = process::id(rt.process());
+    let name = format!(in rt.alloc(); "roadmark-pages-{id}")?;
+    let folder = new_folder(&rt, name.as_str())?;
+    let path = format!(in rt.alloc(); "{}/six.commands", folder.as_str())?;
+    let mut commands = String::new(rt.alloc());
+    for _ in 0..300 {
+        commands.push_str("set 1 17\n")?;
+    }
+    fs::write(&rt, path.as_str(), commands.as_str())?;
+    assert_eq!(rt; program(&Shell::new(&rt, folder.as_str(), &CREATE)?), 0);
+    let shell = Shell::new(&rt, folder.as_str(), &APPLY)?;
+    assert_eq!(rt; program(&shell), 0);
+    // Of 253 lines 9 have 5 bytes, 90 have 6 and 154 have 7; 47 of 7 bytes follow.
+    assert!(rt; have_sizes(&shell.writes, &[1663, 329]));
+    let mut cut = Shell::new(&rt, folder.as_str(), &APPLY)?;
+    cut.fails_at = 2;
+    assert!(rt; program(&cut) == 1 && is_kept(&cut.err, "roadmark: 12 Write\n"));
+    assert!(rt; !is_kept(&cut.out, ""));
+    fs::remove_dir_all(&rt, folder.as_str())?;
+    Ok(())
+}

@@ -1,7 +1,7 @@
 //! The pairs of a text.
 ghost use Rattle.std.specs.Prelude.{◌≡◌, ℕ, length, OnOk, IfOk, IfErr, IfSome};
 ghost use Rattle.std.specs.Option.{ForSome};
-ghost use Rattle.rows.specs.Kept.{IsWidth};
+ghost use Rattle.rows.specs.Kept.{AreOf, IsWidth, given_width};
 ghost use Rattle.std.specs.Io.KnownBytes.{Appends};
 ghost use Rattle.roadnet.specs.Net.{IsNetwork};
 ghost use Rattle.dimacs.specs.Counts.{failed_calls, reader_of, IsSameReader};
@@ -31,18 +31,19 @@ fn query_of(pair: Pair) -> Query
     }
 }
 
-/// A right reply to each pair, in their order, or none at all. Pairs of one source that follow one another search once.
+/// A right reply to each pair, in their order, or none at all, by searches of one network and their width. Pairs of one source that follow
+/// one another search once.
 fn reply_to_all(
     alloc: Global,
     network: &Network,
-    delta: Option<u32>,
+    searches: &mut Searches,
     pairs: &[Pair],
 ) -> Result<Vec<Reply>, Failed>
-    requires { ForSome delta IsWidth }
+    requires { AreOf network.now searches.old }
     ensures right { IfOk result (λ replies. AreRight network.now pairs.now replies.items) }
     ensures refused { IfErr result (λ failed. failed ≡ Failed.Code Refusal.OutOfMemory) }
+    ensures width { given_width searches.new ≡ given_width searches.old }
 {
-    let mut searches = Searches::new(delta);
     let mut replies = match Vec::with_capacity(alloc, pairs.len()) {
         Ok(replies) => replies,
         Err(_) => return Err(Failed::Code(Refusal::OutOfMemory)),
@@ -95,7 +96,8 @@ pub fn answer_pairs<W: Write>(
     ensures writes { CountsWrites (failed_writes out.old) (failed_writes out.new) result }
     ensures same { IsSameWriter out.old out.new }
 {
-    let replies = match reply_to_all(alloc, network, delta, pairs) {
+    let mut searches = Searches::new(delta);
+    let replies = match reply_to_all(alloc, network, &mut searches, pairs) {
         Ok(replies) => replies,
         Err(failed) => return Err(failed),
     };

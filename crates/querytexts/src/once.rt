@@ -1,7 +1,8 @@
 //! One query of a text.
-ghost use Rattle.std.specs.Prelude.{◌≡◌, ℕ, OnOk, IfErr, IfSome, MatchResult};
+ghost use Rattle.std.specs.Prelude.{◌≡◌, ℕ, OnOk, IfErr, IfSome, IsSome, MatchResult};
 ghost use Rattle.std.specs.Option.{ForSome};
 ghost use Rattle.rows.specs.Kept.{IsWidth};
+ghost use Rattle.rows.specs.Replies.{refusal_of};
 ghost use Rattle.dimacs.specs.Counts.{failed_calls, reader_of, IsSameReader};
 ghost use Rattle.printing.specs.Counting.{failed_writes, writer_of, IsSameWriter};
 ghost use Rattle.printing.specs.Failing.{CountsReads, CountsWrites, LeavesUnwritten};
@@ -26,6 +27,8 @@ fn answer_one<W: Write>(
     requires { ForSome delta IsWidth }
     ensures answered { OnOk result (AnswersOne network.now (Query.Dist s t) (W.contents (writer_of out.old)) (W.contents (writer_of out.new))) }
     ensures refused { IfErr result IsUnanswered }
+    // A refused query takes no memory.
+    ensures memory { IsSome (refusal_of network.now (Query.Dist s t)) → IfErr result (λ failed. failed ≡ Failed.Code Refusal.Write) }
     ensures unwritten { IfErr result (LeavesUnwritten (writer_of out.old) (writer_of out.new)) }
     ensures writes { CountsWrites (failed_writes out.old) (failed_writes out.new) result }
     ensures same { IsSameWriter out.old out.new }

@@ -1,4 +1,4 @@
-ghost use Rattle.std.specs.Prelude.{◌≡◌, IfOk, MatchResult};
+ghost use Rattle.std.specs.Prelude.{◌≡◌, IfOk, IsOk, IsSome, MatchResult};
 ghost use Rattle.roadnet.specs.Net.{IsNetwork};
 ghost use Rattle.rows.specs.Replies.{IsRight, refusal_of};
 
@@ -28,7 +28,8 @@ pub(crate) fn refusal_of(network: &Network, query: &Query) -> Option<Refusal>
 ///
 /// Its one error is want of memory for that row; a refused query takes none.
 pub fn answer_plain(alloc: Global, network: &Network, query: &Query) -> Result<Reply, OutOfMemory>
-    ensures { IfOk result (IsRight network.now query.now) }
+    ensures right { IfOk result (IsRight network.now query.now) }
+    ensures refused { IsSome (refusal_of network.now query.now) → IsOk result }
 {
     if let Some(refusal) = refusal_of(network, query) {
         return Ok(Reply::Refused(refusal));

@@ -1,7 +1,7 @@
-ghost use Rattle.std.specs.Prelude.{◌≡◌, IfOk, OnOk};
+ghost use Rattle.std.specs.Prelude.{◌≡◌, IfOk, IsOk, IsSome, OnOk};
 ghost use Rattle.std.specs.Option.{ForSome};
 ghost use Rattle.roadnet.specs.Net.{Net, IsNode};
-ghost use Rattle.rows.specs.Replies.{IsRight};
+ghost use Rattle.rows.specs.Replies.{IsRight, refusal_of};
 ghost use Rattle.rows.specs.Kept.{IsWidth, given_width, AreOf, HasGroupsOf, HasRowOf};
 
 use crate::answers::refusal_of;
@@ -108,6 +108,7 @@ impl Searches {
     ) -> Result<Reply, OutOfMemory>
         requires { AreOf network.now self.old }
         ensures right { IfOk result (IsRight network.now query.now) }
+        ensures refused { IsSome (refusal_of network.now query.now) → IsOk result }
         ensures kept { AreOf network.now self.new }
         ensures delta { given_width self.new ≡ given_width self.old }
     {

@@ -6,3 +6,6 @@ pub put_answers-requires : goal.put_answers-requires
 put_answers-requires g c =
     let long : length c.in-Ok.replies.items ≡ length c.args.pairs.now = AllZip-long _ c.args.pairs.now c.in-Ok.replies.items c.in-Ok.ensures.right in
     search (rules, long)
+
+pub reply_to_all-requires : goal.reply_to_all-requires
+reply_to_all-requires g c = c.new-searches.ensures.kept c.args.network.now

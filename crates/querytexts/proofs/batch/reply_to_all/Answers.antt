@@ -1,4 +1,4 @@
-use Rattle.std.proofs.Common.{◌≡◌, ◌+◌, ◌++◌, ◌∷◌, [], take, rules, subst, sym}
+use Rattle.std.proofs.Common.{◌≡◌, ◌∙◌, ◌+◌, ◌++◌, ◌∷◌, [], take, refl, rules, subst, sym}
 use Rattle.rows.specs.declared.queries.Query.{Query}
 use Rattle.rows.specs.Replies.{IsRight}
 use Rattle.querytexts.specs.Batch.{AreRight}
@@ -13,6 +13,7 @@ loop-pair-preserved c =
       right = subst (AreRight c.args.network.now (take (c.loop-pair.pair-index + 1) c.args.pairs.now)) (sym pushed)
           (right_more c.args.network.now c.args.pairs.now c.loop-pair.pair-index _ c.loop-pair.replies.items c.in-Ok-answer.reply c.loop-pair-test.true c.loop-pair.invariant.right right);
       kept = c.in-Ok-answer.ensures.kept;
+      width = c.in-Ok-answer.ensures.delta ∙ c.loop-pair.invariant.width;
     }
 
 pub loop-pair-init : goal.loop-pair-init
@@ -20,5 +21,6 @@ loop-pair-init c =
     let none : c.in-Ok.replies.items ≡ [] = c.in-Ok.ensures.items in
     record {
       right = subst (AreRight c.args.network.now []) (sym none) tt;
-      kept = c.new-searches.ensures.kept c.args.network.now;
+      kept = c.requires;
+      width = refl;
     }

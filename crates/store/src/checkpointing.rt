@@ -16,11 +16,8 @@ ghost use Rattle.store.specs.Durable.{told_by, Leaves};
 use crate::store::Store;
 use checkpoint::NextCheckpoint;
 use disk::{Disk, DiskError};
-use pages::Header;
+use pages::{Header, PAGES_AT_ONCE};
 use roadnet::{Network, Refusal};
-
-/// How many word pages are written at a time.
-const PAGES: u32 = 64;
 
 // Writes all of this checkpoint: it is whole then, and open.
 fn write_slot<D: Disk>(
@@ -43,7 +40,7 @@ fn write_slot<D: Disk>(
     let Ok(()) = next.begin(disk, header) else {
         return Err(DiskError);
     };
-    let Ok(()) = next.complete(disk, header, network, PAGES) else {
+    let Ok(()) = next.complete(disk, header, network, PAGES_AT_ONCE as u32) else {
         return Err(DiskError);
     };
     Ok(())

@@ -15,9 +15,8 @@ ghost use Rattle.store.specs.Durable.{Leaves};
 use crate::store::Store;
 use disk::Disk;
 use journal::append_page;
+use pages::MOST_VERSIONS;
 use roadnet::{Command, Refusal};
-
-const MOST_VERSIONS: u64 = 1 << 48;
 
 impl<D: Disk> Store<D> {
     /// Makes these commands, 1 to 253, durable as one page of the journal, and carries them out. Answers the new version: each command

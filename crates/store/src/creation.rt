@@ -14,23 +14,14 @@ ghost use Rattle.store.specs.Created.{header_of, blank_page, page_of_arcs, page_
 
 use crate::batch::Batch;
 use crate::store::Store;
+use checkpoint::part_of;
 use disk::{Disk, DiskError, length_of, open_gate, settle};
 use pages::{
     ARCS_A_PAGE, GATE_AT, Header, PAGE_SIZE, Slot, WORDS_A_PAGE, encode_arc_page, encode_header,
     encode_slot_head, encode_word_page,
 };
-use roadnet::{Network, Refusal, RoadArc};
+use roadnet::{Network, Refusal};
 use std::alloc::Global;
-
-/// The arcs of the `i`-th page, where a page has so many places.
-fn part_of(arcs: &[RoadArc], i: u64, places: usize) -> &[RoadArc]
-    requires { places ≤ 1023 }
-    ensures { result.now ≡ part places i arcs.now }
-{
-    let from = (i as usize).saturating_mul(places).min(arcs.len());
-    let rest = &arcs[from..];
-    &rest[..places.min(rest.len())]
-}
 
 fn put_arcs<D: Disk>(
     disk: &mut D,

@@ -11,12 +11,8 @@ ghost use Rattle.store.specs.Opening.{header_from};
 use byteorder::{BigEndian, ByteOrder};
 use disk::{Disk, length_of};
 use pagereader::read_page;
-use pages::{Gate, Header, PAGE_SIZE, decode_header, gate_of};
+use pages::{FORMAT, Gate, Header, MAGIC, PAGE_SIZE, decode_header, gate_of};
 use roadnet::Refusal;
-
-const MAGIC: [u8; 8] = *b"ROADMRK1";
-
-const FORMAT: u32 = 1;
 
 fn has_magic(page: &[u8; PAGE_SIZE]) -> bool
     ensures { result ≡ bytes_eq (take 8 page.now) (codes "ROADMRK1") }

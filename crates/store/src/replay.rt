@@ -12,11 +12,9 @@ ghost use Rattle.store.specs.Opening.{entry_from, IsCarriedOut, AreCarriedOut};
 use disk::Disk;
 use journal::Ring;
 use pagereader::read_page;
-use pages::{Header, PAGE_SIZE, decode_journal_page};
+use pages::{Header, MOST_VERSIONS, PAGE_SIZE, decode_journal_page};
 use roadnet::{Command, Network, OutOfMemory, Refusal};
 use std::alloc::Global;
-
-const MOST_VERSIONS: u64 = 1 << 48;
 
 // Carries the command out where it is admitted. Answers whether it is.
 fn carry_out(network: &mut Network, command: Command) -> Result<bool, OutOfMemory>

@@ -11,6 +11,7 @@ ghost use Rattle.storefile.specs.Standing.{IsBeforeOrAfter};
 ghost use Rattle.store.specs.Durable.{told_by};
 ghost use Rattle.store.specs.Committing.{refusal_of_commit, MayRefuseCommit, StandsTidily};
 ghost use Rattle.store.specs.Durable.{Leaves};
+ghost use Rattle.pages.specs.Limits.{most_commands};
 
 use crate::store::Store;
 use disk::Disk;
@@ -30,7 +31,7 @@ impl<D: Disk> Store<D> {
     /// arcs: n commands cost O(n^2) comparisons.
     pub fn commit(&mut self, commands: &[Command]) -> Result<u64, Refusal>
         requires some { 1 ≤ length commands.now }
-        requires few { length commands.now ≤ 253 }
+        requires few { length commands.now ≤ most_commands }
         // At Ok the commands are carried out, each counted, and one page more is unchecked.
         ensures version { IfOk result (λ version. (version ≡ self.new.version) × (version ≡ self.old.version + length commands.now)) }
         ensures network { OnOk result (after self.old.network commands.now ≡ Some self.new.network) }

@@ -7,6 +7,7 @@ ghost use Rattle.storefile.specs.StoreFile.{page, is_open};
 ghost use Rattle.storefile.specs.Judging.{begins_as_store, format_of};
 ghost use Rattle.pagereader.specs.Outcomes.{failures_told, IsQuiet, MayRefuse, MayEndOpening};
 ghost use Rattle.store.specs.Opening.{header_from};
+ghost use Rattle.pages.specs.Limits.{magic};
 
 use byteorder::{BigEndian, ByteOrder};
 use disk::{Disk, length_of};
@@ -15,7 +16,7 @@ use pages::{FORMAT, Gate, Header, MAGIC, PAGE_SIZE, decode_header, gate_of};
 use roadnet::Refusal;
 
 fn has_magic(page: &[u8; PAGE_SIZE]) -> bool
-    ensures { result ≡ bytes_eq (take 8 page.now) (codes "ROADMRK1") }
+    ensures { result ≡ bytes_eq (take 8 page.now) magic }
 {
     page[..8] == MAGIC[..]
 }

@@ -11,6 +11,7 @@ use Rattle.pages.specs.Spelling.{IsHeader}
 use Rattle.pages.specs.Layout.{other}
 use Rattle.storefile.specs.StoreFile.{page, joined, Stored, StandsBy, StandsTidyFor, HasNoLaterPage, commands_of, next_sequence}
 use Rattle.storefile.specs.Judging.{opened}
+use Rattle.pages.specs.Limits.{most_versions}
 
 -- The file has these sizes and this current slot of this epoch, stands for this network at this version, the page of this sequence is
 -- written next, and so many pages of its journal are unchecked.
@@ -54,7 +55,7 @@ IsTidyAt file h next = HasNoLaterPage (page file) h next
 -- the numbers of a store, of which none is past what its pages can spell
 pub record HasFitNumbers (h : Header) (epoch version next unchecked : ℕ) : Type 0 where
   pub header : IsHeader h
-  pub version_to : version ≤ 2 ^ 48
+  pub version_to : version ≤ most_versions
   pub next_to : next ≤ version
   pub epoch_to : epoch + unchecked ≤ next + 1
   pub unchecked_to : unchecked ≤ h.journal_pages

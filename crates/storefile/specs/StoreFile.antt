@@ -10,6 +10,7 @@ use Rattle.pages.specs.declared.content.Slot.{Slot}
 use Rattle.pages.specs.Contents.{Head}
 use Rattle.pages.specs.Spelling.{SpelledHeader, SpelledArcs, SpelledWords, SpelledHead, SpelledEntry, ends_of, word_of}
 use Rattle.pages.specs.Layout.{Arcs, HeadOf, Words, Journal, places_in_use, arc_pages, word_pages, other, page_number, page_count, place_of}
+use Rattle.pages.specs.Limits.{most_versions}
 
 -- ---- pages
 
@@ -105,7 +106,7 @@ pub record Stores (size : ℕ) (pages : ℕ → List ℕ) (s : Stored) : Type 0 
   pub journal : HoldsJournal pages s.header s.sequence s.version s.unchecked
   pub few : length s.unchecked ≤ s.header.journal_pages
   pub longest : length s.unchecked < s.header.journal_pages → is_standing pages s.header (next_sequence s) ≡ false
-  pub versions_to : s.version + length (commands_of s) ≤ 2 ^ 48
+  pub versions_to : s.version + length (commands_of s) ≤ most_versions
 
 -- the same of a file, as a list of bytes
 abbrev pub IsStoreOf : List ℕ → Stored → Type 0

@@ -116,7 +116,7 @@ module _ (m : Machine) (accepted durable shown : Net) (task : Option (ℕ × Net
       pub unchecked_is : OnOk result (unchecked ≡ m.unchecked + 1)
       pub works_on : OnOk result (broken ≡ false)
       pub refused : MatchResult result (λ v. refusal_of_commit m.broken m.durable m.unchecked m.sizes.journal_pages durable commands ≡ None) (MayRefuseCommit (refusal_of_commit m.broken m.durable m.unchecked m.sizes.journal_pages durable commands))
-      pub still : IfErr result (λ refusal. (refusal ≡ Device → ⊥) → broken ≡ m.broken)
+      pub still : IfErr result (λ refusal. (refusal ≡ Device → ⊥) → broken ≡ false)
       pub breaks : IfErr result (λ refusal. refusal ≡ Device → broken ≡ true)
       pub network_kept : OnErr result (next ≡ durable)
       pub version_kept : OnErr result (version ≡ m.durable)
@@ -140,9 +140,9 @@ module _ (m : Machine) (accepted durable shown : Net) (task : Option (ℕ × Net
 
     flushed_same : (refusal : Refusal) → Committed (Err refusal) → refusal ≡ OutOfMemory → flushed ≡ m
     flushed_same refusal h is =
-        let calm : broken ≡ m.broken = h.still (not_memory refusal is) in
+        let calm : broken ≡ false = h.still (not_memory refusal is) in
         alike m sizes m.sizes version m.durable unchecked m.unchecked (cond broken count 0) m.in_flight broken m.broken m.checkpoint m.checkpoint
-        h.sizes_are h.version_kept h.unchecked_kept (idle broken (calm ∙ works)) calm refl
+        h.sizes_are h.version_kept h.unchecked_kept (idle broken calm) (calm ∙ sym works) refl
 
     flushed_failed : (refusal : Refusal) → Committed (Err refusal) → refusal ≡ Device → flushed ≡ failed m (batch m)
     flushed_failed refusal h is =

@@ -1,6 +1,7 @@
 -- What a keeper's disk holds, from one call to the next.
-use Rattle.std.proofs.Common.{◌≡◌, ◌⊎◌, ⊎_elim, inl, inr, ℕ, ◌≤◌, Bool, true, false, List, [], ◌∷◌, ◌++◌, length, take, Some, refl, sym, ◌∙◌, ap, subst, arith}
-use Rattle.std.specs.Prelude.{not}
+use Rattle.std.proofs.Common.{◌≡◌, ◌⊎◌, ⊎_elim, inl, inr, ℕ, ◌≤◌, Bool, true, false, List, [], ◌∷◌, ◌++◌, length, take, Some, Result, Ok, Err, refl, sym, ◌∙◌, ap, subst, arith}
+use Rattle.std.specs.Prelude.{not, OnOk, IfErr}
+use Rattle.std.specs.Bool.{Decides}
 use Rattle.std.proofs.Math.Seq.{take-nil}
 use Rattle.std.proofs.lemmas.List.{take-append-le}
 use Rattle.disk.specs.Moments.{LeavesOnly}
@@ -100,3 +101,25 @@ why false refusal works may = ⊎_elim (λ told. absurd cc) (λ other. other.1) 
 
 pub not_memory : (refusal : Refusal) → refusal ≡ OutOfMemory → refusal ≡ Device → ⊥
 not_memory refusal is device = let never : OutOfMemory ≡ Device = sym is ∙ device in absurd cc
+
+-- ---- whether a write failed
+
+pub works_at_ok : {T : Type 0} (r : Result T Refusal) (flag : Bool) → Decides flag (r ≡ Err Device) → OnOk r (flag ≡ false)
+works_at_ok (Ok v) true d = let never : Ok v ≡ Err Device = d.0 refl in cc
+works_at_ok (Ok v) false d = refl
+works_at_ok (Err e) flag d = tt
+
+pub works_at_err : {T : Type 0} (r : Result T Refusal) (flag : Bool) → Decides flag (r ≡ Err Device) → IfErr r (λ refusal. (refusal ≡ Device → ⊥) → flag ≡ false)
+works_at_err (Ok v) flag d = tt
+works_at_err (Err e) true d = λ not. absurd (not (let same : Err e ≡ Err Device = d.0 refl in cc))
+works_at_err (Err e) false d = λ not. refl
+
+pub breaks_at_err : {T : Type 0} (r : Result T Refusal) (flag : Bool) → Decides flag (r ≡ Err Device) → IfErr r (λ refusal. refusal ≡ Device → flag ≡ true)
+breaks_at_err (Ok v) flag d = tt
+breaks_at_err (Err e) flag d = λ is. d.1 (ap Err is)
+
+-- a keeper's flag is its store's, which was not broken
+pub same_flag : {T : Type 0} (r : Result T Refusal) (flag old new : Bool) → Decides flag (r ≡ Err Device) → old ≡ false → OnOk r (new ≡ false) → IfErr r (λ refusal. refusal ≡ Device → new ≡ true) → IfErr r (λ refusal. (refusal ≡ Device → ⊥) → new ≡ old) → flag ≡ new
+same_flag (Ok v) flag old new d calm works breaks same = works_at_ok (Ok v) flag d ∙ sym works
+same_flag (Err e) true old new d calm works breaks same = sym (breaks (let is : Err e ≡ Err Device = d.0 refl in cc))
+same_flag (Err e) false old new d calm works breaks same = sym (same (λ is. let never : false ≡ true = d.1 (ap Err is) in cc) ∙ calm)

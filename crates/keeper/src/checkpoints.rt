@@ -9,7 +9,7 @@ ghost use Rattle.machine.specs.Lives.{HoldsDurable};
 ghost use Rattle.keeper.specs.Keeping.{Holds};
 ghost use Rattle.keeper.specs.Parts.{done_version};
 
-use crate::keepers::Keeper;
+use crate::keepers::{Keeper, has_failed};
 use disk::Disk;
 use roadnet::Refusal;
 use std::snapshot::Snapshot;
@@ -37,14 +37,15 @@ impl<D: Disk> Keeper<D> {
         ensures honest { D.honest self.new.disk ↔ D.honest self.old.disk }
     {
         let _ = pages;
-        if !self.store.calm() {
+        if self.broken {
             return Err(Refusal::Broken);
         }
         self.written = Snapshot::of(&0);
-        let version = match self.store.checkpoint() {
-            Ok(version) => version,
-            Err(refusal) => return Err(refusal),
-        };
-        Ok(Part::Done(version))
+        let written = self.store.checkpoint();
+        self.broken = has_failed(&written);
+        match written {
+            Ok(version) => Ok(Part::Done(version)),
+            Err(refusal) => Err(refusal),
+        }
     }
 }

@@ -9,20 +9,18 @@ ghost use Rattle.machine.specs.Calls.{Flushes, refusal_of_flush, failed};
 ghost use Rattle.machine.specs.Lives.{HoldsDurable};
 ghost use Rattle.keeper.specs.Keeping.{Holds};
 
-use crate::keepers::Keeper;
+use crate::keepers::{Keeper, has_failed};
 use disk::Disk;
+use pages::MOST_COMMANDS;
 use roadnet::Refusal;
 use std::snapshot::Snapshot;
-
-/// How many commands a page of the journal holds at most.
-const MOST_OF_PAGE: usize = 253;
 
 impl<D: Disk> Keeper<D> {
     /// For what a flush would be refused, memory and the disk apart.
     fn may_flush(&self) -> Result<(), Refusal>
         ensures { MatchResult result (λ _. refusal_of_flush self.now.machine ≡ None) (λ refusal. refusal_of_flush self.now.machine ≡ Some refusal) }
     {
-        if !self.store.calm() {
+        if self.broken {
             return Err(Refusal::Broken);
         }
         if self.opened + self.history.len() as u64 <= self.store.version() {
@@ -55,8 +53,10 @@ impl<D: Disk> Keeper<D> {
             return Err(refusal);
         }
         let first = (self.store.version() - self.opened) as usize;
-        let count = (self.history.len() - first).min(MOST_OF_PAGE);
+        let count = (self.history.len() - first).min(MOST_COMMANDS);
         self.written = Snapshot::of(&count);
-        self.store.commit(&self.history[first..first + count])
+        let written = self.store.commit(&self.history[first..first + count]);
+        self.broken = has_failed(&written);
+        written
     }
 }

@@ -1,5 +1,5 @@
 // The commands of a text, applied to a store.
-ghost use Rattle.std.specs.Prelude.{◌≡◌, ◌⊎◌, ◌+◌, ◌≤◌, ◌<◌, ◌↔◌, ℕ, List, [], ◌∷◌, ◌++◌, Option, Ok, Err, false, All, length, take, vec_capacity, OnOk, IfOk, IfErr, IfSome};
+ghost use Rattle.std.specs.Prelude.{◌≡◌, ◌⊎◌, ◌+◌, ◌≤◌, ◌<◌, ◌↔◌, ℕ, List, [], ◌∷◌, ◌++◌, Option, Some, Ok, Err, false, All, length, take, vec_capacity, OnOk, IfOk, IfErr, IfSome};
 ghost use Rattle.std.specs.Bool.{Decides};
 ghost use Rattle.std.specs.Option.{ForSome};
 ghost use Rattle.dimacs.specs.Counts.{failed_calls, reader_of, IsSameReader};
@@ -20,6 +20,8 @@ use crate::outcomes::{Outcome, reply_of};
 use dimacs::{Counted, parse_commands, read_commands_counted};
 use disk::Disk;
 use keeper::Keeper;
+use machine::PAGES_OF_STEP;
+use pages::MOST_COMMANDS;
 use printing::{CountedWriter, Failed, put_reply};
 use roadnet::{Command, Refusal};
 use std::alloc::Global;
@@ -29,10 +31,7 @@ use store::{Part, open};
 const COMMANDS: u8 = 0;
 
 /// How many commands are made durable at a time.
-const MOST_OF_PAGE: u64 = 253;
-
-/// How many pages a step of a checkpoint writes.
-const PAGES_OF_STEP: u32 = 64;
+const MOST_OF_PAGE: u64 = MOST_COMMANDS as u64;
 
 /// Commands being applied, one after the other: the keeper of the store, what the commands came to, in order, and how many of these
 /// outcomes are told.
@@ -327,6 +326,7 @@ fn keeper_on<D: Disk>(alloc: Global, disk: D, delta: Option<u32>) -> Result<Keep
     ensures steady { IfOk result (λ keeper. IsSteady keeper.machine) }
     ensures calm { IfOk result (λ keeper. keeper.machine.broken ≡ false) }
     ensures none { IfOk result (λ keeper. pending keeper.machine ≡ 0) }
+    ensures width { (width : ℕ) → delta ≡ Some width → IfOk result (λ keeper. keeper.width ≡ width) }
     ensures begins { D.honest disk → (net : Net) (version : ℕ) → StandsTidyFor (D.content disk) net version → IfOk result (λ keeper. HaveCome net version [] [] 0 keeper.machine) }
     ensures holds { D.honest disk → (net : Net) (version : ℕ) → StandsTidyFor (D.content disk) net version → IfOk result (λ keeper. Holds (D.content keeper.disk) (D.left keeper.disk) keeper.machine keeper.standing) }
     ensures same { D.honest disk → IfOk result (λ keeper. StaysSame D.content D.left D.moment D.left_since disk keeper.disk) }

@@ -6,7 +6,7 @@ ghost use Rattle.pages.specs.Layout.{page_count};
 ghost use Rattle.storefile.specs.StoreFile.{page, journal_page_at};
 ghost use Rattle.storefile.specs.Judging.{journal_from};
 ghost use Rattle.journal.specs.Places.{IsLongest};
-ghost use Rattle.pagereader.specs.Outcomes.{failures_told, IsQuiet, MayLack, MayRefuse};
+ghost use Rattle.pagereader.specs.Outcomes.{failures_told, IsQuiet, MayLack, MayRefuse, MayEndOpening};
 ghost use Rattle.store.specs.Opening.{entry_from, IsCarriedOut, AreCarriedOut};
 
 use disk::Disk;
@@ -61,6 +61,7 @@ fn judge_page(
     ensures fits { IfOk result (λ new. new ≤ 2 ^ 48) }
     ensures later { IfOk result (λ new. version + 1 ≤ new) }
     ensures refused { IfErr result (λ refusal. MayLack (entry_from number page.now version network.old) refusal) }
+    ensures causes { IfErr result MayEndOpening }
     ensures quiet { IsQuiet result }
 {
     let damaged = Refusal::Damaged { page: number };
@@ -102,6 +103,7 @@ fn replay_page<D: Disk>(
     ensures fits { IfOk result (λ new. new ≤ 2 ^ 48) }
     ensures later { IfOk result (λ new. version + 1 ≤ new) }
     ensures refused { D.honest disk.old → IfErr result (λ refusal. MayRefuse (entry_from (journal_page_at header.now sequence) (page (D.content disk.old) (journal_page_at header.now sequence)) version network.old) refusal) }
+    ensures causes { IfErr result MayEndOpening }
     ensures same { D.honest disk.old → StaysSame D.content D.left D.moment D.left_since disk.old disk.new }
     ensures counted { D.failures disk.new ≡ failures_told result (D.failures disk.old) }
     ensures honest { D.honest disk.new ↔ D.honest disk.old }
@@ -135,6 +137,7 @@ pub fn replay<D: Disk>(
     ensures fits { IfOk result (λ new. new ≤ 2 ^ 48) }
     ensures later { IfOk result (λ new. version + count ≤ new) }
     ensures refused { D.honest disk.old → IfErr result (λ refusal. MayRefuse (journal_from (page (D.content disk.old)) header.now header.now.journal_pages from version network.old) refusal) }
+    ensures causes { IfErr result MayEndOpening }
     ensures same { D.honest disk.old → StaysSame D.content D.left D.moment D.left_since disk.old disk.new }
     ensures counted { D.failures disk.new ≡ failures_told result (D.failures disk.old) }
     ensures honest { D.honest disk.new ↔ D.honest disk.old }

@@ -139,10 +139,6 @@ pub record StandsTidyBy (file : List ℕ) (s : Stored) (net : Net) (version next
   pub stands : StandsBy file s net version next
   pub tidy : HasNoLaterPage (page file) s.header next
 
--- The file is tidy and stands for this network at this version.
-abbrev pub StandsTidyFor : List ℕ → Net → ℕ → Type 0
-StandsTidyFor file net version = (s : Stored) × (next : ℕ) × StandsTidyBy file s net version next
-
--- The file stands for something, and no page of its journal is of the next sequence or a later one.
-abbrev pub IsTidy : List ℕ → Type 0
-IsTidy file = (net : Net) × (version : ℕ) × StandsTidyFor file net version
+-- The file is tidy, its journal has so many pages, and it stands for this network at this version.
+abbrev pub StandsTidyFor : ℕ → List ℕ → Net → ℕ → Type 0
+StandsTidyFor journal_pages file net version = (s : Stored) × (next : ℕ) × StandsTidyBy file s net version next × (s.header.journal_pages ≡ journal_pages)

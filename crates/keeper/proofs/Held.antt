@@ -15,14 +15,13 @@ use Rattle.storefile.specs.StoreFile.{StandsTidyFor}
 use Rattle.storefile.specs.Standing.{Standing}
 use Rattle.store.specs.Committing.{StandsTidily}
 use Rattle.store.specs.Checkpointing.{refusal_of_checkpoint, MayRefuseCheckpoint}
-use Rattle.machine.specs.Machine.{Machine, IsState, latest, network_at}
+use Rattle.machine.specs.Machine.{Sizes, Machine, IsState, latest, network_at}
 use Rattle.machine.specs.Calls.{failed, IsLeft}
-use Rattle.machine.specs.Lives.{HoldsDurable}
 use Rattle.machine.proofs.Kept.{left_between}
-use Rattle.keeper.specs.Keeping.{Holds}
+use Rattle.keeper.specs.Keeping.{Holds, IsDurableIn}
 
 -- what holds what is durable holds it with these commands in flight or without
-pub held_too : (m : Machine) (commands : ℕ) (content : List ℕ) → IsState m → m.broken ≡ false → HoldsDurable StandsTidyFor m content → HoldsDurable StandsTidyFor (failed m commands) content
+pub held_too : (m : Machine) (commands : ℕ) (content : List ℕ) → IsState m → m.broken ≡ false → IsDurableIn m content → IsDurableIn (failed m commands) content
 held_too m commands content s works h =
     let none : m.in_flight ≡ 0 = s.calm works in
     record {
@@ -40,23 +39,23 @@ no_call left moment left_since disk P now each = started moment left_since disk 
 
 module _ (content : List ℕ) (left : List ℕ → Type 0) (standing : Standing) where
   -- a machine whose durable commands stay, and what is in flight
-  pub holds_on : (old new : Machine) → new.durable ≡ old.durable → new.in_flight ≡ old.in_flight → new.broken ≡ old.broken
+  pub holds_on : (old new : Machine) → new.sizes ≡ old.sizes → new.durable ≡ old.durable → new.in_flight ≡ old.in_flight → new.broken ≡ old.broken
       → ((v : ℕ) → v ≤ latest old → network_at new v ≡ network_at old v) → IsState old → Holds content left old standing → Holds content left new standing
-  holds_on old new durable in_flight broken networks s h =
+  holds_on old new sizes durable in_flight broken networks s h =
       let left_too : (v : ℕ) → IsLeft old v → IsLeft new v =
       λ v is. ⊎_elim (λ e. inl (e ∙ sym durable)) (λ e. inr (omega arith)) is in
       record {
         only = λ works. h.only (sym broken ∙ works);
         stands = λ works. h.stands (sym broken ∙ works);
         each_left = λ c was.
-            let held : HoldsDurable StandsTidyFor old c = h.each_left c was in
+            let held : IsDurableIn old c = h.each_left c was in
             let between : (old.durable ≤ held.version) × (held.version ≤ latest old) = left_between old s held.version held.left in
             record {
               version = held.version;
               left = left_too held.version held.left;
               network = held.network;
               network_is = networks held.version between.1 ∙ held.network_is;
-              stands = held.stands;
+              stands = subst (λ (z : Sizes). StandsTidyFor z.journal_pages c held.network held.version) (sym sizes) held.stands;
             };
       }
 
@@ -70,10 +69,10 @@ module _ (content : List ℕ) (left : List ℕ → Type 0) (standing : Standing)
 
 -- a disk that is alike, of a store that tells the same, and a machine whose durable commands stay
 pub holds_armed : (content content' : List ℕ) (left left' : List ℕ → Type 0) (standing standing' : Standing) (old new : Machine) → content' ≡ content → ((c : List ℕ) → left' c → left c) → standing' ≡ standing
-    → new.durable ≡ old.durable → new.in_flight ≡ old.in_flight → new.broken ≡ old.broken → ((v : ℕ) → v ≤ latest old → network_at new v ≡ network_at old v) → IsState old → Holds content left old standing → Holds content' left' new standing'
-holds_armed content content' left left' standing standing' old new same among told durable in_flight broken networks s h =
+    → new.sizes ≡ old.sizes → new.durable ≡ old.durable → new.in_flight ≡ old.in_flight → new.broken ≡ old.broken → ((v : ℕ) → v ≤ latest old → network_at new v ≡ network_at old v) → IsState old → Holds content left old standing → Holds content' left' new standing'
+holds_armed content content' left left' standing standing' old new same among told sizes durable in_flight broken networks s h =
     subst (λ (x : Standing). Holds content' left' new x) (sym told)
-    (holds_on content' left' standing old new durable in_flight broken networks s (holds_alike content left standing content' left' old same among h))
+    (holds_on content' left' standing old new sizes durable in_flight broken networks s (holds_alike content left standing content' left' old same among h))
 
 pub same_commands : (base : Net) (n : ℕ) (items items' : List Command) → items' ≡ items → after base (take n items') ≡ after base (take n items)
 same_commands base n items items' is = ap (λ (xs : List Command). after base (take n xs)) is

@@ -43,9 +43,13 @@ pub record Keeping (D : Type 0) : Type 0 where
   -- the width of the buckets of the searches in the view that is shown
   pub width : ℕ
 
+-- The content has the machine's number of journal pages and stands, tidy, for what is durable, with the commands in flight or without.
+abbrev pub IsDurableIn : Machine → List ℕ → Type 0
+IsDurableIn m content = HoldsDurable (StandsTidyFor m.sizes.journal_pages) m content
+
 -- What a disk of this content, of which a stop may leave these, holds for a keeper. Each content that may be left stands for what is
 -- durable, with the commands in flight or without. Where nothing is broken that is the content alone, and it stands for what the store says.
 pub record Holds (content : List ℕ) (left : List ℕ → Type 0) (m : Machine) (standing : Standing) : Type 0 where
   pub only : m.broken ≡ false → Only content left
   pub stands : m.broken ≡ false → StandsTidily content standing
-  pub each_left : (c : List ℕ) → left c → HoldsDurable StandsTidyFor m c
+  pub each_left : (c : List ℕ) → left c → IsDurableIn m c

@@ -3,6 +3,7 @@ ghost use Rattle.std.specs.Prelude.{◌≡◌, ◌≤◌, ◌∷◌, [], false, 
 ghost use Rattle.std.specs.Option.{ForSome};
 ghost use Rattle.disk.specs.Stop.{armed_at};
 ghost use Rattle.disk.specs.declared.stoppable.Pick.{Pick as StopPick};
+ghost use Rattle.pagereader.specs.Outcomes.{failures_told};
 ghost use Rattle.rows.specs.Kept.{IsWidth};
 ghost use Rattle.snapshot.specs.Groups.{default_width};
 ghost use Rattle.store.specs.Committing.{StandsTidily};
@@ -11,6 +12,7 @@ ghost use Rattle.machine.specs.declared.events.Event.TheVariants.{Submit, Task a
 ghost use Rattle.machine.specs.declared.events.Replied.TheVariants.{Task as TaskOf};
 ghost use Rattle.machine.specs.Machine.{start};
 ghost use Rattle.machine.specs.Lives.{told_version, EndsCheckpoint, Writes, Does};
+ghost use Rattle.keeper.specs.Failures.{failures_after};
 ghost use Rattle.keeper.specs.Keeping.{Holds, sizes_of};
 ghost use Rattle.keeper.specs.Rehearsing.{is_stop, IsLife};
 
@@ -105,6 +107,7 @@ impl<D: Stoppable> Life<D> {
         ensures life { IsLife self.new.keeper.machine self.new.opened (option_map (λ view. (view.value.version, view.value.network)) self.new.aside) }
         ensures holds { D.honest self.old.keeper.disk → Holds (D.content self.old.keeper.disk) (D.left self.old.keeper.disk) self.old.keeper.machine self.old.keeper.standing → Holds (D.content self.new.keeper.disk) (D.left self.new.keeper.disk) self.new.keeper.machine self.new.keeper.standing }
         ensures honest { D.honest self.old.keeper.disk → D.honest self.new.keeper.disk }
+        ensures failures { D.failures self.new.keeper.disk ≡ D.failures self.old.keeper.disk }
     {
         match self.keeper.submit(command) {
             Ok(ticket) => Replied::Accepted {
@@ -121,6 +124,7 @@ impl<D: Stoppable> Life<D> {
         ensures life { IsLife self.new.keeper.machine self.new.opened (option_map (λ view. (view.value.version, view.value.network)) self.new.aside) }
         ensures holds { D.honest self.old.keeper.disk → Holds (D.content self.old.keeper.disk) (D.left self.old.keeper.disk) self.old.keeper.machine self.old.keeper.standing → Holds (D.content self.new.keeper.disk) (D.left self.new.keeper.disk) self.new.keeper.machine self.new.keeper.standing }
         ensures honest { D.honest self.old.keeper.disk → D.honest self.new.keeper.disk }
+        ensures counted { D.failures self.new.keeper.disk ≡ failures_told result (D.failures self.old.keeper.disk) }
     {
         match writing {
             Writing::Flush => self.keeper.flush(),
@@ -135,6 +139,7 @@ impl<D: Stoppable> Life<D> {
         ensures life { IsLife self.new.keeper.machine self.new.opened (option_map (λ view. (view.value.version, view.value.network)) self.new.aside) }
         ensures holds { D.honest self.old.keeper.disk → Holds (D.content self.old.keeper.disk) (D.left self.old.keeper.disk) self.old.keeper.machine self.old.keeper.standing → Holds (D.content self.new.keeper.disk) (D.left self.new.keeper.disk) self.new.keeper.machine self.new.keeper.standing }
         ensures honest { D.honest self.old.keeper.disk → D.honest self.new.keeper.disk }
+        ensures counted { D.failures self.new.keeper.disk ≡ failures_told result (D.failures self.old.keeper.disk) }
     {
         match self.keeper.checkpoint_step(PAGES_OF_STEP) {
             Ok(Part::Done(version)) => Ok(version),
@@ -152,6 +157,7 @@ impl<D: Stoppable> Life<D> {
         ensures width { (version width : ℕ) → result ≡ TaskOf version → delta ≡ Some width → IfSome self.new.aside (λ view. view.value.delta ≡ width) }
         ensures holds { D.honest self.old.keeper.disk → Holds (D.content self.old.keeper.disk) (D.left self.old.keeper.disk) self.old.keeper.machine self.old.keeper.standing → Holds (D.content self.new.keeper.disk) (D.left self.new.keeper.disk) self.new.keeper.machine self.new.keeper.standing }
         ensures honest { D.honest self.old.keeper.disk → D.honest self.new.keeper.disk }
+        ensures failures { D.failures self.new.keeper.disk ≡ D.failures self.old.keeper.disk }
     {
         let task = match self.keeper.take_task() {
             Ok(Some(task)) => task,
@@ -188,6 +194,7 @@ impl<D: Stoppable> Life<D> {
         ensures life { IsLife self.new.keeper.machine self.new.opened (option_map (λ view. (view.value.version, view.value.network)) self.new.aside) }
         ensures holds { D.honest self.old.keeper.disk → Holds (D.content self.old.keeper.disk) (D.left self.old.keeper.disk) self.old.keeper.machine self.old.keeper.standing → Holds (D.content self.new.keeper.disk) (D.left self.new.keeper.disk) self.new.keeper.machine self.new.keeper.standing }
         ensures honest { D.honest self.old.keeper.disk → D.honest self.new.keeper.disk }
+        ensures failures { D.failures self.new.keeper.disk ≡ D.failures self.old.keeper.disk }
     {
         let Some(view) = self.aside.take() else {
             return Replied::Refused {
@@ -207,6 +214,7 @@ impl<D: Stoppable> Life<D> {
         ensures life { IsLife self.new.keeper.machine self.new.opened (option_map (λ view. (view.value.version, view.value.network)) self.new.aside) }
         ensures holds { D.honest self.old.keeper.disk → Holds (D.content self.old.keeper.disk) (D.left self.old.keeper.disk) self.old.keeper.machine self.old.keeper.standing → Holds (D.content self.new.keeper.disk) (D.left self.new.keeper.disk) self.new.keeper.machine self.new.keeper.standing }
         ensures honest { D.honest self.old.keeper.disk → D.honest self.new.keeper.disk }
+        ensures failures { D.failures self.new.keeper.disk ≡ D.failures self.old.keeper.disk }
     {
         match self.keeper.ask(query) {
             Ok(answer) => Replied::Answered { query, answer },
@@ -225,6 +233,7 @@ impl<D: Stoppable> Life<D> {
         ensures aside { self.new.aside ≡ self.old.aside }
         ensures holds { Holds (D.content self.old.keeper.disk) (D.left self.old.keeper.disk) self.old.keeper.machine self.old.keeper.standing → Holds (D.content self.new.keeper.disk) (D.left self.new.keeper.disk) self.new.keeper.machine self.new.keeper.standing }
         ensures honest { D.honest self.old.keeper.disk → D.honest self.new.keeper.disk }
+        ensures failures { D.failures self.new.keeper.disk ≡ D.failures self.old.keeper.disk }
     {
         if call > 0 {
             self.keeper.arm(call);
@@ -245,6 +254,7 @@ impl<D: Stoppable> Life<D> {
         ensures life { IsLife self.new.keeper.machine self.new.opened (option_map (λ view. (view.value.version, view.value.network)) self.new.aside) }
         ensures holds { D.honest self.old.keeper.disk → Holds (D.content self.old.keeper.disk) (D.left self.old.keeper.disk) self.old.keeper.machine self.old.keeper.standing → Holds (D.content self.new.keeper.disk) (D.left self.new.keeper.disk) self.new.keeper.machine self.new.keeper.standing }
         ensures honest { D.honest self.old.keeper.disk → D.honest self.new.keeper.disk }
+        ensures counted { D.failures self.new.keeper.disk ≡ failures_after event.now (result ∷ []) (D.failures self.old.keeper.disk) }
     {
         match event {
             Event::Submit { command } => self.submit(*command),

@@ -99,7 +99,8 @@ impl<D: Disk> Keeper<D> {
 }
 
 impl<D: Stoppable> Keeper<D> {
-    /// Arms the disk: its k-th write or sync from now on is cut, and it and each later call fail until the disk is stopped.
+    /// Arms the disk: its k-th write or sync from now on is cut, and it and each later call fail until the disk is stopped. Nothing else
+    /// is changed.
     pub fn arm(&mut self, k: u64)
         requires { 1 ≤ k }
         ensures machine { self.new.machine ≡ self.old.machine }
@@ -108,6 +109,8 @@ impl<D: Stoppable> Keeper<D> {
         ensures holds { Holds (D.content self.old.disk) (D.left self.old.disk) self.old.machine self.old.standing → Holds (D.content self.new.disk) (D.left self.new.disk) self.new.machine self.new.standing }
         ensures armed { D.armed self.new.disk ≡ armed_at k (D.armed self.old.disk) }
         ensures content { D.content self.new.disk ≡ D.content self.old.disk }
+        ensures synced { D.synced self.new.disk ≡ D.synced self.old.disk }
+        ensures unsynced { (i : ℕ) → D.is_unsynced self.new.disk i ≡ D.is_unsynced self.old.disk i }
         ensures left { (c : List ℕ) → D.left self.new.disk c ↔ D.left self.old.disk c }
         ensures moment { D.moment self.new.disk ≡ D.moment self.old.disk }
         ensures left_since { (t : ℕ) (c : List ℕ) → D.left_since self.new.disk t c ↔ D.left_since self.old.disk t c }

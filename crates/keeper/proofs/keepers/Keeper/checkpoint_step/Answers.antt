@@ -1,6 +1,7 @@
 use Rattle.std.proofs.Common.{◌≡◌, inl, ⊎_elim, true, false, refl, sym, ◌∙◌, subst}
 use Rattle.disk.specs.Contents.{Only}
 use Rattle.disk.proofs.Steps.{weaker}
+use Rattle.pages.specs.declared.header.Header.{Header}
 use Rattle.storefile.specs.StoreFile.{StandsTidyFor}
 use Rattle.store.specs.declared.store.Store.{Store}
 use Rattle.store.specs.Committing.{StandsTidily}
@@ -13,7 +14,7 @@ use Rattle.keeper.proofs.keepers.Keeper.checkpoint_step.Goals.{in-Ok, in-Err}
 pub returns-clause-any_moment : goal.returns-clause-any_moment
 returns-clause-any_moment g c =
     rw (← c.self.view_is) (λ calm honest old.
-    weaker g.D.Disk.moment g.D.Disk.left_since c.self.inside.store.disk c.checkpoint-written.new.self.disk (λ d. StandsTidyFor d c.self.inside.store.network c.self.inside.store.version) _
+    weaker g.D.Disk.moment g.D.Disk.left_since c.self.inside.store.disk c.checkpoint-written.new.self.disk (λ d. StandsTidyFor c.self.inside.store.header.journal_pages d c.self.inside.store.network c.self.inside.store.version) _
     (c.checkpoint-written.ensures.any_moment (sym c.self.invariant.1 ∙ calm) honest (old.stands calm))
     (λ d way. record { version = c.self.inside.store.version; left = inl refl; network = c.self.inside.store.network; network_is = c.self.invariant.0.durable_is; stands = way }))
 
@@ -31,7 +32,7 @@ returns-clause-holds g c =
           left = inl (sym c.checkpoint-written.ensures.version);
           network = c.self.inside.store.network;
           network_is = c.self.invariant.0.durable_is;
-          stands = c.checkpoint-written.ensures.left works_then honest (old.stands calm) d was;
+          stands = subst (λ (h : Header). StandsTidyFor h.journal_pages d c.self.inside.store.network c.self.inside.store.version) (sym c.checkpoint-written.ensures.header) (c.checkpoint-written.ensures.left works_then honest (old.stands calm) d was);
         };
       }
       | in-Err w ↦ (
@@ -55,7 +56,7 @@ returns-clause-holds g c =
               left = inl (sym c.checkpoint-written.ensures.version);
               network = c.self.inside.store.network;
               network_is = c.self.invariant.0.durable_is;
-              stands = c.checkpoint-written.ensures.left works_then honest (old.stands calm) d was;
+              stands = subst (λ (h : Header). StandsTidyFor h.journal_pages d c.self.inside.store.network c.self.inside.store.version) (sym c.checkpoint-written.ensures.header) (c.checkpoint-written.ensures.left works_then honest (old.stands calm) d was);
             };
           })
     ])

@@ -119,7 +119,7 @@ returns-clause-any_moment g c =
       taken = slice_is c.deref.result.now c.self.inside.history.items c.version.result c.self.inside.opened c.min-count.result _ _ c.deref.ensures.value c.version.ensures (omega (arith, c.min-count.ensures));
       count_is = omega (arith, c.of.ensures, c.min-count.ensures, c.len.ensures, c.version.ensures);
     } in
-    weaker g.D.Disk.moment g.D.Disk.left_since c.self.inside.store.disk c.commit-written.new.self.disk (IsBeforeOrAfter c.self.inside.store.network c.self.inside.store.version commands) _
+    weaker g.D.Disk.moment g.D.Disk.left_since c.self.inside.store.disk c.commit-written.new.self.disk (IsBeforeOrAfter c.self.inside.store.header.journal_pages c.self.inside.store.network c.self.inside.store.version commands) _
     (c.commit-written.ensures.any_moment (sym c.self.invariant.1 ∙ calm) honest (old.stands calm))
     (λ d way. held _ c.self.inside.network c.self.inside.store.network c.self.inside.view.value.network _ commands c.of.result.value f d way))
 

@@ -16,6 +16,6 @@ pub returns-clause-holds : goal.returns-clause-holds
 returns-clause-holds g c =
     rw (← c.self.view_is) (λ old.
     elim c.match-accept.branch [
-      | in-Ok w ↦ holds_on (g.D.Disk.content c.self.inside.store.disk) (g.D.Disk.left c.self.inside.store.disk) _ _ _ refl refl refl (λ v le. same_before _ _ c.self.inside.history.items c.accept.new.history.items c.args.command w.in-Ok.ensures.history (omega (arith, le))) c.self.invariant.0.state old
-      | in-Err-accept w ↦ holds_on (g.D.Disk.content c.self.inside.store.disk) (g.D.Disk.left c.self.inside.store.disk) _ _ _ refl refl refl (λ v le. same_commands _ _ c.self.inside.history.items c.accept.new.history.items w.in-Err-accept.ensures.same_history) c.self.invariant.0.state old
+      | in-Ok w ↦ holds_on (g.D.Disk.content c.self.inside.store.disk) (g.D.Disk.left c.self.inside.store.disk) _ _ _ refl refl refl refl (λ v le. same_before _ _ c.self.inside.history.items c.accept.new.history.items c.args.command w.in-Ok.ensures.history (omega (arith, le))) c.self.invariant.0.state old
+      | in-Err-accept w ↦ holds_on (g.D.Disk.content c.self.inside.store.disk) (g.D.Disk.left c.self.inside.store.disk) _ _ _ refl refl refl refl (λ v le. same_commands _ _ c.self.inside.history.items c.accept.new.history.items w.in-Err-accept.ensures.same_history) c.self.invariant.0.state old
     ])

@@ -14,9 +14,8 @@ use Rattle.store.specs.Committing.{refusal_of_commit, MayRefuseCommit, StandsTid
 use Rattle.machine.specs.Machine.{Sizes, Machine, IsState, latest, batch, most_versions, network_at}
 use Rattle.machine.specs.Calls.{Flushes, failed, refusal_of_flush, with_page_flushed, with_batch}
 use Rattle.machine.specs.Keeping.{IsKept, next_batch}
-use Rattle.machine.specs.Lives.{HoldsDurable}
 use Rattle.machine.proofs.Keeping.{kept_failed, kept_flush, batch_size, batch_network, batch_admitted, batch_versions, alike}
-use Rattle.keeper.specs.Keeping.{Holds}
+use Rattle.keeper.specs.Keeping.{Holds, IsDurableIn}
 
 -- ---- the refusals of a flush and of a commit
 
@@ -93,14 +92,14 @@ module _ (m : Machine) (accepted durable shown : Net) (task : Option (ℕ × Net
       ∙ (batch_network m accepted durable shown task f.kept ∙ (ap (after durable) (sym f.taken) ∙ made))
 
   -- what stands for the network before the commands, or after them, holds what a flush that failed leaves
-  pub held : (content : List ℕ) → IsBeforeOrAfter durable m.durable commands content → HoldsDurable StandsTidyFor (failed m (batch m)) content
+  pub held : (content : List ℕ) → IsBeforeOrAfter m.sizes.journal_pages durable m.durable commands content → IsDurableIn (failed m (batch m)) content
   held content (inl stands) = record { version = m.durable; left = inl refl; network = durable; network_is = f.kept.durable_is; stands = stands }
   held content (inr stands) = record {
     version = m.durable + batch m;
     left = inr refl;
     network = stands.0;
     network_is = network_behind stands.0 stands.1;
-    stands = subst (λ (n : ℕ). StandsTidyFor content stands.0 (m.durable + n)) size stands.2;
+    stands = subst (λ (n : ℕ). StandsTidyFor m.sizes.journal_pages content stands.0 (m.durable + n)) size stands.2;
   }
 
   -- ---- after the commit, of which this is known
@@ -116,7 +115,7 @@ module _ (m : Machine) (accepted durable shown : Net) (task : Option (ℕ × Net
       pub unchecked_is : OnOk result (unchecked ≡ m.unchecked + 1)
       pub works_on : OnOk result (broken ≡ false)
       pub refused : MatchResult result (λ v. refusal_of_commit m.broken m.durable m.unchecked m.sizes.journal_pages durable commands ≡ None) (MayRefuseCommit (refusal_of_commit m.broken m.durable m.unchecked m.sizes.journal_pages durable commands))
-      pub still : IfErr result (λ refusal. (refusal ≡ Device → ⊥) → broken ≡ m.broken)
+      pub still : IfErr result (λ refusal. (refusal ≡ Device → ⊥) → broken ≡ false)
       pub breaks : IfErr result (λ refusal. refusal ≡ Device → broken ≡ true)
       pub network_kept : OnErr result (next ≡ durable)
       pub version_kept : OnErr result (version ≡ m.durable)
@@ -140,9 +139,9 @@ module _ (m : Machine) (accepted durable shown : Net) (task : Option (ℕ × Net
 
     flushed_same : (refusal : Refusal) → Committed (Err refusal) → refusal ≡ OutOfMemory → flushed ≡ m
     flushed_same refusal h is =
-        let calm : broken ≡ m.broken = h.still (not_memory refusal is) in
+        let calm : broken ≡ false = h.still (not_memory refusal is) in
         alike m sizes m.sizes version m.durable unchecked m.unchecked (cond broken count 0) m.in_flight broken m.broken m.checkpoint m.checkpoint
-        h.sizes_are h.version_kept h.unchecked_kept (idle broken (calm ∙ works)) calm refl
+        h.sizes_are h.version_kept h.unchecked_kept (idle broken calm) (calm ∙ sym works) refl
 
     flushed_failed : (refusal : Refusal) → Committed (Err refusal) → refusal ≡ Device → flushed ≡ failed m (batch m)
     flushed_failed refusal h is =
@@ -175,8 +174,8 @@ module _ (m : Machine) (accepted durable shown : Net) (task : Option (ℕ × Net
     module _ (content content' : List ℕ) (left left' : List ℕ → Type 0) (standing standing' : Standing) where
       pub record Written (result : Result ℕ Refusal) : Type 0 where
         pub same : IfErr result (λ refusal. (refusal ≡ Device → ⊥) → (content' ≡ content) × ((c : List ℕ) → left' c → left c) × (standing' ≡ standing))
-        pub in_flight : (c : List ℕ) → left' c → IsBeforeOrAfter durable m.durable commands c
-        pub durably : OnOk result ((c : List ℕ) → left' c → StandsTidyFor c next version)
+        pub in_flight : (c : List ℕ) → left' c → IsBeforeOrAfter m.sizes.journal_pages durable m.durable commands c
+        pub durably : OnOk result ((c : List ℕ) → left' c → StandsTidyFor sizes.journal_pages c next version)
         pub only : OnOk result (Only content' left')
         pub stands : OnOk result (StandsTidily content' standing')
 

@@ -1,6 +1,7 @@
 -- What a keeper's disk holds, from one call to the next.
-use Rattle.std.proofs.Common.{◌≡◌, ◌⊎◌, ⊎_elim, inl, inr, ℕ, ◌≤◌, Bool, true, false, List, [], ◌∷◌, ◌++◌, length, take, Some, refl, sym, ◌∙◌, ap, subst, arith}
-use Rattle.std.specs.Prelude.{not}
+use Rattle.std.proofs.Common.{◌≡◌, ◌⊎◌, ⊎_elim, inl, inr, ℕ, ◌≤◌, Bool, true, false, List, [], ◌∷◌, ◌++◌, length, take, Some, Result, Ok, Err, refl, sym, ◌∙◌, ap, subst, arith}
+use Rattle.std.specs.Prelude.{not, OnOk, IfErr}
+use Rattle.std.specs.Bool.{Decides}
 use Rattle.std.proofs.Math.Seq.{take-nil}
 use Rattle.std.proofs.lemmas.List.{take-append-le}
 use Rattle.disk.specs.Moments.{LeavesOnly}
@@ -14,14 +15,13 @@ use Rattle.storefile.specs.StoreFile.{StandsTidyFor}
 use Rattle.storefile.specs.Standing.{Standing}
 use Rattle.store.specs.Committing.{StandsTidily}
 use Rattle.store.specs.Checkpointing.{refusal_of_checkpoint, MayRefuseCheckpoint}
-use Rattle.machine.specs.Machine.{Machine, IsState, latest, network_at}
+use Rattle.machine.specs.Machine.{Sizes, Machine, IsState, latest, network_at}
 use Rattle.machine.specs.Calls.{failed, IsLeft}
-use Rattle.machine.specs.Lives.{HoldsDurable}
 use Rattle.machine.proofs.Kept.{left_between}
-use Rattle.keeper.specs.Keeping.{Holds}
+use Rattle.keeper.specs.Keeping.{Holds, IsDurableIn}
 
 -- what holds what is durable holds it with these commands in flight or without
-pub held_too : (m : Machine) (commands : ℕ) (content : List ℕ) → IsState m → m.broken ≡ false → HoldsDurable StandsTidyFor m content → HoldsDurable StandsTidyFor (failed m commands) content
+pub held_too : (m : Machine) (commands : ℕ) (content : List ℕ) → IsState m → m.broken ≡ false → IsDurableIn m content → IsDurableIn (failed m commands) content
 held_too m commands content s works h =
     let none : m.in_flight ≡ 0 = s.calm works in
     record {
@@ -39,23 +39,23 @@ no_call left moment left_since disk P now each = started moment left_since disk 
 
 module _ (content : List ℕ) (left : List ℕ → Type 0) (standing : Standing) where
   -- a machine whose durable commands stay, and what is in flight
-  pub holds_on : (old new : Machine) → new.durable ≡ old.durable → new.in_flight ≡ old.in_flight → new.broken ≡ old.broken
+  pub holds_on : (old new : Machine) → new.sizes ≡ old.sizes → new.durable ≡ old.durable → new.in_flight ≡ old.in_flight → new.broken ≡ old.broken
       → ((v : ℕ) → v ≤ latest old → network_at new v ≡ network_at old v) → IsState old → Holds content left old standing → Holds content left new standing
-  holds_on old new durable in_flight broken networks s h =
+  holds_on old new sizes durable in_flight broken networks s h =
       let left_too : (v : ℕ) → IsLeft old v → IsLeft new v =
       λ v is. ⊎_elim (λ e. inl (e ∙ sym durable)) (λ e. inr (omega arith)) is in
       record {
         only = λ works. h.only (sym broken ∙ works);
         stands = λ works. h.stands (sym broken ∙ works);
         each_left = λ c was.
-            let held : HoldsDurable StandsTidyFor old c = h.each_left c was in
+            let held : IsDurableIn old c = h.each_left c was in
             let between : (old.durable ≤ held.version) × (held.version ≤ latest old) = left_between old s held.version held.left in
             record {
               version = held.version;
               left = left_too held.version held.left;
               network = held.network;
               network_is = networks held.version between.1 ∙ held.network_is;
-              stands = held.stands;
+              stands = subst (λ (z : Sizes). StandsTidyFor z.journal_pages c held.network held.version) (sym sizes) held.stands;
             };
       }
 
@@ -69,10 +69,10 @@ module _ (content : List ℕ) (left : List ℕ → Type 0) (standing : Standing)
 
 -- a disk that is alike, of a store that tells the same, and a machine whose durable commands stay
 pub holds_armed : (content content' : List ℕ) (left left' : List ℕ → Type 0) (standing standing' : Standing) (old new : Machine) → content' ≡ content → ((c : List ℕ) → left' c → left c) → standing' ≡ standing
-    → new.durable ≡ old.durable → new.in_flight ≡ old.in_flight → new.broken ≡ old.broken → ((v : ℕ) → v ≤ latest old → network_at new v ≡ network_at old v) → IsState old → Holds content left old standing → Holds content' left' new standing'
-holds_armed content content' left left' standing standing' old new same among told durable in_flight broken networks s h =
+    → new.sizes ≡ old.sizes → new.durable ≡ old.durable → new.in_flight ≡ old.in_flight → new.broken ≡ old.broken → ((v : ℕ) → v ≤ latest old → network_at new v ≡ network_at old v) → IsState old → Holds content left old standing → Holds content' left' new standing'
+holds_armed content content' left left' standing standing' old new same among told sizes durable in_flight broken networks s h =
     subst (λ (x : Standing). Holds content' left' new x) (sym told)
-    (holds_on content' left' standing old new durable in_flight broken networks s (holds_alike content left standing content' left' old same among h))
+    (holds_on content' left' standing old new sizes durable in_flight broken networks s (holds_alike content left standing content' left' old same among h))
 
 pub same_commands : (base : Net) (n : ℕ) (items items' : List Command) → items' ≡ items → after base (take n items') ≡ after base (take n items)
 same_commands base n items items' is = ap (λ (xs : List Command). after base (take n xs)) is
@@ -100,3 +100,25 @@ why false refusal works may = ⊎_elim (λ told. absurd cc) (λ other. other.1) 
 
 pub not_memory : (refusal : Refusal) → refusal ≡ OutOfMemory → refusal ≡ Device → ⊥
 not_memory refusal is device = let never : OutOfMemory ≡ Device = sym is ∙ device in absurd cc
+
+-- ---- whether a write failed
+
+pub works_at_ok : {T : Type 0} (r : Result T Refusal) (flag : Bool) → Decides flag (r ≡ Err Device) → OnOk r (flag ≡ false)
+works_at_ok (Ok v) true d = let never : Ok v ≡ Err Device = d.0 refl in cc
+works_at_ok (Ok v) false d = refl
+works_at_ok (Err e) flag d = tt
+
+pub works_at_err : {T : Type 0} (r : Result T Refusal) (flag : Bool) → Decides flag (r ≡ Err Device) → IfErr r (λ refusal. (refusal ≡ Device → ⊥) → flag ≡ false)
+works_at_err (Ok v) flag d = tt
+works_at_err (Err e) true d = λ not. absurd (not (let same : Err e ≡ Err Device = d.0 refl in cc))
+works_at_err (Err e) false d = λ not. refl
+
+pub breaks_at_err : {T : Type 0} (r : Result T Refusal) (flag : Bool) → Decides flag (r ≡ Err Device) → IfErr r (λ refusal. refusal ≡ Device → flag ≡ true)
+breaks_at_err (Ok v) flag d = tt
+breaks_at_err (Err e) flag d = λ is. d.1 (ap Err is)
+
+-- a keeper's flag is its store's, which was not broken
+pub same_flag : {T : Type 0} (r : Result T Refusal) (flag old new : Bool) → Decides flag (r ≡ Err Device) → old ≡ false → OnOk r (new ≡ false) → IfErr r (λ refusal. refusal ≡ Device → new ≡ true) → IfErr r (λ refusal. (refusal ≡ Device → ⊥) → new ≡ old) → flag ≡ new
+same_flag (Ok v) flag old new d calm works breaks same = works_at_ok (Ok v) flag d ∙ sym works
+same_flag (Err e) true old new d calm works breaks same = sym (breaks (let is : Err e ≡ Err Device = d.0 refl in cc))
+same_flag (Err e) false old new d calm works breaks same = sym (same (λ is. let never : false ≡ true = d.1 (ap Err is) in cc) ∙ calm)

@@ -11,10 +11,12 @@ use Rattle.pages.specs.Layout.{pages_for}
 use Rattle.storefile.specs.StoreFile.{StandsTidyFor}
 use Rattle.storefile.specs.Standing.{Standing}
 use Rattle.disk.specs.Contents.{Only}
+use Rattle.disk.specs.declared.disk.Disk.{Ghosts}
+use Rattle.store.specs.declared.store.Store.{Store}
 use Rattle.store.specs.Committing.{StandsTidily}
 use Rattle.store.proofs.Committed.{left_stands}
 use Rattle.keeper.proofs.Held.{at_base}
-use Rattle.keeper.specs.Keeping.{Holds}
+use Rattle.keeper.specs.Keeping.{IsDurableIn, sizes_of}
 use Rattle.machine.specs.declared.events.Writing.{Writing}
 use Rattle.machine.specs.declared.events.Event.{Event}
 use Rattle.machine.specs.declared.events.Event.TheVariants.{Submit, Flush, Checkpoint, Task, Publish, Ask, Stop, StopWithin}
@@ -23,18 +25,16 @@ use Rattle.machine.specs.declared.events.Replied.TheVariants.{Opened, Stopped}
 use Rattle.machine.specs.Machine.{Sizes, Machine, IsState, start, commands_to}
 use Rattle.machine.specs.Calls.{StopsAndOpens}
 use Rattle.machine.specs.LifeInRun.{within}
-use Rattle.machine.specs.Lives.{told_version, Writes, StopComes, Does, StopsFor, Lives, LivesOn, HoldsDurable}
+use Rattle.machine.specs.Lives.{told_version, Writes, StopComes, Does, StopsFor, Lives, HoldsDurable}
 use Rattle.machine.proofs.InRun.{holds_in, commands_in}
 use Rattle.machine.proofs.Rehearsing.{Ran, ran_more, lives_whole, lives_no_memory, lives_not_opened}
-use Rattle.keeper.specs.Rehearsing.{is_stop, within_of, First, HasRun, HasSlotOfNetwork, BeginsAfter}
+use Rattle.keeper.specs.Rehearsing.{is_stop, within_of, First, HasRun, HasLived, HasSlotOfNetwork, BeginsAfter}
 use Rattle.keeper.proofs.LivesInRun.{Later, later_none, does_later, does_in, writes_in}
 use Rattle.keeper.proofs.Stopped.{opens_in, there_after, begun_after, sizes_after, slot_after}
 
--- a run that goes on over an honest disk
-pub record IsGoing {P : Type 0} (honest : Type 0) (content : List ℕ) (left : List ℕ → Type 0) (standing : Standing) (first : First) (events : List (Event P)) (replies : List Replied) (history : List Command) (m : Machine) : Type 0 where
-  pub is_honest : honest
-  pub holds : Holds content left m standing
-  pub run : HasRun first events replies history m
+-- the store that a run begins with
+abbrev pub first_of : {D : Type 0} {disk : Ghosts D} → Store D disk → First
+first_of store = record { sizes = sizes_of store.header; network = store.network; version = store.version; unchecked = store.unchecked }
 
 -- what was told of a write before the stop's own reply
 pub record Told (old mid : Machine) (w : Writing) (replies replies' : List Replied) : Type 0 where
@@ -57,19 +57,19 @@ run_as first events replies replies' history history' m a b r =
     subst (λ (rs : List Replied). HasRun first events rs history' m) (sym a) (subst (λ (cs : List Command). HasRun first events replies cs m) (sym b) r)
 
 pub lives_as : {P : Type 0} (left : List ℕ → Type 0) (first : First) (events : List (Event P)) (replies replies' : List Replied) (ended : Option Refusal) (history history' : List Command) → replies' ≡ replies → history' ≡ history
-    → LivesOn StandsTidyFor left first.sizes first.network first.version first.unchecked events replies ended history → LivesOn StandsTidyFor left first.sizes first.network first.version first.unchecked events replies' ended history'
+    → HasLived left first events replies ended history → HasLived left first events replies' ended history'
 lives_as left first events replies replies' ended history history' a b r =
-    subst (λ (rs : List Replied). LivesOn StandsTidyFor left first.sizes first.network first.version first.unchecked events rs ended history') (sym a)
-    (subst (λ (cs : List Command). LivesOn StandsTidyFor left first.sizes first.network first.version first.unchecked events replies ended cs) (sym b) r)
+    subst (λ (rs : List Replied). HasLived left first events rs ended history') (sym a)
+    (subst (λ (cs : List Command). HasLived left first events replies ended cs) (sym b) r)
 
 pub lives_of : {P : Type 0} (left : List ℕ → Type 0) (first : First) (events events' : List (Event P)) (replies : List Replied) (ended : Option Refusal) (history : List Command) → events ≡ events'
-    → LivesOn StandsTidyFor left first.sizes first.network first.version first.unchecked events replies ended history → LivesOn StandsTidyFor left first.sizes first.network first.version first.unchecked events' replies ended history
+    → HasLived left first events replies ended history → HasLived left first events' replies ended history
 lives_of left first events events' replies ended history e r =
-    subst (λ (es : List (Event _)). LivesOn StandsTidyFor left first.sizes first.network first.version first.unchecked es replies ended history) e r
+    subst (λ (es : List (Event _)). HasLived left first es replies ended history) e r
 
 -- what a stop leaves of a store that was just opened
-pub held_at_start : (content : List ℕ) (left : List ℕ → Type 0) (x : Standing) (sizes : Sizes) (unchecked : ℕ) → Only content left → StandsTidily content x → (c : List ℕ) → left c → HoldsDurable StandsTidyFor (start sizes x.network x.version unchecked) c
-held_at_start content left x sizes unchecked only stands c was = record {
+pub held_at_start : (content : List ℕ) (left : List ℕ → Type 0) (x : Standing) (unchecked : ℕ) → Only content left → StandsTidily content x → (c : List ℕ) → left c → IsDurableIn (start (sizes_of x.header) x.network x.version unchecked) c
+held_at_start content left x unchecked only stands c was = record {
   version = x.version;
   left = inl refl;
   network = x.network;
@@ -87,6 +87,9 @@ module _ {P : Type 0} (first : First) (events : List (Event P)) (replies : List 
 
   ran : Ran (start first.sizes first.network first.version first.unchecked) events replies (in_run m)
   ran = record { turns = r.turns; events_are = r.events_are; replies_are = r.replies_are; passes = r.passes }
+
+  durable_as : (x : Machine) (c : List ℕ) → x.sizes ≡ first.sizes → IsDurableIn x c → HoldsDurable (StandsTidyFor first.sizes.journal_pages) x c
+  durable_as x c is held = subst (λ (z : Sizes). HoldsDurable (StandsTidyFor z.journal_pages) x c) is held
 
   -- one event more
   pub run_more : (e : Event P) (now : List Replied) (new : Machine) → is_stop e ≡ false → IsState m → Does m e now new → HasRun first (events ++ e ∷ []) (replies ++ now) history new
@@ -137,17 +140,20 @@ module _ {P : Type 0} (first : First) (events : List (Event P)) (replies : List 
           slot = slot_after first.network first.version history mid next begun_then l.state b slot_then;
         }
 
+    sizes_then : mid.sizes ≡ first.sizes
+    sizes_then = l.later.sizes ∙ r.sizes_are
+
     -- what is left is not opened, or has no first view
     pub run_not_opened : (left : List ℕ → Type 0) (e : Event P) (now : List Replied) (rest : List (Event P)) (ended : Option Refusal) → StopsFor (in_run m) e now (in_run mid) → (ended ≡ Some OutOfMemory) ⊎ (ended ≡ Some Device)
-        → ((c : List ℕ) → left c → HoldsDurable StandsTidyFor mid c)
-        → LivesOn StandsTidyFor left first.sizes first.network first.version first.unchecked ((events ++ e ∷ []) ++ rest) (replies ++ now) ended (history ++ take (mid.durable - mid.base_version) mid.accepted)
+        → ((c : List ℕ) → left c → IsDurableIn mid c)
+        → HasLived left first ((events ++ e ∷ []) ++ rest) (replies ++ now) ended (history ++ take (mid.durable - mid.base_version) mid.accepted)
     run_not_opened left e now rest ended stops why each = record {
       unchecked_to = r.unchecked_to;
       last = in_run mid;
       lives = subst (λ (h : List Command). Lives (start first.sizes first.network first.version first.unchecked) ((events ++ e ∷ []) ++ rest) (replies ++ now) ended h (in_run mid))
           (commands_in first.network first.version history mid begun_then mid.durable (omega (arith, l.state.base_opened, l.state.opened_shown, l.state.shown_durable)))
           (lives_not_opened _ _ events replies ran (in_run mid) e now rest ended stops why);
-      each_left = λ c was. holds_in StandsTidyFor first.network first.version history mid c begun_then there_then l.state (each c was);
+      each_left = λ c was. holds_in (StandsTidyFor first.sizes.journal_pages) first.network first.version history mid c begun_then there_then l.state (durable_as mid c sizes_then (each c was));
     }
 
     -- the disk stops within the event, or behind it
@@ -186,10 +192,10 @@ module _ {P : Type 0} (first : First) (events : List (Event P)) (replies : List 
         does Stop is = cc
 
     pub not_opened_within : (left : List ℕ → Type 0) (e : Event P) (w : Writing) (told : List Replied) (rest : List (Event P)) (ended : Option Refusal) → within_of e ≡ Some w → TellsBefore w told → (ended ≡ Some OutOfMemory) ⊎ (ended ≡ Some Device)
-        → ((c : List ℕ) → left c → HoldsDurable StandsTidyFor mid c)
-        → LivesOn StandsTidyFor left first.sizes first.network first.version first.unchecked ((events ++ e ∷ []) ++ rest) ((replies ++ told) ++ Stopped ∷ []) ended (history ++ take (mid.durable - mid.base_version) mid.accepted)
+        → ((c : List ℕ) → left c → IsDurableIn mid c)
+        → HasLived left first ((events ++ e ∷ []) ++ rest) ((replies ++ told) ++ Stopped ∷ []) ended (history ++ take (mid.durable - mid.base_version) mid.accepted)
     not_opened_within left e w told rest ended is tells why each =
-        subst (λ (rs : List Replied). LivesOn StandsTidyFor left first.sizes first.network first.version first.unchecked ((events ++ e ∷ []) ++ rest) rs ended (history ++ take (mid.durable - mid.base_version) mid.accepted)) (sym (append_assoc replies told (Stopped ∷ [])))
+        subst (λ (rs : List Replied). HasLived left first ((events ++ e ∷ []) ++ rest) rs ended (history ++ take (mid.durable - mid.base_version) mid.accepted)) (sym (append_assoc replies told (Stopped ∷ [])))
         (run_not_opened left e (told ++ Stopped ∷ []) rest ended (stops e is) why each)
       where
         stops : (x : Event P) → within_of x ≡ Some w → StopsFor (in_run m) x (told ++ Stopped ∷ []) (in_run mid)
@@ -217,8 +223,8 @@ module _ {P : Type 0} (first : First) (events : List (Event P)) (replies : List 
         (opened_within e w t.told next is t.comes b)
 
     pub not_opened_told : (left : List ℕ → Type 0) (e : Event P) (w : Writing) (replies' : List Replied) (rest : List (Event P)) (ended : Option Refusal) → within_of e ≡ Some w → Told (in_run m) (in_run mid) w replies replies' → (ended ≡ Some OutOfMemory) ⊎ (ended ≡ Some Device)
-        → ((c : List ℕ) → left c → HoldsDurable StandsTidyFor mid c)
-        → LivesOn StandsTidyFor left first.sizes first.network first.version first.unchecked ((events ++ e ∷ []) ++ rest) (replies' ++ Stopped ∷ []) ended (history ++ take (mid.durable - mid.base_version) mid.accepted)
+        → ((c : List ℕ) → left c → IsDurableIn mid c)
+        → HasLived left first ((events ++ e ∷ []) ++ rest) (replies' ++ Stopped ∷ []) ended (history ++ take (mid.durable - mid.base_version) mid.accepted)
     not_opened_told left e w replies' rest ended is t why each =
         lives_as left first ((events ++ e ∷ []) ++ rest) ((replies ++ t.told) ++ Stopped ∷ []) (replies' ++ Stopped ∷ []) ended (history ++ take (mid.durable - mid.base_version) mid.accepted) (history ++ take (mid.durable - mid.base_version) mid.accepted)
         (ap (λ (rs : List Replied). rs ++ Stopped ∷ []) t.is) refl
@@ -228,26 +234,26 @@ module _ {P : Type 0} (first : First) (events : List (Event P)) (replies : List 
   pub opened_by_stop : (next : Machine) → IsState m → BeginsAfter m next → HasRun first (events ++ Stop ∷ []) (replies ++ Opened next.base_version ∷ []) (history ++ commands_to m next.base_version) next
   opened_by_stop next s b = run_opened m (later_none m s) Stop (Opened next.base_version ∷ []) next b (next.base_version, opens_then m (later_none m s) next b, refl)
 
-  pub not_opened_by_stop : (left : List ℕ → Type 0) (rest : List (Event P)) (ended : Option Refusal) → IsState m → (ended ≡ Some OutOfMemory) ⊎ (ended ≡ Some Device) → ((c : List ℕ) → left c → HoldsDurable StandsTidyFor m c)
-      → LivesOn StandsTidyFor left first.sizes first.network first.version first.unchecked ((events ++ Stop ∷ []) ++ rest) (replies ++ Stopped ∷ []) ended (history ++ take (m.durable - m.base_version) m.accepted)
+  pub not_opened_by_stop : (left : List ℕ → Type 0) (rest : List (Event P)) (ended : Option Refusal) → IsState m → (ended ≡ Some OutOfMemory) ⊎ (ended ≡ Some Device) → ((c : List ℕ) → left c → IsDurableIn m c)
+      → HasLived left first ((events ++ Stop ∷ []) ++ rest) (replies ++ Stopped ∷ []) ended (history ++ take (m.durable - m.base_version) m.accepted)
   not_opened_by_stop left rest ended s why each = run_not_opened m (later_none m s) left Stop (Stopped ∷ []) rest ended (refl, refl) why each
 
   -- ---- every event was run, or no memory is given for the next one
-  module _ (left : List ℕ → Type 0) (s : IsState m) (each : (c : List ℕ) → left c → HoldsDurable StandsTidyFor m c) where
-    pub run_whole : LivesOn StandsTidyFor left first.sizes first.network first.version first.unchecked events replies None (history ++ m.accepted)
+  module _ (left : List ℕ → Type 0) (s : IsState m) (each : (c : List ℕ) → left c → IsDurableIn m c) where
+    pub run_whole : HasLived left first events replies None (history ++ m.accepted)
     run_whole = record {
       unchecked_to = r.unchecked_to;
       last = in_run m;
       lives = lives_whole _ _ events replies ran;
-      each_left = λ c was. holds_in StandsTidyFor first.network first.version history m c r.begun r.there s (each c was);
+      each_left = λ c was. holds_in (StandsTidyFor first.sizes.journal_pages) first.network first.version history m c r.begun r.there s (durable_as m c r.sizes_are (each c was));
     }
 
-    pub run_no_memory : (rest : List (Event P)) → LivesOn StandsTidyFor left first.sizes first.network first.version first.unchecked (events ++ rest) replies (Some OutOfMemory) (history ++ m.accepted)
+    pub run_no_memory : (rest : List (Event P)) → HasLived left first (events ++ rest) replies (Some OutOfMemory) (history ++ m.accepted)
     run_no_memory rest = record {
       unchecked_to = r.unchecked_to;
       last = in_run m;
       lives = lives_no_memory _ _ events replies ran rest;
-      each_left = λ c was. holds_in StandsTidyFor first.network first.version history m c r.begun r.there s (each c was);
+      each_left = λ c was. holds_in (StandsTidyFor first.sizes.journal_pages) first.network first.version history m c r.begun r.there s (durable_as m c r.sizes_are (each c was));
     }
 
 -- a run that begins

@@ -9,16 +9,17 @@ use Rattle.roadnet.proofs.InTurn.{arcs_all, length-changed_arcs}
 use Rattle.roadnet.proofs.Stepped.{after_both}
 use Rattle.pages.specs.declared.header.Header.{Header}
 use Rattle.pages.specs.Layout.{pages_for, word_pages}
-use Rattle.storefile.specs.StoreFile.{Stored, StandsTidyBy, StandsTidyFor, commands_of}
-use Rattle.storefile.specs.Standing.{Standing, standing_of, IsTidyAt}
-use Rattle.storefile.proofs.Rests.{stored_as, standing_is}
+use Rattle.storefile.specs.StoreFile.{StandsTidyFor, commands_of}
+use Rattle.storefile.specs.Standing.{Standing, standing_of}
+use Rattle.storefile.proofs.Rests.{stored_as}
 use Rattle.store.specs.Committing.{StandsTidily}
 use Rattle.machine.specs.Machine.{Sizes, Machine, IsState, start, network_at, commands_to}
 use Rattle.machine.specs.Calls.{StopsAndOpens}
 use Rattle.machine.specs.LifeInRun.{within}
-use Rattle.machine.specs.Lives.{HoldsDurable}
 use Rattle.machine.proofs.InRun.{stops_begin_lives}
 use Rattle.machine.proofs.Kept.{left_between}
+use Rattle.store.proofs.Afterwards.{reopened}
+use Rattle.keeper.specs.Keeping.{IsDurableIn, sizes_of}
 use Rattle.keeper.specs.Rehearsing.{HasSlotOfNetwork, BeginsAfter}
 
 -- ---- commands keep the number of arcs
@@ -41,53 +42,41 @@ arcs_of_header content x told =
     sym (kept ∙ (held.stands.is.arcs.count_is ∙ ap (λ (h : Header). h.arcs) held.header_is))
 
 -- ---- what opening tells of a content that stands for a network at a version
-pub record IsOpened (content : List ℕ) (net : Net) (version : ℕ) (x : Standing) : Type 0 where
+pub record IsOpened (journal_pages : ℕ) (content : List ℕ) (net : Net) (version : ℕ) (x : Standing) : Type 0 where
   pub network_is : x.network ≡ net
   pub version_is : x.version ≡ version
+  pub pages_are : x.header.journal_pages ≡ journal_pages
   pub stands : StandsTidily content x
 
-pub is_opened : (content : List ℕ) (net : Net) (version : ℕ) (x : Standing) → StandsTidyFor content net version → standing_of content ≡ Some x → IsOpened content net version x
-is_opened content net version x stands told =
-    let s : Stored = stands.0 in
-    let next : ℕ = stands.1 in
-    let by : StandsTidyBy content s net version next = stands.2 in
-    let y : Standing = record { header = s.header; slot = s.slot; epoch = s.epoch; network = net; version = version; next = next; unchecked = length s.unchecked } in
-    let told_too : standing_of content ≡ Some y = standing_is content s.header s.slot s.epoch net version next (length s.unchecked) (record { stored = s; stands = by.stands; header_is = refl; slot_is = refl; epoch_is = refl; unchecked_is = refl }) in
-    let same : y ≡ x = same_value y x (sym told_too ∙ told) in
-    record {
-      network_is = ap (λ (z : Standing). z.network) (sym same);
-      version_is = ap (λ (z : Standing). z.version) (sym same);
-      stands = (told, subst (λ (z : Standing). IsTidyAt content z.header z.next) same by.tidy);
-    }
-  where
-    same_value : (y x : Standing) → ◌≡◌ {A = Option Standing} (Some y) (Some x) → y ≡ x
-    same_value y x e = cc
+pub is_opened : (journal_pages : ℕ) (content : List ℕ) (net : Net) (version : ℕ) (x : Standing) → StandsTidyFor journal_pages content net version → standing_of content ≡ Some x → IsOpened journal_pages content net version x
+is_opened journal_pages content net version x stands told =
+    let is = reopened journal_pages content net version x stands told in
+    record { network_is = is.0; version_is = is.1; pages_are = is.3; stands = is.2 }
 
 -- ---- the life that begins
-module _ (m : Machine) (content : List ℕ) (x : Standing) (s : IsState m) (held : HoldsDurable StandsTidyFor m content) (told : standing_of content ≡ Some x) (pages : x.header.journal_pages ≡ m.sizes.journal_pages) (slot : HasSlotOfNetwork m) where
-  same_sizes : ◌≡◌ {A = Sizes} (record { journal_pages = x.header.journal_pages; slot_pages = word_pages x.header }) m.sizes
+module _ (m : Machine) (content : List ℕ) (x : Standing) (s : IsState m) (held : IsDurableIn m content) (told : standing_of content ≡ Some x) (slot : HasSlotOfNetwork m) where
+  o : IsOpened m.sizes.journal_pages content held.network held.version x
+  o = is_opened m.sizes.journal_pages content held.network held.version x held.stands told
+
+  same_sizes : sizes_of x.header ≡ m.sizes
   same_sizes =
-      let o : IsOpened content held.network held.version x = is_opened content held.network held.version x held.stands told in
       let arcs : x.header.arcs ≡ length m.base.arcs = arcs_of_header content x told ∙ (ap (λ (n : Net). length n.arcs) o.network_is ∙ same_arcs m.base held.network (commands_to m held.version) held.network_is) in
       let words : word_pages x.header ≡ m.sizes.slot_pages = ap (pages_for 1023) arcs ∙ sym slot in
-      both x.header.journal_pages (word_pages x.header) m.sizes pages words
+      both x.header.journal_pages (word_pages x.header) m.sizes o.pages_are words
     where
       both : (j w : ℕ) (z : Sizes) → j ≡ z.journal_pages → w ≡ z.slot_pages → ◌≡◌ {A = Sizes} (record { journal_pages = j; slot_pages = w }) z
       both j w z a b = rw (a, b) refl
 
-  pub begins_after : (next : Machine) → x.unchecked ≤ x.header.journal_pages → next ≡ start (record { journal_pages = x.header.journal_pages; slot_pages = word_pages x.header }) x.network x.version x.unchecked → BeginsAfter m next
+  pub begins_after : (next : Machine) → x.unchecked ≤ x.header.journal_pages → next ≡ start (sizes_of x.header) x.network x.version x.unchecked → BeginsAfter m next
   begins_after next few is = subst (BeginsAfter m) (sym is) (record {
     left = ⊎_elim (λ e. inl (o.version_is ∙ e)) (λ e. inr (o.version_is ∙ e)) held.left;
     network_is = subst (λ (v : ℕ). network_at m v ≡ Some x.network) (sym o.version_is) (held.network_is ∙ ap Some (sym o.network_is));
     begins = ap (λ (z : Sizes). start z x.network x.version x.unchecked) same_sizes;
-    unchecked_to = omega (arith, pages, few);
+    unchecked_to = omega (arith, o.pages_are, few);
   })
-    where
-      o : IsOpened content held.network held.version x
-      o = is_opened content held.network held.version x held.stands told
 
   pub stands_after : StandsTidily content x
-  stands_after = (is_opened content held.network held.version x held.stands told).stands
+  stands_after = o.stands
 
 -- ---- the life that begins, within the run
 module _ (base : Net) (version : ℕ) (before : List Command) (m next : Machine) (begun : m.base_version ≡ version + length before) (s : IsState m) (b : BeginsAfter m next) where

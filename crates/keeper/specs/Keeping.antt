@@ -1,11 +1,39 @@
 -- What a keeper is to its callers, and what its disk holds.
-use Rattle.std.specs.Prelude.{◌≡◌, ℕ, false, List}
+use Rattle.std.specs.Prelude.{◌≡◌, ℕ, Bool, false, List, Option, None, if◌then◌else◌}
+use Rattle.roadnet.specs.declared.commands.Command.{Command}
+use Rattle.roadnet.specs.Net.{Net}
 use Rattle.disk.specs.Contents.{Only}
+use Rattle.disk.specs.declared.disk.Disk.{Ghosts}
+use Rattle.pages.specs.declared.header.Header.{Header}
+use Rattle.pages.specs.Layout.{word_pages}
 use Rattle.storefile.specs.StoreFile.{StandsTidyFor}
 use Rattle.storefile.specs.Standing.{Standing}
+use Rattle.store.specs.declared.store.Store.{Store}
 use Rattle.store.specs.Committing.{StandsTidily}
-use Rattle.machine.specs.Machine.{Machine}
+use Rattle.machine.specs.Machine.{Sizes, Machine}
 use Rattle.machine.specs.Lives.{HoldsDurable}
+
+-- the sizes of a store with this header
+abbrev pub sizes_of : Header → Sizes
+sizes_of header = record { journal_pages = header.journal_pages; slot_pages = word_pages header }
+
+-- The machine of a keeper of this store: its base network, the version that it was opened at, the commands accepted since, the version that
+-- is shown, whether a write failed, how many commands the last write had, and the version of the task that is out.
+abbrev pub machine_of : {D : Type 0} {disk : Ghosts D} → Store D disk → Net → ℕ → List Command → ℕ → Bool → ℕ → Option ℕ → Machine
+machine_of store base opened accepted shown broken written task = record {
+  sizes = sizes_of store.header;
+  base = base;
+  base_version = opened;
+  accepted = accepted;
+  durable = store.version;
+  shown = shown;
+  opened = opened;
+  unchecked = store.unchecked;
+  in_flight = if broken then written else 0;
+  broken = broken;
+  task = task;
+  checkpoint = None;
+}
 
 -- the machine, the disk, what the store says of the disk's content, and how the shown view searches
 pub record Keeping (D : Type 0) : Type 0 where
@@ -15,9 +43,13 @@ pub record Keeping (D : Type 0) : Type 0 where
   -- the width of the buckets of the searches in the view that is shown
   pub width : ℕ
 
+-- The content has the machine's number of journal pages and stands, tidy, for what is durable, with the commands in flight or without.
+abbrev pub IsDurableIn : Machine → List ℕ → Type 0
+IsDurableIn m content = HoldsDurable (StandsTidyFor m.sizes.journal_pages) m content
+
 -- What a disk of this content, of which a stop may leave these, holds for a keeper. Each content that may be left stands for what is
 -- durable, with the commands in flight or without. Where nothing is broken that is the content alone, and it stands for what the store says.
 pub record Holds (content : List ℕ) (left : List ℕ → Type 0) (m : Machine) (standing : Standing) : Type 0 where
   pub only : m.broken ≡ false → Only content left
   pub stands : m.broken ≡ false → StandsTidily content standing
-  pub each_left : (c : List ℕ) → left c → HoldsDurable StandsTidyFor m c
+  pub each_left : (c : List ℕ) → left c → IsDurableIn m c

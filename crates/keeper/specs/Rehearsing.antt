@@ -4,6 +4,7 @@ use Rattle.std.specs.List.{flat_map}
 use Rattle.roadnet.specs.declared.commands.Command.{Command}
 use Rattle.roadnet.specs.Net.{Net}
 use Rattle.roadnet.specs.Step.{after}
+use Rattle.roadnet.specs.declared.refusals.Refusal.{Refusal}
 use Rattle.disk.specs.Contents.{Only}
 use Rattle.pages.specs.Layout.{pages_for}
 use Rattle.storefile.specs.StoreFile.{StandsTidyFor}
@@ -14,7 +15,8 @@ use Rattle.machine.specs.declared.events.Writing.{Writing}
 use Rattle.machine.specs.Machine.{Sizes, Machine, IsState, start, network_at}
 use Rattle.machine.specs.Calls.{IsLeft}
 use Rattle.machine.specs.LifeInRun.{within}
-use Rattle.machine.specs.Lives.{Turn, Passes, HoldsDurable}
+use Rattle.machine.specs.Lives.{Turn, Passes, LivesOn}
+use Rattle.keeper.specs.Keeping.{Keeping, Holds, IsDurableIn}
 
 -- an event with a stop
 abbrev pub is_stop : {P : Type 0} → Event P → Bool
@@ -59,14 +61,25 @@ pub record HasRun {P : Type 0} (first : First) (events : List (Event P)) (replie
   pub sizes_are : m.sizes ≡ first.sizes
   pub slot : HasSlotOfNetwork m
 
+-- A run so far, over an honest disk: these events were replied to so, the lives before left these commands, and the keeper of the life now
+-- holds what its machine says.
+pub record IsGoing {D : Type 0} {P : Type 0} (honest : D → Type 0) (content : D → List ℕ) (left : D → List ℕ → Type 0) (first : First) (events : List (Event P)) (replies : List Replied) (history : List Command) (keeper : Keeping D) : Type 0 where
+  pub is_honest : honest keeper.disk
+  pub holds : Holds (content keeper.disk) (left keeper.disk) keeper.machine keeper.standing
+  pub run : HasRun first events replies history keeper.machine
+
+-- The run of these events has come to this, and a stop now leaves of the disk what its last state says.
+abbrev pub HasLived : {P : Type 0} → (List ℕ → Type 0) → First → List (Event P) → List Replied → Option Refusal → List Command → Type 0
+HasLived left first events replies ended history =
+    LivesOn (StandsTidyFor first.sizes.journal_pages) left first.sizes first.network first.version first.unchecked events replies ended history
+
 -- A life that had this machine has been stopped. It leaves these commands and numbers, and the disk this content alone.
-pub record HasHalted (m : Machine) (commands : List Command) (opened durable journal_pages : ℕ) (content : List ℕ) (left : List ℕ → Type 0) : Type 0 where
+pub record HasHalted (m : Machine) (commands : List Command) (opened durable : ℕ) (content : List ℕ) (left : List ℕ → Type 0) : Type 0 where
   pub state : IsState m
   pub commands_are : commands ≡ m.accepted
   pub opened_is : opened ≡ m.base_version
   pub durable_is : durable ≡ m.durable
-  pub pages_are : journal_pages ≡ m.sizes.journal_pages
-  pub held : HoldsDurable StandsTidyFor m content
+  pub held : IsDurableIn m content
   pub only : Only content left
 
 -- a life begins with what a stop left of the one before

@@ -1,28 +1,25 @@
 // Pending commands made durable.
 ghost use Rattle.std.specs.Prelude.{◌≡◌, ◌≢◌, ◌↔◌, true, false, None, Some, IfErr, MatchResult};
 ghost use Rattle.disk.specs.Contents.{Rose};
+ghost use Rattle.pagereader.specs.Outcomes.{failures_told};
 ghost use Rattle.disk.specs.Moments.{LeavesOnly, AddsNothing};
 ghost use Rattle.roadnet.specs.declared.refusals.Refusal.TheVariants.{Device as device};
-ghost use Rattle.storefile.specs.StoreFile.{StandsTidyFor};
 ghost use Rattle.machine.specs.Machine.{batch};
 ghost use Rattle.machine.specs.Calls.{Flushes, refusal_of_flush, failed};
-ghost use Rattle.machine.specs.Lives.{HoldsDurable};
-ghost use Rattle.keeper.specs.Keeping.{Holds};
+ghost use Rattle.keeper.specs.Keeping.{Holds, IsDurableIn};
 
-use crate::keepers::Keeper;
+use crate::keepers::{Keeper, has_failed};
 use disk::Disk;
+use pages::MOST_COMMANDS;
 use roadnet::Refusal;
 use std::snapshot::Snapshot;
-
-/// How many commands a page of the journal holds at most.
-const MOST_OF_PAGE: usize = 253;
 
 impl<D: Disk> Keeper<D> {
     /// For what a flush would be refused, memory and the disk apart.
     fn may_flush(&self) -> Result<(), Refusal>
         ensures { MatchResult result (λ _. refusal_of_flush self.now.machine ≡ None) (λ refusal. refusal_of_flush self.now.machine ≡ Some refusal) }
     {
-        if !self.store.calm() {
+        if self.broken {
             return Err(Refusal::Broken);
         }
         if self.opened + self.history.len() as u64 <= self.store.version() {
@@ -43,11 +40,13 @@ impl<D: Disk> Keeper<D> {
     pub fn flush(&mut self) -> Result<u64, Refusal>
         ensures step { Flushes self.old.machine result self.new.machine }
         ensures same { IfErr result (λ refusal. refusal ≢ device → self.new ≡ self.old) }
+        // The count of failures rises by one where 43 is told, and else not at all: none is passed over.
+        ensures counted { D.failures self.new.disk ≡ failures_told result (D.failures self.old.disk) }
         ensures failed { IfErr result (λ refusal. refusal ≡ device → Rose (D.failures self.old.disk) (D.failures self.new.disk)) }
         ensures width { self.new.width ≡ self.old.width }
         ensures adds_nothing { self.old.machine.broken ≡ true → AddsNothing D.moment D.left_since self.old.disk self.new.disk }
         // A stop at any moment of the call leaves what a flush that failed leaves.
-        ensures any_moment { self.old.machine.broken ≡ false → D.honest self.old.disk → Holds (D.content self.old.disk) (D.left self.old.disk) self.old.machine self.old.standing → LeavesOnly D.moment D.left_since self.old.disk self.new.disk (HoldsDurable StandsTidyFor (failed self.old.machine (batch self.old.machine))) }
+        ensures any_moment { self.old.machine.broken ≡ false → D.honest self.old.disk → Holds (D.content self.old.disk) (D.left self.old.disk) self.old.machine self.old.standing → LeavesOnly D.moment D.left_since self.old.disk self.new.disk (IsDurableIn (failed self.old.machine (batch self.old.machine))) }
         ensures holds { D.honest self.old.disk → Holds (D.content self.old.disk) (D.left self.old.disk) self.old.machine self.old.standing → Holds (D.content self.new.disk) (D.left self.new.disk) self.new.machine self.new.standing }
         ensures honest { D.honest self.new.disk ↔ D.honest self.old.disk }
     {
@@ -55,8 +54,10 @@ impl<D: Disk> Keeper<D> {
             return Err(refusal);
         }
         let first = (self.store.version() - self.opened) as usize;
-        let count = (self.history.len() - first).min(MOST_OF_PAGE);
+        let count = (self.history.len() - first).min(MOST_COMMANDS);
         self.written = Snapshot::of(&count);
-        self.store.commit(&self.history[first..first + count])
+        let written = self.store.commit(&self.history[first..first + count]);
+        self.broken = has_failed(&written);
+        written
     }
 }

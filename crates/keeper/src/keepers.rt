@@ -1,6 +1,10 @@
+ghost use Rattle.std.specs.Prelude.{◌≡◌, Err};
+ghost use Rattle.std.specs.Bool.{Decides};
+ghost use Rattle.roadnet.specs.declared.refusals.Refusal.TheVariants.{Device as device};
+
 use crate::tasks::Task;
 use disk::Disk;
-use roadnet::{Command, Network};
+use roadnet::{Command, Network, Refusal};
 use rows::{RowCache, View};
 use std::alloc::Global;
 use std::marker::Model;
@@ -25,58 +29,34 @@ pub struct Keeper<D: Disk> {
     pub(crate) view: Arc<View>,
     pub(crate) cache: RowCache,
     pub(crate) task: Option<Task>,
+    /// A write failed: the store takes no more of them before it is opened again.
+    pub(crate) broken: bool,
     /// How many commands the last write had: where it failed, they are in flight.
     pub(crate) written: Snapshot<usize>,
 }
 
 impl<D: Disk> Model for Keeper<D> {
-    ghost use Rattle.std.specs.Prelude.{◌≡◌, None, if◌then◌else◌, option_map};
-    ghost use Rattle.pages.specs.Layout.{word_pages};
+    ghost use Rattle.std.specs.Prelude.{◌≡◌, option_map};
+    ghost use Rattle.store.specs.Durable.{told_by};
     ghost use Rattle.machine.specs.Keeping.{IsKept};
-    ghost use Rattle.keeper.specs.Keeping.{Keeping};
+    ghost use Rattle.keeper.specs.Keeping.{Keeping, machine_of};
 
     ghost Value = { Keeping D };
 
     ghost view = { λ k. record {
-      machine = record {
-        sizes = record { journal_pages = k.store.header.journal_pages; slot_pages = word_pages k.store.header };
-        base = k.base.value;
-        base_version = k.opened;
-        accepted = k.history.items;
-        durable = k.store.version;
-        shown = k.view.value.version;
-        opened = k.opened;
-        unchecked = k.store.unchecked;
-        in_flight = (if k.store.broken then k.written.value else 0);
-        broken = k.store.broken;
-        task = option_map (λ t. t.version) k.task;
-        checkpoint = None;
-      };
+      machine = machine_of k.store k.base.value k.opened k.history.items k.view.value.version k.broken k.written.value (option_map (λ t. t.version) k.task);
       disk = k.store.disk;
-      standing = record {
-        header = k.store.header;
-        slot = k.store.slot;
-        epoch = k.store.epoch;
-        network = k.store.network;
-        version = k.store.version;
-        next = k.store.next_sequence;
-        unchecked = k.store.unchecked;
-      };
+      standing = told_by k.store;
       width = k.view.value.delta;
     } };
 
-    ghost invariant = { λ k. IsKept (record {
-      sizes = record { journal_pages = k.store.header.journal_pages; slot_pages = word_pages k.store.header };
-      base = k.base.value;
-      base_version = k.opened;
-      accepted = k.history.items;
-      durable = k.store.version;
-      shown = k.view.value.version;
-      opened = k.opened;
-      unchecked = k.store.unchecked;
-      in_flight = (if k.store.broken then k.written.value else 0);
-      broken = k.store.broken;
-      task = option_map (λ t. t.version) k.task;
-      checkpoint = None;
-    }) k.network k.store.network k.view.value.network (option_map (λ t. (t.version, t.network.value)) k.task) };
+    ghost invariant = { λ k. IsKept (machine_of k.store k.base.value k.opened k.history.items k.view.value.version k.broken k.written.value (option_map (λ t. t.version) k.task)) k.network k.store.network k.view.value.network (option_map (λ t. (t.version, t.network.value)) k.task)
+        × (k.broken ≡ k.store.broken) };
+}
+
+/// Whether the disk failed in a write that told this.
+pub(crate) fn has_failed(written: &Result<u64, Refusal>) -> bool
+    ensures { Decides result (written.now ≡ Err device) }
+{
+    matches!(written, Err(Refusal::Device))
 }

@@ -15,6 +15,7 @@ mod submitting;
 mod tasks;
 
 pub use keepers::Keeper;
+pub use machine::{Answer, Event, Receipt, Replied, Ticket, Writing};
 pub use rehearsing::{Rehearsal, rehearse};
 pub use tasks::Task;
 

@@ -1,32 +1,31 @@
 // One life of a keeper in a rehearsal: what each event of a script does in it.
-ghost use Rattle.std.specs.Prelude.{◌≡◌, ◌≤◌, ◌∷◌, [], false, None, Some, length, option_map, unwrap_or, IfOk, IfErr};
+ghost use Rattle.std.specs.Prelude.{◌≡◌, ◌≤◌, ◌∷◌, [], false, None, Some, length, option_map, unwrap_or, ℕ, IfOk, IfErr, IfSome};
 ghost use Rattle.std.specs.Option.{ForSome};
 ghost use Rattle.disk.specs.Stop.{armed_at};
 ghost use Rattle.disk.specs.declared.stoppable.Pick.{Pick as StopPick};
-ghost use Rattle.pages.specs.Layout.{word_pages};
+ghost use Rattle.pagereader.specs.Outcomes.{failures_told};
 ghost use Rattle.rows.specs.Kept.{IsWidth};
 ghost use Rattle.snapshot.specs.Groups.{default_width};
 ghost use Rattle.store.specs.Committing.{StandsTidily};
 ghost use Rattle.store.specs.Durable.{told_by};
 ghost use Rattle.machine.specs.declared.events.Event.TheVariants.{Submit, Task as TaskEvent, Publish, Ask};
+ghost use Rattle.machine.specs.declared.events.Replied.TheVariants.{Task as TaskOf};
 ghost use Rattle.machine.specs.Machine.{start};
 ghost use Rattle.machine.specs.Lives.{told_version, EndsCheckpoint, Writes, Does};
-ghost use Rattle.keeper.specs.Keeping.{Holds};
+ghost use Rattle.keeper.specs.Failures.{failures_after};
+ghost use Rattle.keeper.specs.Keeping.{Holds, sizes_of};
 ghost use Rattle.keeper.specs.Rehearsing.{is_stop, IsLife};
 
 use crate::keepers::Keeper;
 use crate::tasks::Task;
 use disk::{Pick, Stoppable};
-use machine::{Event, Replied, Writing};
+use machine::{Event, PAGES_OF_STEP, Replied, Writing};
 use relax::Solo;
 use roadnet::{Command, OutOfMemory, Refusal};
 use rows::{Query, View};
 use std::alloc::Global;
 use std::sync::Arc;
 use store::{Part, Store};
-
-/// How many pages each step of a checkpoint has.
-const PAGES_OF_STEP: u32 = 64;
 
 /// A keeper from an opening of its store to the next stop, and the view that is kept aside.
 #[derive(Drop)]
@@ -76,7 +75,7 @@ impl<D: Stoppable> Life<D> {
     ) -> Result<Life<D>, Store<D>>
         requires calm { store.broken ≡ false }
         requires width { ForSome delta IsWidth }
-        ensures begins { IfOk result (λ life. life.keeper.machine ≡ start (record { journal_pages = store.header.journal_pages; slot_pages = word_pages store.header }) store.network store.version store.unchecked) }
+        ensures begins { IfOk result (λ life. life.keeper.machine ≡ start (sizes_of store.header) store.network store.version store.unchecked) }
         ensures life { IfOk result (λ life. IsLife life.keeper.machine life.opened (option_map (λ view. (view.value.version, view.value.network)) life.aside)) }
         ensures disk { IfOk result (λ life. life.keeper.disk ≡ store.disk) }
         ensures holds { D.honest store.disk → StandsTidily (D.content store.disk) (told_by store) → IfOk result (λ life. Holds (D.content life.keeper.disk) (D.left life.keeper.disk) life.keeper.machine life.keeper.standing) }
@@ -108,6 +107,7 @@ impl<D: Stoppable> Life<D> {
         ensures life { IsLife self.new.keeper.machine self.new.opened (option_map (λ view. (view.value.version, view.value.network)) self.new.aside) }
         ensures holds { D.honest self.old.keeper.disk → Holds (D.content self.old.keeper.disk) (D.left self.old.keeper.disk) self.old.keeper.machine self.old.keeper.standing → Holds (D.content self.new.keeper.disk) (D.left self.new.keeper.disk) self.new.keeper.machine self.new.keeper.standing }
         ensures honest { D.honest self.old.keeper.disk → D.honest self.new.keeper.disk }
+        ensures failures { D.failures self.new.keeper.disk ≡ D.failures self.old.keeper.disk }
     {
         match self.keeper.submit(command) {
             Ok(ticket) => Replied::Accepted {
@@ -124,6 +124,7 @@ impl<D: Stoppable> Life<D> {
         ensures life { IsLife self.new.keeper.machine self.new.opened (option_map (λ view. (view.value.version, view.value.network)) self.new.aside) }
         ensures holds { D.honest self.old.keeper.disk → Holds (D.content self.old.keeper.disk) (D.left self.old.keeper.disk) self.old.keeper.machine self.old.keeper.standing → Holds (D.content self.new.keeper.disk) (D.left self.new.keeper.disk) self.new.keeper.machine self.new.keeper.standing }
         ensures honest { D.honest self.old.keeper.disk → D.honest self.new.keeper.disk }
+        ensures counted { D.failures self.new.keeper.disk ≡ failures_told result (D.failures self.old.keeper.disk) }
     {
         match writing {
             Writing::Flush => self.keeper.flush(),
@@ -138,6 +139,7 @@ impl<D: Stoppable> Life<D> {
         ensures life { IsLife self.new.keeper.machine self.new.opened (option_map (λ view. (view.value.version, view.value.network)) self.new.aside) }
         ensures holds { D.honest self.old.keeper.disk → Holds (D.content self.old.keeper.disk) (D.left self.old.keeper.disk) self.old.keeper.machine self.old.keeper.standing → Holds (D.content self.new.keeper.disk) (D.left self.new.keeper.disk) self.new.keeper.machine self.new.keeper.standing }
         ensures honest { D.honest self.old.keeper.disk → D.honest self.new.keeper.disk }
+        ensures counted { D.failures self.new.keeper.disk ≡ failures_told result (D.failures self.old.keeper.disk) }
     {
         match self.keeper.checkpoint_step(PAGES_OF_STEP) {
             Ok(Part::Done(version)) => Ok(version),
@@ -152,8 +154,10 @@ impl<D: Stoppable> Life<D> {
         requires width { ForSome delta IsWidth }
         ensures does { Does {P = StopPick} self.old.keeper.machine TaskEvent (result ∷ []) self.new.keeper.machine }
         ensures life { IsLife self.new.keeper.machine self.new.opened (option_map (λ view. (view.value.version, view.value.network)) self.new.aside) }
+        ensures width { (version width : ℕ) → result ≡ TaskOf version → delta ≡ Some width → IfSome self.new.aside (λ view. view.value.delta ≡ width) }
         ensures holds { D.honest self.old.keeper.disk → Holds (D.content self.old.keeper.disk) (D.left self.old.keeper.disk) self.old.keeper.machine self.old.keeper.standing → Holds (D.content self.new.keeper.disk) (D.left self.new.keeper.disk) self.new.keeper.machine self.new.keeper.standing }
         ensures honest { D.honest self.old.keeper.disk → D.honest self.new.keeper.disk }
+        ensures failures { D.failures self.new.keeper.disk ≡ D.failures self.old.keeper.disk }
     {
         let task = match self.keeper.take_task() {
             Ok(Some(task)) => task,
@@ -190,6 +194,7 @@ impl<D: Stoppable> Life<D> {
         ensures life { IsLife self.new.keeper.machine self.new.opened (option_map (λ view. (view.value.version, view.value.network)) self.new.aside) }
         ensures holds { D.honest self.old.keeper.disk → Holds (D.content self.old.keeper.disk) (D.left self.old.keeper.disk) self.old.keeper.machine self.old.keeper.standing → Holds (D.content self.new.keeper.disk) (D.left self.new.keeper.disk) self.new.keeper.machine self.new.keeper.standing }
         ensures honest { D.honest self.old.keeper.disk → D.honest self.new.keeper.disk }
+        ensures failures { D.failures self.new.keeper.disk ≡ D.failures self.old.keeper.disk }
     {
         let Some(view) = self.aside.take() else {
             return Replied::Refused {
@@ -209,6 +214,7 @@ impl<D: Stoppable> Life<D> {
         ensures life { IsLife self.new.keeper.machine self.new.opened (option_map (λ view. (view.value.version, view.value.network)) self.new.aside) }
         ensures holds { D.honest self.old.keeper.disk → Holds (D.content self.old.keeper.disk) (D.left self.old.keeper.disk) self.old.keeper.machine self.old.keeper.standing → Holds (D.content self.new.keeper.disk) (D.left self.new.keeper.disk) self.new.keeper.machine self.new.keeper.standing }
         ensures honest { D.honest self.old.keeper.disk → D.honest self.new.keeper.disk }
+        ensures failures { D.failures self.new.keeper.disk ≡ D.failures self.old.keeper.disk }
     {
         match self.keeper.ask(query) {
             Ok(answer) => Replied::Answered { query, answer },
@@ -227,6 +233,7 @@ impl<D: Stoppable> Life<D> {
         ensures aside { self.new.aside ≡ self.old.aside }
         ensures holds { Holds (D.content self.old.keeper.disk) (D.left self.old.keeper.disk) self.old.keeper.machine self.old.keeper.standing → Holds (D.content self.new.keeper.disk) (D.left self.new.keeper.disk) self.new.keeper.machine self.new.keeper.standing }
         ensures honest { D.honest self.old.keeper.disk → D.honest self.new.keeper.disk }
+        ensures failures { D.failures self.new.keeper.disk ≡ D.failures self.old.keeper.disk }
     {
         if call > 0 {
             self.keeper.arm(call);
@@ -247,6 +254,7 @@ impl<D: Stoppable> Life<D> {
         ensures life { IsLife self.new.keeper.machine self.new.opened (option_map (λ view. (view.value.version, view.value.network)) self.new.aside) }
         ensures holds { D.honest self.old.keeper.disk → Holds (D.content self.old.keeper.disk) (D.left self.old.keeper.disk) self.old.keeper.machine self.old.keeper.standing → Holds (D.content self.new.keeper.disk) (D.left self.new.keeper.disk) self.new.keeper.machine self.new.keeper.standing }
         ensures honest { D.honest self.old.keeper.disk → D.honest self.new.keeper.disk }
+        ensures counted { D.failures self.new.keeper.disk ≡ failures_after event.now (result ∷ []) (D.failures self.old.keeper.disk) }
     {
         match event {
             Event::Submit { command } => self.submit(*command),

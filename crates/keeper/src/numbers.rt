@@ -1,12 +1,14 @@
 // What a keeper tells of itself: numbers of its machine, and receipts. None of these takes memory.
-ghost use Rattle.std.specs.Prelude.{◌≡◌};
-ghost use Rattle.machine.specs.Machine.{pending};
+ghost use Rattle.std.specs.Prelude.{◌≡◌, Some};
+ghost use Rattle.machine.specs.Machine.{network_at, pending};
 ghost use Rattle.machine.specs.Calls.{IsTicketOf, receipt_for};
 
 use crate::keepers::Keeper;
 use disk::Disk;
 use machine::{Receipt, Ticket};
-use roadnet::Refusal;
+use roadnet::{Command, Refusal};
+use rows::View;
+use std::sync::Arc;
 
 impl<D: Disk> Keeper<D> {
     /// How many accepted commands are not durable: at most 4,096.
@@ -28,6 +30,29 @@ impl<D: Disk> Keeper<D> {
         ensures { result ≡ self.now.machine.shown }
     {
         self.view.version()
+    }
+
+    /// Whether a write failed: nothing is written before the store is opened again.
+    pub fn broken(&self) -> bool
+        ensures { result ≡ self.now.machine.broken }
+    {
+        self.broken
+    }
+
+    /// The view that answers are given from: it is of the shown version and of the network at it.
+    pub fn view(&self) -> &Arc<View>
+        ensures version { result.now.value.version ≡ self.now.machine.shown }
+        ensures network { network_at self.now.machine self.now.machine.shown ≡ Some result.now.value.network }
+        ensures width { result.now.value.delta ≡ self.now.width }
+    {
+        &self.view
+    }
+
+    /// The commands accepted in this life, in order.
+    pub fn commands(&self) -> &[Command]
+        ensures { result.now ≡ self.now.machine.accepted }
+    {
+        &self.history
     }
 
     /// How many pages of the journal no checkpoint has made needless.
@@ -57,7 +82,7 @@ impl<D: Disk> Keeper<D> {
                 command: ticket.command,
             });
         }
-        if !self.store.calm() {
+        if self.broken {
             return Err(Refusal::Broken);
         }
         Err(Refusal::NotYet)

@@ -1,12 +1,12 @@
 // A script's events over lives with stops.
-ghost use Rattle.std.specs.Prelude.{◌≡◌, ◌+◌, ◌<◌, ◌≤◌, ◌∷◌, ◌++◌, [], ℕ, Bool, true, false, List, Option, None, Some, Result, Err, length, take, option_map, ◌-◌, ◌⊎◌, ◌↔◌, IsTrue, IfOk, IfErr, OnOk, OnErr};
+ghost use Rattle.std.specs.Prelude.{◌≡◌, ◌+◌, ◌<◌, ◌≤◌, ◌∷◌, ◌++◌, [], ℕ, Bool, true, false, List, Option, None, Some, Result, Err, length, take, option_map, ◌-◌, ◌⊎◌, ◌↔◌, IsTrue, IfOk, IfErr, OnOk, MatchResult};
 ghost use Rattle.std.specs.Option.{ForSome};
 ghost use Rattle.std.specs.Vec.{vec_len, vec_capacity};
 ghost use Rattle.disk.specs.Contents.{Only, AreAmong};
 ghost use Rattle.disk.specs.Stop.{TakesPicks};
 ghost use Rattle.disk.specs.declared.stoppable.Pick.{Pick as StopPick};
 ghost use Rattle.disk.specs.declared.stoppable.Pick.TheVariants.{Old};
-ghost use Rattle.pages.specs.Layout.{word_pages};
+ghost use Rattle.pagereader.specs.Outcomes.{failures_with};
 ghost use Rattle.rows.specs.Kept.{IsWidth};
 ghost use Rattle.roadnet.specs.declared.refusals.Refusal.TheVariants.{OutOfMemory as out_of_memory, Device as device};
 ghost use Rattle.storefile.specs.StoreFile.{StandsTidyFor};
@@ -17,9 +17,10 @@ ghost use Rattle.machine.specs.declared.events.Event.{Event as ScriptEvent};
 ghost use Rattle.machine.specs.declared.events.Event.TheVariants.{Stop};
 ghost use Rattle.machine.specs.declared.events.Replied.TheVariants.{Opened, Stopped};
 ghost use Rattle.machine.specs.Machine.{Machine, IsState, commands_to};
-ghost use Rattle.machine.specs.Lives.{told_version, HoldsDurable, LivesOn};
-ghost use Rattle.keeper.specs.Keeping.{Holds};
-ghost use Rattle.keeper.specs.Rehearsing.{within_of, IsLife, HasSlotOfNetwork, First, HasRun, HasHalted, BeginsAfter};
+ghost use Rattle.machine.specs.Lives.{told_version, LivesOn};
+ghost use Rattle.keeper.specs.Failures.{failures_at_end, FailsAsTold, EndsAsTold};
+ghost use Rattle.keeper.specs.Keeping.{Holds, IsDurableIn, sizes_of};
+ghost use Rattle.keeper.specs.Rehearsing.{within_of, IsLife, HasSlotOfNetwork, First, IsGoing, HasLived, HasHalted, BeginsAfter};
 
 use crate::lives::{Life, told_version};
 use disk::{Disk, Pick, Stoppable};
@@ -66,7 +67,6 @@ struct Halted<D: Stoppable> {
     /// The version that it was opened at, and the one that was durable.
     opened: u64,
     durable: u64,
-    journal_pages: u32,
     disk: D,
 }
 
@@ -83,6 +83,7 @@ fn stop_disk<D: Stoppable>(disk: &mut D, picks: &[Pick]) -> bool
     ensures left { D.honest disk.old → D.left disk.old (D.content disk.new) }
     ensures only { D.honest disk.old → Only (D.content disk.new) (D.left disk.new) }
     ensures honest { D.honest disk.old → D.honest disk.new }
+    ensures failures { D.failures disk.new ≡ D.failures disk.old }
     ensures came { IsTrue result ↔ (D.armed disk.old ≡ Some 0) }
     ensures picks { D.honest disk.old → 1 ≤ length picks.now → TakesPicks picks.now (D.synced disk.old) (D.is_unsynced disk.old) (D.content disk.old) (D.content disk.new) }
     ensures no_picks { D.honest disk.old → picks.now ≡ [] → TakesPicks (Old ∷ []) (D.synced disk.old) (D.is_unsynced disk.old) (D.content disk.old) (D.content disk.new) }
@@ -111,29 +112,22 @@ fn tell_write(replies: &mut Vec<Replied>, came: bool, written: &Result<u64, Refu
 
 /// Opens the store that was stopped on this disk, and begins a life with it. The disk is handed back where the store isn't opened, or its
 /// first view not built.
-fn reopen<D: Stoppable>(
-    alloc: Global,
-    disk: D,
-    delta: Option<u32>,
-    journal_pages: u32,
-) -> Result<Life<D>, (Refusal, D)>
+fn reopen<D: Stoppable>(alloc: Global, disk: D, delta: Option<u32>) -> Result<Life<D>, (Refusal, D)>
     requires width { ForSome delta IsWidth }
-    ensures begins { (m : Machine) → IsState m → HasSlotOfNetwork m → journal_pages ≡ m.sizes.journal_pages → D.honest disk → HoldsDurable StandsTidyFor m (D.content disk) → IfOk result (λ life. BeginsAfter m life.keeper.machine) }
-    ensures holds { (m : Machine) → IsState m → HasSlotOfNetwork m → journal_pages ≡ m.sizes.journal_pages → D.honest disk → HoldsDurable StandsTidyFor m (D.content disk) → IfOk result (λ life. Holds (D.content life.keeper.disk) (D.left life.keeper.disk) life.keeper.machine life.keeper.standing) }
+    ensures begins { (m : Machine) → IsState m → HasSlotOfNetwork m → D.honest disk → IsDurableIn m (D.content disk) → IfOk result (λ life. BeginsAfter m life.keeper.machine) }
+    ensures holds { (m : Machine) → IsState m → HasSlotOfNetwork m → D.honest disk → IsDurableIn m (D.content disk) → IfOk result (λ life. Holds (D.content life.keeper.disk) (D.left life.keeper.disk) life.keeper.machine life.keeper.standing) }
     ensures life { IfOk result (λ life. IsLife life.keeper.machine life.opened (option_map (λ view. (view.value.version, view.value.network)) life.aside)) }
     ensures empty { IfOk result (λ life. life.keeper.machine.accepted ≡ []) }
     ensures honest { D.honest disk → IfOk result (λ life. D.honest life.keeper.disk) }
     ensures passing { D.honest disk → ((c : List ℕ) → D.left disk c → StandsForSome c) → IfErr result (λ refused. IsPassing refused.0) }
     ensures among { D.honest disk → IfErr result (λ refused. AreAmong (D.left refused.1) (D.left disk)) }
+    // The count of failures rises by one where 43 is told, and else not at all.
+    ensures counted { MatchResult result (λ life. D.failures life.keeper.disk ≡ D.failures disk) (λ refused. D.failures refused.1 ≡ failures_with refused.0 (D.failures disk)) }
 {
     let store = match open(alloc, disk) {
         Ok(store) => store,
         Err(refused) => return Err(refused),
     };
-    // A disk that keeps the disk model leaves the sizes.
-    if store.journal_pages() != journal_pages {
-        return Err((Refusal::Device, store.close()));
-    }
     match Life::begin(alloc, store, delta) {
         Ok(life) => Ok(life),
         Err(store) => Err((Refusal::OutOfMemory, store.close())),
@@ -148,15 +142,16 @@ impl<D: Stoppable> Halted<D> {
         requires durable { self.durable ≤ self.opened + vec_len self.commands }
         requires room { vec_len self.history + vec_len self.commands ≤ vec_capacity self.history }
         requires reply { vec_len self.replies < vec_capacity self.replies }
-        ensures begins { (m : Machine) → HasSlotOfNetwork m → D.honest self.disk → HasHalted m self.commands.items self.opened self.durable self.journal_pages (D.content self.disk) (D.left self.disk) → IfOk result (λ run. BeginsAfter m run.life.keeper.machine) }
-        ensures history { (m : Machine) → HasSlotOfNetwork m → D.honest self.disk → HasHalted m self.commands.items self.opened self.durable self.journal_pages (D.content self.disk) (D.left self.disk) → IfOk result (λ run. run.history.items ≡ self.history.items ++ commands_to m run.life.keeper.machine.base_version) }
-        ensures holds { (m : Machine) → HasSlotOfNetwork m → D.honest self.disk → HasHalted m self.commands.items self.opened self.durable self.journal_pages (D.content self.disk) (D.left self.disk) → IfOk result (λ run. Holds (D.content run.life.keeper.disk) (D.left run.life.keeper.disk) run.life.keeper.machine run.life.keeper.standing) }
+        ensures begins { (m : Machine) → HasSlotOfNetwork m → D.honest self.disk → HasHalted m self.commands.items self.opened self.durable (D.content self.disk) (D.left self.disk) → IfOk result (λ run. BeginsAfter m run.life.keeper.machine) }
+        ensures history { (m : Machine) → HasSlotOfNetwork m → D.honest self.disk → HasHalted m self.commands.items self.opened self.durable (D.content self.disk) (D.left self.disk) → IfOk result (λ run. run.history.items ≡ self.history.items ++ commands_to m run.life.keeper.machine.base_version) }
+        ensures holds { (m : Machine) → HasSlotOfNetwork m → D.honest self.disk → HasHalted m self.commands.items self.opened self.durable (D.content self.disk) (D.left self.disk) → IfOk result (λ run. Holds (D.content run.life.keeper.disk) (D.left run.life.keeper.disk) run.life.keeper.machine run.life.keeper.standing) }
         ensures told { IfOk result (λ run. run.replies.items ≡ self.replies.items ++ Opened run.life.keeper.machine.base_version ∷ []) }
         ensures life { IfOk result (λ run. IsLife run.life.keeper.machine run.life.opened (option_map (λ view. (view.value.version, view.value.network)) run.life.aside)) }
         ensures room { IfOk result (λ run. vec_len run.history + length run.life.keeper.machine.accepted ≤ vec_capacity run.history) }
         ensures honest { D.honest self.disk → IfOk result (λ run. D.honest run.life.keeper.disk) }
-        ensures ended { (m : Machine) → D.honest self.disk → HasHalted m self.commands.items self.opened self.durable self.journal_pages (D.content self.disk) (D.left self.disk) → IfErr result (λ ended. (ended.ended ≡ Some out_of_memory) ⊎ (ended.ended ≡ Some device)) }
-        ensures left { (m : Machine) → D.honest self.disk → HasHalted m self.commands.items self.opened self.durable self.journal_pages (D.content self.disk) (D.left self.disk) → IfErr result (λ ended. (c : List ℕ) → D.left ended.disk c → HoldsDurable StandsTidyFor m c) }
+        ensures ended { (m : Machine) → D.honest self.disk → HasHalted m self.commands.items self.opened self.durable (D.content self.disk) (D.left self.disk) → IfErr result (λ ended. (ended.ended ≡ Some out_of_memory) ⊎ (ended.ended ≡ Some device)) }
+        ensures left { (m : Machine) → D.honest self.disk → HasHalted m self.commands.items self.opened self.durable (D.content self.disk) (D.left self.disk) → IfErr result (λ ended. (c : List ℕ) → D.left ended.disk c → IsDurableIn m c) }
+        ensures counted { MatchResult result (λ run. D.failures run.life.keeper.disk ≡ D.failures self.disk) (λ ended. D.failures ended.disk ≡ failures_at_end ended.ended (D.failures self.disk)) }
         ensures stopped { IfErr result (λ ended. ended.replies.items ≡ self.replies.items ++ Stopped ∷ []) }
         ensures durable { IfErr result (λ ended. ended.history.items ≡ self.history.items ++ take (self.durable - self.opened) self.commands.items) }
     {
@@ -166,10 +161,9 @@ impl<D: Stoppable> Halted<D> {
             commands,
             opened,
             durable,
-            journal_pages,
             disk,
         } = self;
-        match reopen(alloc, disk, delta, journal_pages) {
+        match reopen(alloc, disk, delta) {
             Ok(life) => {
                 let kept = (life.opened.saturating_sub(opened) as usize).min(commands.len());
                 put_behind(&mut history, &commands[..kept]);
@@ -226,8 +220,9 @@ impl<D: Stoppable> Run<D> {
         ensures commands { result.0.commands.items ≡ self.life.keeper.machine.accepted }
         ensures opened { result.0.opened ≡ self.life.keeper.machine.base_version }
         ensures durable { result.0.durable ≡ self.life.keeper.machine.durable }
-        ensures halted { D.honest self.life.keeper.disk → Holds (D.content self.life.keeper.disk) (D.left self.life.keeper.disk) self.life.keeper.machine self.life.keeper.standing → HasHalted self.life.keeper.machine result.0.commands.items result.0.opened result.0.durable result.0.journal_pages (D.content result.0.disk) (D.left result.0.disk) }
+        ensures halted { D.honest self.life.keeper.disk → Holds (D.content self.life.keeper.disk) (D.left self.life.keeper.disk) self.life.keeper.machine self.life.keeper.standing → HasHalted self.life.keeper.machine result.0.commands.items result.0.opened result.0.durable (D.content result.0.disk) (D.left result.0.disk) }
         ensures honest { D.honest self.life.keeper.disk → D.honest result.0.disk }
+        ensures failures { D.failures result.0.disk ≡ D.failures self.life.keeper.disk }
         ensures came { IsTrue result.1 ↔ (D.armed self.life.keeper.disk ≡ Some 0) }
         ensures picks { D.honest self.life.keeper.disk → 1 ≤ length picks.now → TakesPicks picks.now (D.synced self.life.keeper.disk) (D.is_unsynced self.life.keeper.disk) (D.content self.life.keeper.disk) (D.content result.0.disk) }
     {
@@ -238,7 +233,6 @@ impl<D: Stoppable> Run<D> {
         } = self;
         let Life { keeper, opened, .. } = life;
         let durable = keeper.durable();
-        let journal_pages = keeper.journal_pages();
         let (commands, mut disk) = keeper.close();
         let came = stop_disk(&mut disk, picks);
         let halted = Halted {
@@ -247,7 +241,6 @@ impl<D: Stoppable> Run<D> {
             commands,
             opened,
             durable,
-            journal_pages,
             disk,
         };
         (halted, came)
@@ -262,11 +255,11 @@ impl<D: Stoppable> Run<D> {
         ensures life { IfOk result (λ run. IsLife run.life.keeper.machine run.life.opened (option_map (λ view. (view.value.version, view.value.network)) run.life.aside)) }
         ensures room { IfOk result (λ run. vec_len run.history + length run.life.keeper.machine.accepted ≤ vec_capacity run.history) }
         // It has run this event too.
-        ensures goes { (first : First) (done : List (ScriptEvent StopPick)) → D.honest self.life.keeper.disk → Holds (D.content self.life.keeper.disk) (D.left self.life.keeper.disk) self.life.keeper.machine self.life.keeper.standing → HasRun first done self.replies.items self.history.items self.life.keeper.machine → IfOk result (λ run. HasRun first (done ++ Stop ∷ []) run.replies.items run.history.items run.life.keeper.machine) }
-        ensures holds { (first : First) (done : List (ScriptEvent StopPick)) → D.honest self.life.keeper.disk → Holds (D.content self.life.keeper.disk) (D.left self.life.keeper.disk) self.life.keeper.machine self.life.keeper.standing → HasRun first done self.replies.items self.history.items self.life.keeper.machine → IfOk result (λ run. Holds (D.content run.life.keeper.disk) (D.left run.life.keeper.disk) run.life.keeper.machine run.life.keeper.standing) }
-        ensures honest { (first : First) (done : List (ScriptEvent StopPick)) → D.honest self.life.keeper.disk → Holds (D.content self.life.keeper.disk) (D.left self.life.keeper.disk) self.life.keeper.machine self.life.keeper.standing → HasRun first done self.replies.items self.history.items self.life.keeper.machine → IfOk result (λ run. D.honest run.life.keeper.disk) }
+        ensures goes { (first : First) (done : List (ScriptEvent StopPick)) → IsGoing D.honest D.content D.left first done self.replies.items self.history.items self.life.keeper → IfOk result (λ run. IsGoing D.honest D.content D.left first (done ++ Stop ∷ []) run.replies.items run.history.items run.life.keeper) }
         // It has ended with the event.
-        ensures ends { (first : First) (done : List (ScriptEvent StopPick)) → D.honest self.life.keeper.disk → Holds (D.content self.life.keeper.disk) (D.left self.life.keeper.disk) self.life.keeper.machine self.life.keeper.standing → HasRun first done self.replies.items self.history.items self.life.keeper.machine → (rest : List (ScriptEvent StopPick)) → IfErr result (λ ended. LivesOn StandsTidyFor (D.left ended.disk) first.sizes first.network first.version first.unchecked ((done ++ Stop ∷ []) ++ rest) ended.replies.items ended.ended ended.history.items) }
+        ensures ends { (first : First) (done : List (ScriptEvent StopPick)) → IsGoing D.honest D.content D.left first done self.replies.items self.history.items self.life.keeper → (rest : List (ScriptEvent StopPick)) → IfErr result (λ ended. HasLived (D.left ended.disk) first ((done ++ Stop ∷ []) ++ rest) ended.replies.items ended.ended ended.history.items) }
+        // The disk failed as the replies tell.
+        ensures counted { (before : ℕ) (done : List (ScriptEvent StopPick)) → FailsAsTold done self.replies.items before (D.failures self.life.keeper.disk) → MatchResult result (λ run. FailsAsTold (done ++ Stop ∷ []) run.replies.items before (D.failures run.life.keeper.disk)) (λ ended. (rest : List (ScriptEvent StopPick)) → EndsAsTold ((done ++ Stop ∷ []) ++ rest) ended.replies.items ended.ended before (D.failures ended.disk)) }
     {
         let (halted, _) = self.halt(&[Pick::Old]);
         halted.resume(alloc, delta)
@@ -288,11 +281,11 @@ impl<D: Stoppable> Run<D> {
         ensures life { IfOk result (λ run. IsLife run.life.keeper.machine run.life.opened (option_map (λ view. (view.value.version, view.value.network)) run.life.aside)) }
         ensures room { IfOk result (λ run. vec_len run.history + length run.life.keeper.machine.accepted ≤ vec_capacity run.history) }
         // It has run this event too.
-        ensures goes { (first : First) (done : List (ScriptEvent StopPick)) → D.honest self.life.keeper.disk → Holds (D.content self.life.keeper.disk) (D.left self.life.keeper.disk) self.life.keeper.machine self.life.keeper.standing → HasRun first done self.replies.items self.history.items self.life.keeper.machine → (event : ScriptEvent StopPick) → within_of event ≡ Some writing → IfOk result (λ run. HasRun first (done ++ event ∷ []) run.replies.items run.history.items run.life.keeper.machine) }
-        ensures holds { (first : First) (done : List (ScriptEvent StopPick)) → D.honest self.life.keeper.disk → Holds (D.content self.life.keeper.disk) (D.left self.life.keeper.disk) self.life.keeper.machine self.life.keeper.standing → HasRun first done self.replies.items self.history.items self.life.keeper.machine → IfOk result (λ run. Holds (D.content run.life.keeper.disk) (D.left run.life.keeper.disk) run.life.keeper.machine run.life.keeper.standing) }
-        ensures honest { (first : First) (done : List (ScriptEvent StopPick)) → D.honest self.life.keeper.disk → Holds (D.content self.life.keeper.disk) (D.left self.life.keeper.disk) self.life.keeper.machine self.life.keeper.standing → HasRun first done self.replies.items self.history.items self.life.keeper.machine → IfOk result (λ run. D.honest run.life.keeper.disk) }
+        ensures goes { (first : First) (done : List (ScriptEvent StopPick)) → IsGoing D.honest D.content D.left first done self.replies.items self.history.items self.life.keeper → (event : ScriptEvent StopPick) → within_of event ≡ Some writing → IfOk result (λ run. IsGoing D.honest D.content D.left first (done ++ event ∷ []) run.replies.items run.history.items run.life.keeper) }
         // It has ended with the event.
-        ensures ends { (first : First) (done : List (ScriptEvent StopPick)) → D.honest self.life.keeper.disk → Holds (D.content self.life.keeper.disk) (D.left self.life.keeper.disk) self.life.keeper.machine self.life.keeper.standing → HasRun first done self.replies.items self.history.items self.life.keeper.machine → (event : ScriptEvent StopPick) → within_of event ≡ Some writing → (rest : List (ScriptEvent StopPick)) → IfErr result (λ ended. LivesOn StandsTidyFor (D.left ended.disk) first.sizes first.network first.version first.unchecked ((done ++ event ∷ []) ++ rest) ended.replies.items ended.ended ended.history.items) }
+        ensures ends { (first : First) (done : List (ScriptEvent StopPick)) → IsGoing D.honest D.content D.left first done self.replies.items self.history.items self.life.keeper → (event : ScriptEvent StopPick) → within_of event ≡ Some writing → (rest : List (ScriptEvent StopPick)) → IfErr result (λ ended. HasLived (D.left ended.disk) first ((done ++ event ∷ []) ++ rest) ended.replies.items ended.ended ended.history.items) }
+        // The disk failed as the replies tell.
+        ensures counted { (before : ℕ) (done : List (ScriptEvent StopPick)) → (event : ScriptEvent StopPick) → within_of event ≡ Some writing → FailsAsTold done self.replies.items before (D.failures self.life.keeper.disk) → MatchResult result (λ run. FailsAsTold (done ++ event ∷ []) run.replies.items before (D.failures run.life.keeper.disk)) (λ ended. (rest : List (ScriptEvent StopPick)) → EndsAsTold ((done ++ event ∷ []) ++ rest) ended.replies.items ended.ended before (D.failures ended.disk)) }
     {
         let mut run = self;
         run.life.arm(call);
@@ -316,11 +309,11 @@ impl<D: Stoppable> Run<D> {
         ensures life { IfOk result (λ run. IsLife run.life.keeper.machine run.life.opened (option_map (λ view. (view.value.version, view.value.network)) run.life.aside)) }
         ensures room { IfOk result (λ run. vec_len run.history + length run.life.keeper.machine.accepted ≤ vec_capacity run.history) }
         // It has run this event too.
-        ensures goes { (first : First) (done : List (ScriptEvent StopPick)) → D.honest self.life.keeper.disk → Holds (D.content self.life.keeper.disk) (D.left self.life.keeper.disk) self.life.keeper.machine self.life.keeper.standing → HasRun first done self.replies.items self.history.items self.life.keeper.machine → IfOk result (λ run. HasRun first (done ++ event.now ∷ []) run.replies.items run.history.items run.life.keeper.machine) }
-        ensures holds { (first : First) (done : List (ScriptEvent StopPick)) → D.honest self.life.keeper.disk → Holds (D.content self.life.keeper.disk) (D.left self.life.keeper.disk) self.life.keeper.machine self.life.keeper.standing → HasRun first done self.replies.items self.history.items self.life.keeper.machine → IfOk result (λ run. Holds (D.content run.life.keeper.disk) (D.left run.life.keeper.disk) run.life.keeper.machine run.life.keeper.standing) }
-        ensures honest { (first : First) (done : List (ScriptEvent StopPick)) → D.honest self.life.keeper.disk → Holds (D.content self.life.keeper.disk) (D.left self.life.keeper.disk) self.life.keeper.machine self.life.keeper.standing → HasRun first done self.replies.items self.history.items self.life.keeper.machine → IfOk result (λ run. D.honest run.life.keeper.disk) }
+        ensures goes { (first : First) (done : List (ScriptEvent StopPick)) → IsGoing D.honest D.content D.left first done self.replies.items self.history.items self.life.keeper → IfOk result (λ run. IsGoing D.honest D.content D.left first (done ++ event.now ∷ []) run.replies.items run.history.items run.life.keeper) }
         // It has ended with the event.
-        ensures ends { (first : First) (done : List (ScriptEvent StopPick)) → D.honest self.life.keeper.disk → Holds (D.content self.life.keeper.disk) (D.left self.life.keeper.disk) self.life.keeper.machine self.life.keeper.standing → HasRun first done self.replies.items self.history.items self.life.keeper.machine → (rest : List (ScriptEvent StopPick)) → IfErr result (λ ended. LivesOn StandsTidyFor (D.left ended.disk) first.sizes first.network first.version first.unchecked ((done ++ event.now ∷ []) ++ rest) ended.replies.items ended.ended ended.history.items) }
+        ensures ends { (first : First) (done : List (ScriptEvent StopPick)) → IsGoing D.honest D.content D.left first done self.replies.items self.history.items self.life.keeper → (rest : List (ScriptEvent StopPick)) → IfErr result (λ ended. HasLived (D.left ended.disk) first ((done ++ event.now ∷ []) ++ rest) ended.replies.items ended.ended ended.history.items) }
+        // The disk failed as the replies tell.
+        ensures counted { (before : ℕ) (done : List (ScriptEvent StopPick)) → FailsAsTold done self.replies.items before (D.failures self.life.keeper.disk) → MatchResult result (λ run. FailsAsTold (done ++ event.now ∷ []) run.replies.items before (D.failures run.life.keeper.disk)) (λ ended. (rest : List (ScriptEvent StopPick)) → EndsAsTold ((done ++ event.now ∷ []) ++ rest) ended.replies.items ended.ended before (D.failures ended.disk)) }
     {
         match event {
             Event::Stop => self.stop(alloc, delta),
@@ -378,7 +371,10 @@ pub fn rehearse<D: Stoppable>(
     requires calm { store.broken ≡ false }
     requires width { ForSome delta IsWidth }
     // The run is one of the lives of the store's network and version, and a stop now leaves of the disk what its last state says.
-    ensures { D.honest store.disk → StandsTidily (D.content store.disk) (told_by store) → LivesOn StandsTidyFor (D.left result.disk) (record { journal_pages = store.header.journal_pages; slot_pages = word_pages store.header }) store.network store.version store.unchecked events.now result.replies.items result.ended result.history.items }
+    ensures lives { D.honest store.disk → StandsTidily (D.content store.disk) (told_by store) → LivesOn (StandsTidyFor store.header.journal_pages) (D.left result.disk) (sizes_of store.header) store.network store.version store.unchecked events.now result.replies.items result.ended result.history.items }
+    // Over any disk its count of failures rises by one for each failure that the replies tell, with 43 or by a stop that came within an event,
+    // and by one more where the run ended with 43, whose last stop left a disk that then failed. A stop leaves the count as it is.
+    ensures failed { EndsAsTold events.now result.replies.items result.ended (D.failures store.disk) (D.failures result.disk) }
 {
     let life = match Life::begin(alloc, store, delta) {
         Ok(life) => life,

@@ -2,13 +2,12 @@
 ghost use Rattle.std.specs.Prelude.{◌≡◌, ◌≤◌, ◌↔◌, List, ℕ, false, unwrap_or, IfOk, IfErr};
 ghost use Rattle.std.specs.Option.{ForSome};
 ghost use Rattle.disk.specs.Stop.{armed_at};
-ghost use Rattle.pages.specs.Layout.{word_pages};
 ghost use Rattle.rows.specs.Kept.{IsWidth};
 ghost use Rattle.snapshot.specs.Groups.{default_width};
 ghost use Rattle.store.specs.Committing.{StandsTidily};
 ghost use Rattle.store.specs.Durable.{told_by};
 ghost use Rattle.machine.specs.Machine.{start};
-ghost use Rattle.keeper.specs.Keeping.{Holds};
+ghost use Rattle.keeper.specs.Keeping.{Holds, sizes_of};
 
 use crate::keepers::Keeper;
 use disk::{Disk, Stoppable};
@@ -60,7 +59,7 @@ impl<D: Disk> Keeper<D> {
     ) -> Result<Keeper<D>, (OutOfMemory, Store<D>)>
         requires calm { store.broken ≡ false }
         requires width { ForSome delta IsWidth }
-        ensures begins { IfOk result (λ keeper. keeper.machine ≡ start (record { journal_pages = store.header.journal_pages; slot_pages = word_pages store.header }) store.network store.version store.unchecked) }
+        ensures begins { IfOk result (λ keeper. keeper.machine ≡ start (sizes_of store.header) store.network store.version store.unchecked) }
         ensures disk { IfOk result (λ keeper. keeper.disk ≡ store.disk) }
         ensures standing { IfOk result (λ keeper. keeper.standing ≡ told_by store) }
         ensures width { IfOk result (λ keeper. keeper.width ≡ unwrap_or delta (default_width store.network)) }
@@ -85,6 +84,7 @@ impl<D: Disk> Keeper<D> {
             view,
             cache: RowCache::new(alloc, ROWS),
             task: None,
+            broken: false,
             written: Snapshot::of(&0),
         })
     }
@@ -99,7 +99,8 @@ impl<D: Disk> Keeper<D> {
 }
 
 impl<D: Stoppable> Keeper<D> {
-    /// Arms the disk: its k-th write or sync from now on is cut, and it and each later call fail until the disk is stopped.
+    /// Arms the disk: its k-th write or sync from now on is cut, and it and each later call fail until the disk is stopped. Nothing else
+    /// is changed.
     pub fn arm(&mut self, k: u64)
         requires { 1 ≤ k }
         ensures machine { self.new.machine ≡ self.old.machine }
@@ -108,6 +109,8 @@ impl<D: Stoppable> Keeper<D> {
         ensures holds { Holds (D.content self.old.disk) (D.left self.old.disk) self.old.machine self.old.standing → Holds (D.content self.new.disk) (D.left self.new.disk) self.new.machine self.new.standing }
         ensures armed { D.armed self.new.disk ≡ armed_at k (D.armed self.old.disk) }
         ensures content { D.content self.new.disk ≡ D.content self.old.disk }
+        ensures synced { D.synced self.new.disk ≡ D.synced self.old.disk }
+        ensures unsynced { (i : ℕ) → D.is_unsynced self.new.disk i ≡ D.is_unsynced self.old.disk i }
         ensures left { (c : List ℕ) → D.left self.new.disk c ↔ D.left self.old.disk c }
         ensures moment { D.moment self.new.disk ≡ D.moment self.old.disk }
         ensures left_since { (t : ℕ) (c : List ℕ) → D.left_since self.new.disk t c ↔ D.left_since self.old.disk t c }

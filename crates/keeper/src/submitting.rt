@@ -6,14 +6,8 @@ ghost use Rattle.keeper.specs.Keeping.{Holds};
 
 use crate::keepers::Keeper;
 use disk::Disk;
-use machine::Ticket;
+use machine::{MOST_OF_LIFE, MOST_PENDING, MOST_VERSIONS, Ticket};
 use roadnet::{Command, Network, OutOfMemory, Refusal};
-
-const MOST_OF_LIFE: usize = 16777216;
-
-const MOST_VERSIONS: u64 = 1 << 48;
-
-const MOST_PENDING: u64 = 4096;
 
 /// Puts an admitted command behind those that were accepted, and carries it out. After an `Err` nothing has changed.
 fn accept(
@@ -44,7 +38,7 @@ impl<D: Disk> Keeper<D> {
     fn may_submit(&self, command: &Command) -> Result<(), Refusal>
         ensures { MatchResult result (λ _. refusal_of_submit self.now.machine command.now ≡ None) (λ refusal. refusal_of_submit self.now.machine command.now ≡ Some refusal) }
     {
-        if !self.store.calm() {
+        if self.broken {
             return Err(Refusal::Broken);
         }
         if self.history.len() >= MOST_OF_LIFE {

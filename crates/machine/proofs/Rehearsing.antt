@@ -23,10 +23,10 @@ pub record Ran {P : Type 0} (first : Machine) (events : List (Event P)) (replies
 pub ran_none : (P : Type 0) (first : Machine) → Ran {P = P} first [] [] first
 ran_none P first = record { turns = []; events_are = refl; replies_are = refl; passes = refl }
 
-events_more : {P : Type 0} (turns : List (Turn P)) (events : List (Event P)) (e : Event P) (now : List Replied) → events ≡ map (λ turn. turn.0) turns → events ++ e ∷ [] ≡ map (λ turn. turn.0) (turns ++ (e, now) ∷ [])
+pub events_more : {P : Type 0} (turns : List (Turn P)) (events : List (Event P)) (e : Event P) (now : List Replied) → events ≡ map (λ turn. turn.0) turns → events ++ e ∷ [] ≡ map (λ turn. turn.0) (turns ++ (e, now) ∷ [])
 events_more turns events e now are = ap (λ (xs : List (Event _)). xs ++ e ∷ []) are ∙ sym (map-append (λ (turn : Turn _). turn.0) turns ((e, now) ∷ []))
 
-replies_more : {P : Type 0} (turns : List (Turn P)) (replies : List Replied) (e : Event P) (now : List Replied) → replies ≡ flat_map (λ turn. turn.1) turns → replies ++ now ≡ flat_map (λ turn. turn.1) (turns ++ (e, now) ∷ [])
+pub replies_more : {P : Type 0} (turns : List (Turn P)) (replies : List Replied) (e : Event P) (now : List Replied) → replies ≡ flat_map (λ turn. turn.1) turns → replies ++ now ≡ flat_map (λ turn. turn.1) (turns ++ (e, now) ∷ [])
 replies_more turns replies e now are =
     ap (λ (xs : List Replied). xs ++ now) are
     ∙ (ap (λ (xs : List Replied). flat_map (λ (turn : Turn _). turn.1) turns ++ xs) (sym (append-nil now))

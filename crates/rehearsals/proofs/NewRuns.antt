@@ -6,7 +6,6 @@ use Rattle.roadnet.specs.declared.refusals.Refusal.TheVariants.{OutOfMemory, Dev
 use Rattle.roadnet.specs.Net.{Net}
 use Rattle.disk.specs.declared.stoppable.Pick.{Pick}
 use Rattle.pages.specs.Layout.{pages_for, word_pages}
-use Rattle.storefile.specs.StoreFile.{StandsTidyFor}
 use Rattle.storefile.specs.Standing.{Standing, standing_of}
 use Rattle.store.specs.Opening.{IsPassing}
 use Rattle.machine.specs.declared.events.Event.{Event}
@@ -20,22 +19,22 @@ same_sizes : (j w j' w' : ℕ) → j ≡ j' → w ≡ w' → ◌≡◌ {A = Size
 same_sizes j w j' w' same_j same_w = cc
 
 -- the content of a new store stands for this network at version 0 with no page unchecked, and its header tells the sizes
-pub replies_to : (net : Net) (journal_pages : ℕ) (content : List ℕ) (x : Standing) (left : List ℕ → Type 0) (events : List (Event Pick)) (replies : List Replied) (ended : Option Refusal) (history : List Command)
+pub replies_to : (stands_for : List ℕ → Net → ℕ → Type 0) (net : Net) (journal_pages : ℕ) (content : List ℕ) (x : Standing) (left : List ℕ → Type 0) (events : List (Event Pick)) (replies : List Replied) (ended : Option Refusal) (history : List Command)
     → standing_of content ≡ Some x → x.network ≡ net → x.version ≡ 0 → x.unchecked ≡ 0 → x.header.journal_pages ≡ journal_pages
-    → LivesOn StandsTidyFor left (record { journal_pages = x.header.journal_pages; slot_pages = word_pages x.header }) x.network x.version x.unchecked events replies ended history
+    → LivesOn stands_for left (record { journal_pages = x.header.journal_pages; slot_pages = word_pages x.header }) x.network x.version x.unchecked events replies ended history
     → RepliesTo net journal_pages events replies ended
-replies_to net journal_pages content x left events replies ended history told network_is version_is unchecked_is pages_are run =
+replies_to stands_for net journal_pages content x left events replies ended history told network_is version_is unchecked_is pages_are run =
     let arcs : x.header.arcs ≡ length x.network.arcs = arcs_of_header content x told in
     let sizes : ◌≡◌ {A = Sizes} (record { journal_pages = x.header.journal_pages; slot_pages = word_pages x.header }) (sizes_of x.network journal_pages) =
     same_sizes x.header.journal_pages (word_pages x.header) journal_pages (pages_for 1023 (length x.network.arcs)) pages_are (ap (pages_for 1023) arcs) in
-    let sized : LivesOn StandsTidyFor left (sizes_of x.network journal_pages) x.network x.version x.unchecked events replies ended history =
-    subst (λ (z : Sizes). LivesOn StandsTidyFor left z x.network x.version x.unchecked events replies ended history) sizes run in
-    let of_net : LivesOn StandsTidyFor left (sizes_of net journal_pages) net x.version x.unchecked events replies ended history =
-    subst (λ (n : Net). LivesOn StandsTidyFor left (sizes_of n journal_pages) n x.version x.unchecked events replies ended history) network_is sized in
-    let of_version : LivesOn StandsTidyFor left (sizes_of net journal_pages) net 0 x.unchecked events replies ended history =
-    subst (λ (v : ℕ). LivesOn StandsTidyFor left (sizes_of net journal_pages) net v x.unchecked events replies ended history) version_is of_net in
-    let new : LivesOn StandsTidyFor left (sizes_of net journal_pages) net 0 0 events replies ended history =
-    subst (λ (u : ℕ). LivesOn StandsTidyFor left (sizes_of net journal_pages) net 0 u events replies ended history) unchecked_is of_version in
+    let sized : LivesOn stands_for left (sizes_of x.network journal_pages) x.network x.version x.unchecked events replies ended history =
+    subst (λ (z : Sizes). LivesOn stands_for left z x.network x.version x.unchecked events replies ended history) sizes run in
+    let of_net : LivesOn stands_for left (sizes_of net journal_pages) net x.version x.unchecked events replies ended history =
+    subst (λ (n : Net). LivesOn stands_for left (sizes_of n journal_pages) n x.version x.unchecked events replies ended history) network_is sized in
+    let of_version : LivesOn stands_for left (sizes_of net journal_pages) net 0 x.unchecked events replies ended history =
+    subst (λ (v : ℕ). LivesOn stands_for left (sizes_of net journal_pages) net v x.unchecked events replies ended history) version_is of_net in
+    let new : LivesOn stands_for left (sizes_of net journal_pages) net 0 0 events replies ended history =
+    subst (λ (u : ℕ). LivesOn stands_for left (sizes_of net journal_pages) net 0 u events replies ended history) unchecked_is of_version in
     record { history = history; last = new.last; lives = new.lives }
 
 -- ---- for what a run ends early

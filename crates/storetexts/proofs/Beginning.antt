@@ -13,5 +13,5 @@ pub none_come : (net there : Net) (version at unchecked : ℕ) (sizes : Sizes) (
 none_come net there version at unchecked sizes m is same counted =
     subst (HaveCome net version [] [] 0) (sym is) (record { base_is = same; version_is = counted; come = tt; accepted_is = refl; told_to = omega arith; settled = All-nil (IsSettled at) })
 
-pub stands_so : (file content : List ℕ) (net : Net) (version : ℕ) (x : Standing) → content ≡ file → StandsTidyFor file net version → standing_of file ≡ Some x → StandsTidily content x
-stands_so file content net version x same stands told = subst (λ (c : List ℕ). StandsTidily c x) (sym same) (is_opened file net version x stands told).stands
+pub stands_so : (pages : ℕ) (file content : List ℕ) (net : Net) (version : ℕ) (x : Standing) → content ≡ file → StandsTidyFor pages file net version → standing_of file ≡ Some x → StandsTidily content x
+stands_so pages file content net version x same stands told = subst (λ (c : List ℕ). StandsTidily c x) (sym same) (is_opened pages file net version x stands told).stands

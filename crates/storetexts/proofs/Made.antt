@@ -22,7 +22,7 @@ done_any (Ok done) P p = p
 done_any (Err (Code Write)) P p = p
 done_any (Err failed) P p = tt
 
-pub made_so : (net : Net) (pages : ℕ) (content : List ℕ) (left : List ℕ → Type 0) (x : Standing) → StandsTidyFor content net 0 → Only content left → standing_of content ≡ Some x → x.header.journal_pages ≡ pages → IsNewStore net pages content left
+pub made_so : (net : Net) (pages : ℕ) (content : List ℕ) (left : List ℕ → Type 0) (x : Standing) → StandsTidyFor pages content net 0 → Only content left → standing_of content ≡ Some x → x.header.journal_pages ≡ pages → IsNewStore net pages content left
 made_so net pages content left x stands only told count = record { stands = stands; journal = record { standing = x; standing_is = told; pages_are = count }; only = only }
 
 both_known : (a b : Option (List ℕ)) (net : Net) (pages : ℕ) (content : List ℕ) (left : List ℕ → Type 0)

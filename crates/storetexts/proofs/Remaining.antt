@@ -35,7 +35,7 @@ module _ (net : Net) (version told : ℕ) (cs : List Command) (os : List Outcome
       ∙ ap (λ (l : List Command). after net (take (v - version) l)) h.accepted_is)
 
   -- a content that holds what is durable keeps what was told
-  pub kept_told : (content : List ℕ) → HoldsDurable StandsTidyFor m content → KeepsTold net version cs os told content
+  pub kept_told : (content : List ℕ) → HoldsDurable (StandsTidyFor m.sizes.journal_pages) m content → KeepsTold net version cs os told content
   kept_told content held =
       let v = held.version in
       let between = left_between m s.state v held.left in
@@ -51,7 +51,8 @@ module _ (net : Net) (version told : ℕ) (cs : List Command) (os : List Outcome
         stands = record {
           network = held.network;
           network_is = ap (after net) p.same ∙ (sym (network_there v) ∙ held.network_is);
-          stands = subst (StandsTidyFor content held.network) p.counted held.stands;
+          journal_pages = m.sizes.journal_pages;
+          stands = subst (StandsTidyFor m.sizes.journal_pages content held.network) p.counted held.stands;
         };
       }
 

@@ -24,11 +24,12 @@ use Rattle.storetexts.specs.Outcomes.{ComesTo, accepted_in, outcome_lines}
 abbrev pub commands_of : List ℕ → Result (List Command) Fault
 commands_of text = content_by command_text (rows text)
 
--- the content is tidy and stands for the network after the accepted ones of these commands, each counted
+-- the content, whatever its number of journal pages, is tidy and stands for the network after the accepted ones of these commands, each counted
 pub record StandsAfter (net : Net) (version : ℕ) (commands : List Command) (outcomes : List Outcome) (content : List ℕ) : Type 0 where
   pub network : Net
   pub network_is : after net (accepted_in commands outcomes) ≡ Some network
-  pub stands : StandsTidyFor content network (version + length (accepted_in commands outcomes))
+  pub journal_pages : ℕ
+  pub stands : StandsTidyFor journal_pages content network (version + length (accepted_in commands outcomes))
 
 -- All of a store's commands came to these outcomes, each of which is told; the content is what a stop leaves, and stands for the network after them.
 pub record AppliesAll (net : Net) (version : ℕ) (list : List Command) (content : List ℕ) (left : List ℕ → Type 0) (old new : Option (List ℕ)) : Type 0 where

@@ -79,7 +79,7 @@ pub record HasJournal (file : List ℕ) (pages : ℕ) : Type 0 where
 
 -- The content stands for the network at version 0, with so many journal pages, is tidy, and is all that a stop may leave.
 pub record IsNewStore (net : Net) (journal_pages : ℕ) (content : List ℕ) (left : List ℕ → Type 0) : Type 0 where
-  pub stands : StandsTidyFor content net 0
+  pub stands : StandsTidyFor journal_pages content net 0
   pub journal : HasJournal content journal_pages
   pub only : Only content left
 

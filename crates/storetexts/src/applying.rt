@@ -1,5 +1,5 @@
 // The commands of a text, applied to a store.
-ghost use Rattle.std.specs.Prelude.{◌≡◌, ◌⊎◌, ◌+◌, ◌≤◌, ◌<◌, ◌↔◌, ℕ, List, [], ◌∷◌, ◌++◌, Option, Ok, Err, false, All, length, take, vec_capacity, OnOk, IfOk, IfErr, IfSome};
+ghost use Rattle.std.specs.Prelude.{◌≡◌, ◌⊎◌, ◌+◌, ◌≤◌, ◌<◌, ◌↔◌, ℕ, List, [], ◌∷◌, ◌++◌, Option, Some, Ok, Err, false, All, length, take, vec_capacity, OnOk, IfOk, IfErr, IfSome};
 ghost use Rattle.std.specs.Bool.{Decides};
 ghost use Rattle.std.specs.Option.{ForSome};
 ghost use Rattle.dimacs.specs.Counts.{failed_calls, reader_of, IsSameReader};
@@ -20,6 +20,8 @@ use crate::outcomes::{Outcome, reply_of};
 use dimacs::{Counted, parse_commands, read_commands_counted};
 use disk::Disk;
 use keeper::Keeper;
+use machine::PAGES_OF_STEP;
+use pages::MOST_COMMANDS;
 use printing::{CountedWriter, Failed, put_reply};
 use roadnet::{Command, Refusal};
 use std::alloc::Global;
@@ -29,10 +31,7 @@ use store::{Part, open};
 const COMMANDS: u8 = 0;
 
 /// How many commands are made durable at a time.
-const MOST_OF_PAGE: u64 = 253;
-
-/// How many pages a step of a checkpoint writes.
-const PAGES_OF_STEP: u32 = 64;
+const MOST_OF_PAGE: u64 = MOST_COMMANDS as u64;
 
 /// Commands being applied, one after the other: the keeper of the store, what the commands came to, in order, and how many of these
 /// outcomes are told.
@@ -327,8 +326,9 @@ fn keeper_on<D: Disk>(alloc: Global, disk: D, delta: Option<u32>) -> Result<Keep
     ensures steady { IfOk result (λ keeper. IsSteady keeper.machine) }
     ensures calm { IfOk result (λ keeper. keeper.machine.broken ≡ false) }
     ensures none { IfOk result (λ keeper. pending keeper.machine ≡ 0) }
-    ensures begins { D.honest disk → (net : Net) (version : ℕ) → StandsTidyFor (D.content disk) net version → IfOk result (λ keeper. HaveCome net version [] [] 0 keeper.machine) }
-    ensures holds { D.honest disk → (net : Net) (version : ℕ) → StandsTidyFor (D.content disk) net version → IfOk result (λ keeper. Holds (D.content keeper.disk) (D.left keeper.disk) keeper.machine keeper.standing) }
+    ensures width { (width : ℕ) → delta ≡ Some width → IfOk result (λ keeper. keeper.width ≡ width) }
+    ensures begins { D.honest disk → (journal_pages : ℕ) (net : Net) (version : ℕ) → StandsTidyFor journal_pages (D.content disk) net version → IfOk result (λ keeper. HaveCome net version [] [] 0 keeper.machine) }
+    ensures holds { D.honest disk → (journal_pages : ℕ) (net : Net) (version : ℕ) → StandsTidyFor journal_pages (D.content disk) net version → IfOk result (λ keeper. Holds (D.content keeper.disk) (D.left keeper.disk) keeper.machine keeper.standing) }
     ensures same { D.honest disk → IfOk result (λ keeper. StaysSame D.content D.left D.moment D.left_since disk keeper.disk) }
     ensures handed_back { D.honest disk → IfErr result (λ refused. StaysSame D.content D.left D.moment D.left_since disk refused.1) }
     ensures refused { D.honest disk → IfErr result (λ refused. MayRefuseToOpen (D.content disk) refused.0) }
@@ -418,10 +418,10 @@ pub fn apply_counted<D: Disk, R: BufRead, W: Write>(
     requires { ForSome delta IsWidth }
     // Where the disk stands, tidy, for this network at this version, all that a stop may leave stands for that network after the accepted
     // commands, and the lines of all commands are written.
-    ensures applied { D.honest disk → (net : Net) (version : ℕ) → StandsTidyFor (D.content disk) net version → OnOk result.0 (IfSome (R.remaining (reader_of commands.old))
+    ensures applied { D.honest disk → (journal_pages : ℕ) (net : Net) (version : ℕ) → StandsTidyFor journal_pages (D.content disk) net version → OnOk result.0 (IfSome (R.remaining (reader_of commands.old))
         (λ text. IsApplied net version text (D.content result.1) (D.left result.1) (W.contents (writer_of out.old)) (W.contents (writer_of out.new)))) }
     // Where it ends early, nothing was begun, or nothing that was told is lost.
-    ensures cut_off { D.honest disk → (net : Net) (version : ℕ) → StandsTidyFor (D.content disk) net version → IfErr result.0 (λ failed. IfSome (R.remaining (reader_of commands.old))
+    ensures cut_off { D.honest disk → (journal_pages : ℕ) (net : Net) (version : ℕ) → StandsTidyFor journal_pages (D.content disk) net version → IfErr result.0 (λ failed. IfSome (R.remaining (reader_of commands.old))
         (λ text. (StaysSame D.content D.left D.moment D.left_since disk result.1 × (writer_of out.new ≡ writer_of out.old)) ⊎ IsCutOff net version text (D.left result.1) (W.contents (writer_of out.old)) (W.contents (writer_of out.new)) failed)) }
     ensures refused { D.honest disk → IfErr result.0 (λ failed. IfSome (R.remaining (reader_of commands.old))
         (λ text. IsRefusedApply (D.content disk) text (R.remaining (reader_of commands.new)) failed)) }
@@ -462,8 +462,8 @@ pub fn apply_text<D: Disk, W: Write>(
     out: &mut W,
 ) -> (Result<(), Failed>, D)
     requires { ForSome delta IsWidth }
-    ensures applied { D.honest disk → (net : Net) (version : ℕ) → StandsTidyFor (D.content disk) net version → OnOk result.0 (IsApplied net version commands.now (D.content result.1) (D.left result.1) (W.contents out.old) (W.contents out.new)) }
-    ensures cut_off { D.honest disk → (net : Net) (version : ℕ) → StandsTidyFor (D.content disk) net version → IfErr result.0 (λ failed. (StaysSame D.content D.left D.moment D.left_since disk result.1 × (out.new ≡ out.old)) ⊎ IsCutOff net version commands.now (D.left result.1) (W.contents out.old) (W.contents out.new) failed) }
+    ensures applied { D.honest disk → (journal_pages : ℕ) (net : Net) (version : ℕ) → StandsTidyFor journal_pages (D.content disk) net version → OnOk result.0 (IsApplied net version commands.now (D.content result.1) (D.left result.1) (W.contents out.old) (W.contents out.new)) }
+    ensures cut_off { D.honest disk → (journal_pages : ℕ) (net : Net) (version : ℕ) → StandsTidyFor journal_pages (D.content disk) net version → IfErr result.0 (λ failed. (StaysSame D.content D.left D.moment D.left_since disk result.1 × (out.new ≡ out.old)) ⊎ IsCutOff net version commands.now (D.left result.1) (W.contents out.old) (W.contents out.new) failed) }
     ensures refused { D.honest disk → IfErr result.0 (IsTextRefusedApply (D.content disk) commands.now) }
     ensures untouched { D.honest disk → IfErr result.0 (λ failed. IfUnbegun failed (StaysSame D.content D.left D.moment D.left_since disk result.1)) }
     ensures unwritten { IfErr result.0 (λ failed. IfUnbegun failed (out.new ≡ out.old)) }

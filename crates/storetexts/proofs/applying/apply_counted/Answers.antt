@@ -7,25 +7,25 @@ use Rattle.storetexts.proofs.Remaining.{if_known, applied_known, cut_off_known}
 use Rattle.storetexts.proofs.applying.apply_counted.Goals as goal
 
 pub returns-in-Err-clause-cut_off : goal.returns-in-Err-clause-cut_off
-returns-in-Err-clause-cut_off g c honest net version stands = if_known _ _ (λ text. inl (c.in-Err.ensures.handed_back honest, refl))
+returns-in-Err-clause-cut_off g c honest pages net version stands = if_known _ _ (λ text. inl (c.in-Err.ensures.handed_back honest, refl))
 
 pub returns-in-Err-clause-writes : goal.returns-in-Err-clause-writes
 returns-in-Err-clause-writes g c honest = not_written c.in-Err.refusal _ (opening_is_no_write (g.D.Disk.content c.args.disk) c.in-Err.refusal (c.in-Err.ensures.refused honest))
 
 pub returns-in-Err-read_commands_counted-clause-cut_off :
     goal.returns-in-Err-read_commands_counted-clause-cut_off
-returns-in-Err-read_commands_counted-clause-cut_off g c honest net version stands = if_known _ _ (λ text. inl (search rules, refl))
+returns-in-Err-read_commands_counted-clause-cut_off g c honest pages net version stands = if_known _ _ (λ text. inl (search rules, refl))
 
 pub returns-clause-applied : goal.returns-clause-applied
-returns-clause-applied g c honest net version stands =
+returns-clause-applied g c honest pages net version stands =
     let list : c.deref.result.now ≡ c.in-Ok-read_commands_counted.commands.items = search rules in
-    let applies = c.apply_commands.ensures.applied (c.in-Ok.ensures.honest.0.1 honest) (c.in-Ok.ensures.holds honest net version stands) net version (c.in-Ok.ensures.begins honest net version stands) in
+    let applies = c.apply_commands.ensures.applied (c.in-Ok.ensures.honest.0.1 honest) (c.in-Ok.ensures.holds honest pages net version stands) net version (c.in-Ok.ensures.begins honest pages net version stands) in
     applied_known net version c.in-Ok-read_commands_counted.commands.items _ c.apply_commands.result.0 _ _ _ _ _ (rw list at applies) c.in-Ok-read_commands_counted.ensures.read
 
 pub returns-clause-cut_off : goal.returns-clause-cut_off
-returns-clause-cut_off g c honest net version stands =
+returns-clause-cut_off g c honest pages net version stands =
     let list : c.deref.result.now ≡ c.in-Ok-read_commands_counted.commands.items = search rules in
-    let applies = c.apply_commands.ensures.cut_off (c.in-Ok.ensures.honest.0.1 honest) (c.in-Ok.ensures.holds honest net version stands) net version (c.in-Ok.ensures.begins honest net version stands) in
+    let applies = c.apply_commands.ensures.cut_off (c.in-Ok.ensures.honest.0.1 honest) (c.in-Ok.ensures.holds honest pages net version stands) net version (c.in-Ok.ensures.begins honest pages net version stands) in
     cut_off_known net version c.in-Ok-read_commands_counted.commands.items _ c.apply_commands.result.0 _ _ _ _ _ (rw list at applies) c.in-Ok-read_commands_counted.ensures.read
 
 pub returns-in-Err-clause-untouched : goal.returns-in-Err-clause-untouched

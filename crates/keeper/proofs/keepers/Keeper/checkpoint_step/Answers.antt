@@ -1,64 +1,62 @@
 use Rattle.std.proofs.Common.{◌≡◌, inl, ⊎_elim, true, false, refl, sym, ◌∙◌, subst}
 use Rattle.disk.specs.Contents.{Only}
 use Rattle.disk.proofs.Steps.{weaker}
+use Rattle.pages.specs.declared.header.Header.{Header}
 use Rattle.storefile.specs.StoreFile.{StandsTidyFor}
 use Rattle.store.specs.declared.store.Store.{Store}
 use Rattle.store.specs.Committing.{StandsTidily}
 use Rattle.store.specs.Durable.{told_by}
-use Rattle.keeper.proofs.Held.{works_if_calm, why, not_memory}
+use Rattle.keeper.proofs.Flushed.{if_err_with}
+use Rattle.keeper.proofs.Held.{why, not_memory, same_flag}
 use Rattle.keeper.proofs.keepers.Keeper.checkpoint_step.Goals as goal
-
-pub returns-in-Err-clause-any_moment : goal.returns-in-Err-clause-any_moment
-returns-in-Err-clause-any_moment g c =
-    rw (← c.self.view_is) (λ calm honest old.
-    weaker g.D.Disk.moment g.D.Disk.left_since c.self.inside.store.disk c.checkpoint.new.self.disk (λ d. StandsTidyFor d c.self.inside.store.network c.self.inside.store.version) _
-    (c.checkpoint.ensures.any_moment calm honest (old.stands calm))
-    (λ d way. record { version = c.self.inside.store.version; left = inl refl; network = c.self.inside.store.network; network_is = c.self.invariant.durable_is; stands = way }))
+use Rattle.keeper.proofs.keepers.Keeper.checkpoint_step.Goals.{in-Ok, in-Err}
 
 pub returns-clause-any_moment : goal.returns-clause-any_moment
 returns-clause-any_moment g c =
     rw (← c.self.view_is) (λ calm honest old.
-    weaker g.D.Disk.moment g.D.Disk.left_since c.self.inside.store.disk c.checkpoint.new.self.disk (λ d. StandsTidyFor d c.self.inside.store.network c.self.inside.store.version) _
-    (c.checkpoint.ensures.any_moment calm honest (old.stands calm))
-    (λ d way. record { version = c.self.inside.store.version; left = inl refl; network = c.self.inside.store.network; network_is = c.self.invariant.durable_is; stands = way }))
+    weaker g.D.Disk.moment g.D.Disk.left_since c.self.inside.store.disk c.checkpoint-written.new.self.disk (λ d. StandsTidyFor c.self.inside.store.header.journal_pages d c.self.inside.store.network c.self.inside.store.version) _
+    (c.checkpoint-written.ensures.any_moment (sym c.self.invariant.1 ∙ calm) honest (old.stands calm))
+    (λ d way. record { version = c.self.inside.store.version; left = inl refl; network = c.self.inside.store.network; network_is = c.self.invariant.0.durable_is; stands = way }))
 
 pub returns-clause-holds : goal.returns-clause-holds
 returns-clause-holds g c =
     rw (← c.self.view_is) (λ honest old.
-    let calm : c.self.inside.store.broken ≡ false = works_if_calm c.self.inside.store.broken c.if-not-calm.ensures in
-    record {
-      only = λ works. c.in-Ok.ensures.only honest;
-      stands = λ works. c.in-Ok.ensures.stands honest (old.stands calm);
-      each_left = λ d was. record {
-        version = c.self.inside.store.version;
-        left = inl (sym c.checkpoint.ensures.version);
-        network = c.self.inside.store.network;
-        network_is = c.self.invariant.durable_is;
-        stands = c.checkpoint.ensures.left calm honest (old.stands calm) d was;
-      };
-    })
-
-pub returns-in-Err-clause-holds : goal.returns-in-Err-clause-holds
-returns-in-Err-clause-holds g c =
-    rw (← c.self.view_is) (λ honest old.
-    let calm : c.self.inside.store.broken ≡ false = works_if_calm c.self.inside.store.broken c.if-not-calm.ensures in
-    let cause = why c.self.inside.store.broken c.in-Err.refusal calm c.in-Err.ensures.refused in
-    record {
-      only = λ works.
-          ⊎_elim
-          (λ memory. subst (λ (s : Store g.row.D.Denot g.D.Disk). Only (g.D.Disk.content s.disk) (g.D.Disk.left s.disk)) (sym (c.in-Err.ensures.same (not_memory c.in-Err.refusal memory))) (old.only calm))
-          (λ device. absurd (let never : true ≡ false = sym (c.in-Err.ensures.breaks device) ∙ works in cc))
-          cause;
-      stands = λ works.
-          ⊎_elim
-          (λ memory. subst (λ (s : Store g.row.D.Denot g.D.Disk). StandsTidily (g.D.Disk.content s.disk) (told_by s)) (sym (c.in-Err.ensures.same (not_memory c.in-Err.refusal memory))) (old.stands calm))
-          (λ device. absurd (let never : true ≡ false = sym (c.in-Err.ensures.breaks device) ∙ works in cc))
-          cause;
-      each_left = λ d was. record {
-        version = c.self.inside.store.version;
-        left = inl (sym c.checkpoint.ensures.version);
-        network = c.self.inside.store.network;
-        network_is = c.self.invariant.durable_is;
-        stands = c.checkpoint.ensures.left calm honest (old.stands calm) d was;
-      };
-    })
+    let calm : c.self.inside.broken ≡ false = c.if-self.false in
+    let works_then : c.self.inside.store.broken ≡ false = sym c.self.invariant.1 ∙ calm in
+    elim c.match-written.branch [
+      | in-Ok w ↦ record {
+        only = λ works. rw w.in-Ok.is at c.checkpoint-written.ensures.only honest;
+        stands = λ works. rw w.in-Ok.is at c.checkpoint-written.ensures.stands honest (old.stands calm);
+        each_left = λ d was. record {
+          version = c.self.inside.store.version;
+          left = inl (sym c.checkpoint-written.ensures.version);
+          network = c.self.inside.store.network;
+          network_is = c.self.invariant.0.durable_is;
+          stands = subst (λ (h : Header). StandsTidyFor h.journal_pages d c.self.inside.store.network c.self.inside.store.version) (sym c.checkpoint-written.ensures.header) (c.checkpoint-written.ensures.left works_then honest (old.stands calm) d was);
+        };
+      }
+      | in-Err w ↦ (
+          let flag = same_flag c.checkpoint-written.result c.has_failed-self-inside.result c.self.inside.store.broken c.checkpoint-written.new.self.broken c.has_failed-self-inside.ensures works_then c.checkpoint-written.ensures.works c.checkpoint-written.ensures.breaks (if_err_with _ _ c.checkpoint-written.result (λ refusal same not. let e = same not in cc) c.checkpoint-written.ensures.same) in
+          let same = rw w.in-Err.is at c.checkpoint-written.ensures.same in
+          let breaks = rw w.in-Err.is at c.checkpoint-written.ensures.breaks in
+          let cause = why c.self.inside.store.broken w.in-Err.refusal works_then (rw w.in-Err.is at c.checkpoint-written.ensures.refused) in
+          record {
+            only = λ works.
+                ⊎_elim
+                (λ memory. subst (λ (s : Store g.row.D.Denot g.D.Disk). Only (g.D.Disk.content s.disk) (g.D.Disk.left s.disk)) (sym (same (not_memory w.in-Err.refusal memory))) (old.only calm))
+                (λ device. absurd (let never : true ≡ false = sym (breaks device) ∙ (sym flag ∙ works) in cc))
+                cause;
+            stands = λ works.
+                ⊎_elim
+                (λ memory. subst (λ (s : Store g.row.D.Denot g.D.Disk). StandsTidily (g.D.Disk.content s.disk) (told_by s)) (sym (same (not_memory w.in-Err.refusal memory))) (old.stands calm))
+                (λ device. absurd (let never : true ≡ false = sym (breaks device) ∙ (sym flag ∙ works) in cc))
+                cause;
+            each_left = λ d was. record {
+              version = c.self.inside.store.version;
+              left = inl (sym c.checkpoint-written.ensures.version);
+              network = c.self.inside.store.network;
+              network_is = c.self.invariant.0.durable_is;
+              stands = subst (λ (h : Header). StandsTidyFor h.journal_pages d c.self.inside.store.network c.self.inside.store.version) (sym c.checkpoint-written.ensures.header) (c.checkpoint-written.ensures.left works_then honest (old.stands calm) d was);
+            };
+          })
+    ])

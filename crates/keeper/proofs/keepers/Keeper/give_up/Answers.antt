@@ -3,4 +3,4 @@ use Rattle.keeper.proofs.Held.{holds_on}
 use Rattle.keeper.proofs.keepers.Keeper.give_up.Goals as goal
 
 pub returns-then-task-version-clause-holds : goal.returns-then-task-version-clause-holds
-returns-then-task-version-clause-holds g c = rw (← c.self.view_is) (λ old. holds_on (g.D.Disk.content c.self.inside.store.disk) (g.D.Disk.left c.self.inside.store.disk) _ _ _ refl refl refl (λ v le. refl) c.self.invariant.state old)
+returns-then-task-version-clause-holds g c = rw (← c.self.view_is) (λ old. holds_on (g.D.Disk.content c.self.inside.store.disk) (g.D.Disk.left c.self.inside.store.disk) _ _ _ refl refl refl refl (λ v le. refl) c.self.invariant.0.state old)

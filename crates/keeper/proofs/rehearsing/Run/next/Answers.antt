@@ -1,18 +1,28 @@
 use Rattle.std.proofs.Common.{◌≡◌, ◌++◌, ◌∷◌, [], false, refl, ap, arith, rules}
 use Rattle.disk.specs.declared.stoppable.Pick.{Pick}
 use Rattle.keeper.specs.Rehearsing.{is_stop, within_of}
+use Rattle.keeper.proofs.Failing.{fails_more, fails_as}
 use Rattle.keeper.proofs.LivesInRun.{does_size}
 use Rattle.keeper.proofs.Runs.{run_as, run_more}
 use Rattle.keeper.proofs.rehearsing.Run.next.Goals as goal
 
+pub returns-in-Stop-clause-goes : goal.returns-in-Stop-clause-goes
+returns-in-Stop-clause-goes g c first done going = rw c.in-Stop.is (c.stop.ensures.goes first done going)
+
 pub returns-in-Stop-clause-ends : goal.returns-in-Stop-clause-ends
-returns-in-Stop-clause-ends g c first done honest holds run rest = rw c.in-Stop.is (c.stop.ensures.ends first done honest holds run rest)
+returns-in-Stop-clause-ends g c first done going rest = rw c.in-Stop.is (c.stop.ensures.ends first done going rest)
+
+pub returns-in-Stop-clause-counted : goal.returns-in-Stop-clause-counted
+returns-in-Stop-clause-counted g c before done f = rw c.in-Stop.is (c.stop.ensures.counted before done f)
 
 pub returns-in-StopWithin-clause-goes : goal.returns-in-StopWithin-clause-goes
-returns-in-StopWithin-clause-goes g c first done honest holds run = c.stop_within.ensures.goes first done honest holds run c.args.event.now (ap (within_of {P = Pick}) c.in-StopWithin.is)
+returns-in-StopWithin-clause-goes g c first done going = c.stop_within.ensures.goes first done going c.args.event.now (ap (within_of {P = Pick}) c.in-StopWithin.is)
 
 pub returns-in-StopWithin-clause-ends : goal.returns-in-StopWithin-clause-ends
-returns-in-StopWithin-clause-ends g c first done honest holds run rest = c.stop_within.ensures.ends first done honest holds run c.args.event.now (ap (within_of {P = Pick}) c.in-StopWithin.is) rest
+returns-in-StopWithin-clause-ends g c first done going rest = c.stop_within.ensures.ends first done going c.args.event.now (ap (within_of {P = Pick}) c.in-StopWithin.is) rest
+
+pub returns-in-StopWithin-clause-counted : goal.returns-in-StopWithin-clause-counted
+returns-in-StopWithin-clause-counted g c before done f = c.stop_within.ensures.counted before done c.args.event.now (ap (within_of {P = Pick}) c.in-StopWithin.is) f
 
 pub returns-in_default : goal.returns-in_default
 returns-in_default g c =
@@ -24,10 +34,14 @@ returns-in_default g c =
     record {
       life = c.reply-told.ensures.life;
       room = omega (arith, does_size {P = Pick} c.args.event.now m new told calm c.reply-told.ensures.does, c.requires.room);
-      goes = λ first done honest holds run.
-          run_as first (done ++ c.args.event.now ∷ []) (self.replies.items ++ told) c.push_reserved.new.self.items self.history.items self.history.items new c.push_reserved.ensures.items refl
-          (run_more first done self.replies.items self.history.items m run c.args.event.now told new calm c.requires.life.state c.reply-told.ensures.does);
-      holds = λ first done honest holds run. c.reply-told.ensures.holds honest holds;
-      honest = λ first done honest holds run. c.reply-told.ensures.honest honest;
-      ends = λ first done honest holds run rest. tt;
+      goes = λ first done going. record {
+        is_honest = c.reply-told.ensures.honest going.is_honest;
+        holds = c.reply-told.ensures.holds going.is_honest going.holds;
+        run = run_as first (done ++ c.args.event.now ∷ []) (self.replies.items ++ told) c.push_reserved.new.self.items self.history.items self.history.items new c.push_reserved.ensures.items refl
+            (run_more first done self.replies.items self.history.items m going.run c.args.event.now told new calm c.requires.life.state c.reply-told.ensures.does);
+      };
+      ends = λ first done going rest. tt;
+      counted = λ before done f.
+          fails_as (done ++ c.args.event.now ∷ []) (self.replies.items ++ told) c.push_reserved.new.self.items before _ c.push_reserved.ensures.items
+          (fails_more done self.replies.items before _ _ c.args.event.now told f c.reply-told.ensures.counted);
     }

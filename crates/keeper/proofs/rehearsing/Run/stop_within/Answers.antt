@@ -1,7 +1,12 @@
-use Rattle.std.proofs.Common.{◌≡◌, ◌-◌, take, ◌++◌, List, length, ◌∙◌, ap, subst, arith}
+use Rattle.std.proofs.Common.{◌≡◌, ℕ, ◌-◌, take, ◌++◌, ◌∷◌, [], List, length, ◌∙◌, ap, subst, arith}
+use Rattle.std.specs.Prelude.{IfOk}
+use Rattle.pagereader.specs.Outcomes.{failures_told}
+use Rattle.machine.specs.declared.events.Replied.TheVariants.{Opened, Stopped}
 use Rattle.roadnet.specs.declared.commands.Command.{Command}
 use Rattle.machine.specs.Machine.{Machine, commands_to}
 use Rattle.machine.specs.Lives.{Writes}
+use Rattle.keeper.specs.Rehearsing.{HasRun}
+use Rattle.keeper.proofs.Failing.{match_both, fails_as, ends_told, stop_told}
 use Rattle.keeper.proofs.LivesInRun.{writes_later, writes_same}
 use Rattle.keeper.proofs.Runs.{if_ok_both, if_err_both, run_as, lives_as, durable_front, slot_then, told_of, opened_told, not_opened_told}
 use Rattle.keeper.proofs.rehearsing.Run.stop_within.Goals as goal
@@ -17,14 +22,16 @@ resume-requires-clause-room g c =
     rw history (omega (arith, many, c.requires.room, c.halt-halted.result.0.commands.ok.0))
 
 pub returns-clause-goes : goal.returns-clause-goes
-returns-clause-goes g c first done honest holds run event within =
+returns-clause-goes g c first done going event within =
     let self = c.args.self in
     let m = self.life.keeper.machine in
     let mid = c.write-written.new.self.keeper.machine in
     let wrote = subst (λ (x : Machine). Writes x c.args.writing c.write-written.result mid) c.arm.ensures.machine c.write-written.ensures.does in
     let later = writes_later c.args.writing c.write-written.result m mid c.requires.life.state wrote in
+    let run = going.run in
+    let honest = going.is_honest in
     let honest_then = c.write-written.ensures.honest (c.arm.ensures.honest honest) in
-    let holds_then = c.write-written.ensures.holds (c.arm.ensures.honest honest) (c.arm.ensures.holds holds) in
+    let holds_then = c.write-written.ensures.holds (c.arm.ensures.honest honest) (c.arm.ensures.holds going.holds) in
     let halted = c.halt-halted.result.0 in
     let is = c.halt-halted.ensures.halted honest_then holds_then in
     let there = c.halt-halted.ensures.honest honest_then in
@@ -32,32 +39,25 @@ returns-clause-goes g c first done honest holds run event within =
     let history : halted.history.items ≡ self.history.items = (let e = c.halt-halted.ensures.history in cc) in
     let told = told_of first done self.replies.items self.history.items m run mid later c.args.writing c.write-written.result c.tell_write.new.replies.items c.requires.life.state wrote (rw replies at c.tell_write.ensures.told) in
     let slot = slot_then first done self.replies.items self.history.items m run mid later in
+    let runs : IfOk c.resume.result (λ x. HasRun first (done ++ event ∷ []) x.replies.items x.history.items x.life.keeper.machine) =
     if_ok_both c.resume.result _ _ _ _
     (λ x b h t. run_as first _ _ x.replies.items _ x.history.items x.life.keeper.machine t
     (h ∙ ap (λ (cs : List Command). cs ++ commands_to mid x.life.keeper.machine.base_version) history)
     (opened_told first done self.replies.items self.history.items m run mid later event c.args.writing c.tell_write.new.replies.items x.life.keeper.machine within told b))
-    (c.resume.ensures.begins mid slot there is) (c.resume.ensures.history mid slot there is) c.resume.ensures.told
-
-pub returns-clause-holds : goal.returns-clause-holds
-returns-clause-holds g c first done honest holds run =
-    let self = c.args.self in
-    let m = self.life.keeper.machine in
-    let mid = c.write-written.new.self.keeper.machine in
-    let wrote = subst (λ (x : Machine). Writes x c.args.writing c.write-written.result mid) c.arm.ensures.machine c.write-written.ensures.does in
-    let later = writes_later c.args.writing c.write-written.result m mid c.requires.life.state wrote in
-    let honest_then = c.write-written.ensures.honest (c.arm.ensures.honest honest) in
-    let holds_then = c.write-written.ensures.holds (c.arm.ensures.honest honest) (c.arm.ensures.holds holds) in
-    c.resume.ensures.holds mid (slot_then first done self.replies.items self.history.items m run mid later) (c.halt-halted.ensures.honest honest_then) (c.halt-halted.ensures.halted honest_then holds_then)
+    (c.resume.ensures.begins mid slot there is) (c.resume.ensures.history mid slot there is) c.resume.ensures.told in
+    if_ok_both c.resume.result _ _ _ _ (λ x ran h o. record { is_honest = o; holds = h; run = ran }) runs (c.resume.ensures.holds mid slot there is) (c.resume.ensures.honest there)
 
 pub returns-clause-ends : goal.returns-clause-ends
-returns-clause-ends g c first done honest holds run event within rest =
+returns-clause-ends g c first done going event within rest =
     let self = c.args.self in
     let m = self.life.keeper.machine in
     let mid = c.write-written.new.self.keeper.machine in
     let wrote = subst (λ (x : Machine). Writes x c.args.writing c.write-written.result mid) c.arm.ensures.machine c.write-written.ensures.does in
     let later = writes_later c.args.writing c.write-written.result m mid c.requires.life.state wrote in
+    let run = going.run in
+    let honest = going.is_honest in
     let honest_then = c.write-written.ensures.honest (c.arm.ensures.honest honest) in
-    let holds_then = c.write-written.ensures.holds (c.arm.ensures.honest honest) (c.arm.ensures.holds holds) in
+    let holds_then = c.write-written.ensures.holds (c.arm.ensures.honest honest) (c.arm.ensures.holds going.holds) in
     let halted = c.halt-halted.result.0 in
     let is = c.halt-halted.ensures.halted honest_then holds_then in
     let there = c.halt-halted.ensures.honest honest_then in
@@ -69,3 +69,20 @@ returns-clause-ends g c first done honest holds run event within rest =
     (h ∙ (ap (λ (cs : List Command). cs ++ take (halted.durable - halted.opened) halted.commands.items) history ∙ ap (λ (cs : List Command). self.history.items ++ cs) (durable_front halted.opened halted.durable mid halted.commands.items is.opened_is is.durable_is is.commands_are)))
     (not_opened_told first done self.replies.items self.history.items m run mid later (g.D.Disk.left x.disk) event c.args.writing c.tell_write.new.replies.items rest x.ended within told why each))
     (c.resume.ensures.ended mid there is) (c.resume.ensures.left mid there is) c.resume.ensures.stopped c.resume.ensures.durable
+
+pub returns-clause-counted : goal.returns-clause-counted
+returns-clause-counted g c before done event within f =
+    let self = c.args.self in
+    let n = g.D.Disk.failures self.life.keeper.disk in
+    let then : ℕ = g.D.Disk.failures c.halt-halted.result.0.disk in
+    let replies : c.halt-halted.result.0.replies.items ≡ self.replies.items = (let e = c.halt-halted.ensures.replies in cc) in
+    let told = rw replies at c.tell_write.ensures.told in
+    let counted : then ≡ failures_told c.write-written.result n = c.halt-halted.ensures.failures ∙ (c.write-written.ensures.counted ∙ ap (failures_told c.write-written.result) c.arm.ensures.failures) in
+    match_both c.resume.result _ _ _ _ _ _
+    (λ x same opened. fails_as (done ++ event ∷ []) (c.tell_write.new.replies.items ++ Opened x.life.keeper.machine.base_version ∷ []) x.replies.items before (g.D.Disk.failures x.life.keeper.disk) opened
+    (stop_told event c.args.writing c.write-written.result self.replies.items c.tell_write.new.replies.items (Opened x.life.keeper.machine.base_version) done before n (g.D.Disk.failures x.life.keeper.disk) within told f (same ∙ counted)))
+    (λ x ends stopped rest. ends_told (done ++ event ∷ []) rest x.replies.items x.ended before then (g.D.Disk.failures x.disk)
+    (fails_as (done ++ event ∷ []) (c.tell_write.new.replies.items ++ Stopped ∷ []) x.replies.items before then stopped
+    (stop_told event c.args.writing c.write-written.result self.replies.items c.tell_write.new.replies.items Stopped done before n then within told f counted))
+    ends)
+    c.resume.ensures.counted c.resume.ensures.told c.resume.ensures.stopped

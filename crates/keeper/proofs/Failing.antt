@@ -1,0 +1,89 @@
+-- The failures of a disk that a run's replies tell, counted.
+use Rattle.std.proofs.Common.{◌≡◌, ◌⊎◌, ⊎_elim, ℕ, List, [], ◌∷◌, ◌++◌, Option, Some, None, Result, Ok, Err, refl, sym, ◌∙◌, ap, subst, append_assoc}
+use Rattle.std.specs.Prelude.{MatchResult, IfOk, IfErr, map}
+use Rattle.std.specs.List.{flat_map}
+use Rattle.disk.specs.Contents.{one_more}
+use Rattle.pagereader.specs.Outcomes.{failures_with, failures_told}
+use Rattle.roadnet.specs.declared.refusals.Refusal.{Refusal}
+use Rattle.roadnet.specs.declared.refusals.Refusal.TheVariants.{Device}
+use Rattle.machine.specs.declared.events.Event.{Event}
+use Rattle.machine.specs.declared.events.Event.TheVariants.{Submit, Flush, Checkpoint, Task, Publish, Ask, Stop, StopWithin}
+use Rattle.machine.specs.declared.events.Replied.{Replied}
+use Rattle.machine.specs.declared.events.Writing.{Writing}
+use Rattle.machine.specs.Lives.{Turn, told_version}
+use Rattle.machine.proofs.Rehearsing.{events_more, replies_more}
+use Rattle.keeper.specs.Failures.{failures_of_write, failures_of_stop, failures_after, failures_in, failures_at_end, FailsAsTold, EndsAsTold}
+use Rattle.keeper.specs.Rehearsing.{within_of}
+
+-- clauses on one result, together
+pub match_both : {T E : Type 0} (r : Result T E) (A B X : T → Type 0) (C F Y : E → Type 0) → ((x : T) → A x → B x → X x) → ((e : E) → C e → F e → Y e) → MatchResult r A C → IfOk r B → IfErr r F → MatchResult r X Y
+match_both (Ok x) A B X C F Y f g a b c = f x a b
+match_both (Err e) A B X C F Y f g a b c = g e a c
+
+-- a write's reply tells its failure
+pub told_by_write : (result : Result ℕ Refusal) (n : ℕ) → failures_told result n ≡ failures_of_write (told_version result ∷ []) n
+told_by_write (Ok v) n = refl
+told_by_write (Err e) n = refl
+
+told_behind : (result : Result ℕ Refusal) (last : Replied) (n : ℕ) → failures_told result n ≡ failures_of_stop (told_version result ∷ last ∷ []) n
+told_behind (Ok v) last n = refl
+told_behind (Err e) last n = refl
+
+-- ---- a run
+pub fails_none : {P : Type 0} (n : ℕ) → FailsAsTold {P = P} [] [] n n
+fails_none n = record { turns = []; events_are = refl; replies_are = refl; counted = refl }
+
+failures_more : {P : Type 0} (turns : List (Turn P)) (e : Event P) (now : List Replied) (n : ℕ) → failures_in (turns ++ (e, now) ∷ []) n ≡ failures_after e now (failures_in turns n)
+failures_more [] e now n = refl
+failures_more (turn ∷ turns) e now n = failures_more turns e now (failures_after turn.0 turn.1 n)
+
+pub fails_more : {P : Type 0} (events : List (Event P)) (replies : List Replied) (before mid now : ℕ) (e : Event P) (told : List Replied) → FailsAsTold events replies before mid → now ≡ failures_after e told mid
+    → FailsAsTold (events ++ e ∷ []) (replies ++ told) before now
+fails_more events replies before mid now e told f is = record {
+  turns = f.turns ++ (e, told) ∷ [];
+  events_are = events_more f.turns events e told f.events_are;
+  replies_are = replies_more f.turns replies e told f.replies_are;
+  counted = is ∙ (ap (failures_after e told) f.counted ∙ sym (failures_more f.turns e told before));
+}
+
+pub ends_told : {P : Type 0} (events rest : List (Event P)) (replies : List Replied) (ended : Option Refusal) (before mid now : ℕ) → FailsAsTold events replies before mid → now ≡ failures_at_end ended mid
+    → EndsAsTold (events ++ rest) replies ended before now
+ends_told events rest replies ended before mid now f is = record {
+  turns = f.turns;
+  rest = rest;
+  events_are = ap (λ (xs : List (Event _)). xs ++ rest) f.events_are;
+  replies_are = f.replies_are;
+  counted = is ∙ ap (failures_at_end ended) f.counted;
+}
+
+-- lists that are known by equations alone
+pub fails_as : {P : Type 0} (events : List (Event P)) (replies replies' : List Replied) (before now : ℕ) → replies' ≡ replies → FailsAsTold events replies before now → FailsAsTold events replies' before now
+fails_as events replies replies' before now is f = subst (λ (rs : List Replied). FailsAsTold events rs before now) (sym is) f
+
+pub ends_as : {P : Type 0} (events events' : List (Event P)) (replies : List Replied) (ended : Option Refusal) (before now : ℕ) → events ≡ events' → EndsAsTold events replies ended before now → EndsAsTold events' replies ended before now
+ends_as events events' replies ended before now is f = subst (λ (es : List (Event _)). EndsAsTold es replies ended before now) is f
+
+-- ---- a stop, behind an event's own reply or within the event
+by_stop : {P : Type 0} (e : Event P) (w : Writing) → within_of e ≡ Some w → (replies : List Replied) (n : ℕ) → failures_of_stop replies n ≡ failures_after e replies n
+by_stop (StopWithin call picks w') w is replies n = refl
+by_stop (Submit c) w is replies n = cc
+by_stop Flush w is replies n = cc
+by_stop Checkpoint w is replies n = cc
+by_stop Task w is replies n = cc
+by_stop Publish w is replies n = cc
+by_stop (Ask query) w is replies n = cc
+by_stop Stop w is replies n = cc
+
+pub stop_told : {P : Type 0} (e : Event P) (w : Writing) (result : Result ℕ Refusal) (replies replies' : List Replied) (last : Replied) (events : List (Event P)) (before mid now : ℕ) → within_of e ≡ Some w
+    → (replies' ≡ replies ++ told_version result ∷ []) ⊎ ((result ≡ Err Device) × (replies' ≡ replies))
+    → FailsAsTold events replies before mid → now ≡ failures_told result mid → FailsAsTold (events ++ e ∷ []) (replies' ++ last ∷ []) before now
+stop_told e w result replies replies' last events before mid now is told f counted =
+    ⊎_elim
+    (λ behind.
+    fails_as (events ++ e ∷ []) (replies ++ (told_version result ∷ last ∷ [])) (replies' ++ last ∷ []) before now
+    (ap (λ (rs : List Replied). rs ++ last ∷ []) behind ∙ append_assoc replies (told_version result ∷ []) (last ∷ []))
+    (fails_more events replies before mid now e (told_version result ∷ last ∷ []) f (counted ∙ (told_behind result last mid ∙ by_stop e w is (told_version result ∷ last ∷ []) mid))))
+    (λ cut.
+    fails_as (events ++ e ∷ []) (replies ++ last ∷ []) (replies' ++ last ∷ []) before now (ap (λ (rs : List Replied). rs ++ last ∷ []) cut.1)
+    (fails_more events replies before mid now e (last ∷ []) f (counted ∙ (ap (λ (r : Result ℕ Refusal). failures_told r mid) cut.0 ∙ by_stop e w is (last ∷ []) mid))))
+    told

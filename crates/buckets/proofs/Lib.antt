@@ -1,3 +1,4 @@
+pub mod Bits
 pub mod Listed
 pub mod Members
 pub mod Ringed

@@ -3,6 +3,7 @@
 
 mod nodes;
 mod ordered;
+mod places;
 mod queue;
 mod ring;
 

@@ -96,6 +96,7 @@ impl NodeValues {
 
     /// Gives the node this value, in place of the one that it may have. It takes O(1), and O(n) where a table grows, which doubles.
     /// After want of memory the map is as it was.
+    #[inline(always)]
     pub fn set(&mut self, node: u32, value: u64) -> Result<(), AllocError>
         ensures ok { OnOk result (self.new ≡ map.insert self.old node value) }
         ensures err { OnErr result (self.new ≡ self.old) }

@@ -81,6 +81,10 @@ weight top tentative queue = 2 * sum_by (λ value. unwrap_or value top) tentativ
 abbrev pub ring_buckets : ℕ → ℕ → ℕ
 ring_buckets greatest width = (greatest + (width - 1)) / width + 1
 
+-- a ring has at most so many lists
+abbrev pub most_lists : ℕ
+most_lists = 65536
+
 -- the values that a search may put while it settles bucket b fit
 abbrev pub FitsFrom : (ℕ → Type 0) → Groups → ℕ → Type 0
 FitsFrom accepts groups b = (value : ℕ) → b ≤ value / groups.delta → value / groups.delta < b + ring_buckets groups.greatest groups.delta → accepts value

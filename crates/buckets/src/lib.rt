@@ -3,6 +3,7 @@
 
 mod nodes;
 mod ordered;
+mod placed;
 mod places;
 mod queue;
 mod ring;

@@ -83,7 +83,7 @@ impl Model for Places {
 }
 
 impl Places {
-    ghost use Rattle.std.specs.Prelude.{◌≡◌, ◌≢◌, ℕ, ◌+◌, ◌*◌, ◌/◌, ◌≤◌, ◌<◌, IfOk, length};
+    ghost use Rattle.std.specs.Prelude.{◌≡◌, ◌≢◌, ℕ, ◌+◌, ◌*◌, ◌/◌, ◌≤◌, ◌<◌, ◌↔◌, IsTrue, IfOk, length};
     ghost use Rattle.buckets.specs.Places.{place_bit, IsNext};
 
     /// The set of no number, for numbers below the limit. The error is that no memory was given.
@@ -117,6 +117,20 @@ impl Places {
         clear_bit(&mut self.words, place);
         if self.words[place / 64] == 0 {
             clear_bit(&mut self.summary, place / 64);
+        }
+    }
+
+    /// Puts a number into the set, or takes it out, in O(1).
+    pub fn set(&mut self, place: usize, member: bool)
+        requires { place < 64 * length self.old }
+        ensures member { (place_bit self.new place ≡ 1) ↔ IsTrue member }
+        ensures others { (k : ℕ) → k ≢ place → place_bit self.new k ≡ place_bit self.old k }
+        ensures limit { length self.new ≡ length self.old }
+    {
+        if member {
+            self.insert(place);
+        } else {
+            self.remove(place);
         }
     }
 

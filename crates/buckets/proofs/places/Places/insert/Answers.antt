@@ -1,4 +1,3 @@
-use Rattle.std.proofs.Common.{rules}
 use Rattle.buckets.proofs.Bits.{IsSummary-written, bit_in_word}
 use Rattle.buckets.proofs.places.Places.insert.Goals as goal
 

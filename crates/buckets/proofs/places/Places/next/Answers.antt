@@ -1,7 +1,7 @@
-use Rattle.std.proofs.Common.{◌≡◌, ◌≢◌, ◌/◌, ◌%◌, ◌+◌, ◌*◌, ◌<◌, ◌≤◌, ◌∙◌, ℕ, get_or, length, sym, ap, subst, rules, arith}
+use Rattle.std.proofs.Common.{◌≡◌, ◌≢◌, ◌/◌, ◌%◌, ◌+◌, ◌*◌, ◌<◌, ◌≤◌, ◌∙◌, ℕ, get_or, length, sym, ap, subst, arith}
 use Rattle.std.specs.Int.{bit_at}
 use Rattle.std.proofs.lemmas.List.{get_or_read}
-use Rattle.buckets.specs.Places.{place_bit, IsLeastFrom}
+use Rattle.buckets.specs.Places.{IsLeastFrom}
 use Rattle.buckets.proofs.Bits.{found, none_between, no_bits, marked_word, within_words, IsNoneBefore}
 use Rattle.buckets.proofs.places.Places.next.Goals as goal
 

@@ -1,5 +1,9 @@
+pub mod Bits
+pub mod Distinct
 pub mod Listed
 pub mod Members
+pub mod Moved
 pub mod Ringed
+pub mod Standing
 pub mod Tables
 pub mod Taken

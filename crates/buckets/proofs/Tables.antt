@@ -3,7 +3,7 @@ use Rattle.std.proofs.Common.{◌≡◌, ◌≢◌, ℕ, zero, suc, ◌+◌, ◌
 use Rattle.std.specs.FinMap.{get, insert, remove, len, get-insert, get-remove, get-from_entries, get-empty, from_entries, find, same_map, nat_cmp-IsAntisymmetric, len-insert, len-remove, len-empty, empty, empty_of_len, contains_key}
 use Rattle.std.specs.Cmp.{nat_cmp_total, unsigned_tied}
 use Rattle.std.specs.Ordering.{eq_by_cmp}
-use Rattle.std.proofs.lemmas.Bool.{cases_eq, cases_lt}
+use Rattle.std.proofs.lemmas.Bool.{cases_Bool, cases_eq, cases_lt}
 use Rattle.std.proofs.lemmas.List.{get_or-set_same, get_or-set_other, get_or_append_left, get_or_past, length-set, set-get_or, take_all, length-append, length-replicate}
 use Rattle.buckets.specs.Queue.{Entries}
 use Rattle.buckets.specs.Tables.{queued_from, entries_of, IsTable}
@@ -180,3 +180,16 @@ count-positive count vs qs k t set_there =
           absurd (let absurdity : ⊥ = cc in absurdity)
       | inr some ↦ omega arith
     ]
+
+-- a node that has a value is queued
+pub queued_flag : (vs : List ℕ) (qs : List Bool) (m : Entries) (k : ℕ) → length qs ≤ length vs → entries_of vs qs ≡ m → is_some (get m k) ≡ true → get_or qs k false ≡ true
+queued_flag vs qs m k h is some = elim (cases_Bool (get_or qs k false)) as (λ _. get_or qs k false ≡ true) [
+  | inl on ↦ on
+  | inr off ↦ absurd (let none : is_some (get m k) ≡ false = ap (λ (o : Option ℕ). is_some o) (sym (got_none vs qs m k h is off)) in let absurdity : ⊥ = cc in absurdity)
+]
+
+pub queued_within : (qs : List Bool) (k : ℕ) → get_or qs k false ≡ true → k < length qs
+queued_within qs k on = elim (cases_lt k (length qs)) as (λ _. k < length qs) [
+  | inl lt ↦ lt
+  | inr past ↦ absurd (let off : get_or qs k false ≡ false = get_or_past qs k false past in let absurdity : ⊥ = cc in absurdity)
+]

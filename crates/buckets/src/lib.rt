@@ -3,6 +3,8 @@
 
 mod nodes;
 mod ordered;
+mod placed;
+mod places;
 mod queue;
 mod ring;
 

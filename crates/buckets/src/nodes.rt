@@ -1,6 +1,6 @@
 // The values of the nodes that are queued.
 
-ghost use Rattle.std.specs.Prelude.{◌≡◌, ℕ, ◌≤◌, ◌<◌, ◌/◌, ◌↔◌, true, false, IsTrue, OnOk, OnErr, Some, length, slice_index_or};
+ghost use Rattle.std.specs.Prelude.{◌≡◌, ℕ, ◌≤◌, ◌<◌, ◌/◌, ◌↔◌, true, false, IsTrue, IsSome, OnOk, OnErr, Some, length, slice_index_or};
 ghost use Rattle.std.specs.FinMap as map;
 ghost use Rattle.buckets.specs.Lists.{has_node};
 ghost use Rattle.buckets.specs.Queue.{bucket, is_in_bucket};
@@ -55,6 +55,20 @@ fn grow(values: &mut Vec<u64>, queued: &mut Vec<bool>, nodes: usize) -> Result<(
     Ok(())
 }
 
+/// Makes room in both tables for this many nodes, where it is not there. After want of memory they stand for the same map.
+#[inline(always)]
+fn make_room(values: &mut Vec<u64>, queued: &mut Vec<bool>, nodes: usize) -> Result<(), AllocError>
+    requires { length queued.old.items ≤ length values.old.items }
+    ensures room { OnOk result (nodes ≤ length queued.new.items) }
+    ensures sized { length queued.new.items ≤ length values.new.items }
+    ensures same { entries_of values.new.items queued.new.items ≡ entries_of values.old.items queued.old.items }
+{
+    if nodes <= queued.len() {
+        return Ok(());
+    }
+    grow(values, queued, nodes)
+}
+
 /// Whether the node of this place is queued.
 fn is_queued(queued: &[bool], place: usize) -> bool
     ensures value { result ≡ slice_index_or queued.now place false }
@@ -96,12 +110,13 @@ impl NodeValues {
 
     /// Gives the node this value, in place of the one that it may have. It takes O(1), and O(n) where a table grows, which doubles.
     /// After want of memory the map is as it was.
+    #[inline(always)]
     pub fn set(&mut self, node: u32, value: u64) -> Result<(), AllocError>
         ensures ok { OnOk result (self.new ≡ map.insert self.old node value) }
         ensures err { OnErr result (self.new ≡ self.old) }
     {
         let place = node as usize;
-        grow(&mut self.values, &mut self.queued, place + 1)?;
+        make_room(&mut self.values, &mut self.queued, place + 1)?;
         self.values[place] = value;
         if is_queued(&self.queued, place) {
             return Ok(());
@@ -111,8 +126,17 @@ impl NodeValues {
         Ok(())
     }
 
+    /// Gives a node that has a value this one, in O(1).
+    #[inline(always)]
+    pub fn change(&mut self, node: u32, value: u64)
+        requires { IsSome (map.get self.old node) }
+        ensures { self.new ≡ map.insert self.old node value }
+    {
+        self.values[node as usize] = value;
+    }
+
     /// Takes the value of the node away, if it has one, in O(1).
-    fn remove(&mut self, node: u32)
+    pub fn remove(&mut self, node: u32)
         ensures { self.new ≡ map.remove self.old node }
     {
         let place = node as usize;

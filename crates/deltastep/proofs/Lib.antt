@@ -3,6 +3,7 @@ pub mod Division
 pub mod Entries
 pub mod Finishing
 pub mod Flags
+pub mod Live
 pub mod Lowering
 pub mod Members
 pub mod NoShorter

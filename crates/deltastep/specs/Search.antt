@@ -7,6 +7,7 @@
 --     IsRelaxed groups part tentative u           no leg of the part leads to less than is known
 --     IsRelaxedBut groups part tentative queue owed     so it is at each node that is neither queued nor owed
 --     AreInBucket tentative width b nodes         the nodes' values are in bucket b
+--     AreLiveFrom groups b queue        all queued values lie in ring_buckets buckets in a row, from bucket b on
 --     MeetsRequests top requests ..     the nodes that changed took the value of a request and are queued with it,
 --                                   and no request asks for less than is known now
 use Rattle.std.specs.Prelude.{◌≡◌, ℕ, ◌+◌, ◌*◌, ◌-◌, ◌/◌, ◌<◌, ◌≤◌, ◌⊎◌, ◌≢◌, List, [], ◌∷◌, ◌++◌, length, sum_by, unwrap_or, IsSome, Contains, Option, Some}
@@ -81,9 +82,22 @@ weight top tentative queue = 2 * sum_by (λ value. unwrap_or value top) tentativ
 abbrev pub ring_buckets : ℕ → ℕ → ℕ
 ring_buckets greatest width = (greatest + (width - 1)) / width + 1
 
+-- a ring has at most so many lists
+abbrev pub most_lists : ℕ
+most_lists = 65536
+
 -- the values that a search may put while it settles bucket b fit
 abbrev pub FitsFrom : (ℕ → Type 0) → Groups → ℕ → Type 0
 FitsFrom accepts groups b = (value : ℕ) → b ≤ value / groups.delta → value / groups.delta < b + ring_buckets groups.greatest groups.delta → accepts value
+
+-- all values that are queued lie in as many buckets in a row as a ring needs, from bucket b on
+abbrev pub AreLiveFrom : Groups → ℕ → Entries → Type 0
+AreLiveFrom groups b queue = (u x : ℕ) → map.get queue u ≡ Some x → (b ≤ x / groups.delta) × (x / groups.delta < b + ring_buckets groups.greatest groups.delta)
+
+-- .. from some bucket on
+pub record AreLive (groups : Groups) (queue : Entries) : Type 0 where
+  pub first : ℕ
+  pub live : AreLiveFrom groups first queue
 
 -- a queue of this width and window suits a snapshot
 pub record IsSuited (groups : Groups) (delta span : ℕ) : Type 0 where

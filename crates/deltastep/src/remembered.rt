@@ -4,7 +4,7 @@ use std::marker::Model;
 
 /// Nodes, each once, in the order in which they were first added. It takes 1 byte for each number below its limit and 4 a node.
 #[derive(Drop)]
-pub(crate) struct Remembered {
+pub struct Remembered {
     flags: Vec<bool>,
     nodes: Vec<u32>,
 }
@@ -26,7 +26,7 @@ impl Remembered {
     ghost use Rattle.deltastep.specs.Remembered.{remember, remember_all};
 
     /// No node, of the numbers below the limit.
-    pub(crate) fn new(alloc: Global, limit: usize) -> Result<Remembered, RowError>
+    pub fn new(alloc: Global, limit: usize) -> Result<Remembered, RowError>
         ensures none { IfOk result (λ remembered. remembered ≡ record { limit = limit; nodes = [] }) }
     {
         Ok(Remembered {

@@ -1,15 +1,16 @@
 //! A search by delta-stepping: bucket after bucket is settled, the least first.
 
-ghost use Rattle.std.specs.Prelude.{◌≡◌, ℕ, ◌≤◌, ◌<◌, ◌/◌, ◌+◌, ◌==◌, ◌^◌, List, [], IfOk, OnOk, MatchBool, All, Some, slice_set, length, vec_len};
+ghost use Rattle.std.specs.Prelude.{◌≡◌, ℕ, ◌≤◌, ◌<◌, ◌/◌, ◌+◌, ◌==◌, ◌^◌, List, [], IfOk, OnOk, MatchBool, MatchOption, All, Some, slice_set, length, vec_len};
 ghost use Rattle.std.specs.List.{IsDistinct};
 ghost use Rattle.std.specs.Bool.{OnTrue, OnFalse};
 ghost use Rattle.std.specs.FinMap as map;
 ghost use Rattle.snapshot.specs.Groups.{IsGrouped};
 ghost use Rattle.snapshot.specs.declared.legs.Part.TheVariants.{Light, Heavy};
+ghost use Rattle.buckets.specs.Queue.{TakesLeast};
 ghost use Rattle.relax.specs.Values.{value_or};
 ghost use Rattle.relax.specs.Requests.{requests_of};
 ghost use Rattle.deltastep.specs.Remembered.{Memory};
-ghost use Rattle.deltastep.specs.Search.{AreReached, IsBetweenBuckets, EndsPhase, EmptiesBucket, IsSearch, IsRelaxedBut, IsBucketEmpty, AreInBucket, FitsFrom, IsSuited, Suits, top_of, MeetsRequests, weight, HasQueued};
+ghost use Rattle.deltastep.specs.Search.{AreLive, AreLiveFrom, AreReached, IsBetweenBuckets, EndsPhase, EmptiesBucket, IsSearch, IsRelaxedBut, IsBucketEmpty, AreInBucket, FitsFrom, IsSuited, Suits, top_of, MeetsRequests, weight, HasQueued};
 
 use crate::distances::RowError;
 use crate::remembered::Remembered;
@@ -30,15 +31,17 @@ fn top(snapshot: &Snapshot) -> u64
 
 /// A search under way: the least value found so far for each node, and the nodes whose legs are still to be relaxed, in buckets by
 /// that value.
+///
+/// It begins with `start`, and goes on by `take_bucket` and `settle` in turn, until no bucket is left; `run` does so.
 #[derive(Drop)]
-pub(crate) struct Search<Q> {
+pub struct Search<Q> {
     pub(crate) tentative: Tentative,
     buckets: Q,
 }
 
 impl<Q: BucketQueue> Search<Q> {
     /// A search that knows the source alone, which is queued with 0.
-    pub(crate) fn start(
+    pub fn start(
         alloc: Global,
         snapshot: &Snapshot,
         source: u32,
@@ -49,6 +52,7 @@ impl<Q: BucketQueue> Search<Q> {
         requires node { (1 ≤ source) × (source ≤ snapshot.now.nodes) }
         requires suits { Suits snapshot.now (Q.entries buckets) (Q.accepts buckets) (Q.width buckets) (Q.span buckets) }
         ensures state { IfOk result (λ search. IsBetweenBuckets snapshot.now source search.tentative (Q.entries search.buckets)) }
+        ensures live { IfOk result (λ search. AreLiveFrom snapshot.now 0 (Q.entries search.buckets)) }
         ensures grouped { OnOk result (IsGrouped snapshot.now) }
         ensures suited { IfOk result (λ search. IsSuited snapshot.now (Q.width search.buckets) (Q.span search.buckets)) }
     {
@@ -60,8 +64,22 @@ impl<Q: BucketQueue> Search<Q> {
         Ok(search)
     }
 
+    /// Takes the least bucket that is not empty: its number and its nodes, ascending; nothing where no node is queued. All values that
+    /// are queued lie in `ceil(L / delta) + 1` buckets in a row then, from the one that is taken on, with L the greatest length of a leg.
+    pub fn take_bucket(&mut self, _snapshot: &Snapshot) -> Result<Option<(u64, Vec<u32>)>, RowError>
+        requires live { AreLive _snapshot.now (Q.entries self.old.buckets) }
+        requires suited { IsSuited _snapshot.now (Q.width self.old.buckets) (Q.span self.old.buckets) }
+        ensures taken { IfOk result (λ taken. MatchOption taken (Q.entries self.old.buckets ≡ map.empty) (λ t. TakesLeast _snapshot.now.delta (Q.entries self.old.buckets) t.0 t.1.items (Q.entries self.new.buckets))) }
+        ensures live { IfOk result (λ taken. MatchOption taken (Q.entries self.new.buckets ≡ map.empty) (λ t. AreLiveFrom _snapshot.now t.0 (Q.entries self.old.buckets))) }
+        ensures window { IfOk result (λ taken. MatchOption taken (Unit {0}) (λ t. FitsFrom (Q.accepts self.new.buckets) _snapshot.now t.0)) }
+        ensures tentative { self.new.tentative ≡ self.old.tentative }
+        ensures suited { IsSuited _snapshot.now (Q.width self.new.buckets) (Q.span self.new.buckets) }
+    {
+        Ok(self.buckets.take_least()?)
+    }
+
     /// Settles bucket after bucket until none is left.
-    pub(crate) fn run<T: Team>(
+    pub fn run<T: Team>(
         &mut self,
         alloc: Global,
         snapshot: &Snapshot,
@@ -69,10 +87,11 @@ impl<Q: BucketQueue> Search<Q> {
     ) -> Result<(), RowError>
         requires state { (source : ℕ) × IsBetweenBuckets snapshot.now source self.old.tentative (Q.entries self.old.buckets) }
         requires suited { IsSuited snapshot.now (Q.width self.old.buckets) (Q.span self.old.buckets) }
+        requires live { AreLive snapshot.now (Q.entries self.old.buckets) }
         ensures settled { OnOk result ((source : ℕ) → IsBetweenBuckets snapshot.now source self.old.tentative (Q.entries self.old.buckets) → IsBetweenBuckets snapshot.now source self.new.tentative map.empty) }
     {
         let mut remembered = Remembered::new(alloc, snapshot.nodes() as usize + 1)?;
-        'buckets: while let Some((bucket, taken)) = self.buckets.take_least()? {
+        'buckets: while let Some((bucket, taken)) = self.take_bucket(snapshot)? {
             self.settle(alloc, snapshot, team, bucket, taken, &mut remembered)?;
         }
         Ok(())
@@ -80,7 +99,7 @@ impl<Q: BucketQueue> Search<Q> {
 
     /// Settles a bucket, given the nodes that were taken from it: relaxes light legs while nodes come back into it, and then once the
     /// heavy legs of all nodes that were taken. Nothing is left in the bucket.
-    fn settle<T: Team>(
+    pub fn settle<T: Team>(
         &mut self,
         alloc: Global,
         snapshot: &Snapshot,
@@ -95,11 +114,13 @@ impl<Q: BucketQueue> Search<Q> {
         requires taken { AreInBucket self.old.tentative snapshot.now.delta bucket taken.items }
         requires emptied { IsBucketEmpty snapshot.now.delta bucket (Q.entries self.old.buckets) }
         requires none { remembered.old ≡ record { limit = snapshot.now.nodes + 1; nodes = [] } }
+        requires live { AreLiveFrom snapshot.now bucket (Q.entries self.old.buckets) }
         requires window { FitsFrom (Q.accepts self.old.buckets) snapshot.now bucket }
         requires suited { IsSuited snapshot.now (Q.width self.old.buckets) (Q.span self.old.buckets) }
         ensures settled { OnOk result (EmptiesBucket snapshot.now bucket self.old.tentative self.new.tentative (Q.entries self.new.buckets) []) }
         ensures weight { OnOk result (weight (top_of snapshot.now) self.new.tentative (Q.entries self.new.buckets) ≤ weight (top_of snapshot.now) self.old.tentative (Q.entries self.old.buckets)) }
         ensures none { OnOk result (remembered.new ≡ record { limit = snapshot.now.nodes + 1; nodes = [] }) }
+        ensures live { OnOk result (AreLiveFrom snapshot.now bucket (Q.entries self.new.buckets)) }
         ensures suited { OnOk result (IsSuited snapshot.now (Q.width self.new.buckets) (Q.span self.new.buckets)) }
     {
         self.empty(alloc, snapshot, team, bucket, taken, remembered)?;
@@ -131,12 +152,14 @@ impl<Q: BucketQueue> Search<Q> {
         requires taken { AreInBucket self.old.tentative snapshot.now.delta bucket taken.items }
         requires emptied { IsBucketEmpty snapshot.now.delta bucket (Q.entries self.old.buckets) }
         requires none { remembered.old ≡ record { limit = snapshot.now.nodes + 1; nodes = [] } }
+        requires live { AreLiveFrom snapshot.now bucket (Q.entries self.old.buckets) }
         requires window { FitsFrom (Q.accepts self.old.buckets) snapshot.now bucket }
         requires suited { IsSuited snapshot.now (Q.width self.old.buckets) (Q.span self.old.buckets) }
         ensures emptied { OnOk result (EmptiesBucket snapshot.now bucket self.old.tentative self.new.tentative (Q.entries self.new.buckets) remembered.new.nodes) }
         ensures weight { OnOk result (weight (top_of snapshot.now) self.new.tentative (Q.entries self.new.buckets) ≤ weight (top_of snapshot.now) self.old.tentative (Q.entries self.old.buckets)) }
         ensures limit { OnOk result (remembered.new.limit ≡ snapshot.now.nodes + 1) }
         ensures window { OnOk result (FitsFrom (Q.accepts self.new.buckets) snapshot.now bucket) }
+        ensures live { OnOk result (AreLiveFrom snapshot.now bucket (Q.entries self.new.buckets)) }
         ensures suited { OnOk result (IsSuited snapshot.now (Q.width self.new.buckets) (Q.span self.new.buckets)) }
     {
         let mut nodes = taken;
@@ -160,6 +183,7 @@ impl<Q: BucketQueue> Search<Q> {
         requires light { IsRelaxedBut snapshot.now Light self.old.tentative (Q.entries self.old.buckets) nodes.now }
         requires nodes { AreInBucket self.old.tentative snapshot.now.delta bucket nodes.now }
         requires emptied { IsBucketEmpty snapshot.now.delta bucket (Q.entries self.old.buckets) }
+        requires live { AreLiveFrom snapshot.now bucket (Q.entries self.old.buckets) }
         requires window { FitsFrom (Q.accepts self.old.buckets) snapshot.now bucket }
         requires suited { IsSuited snapshot.now (Q.width self.old.buckets) (Q.span self.old.buckets) }
         ensures phase { IfOk result (λ next. EndsPhase snapshot.now bucket self.old.tentative (Q.entries self.old.buckets) self.new.tentative (Q.entries self.new.buckets) next.items) }
@@ -167,6 +191,7 @@ impl<Q: BucketQueue> Search<Q> {
         ensures emptied { OnOk result (IsBucketEmpty snapshot.now.delta bucket (Q.entries self.new.buckets)) }
         ensures falls { IfOk result (λ next. 0 < vec_len next → weight (top_of snapshot.now) self.new.tentative (Q.entries self.new.buckets) < weight (top_of snapshot.now) self.old.tentative (Q.entries self.old.buckets)) }
         ensures window { OnOk result (FitsFrom (Q.accepts self.new.buckets) snapshot.now bucket) }
+        ensures live { OnOk result (AreLiveFrom snapshot.now bucket (Q.entries self.new.buckets)) }
         ensures suited { OnOk result (IsSuited snapshot.now (Q.width self.new.buckets) (Q.span self.new.buckets)) }
     {
         if !self.relax(alloc, snapshot, team, bucket, nodes, Part::Light)? {
@@ -191,6 +216,7 @@ impl<Q: BucketQueue> Search<Q> {
         requires search { IsSearch snapshot.now self.old.tentative (Q.entries self.old.buckets) bucket }
         requires nodes { AreInBucket self.old.tentative snapshot.now.delta bucket nodes.now }
         requires once { part ≡ Heavy → IsDistinct (λ a b. a == b) nodes.now }
+        requires live { AreLiveFrom snapshot.now bucket (Q.entries self.old.buckets) }
         requires window { FitsFrom (Q.accepts self.old.buckets) snapshot.now bucket }
         requires suited { IsSuited snapshot.now (Q.width self.old.buckets) (Q.span self.old.buckets) }
         ensures search { OnOk result (IsSearch snapshot.now self.new.tentative (Q.entries self.new.buckets) bucket) }
@@ -201,6 +227,7 @@ impl<Q: BucketQueue> Search<Q> {
         ensures none_came { IfOk result (λ came_back. OnFalse came_back (IsBucketEmpty snapshot.now.delta bucket (Q.entries self.old.buckets) → IsBucketEmpty snapshot.now.delta bucket (Q.entries self.new.buckets))) }
         ensures weight { OnOk result (weight (top_of snapshot.now) self.new.tentative (Q.entries self.new.buckets) ≤ weight (top_of snapshot.now) self.old.tentative (Q.entries self.old.buckets)) }
         ensures window { OnOk result (FitsFrom (Q.accepts self.new.buckets) snapshot.now bucket) }
+        ensures live { OnOk result (AreLiveFrom snapshot.now bucket (Q.entries self.new.buckets)) }
         ensures suited { OnOk result (IsSuited snapshot.now (Q.width self.new.buckets) (Q.span self.new.buckets)) }
         ensures grouped { OnOk result (IsGrouped snapshot.now) }
     {
@@ -236,6 +263,7 @@ impl<Q: BucketQueue> Search<Q> {
     }
 
     /// Lowers a node's value to the given one, if that is below `top` and the value so far, and queues the node. Tells whether it did.
+    #[inline(always)]
     fn lower(&mut self, top: u64, node: u32, value: u64) -> Result<bool, RowError>
         requires node { (1 ≤ node) × (node < length self.old.tentative) }
         requires fits { Q.accepts self.old.buckets value }

@@ -1,15 +1,18 @@
-ghost use Rattle.std.specs.Prelude.{◌≡◌, ℕ, ◌≤◌, ◌↔◌, IfOk, IsTrue};
+ghost use Rattle.std.specs.Prelude.{◌≡◌, ℕ, ◌≤◌, ◌<◌, ◌↔◌, IfOk, IsTrue, MatchOption};
 ghost use Rattle.roadnet.specs.Net.{Net};
 ghost use Rattle.roadnet.specs.Walks.{RowOf};
 ghost use Rattle.snapshot.specs.Groups.{IsSnapshotOf};
-ghost use Rattle.deltastep.specs.Search.{Suits};
+ghost use Rattle.deltastep.specs.Search.{Suits, ring_buckets, most_lists};
 
 use crate::distances::{Distances, RowError};
 use crate::search::Search;
-use buckets::{BucketQueue, OrderedBuckets};
+use buckets::{BucketQueue, OrderedBuckets, RingBuckets};
 use relax::Team;
 use snapshot::Snapshot;
 use std::alloc::Global;
+
+/// A ring of buckets has at most so many lists.
+const MOST_LISTS: u64 = 65536;
 
 /// The row of `source`: the least length of a walk from it to each node, or that there is none, by delta-stepping with the given team
 /// and queue.
@@ -39,12 +42,34 @@ pub fn row_from<Q: BucketQueue + Drop, T: Team>(
 pub fn suits<Q: BucketQueue>(queue: &Q, snapshot: &Snapshot) -> bool
     ensures { IsTrue result ↔ Suits snapshot.now (Q.entries queue.now) (Q.accepts queue.now) (Q.width queue.now) (Q.span queue.now) }
 {
-    let delta = u64::from(snapshot.delta());
-    let ring = (u64::from(snapshot.greatest()) + (delta - 1)) / delta + 1;
-    queue.is_empty() && queue.fits(0) && queue.delta() == snapshot.delta() && ring <= queue.window()
+    queue.is_empty()
+        && queue.fits(0)
+        && queue.delta() == snapshot.delta()
+        && live_buckets(snapshot) <= queue.window()
 }
 
-/// The row of `source` by delta-stepping with the given team and a queue of its own: `row_from` with ordered buckets.
+/// How many buckets in a row hold all values that live at once: the greatest length by the width of a bucket, rounded up, and one more.
+fn live_buckets(snapshot: &Snapshot) -> u64
+    ensures { result ≡ ring_buckets snapshot.now.greatest snapshot.now.delta }
+{
+    let delta = u64::from(snapshot.delta());
+    (u64::from(snapshot.greatest()) + (delta - 1)) / delta + 1
+}
+
+/// How many lists a ring needs for a search of this snapshot, or nothing where that is more than a ring may have. It takes no memory.
+pub fn ring_size(snapshot: &Snapshot) -> Option<u32>
+    ensures { MatchOption result (most_lists < ring_buckets snapshot.now.greatest snapshot.now.delta) (λ size. (size ≡ ring_buckets snapshot.now.greatest snapshot.now.delta) × (size ≤ most_lists)) }
+{
+    let size = live_buckets(snapshot);
+    if size <= MOST_LISTS {
+        Some(size as u32)
+    } else {
+        None
+    }
+}
+
+/// The row of `source` by delta-stepping with the given team and a queue of its own: a ring of as many buckets as are needed, where a ring
+/// may have so many, else ordered buckets.
 pub fn row<T: Team>(
     alloc: Global,
     snapshot: &Snapshot,
@@ -54,6 +79,14 @@ pub fn row<T: Team>(
     requires node { (1 ≤ source) × (source ≤ snapshot.now.nodes) }
     ensures row { IfOk result (λ row. (net : Net) → IsSnapshotOf net snapshot.now → RowOf net source row) }
 {
-    let buckets = OrderedBuckets::new(alloc, snapshot.delta());
-    row_from(alloc, snapshot, source, team, buckets)
+    match ring_size(snapshot) {
+        Some(size) => {
+            let buckets = RingBuckets::new(alloc, snapshot.delta(), size)?;
+            row_from(alloc, snapshot, source, team, buckets)
+        }
+        None => {
+            let buckets = OrderedBuckets::new(alloc, snapshot.delta());
+            row_from(alloc, snapshot, source, team, buckets)
+        }
+    }
 }

@@ -1,9 +1,11 @@
 //! One phase of a search: the requests that a list of nodes makes of the nodes that their arcs reach.
 #![tactic(auto)]
 
+mod crew;
 mod team;
 mod tentative;
 
+pub use crew::{CHUNK, Crew};
 pub use team::{Solo, Team};
 pub use tentative::Tentative;
 

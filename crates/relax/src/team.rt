@@ -57,6 +57,7 @@ fn count(snapshot: &Snapshot, nodes: &[u32], part: Part) -> usize {
 }
 
 /// Adds the requests of one node, whose value is given.
+#[inline(always)]
 fn push_requests(
     requests: &mut Vec<(u32, u64)>,
     value: u64,

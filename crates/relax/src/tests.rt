@@ -2,7 +2,7 @@ ghost use Rattle.std.specs.Prelude.{◌≡◌, ◌+◌, ◌≤◌, ◌<◌, ◌^
 ghost use Rattle.std.specs.Bool.{OnTrue};
 ghost use Rattle.relax.specs.Values.{value_at, value_or};
 
-use crate::{Solo, Team, Tentative};
+use crate::{CHUNK, Crew, Solo, Team, Tentative};
 use roadnet::{Network, Refusal, RoadArc};
 use snapshot::{Part, Snapshot};
 use std::alloc::{AllocError, Global};
@@ -111,6 +111,23 @@ fn requests_of_one_worker(rt: HostRuntime) -> Result<(), Refusal> {
     assert!(rt; is(&heavy, &[(6, 30)]));
     let none = requests(alloc, &Solo, &[], &values, Part::Light)?;
     assert!(rt; is(&none, &[]));
+    Ok(())
+}
+
+#[test]
+fn requests_of_a_crew(rt: HostRuntime) -> Result<(), Refusal> {
+    let alloc = rt.alloc();
+    let nodes = [3, 5, 2, 4];
+    let values = [(3, 10), (5, 10), (2, 10), (4, 12)];
+    for chunk in [1, 3, CHUNK] {
+        let crew = Crew::new(&rt, chunk);
+        let light = requests(alloc, &crew, &nodes, &values, Part::Light)?;
+        assert!(rt; is(&light, &[(5, 10), (2, 10), (4, 12), (3, 12), (6, 15)]));
+        let heavy = requests(alloc, &crew, &nodes, &values, Part::Heavy)?;
+        assert!(rt; is(&heavy, &[(6, 30)]));
+        let none = requests(alloc, &crew, &[], &values, Part::Light)?;
+        assert!(rt; is(&none, &[]));
+    }
     Ok(())
 }
 

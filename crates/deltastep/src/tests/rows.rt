@@ -1,9 +1,11 @@
 //! Rows by delta-stepping, beside worked rows and the plain row.
 
-use super::networks::{chain, drawn, fan, longest, parallel, six};
-use crate::{Distances, RowError, plain_row, row, row_from, suits};
-use buckets::OrderedBuckets;
-use relax::Solo;
+ghost use Rattle.std.specs.Prelude.{◌≤◌};
+
+use super::networks::{chain, drawn, fan, longest, network, parallel, six};
+use crate::{Distances, RowError, plain_row, ring_size, row, row_from, suits};
+use buckets::{OrderedBuckets, RingBuckets};
+use relax::{CHUNK, Crew, Solo, Team};
 use roadnet::{Command, Network, Refusal};
 use snapshot::{Snapshot, default_delta};
 use std::alloc::Global;
@@ -11,12 +13,23 @@ use std::alloc::Global;
 /// Deltas from the least to the greatest.
 const DELTAS: [u32; 3] = [1, 5, 2147483647];
 
-/// The row of a node under this delta.
+/// The row of a node under this delta, by one worker.
 fn row_under(
     alloc: Global,
     network: &Network,
     source: u32,
     delta: u32,
+) -> Result<Distances, Refusal> {
+    row_by(alloc, network, source, delta, &Solo)
+}
+
+/// The row of a node under this delta, by this team.
+fn row_by<T: Team>(
+    alloc: Global,
+    network: &Network,
+    source: u32,
+    delta: u32,
+    team: &T,
 ) -> Result<Distances, Refusal> {
     if delta == 0 || delta > 2147483647 {
         return Err(Refusal::NumberRange);
@@ -25,7 +38,7 @@ fn row_under(
     if !snapshot.has_node(source) {
         return Err(Refusal::NoSuchNode);
     }
-    match row(alloc, &snapshot, source, &Solo) {
+    match row(alloc, &snapshot, source, team) {
         Ok(row) => Ok(row),
         Err(RowError::OutOfMemory) => Err(Refusal::OutOfMemory),
     }
@@ -102,6 +115,8 @@ fn rows_of_a_chain_and_a_fan(rt: HostRuntime) -> Result<(), Refusal> {
         assert!(rt; network.has_node(1));
         let plain = plain_row(alloc, &network, 1).map_err(|_| Refusal::OutOfMemory)?;
         assert!(rt; agree(&row_under(alloc, &network, 1, 3)?, &plain, 100_000));
+        let crew = Crew::new(&rt, CHUNK);
+        assert!(rt; agree(&row_by(alloc, &network, 1, 3, &crew)?, &plain, 100_000));
     }
     Ok(())
 }
@@ -115,6 +130,58 @@ fn which_queues_suit(rt: HostRuntime) -> Result<(), Refusal> {
     let buckets = OrderedBuckets::new(alloc, 5);
     assert!(rt; snapshot.has_node(1) && suits(&buckets, &snapshot));
     let row = row_from(alloc, &snapshot, 1, &Solo, buckets).map_err(|_| Refusal::OutOfMemory)?;
+    assert_eq!(rt; row.get(6), Some(15));
+    Ok(())
+}
+
+/// The ring's size for a network of two nodes with one arc of this length, under this delta.
+fn size_for(alloc: Global, length: u32, delta: u32) -> Result<Option<u32>, Refusal>
+    requires { (1 ≤ delta) × (delta ≤ 2147483647) }
+{
+    let snapshot = Snapshot::build(alloc, &network(alloc, 2, &[(1, 2, length)])?, delta)?;
+    Ok(ring_size(&snapshot))
+}
+
+#[test]
+fn sizes_of_rings(rt: HostRuntime) -> Result<(), Refusal> {
+    let alloc = rt.alloc();
+    assert_eq!(rt;
+        ring_size(&Snapshot::build(alloc, &six(alloc)?, 5)?),
+        Some(5)
+    );
+    assert_eq!(rt;
+        ring_size(&Snapshot::build(alloc, &six(alloc)?, 1)?),
+        Some(21)
+    );
+    assert_eq!(rt; size_for(alloc, 65535, 1)?, Some(65536));
+    assert_eq!(rt; size_for(alloc, 65536, 1)?, None);
+    let longest = longest(alloc)?;
+    assert_eq!(rt; ring_size(&Snapshot::build(alloc, &longest, 1)?), None);
+    assert_eq!(rt; default_delta(&longest), 2097152);
+    assert_eq!(rt;
+        ring_size(&Snapshot::build(alloc, &longest, 2097152)?),
+        Some(1025)
+    );
+    assert_eq!(rt;
+        ring_size(&Snapshot::build(alloc, &network(alloc, 1, &[])?, 1)?),
+        Some(1)
+    );
+    Ok(())
+}
+
+#[test]
+fn which_rings_suit(rt: HostRuntime) -> Result<(), Refusal> {
+    let alloc = rt.alloc();
+    let snapshot = Snapshot::build(alloc, &six(alloc)?, 5)?;
+    assert!(rt;
+        !suits(
+            &RingBuckets::new(alloc, 5, 4).map_err(|_| Refusal::OutOfMemory)?,
+            &snapshot
+        )
+    );
+    let ring = RingBuckets::new(alloc, 5, 5).map_err(|_| Refusal::OutOfMemory)?;
+    assert!(rt; snapshot.has_node(1) && suits(&ring, &snapshot));
+    let row = row_from(alloc, &snapshot, 1, &Solo, ring).map_err(|_| Refusal::OutOfMemory)?;
     assert_eq!(rt; row.get(6), Some(15));
     Ok(())
 }

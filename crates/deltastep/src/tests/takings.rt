@@ -2,28 +2,28 @@
 
 use super::networks::six;
 use crate::{row_from, suits};
-use buckets::{BucketQueue, OrderedBuckets};
+use buckets::{BucketQueue, OrderedBuckets, RingBuckets};
 use relax::Solo;
 use roadnet::Refusal;
 use snapshot::Snapshot;
 use std::alloc::{AllocError, Global};
 
-/// Ordered buckets that keep a record of what was taken from them.
+/// A queue that keeps a record of what was taken from it.
 #[derive(Drop)]
-struct Recorded<'a> {
+struct Recorded<'a, Q> {
     alloc: Global,
-    inner: OrderedBuckets,
+    inner: Q,
     takings: &'a mut Vec<(u64, Vec<u32>)>,
 }
 
-impl BucketQueue for Recorded<'_> {
-    ghost entries = { λ q. ⟦<OrderedBuckets as BucketQueue>⟧.entries q.inner };
+impl<Q: BucketQueue> BucketQueue for Recorded<'_, Q> {
+    ghost entries = { λ q. Q.entries q.inner };
 
-    ghost width = { λ q. ⟦<OrderedBuckets as BucketQueue>⟧.width q.inner };
+    ghost width = { λ q. Q.width q.inner };
 
-    ghost span = { λ q. ⟦<OrderedBuckets as BucketQueue>⟧.span q.inner };
+    ghost span = { λ q. Q.span q.inner };
 
-    ghost accepts = { λ q. ⟦<OrderedBuckets as BucketQueue>⟧.accepts q.inner };
+    ghost accepts = { λ q. Q.accepts q.inner };
 
     fn delta(&self) -> u32 {
         self.inner.delta()
@@ -56,24 +56,37 @@ impl BucketQueue for Recorded<'_> {
     }
 }
 
-/// The takings of a search from node 1 of the six-node network, whose nodes are taken one by one.
+/// Whether the takings of a search from node 1 of the six-node network by this queue, whose nodes are taken one by one, are those of the
+/// table, or nothing where the queue does not suit.
+fn takes_as_told<Q: BucketQueue + Drop>(
+    alloc: Global,
+    snapshot: &Snapshot,
+    inner: Q,
+) -> Result<bool, Refusal> {
+    let mut takings = Vec::new(alloc);
+    let buckets = Recorded {
+        alloc,
+        inner,
+        takings: &mut takings,
+    };
+    if !snapshot.has_node(1) || !suits(&buckets, snapshot) {
+        return Ok(false);
+    }
+    let row = row_from(alloc, snapshot, 1, &Solo, buckets).map_err(|_| Refusal::OutOfMemory)?;
+    let want = [(0, 1), (2, 3), (2, 5), (2, 2), (2, 4), (3, 6)];
+    let mut right = row.get(6) == Some(15) && takings.len() == want.len();
+    for (taken, &(bucket, node)) in takings.iter().zip(&want) {
+        right = right && taken.0 == bucket && taken.1.as_slice() == [node].as_slice();
+    }
+    Ok(right)
+}
+
 #[test]
 fn takings_of_the_six_node_network(rt: HostRuntime) -> Result<(), Refusal> {
     let alloc = rt.alloc();
     let snapshot = Snapshot::build(alloc, &six(alloc)?, 5)?;
-    let mut takings = Vec::new(alloc);
-    let buckets = Recorded {
-        alloc,
-        inner: OrderedBuckets::new(alloc, 5),
-        takings: &mut takings,
-    };
-    assert!(rt; snapshot.has_node(1) && suits(&buckets, &snapshot));
-    let row = row_from(alloc, &snapshot, 1, &Solo, buckets).map_err(|_| Refusal::OutOfMemory)?;
-    assert_eq!(rt; row.get(6), Some(15));
-    let want = [(0, 1), (2, 3), (2, 5), (2, 2), (2, 4), (3, 6)];
-    assert_eq!(rt; takings.len(), want.len());
-    for (taken, &(bucket, node)) in takings.iter().zip(&want) {
-        assert!(rt; taken.0 == bucket && taken.1.as_slice() == [node].as_slice());
-    }
+    assert!(rt; takes_as_told(alloc, &snapshot, OrderedBuckets::new(alloc, 5))?);
+    let ring = RingBuckets::new(alloc, 5, 5).map_err(|_| Refusal::OutOfMemory)?;
+    assert!(rt; takes_as_told(alloc, &snapshot, ring)?);
     Ok(())
 }

@@ -1,20 +1,14 @@
-use Rattle.std.proofs.Common.{ℕ, ◌+◌, ◌-◌, ◌<◌, ◌≤◌, arith, ◌∙◌, div-le_self}
-use Rattle.snapshot.specs.Groups.{IsGrouped}
-use Rattle.deltastep.specs.Search.{ring_buckets}
+use Rattle.std.proofs.Common.{◌/◌, ◌<◌, arith, ◌∙◌, div-le_self}
 use Rattle.deltastep.proofs.stepping.row.Goals as goal
-
-ring_small : (greatest delta : ℕ) → greatest ≤ 2147483647 → delta < 4294967296 → ring_buckets greatest delta ≤ 18446744073709551615
-ring_small greatest delta h k = omega (arith, div-le_self (greatest + (delta - 1)) delta)
 
 pub row_from-requires-clause-suits : goal.row_from-requires-clause-suits
 row_from-requires-clause-suits g c =
-    let grouped : IsGrouped c.args.snapshot.now = c.delta.ensures.grouped in
-    let small : c.args.snapshot.now.delta < 4294967296 = omega (arith, c.delta.ensures.value, c.delta.type_inv) in
+    let low : 0 / c.delta.result < c.in-Some.size = omega (arith, div-le_self 0 c.delta.result, c.in-Some.ensures.0) in
     record {
-      empty = c.new-buckets.ensures.empty;
-      first = c.new-buckets.ensures.accepts 0;
+      empty = c.in_ok-buckets-in-Some.ensures.empty;
+      first = (c.in_ok-buckets-in-Some.ensures.accepts 0).1 low;
       suited = record {
-        width = c.new-buckets.ensures.width ∙ c.delta.ensures.value;
-        window = rw c.new-buckets.ensures.span (ring_small c.args.snapshot.now.greatest c.args.snapshot.now.delta grouped.greatest small);
+        width = c.in_ok-buckets-in-Some.ensures.width ∙ c.delta.ensures.value;
+        window = omega (arith, c.in_ok-buckets-in-Some.ensures.span, c.in-Some.ensures.0);
       };
     }

@@ -34,6 +34,7 @@ phases-preserved g c =
       remembered = rw remembered (ends.stays (remember_all c.phases.remembered.nodes c.phases.nodes.items) both);
       emptied = c.in_ok-nodes.ensures.emptied;
       limit = c.in_ok-add_all.ensures.limit ∙ c.phases.invariant.limit;
+      live = c.in_ok-nodes.ensures.live;
       window = c.in_ok-nodes.ensures.window;
       suited = c.in_ok-nodes.ensures.suited;
       weighs = le_trans c.in_ok-nodes.ensures.weight c.phases.invariant.weighs;

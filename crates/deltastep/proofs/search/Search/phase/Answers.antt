@@ -1,6 +1,7 @@
-use Rattle.std.proofs.Common.{◌≡◌, [], subst, ◌∙◌, lt_of_lt_of_le, le_of_lt}
-use Rattle.buckets.specs.Queue.{TakesLeast}
-use Rattle.deltastep.specs.Search.{EndsPhase, HasQueued, IsBucketEmpty}
+use Rattle.std.proofs.Common.{◌≡◌, [], subst, sym, ◌∙◌, lt_of_lt_of_le, le_of_lt}
+use Rattle.buckets.specs.Queue.{Entries, TakesLeast}
+use Rattle.deltastep.specs.Search.{AreLiveFrom, EndsPhase, HasQueued, IsBucketEmpty}
+use Rattle.deltastep.proofs.Live.{AreLiveFrom-taken}
 use Rattle.deltastep.proofs.Phases.{on_true, EndsPhase-none, EndsPhase-some, weight-taken, FitsFrom-taken, IsBucketEmpty-none, on_false}
 use Rattle.std.specs.FinMap.{empty}
 use Rattle.deltastep.proofs.Relaxing.{bucket_is, IsBucketEmpty-taken}
@@ -56,3 +57,11 @@ returns-in-None-clause-emptied g c =
     let same : g.Q.BucketQueue.entries c.take_least.new.self ≡ g.Q.BucketQueue.entries c.relax.new.self.buckets = rw c.in-None.is at c.in_ok-next.ensures.kept in
     let none : g.Q.BucketQueue.entries c.relax.new.self.buckets ≡ empty = rw c.in-None.is at c.in_ok-next.ensures.taken in
     IsBucketEmpty-none c.args.snapshot.now.delta c.args.bucket (g.Q.BucketQueue.entries c.take_least.new.self) (same ∙ none)
+
+pub returns-in-Some-clause-live : goal.returns-in-Some-clause-live
+returns-in-Some-clause-live g c = AreLiveFrom-taken c.args.snapshot.now c.args.bucket c.in-Some.field-0-0 (g.Q.BucketQueue.entries c.relax.new.self.buckets) c.in-Some.next.items (g.Q.BucketQueue.entries c.take_least.new.self) (takes g c) c.in_ok-relax.ensures.live
+
+pub returns-in-None-clause-live : goal.returns-in-None-clause-live
+returns-in-None-clause-live g c =
+    let same : g.Q.BucketQueue.entries c.take_least.new.self ≡ g.Q.BucketQueue.entries c.relax.new.self.buckets = rw c.in-None.is at c.in_ok-next.ensures.kept in
+    subst (λ (m : Entries). AreLiveFrom c.args.snapshot.now c.args.bucket m) (sym same) c.in_ok-relax.ensures.live

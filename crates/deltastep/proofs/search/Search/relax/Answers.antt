@@ -4,6 +4,7 @@ use Rattle.relax.specs.Requests.{requests_of}
 use Rattle.deltastep.specs.Search.{MeetsRequests, top_of}
 use Rattle.buckets.specs.Queue.{Entries}
 use Rattle.snapshot.specs.declared.legs.Part.{Part}
+use Rattle.deltastep.proofs.Live.{AreLiveFrom-lowered}
 use Rattle.deltastep.proofs.Relaxing.{nodes_in_range, values_below, heads_within, sums_above, sums_fit, IsSearch-lowered, AreReached-lowered, AreInBucket-stays}
 use Rattle.deltastep.proofs.search.Search.relax.Goals as goal
 
@@ -58,3 +59,9 @@ returns-clause-stays g c =
     let is = list_is c.args.snapshot.now c.args.nodes.now c.args.part c.args.self.now.tentative _ _ c.deref.ensures.value c.in_ok-requests.ensures.requests in
     let lowered = lowered_is c.args.snapshot.now c.args.nodes.now c.args.part _ _ _ _ _ _ is c.top-top.ensures.value c.in_ok-came_back.ensures.met in
     AreInBucket-stays c.args.snapshot.now c.args.nodes.now c.args.part _ _ _ _ lowered c.args.bucket c.top-top.ensures.grouped.delta c.requires.nodes
+
+pub returns-clause-live : goal.returns-clause-live
+returns-clause-live g c =
+    let is = list_is c.args.snapshot.now c.args.nodes.now c.args.part c.args.self.now.tentative _ _ c.deref.ensures.value c.in_ok-requests.ensures.requests in
+    let lowered = lowered_is c.args.snapshot.now c.args.nodes.now c.args.part _ _ _ _ _ _ is c.top-top.ensures.value c.in_ok-came_back.ensures.met in
+    AreLiveFrom-lowered c.args.snapshot.now c.args.nodes.now c.args.part _ _ _ _ lowered c.args.bucket c.top-top.ensures.grouped c.requires.nodes c.requires.live

@@ -1,0 +1,19 @@
+use Rattle.std.proofs.Common.{◌≡◌, ◌∙◌, ◌/◌, ap, get_or, arith}
+use Rattle.std.specs.Int.{w64, bit_at}
+use Rattle.std.proofs.lemmas.List.{get_or_read}
+use Rattle.std.proofs.lemmas.Nat.Bits.{bit_at_clear_same, bit_at_clear_other}
+use Rattle.buckets.proofs.Bits.{place_bit-written, place_bit-other, written_less}
+use Rattle.buckets.proofs.places.clear_bit.Goals as goal
+
+pub returns-clause-member : goal.returns-clause-member
+returns-clause-member c = place_bit-written c.args.words.now.items c.args.place _ 0 c.requires (bit_at_clear_same w64 _ _ (omega arith))
+
+pub returns-clause-others : goal.returns-clause-others
+returns-clause-others c = λ k ne.
+    let read : c.index_mut.result.now ≡ get_or c.args.words.now.items (c.args.place / 64) 0 = get_or_read c.args.words.now.items (c.args.place / 64) c.index_mut.result.now c.requires c.index_mut.ensures.value 0 in
+    place_bit-other c.args.words.now.items c.args.place _ k c.requires (λ i small apart. bit_at_clear_other w64 _ _ (omega arith) i small apart ∙ ap (λ w. bit_at w i) read) ne
+
+pub returns-clause-less : goal.returns-clause-less
+returns-clause-less c =
+    let read : c.index_mut.result.now ≡ get_or c.args.words.now.items (c.args.place / 64) 0 = get_or_read c.args.words.now.items (c.args.place / 64) c.index_mut.result.now c.requires c.index_mut.ensures.value 0 in
+    written_less c.args.words.now.items (c.args.place / 64) c.index_mut.result.now _ c.requires read

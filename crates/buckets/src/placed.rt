@@ -1,0 +1,204 @@
+//! Lists of nodes, of which each node stands in at most one, at a place that is kept.
+
+ghost use Rattle.std.specs.Prelude.{◌≡◌, ◌≢◌, ℕ, ◌+◌, ◌<◌, ◌≤◌, ◌^◌, ◌%◌, ◌++◌, ◌∷◌, [], set, Option, None, Some, IsTrue, ◌↔◌, OnOk, OnErr, IfOk, length, slice_index};
+ghost use Rattle.std.specs.List.{slice_get, swap_remove};
+ghost use Rattle.buckets.specs.Places.{place_bit};
+ghost use Rattle.buckets.specs.Rings.{AreFull, ArePlaced, IsMoved, IsPlacedIn, nodes_of};
+
+use crate::places::Places;
+use std::alloc::{AllocError, Global};
+use std::mem::replace;
+
+/// As many empty lists.
+fn empty_lists(alloc: Global, size: u32) -> Result<Vec<Vec<u32>>, AllocError>
+    ensures len { IfOk result (λ lists. length lists.items ≡ size) }
+    ensures empty { IfOk result (λ lists. (p : ℕ) → nodes_of lists.items p ≡ []) }
+{
+    let mut lists = Vec::with_capacity(alloc, size as usize)?;
+    for _place in 0..size {
+        lists.push(Vec::new(alloc))?;
+    }
+    Ok(lists)
+}
+
+/// Whether the list has a node.
+fn has_nodes(lists: &Vec<Vec<u32>>, list: usize) -> bool
+    requires { list < length lists.now.items }
+    ensures { IsTrue result ↔ (0 < length (nodes_of lists.now.items list)) }
+{
+    !lists[list].is_empty()
+}
+
+/// Adds the node at the end of the list, and gives its place there. After want of memory each list is as it was.
+#[inline(always)]
+fn push(lists: &mut Vec<Vec<u32>>, list: usize, node: u32) -> Result<u32, AllocError>
+    requires { list < length lists.old.items }
+    ensures added { OnOk result (nodes_of lists.new.items list ≡ nodes_of lists.old.items list ++ node ∷ []) }
+    ensures place { IfOk result (λ place. place ≡ length (nodes_of lists.old.items list)) }
+    ensures err { OnErr result (nodes_of lists.new.items list ≡ nodes_of lists.old.items list) }
+    ensures others { (p : ℕ) → p ≢ list → nodes_of lists.new.items p ≡ nodes_of lists.old.items p }
+    ensures len { length lists.new.items ≡ length lists.old.items }
+{
+    let place = lists[list].len();
+    if place > u32::MAX as usize {
+        return Err(AllocError);
+    }
+    lists[list].push(node)?;
+    Ok(place as u32)
+}
+
+/// Takes the node at this place out of the list; the last node of the list then stands there.
+#[inline(always)]
+fn take_out(lists: &mut Vec<Vec<u32>>, places: &mut Vec<u32>, list: usize, place: u32)
+    requires list { list < length lists.old.items }
+    requires place { place < length (nodes_of lists.old.items list) }
+    requires within { (i node : ℕ) → slice_get (nodes_of lists.old.items list) i ≡ Some node → node < length places.old.items }
+    ensures removed { nodes_of lists.new.items list ≡ swap_remove (nodes_of lists.old.items list) place 0 }
+    ensures others { (p : ℕ) → p ≢ list → nodes_of lists.new.items p ≡ nodes_of lists.old.items p }
+    ensures places { (last : ℕ) → last + 1 ≡ length (nodes_of lists.old.items list) → places.new.items ≡ set places.old.items (slice_index (nodes_of lists.old.items list) last) place }
+    ensures len { length lists.new.items ≡ length lists.old.items }
+{
+    let last = lists[list].len() - 1;
+    let moved = lists[list][last];
+    places[moved as usize] = place;
+    lists[list].swap_remove(place as usize);
+}
+
+/// Sees to it that the node has a place in the table, in O(1) amortized. After want of memory the table is as it was.
+fn make_room(places: &mut Vec<u32>, node: u32) -> Result<(), AllocError>
+    ensures room { OnOk result (node < length places.new.items) }
+    ensures more { length places.old.items ≤ length places.new.items }
+    ensures same { (k : ℕ) → k < length places.old.items → slice_index places.new.items k ≡ slice_index places.old.items k }
+{
+    if places.len() <= node as usize {
+        places.resize(node as usize + 1, 0)?;
+    }
+    Ok(())
+}
+
+/// Adds a node that stands in no list at the end of this one. After want of memory each list and each place is as it was.
+#[inline(always)]
+fn enlist(
+    lists: &mut Vec<Vec<u32>>,
+    places: &mut Vec<u32>,
+    list: usize,
+    node: u32,
+) -> Result<(), AllocError>
+    requires { list < length lists.old.items }
+    ensures placed { OnOk result ((home there : ℕ → Option ℕ) → ArePlaced lists.old.items places.old.items home → home node ≡ None → IsMoved home node list there → ArePlaced lists.new.items places.new.items there) }
+    ensures added { OnOk result (nodes_of lists.new.items list ≡ nodes_of lists.old.items list ++ node ∷ []) }
+    ensures err { OnErr result ((home : ℕ → Option ℕ) → ArePlaced lists.old.items places.old.items home → ArePlaced lists.new.items places.new.items home) }
+    ensures same { OnErr result (nodes_of lists.new.items list ≡ nodes_of lists.old.items list) }
+    ensures others { (p : ℕ) → p ≢ list → nodes_of lists.new.items p ≡ nodes_of lists.old.items p }
+    ensures len { length lists.new.items ≡ length lists.old.items }
+{
+    make_room(places, node)?;
+    let place = push(lists, list, node)?;
+    places[node as usize] = place;
+    Ok(())
+}
+
+/// Moves a node from the list in which it stands to the end of another. After want of memory each list and each place is as it was.
+#[inline(always)]
+fn relist(
+    lists: &mut Vec<Vec<u32>>,
+    places: &mut Vec<u32>,
+    from: usize,
+    to: usize,
+    node: u32,
+) -> Result<(), AllocError>
+    requires apart { from ≢ to }
+    requires list { to < length lists.old.items }
+    requires stands { IsPlacedIn lists.old.items places.old.items from node }
+    ensures placed { OnOk result ((home there : ℕ → Option ℕ) → ArePlaced lists.old.items places.old.items home → home node ≡ Some from → IsMoved home node to there → ArePlaced lists.new.items places.new.items there) }
+    ensures added { OnOk result (nodes_of lists.new.items to ≡ nodes_of lists.old.items to ++ node ∷ []) }
+    ensures err { OnErr result ((home : ℕ → Option ℕ) → ArePlaced lists.old.items places.old.items home → ArePlaced lists.new.items places.new.items home) }
+    ensures same { OnErr result ((p : ℕ) → nodes_of lists.new.items p ≡ nodes_of lists.old.items p) }
+    ensures others { (p : ℕ) → p ≢ from → p ≢ to → nodes_of lists.new.items p ≡ nodes_of lists.old.items p }
+    ensures len { length lists.new.items ≡ length lists.old.items }
+{
+    let place = push(lists, to, node)?;
+    let at = places[node as usize];
+    take_out(lists, places, from, at);
+    places[node as usize] = place;
+    Ok(())
+}
+
+/// Lists of nodes, of which each node stands in at most one. The place of a node in its list is kept, so that it moves to another list in
+/// O(1), and the lists that have nodes are marked in a set of bits. It takes 24 bytes a list, 4 for each node up to the greatest that was
+/// ever added, and 4 for each place of a list that was ever in use at once.
+#[derive(Drop)]
+pub struct PlacedLists {
+    alloc: Global,
+    pub(crate) lists: Vec<Vec<u32>>,
+    pub(crate) places: Vec<u32>,
+    pub(crate) marks: Places,
+    ghost full: { AreFull lists.items marks },
+}
+
+impl PlacedLists {
+    /// As many empty lists. The error is that no memory was given.
+    pub fn new(alloc: Global, size: u32) -> Result<PlacedLists, AllocError>
+        ensures len { IfOk result (λ made. length made.lists.items ≡ size) }
+        ensures empty { IfOk result (λ made. (p : ℕ) → nodes_of made.lists.items p ≡ []) }
+    {
+        let lists = empty_lists(alloc, size)?;
+        Ok(PlacedLists {
+            alloc,
+            lists,
+            places: Vec::new(alloc),
+            marks: Places::new(alloc, size)?,
+        })
+    }
+
+    /// How many lists there are.
+    pub fn len(&self) -> usize
+        ensures { result ≡ length self.now.lists.items }
+    {
+        self.lists.len()
+    }
+
+    /// Adds a node that stands in no list at the end of this one, in O(1) amortized. After want of memory each node stands where it stood.
+    #[inline(always)]
+    pub fn add(&mut self, list: usize, node: u32) -> Result<(), AllocError>
+        requires { list < length self.old.lists.items }
+        ensures placed { OnOk result ((home there : ℕ → Option ℕ) → ArePlaced self.old.lists.items self.old.places.items home → home node ≡ None → IsMoved home node list there → ArePlaced self.new.lists.items self.new.places.items there) }
+        ensures err { OnErr result ((home : ℕ → Option ℕ) → ArePlaced self.old.lists.items self.old.places.items home → ArePlaced self.new.lists.items self.new.places.items home) }
+        ensures len { length self.new.lists.items ≡ length self.old.lists.items }
+    {
+        enlist(&mut self.lists, &mut self.places, list, node)?;
+        self.marks.insert(list);
+        Ok(())
+    }
+
+    /// Moves a node from the list in which it stands to the end of another, in O(1) amortized. After want of memory each node stands where
+    /// it stood.
+    #[inline(always)]
+    pub fn move_to(&mut self, from: usize, to: usize, node: u32) -> Result<(), AllocError>
+        requires apart { from ≢ to }
+        requires list { to < length self.old.lists.items }
+        requires stands { IsPlacedIn self.old.lists.items self.old.places.items from node }
+        ensures placed { OnOk result ((home there : ℕ → Option ℕ) → ArePlaced self.old.lists.items self.old.places.items home → home node ≡ Some from → IsMoved home node to there → ArePlaced self.new.lists.items self.new.places.items there) }
+        ensures err { OnErr result ((home : ℕ → Option ℕ) → ArePlaced self.old.lists.items self.old.places.items home → ArePlaced self.new.lists.items self.new.places.items home) }
+        ensures len { length self.new.lists.items ≡ length self.old.lists.items }
+    {
+        relist(&mut self.lists, &mut self.places, from, to, node)?;
+        let left = has_nodes(&self.lists, from);
+        self.marks.set(from, left);
+        self.marks.insert(to);
+        Ok(())
+    }
+
+    /// Takes all nodes of this list.
+    pub fn take(&mut self, list: usize) -> Vec<u32>
+        requires { list < length self.old.lists.items }
+        ensures taken { slice_get self.old.lists.items list ≡ Some result }
+        ensures emptied { nodes_of self.new.lists.items list ≡ [] }
+        ensures others { (p : ℕ) → p ≢ list → slice_get self.new.lists.items p ≡ slice_get self.old.lists.items p }
+        ensures places { self.new.places ≡ self.old.places }
+        ensures len { length self.new.lists.items ≡ length self.old.lists.items }
+    {
+        self.marks.remove(list);
+        replace(&mut self.lists[list], Vec::new(self.alloc))
+    }
+}

@@ -47,7 +47,7 @@ impl<F> FileDisk<F> {
     }
 
     /// The file, lent.
-    pub fn file(&self) -> &F
+    pub(crate) fn file(&self) -> &F
         ensures { result.now ≡ file_of self.now }
     {
         &self.file

@@ -1,5 +1,6 @@
 -- Quotients by the width of a bucket.
-use Rattle.std.proofs.Common.{◌≡◌, ℕ, ◌+◌, ◌-◌, ◌*◌, ◌/◌, ◌%◌, ◌<◌, ◌≤◌, arith, le_trans, div-mul-le_self, div-lt_iff_lt-mul, mod-lt, div-add-mod'}
+use Rattle.std.proofs.Common.{◌≡◌, ℕ, ◌+◌, ◌-◌, ◌*◌, ◌/◌, ◌%◌, ◌<◌, ◌≤◌, min, arith, le_trans, div-mul-le_self, div-lt_iff_lt-mul, mod-lt, div-add-mod'}
+use Rattle.std.proofs.Math.Nat.{mul-le-mul_right}
 use Rattle.std.proofs.lemmas.Nat.{le-div}
 use Rattle.deltastep.specs.Search.{ring_buckets}
 
@@ -25,3 +26,10 @@ pub next_bucket : (a b d : ℕ) → 1 ≤ d → a + d ≤ b → a / d + 1 ≤ b 
 next_bucket a b d positive h =
     let at : a / d * d ≤ a = div-mul-le_self a d in
     le-div (a / d + 1) b d positive (omega (arith, at))
+
+-- a bucket that a value is in, or after, does not start above it
+pub start_below : (value b d most start : ℕ) → start ≡ min (b * d) most → b ≤ value / d → start ≤ value
+start_below value b d most start is far =
+    let at : value / d * d ≤ value = div-mul-le_self value d in
+    let less : b * d ≤ value / d * d = mul-le-mul_right d far in
+    omega (arith, is, at, less)

@@ -1,6 +1,6 @@
 //! A search by delta-stepping: bucket after bucket is settled, the least first.
 
-ghost use Rattle.std.specs.Prelude.{◌≡◌, ℕ, ◌≤◌, ◌<◌, ◌/◌, ◌+◌, ◌==◌, ◌^◌, List, [], IfOk, OnOk, MatchBool, MatchOption, All, Some, slice_set, length, vec_len};
+ghost use Rattle.std.specs.Prelude.{◌≡◌, ◌↔◌, ℕ, ◌≤◌, ◌<◌, ◌/◌, ◌*◌, ◌+◌, min, IsTrue, ◌==◌, ◌^◌, List, [], IfOk, OnOk, MatchBool, MatchOption, All, Some, slice_set, length, vec_len};
 ghost use Rattle.std.specs.List.{IsDistinct};
 ghost use Rattle.std.specs.Bool.{OnTrue, OnFalse};
 ghost use Rattle.std.specs.FinMap as map;
@@ -27,6 +27,16 @@ fn top(snapshot: &Snapshot) -> u64
     ensures grouped { IsGrouped snapshot.now }
 {
     u64::from(snapshot.nodes() - 1) * 2147483647 + 1
+}
+
+/// Whether the value is less than `delta` above the start of a bucket: for a value of the bucket or a later one, whether it is in the bucket.
+#[inline(always)]
+fn is_near(start: u64, value: u64, delta: u64) -> bool
+    requires positive { 1 ≤ delta }
+    requires above { start ≤ value }
+    ensures { (b : ℕ) → start ≡ min (b * delta) u64.MAX → b ≤ value / delta → IsTrue result ↔ (value / delta ≡ b) }
+{
+    value - start < delta
 }
 
 /// A search under way: the least value found so far for each node, and the nodes whose legs are still to be relaxed, in buckets by
@@ -252,10 +262,11 @@ impl<Q: BucketQueue> Search<Q> {
         ensures span { OnOk result (Q.span self.new.buckets ≡ Q.span self.old.buckets) }
     {
         let delta = u64::from(self.buckets.delta());
+        let start = bucket.saturating_mul(delta);
         let mut came_back = false;
         for request in requests {
             let (node, value) = *request;
-            if self.lower(top, node, value)? && value / delta == bucket {
+            if self.lower(top, node, value)? && is_near(start, value, delta) {
                 came_back = true;
             }
         }

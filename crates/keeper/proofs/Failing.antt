@@ -1,9 +1,8 @@
 -- The failures of a disk that a run's replies tell, counted.
-use Rattle.std.proofs.Common.{◌≡◌, ◌⊎◌, ⊎_elim, ℕ, List, [], ◌∷◌, ◌++◌, Option, Some, None, Result, Ok, Err, refl, sym, ◌∙◌, ap, subst, append_assoc}
-use Rattle.std.specs.Prelude.{MatchResult, IfOk, IfErr, map}
-use Rattle.std.specs.List.{flat_map}
-use Rattle.disk.specs.Contents.{one_more}
-use Rattle.pagereader.specs.Outcomes.{failures_with, failures_told}
+use Rattle.std.proofs.Common.{◌≡◌, ◌⊎◌, ⊎_elim, ℕ, true, false, List, [], ◌∷◌, ◌++◌, Option, Some, Result, Ok, Err, refl, sym, ◌∙◌, ap, subst, append_assoc}
+use Rattle.std.specs.Prelude.{MatchResult, IfOk, IfErr}
+use Rattle.std.specs.List.{AllByRecursion}
+use Rattle.pagereader.specs.Outcomes.{failures_told}
 use Rattle.roadnet.specs.declared.refusals.Refusal.{Refusal}
 use Rattle.roadnet.specs.declared.refusals.Refusal.TheVariants.{Device}
 use Rattle.machine.specs.declared.events.Event.{Event}
@@ -12,8 +11,8 @@ use Rattle.machine.specs.declared.events.Replied.{Replied}
 use Rattle.machine.specs.declared.events.Writing.{Writing}
 use Rattle.machine.specs.Lives.{Turn, told_version}
 use Rattle.machine.proofs.Rehearsing.{events_more, replies_more}
-use Rattle.keeper.specs.Failures.{failures_of_write, failures_of_stop, failures_after, failures_in, failures_at_end, FailsAsTold, EndsAsTold}
-use Rattle.keeper.specs.Rehearsing.{within_of}
+use Rattle.keeper.specs.Failures.{is_of_stop, IsAnswered, failures_of_write, failures_of_stop, failures_after, failures_in, failures_at_end, FailsAsTold, EndsAsTold}
+use Rattle.keeper.specs.Rehearsing.{is_stop, within_of}
 
 -- clauses on one result, together
 pub match_both : {T E : Type 0} (r : Result T E) (A B X : T → Type 0) (C F Y : E → Type 0) → ((x : T) → A x → B x → X x) → ((e : E) → C e → F e → Y e) → MatchResult r A C → IfOk r B → IfErr r F → MatchResult r X Y
@@ -31,18 +30,23 @@ told_behind (Err e) last n = refl
 
 -- ---- a run
 pub fails_none : {P : Type 0} (n : ℕ) → FailsAsTold {P = P} [] [] n n
-fails_none n = record { turns = []; events_are = refl; replies_are = refl; counted = refl }
+fails_none n = record { turns = []; events_are = refl; replies_are = refl; answered = tt; counted = refl }
+
+answered_more : {P : Type 0} (turns : List (Turn P)) (e : Event P) (now : List Replied) → AllByRecursion (λ turn. IsAnswered turn.0 turn.1) turns → IsAnswered e now → AllByRecursion (λ turn. IsAnswered turn.0 turn.1) (turns ++ (e, now) ∷ [])
+answered_more [] e now all one = (one, tt)
+answered_more (turn ∷ turns) e now all one = (all.0, answered_more turns e now all.1 one)
 
 failures_more : {P : Type 0} (turns : List (Turn P)) (e : Event P) (now : List Replied) (n : ℕ) → failures_in (turns ++ (e, now) ∷ []) n ≡ failures_after e now (failures_in turns n)
 failures_more [] e now n = refl
 failures_more (turn ∷ turns) e now n = failures_more turns e now (failures_after turn.0 turn.1 n)
 
-pub fails_more : {P : Type 0} (events : List (Event P)) (replies : List Replied) (before mid now : ℕ) (e : Event P) (told : List Replied) → FailsAsTold events replies before mid → now ≡ failures_after e told mid
+pub fails_more : {P : Type 0} (events : List (Event P)) (replies : List Replied) (before mid now : ℕ) (e : Event P) (told : List Replied) → FailsAsTold events replies before mid → IsAnswered e told → now ≡ failures_after e told mid
     → FailsAsTold (events ++ e ∷ []) (replies ++ told) before now
-fails_more events replies before mid now e told f is = record {
+fails_more events replies before mid now e told f one is = record {
   turns = f.turns ++ (e, told) ∷ [];
   events_are = events_more f.turns events e told f.events_are;
   replies_are = replies_more f.turns replies e told f.replies_are;
+  answered = answered_more f.turns e told f.answered one;
   counted = is ∙ (ap (failures_after e told) f.counted ∙ sym (failures_more f.turns e told before));
 }
 
@@ -53,6 +57,7 @@ ends_told events rest replies ended before mid now f is = record {
   rest = rest;
   events_are = ap (λ (xs : List (Event _)). xs ++ rest) f.events_are;
   replies_are = f.replies_are;
+  answered = f.answered;
   counted = is ∙ ap (failures_at_end ended) f.counted;
 }
 
@@ -64,6 +69,40 @@ pub ends_as : {P : Type 0} (events events' : List (Event P)) (replies : List Rep
 ends_as events events' replies ended before now is f = subst (λ (es : List (Event _)). EndsAsTold es replies ended before now) is f
 
 -- ---- a stop, behind an event's own reply or within the event
+no_stop : (result : Result ℕ Refusal) → is_of_stop (told_version result) ≡ false
+no_stop (Ok v) = refl
+no_stop (Err e) = refl
+
+one_of_stop : {P : Type 0} (e : Event P) (w : Writing) (last : Replied) → within_of e ≡ Some w → is_of_stop last ≡ true → IsAnswered e (last ∷ [])
+one_of_stop (StopWithin call picks w') w last is own = own
+one_of_stop (Submit c) w last is own = tt
+one_of_stop Flush w last is own = tt
+one_of_stop Checkpoint w last is own = tt
+one_of_stop Task w last is own = tt
+one_of_stop Publish w last is own = tt
+one_of_stop (Ask query) w last is own = tt
+one_of_stop Stop w last is own = tt
+
+two_of_stop : {P : Type 0} (e : Event P) (w : Writing) (reply last : Replied) → within_of e ≡ Some w → is_of_stop reply ≡ false → is_of_stop last ≡ true → IsAnswered e (reply ∷ last ∷ [])
+two_of_stop (StopWithin call picks w') w reply last is other own = (other, own)
+two_of_stop (Submit c) w reply last is other own = cc
+two_of_stop Flush w reply last is other own = cc
+two_of_stop Checkpoint w reply last is other own = cc
+two_of_stop Task w reply last is other own = cc
+two_of_stop Publish w reply last is other own = cc
+two_of_stop (Ask query) w reply last is other own = cc
+two_of_stop Stop w reply last is other own = cc
+
+pub one_reply : {P : Type 0} (e : Event P) (reply : Replied) → is_stop e ≡ false → IsAnswered e (reply ∷ [])
+one_reply (Submit c) reply calm = tt
+one_reply Flush reply calm = tt
+one_reply Checkpoint reply calm = tt
+one_reply Task reply calm = tt
+one_reply Publish reply calm = tt
+one_reply (Ask query) reply calm = tt
+one_reply Stop reply calm = tt
+one_reply (StopWithin call picks writing) reply calm = cc
+
 by_stop : {P : Type 0} (e : Event P) (w : Writing) → within_of e ≡ Some w → (replies : List Replied) (n : ℕ) → failures_of_stop replies n ≡ failures_after e replies n
 by_stop (StopWithin call picks w') w is replies n = refl
 by_stop (Submit c) w is replies n = cc
@@ -74,16 +113,16 @@ by_stop Publish w is replies n = cc
 by_stop (Ask query) w is replies n = cc
 by_stop Stop w is replies n = cc
 
-pub stop_told : {P : Type 0} (e : Event P) (w : Writing) (result : Result ℕ Refusal) (replies replies' : List Replied) (last : Replied) (events : List (Event P)) (before mid now : ℕ) → within_of e ≡ Some w
+pub stop_told : {P : Type 0} (e : Event P) (w : Writing) (result : Result ℕ Refusal) (replies replies' : List Replied) (last : Replied) (events : List (Event P)) (before mid now : ℕ) → within_of e ≡ Some w → is_of_stop last ≡ true
     → (replies' ≡ replies ++ told_version result ∷ []) ⊎ ((result ≡ Err Device) × (replies' ≡ replies))
     → FailsAsTold events replies before mid → now ≡ failures_told result mid → FailsAsTold (events ++ e ∷ []) (replies' ++ last ∷ []) before now
-stop_told e w result replies replies' last events before mid now is told f counted =
+stop_told e w result replies replies' last events before mid now is own told f counted =
     ⊎_elim
     (λ behind.
     fails_as (events ++ e ∷ []) (replies ++ (told_version result ∷ last ∷ [])) (replies' ++ last ∷ []) before now
     (ap (λ (rs : List Replied). rs ++ last ∷ []) behind ∙ append_assoc replies (told_version result ∷ []) (last ∷ []))
-    (fails_more events replies before mid now e (told_version result ∷ last ∷ []) f (counted ∙ (told_behind result last mid ∙ by_stop e w is (told_version result ∷ last ∷ []) mid))))
+    (fails_more events replies before mid now e (told_version result ∷ last ∷ []) f (two_of_stop e w (told_version result) last is (no_stop result) own) (counted ∙ (told_behind result last mid ∙ by_stop e w is (told_version result ∷ last ∷ []) mid))))
     (λ cut.
     fails_as (events ++ e ∷ []) (replies ++ last ∷ []) (replies' ++ last ∷ []) before now (ap (λ (rs : List Replied). rs ++ last ∷ []) cut.1)
-    (fails_more events replies before mid now e (last ∷ []) f (counted ∙ (ap (λ (r : Result ℕ Refusal). failures_told r mid) cut.0 ∙ by_stop e w is (last ∷ []) mid))))
+    (fails_more events replies before mid now e (last ∷ []) f (one_of_stop e w last is own) (counted ∙ (ap (λ (r : Result ℕ Refusal). failures_told r mid) cut.0 ∙ by_stop e w is (last ∷ []) mid))))
     told

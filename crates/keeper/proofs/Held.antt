@@ -1,6 +1,6 @@
 -- What a keeper's disk holds, from one call to the next.
 use Rattle.std.proofs.Common.{◌≡◌, ◌⊎◌, ⊎_elim, inl, inr, ℕ, ◌≤◌, Bool, true, false, List, [], ◌∷◌, ◌++◌, length, take, Some, Result, Ok, Err, refl, sym, ◌∙◌, ap, subst, arith}
-use Rattle.std.specs.Prelude.{not, OnOk, IfErr}
+use Rattle.std.specs.Prelude.{OnOk, IfErr}
 use Rattle.std.specs.Bool.{Decides}
 use Rattle.std.proofs.Math.Seq.{take-nil}
 use Rattle.std.proofs.lemmas.List.{take-append-le}
@@ -88,10 +88,6 @@ take_none n items none = ap (take n) none ∙ take-nil n
 -- at the beginning
 pub at_base : (base net : Net) (n : ℕ) (items : List Command) → base ≡ net → items ≡ [] → after base (take n items) ≡ Some net
 at_base base net n items same none = ap (after base) (take_none n items none) ∙ ap Some same
-
-pub works_if_calm : (broken : Bool) → true ≡ not broken → broken ≡ false
-works_if_calm true h = cc
-works_if_calm false h = refl
 
 -- why a checkpoint of a store that is not broken is refused
 pub why : (broken : Bool) (refusal : Refusal) → broken ≡ false → MayRefuseCheckpoint (refusal_of_checkpoint broken) refusal → (refusal ≡ OutOfMemory) ⊎ (refusal ≡ Device)

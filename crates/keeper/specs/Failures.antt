@@ -1,13 +1,13 @@
 -- What a script's replies tell of the failures of its disk.
-use Rattle.std.specs.Prelude.{◌≡◌, ℕ, List, [], ◌∷◌, ◌++◌, map, Option, None, Some}
-use Rattle.std.specs.List.{flat_map}
+use Rattle.std.specs.Prelude.{◌≡◌, ℕ, Bool, true, false, ⊤, List, [], ◌∷◌, ◌++◌, map, Option, None, Some}
+use Rattle.std.specs.List.{flat_map, AllByRecursion}
 use Rattle.disk.specs.Contents.{one_more}
 use Rattle.pagereader.specs.Outcomes.{failures_with}
 use Rattle.roadnet.specs.declared.refusals.Refusal.{Refusal}
 use Rattle.machine.specs.declared.events.Event.{Event}
 use Rattle.machine.specs.declared.events.Event.TheVariants.{Flush, Checkpoint, StopWithin}
 use Rattle.machine.specs.declared.events.Replied.{Replied}
-use Rattle.machine.specs.declared.events.Replied.TheVariants.{Refused}
+use Rattle.machine.specs.declared.events.Replied.TheVariants.{Refused, Opened, Stopped}
 use Rattle.machine.specs.Lives.{Turn}
 
 -- the count of failures after this reply: one more where it is 43
@@ -19,6 +19,19 @@ failures_by _ n = n
 abbrev pub failures_of_write : List Replied → ℕ → ℕ
 failures_of_write [] n = n
 failures_of_write (reply ∷ replies) n = failures_by reply n
+
+-- the reply of a stop
+abbrev pub is_of_stop : Replied → Bool
+is_of_stop (Opened version) = true
+is_of_stop Stopped = true
+is_of_stop _ = false
+
+-- How many replies an event has: one; but a stop within an event has one where it came within, its own, and else the event's and its own.
+abbrev pub IsAnswered : {P : Type 0} → Event P → List Replied → Type 0
+IsAnswered (StopWithin call picks writing) (reply ∷ []) = is_of_stop reply ≡ true
+IsAnswered (StopWithin call picks writing) (reply ∷ last ∷ []) = (is_of_stop reply ≡ false) × (is_of_stop last ≡ true)
+IsAnswered event (reply ∷ []) = ⊤
+IsAnswered event replies = ⊥
 
 -- the same after a stop within an event: where it came within, the disk failed there, and the stop's own reply is the only one
 abbrev pub failures_of_stop : List Replied → ℕ → ℕ
@@ -48,6 +61,7 @@ pub record FailsAsTold {P : Type 0} (events : List (Event P)) (replies : List Re
   pub turns : List (Turn P)
   pub events_are : events ≡ map (λ turn. turn.0) turns
   pub replies_are : replies ≡ flat_map (λ turn. turn.1) turns
+  pub answered : AllByRecursion (λ turn. IsAnswered turn.0 turn.1) turns
   pub counted : now ≡ failures_in turns before
 
 -- Of these events the first were replied to so, and the run ended so. The count of failures went from one to the other just by the failures
@@ -57,4 +71,5 @@ pub record EndsAsTold {P : Type 0} (events : List (Event P)) (replies : List Rep
   pub rest : List (Event P)
   pub events_are : events ≡ map (λ turn. turn.0) turns ++ rest
   pub replies_are : replies ≡ flat_map (λ turn. turn.1) turns
+  pub answered : AllByRecursion (λ turn. IsAnswered turn.0 turn.1) turns
   pub counted : now ≡ failures_at_end ended (failures_in turns before)

@@ -1,7 +1,7 @@
 use Rattle.std.proofs.Common.{◌≡◌, ◌++◌, ◌∷◌, [], false, refl, ap, arith, rules}
 use Rattle.disk.specs.declared.stoppable.Pick.{Pick}
 use Rattle.keeper.specs.Rehearsing.{is_stop, within_of}
-use Rattle.keeper.proofs.Failing.{fails_more, fails_as}
+use Rattle.keeper.proofs.Failing.{fails_more, fails_as, one_reply}
 use Rattle.keeper.proofs.LivesInRun.{does_size}
 use Rattle.keeper.proofs.Runs.{run_as, run_more}
 use Rattle.keeper.proofs.rehearsing.Run.next.Goals as goal
@@ -43,5 +43,5 @@ returns-in_default g c =
       ends = λ first done going rest. tt;
       counted = λ before done f.
           fails_as (done ++ c.args.event.now ∷ []) (self.replies.items ++ told) c.push_reserved.new.self.items before _ c.push_reserved.ensures.items
-          (fails_more done self.replies.items before _ _ c.args.event.now told f c.reply-told.ensures.counted);
+          (fails_more done self.replies.items before _ _ c.args.event.now told f (one_reply {P = Pick} c.args.event.now c.reply-told.result calm) c.reply-told.ensures.counted);
     }

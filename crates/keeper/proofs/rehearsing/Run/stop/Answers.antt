@@ -57,8 +57,8 @@ returns-clause-counted g c before done f =
     match_both c.resume.result _ _ _ _ _ _
     (λ x same told. fails_as (done ++ Stop ∷ []) (self.replies.items ++ Opened x.life.keeper.machine.base_version ∷ []) x.replies.items before (g.D.Disk.failures x.life.keeper.disk)
     (told ∙ ap (λ (rs : List Replied). rs ++ Opened x.life.keeper.machine.base_version ∷ []) replies)
-    (fails_more done self.replies.items before n (g.D.Disk.failures x.life.keeper.disk) Stop (Opened x.life.keeper.machine.base_version ∷ []) f (same ∙ c.halt-halted.ensures.failures)))
+    (fails_more done self.replies.items before n (g.D.Disk.failures x.life.keeper.disk) Stop (Opened x.life.keeper.machine.base_version ∷ []) f tt (same ∙ c.halt-halted.ensures.failures)))
     (λ x counted told rest. ends_told (done ++ Stop ∷ []) rest x.replies.items x.ended before n (g.D.Disk.failures x.disk)
-    (fails_as (done ++ Stop ∷ []) (self.replies.items ++ Stopped ∷ []) x.replies.items before n (told ∙ ap (λ (rs : List Replied). rs ++ Stopped ∷ []) replies) (fails_more done self.replies.items before n n Stop (Stopped ∷ []) f refl))
+    (fails_as (done ++ Stop ∷ []) (self.replies.items ++ Stopped ∷ []) x.replies.items before n (told ∙ ap (λ (rs : List Replied). rs ++ Stopped ∷ []) replies) (fails_more done self.replies.items before n n Stop (Stopped ∷ []) f tt refl))
     (counted ∙ ap (failures_at_end x.ended) c.halt-halted.ensures.failures))
     c.resume.ensures.counted c.resume.ensures.told c.resume.ensures.stopped

@@ -1,4 +1,4 @@
-use Rattle.std.proofs.Common.{◌≡◌, ℕ, ◌-◌, take, ◌++◌, ◌∷◌, [], List, length, ◌∙◌, ap, subst, arith}
+use Rattle.std.proofs.Common.{◌≡◌, ℕ, ◌-◌, take, ◌++◌, ◌∷◌, [], List, length, refl, ◌∙◌, ap, subst, arith}
 use Rattle.std.specs.Prelude.{IfOk}
 use Rattle.pagereader.specs.Outcomes.{failures_told}
 use Rattle.machine.specs.declared.events.Replied.TheVariants.{Opened, Stopped}
@@ -80,9 +80,9 @@ returns-clause-counted g c before done event within f =
     let counted : then ≡ failures_told c.write-written.result n = c.halt-halted.ensures.failures ∙ (c.write-written.ensures.counted ∙ ap (failures_told c.write-written.result) c.arm.ensures.failures) in
     match_both c.resume.result _ _ _ _ _ _
     (λ x same opened. fails_as (done ++ event ∷ []) (c.tell_write.new.replies.items ++ Opened x.life.keeper.machine.base_version ∷ []) x.replies.items before (g.D.Disk.failures x.life.keeper.disk) opened
-    (stop_told event c.args.writing c.write-written.result self.replies.items c.tell_write.new.replies.items (Opened x.life.keeper.machine.base_version) done before n (g.D.Disk.failures x.life.keeper.disk) within told f (same ∙ counted)))
+    (stop_told event c.args.writing c.write-written.result self.replies.items c.tell_write.new.replies.items (Opened x.life.keeper.machine.base_version) done before n (g.D.Disk.failures x.life.keeper.disk) within refl told f (same ∙ counted)))
     (λ x ends stopped rest. ends_told (done ++ event ∷ []) rest x.replies.items x.ended before then (g.D.Disk.failures x.disk)
     (fails_as (done ++ event ∷ []) (c.tell_write.new.replies.items ++ Stopped ∷ []) x.replies.items before then stopped
-    (stop_told event c.args.writing c.write-written.result self.replies.items c.tell_write.new.replies.items Stopped done before n then within told f counted))
+    (stop_told event c.args.writing c.write-written.result self.replies.items c.tell_write.new.replies.items Stopped done before n then within refl told f counted))
     ends)
     c.resume.ensures.counted c.resume.ensures.told c.resume.ensures.stopped

@@ -2,11 +2,12 @@
 ghost use Rattle.std.specs.Prelude.{◌≡◌, ◌+◌, ◌≤◌, ◌<◌, ◌^◌, ◌↔◌, [], ◌∷◌, length, slice_range, IsTrue, IfOk, OnOk};
 ghost use Rattle.disk.specs.Contents.{overwritten, Torn, Only, failures_after};
 ghost use Rattle.disk.specs.Moments.{LeavesOnly, StaysSame};
-ghost use Rattle.disk.specs.Gated.{IsOpen, IsShut, IsOldOrShut, IsShutOrOpened, IsWholeOrShut, with_page};
+ghost use Rattle.disk.specs.Gated.{open_byte, IsOpen, IsShut, IsOldOrShut, IsShutOrOpened, IsWholeOrShut, with_page};
 
 use crate::{Disk, DiskError};
 
-const OPEN: u8 = 0xA5;
+/// The byte of an open gate. At each other byte a gate is closed.
+pub const OPEN: u8 = 0xA5;
 
 const CLOSED: u8 = 0;
 
@@ -56,7 +57,7 @@ pub fn read_at<D: Disk>(disk: &mut D, at: u64, into: &mut [u8]) -> Result<(), Di
     disk.read(at, into)
 }
 
-/// Whether the gate at this offset is open: whether its byte is 165. Nothing is changed.
+/// Whether the gate at this offset is open: whether its byte is `OPEN`. Nothing is changed.
 pub fn is_open<D: Disk>(disk: &mut D, gate_at: u64) -> Result<bool, DiskError>
     requires { D.honest disk.old → gate_at < length (D.content disk.old) }
     ensures answer { D.honest disk.old → IfOk result (λ answer. IsTrue answer ↔ IsOpen gate_at (D.content disk.old)) }
@@ -90,7 +91,7 @@ pub fn close_gate<D: Disk>(disk: &mut D, gate_at: u64) -> Result<(), DiskError>
 pub fn open_gate<D: Disk>(disk: &mut D, gate_at: u64) -> Result<(), DiskError>
     requires at_rest { D.honest disk.old → Only (D.content disk.old) (D.left disk.old) }
     requires within { D.honest disk.old → gate_at < length (D.content disk.old) }
-    ensures opened { D.honest disk.old → OnOk result (D.content disk.new ≡ overwritten (D.content disk.old) gate_at (165 ∷ [])) }
+    ensures opened { D.honest disk.old → OnOk result (D.content disk.new ≡ overwritten (D.content disk.old) gate_at (open_byte ∷ [])) }
     ensures at_rest { D.honest disk.old → OnOk result (Only (D.content disk.new) (D.left disk.new)) }
     ensures any_moment { D.honest disk.old → LeavesOnly D.moment D.left_since disk.old disk.new (IsShutOrOpened (D.content disk.old) gate_at) }
     ensures counted { D.failures disk.new ≡ failures_after result (D.failures disk.old) }

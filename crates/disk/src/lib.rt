@@ -13,7 +13,7 @@ pub use disk::{Disk, DiskError};
 pub use fail_once::FailOnce;
 pub use fuse::FuseDisk;
 pub use gated::{
-    close_gate, is_open, length_of, open_gate, read_at, settle, write_gated, write_synced,
+    OPEN, close_gate, is_open, length_of, open_gate, read_at, settle, write_gated, write_synced,
 };
 pub use mem_disk::MemDisk;
 pub use stoppable::{Pick, Stoppable};

@@ -1,15 +1,16 @@
 -- Gates: the last byte of a header, of a slot's head and of a journal page.
 use Rattle.std.specs.Prelude.{◌≡◌, ℕ, ◌==◌, if◌then◌else◌}
+use Rattle.disk.specs.Gated.{open_byte}
 use Rattle.pages.specs.declared.gate.Gate.{Gate}
 use Rattle.pages.specs.declared.gate.Gate.TheVariants.{Open, Closed}
 
--- A gate is open at 165, and closed at each other byte.
+-- A gate is open at this byte, and closed at each other.
 abbrev pub gate_of : ℕ → Gate
-gate_of byte = if byte == 165 then Open else Closed
+gate_of byte = if byte == open_byte then Open else Closed
 
 -- the byte by which a gate is written
 abbrev pub gate_byte : Gate → ℕ
-gate_byte Open = 165
+gate_byte Open = open_byte
 gate_byte Closed = 0
 
 -- A written gate is read again.

@@ -2,6 +2,7 @@ ghost use Rattle.std.specs.Prelude.{◌≡◌, slice_index};
 ghost use Rattle.pages.specs.Gates.{gate_of, gate_byte};
 
 use crate::writer::PAGE_SIZE;
+use disk::OPEN;
 
 /// The last byte of a header, of a slot's head or of a journal page: what stands before it counts only while its gate is open.
 #[derive(Clone, Copy, Debug, PartialEq, Eq)]
@@ -12,8 +13,6 @@ pub enum Gate {
 
 /// Where the gate stands in its page.
 pub const GATE_AT: usize = PAGE_SIZE - 1;
-
-const OPEN: u8 = 0xA5;
 
 impl Gate {
     /// The gate that this byte is: open at 0xA5, closed at each other.

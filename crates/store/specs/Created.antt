@@ -8,6 +8,7 @@ use Rattle.pages.specs.Spelling.{page_of, header_page, arc_page, word_page, head
 use Rattle.pages.specs.Layout.{Part, Front, Arcs, HeadOf, Words, Journal, IsPart, page_number, page_count}
 use Rattle.storefile.specs.StoreFile.{page, part}
 use Rattle.disk.specs.Contents.{overwritten}
+use Rattle.disk.specs.Gated.{open_byte}
 
 -- the sizes of a store of this network
 abbrev pub header_of : Net → ℕ → Header
@@ -49,7 +50,7 @@ first_pages pages (suc n) = first_pages pages n ++ pages n
 
 -- the file with the gate of this page open
 abbrev pub with_gate : List ℕ → ℕ → List ℕ
-with_gate file k = overwritten file (4096 * k + 4095) (165 ∷ [])
+with_gate file k = overwritten file (4096 * k + 4095) (open_byte ∷ [])
 
 -- ---- pages that are written one behind the other
 

@@ -1,5 +1,6 @@
 -- Worked files: of a network of six nodes and eight arcs.
 use Rattle.std.specs.Prelude.{ℕ, ◌+◌, List, [], ◌∷◌, ◌++◌, length, replicate, Option, Some, None, Result, Ok, Err, true}
+use Rattle.disk.specs.Gated.{open_byte}
 use Rattle.roadnet.specs.declared.refusals.Refusal.{Refusal}
 use Rattle.roadnet.specs.Net.{Net}
 use Rattle.pages.specs.declared.content.Ends.{Ends}
@@ -18,7 +19,7 @@ open_word length = record { length = length; opened = true }
 
 -- the page with an open gate
 abbrev pub opened_page : List ℕ → List ℕ
-opened_page page = body page ++ 165 ∷ []
+opened_page page = body page ++ open_byte ∷ []
 
 abbrev pub blank_page : List ℕ
 blank_page = replicate 4096 0

@@ -2,6 +2,7 @@
 use Rattle.std.specs.Prelude.{◌≡◌, ℕ, ◌+◌, ◌*◌, ◌^◌, ◌<◌, ◌≤◌, Bool, false, ◌&&◌, ◌==◌, IsTrue, List, [], ◌∷◌, length, take, drop, map, slice_index, Some}
 use Rattle.std.specs.List.{flat_map}
 use Rattle.byteorder.specs.Endian.{big_number}
+use Rattle.disk.specs.Gated.{open_byte}
 use Rattle.roadnet.specs.declared.commands.Command.{Command}
 use Rattle.roadnet.specs.Net.{Net}
 use Rattle.roadnet.specs.Step.{after}
@@ -26,7 +27,7 @@ part places i xs = take places (drop (places * i) xs)
 
 -- the gate of a page, its last byte, is open
 abbrev pub is_open : List ℕ → Bool
-is_open page = slice_index page 4095 == 165
+is_open page = slice_index page 4095 == open_byte
 
 -- a page's first number: the epoch of a slot's head, the sequence of a journal page
 abbrev pub first_field : List ℕ → ℕ

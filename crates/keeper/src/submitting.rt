@@ -6,7 +6,8 @@ ghost use Rattle.keeper.specs.Keeping.{Holds};
 
 use crate::keepers::Keeper;
 use disk::Disk;
-use machine::{MOST_OF_LIFE, MOST_PENDING, MOST_VERSIONS, Ticket};
+use machine::{MOST_OF_LIFE, MOST_PENDING, Ticket};
+use pages::MOST_VERSIONS;
 use roadnet::{Command, Network, OutOfMemory, Refusal};
 
 /// Puts an admitted command behind those that were accepted, and carries it out. After an `Err` nothing has changed.

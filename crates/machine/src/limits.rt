@@ -1,6 +1,3 @@
-/// The highest version.
-pub const MOST_VERSIONS: u64 = 1 << 48;
-
 /// How many accepted commands may wait to be made durable.
 pub const MOST_PENDING: u64 = 4096;
 

@@ -1,8 +1,7 @@
 -- What is read has no flaw: a network can be made of it.
-use Rattle.std.proofs.Common.{◌≡◌, ◌∙◌, ◌⊎◌, ⊎_elim, ℕ, ◌+◌, ◌*◌, ◌^◌, ◌<◌, ◌≤◌, Bool, true, false, not, ◌&&◌, ◌||◌, List, [], ◌∷◌, ◌++◌, length, take, Option, Some, None, Result, Ok, Err, refl, sym, ap, subst, arith}
+use Rattle.std.proofs.Common.{◌≡◌, ◌∙◌, ◌⊎◌, ⊎_elim, ℕ, ◌+◌, ◌*◌, ◌^◌, ◌<◌, ◌≤◌, true, false, not, ◌&&◌, List, [], ◌∷◌, ◌++◌, length, take, Option, Some, None, Ok, refl, sym, ap, subst, arith}
 use Rattle.std.specs.Prelude.{map, min}
-use Rattle.std.specs.List.{AllByRecursion, list_any}
-use Rattle.std.specs.List.Sorted.{IsStrictlyIncreasing}
+use Rattle.std.specs.List.{AllByRecursion}
 use Rattle.std.proofs.lemmas.Bool.Decides.{nat_tests}
 use Rattle.std.proofs.lemmas.List.{take_all}
 use Rattle.roadnet.specs.declared.arcs.RoadArc.{RoadArc}
@@ -12,8 +11,6 @@ use Rattle.roadnet.specs.Members.{set_of}
 use Rattle.roadnet.specs.Made.{is_node_among, is_node_count, is_long, is_stray, has_long_arc, has_stray_end, has_stray_landmark, flaw_of, MayRefuseParts}
 use Rattle.roadnet.proofs.Flaws.{flaw-none, neither}
 use Rattle.pages.specs.declared.header.Header.{Header}
-use Rattle.pages.specs.declared.content.Ends.{Ends}
-use Rattle.pages.specs.declared.content.Word.{Word}
 use Rattle.pages.specs.declared.content.Slot.{Slot}
 use Rattle.pages.specs.Contents.{Head}
 use Rattle.pages.specs.Spelling.{IsHeader, IsHead, IsEnds, IsWord, ends_of, word_of}

@@ -1,10 +1,9 @@
 -- What was read of the arc pages, and of the word pages of a slot, up to one of them.
-use Rattle.std.proofs.Common.{◌≡◌, ◌⊎◌, inl, inr, ⊎_elim, ℕ, ◌+◌, ◌*◌, ◌-◌, ◌^◌, ◌<◌, ◌≤◌, List, [], ◌++◌, length, take, Option, Some, None, Result, Ok, Err, refl, sym, ap, subst, ◌∙◌, arith}
+use Rattle.std.proofs.Common.{◌≡◌, inl, inr, ⊎_elim, ℕ, ◌+◌, ◌*◌, ◌-◌, ◌^◌, ◌<◌, ◌≤◌, List, [], length, take, Option, Some, Result, Ok, sym, ap, subst, ◌∙◌, arith}
 use Rattle.std.specs.Prelude.{map, min}
 use Rattle.std.proofs.lemmas.List.{take_all}
 use Rattle.roadnet.specs.declared.arcs.RoadArc.{RoadArc}
 use Rattle.roadnet.specs.declared.refusals.Refusal.{Refusal}
-use Rattle.roadnet.specs.declared.refusals.Refusal.TheVariants.{OutOfMemory}
 use Rattle.pages.specs.declared.header.Header.{Header}
 use Rattle.pages.specs.declared.content.Ends.{Ends}
 use Rattle.pages.specs.declared.content.Word.{Word}

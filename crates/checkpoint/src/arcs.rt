@@ -6,7 +6,7 @@ ghost use Rattle.pages.specs.Layout.{Arcs, page_number, page_count, arc_pages, p
 ghost use Rattle.storefile.specs.StoreFile.{page};
 ghost use Rattle.storefile.specs.Judging.{spelled_at, arcs_in, ends_from};
 ghost use Rattle.pagereader.specs.Runs.{IsRunOf};
-ghost use Rattle.pagereader.specs.Outcomes.{failures_told, IsQuiet, MayLack, MayRefuse};
+ghost use Rattle.pagereader.specs.Outcomes.{failures_told, IsQuiet, MayLack, MayRefuse, MayEndOpening};
 ghost use Rattle.checkpoint.specs.Loading.{EndsArePut};
 
 use disk::Disk;
@@ -33,6 +33,7 @@ pub fn read_arcs<D: Disk>(
     ensures fits { IfOk result (λ arcs. AllByRecursion (IsEnds header.now.nodes) (map ends_of arcs.items)) }
     ensures refused { D.honest disk.old → IfErr result (λ refusal. MayRefuse (ends_from (page (D.content disk.old)) header.now) refusal) }
     ensures run { D.honest disk.old → IsRunOf (D.content disk.old) reader.new }
+    ensures causes { IfErr result MayEndOpening }
     ensures same { D.honest disk.old → StaysSame D.content D.left D.moment D.left_since disk.old disk.new }
     ensures counted { D.failures disk.new ≡ failures_told result (D.failures disk.old) }
     ensures honest { D.honest disk.new ↔ D.honest disk.old }
@@ -66,6 +67,7 @@ fn take_page(
     ensures spelled { OnOk result (EndsArePut (spelled_at (page_number header.now (Arcs i)) (arcs_in header.now.nodes (places_in_use 511 i header.now.arcs) page.now)) arcs.old.items arcs.new.items) }
     ensures count { OnOk result (length arcs.new.items ≡ min (511 * (i + 1)) header.now.arcs) }
     ensures refused { IfErr result (λ refusal. MayLack (spelled_at (page_number header.now (Arcs i)) (arcs_in header.now.nodes (places_in_use 511 i header.now.arcs) page.now)) refusal) }
+    ensures causes { IfErr result MayEndOpening }
     ensures quiet { IsQuiet result }
 {
     let Ok(found) = decode_arc_page(alloc, page, header.nodes, header.arcs_on_page(i)) else {

@@ -6,7 +6,7 @@ ghost use Rattle.pages.specs.Layout.{HeadOf, page_number, page_count};
 ghost use Rattle.storefile.specs.StoreFile.{page};
 ghost use Rattle.storefile.specs.Judging.{spelled_at, head_in, current_slot};
 ghost use Rattle.pagereader.specs.Numbers.{open_number};
-ghost use Rattle.pagereader.specs.Outcomes.{failures_told, IsQuiet, MayLack, MayRefuse};
+ghost use Rattle.pagereader.specs.Outcomes.{failures_told, IsQuiet, MayLack, MayRefuse, MayEndOpening};
 ghost use Rattle.checkpoint.specs.Loading.{head_from};
 
 use disk::Disk;
@@ -22,6 +22,7 @@ pub fn choose<D: Disk>(disk: &mut D, header: &Header) -> Result<Slot, Refusal>
     requires whole { D.honest disk.old → length (D.content disk.old) ≡ 4096 * page_count header.now }
     ensures slot { D.honest disk.old → IfOk result (λ slot. current_slot (page (D.content disk.old)) header.now ≡ Ok slot) }
     ensures refused { D.honest disk.old → IfErr result (λ refusal. MayRefuse (current_slot (page (D.content disk.old)) header.now) refusal) }
+    ensures causes { IfErr result MayEndOpening }
     ensures same { D.honest disk.old → StaysSame D.content D.left D.moment D.left_since disk.old disk.new }
     ensures counted { D.failures disk.new ≡ failures_told result (D.failures disk.old) }
     ensures honest { D.honest disk.new ↔ D.honest disk.old }
@@ -38,6 +39,7 @@ pub fn choose<D: Disk>(disk: &mut D, header: &Header) -> Result<Slot, Refusal>
 // The slot of the greater epoch, of those of the slots that are open.
 fn greater(header: &Header, a: Option<u64>, b: Option<u64>) -> Result<Slot, Refusal>
     ensures slot { (pages : ℕ → List ℕ) → open_number (pages (page_number header.now (HeadOf slot_a))) ≡ a → open_number (pages (page_number header.now (HeadOf slot_b))) ≡ b → current_slot pages header.now ≡ result }
+    ensures causes { IfErr result MayEndOpening }
     ensures quiet { IsQuiet result }
 {
     match (a, b) {
@@ -65,6 +67,7 @@ pub fn read_head<D: Disk>(
     ensures spelled { D.honest disk.old → IfOk result (λ head. head_from (page (D.content disk.old)) header.now slot ≡ Ok head) }
     ensures fits { IfOk result (λ head. IsHead header.now.nodes head) }
     ensures refused { D.honest disk.old → IfErr result (λ refusal. MayRefuse (head_from (page (D.content disk.old)) header.now slot) refusal) }
+    ensures causes { IfErr result MayEndOpening }
     ensures same { D.honest disk.old → StaysSame D.content D.left D.moment D.left_since disk.old disk.new }
     ensures counted { D.failures disk.new ≡ failures_told result (D.failures disk.old) }
     ensures honest { D.honest disk.new ↔ D.honest disk.old }
@@ -87,6 +90,7 @@ fn judge_head(
     ensures spelled { IfOk result (λ head. spelled_at number (head_in header.now.nodes page.now) ≡ Ok head) }
     ensures fits { IfOk result (λ head. IsHead header.now.nodes head) }
     ensures refused { IfErr result (λ refusal. MayLack (spelled_at number (head_in header.now.nodes page.now)) refusal) }
+    ensures causes { IfErr result MayEndOpening }
     ensures quiet { IsQuiet result }
 {
     let Ok(found) = decode_slot_head(alloc, page, header.nodes) else {

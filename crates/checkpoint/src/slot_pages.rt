@@ -20,7 +20,7 @@ pub fn gate_at(header: &Header, slot: Slot) -> u64
 }
 
 /// The arcs of the `i`-th page, where a page has so many places.
-fn part_of(arcs: &[RoadArc], i: u64, places: usize) -> &[RoadArc]
+pub fn part_of(arcs: &[RoadArc], i: u64, places: usize) -> &[RoadArc]
     requires { places ≤ 1023 }
     ensures { result.now ≡ part places i arcs.now }
 {

@@ -6,7 +6,7 @@ ghost use Rattle.pages.specs.Spelling.{IsHeader, IsHead, IsEnds, IsWord, ends_of
 ghost use Rattle.pages.specs.Layout.{page_count};
 ghost use Rattle.storefile.specs.StoreFile.{page};
 ghost use Rattle.pagereader.specs.Runs.{IsRunOf};
-ghost use Rattle.pagereader.specs.Outcomes.{failures_told, MayRefuse};
+ghost use Rattle.pagereader.specs.Outcomes.{failures_told, MayRefuse, MayEndOpening};
 ghost use Rattle.checkpoint.specs.Loading.{head_of, loaded_from};
 
 use crate::heads::read_head;
@@ -44,6 +44,7 @@ pub fn load<D: Disk>(
     ensures loaded { D.honest disk.old → IfOk result (λ c. loaded_from (page (D.content disk.old)) header.now slot (map ends_of arcs.items) ≡ Ok (head_of c, c.network)) }
     ensures fits { IfOk result (λ c. IsHead header.now.nodes (head_of c)) }
     ensures refused { D.honest disk.old → IfErr result (λ refusal. MayRefuse (loaded_from (page (D.content disk.old)) header.now slot (map ends_of arcs.items)) refusal) }
+    ensures causes { IfErr result MayEndOpening }
     ensures same { D.honest disk.old → StaysSame D.content D.left D.moment D.left_since disk.old disk.new }
     ensures counted { D.failures disk.new ≡ failures_told result (D.failures disk.old) }
     ensures honest { D.honest disk.new ↔ D.honest disk.old }

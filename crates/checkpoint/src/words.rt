@@ -6,7 +6,7 @@ ghost use Rattle.pages.specs.Layout.{Words, page_number, page_count, word_pages,
 ghost use Rattle.storefile.specs.StoreFile.{page};
 ghost use Rattle.storefile.specs.Judging.{spelled_at, words_in, words_from};
 ghost use Rattle.pagereader.specs.Runs.{IsRunOf};
-ghost use Rattle.pagereader.specs.Outcomes.{failures_told, IsQuiet, MayLack, MayRefuse};
+ghost use Rattle.pagereader.specs.Outcomes.{failures_told, IsQuiet, MayLack, MayRefuse, MayEndOpening};
 ghost use Rattle.checkpoint.specs.Loading.{WordsArePut};
 
 use disk::Disk;
@@ -34,6 +34,7 @@ pub fn read_words<D: Disk>(
     ensures ends { map ends_of arcs.new ≡ map ends_of arcs.old }
     ensures refused { D.honest disk.old → IfErr result (λ refusal. MayRefuse (words_from (page (D.content disk.old)) header.now slot) refusal) }
     ensures run { D.honest disk.old → IsRunOf (D.content disk.old) reader.new }
+    ensures causes { IfErr result MayEndOpening }
     ensures same { D.honest disk.old → StaysSame D.content D.left D.moment D.left_since disk.old disk.new }
     ensures counted { D.failures disk.new ≡ failures_told result (D.failures disk.old) }
     ensures honest { D.honest disk.new ↔ D.honest disk.old }
@@ -65,6 +66,7 @@ fn take_page(
     ensures spelled { OnOk result (WordsArePut (spelled_at (page_number header.now (Words slot i)) (words_in (places_in_use 1023 i header.now.arcs) page.now)) (take (min (1023 * i) header.now.arcs) arcs.old) (take (min (1023 * (i + 1)) header.now.arcs) arcs.new)) }
     ensures ends { map ends_of arcs.new ≡ map ends_of arcs.old }
     ensures refused { IfErr result (λ refusal. MayLack (spelled_at (page_number header.now (Words slot i)) (words_in (places_in_use 1023 i header.now.arcs) page.now)) refusal) }
+    ensures causes { IfErr result MayEndOpening }
     ensures quiet { IsQuiet result }
 {
     let Ok(found) = decode_word_page(alloc, page, header.words_on_page(i)) else {

@@ -10,12 +10,12 @@ ghost use Rattle.checkpoint.specs.Writing.{head_of, slot_gate, HoldsWords, IsSlo
 
 use crate::slot_pages::{gate_at, put_words, write_head, write_word_pages};
 use disk::{Disk, DiskError, close_gate, open_gate, settle};
-use pages::{Header, PAGE_SIZE, Slot, encode_slot_head};
+use pages::{Header, PAGE_SIZE, PAGES_AT_ONCE, Slot, encode_slot_head};
 use roadnet::Network;
 use std::alloc::{AllocError, Global};
 use std::marker::Model;
 
-const BUFFER_SIZE: usize = 64 * PAGE_SIZE;
+const BUFFER_SIZE: usize = PAGES_AT_ONCE * PAGE_SIZE;
 
 /// A checkpoint that is being written to the slot that is not current: of the network that its calls are lent, the same in each, with
 /// the version and next sequence that it had at the beginning.

@@ -1,9 +1,9 @@
 -- What holds of each call of a disk in memory.
-use Rattle.std.proofs.Common.{◌≡◌, ◌⊎◌, inl, inr, ⊎_elim, ℕ, zero, suc, List, Bool, true, false, Option, None, Some, refl, sym, ◌∙◌, arith}
+use Rattle.std.proofs.Common.{◌≡◌, ◌⊎◌, inl, inr, ⊎_elim, ℕ, zero, suc, List, length, Bool, true, false, Option, None, Some, refl, sym, ◌∙◌, arith}
 use Rattle.disk.specs.Calls.{DiskCall, Len, Read, Write, Sync}
-use Rattle.disk.specs.Record.{before_writes, unsynced}
-use Rattle.disk.specs.Stop.{nearer_by, synced_by}
-use Rattle.disk.specs.MemDisk.{bytes_of, synced_of, armed_of, IsSame, MemWrites, MemTakes}
+use Rattle.disk.specs.Record.{before_writes, is_written, unsynced}
+use Rattle.disk.specs.Stop.{nearer_by, synced_by, AreSame, HasRangeToo, IsUnsyncedBy}
+use Rattle.disk.specs.MemDisk.{bytes_of, synced_of, is_unsynced_in, armed_of, IsSame, MemWrites, MemTakes}
 use Rattle.disk.specs.declared.mem_disk.MemDisk.{MemDisk}
 
 pub mem_comes_nearer : (old : MemDisk) (call : DiskCall) (ok : Bool) (new : MemDisk) → MemTakes old call ok new → armed_of new ≡ nearer_by call (armed_of old)
@@ -38,3 +38,21 @@ mem_only_sync_syncs old (Read at count) ok new takes = same_synced old new takes
 mem_only_sync_syncs old (Write at bytes) ok new takes = write_keeps_synced at bytes old ok new takes
 mem_only_sync_syncs old Sync true new takes = (takes.told refl).synced
 mem_only_sync_syncs old Sync false new takes = same_synced old new (takes.failed refl)
+
+same_unsynced : (old new : MemDisk) → IsSame old new → AreSame (is_unsynced_in old) (is_unsynced_in new)
+same_unsynced old new same = λ i j. is_written (unsynced (same.record_is j)) i
+
+failed_write : (at : ℕ) (bytes : List ℕ) (old new : MemDisk) → MemWrites at bytes old false new
+    → HasRangeToo at (length bytes) (is_unsynced_in old) (is_unsynced_in new) ⊎ AreSame (is_unsynced_in old) (is_unsynced_in new)
+failed_write at bytes old new writes = ⊎_elim
+    (λ came. inr (same_unsynced old new (writes.late came)))
+    (λ not_yet. ⊎_elim (λ made. inl made.unsynced) (λ refused. inr (same_unsynced old new refused.same)) (writes.made not_yet))
+    (came_or_not (armed_of old))
+
+pub mem_writes_unsync : (old : MemDisk) (call : DiskCall) (ok : Bool) (new : MemDisk) → MemTakes old call ok new → IsUnsyncedBy call ok (is_unsynced_in old) (is_unsynced_in new)
+mem_writes_unsync old Len ok new takes = same_unsynced old new takes.same
+mem_writes_unsync old (Read at count) ok new takes = same_unsynced old new takes.same
+mem_writes_unsync old (Write at bytes) true new takes = (takes.told refl).unsynced
+mem_writes_unsync old (Write at bytes) false new takes = failed_write at bytes old new takes
+mem_writes_unsync old Sync true new takes = (takes.told refl).unsynced
+mem_writes_unsync old Sync false new takes = same_unsynced old new (takes.failed refl)

@@ -1,6 +1,6 @@
 -- The armed call of a test disk, and what a stop of it leaves.
-use Rattle.std.specs.Prelude.{◌≡◌, ◌<◌, ◌+◌, ◌-◌, ◌%◌, ℕ, zero, suc, Bool, true, false, if◌then◌else◌, Option, None, Some, List, length, slice_index, slice_get, IfSome}
-use Rattle.disk.specs.Calls.{DiskCall, Sync, is_write_or_sync}
+use Rattle.std.specs.Prelude.{◌≡◌, ◌⊎◌, ◌<◌, ◌||◌, ◌&&◌, nat_le, nat_lt, ◌+◌, ◌-◌, ◌%◌, ℕ, zero, suc, Bool, true, false, if◌then◌else◌, Option, None, Some, List, length, slice_index, slice_get, IfSome}
+use Rattle.disk.specs.Calls.{DiskCall, Write, Sync, is_write_or_sync}
 use Rattle.disk.specs.declared.stoppable.Pick.{Pick}
 use Rattle.disk.specs.declared.stoppable.Pick.TheVariants.{Old, New, Byte}
 
@@ -24,6 +24,21 @@ armed_at k (Some (suc _)) = Some k
 abbrev pub synced_by : DiskCall → Bool → List ℕ → List ℕ → List ℕ
 synced_by Sync true content synced = content
 synced_by _ _ content synced = synced
+
+-- the same places are unsynced
+abbrev pub AreSame : (ℕ → Bool) → (ℕ → Bool) → Type 0
+AreSame old new = (i : ℕ) → new i ≡ old i
+
+-- those of a range of so many bytes are unsynced too
+abbrev pub HasRangeToo : ℕ → ℕ → (ℕ → Bool) → (ℕ → Bool) → Type 0
+HasRangeToo at count old new = (i : ℕ) → new i ≡ (old i || (nat_le at i && nat_lt i (at + count)))
+
+-- Which places are unsynced after a call: a write adds its range, and one that fails may add nothing; a sync that succeeds leaves none.
+abbrev pub IsUnsyncedBy : DiskCall → Bool → (ℕ → Bool) → (ℕ → Bool) → Type 0
+IsUnsyncedBy (Write at bytes) true old new = HasRangeToo at (length bytes) old new
+IsUnsyncedBy (Write at bytes) false old new = HasRangeToo at (length bytes) old new ⊎ AreSame old new
+IsUnsyncedBy Sync true old new = (i : ℕ) → new i ≡ false
+IsUnsyncedBy _ _ old new = AreSame old new
 
 -- the byte that a pick gives, of the synced one and the one that was written
 abbrev pub picked : Pick → ℕ → ℕ → ℕ

@@ -11,6 +11,10 @@ fuse_inner disk = disk.inner
 abbrev pub passes_of : {D : Type 0} → FuseDisk D → Option ℕ
 passes_of disk = disk.passes
 
+-- how many calls it refused, beside the failures of the disk inside
+abbrev pub fuse_failures : {D : Type 0} → FuseDisk D → ℕ
+fuse_failures disk = disk.failures
+
 -- a fuse after one write or sync more: the one that finds nothing left blows it
 abbrev pub burnt : Option ℕ → Option ℕ
 burnt None = None
@@ -32,6 +36,10 @@ fail_once_inner disk = disk.inner
 -- which call from now fails, the next one counted as 1; 0 where none does any more
 abbrev pub fails_in : {D : Type 0} → FailOnce D → ℕ
 fails_in disk = disk.fails_in
+
+-- how many calls it refused, beside the failures of the disk inside
+abbrev pub fail_once_failures : {D : Type 0} → FailOnce D → ℕ
+fail_once_failures disk = disk.failures
 
 -- A call of a FailOnce. It is made unless it is the one that fails, which leaves the disk inside as it was.
 pub record FailOnceTakes {D : Type 0} (takes : D → DiskCall → Bool → D → Type 0) (old : FailOnce D) (call : DiskCall) (ok : Bool) (new : FailOnce D) : Type 0 where

@@ -14,12 +14,14 @@ pub struct FailOnce<D> {
 }
 
 impl<D> FailOnce<D> {
-    ghost use Rattle.disk.specs.Wrapped.{fail_once_inner, fails_in};
+    ghost use Rattle.disk.specs.Wrapped.{fail_once_inner, fail_once_failures, fails_in};
 
-    /// Fails at the k-th call from now on, of any of the four kinds, counted from 1. With k = 0 none fails.
+    /// Fails at the k-th call from now on, of any of the four kinds, counted from 1. With k = 0 none fails. Its
+    /// failures are those of the disk inside until then.
     pub fn new(inner: D, k: u64) -> Self
         ensures inner { fail_once_inner result ≡ inner }
         ensures fails_in { fails_in result ≡ k }
+        ensures failures { fail_once_failures result ≡ 0 }
     {
         FailOnce {
             inner,

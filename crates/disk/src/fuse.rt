@@ -15,12 +15,13 @@ pub struct FuseDisk<D> {
 }
 
 impl<D> FuseDisk<D> {
-    ghost use Rattle.disk.specs.Wrapped.{fuse_inner, passes_of, burnt};
+    ghost use Rattle.disk.specs.Wrapped.{fuse_inner, passes_of, fuse_failures, burnt};
 
-    /// Passes k writes and syncs on.
+    /// Passes k writes and syncs on. Its failures are those of the disk inside until it refuses a call.
     pub fn new(inner: D, k: u64) -> Self
         ensures inner { fuse_inner result ≡ inner }
         ensures passes { passes_of result ≡ Some k }
+        ensures failures { fuse_failures result ≡ 0 }
     {
         FuseDisk {
             inner,

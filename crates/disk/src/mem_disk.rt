@@ -40,13 +40,15 @@ pub struct MemDisk {
 }
 
 impl MemDisk {
-    ghost use Rattle.disk.specs.MemDisk.{bytes_of, armed_of};
+    ghost use Rattle.disk.specs.MemDisk.{bytes_of, armed_of, refusals_of};
 
-    /// An empty disk.
+    /// An empty disk, which has not failed yet.
     pub fn new(alloc: Global) -> Self
         ensures empty { bytes_of result ≡ [] }
         ensures at_rest { Only [] (⟦<MemDisk as Disk>⟧.left result) }
         ensures unarmed { armed_of result ≡ None }
+        ensures failures { ⟦<MemDisk as Disk>⟧.failures result ≡ 0 }
+        ensures refusals { refusals_of result ≡ 0 }
     {
         MemDisk {
             alloc,
@@ -298,7 +300,7 @@ fn synced_byte(calls: &[Recorded], total: usize, place: usize, byte: u8) -> (boo
 }
 
 impl Stoppable for MemDisk {
-    ghost use Rattle.disk.specs.MemDiskLaws.{mem_comes_nearer, mem_only_sync_syncs, mem_cut_fails};
+    ghost use Rattle.disk.specs.MemDiskLaws.{mem_comes_nearer, mem_only_sync_syncs, mem_writes_unsync, mem_cut_fails};
 
     ghost synced = { λ disk. before_writes (unsynced disk.calls.items) disk.content.items };
 
@@ -324,6 +326,8 @@ impl Stoppable for MemDisk {
     ghost comes_nearer = { mem_comes_nearer };
 
     ghost only_sync_syncs = { mem_only_sync_syncs };
+
+    ghost writes_unsync = { mem_writes_unsync };
 
     ghost cut_fails = { mem_cut_fails };
 }

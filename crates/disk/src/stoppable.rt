@@ -2,7 +2,7 @@
 ghost use Rattle.std.specs.Prelude.{◌≡◌, ◌↔◌, ◌<◌, ◌≤◌, List, ℕ, Bool, false, Option, None, Some, IsTrue, length};
 ghost use Rattle.disk.specs.Calls.{DiskCall};
 ghost use Rattle.disk.specs.Contents.{Only, AgreesWithSynced};
-ghost use Rattle.disk.specs.Stop.{TakesPicks, nearer_by, synced_by, armed_at};
+ghost use Rattle.disk.specs.Stop.{TakesPicks, nearer_by, synced_by, armed_at, IsUnsyncedBy};
 
 use crate::Disk;
 
@@ -30,11 +30,13 @@ pub trait Stoppable: Disk {
     ghost armed: { Self → Option ℕ };
 
     /// The k-th write or sync from now on is cut: a write is made and not answered, a sync is not made. It and each
-    /// later call fail until the stop. Where an armed call has come already, that stays so.
+    /// later call fail until the stop. Where an armed call has come already, that stays so. Nothing else is changed.
     fn arm(&mut self, k: u64)
         requires { 1 ≤ k }
         ensures armed { armed self.new ≡ armed_at k (armed self.old) }
         ensures content { Self.content self.new ≡ Self.content self.old }
+        ensures synced { synced self.new ≡ synced self.old }
+        ensures unsynced { (i : ℕ) → is_unsynced self.new i ≡ is_unsynced self.old i }
         ensures left { (c : List ℕ) → Self.left self.new c ↔ Self.left self.old c }
         ensures moment { Self.moment self.new ≡ Self.moment self.old }
         ensures left_since { (t : ℕ) (c : List ℕ) → Self.left_since self.new t c ↔ Self.left_since self.old t c }
@@ -62,6 +64,10 @@ pub trait Stoppable: Disk {
 
     /// A sync that succeeds makes the content the synced one, and no other call syncs.
     ghost only_sync_syncs: { (old : Self) (call : DiskCall) (ok : Bool) (new : Self) → Self.takes old call ok new → synced new ≡ synced_by call ok (Self.content old) (synced old) };
+
+    /// A write that succeeds makes just its range unsynced, one that fails its range or nothing. A sync that succeeds
+    /// leaves nothing unsynced, and no other call changes that.
+    ghost writes_unsync: { (old : Self) (call : DiskCall) (ok : Bool) (new : Self) → Self.takes old call ok new → IsUnsyncedBy call ok (is_unsynced old) (is_unsynced new) };
 
     /// The armed call fails, and so does each call after it.
     ghost cut_fails: { (old : Self) (call : DiskCall) (ok : Bool) (new : Self) → Self.takes old call ok new → armed new ≡ Some 0 → ok ≡ false };

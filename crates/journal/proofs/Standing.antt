@@ -1,5 +1,5 @@
 -- Pages that stand one after the other.
-use Rattle.std.proofs.Common.{◌≡◌, ℕ, ◌+◌, ◌<◌, Bool, true, false, cond, List, Option, Some, None, refl, ap, arith, below_more}
+use Rattle.std.proofs.Common.{◌≡◌, ℕ, ◌+◌, ◌<◌, Bool, true, false, cond, List, Some, None, refl, ap, arith, below_more}
 use Rattle.std.specs.Prelude.{◌&&◌, ◌==◌}
 use Rattle.pages.specs.declared.header.Header.{Header}
 use Rattle.storefile.specs.StoreFile.{page, is_open, first_field, journal_page_at, is_standing}

@@ -5,6 +5,7 @@ ghost use Rattle.disk.specs.Gated.{IsWholeOrShut, with_page};
 ghost use Rattle.pages.specs.Spelling.{IsHeader, IsRecord, body, entry_page};
 ghost use Rattle.pages.specs.Layout.{page_count};
 ghost use Rattle.storefile.specs.StoreFile.{journal_page_at};
+ghost use Rattle.pages.specs.Limits.{most_commands};
 
 use disk::{Disk, DiskError, write_gated};
 use pages::{GATE_AT, Header, PAGE_SIZE, encode_journal_page};
@@ -32,7 +33,7 @@ pub fn append_page<D: Disk>(
 ) -> Result<(), DiskError>
     requires header { IsHeader header.now }
     requires some { 1 ≤ length commands.now }
-    requires few { length commands.now ≤ 253 }
+    requires few { length commands.now ≤ most_commands }
     requires fits { All IsRecord commands.now }
     requires at_rest { D.honest disk.old → Only (D.content disk.old) (D.left disk.old) }
     requires whole { D.honest disk.old → length (D.content disk.old) ≡ 4096 * page_count header.now }

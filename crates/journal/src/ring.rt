@@ -5,6 +5,7 @@ ghost use Rattle.pages.specs.Spelling.{IsHeader};
 ghost use Rattle.pages.specs.Layout.{journal_start, page_count, place_of};
 ghost use Rattle.storefile.specs.StoreFile.{page, is_standing, journal_page_at};
 ghost use Rattle.journal.specs.Places.{IsLongest};
+ghost use Rattle.pages.specs.Limits.{most_versions};
 
 use disk::{Disk, DiskError};
 use pagereader::read_open_number;
@@ -50,7 +51,7 @@ impl Ring {
     /// page that is written next follows them. Nothing is changed.
     pub fn collect<D: Disk>(disk: &mut D, header: &Header, from: u64) -> Result<Ring, DiskError>
         requires header { IsHeader header.now }
-        requires from { from ≤ 2 ^ 48 }
+        requires from { from ≤ most_versions }
         requires whole { D.honest disk.old → length (D.content disk.old) ≡ 4096 * page_count header.now }
         ensures longest { D.honest disk.old → IfOk result (λ ring. IsLongest (page (D.content disk.old)) header.now from (ring.next_sequence - from)) }
         ensures first { IfOk result (λ ring. ring.first_unchecked ≡ from) }
@@ -72,7 +73,7 @@ impl Ring {
     // So many pages are unchecked, from this sequence on.
     fn of(header: &Header, from: u64, count: u32) -> Ring
         requires header { IsHeader header.now }
-        requires from { from ≤ 2 ^ 48 }
+        requires from { from ≤ most_versions }
         requires few { count ≤ header.now.journal_pages }
         ensures { result ≡ record { journal_pages = header.now.journal_pages; start = journal_start header.now; first_unchecked = from; next_sequence = from + count } }
     {

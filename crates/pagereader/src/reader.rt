@@ -5,14 +5,11 @@ ghost use Rattle.storefile.specs.StoreFile.{page};
 ghost use Rattle.pagereader.specs.Runs.{IsRunOf, Holds};
 
 use disk::{Disk, DiskError, read_at};
-use pages::PAGE_SIZE;
+use pages::{PAGE_SIZE, PAGES_AT_ONCE};
 use std::alloc::{AllocError, Global};
 use std::marker::Model;
 
-/// The most pages that are read at once.
-const MOST_PAGES: u64 = 64;
-
-const BUFFER_SIZE: usize = 64 * PAGE_SIZE;
+const BUFFER_SIZE: usize = PAGES_AT_ONCE * PAGE_SIZE;
 
 /// Reads page `k` of the file. Nothing is changed.
 pub fn read_page<D: Disk>(disk: &mut D, k: u64, into: &mut [u8; PAGE_SIZE]) -> Result<(), DiskError>
@@ -124,7 +121,7 @@ impl PageReader {
         ensures counted { D.failures disk.new ≡ failures_after result (D.failures disk.old) }
         ensures honest { D.honest disk.new ↔ D.honest disk.old }
     {
-        let count = (end - k).min(MOST_PAGES);
+        let count = (end - k).min(PAGES_AT_ONCE as u64);
         self.first = k;
         self.count = 0;
         read_run(disk, k, count, &mut self.buffer)?;

@@ -1,4 +1,5 @@
 pub mod Contents
+pub mod Limits
 pub mod Gates
 pub mod Spelling
 pub mod Reading

@@ -10,6 +10,7 @@ use Rattle.pages.specs.declared.content.Ends.{Ends}
 use Rattle.pages.specs.declared.content.Word.{Word}
 use Rattle.pages.specs.declared.header.Header.{Header}
 use Rattle.pages.specs.Contents.{Head, Entry}
+use Rattle.pages.specs.Limits.{magic, format, most_versions, most_commands}
 
 unfoldable pub zeros : ℕ → List ℕ
 zeros count = replicate count 0
@@ -31,7 +32,7 @@ Decodes Spelled (Some content) = Spelled content
 
 -- bytes 0 to 23: the magic, the number of the format, the nodes, the arcs, the journal's pages
 abbrev pub header_fields : Header → List ℕ
-header_fields h = codes "ROADMRK1" ++ big_bytes 4 1 ++ big_bytes 4 h.nodes ++ big_bytes 4 h.arcs ++ big_bytes 4 h.journal_pages
+header_fields h = magic ++ big_bytes 4 format ++ big_bytes 4 h.nodes ++ big_bytes 4 h.arcs ++ big_bytes 4 h.journal_pages
 
 abbrev pub header_page : Header → List ℕ
 header_page h = page_of (header_fields h)
@@ -113,7 +114,7 @@ pub record AreFit (epoch version next_sequence count : ℕ) : Type 0 where
   pub epoch_from : 1 ≤ epoch
   pub epoch_to : epoch ≤ next_sequence + 1
   pub sequence_to : next_sequence ≤ version
-  pub version_to : version ≤ 2 ^ 48
+  pub version_to : version ≤ most_versions
   pub count_to : count ≤ 1000
 
 pub record IsHead (nodes : ℕ) (s : Head) : Type 0 where
@@ -172,7 +173,7 @@ pub record IsEntry (e : Entry) : Type 0 where
   pub sequence_fits : e.sequence < 2 ^ 64
   pub number_fits : e.first_number < 2 ^ 64
   pub some_command : 1 ≤ length e.commands
-  pub commands_to : length e.commands ≤ 253
+  pub commands_to : length e.commands ≤ most_commands
   pub each : AllByRecursion IsRecord e.commands
 
 -- whatever the gate

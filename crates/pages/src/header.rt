@@ -5,9 +5,11 @@ ghost use Rattle.pages.specs.Reading.{read_header};
 use crate::writer::{PAGE_SIZE, PageWriter, have_same_body};
 use byteorder::{BigEndian, ByteOrder};
 
-const MAGIC: [u8; 8] = *b"ROADMRK1";
+/// The first bytes of a store.
+pub const MAGIC: [u8; 8] = *b"ROADMRK1";
 
-const FORMAT: u32 = 1;
+/// The number of the format.
+pub const FORMAT: u32 = 1;
 
 /// The sizes of a store: the nodes and arcs of its network, and the pages of its journal.
 #[derive(Clone, Copy, Debug, PartialEq, Eq)]

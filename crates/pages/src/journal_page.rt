@@ -3,6 +3,7 @@ ghost use Rattle.std.specs.List.{flat_map};
 ghost use Rattle.std.specs.Option.{option_map};
 ghost use Rattle.pages.specs.Spelling.{body, front_bytes, Decodes, IsRecord, SpelledEntry, entry_page, record_of, record_bytes};
 ghost use Rattle.pages.specs.Reading.{read_record, read_records};
+ghost use Rattle.pages.specs.Limits.{most_commands};
 
 use crate::writer::{PAGE_SIZE, PageWriter, have_same_body};
 use byteorder::{BigEndian, ByteOrder};
@@ -89,9 +90,9 @@ fn put_front(page: &mut PageWriter, sequence: u64, first_number: u64, count: u16
 }
 
 fn put_records(page: &mut PageWriter, commands: &[Command])
-    requires few { length commands.now ≤ 253 }
+    requires few { length commands.now ≤ most_commands }
     requires fits { All IsRecord commands.now }
-    requires room { length page.old + 16 * 253 ≤ 4096 }
+    requires room { length page.old + 16 * most_commands ≤ 4096 }
     ensures { page.new ≡ page.old ++ flat_map record_bytes commands.now }
 {
     for command in commands {
@@ -107,7 +108,7 @@ pub fn encode_journal_page(
     commands: &[Command],
 ) -> [u8; PAGE_SIZE]
     requires some { 1 ≤ length commands.now }
-    requires few { length commands.now ≤ 253 }
+    requires few { length commands.now ≤ most_commands }
     requires fits { All IsRecord commands.now }
     ensures { result ≡ entry_page (record { sequence = sequence; first_number = first_number; commands = commands.now }) }
 {
@@ -158,7 +159,7 @@ fn read_records(
 
 /// Whether a journal page may hold so many commands.
 fn is_count(count: usize) -> bool
-    ensures { IsTrue result ↔ ((1 ≤ count) × (count ≤ 253)) }
+    ensures { IsTrue result ↔ ((1 ≤ count) × (count ≤ most_commands)) }
 {
     (1..=MOST_COMMANDS).contains(&count)
 }
@@ -171,7 +172,7 @@ fn is_entry_page(
     commands: &[Command],
 ) -> bool
     requires some { 1 ≤ length commands.now }
-    requires few { length commands.now ≤ 253 }
+    requires few { length commands.now ≤ most_commands }
     requires fits { All IsRecord commands.now }
     ensures { IsTrue result ↔ (body page.now ≡ body (entry_page (record { sequence = sequence; first_number = first_number; commands = commands.now }))) }
 {

@@ -10,6 +10,9 @@ pub const ARCS_A_PAGE: usize = 511;
 /// The places of a word page.
 pub const WORDS_A_PAGE: usize = 1023;
 
+/// How many pages are read or written at once, at most.
+pub const PAGES_AT_ONCE: usize = 64;
+
 /// Page numbers of the file that has this header. The header itself is page 0.
 impl Header {
     /// How many pages hold the ends of the arcs.

@@ -15,11 +15,11 @@ mod writer;
 pub use arc_page::{ArcPage, decode_arc_page, encode_arc_page};
 pub use content::{Ends, Slot, Word};
 pub use gate::{GATE_AT, Gate, gate_of};
-pub use header::{Header, decode_header, encode_header};
+pub use header::{FORMAT, Header, MAGIC, decode_header, encode_header};
 pub use journal_page::{JournalPage, MOST_COMMANDS, decode_journal_page, encode_journal_page};
 pub use laws::{parts_fill_the_file, spelling_is_one_to_one, worked_pages};
-pub use layout::{ARCS_A_PAGE, WORDS_A_PAGE};
-pub use slot_head::{SlotHead, decode_slot_head, encode_slot_head};
+pub use layout::{ARCS_A_PAGE, PAGES_AT_ONCE, WORDS_A_PAGE};
+pub use slot_head::{MOST_VERSIONS, SlotHead, decode_slot_head, encode_slot_head};
 pub use word_page::{WordPage, decode_word_page, encode_word_page};
 pub use writer::PAGE_SIZE;
 

@@ -13,7 +13,8 @@ use std::marker::Model;
 
 const MOST_LANDMARKS: u32 = 1000;
 
-const GREATEST_VERSION: u64 = 1 << 48;
+/// The greatest version of a store.
+pub const MOST_VERSIONS: u64 = 1 << 48;
 
 const NUMBER_SIZE: usize = 4;
 
@@ -66,7 +67,7 @@ fn are_fit(epoch: u64, version: u64, next_sequence: u64, count: u32) -> bool
 {
     (1..=next_sequence.saturating_add(1)).contains(&epoch)
         && next_sequence <= version
-        && version <= GREATEST_VERSION
+        && version <= MOST_VERSIONS
         && count <= MOST_LANDMARKS
 }
 

@@ -60,25 +60,25 @@ head_fits x numbers some net = record { epoch_from = omega arith; epoch_to = ome
 
 -- ---- what a stop leaves
 
-tidy_for : (c : List ℕ) (h : Header) (slot : Slot) (epoch : ℕ) (net : Net) (version next unchecked : ℕ) → IsStoredAs c h slot epoch net version next unchecked → IsTidyAt c h next → StandsTidyFor c net version
+tidy_for : (c : List ℕ) (h : Header) (slot : Slot) (epoch : ℕ) (net : Net) (version next unchecked : ℕ) → IsStoredAs c h slot epoch net version next unchecked → IsTidyAt c h next → StandsTidyFor h.journal_pages c net version
 tidy_for c h slot epoch net version next unchecked held tidy =
-    (held.stored, next, record { stands = held.stands; tidy = subst (λ (y : Header). HasNoLaterPage (page c) y next) (sym held.header_is) tidy })
+    (held.stored, next, record { stands = held.stands; tidy = subst (λ (y : Header). HasNoLaterPage (page c) y next) (sym held.header_is) tidy }, ap (λ (y : Header). y.journal_pages) held.header_is)
 
-pub still_stands : (old : List ℕ) (x : Standing) → StandsTidily old x → StandsTidyFor old x.network x.version
+pub still_stands : (old : List ℕ) (x : Standing) → StandsTidily old x → StandsTidyFor x.header.journal_pages old x.network x.version
 still_stands old x stands = tidy_for old x.header x.slot x.epoch x.network x.version x.next x.unchecked (stored_as old x stands.0) stands.1
 
 -- nothing is written
-pub only_stands : (old : List ℕ) (left : List ℕ → Type 0) (x : Standing) → Only old left → StandsTidily old x → (c : List ℕ) → left c → StandsTidyFor c x.network x.version
-only_stands old left x only stands c was = subst (λ (d : List ℕ). StandsTidyFor d x.network x.version) (sym (only c was)) (still_stands old x stands)
+pub only_stands : (old : List ℕ) (left : List ℕ → Type 0) (x : Standing) → Only old left → StandsTidily old x → (c : List ℕ) → left c → StandsTidyFor x.header.journal_pages c x.network x.version
+only_stands old left x only stands c was = subst (λ (d : List ℕ). StandsTidyFor x.header.journal_pages d x.network x.version) (sym (only c was)) (still_stands old x stands)
 
 -- where no call of the disk is made
 pub no_call : {D : Type 0} (content : D → List ℕ) (left : D → List ℕ → Type 0) (moment : D → ℕ) (left_since : D → ℕ → List ℕ → Type 0) (disk : D) (x : Standing) → Only (content disk) (left disk)
-    → ((c : List ℕ) → left_since disk (moment disk) c → left disk c) → StandsTidily (content disk) x → LeavesOnly moment left_since disk disk (λ c. StandsTidyFor c x.network x.version)
+    → ((c : List ℕ) → left_since disk (moment disk) c → left disk c) → StandsTidily (content disk) x → LeavesOnly moment left_since disk disk (λ c. StandsTidyFor x.header.journal_pages c x.network x.version)
 no_call content left moment left_since disk x only now stands =
-    started moment left_since disk (λ c. StandsTidyFor c x.network x.version) (λ c since. only_stands (content disk) (left disk) x only stands c (now c since))
+    started moment left_since disk (λ c. StandsTidyFor x.header.journal_pages c x.network x.version) (λ c since. only_stands (content disk) (left disk) x only stands c (now c since))
 
 -- the other slot's gate is closed
-pub shut_stands : (old c : List ℕ) (x : Standing) → StandsTidily old x → IsSlotShut x.header (other x.slot) old c → StandsTidyFor c x.network x.version
+pub shut_stands : (old c : List ℕ) (x : Standing) → StandsTidily old x → IsSlotShut x.header (other x.slot) old c → StandsTidyFor x.header.journal_pages c x.network x.version
 shut_stands old c x stands shut =
     let still = slot_stays old c x.header x.slot x.epoch x.network x.version x.next x.unchecked (stored_as old x stands.0) stands.1 shut in
     tidy_for c x.header x.slot x.epoch x.network x.version x.next x.unchecked still.0 still.1
@@ -121,8 +121,8 @@ module _ (old c : List ℕ) (x : Standing) (numbers : HasFitNumbers x.header x.e
       (record { stands = held.stands; tidy = subst (λ (y : Header). IsTidyAt old y x.next) (sym held.header_is) stands.1 })
       is later same_outside is_opened holds_it
 
-  pub taken_stands : StandsTidyFor c x.network x.version
-  taken_stands = (with_checkpoint held.stored (x.epoch + 1) x.network is.checked is.rest, x.next, taken.0)
+  pub taken_stands : StandsTidyFor x.header.journal_pages c x.network x.version
+  taken_stands = (with_checkpoint held.stored (x.epoch + 1) x.network is.checked is.rest, x.next, taken.0, ap (λ (y : Header). y.journal_pages) held.header_is)
 
   taken_stored : IsStoredAs c x.header (other x.slot) (x.epoch + 1) x.network x.version x.next 0
   taken_stored = record {
@@ -142,9 +142,9 @@ module _ (old c : List ℕ) (x : Standing) (numbers : HasFitNumbers x.header x.e
 
 -- at each moment while the slot is written
 pub meanwhile : (old c : List ℕ) (x : Standing) → HasFitNumbers x.header x.epoch x.version x.next x.unchecked → 1 ≤ x.unchecked → StandsTidily old x
-    → IsOldShutOrWhole x.header (other x.slot) (next_head x) x.network old c → StandsTidyFor c x.network x.version
+    → IsOldShutOrWhole x.header (other x.slot) (next_head x) x.network old c → StandsTidyFor x.header.journal_pages c x.network x.version
 meanwhile old c x numbers some stands way = ⊎_elim
-    (λ (same : c ≡ old). subst (λ (d : List ℕ). StandsTidyFor d x.network x.version) (sym same) (still_stands old x stands))
+    (λ (same : c ≡ old). subst (λ (d : List ℕ). StandsTidyFor x.header.journal_pages d x.network x.version) (sym same) (still_stands old x stands))
     (λ other_way. ⊎_elim (λ shut. shut_stands old c x stands shut) (λ whole. taken_stands old c x numbers some stands whole) other_way) way
 
 -- ---- a store's checkpoint: this is written, from what stands
@@ -152,9 +152,9 @@ meanwhile old c x numbers some stands way = ⊎_elim
 module _ (x : Standing) (next : Draft) (is : next ≡ record { slot = other x.slot; epoch = x.epoch + 1; version = x.version; next_sequence = x.next; written = 0 })
     (numbers : HasFitNumbers x.header x.epoch x.version x.next x.unchecked) (some : 1 ≤ x.unchecked) where
   pub all_moments : {D : Type 0} (content : D → List ℕ) (moment : D → ℕ) (left_since : D → ℕ → List ℕ → Type 0) (old new : D) → StandsTidily (content old) x
-      → LeavesOnly moment left_since old new (IsOldShutOrWhole x.header next.slot (head_of next x.network) x.network (content old)) → LeavesOnly moment left_since old new (λ c. StandsTidyFor c x.network x.version)
+      → LeavesOnly moment left_since old new (IsOldShutOrWhole x.header next.slot (head_of next x.network) x.network (content old)) → LeavesOnly moment left_since old new (λ c. StandsTidyFor x.header.journal_pages c x.network x.version)
   all_moments content moment left_since old new stands run =
-      weaker moment left_since old new (IsOldShutOrWhole x.header (other x.slot) (next_head x) x.network (content old)) (λ c. StandsTidyFor c x.network x.version)
+      weaker moment left_since old new (IsOldShutOrWhole x.header (other x.slot) (next_head x) x.network (content old)) (λ c. StandsTidyFor x.header.journal_pages c x.network x.version)
       (subst (λ (d : Draft). LeavesOnly moment left_since old new (IsOldShutOrWhole x.header d.slot (head_of d x.network) x.network (content old))) is run)
       (λ c way. meanwhile (content old) c x numbers some stands way)
 

@@ -10,7 +10,7 @@ use Rattle.disk.proofs.Steps.{started}
 use Rattle.roadnet.specs.declared.commands.Command.{Command}
 use Rattle.roadnet.specs.declared.commands.Command.TheVariants.{Set, Close, Reopen, Mark, Unmark}
 use Rattle.roadnet.specs.declared.refusals.Refusal.{Refusal}
-use Rattle.roadnet.specs.declared.refusals.Refusal.TheVariants.{Device, OutOfMemory}
+use Rattle.roadnet.specs.declared.refusals.Refusal.TheVariants.{NumberRange, TooLarge, Read, OutOfMemory, Write, NoSuchArc, LengthRange, AlreadyClosed, AlreadyOpen, NoSuchNode, AlreadyLandmark, NotALandmark, TooManyLandmarks, VersionsExhausted, NotAStore, WrongFormat, Damaged, Device, JournalFull, Broken, NotEmpty, QueueFull, NoTask, OtherNetwork, NothingPending, NotYet, NoReaderPlace, Closed, HistoryFull, NoThread}
 use Rattle.roadnet.specs.Batches.{HasFitNumbers as Fits, MayRefuseBatch}
 use Rattle.roadnet.specs.Causes.{first_applying}
 use Rattle.roadnet.specs.Net.{Net}
@@ -24,6 +24,7 @@ use Rattle.storefile.specs.Standing.{Standing, HasFitNumbers, IsBeforeOrAfter}
 use Rattle.storefile.proofs.PageBytes.{written_outside}
 use Rattle.storefile.proofs.Meaning.{IsPage, is_page, page_size, page_within, stored_more, tidy_more, before_or_after, rests}
 use Rattle.storefile.proofs.Rests.{stored_as, standing_is}
+use Rattle.pagereader.specs.Outcomes.{failures_with}
 use Rattle.store.specs.Committing.{StandsTidily}
 
 -- ---- the commands
@@ -74,18 +75,51 @@ not_device net commands refusal may is =
     ⊎_elim (λ told. let below : number_of refusal < 43 = below_first net commands refusal told in let never : 43 < 43 = subst (λ (r : Refusal). number_of r < 43) is below in absurd (omega (arith, never)))
     (λ memory. let never : OutOfMemory ≡ Device = sym memory.0 ∙ is in absurd cc) may
 
+-- the count of failures stays where another refusal is told
+pub not_told : (refusal : Refusal) (n : ℕ) → (refusal ≡ Device → ⊥) → n ≡ failures_with refusal n
+not_told NumberRange n other = refl
+not_told TooLarge n other = refl
+not_told Read n other = refl
+not_told OutOfMemory n other = refl
+not_told Write n other = refl
+not_told NoSuchArc n other = refl
+not_told LengthRange n other = refl
+not_told AlreadyClosed n other = refl
+not_told AlreadyOpen n other = refl
+not_told NoSuchNode n other = refl
+not_told AlreadyLandmark n other = refl
+not_told NotALandmark n other = refl
+not_told TooManyLandmarks n other = refl
+not_told VersionsExhausted n other = refl
+not_told NotAStore n other = refl
+not_told WrongFormat n other = refl
+not_told (Damaged page) n other = refl
+not_told Device n other = absurd (other refl)
+not_told JournalFull n other = refl
+not_told Broken n other = refl
+not_told NotEmpty n other = refl
+not_told QueueFull n other = refl
+not_told NoTask n other = refl
+not_told OtherNetwork n other = refl
+not_told NothingPending n other = refl
+not_told NotYet n other = refl
+not_told NoReaderPlace n other = refl
+not_told Closed n other = refl
+not_told HistoryFull n other = refl
+not_told NoThread n other = refl
+
 -- ---- what a stop leaves
 
 -- before the first call of the disk
-pub before : (content : List ℕ) (left : List ℕ → Type 0) (x : Standing) (commands : List Command) → Only content left → StandsTidily content x → (c : List ℕ) → left c → IsBeforeOrAfter x.network x.version commands c
+pub before : (content : List ℕ) (left : List ℕ → Type 0) (x : Standing) (commands : List Command) → Only content left → StandsTidily content x → (c : List ℕ) → left c → IsBeforeOrAfter x.header.journal_pages x.network x.version commands c
 before content left x commands only stands =
     rests content left x.header x.slot x.epoch x.network x.version x.next x.unchecked commands only (stored_as content x stands.0) stands.1
 
 -- where no call of the disk is made
 pub no_call : {D : Type 0} (content : D → List ℕ) (left : D → List ℕ → Type 0) (moment : D → ℕ) (left_since : D → ℕ → List ℕ → Type 0) (disk : D) (x : Standing) (commands : List Command) → Only (content disk) (left disk)
-    → ((c : List ℕ) → left_since disk (moment disk) c → left disk c) → StandsTidily (content disk) x → LeavesOnly moment left_since disk disk (IsBeforeOrAfter x.network x.version commands)
+    → ((c : List ℕ) → left_since disk (moment disk) c → left disk c) → StandsTidily (content disk) x → LeavesOnly moment left_since disk disk (IsBeforeOrAfter x.header.journal_pages x.network x.version commands)
 no_call content left moment left_since disk x commands only now stands =
-    started moment left_since disk (IsBeforeOrAfter x.network x.version commands) (λ c since. before (content disk) (left disk) x commands only stands c (now c since))
+    started moment left_since disk (IsBeforeOrAfter x.header.journal_pages x.network x.version commands) (λ c since. before (content disk) (left disk) x commands only stands c (now c since))
 
 -- the body of the page that is written
 abbrev pub page_body : Standing → List Command → List ℕ
@@ -129,7 +163,7 @@ module _ (old : List ℕ) (x : Standing) (net : Net) (commands : List Command) (
 
   module _ (stands : StandsTidily old x) where
     -- at each moment while the page is written
-    pub meanwhile : (c : List ℕ) → IsWholeOrShut old (4096 * journal_page_at x.header x.next) (page_body x commands) c → IsBeforeOrAfter x.network x.version commands c
+    pub meanwhile : (c : List ℕ) → IsWholeOrShut old (4096 * journal_page_at x.header x.next) (page_body x commands) c → IsBeforeOrAfter x.header.journal_pages x.network x.version commands c
     meanwhile = before_or_after old x.header x.slot x.epoch x.network net x.version x.next x.unchecked commands (page_body x commands) (stored_as old x stands.0) stands.1 follow.room wrote follow.goes
 
     pub stands_more_tidily : (new : List ℕ) → new ≡ with_page old (4096 * journal_page_at x.header x.next) (page_body x commands) → StandsTidily new (more x net commands)
@@ -140,11 +174,12 @@ module _ (old : List ℕ) (x : Standing) (net : Net) (commands : List Command) (
     )
 
 -- what a stop leaves of a content that stands and is tidy
-pub left_stands : (content : List ℕ) (left : List ℕ → Type 0) (x : Standing) → Only content left → StandsTidily content x → (c : List ℕ) → left c → StandsTidyFor c x.network x.version
+pub left_stands : (content : List ℕ) (left : List ℕ → Type 0) (x : Standing) → Only content left → StandsTidily content x → (c : List ℕ) → left c → StandsTidyFor x.header.journal_pages c x.network x.version
 left_stands content left x only stands c was =
     let held = stored_as content x stands.0 in (
       held.stored,
       x.next,
       subst (λ (d : List ℕ). StandsTidyBy d held.stored x.network x.version x.next) (sym (only c was))
           (record { stands = held.stands; tidy = subst (λ (h : Header). HasNoLaterPage (page content) h x.next) (sym held.header_is) stands.1 }),
+      ap (λ (h : Header). h.journal_pages) held.header_is,
     )

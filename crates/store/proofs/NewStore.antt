@@ -155,8 +155,8 @@ module _ (file : List ℕ) (net : Net) (j : ℕ) (network : IsNetwork net) (fits
   pub tidy : IsTidyAt whole h 0
   tidy = λ q le. none_stands q
 
-  pub stands_tidy : StandsTidyFor whole net 0
-  stands_tidy = (first_stored net j, 0, record { stands = stands_by; tidy = tidy })
+  pub stands_tidy : StandsTidyFor h.journal_pages whole net 0
+  stands_tidy = (first_stored net j, 0, record { stands = stands_by; tidy = tidy }, refl)
 
   pub stored_as : IsStoredAs whole h A 1 net 0 0 0
   stored_as = record { stored = first_stored net j; stands = stands_by; header_is = refl; slot_is = refl; epoch_is = refl; unchecked_is = refl }
@@ -169,7 +169,7 @@ new_numbers h fits = record { header = fits; version_to = omega arith; next_to =
 
 -- what `create` has made, whatever its disk
 pub record IsCreated (content : List ℕ) (h : Header) (net : Net) : Type 0 where
-  pub stands : StandsTidyFor content net 0
+  pub stands : StandsTidyFor h.journal_pages content net 0
   pub tidy_at : IsTidyAt content h 0
   pub standing_is : standing_of content ≡ Some (record { header = h; slot = A; epoch = 1; network = net; version = 0; next = 0; unchecked = 0 })
 

@@ -1,9 +1,8 @@
 -- What a refused opening says of the file.
-use Rattle.std.proofs.Common.{◌≡◌, ◌⊎◌, inl, inr, ⊎_elim, ℕ, ◌+◌, ◌-◌, ◌^◌, ◌<◌, ◌≤◌, List, length, Option, None, Some, Result, Ok, Err, true, false, refl, sym, ap, subst, ◌∙◌, arith}
+use Rattle.std.proofs.Common.{◌≡◌, inl, inr, ⊎_elim, ℕ, List, length, Result, Ok, Err, sym, ap, ◌∙◌}
 use Rattle.roadnet.specs.declared.refusals.Refusal.{Refusal}
-use Rattle.roadnet.specs.Net.{Net}
-use Rattle.storefile.specs.StoreFile.{page, Stored, StandsFor}
-use Rattle.storefile.specs.Judging.{opened, refusal_in, judged}
+use Rattle.storefile.specs.StoreFile.{page}
+use Rattle.storefile.specs.Judging.{opened, refusal_in}
 use Rattle.storefile.proofs.Opening.{opened_whole}
 use Rattle.pagereader.specs.Outcomes.{MayRefuse}
 use Rattle.store.specs.Opening.{IsPassing, MayRefuseToOpen, StandsForSome}

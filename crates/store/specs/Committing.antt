@@ -6,13 +6,14 @@ use Rattle.roadnet.specs.declared.commands.Command.{Command}
 use Rattle.roadnet.specs.Net.{Net}
 use Rattle.roadnet.specs.Step.{first_refusal}
 use Rattle.storefile.specs.Standing.{Standing, standing_of, IsTidyAt}
+use Rattle.pages.specs.Limits.{most_versions}
 
 -- Why a commit of these commands is refused whatever memory and the disk give, or nothing: the store is broken; the version would pass
 -- 2^48; no page of the journal is free; or the refusal of the first command that is not admitted after those before it.
 abbrev pub refusal_of_commit : Bool → ℕ → ℕ → ℕ → Net → List Command → Option Refusal
 refusal_of_commit broken version unchecked journal_pages net commands =
     if broken then Some Broken
-    else if nat_lt (2 ^ 48) (version + length commands) then Some VersionsExhausted
+    else if nat_lt most_versions (version + length commands) then Some VersionsExhausted
     else if nat_le journal_pages unchecked then Some JournalFull
     else first_refusal net commands
 

@@ -1,5 +1,5 @@
 -- The parts of opening a file.
-use Rattle.std.specs.Prelude.{◌≡◌, ◌⊎◌, Some, ℕ, ◌+◌, ◌*◌, ◌^◌, nat_le, ◌==◌, List, length, Result, Ok, Err}
+use Rattle.std.specs.Prelude.{◌≡◌, ◌⊎◌, Some, ℕ, ◌+◌, ◌*◌, ◌^◌, nat_le, ◌==◌, List, length, Result, Ok}
 use Rattle.storefile.specs.StoreFile.{joined, StandsFor}
 use Rattle.roadnet.specs.declared.commands.Command.{Command}
 use Rattle.roadnet.specs.declared.refusals.Refusal.{Refusal}
@@ -12,12 +12,13 @@ use Rattle.pages.specs.Contents.{Head}
 use Rattle.pages.specs.Layout.{page_count}
 use Rattle.storefile.specs.Judging.{◌>>=◌, unless_so, spelled_at, begins_as_store, format_of, header_in, entry_in, ends_from, current_slot, judged}
 use Rattle.checkpoint.specs.Loading.{loaded_from}
+use Rattle.pages.specs.Limits.{format, most_versions}
 
 -- the header of a file of this size, whose first page is this
 abbrev pub header_from : ℕ → List ℕ → Result Header Refusal
 header_from size page = do
   _ ← unless_so (begins_as_store size page) NotAStore
-  _ ← unless_so (format_of page == 1) WrongFormat
+  _ ← unless_so (format_of page == format) WrongFormat
   h ← spelled_at 0 (header_in page)
   _ ← unless_so (size == 4096 * page_count h) (Damaged 0)
   Ok h
@@ -41,7 +42,7 @@ abbrev pub entry_from : ℕ → List ℕ → ℕ → Net → Result (List Comman
 entry_from k page v net = do
   e ← spelled_at k (entry_in page)
   _ ← unless_so (e.first_number == v + 1) (Damaged k)
-  _ ← unless_so (nat_le (v + length e.commands) (2 ^ 48)) (Damaged k)
+  _ ← unless_so (nat_le (v + length e.commands) most_versions) (Damaged k)
   next ← spelled_at k (after net e.commands)
   Ok (e.commands, next)
 

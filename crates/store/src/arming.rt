@@ -6,11 +6,14 @@ use crate::store::Store;
 use disk::Stoppable;
 
 impl<D: Stoppable> Store<D> {
-    /// Arms the disk: its k-th write or sync from now on is cut, and it and each later call fail until the disk is stopped.
+    /// Arms the disk: its k-th write or sync from now on is cut, and it and each later call fail until the disk is stopped. Nothing else
+    /// is changed.
     pub fn arm(&mut self, k: u64)
         requires { 1 ≤ k }
         ensures armed { D.armed self.new.disk ≡ armed_at k (D.armed self.old.disk) }
         ensures content { D.content self.new.disk ≡ D.content self.old.disk }
+        ensures synced { D.synced self.new.disk ≡ D.synced self.old.disk }
+        ensures unsynced { (i : ℕ) → D.is_unsynced self.new.disk i ≡ D.is_unsynced self.old.disk i }
         ensures left { (c : List ℕ) → D.left self.new.disk c ↔ D.left self.old.disk c }
         ensures moment { D.moment self.new.disk ≡ D.moment self.old.disk }
         ensures left_since { (t : ℕ) (c : List ℕ) → D.left_since self.new.disk t c ↔ D.left_since self.old.disk t c }

@@ -4,12 +4,9 @@ ghost use Rattle.disk.specs.Contents.{failures_after};
 ghost use Rattle.store.specs.Created.{Waiting, so_far, IsInStep};
 
 use disk::{Disk, DiskError};
-use pages::PAGE_SIZE;
+use pages::{PAGE_SIZE, PAGES_AT_ONCE};
 use std::alloc::{AllocError, Global};
 use std::marker::Model;
-
-/// How many pages are written at a time.
-const PAGES: usize = 64;
 
 /// Pages that wait to be written behind the content of a disk.
 #[derive(Drop)]
@@ -36,7 +33,7 @@ impl Batch {
     pub fn new(alloc: Global) -> Result<Batch, AllocError>
         ensures { IfOk result (λ batch. batch ≡ record { next = 0; bytes = [] }) }
     {
-        let bytes = vec![in alloc; 0; PAGES * PAGE_SIZE]?;
+        let bytes = vec![in alloc; 0; PAGES_AT_ONCE * PAGE_SIZE]?;
         Ok(Batch {
             bytes,
             count: 0,
@@ -72,11 +69,14 @@ impl Batch {
         let from = PAGE_SIZE * self.count;
         self.bytes[from..from + PAGE_SIZE].copy_from_slice(page);
         self.next += 1;
-        if self.count + 1 < PAGES {
+        if self.count + 1 < PAGES_AT_ONCE {
             self.count += 1;
             return Ok(());
         }
         self.count = 0;
-        disk.write_at(PAGE_SIZE as u64 * (self.next - PAGES as u64), &self.bytes)
+        disk.write_at(
+            PAGE_SIZE as u64 * (self.next - PAGES_AT_ONCE as u64),
+            &self.bytes,
+        )
     }
 }

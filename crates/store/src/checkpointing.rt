@@ -6,6 +6,7 @@ ghost use Rattle.roadnet.specs.declared.commands.Command.{Command as Change};
 ghost use Rattle.roadnet.specs.declared.refusals.Refusal.TheVariants.{Device as device};
 ghost use Rattle.pages.specs.Spelling.{IsHeader};
 ghost use Rattle.pages.specs.Layout.{other, page_count};
+ghost use Rattle.pagereader.specs.Outcomes.{failures_told};
 ghost use Rattle.storefile.specs.StoreFile.{StandsTidyFor};
 ghost use Rattle.checkpoint.specs.Writing.{head_of, IsSlotWhole};
 ghost use Rattle.store.specs.Committing.{StandsTidily};
@@ -15,11 +16,8 @@ ghost use Rattle.store.specs.Durable.{told_by, Leaves};
 use crate::store::Store;
 use checkpoint::NextCheckpoint;
 use disk::{Disk, DiskError};
-use pages::Header;
+use pages::{Header, PAGES_AT_ONCE};
 use roadnet::{Network, Refusal};
-
-/// How many word pages are written at a time.
-const PAGES: u32 = 64;
 
 // Writes all of this checkpoint: it is whole then, and open.
 fn write_slot<D: Disk>(
@@ -42,7 +40,7 @@ fn write_slot<D: Disk>(
     let Ok(()) = next.begin(disk, header) else {
         return Err(DiskError);
     };
-    let Ok(()) = next.complete(disk, header, network, PAGES) else {
+    let Ok(()) = next.complete(disk, header, network, PAGES_AT_ONCE as u32) else {
         return Err(DiskError);
     };
     Ok(())
@@ -74,13 +72,15 @@ impl<D: Disk> Store<D> {
         // It refuses where the store is broken; and where it is not, for want of memory, or where the disk failed in this call.
         ensures refused { MatchResult result (λ version. refusal_of_checkpoint self.old.broken ≡ None) (MayRefuseCheckpoint (refusal_of_checkpoint self.old.broken)) }
         ensures same { IfErr result (λ refusal. refusal ≢ device → self.new ≡ self.old) }
+        // The count of failures rises by one where a failure of the disk is told, and else not at all: none is passed over.
+        ensures counted { D.failures self.new.disk ≡ failures_told result (D.failures self.old.disk) }
         ensures failed { IfErr result (λ refusal. refusal ≡ device → Rose (D.failures self.old.disk) (D.failures self.new.disk)) }
         ensures breaks { IfErr result (λ refusal. refusal ≡ device → self.new.broken ≡ true) }
         ensures kept { OnErr result ((self.new.slot ≡ self.old.slot) × (self.new.epoch ≡ self.old.epoch) × (self.new.unchecked ≡ self.old.unchecked)) }
         ensures adds_nothing { self.old.broken ≡ true → AddsNothing D.moment D.left_since self.old.disk self.new.disk }
         // A stop at any moment of the call, or after it, leaves what stands for this network and version.
-        ensures any_moment { self.old.broken ≡ false → D.honest self.old.disk → StandsTidily (D.content self.old.disk) (told_by self.old) → LeavesOnly D.moment D.left_since self.old.disk self.new.disk (λ c. StandsTidyFor c self.old.network self.old.version) }
-        ensures left { self.old.broken ≡ false → D.honest self.old.disk → StandsTidily (D.content self.old.disk) (told_by self.old) → (c : List ℕ) → D.left self.new.disk c → StandsTidyFor c self.old.network self.old.version }
+        ensures any_moment { self.old.broken ≡ false → D.honest self.old.disk → StandsTidily (D.content self.old.disk) (told_by self.old) → LeavesOnly D.moment D.left_since self.old.disk self.new.disk (λ c. StandsTidyFor self.old.header.journal_pages c self.old.network self.old.version) }
+        ensures left { self.old.broken ≡ false → D.honest self.old.disk → StandsTidily (D.content self.old.disk) (told_by self.old) → (c : List ℕ) → D.left self.new.disk c → StandsTidyFor self.old.header.journal_pages c self.old.network self.old.version }
         // After Ok it leaves the content alone, which stands for it, by the fields as they are now.
         ensures only { D.honest self.old.disk → OnOk result (Only (D.content self.new.disk) (D.left self.new.disk)) }
         ensures stands { D.honest self.old.disk → StandsTidily (D.content self.old.disk) (told_by self.old) → OnOk result (StandsTidily (D.content self.new.disk) (told_by self.new)) }

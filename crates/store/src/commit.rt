@@ -5,18 +5,19 @@ ghost use Rattle.disk.specs.Moments.{LeavesOnly, AddsNothing};
 ghost use Rattle.roadnet.specs.Step.{after};
 ghost use Rattle.roadnet.specs.declared.commands.Command.{Command as Change};
 ghost use Rattle.roadnet.specs.declared.refusals.Refusal.TheVariants.{Device as device};
+ghost use Rattle.pagereader.specs.Outcomes.{failures_told};
 ghost use Rattle.storefile.specs.StoreFile.{StandsTidyFor};
 ghost use Rattle.storefile.specs.Standing.{IsBeforeOrAfter};
 ghost use Rattle.store.specs.Durable.{told_by};
 ghost use Rattle.store.specs.Committing.{refusal_of_commit, MayRefuseCommit, StandsTidily};
 ghost use Rattle.store.specs.Durable.{Leaves};
+ghost use Rattle.pages.specs.Limits.{most_commands};
 
 use crate::store::Store;
 use disk::Disk;
 use journal::append_page;
+use pages::MOST_VERSIONS;
 use roadnet::{Command, Refusal};
-
-const MOST_VERSIONS: u64 = 1 << 48;
 
 impl<D: Disk> Store<D> {
     /// Makes these commands, 1 to 253, durable as one page of the journal, and carries them out. Answers the new version: each command
@@ -30,7 +31,7 @@ impl<D: Disk> Store<D> {
     /// arcs: n commands cost O(n^2) comparisons.
     pub fn commit(&mut self, commands: &[Command]) -> Result<u64, Refusal>
         requires some { 1 ≤ length commands.now }
-        requires few { length commands.now ≤ 253 }
+        requires few { length commands.now ≤ most_commands }
         // At Ok the commands are carried out, each counted, and one page more is unchecked.
         ensures version { IfOk result (λ version. (version ≡ self.new.version) × (version ≡ self.old.version + length commands.now)) }
         ensures network { OnOk result (after self.old.network commands.now ≡ Some self.new.network) }
@@ -44,14 +45,16 @@ impl<D: Disk> Store<D> {
         ensures refused { MatchResult result (λ version. refusal_of_commit self.old.broken self.old.version self.old.unchecked self.old.header.journal_pages self.old.network commands.now ≡ None) (MayRefuseCommit (refusal_of_commit self.old.broken self.old.version self.old.unchecked self.old.header.journal_pages self.old.network commands.now)) }
         ensures same { IfErr result (λ refusal. refusal ≢ device → self.new ≡ self.old) }
         ensures failed { IfErr result (λ refusal. refusal ≡ device → Rose (D.failures self.old.disk) (D.failures self.new.disk)) }
+        // The count rises by one where that is told, and else not at all: no failure is passed over.
+        ensures counted { D.failures self.new.disk ≡ failures_told result (D.failures self.old.disk) }
         ensures breaks { IfErr result (λ refusal. refusal ≡ device → self.new.broken ≡ true) }
         ensures kept { OnErr result ((self.new.network ≡ self.old.network) × (self.new.version ≡ self.old.version) × (self.new.unchecked ≡ self.old.unchecked) × (self.new.next_sequence ≡ self.old.next_sequence)) }
         ensures adds_nothing { self.old.broken ≡ true → AddsNothing D.moment D.left_since self.old.disk self.new.disk }
         // A stop at any moment of the call leaves what stands for the network before the commands, or after them.
-        ensures any_moment { self.old.broken ≡ false → D.honest self.old.disk → StandsTidily (D.content self.old.disk) (told_by self.old) → LeavesOnly D.moment D.left_since self.old.disk self.new.disk (IsBeforeOrAfter self.old.network self.old.version commands.now) }
+        ensures any_moment { self.old.broken ≡ false → D.honest self.old.disk → StandsTidily (D.content self.old.disk) (told_by self.old) → LeavesOnly D.moment D.left_since self.old.disk self.new.disk (IsBeforeOrAfter self.old.header.journal_pages self.old.network self.old.version commands.now) }
         // So does one after the call; and after Ok, what stands for the network after them.
-        ensures in_flight { self.old.broken ≡ false → D.honest self.old.disk → StandsTidily (D.content self.old.disk) (told_by self.old) → (c : List ℕ) → D.left self.new.disk c → IsBeforeOrAfter self.old.network self.old.version commands.now c }
-        ensures durable { D.honest self.old.disk → StandsTidily (D.content self.old.disk) (told_by self.old) → OnOk result ((c : List ℕ) → D.left self.new.disk c → StandsTidyFor c self.new.network self.new.version) }
+        ensures in_flight { self.old.broken ≡ false → D.honest self.old.disk → StandsTidily (D.content self.old.disk) (told_by self.old) → (c : List ℕ) → D.left self.new.disk c → IsBeforeOrAfter self.old.header.journal_pages self.old.network self.old.version commands.now c }
+        ensures durable { D.honest self.old.disk → StandsTidily (D.content self.old.disk) (told_by self.old) → OnOk result ((c : List ℕ) → D.left self.new.disk c → StandsTidyFor self.new.header.journal_pages c self.new.network self.new.version) }
         ensures only { D.honest self.old.disk → OnOk result (Only (D.content self.new.disk) (D.left self.new.disk)) }
         ensures stands { D.honest self.old.disk → StandsTidily (D.content self.old.disk) (told_by self.old) → OnOk result (StandsTidily (D.content self.new.disk) (told_by self.new)) }
         // What a stop between two calls may leave, from this call to the next: at Ok nothing is in flight, and where the disk failed the commands are.

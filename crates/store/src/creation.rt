@@ -1,11 +1,12 @@
 // Making a store on an empty disk.
-ghost use Rattle.std.specs.Prelude.{◌≡◌, ◌≢◌, ◌⊎◌, ◌+◌, ◌*◌, ◌≤◌, ◌<◌, ◌^◌, ◌↔◌, false, Some, [], ◌∷◌, ◌++◌, length, All, IfOk, OnOk, IfErr, IsErr};
+ghost use Rattle.std.specs.Prelude.{◌≡◌, ◌≢◌, ◌⊎◌, ◌+◌, ◌*◌, ◌≤◌, ◌<◌, ◌^◌, ◌↔◌, false, Some, [], ◌∷◌, ◌++◌, length, All, IfOk, OnOk, IfErr, IsErr, MatchResult};
 ghost use Rattle.roadnet.specs.declared.refusals.Refusal.TheVariants.{OutOfMemory as out_of_memory, Device as device, NotEmpty as not_empty};
 ghost use Rattle.disk.specs.Contents.{Only, Rose, failures_after};
 ghost use Rattle.disk.specs.Moments.{StaysSame};
 ghost use Rattle.pages.specs.declared.content.Slot.TheVariants.{A as slot_a};
 ghost use Rattle.pages.specs.Spelling.{IsHeader};
 ghost use Rattle.pages.specs.Layout.{HeadOf, arc_pages, word_pages, page_number, page_count};
+ghost use Rattle.pagereader.specs.Outcomes.{failures_with};
 ghost use Rattle.storefile.specs.StoreFile.{part, StandsTidyFor};
 ghost use Rattle.storefile.specs.Standing.{IsTidyAt, standing_of};
 ghost use Rattle.store.specs.Durable.{told_by};
@@ -13,23 +14,14 @@ ghost use Rattle.store.specs.Created.{header_of, blank_page, page_of_arcs, page_
 
 use crate::batch::Batch;
 use crate::store::Store;
+use checkpoint::part_of;
 use disk::{Disk, DiskError, length_of, open_gate, settle};
 use pages::{
     ARCS_A_PAGE, GATE_AT, Header, PAGE_SIZE, Slot, WORDS_A_PAGE, encode_arc_page, encode_header,
     encode_slot_head, encode_word_page,
 };
-use roadnet::{Network, Refusal, RoadArc};
+use roadnet::{Network, Refusal};
 use std::alloc::Global;
-
-/// The arcs of the `i`-th page, where a page has so many places.
-fn part_of(arcs: &[RoadArc], i: u64, places: usize) -> &[RoadArc]
-    requires { places ≤ 1023 }
-    ensures { result.now ≡ part places i arcs.now }
-{
-    let from = (i as usize).saturating_mul(places).min(arcs.len());
-    let rest = &arcs[from..];
-    &rest[..places.min(rest.len())]
-}
 
 fn put_arcs<D: Disk>(
     disk: &mut D,
@@ -146,8 +138,8 @@ pub fn create<D: Disk>(
     ensures journal_pages { IfOk result (λ store. store.header.journal_pages ≡ journal_pages) }
     ensures unchecked { IfOk result (λ store. store.unchecked ≡ 0) }
     ensures works { IfOk result (λ store. store.broken ≡ false) }
-    // The content stands for the network at version 0, is tidy, and is all that a stop may leave.
-    ensures stands { D.honest disk → IfOk result (λ store. StandsTidyFor (D.content store.disk) network.now 0) }
+    // The content stands for the network at version 0, is tidy, has so many journal pages, and is all that a stop may leave.
+    ensures stands { D.honest disk → IfOk result (λ store. StandsTidyFor journal_pages (D.content store.disk) network.now 0) }
     ensures only { D.honest disk → IfOk result (λ store. Only (D.content store.disk) (D.left store.disk)) }
     ensures tidy { D.honest disk → IfOk result (λ store. IsTidyAt (D.content store.disk) store.header store.next_sequence) }
     ensures standing { D.honest disk → IfOk result (λ store. standing_of (D.content store.disk) ≡ Some (told_by store)) }
@@ -155,6 +147,8 @@ pub fn create<D: Disk>(
     ensures refused { IfErr result (λ refused. (refused.0 ≡ not_empty) ⊎ ((refused.0 ≡ device) ⊎ (refused.0 ≡ out_of_memory))) }
     ensures not_empty { D.honest disk → IfErr result (λ refused. refused.0 ≡ not_empty → D.content disk ≢ []) }
     ensures order { D.honest disk → IfErr result (λ refused. refused.0 ≡ out_of_memory → D.content disk ≡ []) }
+    // The count of failures rises by one where 43 is told, and else not at all.
+    ensures counted { MatchResult result (λ store. D.failures store.disk ≡ D.failures disk) (λ refused. D.failures refused.1 ≡ failures_with refused.0 (D.failures disk)) }
     ensures failed { IfErr result (λ refused. refused.0 ≡ device → Rose (D.failures disk) (D.failures refused.1)) }
     ensures same { D.honest disk → IfErr result (λ refused. refused.0 ≢ device → StaysSame D.content D.left D.moment D.left_since disk refused.1) }
     ensures honest { (IfOk result (λ store. D.honest store.disk ↔ D.honest disk)) × (IfErr result (λ refused. D.honest refused.1 ↔ D.honest disk)) }

@@ -5,21 +5,18 @@ ghost use Rattle.pages.specs.Spelling.{IsHeader};
 ghost use Rattle.pages.specs.Layout.{page_count};
 ghost use Rattle.storefile.specs.StoreFile.{page, is_open};
 ghost use Rattle.storefile.specs.Judging.{begins_as_store, format_of};
-ghost use Rattle.pagereader.specs.Outcomes.{failures_told, IsQuiet, MayRefuse};
+ghost use Rattle.pagereader.specs.Outcomes.{failures_told, IsQuiet, MayRefuse, MayEndOpening};
 ghost use Rattle.store.specs.Opening.{header_from};
+ghost use Rattle.pages.specs.Limits.{magic};
 
 use byteorder::{BigEndian, ByteOrder};
 use disk::{Disk, length_of};
 use pagereader::read_page;
-use pages::{Gate, Header, PAGE_SIZE, decode_header, gate_of};
+use pages::{FORMAT, Gate, Header, MAGIC, PAGE_SIZE, decode_header, gate_of};
 use roadnet::Refusal;
 
-const MAGIC: [u8; 8] = *b"ROADMRK1";
-
-const FORMAT: u32 = 1;
-
 fn has_magic(page: &[u8; PAGE_SIZE]) -> bool
-    ensures { result ≡ bytes_eq (take 8 page.now) (codes "ROADMRK1") }
+    ensures { result ≡ bytes_eq (take 8 page.now) magic }
 {
     page[..8] == MAGIC[..]
 }
@@ -58,6 +55,7 @@ fn judge_header(page: &[u8; PAGE_SIZE], length: u64) -> Result<Header, Refusal>
     ensures header { header_from length page.now ≡ result }
     ensures fits { IfOk result IsHeader }
     ensures size { IfOk result (λ header. length ≡ 4096 * page_count header) }
+    ensures causes { IfErr result MayEndOpening }
     ensures quiet { IsQuiet result }
 {
     if !begins_as_store(page, length) {
@@ -81,6 +79,7 @@ pub fn read_header<D: Disk>(disk: &mut D) -> Result<Header, Refusal>
     ensures fits { IfOk result IsHeader }
     ensures size { D.honest disk.old → IfOk result (λ header. length (D.content disk.old) ≡ 4096 * page_count header) }
     ensures refused { D.honest disk.old → IfErr result (λ refusal. MayRefuse (header_from (length (D.content disk.old)) (page (D.content disk.old) 0)) refusal) }
+    ensures causes { IfErr result MayEndOpening }
     ensures same { D.honest disk.old → StaysSame D.content D.left D.moment D.left_since disk.old disk.new }
     ensures counted { D.failures disk.new ≡ failures_told result (D.failures disk.old) }
     ensures honest { D.honest disk.new ↔ D.honest disk.old }

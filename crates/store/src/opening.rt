@@ -1,4 +1,4 @@
-ghost use Rattle.std.specs.Prelude.{◌≡◌, ◌+◌, ◌*◌, ◌↔◌, false, ℕ, List, Ok, Some, length, IfOk, IfErr, OnOk};
+ghost use Rattle.std.specs.Prelude.{◌≡◌, ◌+◌, ◌*◌, ◌↔◌, false, ℕ, List, Ok, Some, length, IfOk, IfErr, OnOk, MatchResult};
 ghost use Rattle.roadnet.specs.declared.refusals.Refusal.TheVariants.{Device as device};
 ghost use Rattle.disk.specs.Contents.{Only, Rose};
 ghost use Rattle.disk.specs.Moments.{StaysSame};
@@ -7,7 +7,7 @@ ghost use Rattle.pages.specs.Layout.{page_count};
 ghost use Rattle.storefile.specs.StoreFile.{page, StandsFor};
 ghost use Rattle.storefile.specs.Judging.{journal_from, opened};
 ghost use Rattle.storefile.specs.Standing.{HasFitNumbers, standing_of};
-ghost use Rattle.pagereader.specs.Outcomes.{failures_told, MayRefuse};
+ghost use Rattle.pagereader.specs.Outcomes.{failures_told, MayRefuse, MayEndOpening, failures_with};
 ghost use Rattle.checkpoint.specs.Loading.{head_of};
 ghost use Rattle.store.specs.Durable.{told_by};
 ghost use Rattle.store.specs.Opening.{header_from, current_from, AreCarriedOut, IsPassing, MayRefuseToOpen, StandsForSome};
@@ -46,6 +46,7 @@ fn read_current<D: Disk>(
     ensures current { D.honest disk.old → IfOk result (λ x. current_from (page (D.content disk.old)) header.now ≡ Ok (record { slot = x.0; head = head_of x.1; network = x.1.network })) }
     ensures fits { IfOk result (λ x. IsHead header.now.nodes (head_of x.1)) }
     ensures refused { D.honest disk.old → IfErr result (λ refusal. MayRefuse (current_from (page (D.content disk.old)) header.now) refusal) }
+    ensures causes { IfErr result MayEndOpening }
     ensures same { D.honest disk.old → StaysSame D.content D.left D.moment D.left_since disk.old disk.new }
     ensures counted { D.failures disk.new ≡ failures_told result (D.failures disk.old) }
     ensures honest { D.honest disk.new ↔ D.honest disk.old }
@@ -85,6 +86,7 @@ fn read_journal<D: Disk>(
     ensures next { IfOk result (λ found. found.next_sequence ≡ checkpoint.next_sequence + found.unchecked) }
     ensures numbers { IfOk result (λ found. HasFitNumbers found.header found.epoch found.version found.next_sequence found.unchecked) }
     ensures refused { D.honest disk.old → IfErr result (λ refusal. MayRefuse (journal_from (page (D.content disk.old)) header.now header.now.journal_pages checkpoint.next_sequence checkpoint.version checkpoint.network) refusal) }
+    ensures causes { IfErr result MayEndOpening }
     ensures same { D.honest disk.old → StaysSame D.content D.left D.moment D.left_since disk.old disk.new }
     ensures counted { D.failures disk.new ≡ failures_told result (D.failures disk.old) }
     ensures honest { D.honest disk.new ↔ D.honest disk.old }
@@ -131,6 +133,7 @@ fn read_behind<D: Disk>(alloc: Global, disk: &mut D, header: &Header) -> Result<
     ensures standing { D.honest disk.old → IfOk result (λ found. standing_of (D.content disk.old) ≡ Some (record { header = found.header; slot = found.slot; epoch = found.epoch; network = found.network; version = found.version; next = found.next_sequence; unchecked = found.unchecked })) }
     ensures numbers { IfOk result (λ found. HasFitNumbers found.header found.epoch found.version found.next_sequence found.unchecked) }
     ensures refused { D.honest disk.old → IfErr result (λ refusal. MayRefuse (opened (D.content disk.old)) refusal) }
+    ensures causes { IfErr result MayEndOpening }
     ensures same { D.honest disk.old → StaysSame D.content D.left D.moment D.left_since disk.old disk.new }
     ensures counted { D.failures disk.new ≡ failures_told result (D.failures disk.old) }
     ensures honest { D.honest disk.new ↔ D.honest disk.old }
@@ -150,6 +153,7 @@ fn read_synced<D: Disk>(alloc: Global, disk: &mut D) -> Result<Found, Refusal>
     ensures standing { D.honest disk.old → IfOk result (λ found. standing_of (D.content disk.old) ≡ Some (record { header = found.header; slot = found.slot; epoch = found.epoch; network = found.network; version = found.version; next = found.next_sequence; unchecked = found.unchecked })) }
     ensures numbers { IfOk result (λ found. HasFitNumbers found.header found.epoch found.version found.next_sequence found.unchecked) }
     ensures refused { D.honest disk.old → IfErr result (λ refusal. MayRefuse (opened (D.content disk.old)) refusal) }
+    ensures causes { IfErr result MayEndOpening }
     ensures same { D.honest disk.old → StaysSame D.content D.left D.moment D.left_since disk.old disk.new }
     ensures counted { D.failures disk.new ≡ failures_told result (D.failures disk.old) }
     ensures honest { D.honest disk.new ↔ D.honest disk.old }
@@ -171,6 +175,7 @@ pub fn find<D: Disk>(alloc: Global, disk: &mut D) -> Result<Found, Refusal>
     ensures numbers { IfOk result (λ found. HasFitNumbers found.header found.epoch found.version found.next_sequence found.unchecked) }
     ensures refused { D.honest disk.old → IfErr result (λ refusal. MayRefuse (opened (D.content disk.old)) refusal) }
     ensures at_rest { D.honest disk.old → OnOk result (Only (D.content disk.new) (D.left disk.new)) }
+    ensures causes { IfErr result MayEndOpening }
     ensures same { D.honest disk.old → StaysSame D.content D.left D.moment D.left_since disk.old disk.new }
     ensures counted { D.failures disk.new ≡ failures_told result (D.failures disk.old) }
     ensures honest { D.honest disk.new ↔ D.honest disk.old }
@@ -200,6 +205,9 @@ pub fn open<D: Disk>(alloc: Global, disk: D) -> Result<Store<D>, (Refusal, D)>
     ensures handed_back { D.honest disk → IfErr result (λ refused. StaysSame D.content D.left D.moment D.left_since disk refused.1) }
     // It refuses what the format refuses. Other refusals come for want of memory, or where the disk failed in this call.
     ensures judged { D.honest disk → IfErr result (λ refused. MayRefuseToOpen (D.content disk) refused.0) }
+    // Whatever the disk, it refuses with 11 or 40 to 43. Its count of failures rises by one where 43 is told, and else not at all.
+    ensures causes { IfErr result (λ refused. MayEndOpening refused.0) }
+    ensures counted { MatchResult result (λ store. D.failures store.disk ≡ D.failures disk) (λ refused. D.failures refused.1 ≡ failures_with refused.0 (D.failures disk)) }
     ensures failed { IfErr result (λ refused. refused.0 ≡ device → Rose (D.failures disk) (D.failures refused.1)) }
     ensures opens { D.honest disk → ((c : List ℕ) → D.left disk c → StandsForSome c) → IfErr result (λ refused. IsPassing refused.0) }
     ensures honest { (IfOk result (λ store. D.honest store.disk ↔ D.honest disk)) × (IfErr result (λ refused. D.honest refused.1 ↔ D.honest disk)) }

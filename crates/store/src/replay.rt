@@ -6,17 +6,16 @@ ghost use Rattle.pages.specs.Layout.{page_count};
 ghost use Rattle.storefile.specs.StoreFile.{page, journal_page_at};
 ghost use Rattle.storefile.specs.Judging.{journal_from};
 ghost use Rattle.journal.specs.Places.{IsLongest};
-ghost use Rattle.pagereader.specs.Outcomes.{failures_told, IsQuiet, MayLack, MayRefuse};
+ghost use Rattle.pagereader.specs.Outcomes.{failures_told, IsQuiet, MayLack, MayRefuse, MayEndOpening};
 ghost use Rattle.store.specs.Opening.{entry_from, IsCarriedOut, AreCarriedOut};
+ghost use Rattle.pages.specs.Limits.{most_versions};
 
 use disk::Disk;
 use journal::Ring;
 use pagereader::read_page;
-use pages::{Header, PAGE_SIZE, decode_journal_page};
+use pages::{Header, MOST_VERSIONS, PAGE_SIZE, decode_journal_page};
 use roadnet::{Command, Network, OutOfMemory, Refusal};
 use std::alloc::Global;
-
-const MOST_VERSIONS: u64 = 1 << 48;
 
 // Carries the command out where it is admitted. Answers whether it is.
 fn carry_out(network: &mut Network, command: Command) -> Result<bool, OutOfMemory>
@@ -56,11 +55,12 @@ fn judge_page(
     version: u64,
     network: &mut Network,
 ) -> Result<u64, Refusal>
-    requires { version ≤ 2 ^ 48 }
+    requires { version ≤ most_versions }
     ensures carried_out { IfOk result (λ new. IsCarriedOut (entry_from number page.now version network.old) version network.new new) }
-    ensures fits { IfOk result (λ new. new ≤ 2 ^ 48) }
+    ensures fits { IfOk result (λ new. new ≤ most_versions) }
     ensures later { IfOk result (λ new. version + 1 ≤ new) }
     ensures refused { IfErr result (λ refusal. MayLack (entry_from number page.now version network.old) refusal) }
+    ensures causes { IfErr result MayEndOpening }
     ensures quiet { IsQuiet result }
 {
     let damaged = Refusal::Damaged { page: number };
@@ -96,12 +96,13 @@ fn replay_page<D: Disk>(
     network: &mut Network,
 ) -> Result<u64, Refusal>
     requires header { IsHeader header.now }
-    requires version { version ≤ 2 ^ 48 }
+    requires version { version ≤ most_versions }
     requires whole { D.honest disk.old → length (D.content disk.old) ≡ 4096 * page_count header.now }
     ensures carried_out { D.honest disk.old → IfOk result (λ new. IsCarriedOut (entry_from (journal_page_at header.now sequence) (page (D.content disk.old) (journal_page_at header.now sequence)) version network.old) version network.new new) }
-    ensures fits { IfOk result (λ new. new ≤ 2 ^ 48) }
+    ensures fits { IfOk result (λ new. new ≤ most_versions) }
     ensures later { IfOk result (λ new. version + 1 ≤ new) }
     ensures refused { D.honest disk.old → IfErr result (λ refusal. MayRefuse (entry_from (journal_page_at header.now sequence) (page (D.content disk.old) (journal_page_at header.now sequence)) version network.old) refusal) }
+    ensures causes { IfErr result MayEndOpening }
     ensures same { D.honest disk.old → StaysSame D.content D.left D.moment D.left_since disk.old disk.new }
     ensures counted { D.failures disk.new ≡ failures_told result (D.failures disk.old) }
     ensures honest { D.honest disk.new ↔ D.honest disk.old }
@@ -127,14 +128,15 @@ pub fn replay<D: Disk>(
     network: &mut Network,
 ) -> Result<u64, Refusal>
     requires header { IsHeader header.now }
-    requires from { from ≤ 2 ^ 48 }
-    requires version { version ≤ 2 ^ 48 }
+    requires from { from ≤ most_versions }
+    requires version { version ≤ most_versions }
     requires whole { D.honest disk.old → length (D.content disk.old) ≡ 4096 * page_count header.now }
     requires longest { D.honest disk.old → IsLongest (page (D.content disk.old)) header.now from count }
     ensures carried_out { D.honest disk.old → IfOk result (λ new. AreCarriedOut (journal_from (page (D.content disk.old)) header.now header.now.journal_pages from version network.old) count version network.new new) }
-    ensures fits { IfOk result (λ new. new ≤ 2 ^ 48) }
+    ensures fits { IfOk result (λ new. new ≤ most_versions) }
     ensures later { IfOk result (λ new. version + count ≤ new) }
     ensures refused { D.honest disk.old → IfErr result (λ refusal. MayRefuse (journal_from (page (D.content disk.old)) header.now header.now.journal_pages from version network.old) refusal) }
+    ensures causes { IfErr result MayEndOpening }
     ensures same { D.honest disk.old → StaysSame D.content D.left D.moment D.left_since disk.old disk.new }
     ensures counted { D.failures disk.new ≡ failures_told result (D.failures disk.old) }
     ensures honest { D.honest disk.new ↔ D.honest disk.old }

@@ -67,6 +67,9 @@ module _ (old : List ℕ) (h : Header) (slot : Slot) (epoch : ℕ) (net net' : N
   tidy_by : StandsTidyBy old held.stored net version next
   tidy_by = record { stands = held.stands; tidy = subst (λ (x : Header). IsTidyAt old x next) (sym held.header_is) tidy }
 
+  same_pages : held.stored.header.journal_pages ≡ h.journal_pages
+  same_pages = ap (λ (x : Header). x.journal_pages) held.header_is
+
   within : 4096 * journal_page_at held.stored.header next + 4096 ≤ length old
   within = page_within held.stored.header next (length old) held.stands.is.header.fits held.stands.is.size_is
 
@@ -105,22 +108,23 @@ module _ (old : List ℕ) (h : Header) (slot : Slot) (epoch : ℕ) (net net' : N
   tidy_more = subst (λ (x : Header). IsTidyAt (with_page old (4096 * journal_page_at h next) b) x (next + 1)) held.header_is stands_more.tidy
 
   -- what a stop leaves
-  pub before_or_after : (c : List ℕ) → IsWholeOrShut old (4096 * journal_page_at h next) b c → IsBeforeOrAfter net version commands c
+  pub before_or_after : (c : List ℕ) → IsWholeOrShut old (4096 * journal_page_at h next) b c → IsBeforeOrAfter h.journal_pages net version commands c
   before_or_after c way = ⊎_elim
-      (λ shut. inl (held.stored, next, stays c shut))
+      (λ shut. inl (held.stored, next, stays c shut, same_pages))
       (λ whole_way. ⊎_elim
-      (λ same. inl (held.stored, next, subst (λ (d : List ℕ). StandsTidyBy d held.stored net version next) (sym same) tidy_by))
-      (λ new. inr (net', goes, (with_commands held.stored commands, next + 1, subst (λ (d : List ℕ). StandsTidyBy d (with_commands held.stored commands) net' (version + length commands) (next + 1)) (sym new) stands_more)))
+      (λ same. inl (held.stored, next, subst (λ (d : List ℕ). StandsTidyBy d held.stored net version next) (sym same) tidy_by, same_pages))
+      (λ new. inr (net', goes, (with_commands held.stored commands, next + 1, subst (λ (d : List ℕ). StandsTidyBy d (with_commands held.stored commands) net' (version + length commands) (next + 1)) (sym new) stands_more, same_pages)))
       whole_way)
       way
 
 -- a store at rest, before a commit's first call
 pub rests : (content : List ℕ) (left : List ℕ → Type 0) (h : Header) (slot : Slot) (epoch : ℕ) (net : Net) (version next unchecked : ℕ) (commands : List Command) → Only content left → IsStoredAs content h slot epoch net version next unchecked
-    → IsTidyAt content h next → (c : List ℕ) → left c → IsBeforeOrAfter net version commands c
+    → IsTidyAt content h next → (c : List ℕ) → left c → IsBeforeOrAfter h.journal_pages net version commands c
 rests content left h slot epoch net version next unchecked commands only held tidy c was =
     inl (
       held.stored,
       next,
       subst (λ (d : List ℕ). StandsTidyBy d held.stored net version next) (sym (only c was))
           (record { stands = held.stands; tidy = subst (λ (x : Header). IsTidyAt content x next) (sym held.header_is) tidy }),
+      ap (λ (x : Header). x.journal_pages) held.header_is,
     )

@@ -20,6 +20,7 @@ use Rattle.pages.specs.Spelling.{body, header_page, arc_page, word_page, head_pa
 use Rattle.pages.specs.Reading.{read_header, read_records, read_items, read_ends, read_word, is_ends}
 use Rattle.pages.specs.Layout.{Arcs, HeadOf, Words, places_in_use, arc_pages, word_pages, page_number, page_count}
 use Rattle.storefile.specs.StoreFile.{page, is_open, first_field, journal_page_at, is_standing, Stored}
+use Rattle.pages.specs.Limits.{magic, format, most_versions, most_commands}
 
 -- ---- the content that a page spells, if it spells one: what is read at the places of its fields, where the page is spelled so
 
@@ -50,7 +51,7 @@ read_head page = record { epoch = big_number 8 page; version = big_number 8 (dro
 
 abbrev pub is_head : ℕ → Head → Bool
 is_head nodes s =
-    nat_le 1 s.epoch && nat_le s.epoch (s.next_sequence + 1) && nat_le s.next_sequence s.version && nat_le s.version (2 ^ 48)
+    nat_le 1 s.epoch && nat_le s.epoch (s.next_sequence + 1) && nat_le s.next_sequence s.version && nat_le s.version most_versions
     && is_ascending s.landmarks && list_all (λ x. nat_le 1 x && nat_le x nodes) s.landmarks
 
 abbrev pub head_in : ℕ → List ℕ → Option Head
@@ -67,7 +68,7 @@ is_record (Mark x) = nat_lt x (2 ^ 32)
 is_record (Unmark x) = nat_lt x (2 ^ 32)
 
 abbrev pub is_entry : Entry → Bool
-is_entry e = nat_lt e.sequence (2 ^ 64) && nat_lt e.first_number (2 ^ 64) && nat_le 1 (length e.commands) && nat_le (length e.commands) 253 && list_all is_record e.commands
+is_entry e = nat_lt e.sequence (2 ^ 64) && nat_lt e.first_number (2 ^ 64) && nat_le 1 (length e.commands) && nat_le (length e.commands) most_commands && list_all is_record e.commands
 
 -- the entry of these commands, with the numbers that the page has
 abbrev pub entry_with : List ℕ → List Command → Option Entry
@@ -78,7 +79,7 @@ entry_with page commands =
 abbrev pub entry_in : List ℕ → Option Entry
 entry_in page =
     let count = big_number 2 (drop 16 page) in
-    if nat_le count 253 then option_and_then (entry_with page) (read_records count (drop 32 page)) else None
+    if nat_le count most_commands then option_and_then (entry_with page) (read_records count (drop 32 page)) else None
 
 -- ---- the steps of opening
 
@@ -106,7 +107,7 @@ all_spelled decode number i (suc n) = do
 
 -- the first bytes are those of a store, and the gate is open
 abbrev pub begins_as_store : ℕ → List ℕ → Bool
-begins_as_store size page = nat_le 4096 size && bytes_eq (take 8 page) (codes "ROADMRK1") && is_open page
+begins_as_store size page = nat_le 4096 size && bytes_eq (take 8 page) magic && is_open page
 
 -- the number of the format
 abbrev pub format_of : List ℕ → ℕ
@@ -147,7 +148,7 @@ journal_from pages h (suc most) q v net =
     then (do
       e ← spelled_at (journal_page_at h q) (entry_in (pages (journal_page_at h q)))
       _ ← unless_so (e.first_number == v + 1) (Damaged (journal_page_at h q))
-      _ ← unless_so (nat_le (v + length e.commands) (2 ^ 48)) (Damaged (journal_page_at h q))
+      _ ← unless_so (nat_le (v + length e.commands) most_versions) (Damaged (journal_page_at h q))
       next ← spelled_at (journal_page_at h q) (after net e.commands)
       rest ← journal_from pages h most (q + 1) (v + length e.commands) next
       Ok (e.commands ∷ rest.0, rest.1))
@@ -157,7 +158,7 @@ journal_from pages h (suc most) q v net =
 abbrev pub opened_from : ℕ → (ℕ → List ℕ) → Result (Stored × Net) Refusal
 opened_from size pages = do
   _ ← unless_so (begins_as_store size (pages 0)) NotAStore
-  _ ← unless_so (format_of (pages 0) == 1) WrongFormat
+  _ ← unless_so (format_of (pages 0) == format) WrongFormat
   h ← spelled_at 0 (header_in (pages 0))
   _ ← unless_so (size == 4096 * page_count h) (Damaged 0)
   ends ← ends_from pages h

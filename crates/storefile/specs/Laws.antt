@@ -9,6 +9,7 @@ use Rattle.pages.specs.Layout.{HeadOf, other, word_pages, page_number}
 use Rattle.storefile.specs.StoreFile.{page, is_open, joined, head_of, Stored, Stores, HoldsSlot, StandsFor, StandsTidyBy, journal_page_at}
 use Rattle.storefile.specs.Standing.{IsStoredAs, Standing, standing_of, with_commands, with_checkpoint}
 use Rattle.storefile.specs.Judging.{judged}
+use Rattle.pages.specs.Limits.{most_versions}
 
 -- ---- what a file stands for
 
@@ -29,7 +30,7 @@ abbrev pub StoresNetworks : Type 0
 StoresNetworks = (size : ℕ) (pages : ℕ → List ℕ) (s : Stored) → Stores size pages s → IsNetwork s.network
 
 abbrev pub StandsForNetworks : Type 0
-StandsForNetworks = (file : List ℕ) (net : Net) (v q : ℕ) → StandsFor file net v q → IsNetwork net × (v ≤ 2 ^ 48)
+StandsForNetworks = (file : List ℕ) (net : Net) (v q : ℕ) → StandsFor file net v q → IsNetwork net × (v ≤ most_versions)
 
 -- Opening a file tells what it is stored as, and that alone.
 abbrev pub StandingIsStored : Type 0
@@ -54,7 +55,7 @@ OpenPageIsOneMore =
     (file file' : List ℕ) (s : Stored) (net net' : Net) (v q : ℕ) (commands : List Command) → StandsTidyBy file s net v q → length s.unchecked < s.header.journal_pages
     → SameOutside (4096 * journal_page_at s.header q) 4096 file file' → is_open (page file' (journal_page_at s.header q)) ≡ true
     → SpelledEntry (page file' (journal_page_at s.header q)) (record { sequence = q; first_number = v + 1; commands = commands })
-    → v + length commands ≤ 2 ^ 48 → after net commands ≡ Some net'
+    → v + length commands ≤ most_versions → after net commands ≡ Some net'
     → StandsTidyBy file' (with_commands s commands) net' (v + length commands) (q + 1)
 
 -- While the slot that is not current is closed, the bytes of its head and word pages mean nothing.

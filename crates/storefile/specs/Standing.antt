@@ -1,6 +1,5 @@
 -- What a store's file stands for between calls, and while a page of its journal is written.
 use Rattle.std.specs.Prelude.{◌≡◌, ◌⊎◌, ℕ, ◌+◌, ◌^◌, ◌≤◌, List, [], ◌∷◌, ◌++◌, length, Option, Some, None, Result, Ok, Err}
-use Rattle.disk.specs.Contents.{Only}
 use Rattle.roadnet.specs.declared.commands.Command.{Command}
 use Rattle.roadnet.specs.declared.refusals.Refusal.{Refusal}
 use Rattle.roadnet.specs.Net.{Net}
@@ -12,6 +11,7 @@ use Rattle.pages.specs.Spelling.{IsHeader}
 use Rattle.pages.specs.Layout.{other}
 use Rattle.storefile.specs.StoreFile.{page, joined, Stored, StandsBy, StandsTidyFor, HasNoLaterPage, commands_of, next_sequence}
 use Rattle.storefile.specs.Judging.{opened}
+use Rattle.pages.specs.Limits.{most_versions}
 
 -- The file has these sizes and this current slot of this epoch, stands for this network at this version, the page of this sequence is
 -- written next, and so many pages of its journal are unchecked.
@@ -48,10 +48,6 @@ standing_in (Ok x) = Some (record {
 abbrev pub standing_of : List ℕ → Option Standing
 standing_of file = standing_in (opened file)
 
--- between two calls: a stop leaves the content and nothing else, and it stands for what the fields of the store say
-abbrev pub IsAtRest : List ℕ → (List ℕ → Type 0) → Standing → Type 0
-IsAtRest content left standing = Only content left × (standing_of content ≡ Some standing)
-
 -- the file has no page of its journal that is of this sequence or a later one
 abbrev pub IsTidyAt : List ℕ → Header → ℕ → Type 0
 IsTidyAt file h next = HasNoLaterPage (page file) h next
@@ -59,7 +55,7 @@ IsTidyAt file h next = HasNoLaterPage (page file) h next
 -- the numbers of a store, of which none is past what its pages can spell
 pub record HasFitNumbers (h : Header) (epoch version next unchecked : ℕ) : Type 0 where
   pub header : IsHeader h
-  pub version_to : version ≤ 2 ^ 48
+  pub version_to : version ≤ most_versions
   pub next_to : next ≤ version
   pub epoch_to : epoch + unchecked ≤ next + 1
   pub unchecked_to : unchecked ≤ h.journal_pages
@@ -88,10 +84,10 @@ pub record IsFrozen (s : Stored) (frozen : Net) (version next : ℕ) : Type 0 wh
 abbrev pub entry_behind : Stored → List Command → Entry
 entry_behind s commands = record { sequence = next_sequence s; first_number = s.version + length (commands_of s) + 1; commands = commands }
 
--- the file is tidy and stands for the network after these commands, each counted
-abbrev pub StandsTidyAfter : List ℕ → Net → ℕ → List Command → Type 0
-StandsTidyAfter file net version commands = (net' : Net) × (after net commands ≡ Some net') × StandsTidyFor file net' (version + length commands)
+-- the file is tidy, has so many journal pages, and stands for the network after these commands, each counted
+abbrev pub StandsTidyAfter : ℕ → List ℕ → Net → ℕ → List Command → Type 0
+StandsTidyAfter journal_pages file net version commands = (net' : Net) × (after net commands ≡ Some net') × StandsTidyFor journal_pages file net' (version + length commands)
 
 -- what a stop within the commit of these commands may leave: the file stands for what it stood for, or for what it stands for after them
-abbrev pub IsBeforeOrAfter : Net → ℕ → List Command → List ℕ → Type 0
-IsBeforeOrAfter net version commands file = StandsTidyFor file net version ⊎ StandsTidyAfter file net version commands
+abbrev pub IsBeforeOrAfter : ℕ → Net → ℕ → List Command → List ℕ → Type 0
+IsBeforeOrAfter journal_pages net version commands file = StandsTidyFor journal_pages file net version ⊎ StandsTidyAfter journal_pages file net version commands

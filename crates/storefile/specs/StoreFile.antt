@@ -10,6 +10,7 @@ use Rattle.pages.specs.declared.content.Slot.{Slot}
 use Rattle.pages.specs.Contents.{Head}
 use Rattle.pages.specs.Spelling.{SpelledHeader, SpelledArcs, SpelledWords, SpelledHead, SpelledEntry, ends_of, word_of}
 use Rattle.pages.specs.Layout.{Arcs, HeadOf, Words, Journal, places_in_use, arc_pages, word_pages, other, page_number, page_count, place_of}
+use Rattle.pages.specs.Limits.{most_versions}
 
 -- ---- pages
 
@@ -105,7 +106,7 @@ pub record Stores (size : ℕ) (pages : ℕ → List ℕ) (s : Stored) : Type 0 
   pub journal : HoldsJournal pages s.header s.sequence s.version s.unchecked
   pub few : length s.unchecked ≤ s.header.journal_pages
   pub longest : length s.unchecked < s.header.journal_pages → is_standing pages s.header (next_sequence s) ≡ false
-  pub versions_to : s.version + length (commands_of s) ≤ 2 ^ 48
+  pub versions_to : s.version + length (commands_of s) ≤ most_versions
 
 -- the same of a file, as a list of bytes
 abbrev pub IsStoreOf : List ℕ → Stored → Type 0
@@ -139,10 +140,6 @@ pub record StandsTidyBy (file : List ℕ) (s : Stored) (net : Net) (version next
   pub stands : StandsBy file s net version next
   pub tidy : HasNoLaterPage (page file) s.header next
 
--- The file is tidy and stands for this network at this version.
-abbrev pub StandsTidyFor : List ℕ → Net → ℕ → Type 0
-StandsTidyFor file net version = (s : Stored) × (next : ℕ) × StandsTidyBy file s net version next
-
--- The file stands for something, and no page of its journal is of the next sequence or a later one.
-abbrev pub IsTidy : List ℕ → Type 0
-IsTidy file = (net : Net) × (version : ℕ) × StandsTidyFor file net version
+-- The file is tidy, its journal has so many pages, and it stands for this network at this version.
+abbrev pub StandsTidyFor : ℕ → List ℕ → Net → ℕ → Type 0
+StandsTidyFor journal_pages file net version = (s : Stored) × (next : ℕ) × StandsTidyBy file s net version next × (s.header.journal_pages ≡ journal_pages)

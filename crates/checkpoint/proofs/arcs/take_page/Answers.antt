@@ -1,4 +1,4 @@
-use Rattle.std.proofs.Common.{◌≡◌, ◌∙◌, ◌+◌, ◌++◌, inr, Err, ap, sym, arith}
+use Rattle.std.proofs.Common.{◌∙◌, ◌+◌, ◌++◌, inr, Err, ap, sym, arith}
 use Rattle.std.specs.Prelude.{map}
 use Rattle.roadnet.specs.declared.refusals.Refusal.TheVariants.{Damaged}
 use Rattle.pages.specs.Spelling.{ends_of}

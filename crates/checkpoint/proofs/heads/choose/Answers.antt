@@ -1,4 +1,4 @@
-use Rattle.std.proofs.Common.{◌≡◌, ◌∙◌, ℕ, List, ap, sym}
+use Rattle.std.proofs.Common.{◌≡◌, ◌∙◌, ap, sym}
 use Rattle.pages.specs.declared.content.Slot.TheVariants.{A, B}
 use Rattle.pages.specs.Layout.{HeadOf, page_number}
 use Rattle.storefile.specs.StoreFile.{page}

@@ -1,11 +1,9 @@
-use Rattle.std.proofs.Common.{◌≡◌, ◌∙◌, ℕ, List, Result, ap, sym, subst}
-use Rattle.std.specs.Prelude.{Ok, IfOk, IfErr}
+use Rattle.std.proofs.Common.{◌≡◌, ◌∙◌, Result, ap, subst}
+use Rattle.std.specs.Prelude.{Ok, IfOk}
 use Rattle.roadnet.specs.declared.refusals.Refusal.{Refusal}
 use Rattle.pages.specs.Contents.{Head}
-use Rattle.pages.specs.Layout.{HeadOf, page_number}
 use Rattle.storefile.specs.StoreFile.{page}
 use Rattle.storefile.specs.Judging.{spelled_at, head_in}
-use Rattle.pagereader.specs.Outcomes.{MayLack, MayRefuse}
 use Rattle.checkpoint.specs.Loading.{head_from}
 use Rattle.pagereader.proofs.Outcomes.{if_err_may}
 use Rattle.checkpoint.proofs.heads.read_head.Goals as goal

@@ -1,4 +1,4 @@
-use Rattle.std.proofs.Common.{◌≡◌, ◌+◌, ◌<◌, length, take, refl, ◌∙◌, arith}
+use Rattle.std.proofs.Common.{◌+◌, take, refl, ◌∙◌, arith}
 use Rattle.std.specs.Prelude.{map}
 use Rattle.pages.specs.Spelling.{ends_of, word_of}
 use Rattle.checkpoint.proofs.Places.{map_set_same, word_put}

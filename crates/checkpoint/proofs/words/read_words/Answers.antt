@@ -1,7 +1,5 @@
-use Rattle.std.proofs.Common.{◌≡◌, ◌∙◌, ℕ, ◌+◌, ◌*◌, ◌<◌, ◌≤◌, List, length, take, refl, ap, sym, subst, arith}
-use Rattle.std.specs.Prelude.{map, min}
-use Rattle.std.specs.List.{AllByRecursion}
-use Rattle.pages.specs.Spelling.{IsWord, word_of}
+use Rattle.std.proofs.Common.{◌≡◌, ◌∙◌, ℕ, ◌+◌, ◌*◌, ◌<◌, ◌≤◌, List, length, take, refl, ap, subst, arith}
+use Rattle.std.specs.Prelude.{min}
 use Rattle.pages.specs.Layout.{Words, page_number, word_pages}
 use Rattle.storefile.specs.StoreFile.{page}
 use Rattle.pagereader.specs.Runs.{IsRunOf}

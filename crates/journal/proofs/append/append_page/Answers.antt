@@ -1,4 +1,4 @@
-use Rattle.std.proofs.Common.{◌≡◌, ◌∙◌, ℕ, ◌+◌, ◌*◌, ◌<◌, ◌≤◌, length, refl, sym, ap, arith}
+use Rattle.std.proofs.Common.{◌≡◌, ◌∙◌, ◌*◌, length, refl, sym, ap, arith}
 use Rattle.pages.specs.Contents.{Entry}
 use Rattle.pages.specs.Layout.{page_count}
 use Rattle.pages.specs.Spelling.{body, entry_page}

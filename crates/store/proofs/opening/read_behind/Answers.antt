@@ -1,13 +1,10 @@
-use Rattle.std.proofs.Common.{◌≡◌, ◌∙◌, ℕ, ◌+◌, List, length, Ok, Err, Some, ap, sym}
-use Rattle.std.specs.Prelude.{Result, Option}
-use Rattle.roadnet.specs.Net.{Net}
-use Rattle.roadnet.specs.declared.commands.Command.{Command}
+use Rattle.std.proofs.Common.{◌≡◌, ◌∙◌, ℕ, ◌+◌, List, length, ap, sym}
 use Rattle.storefile.specs.StoreFile.{page, joined}
 use Rattle.storefile.specs.Judging.{journal_from, opened}
 use Rattle.storefile.specs.Standing.{standing_in}
 use Rattle.pagereader.proofs.Outcomes.{may_refuse_whole}
 use Rattle.checkpoint.specs.Loading.{head_of}
-use Rattle.store.specs.Opening.{Current, current_from}
+use Rattle.store.specs.Opening.{current_from}
 use Rattle.store.proofs.Steps.{no_current, no_journal, all_known, same_standing}
 use Rattle.store.proofs.opening.read_behind.Goals as goal
 

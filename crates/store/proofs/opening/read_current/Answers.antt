@@ -1,9 +1,9 @@
-use Rattle.std.proofs.Common.{◌≡◌, ◌∙◌, ℕ, List, Ok, Err, ap, sym}
+use Rattle.std.proofs.Common.{◌≡◌, ◌∙◌, ℕ, List, ap, sym}
 use Rattle.std.specs.Prelude.{map}
 use Rattle.disk.proofs.Steps.{same_twice}
 use Rattle.pages.specs.Spelling.{ends_of}
 use Rattle.storefile.specs.StoreFile.{page}
-use Rattle.storefile.specs.Judging.{ends_from, current_slot}
+use Rattle.storefile.specs.Judging.{current_slot}
 use Rattle.pagereader.proofs.Outcomes.{may_refuse_whole}
 use Rattle.checkpoint.specs.Loading.{head_of, loaded_from}
 use Rattle.store.specs.Opening.{current_from}

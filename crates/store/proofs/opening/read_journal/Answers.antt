@@ -1,4 +1,4 @@
-use Rattle.std.proofs.Common.{◌≡◌, ◌∙◌, ℕ, ◌-◌, List, ap, sym, subst, arith}
+use Rattle.std.proofs.Common.{◌≡◌, ℕ, ◌-◌, List, sym, subst, arith}
 use Rattle.storefile.specs.StoreFile.{page}
 use Rattle.journal.specs.Places.{IsLongest}
 use Rattle.store.proofs.opening.read_journal.Goals as goal

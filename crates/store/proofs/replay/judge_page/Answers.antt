@@ -4,7 +4,6 @@ use Rattle.std.proofs.lemmas.Bool.{le-leb}
 use Rattle.std.proofs.lemmas.Bool.Decides.{nat_tests}
 use Rattle.roadnet.specs.declared.commands.Command.{Command}
 use Rattle.roadnet.specs.Step.{after}
-use Rattle.storefile.specs.Judging.{entry_in}
 use Rattle.storefile.proofs.Decoded.{decoded_entry}
 use Rattle.store.proofs.Replayed.{no_entry, wrong_number, past_last, judged_so}
 use Rattle.store.proofs.replay.judge_page.Goals as goal

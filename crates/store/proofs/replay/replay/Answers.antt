@@ -1,10 +1,9 @@
-use Rattle.std.proofs.Common.{◌≡◌, ◌∙◌, ℕ, ◌+◌, ◌<◌, List, true, Err, refl, ap, sym, subst, arith}
-use Rattle.std.specs.Prelude.{Result}
-use Rattle.storefile.specs.StoreFile.{page, is_standing, journal_page_at}
+use Rattle.std.proofs.Common.{◌≡◌, ◌∙◌, ℕ, ◌+◌, ◌<◌, List, refl, ap, sym, subst, arith}
+use Rattle.storefile.specs.StoreFile.{page, journal_page_at}
 use Rattle.storefile.specs.Judging.{journal_from}
 use Rattle.pagereader.proofs.Outcomes.{may_refuse_whole}
 use Rattle.pagereader.proofs.Unchanged.{nothing_read, read_more}
-use Rattle.store.specs.Opening.{entry_from, IsCarriedOut, AreCarriedOut}
+use Rattle.store.specs.Opening.{entry_from, IsCarriedOut}
 use Rattle.store.proofs.Replayed.{PagesSoFar, pages_start, pages_more, pages_stop, pages_done}
 use Rattle.store.proofs.replay.replay.Goals as goal
 

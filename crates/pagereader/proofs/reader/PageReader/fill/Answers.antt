@@ -1,4 +1,4 @@
-use Rattle.std.proofs.Common.{◌≡◌, ℕ, ◌*◌, ◌≤◌, length, drop, arith}
+use Rattle.std.proofs.Common.{◌*◌, drop, arith}
 use Rattle.pagereader.proofs.Runs.{front_is}
 use Rattle.pagereader.proofs.reader.PageReader.fill.Goals as goal
 

@@ -1,4 +1,4 @@
-use Rattle.std.proofs.Common.{◌≡◌, ℕ, ◌+◌, ◌-◌, ◌*◌, length, arith, ◌∙◌}
+use Rattle.std.proofs.Common.{◌≡◌, ◌+◌, ◌-◌, length, arith, ◌∙◌}
 use Rattle.pagereader.proofs.Runs.{page_of_run}
 use Rattle.pagereader.proofs.reader.PageReader.read.Goals as goal
 

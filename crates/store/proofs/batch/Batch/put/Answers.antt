@@ -5,8 +5,8 @@ use Rattle.store.specs.Created.{Waiting, so_far}
 use Rattle.store.proofs.Growing.{grown, length-put}
 use Rattle.store.proofs.batch.Batch.put.Goals as goal
 
-pub returns-then-self-lt-PAGES-clause-written : goal.returns-then-self-lt-PAGES-clause-written
-returns-then-self-lt-PAGES-clause-written g c = λ h.
+pub returns-then-self-lt-PAGES_AT_ONCE-clause-written : goal.returns-then-self-lt-PAGES_AT_ONCE-clause-written
+returns-then-self-lt-PAGES_AT_ONCE-clause-written g c = λ h.
     let content = g.D.Disk.content c.args.disk.now in
     let bytes : List ℕ = c.deref_mut.result.now in
     let count : ℕ = c.self.inside.count in

@@ -68,4 +68,4 @@ returns-clause-rests g c h in_flight leaves =
 
 pub returns-in_default-write_slot-clause-left_in_flight : goal.returns-in_default-write_slot-clause-left_in_flight
 returns-in_default-write_slot-clause-left_in_flight g c h in_flight leaves is =
-    broken c.args.self.now _ [] refl refl refl (λ d was. inl (returns-in_default-write_slot-clause-left g c c.if-self.false h (leaves.works c.if-self.false).1 d was))
+    broken c.args.self.now _ [] refl refl refl refl (λ d was. inl (returns-in_default-write_slot-clause-left g c c.if-self.false h (leaves.works c.if-self.false).1 d was))

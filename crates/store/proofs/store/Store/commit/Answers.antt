@@ -4,7 +4,7 @@ use Rattle.disk.specs.Gated.{IsWholeOrShut}
 use Rattle.disk.proofs.Steps.{weaker}
 use Rattle.storefile.specs.StoreFile.{journal_page_at}
 use Rattle.storefile.specs.Standing.{Standing, IsBeforeOrAfter}
-use Rattle.store.proofs.Committed.{not_device, before, no_call, page_body, more, Follow, numbers_more, size_kept, meanwhile, stands_more_tidily, left_stands}
+use Rattle.store.proofs.Committed.{not_device, not_told, before, no_call, page_body, more, Follow, numbers_more, size_kept, meanwhile, stands_more_tidily, left_stands}
 use Rattle.store.proofs.Afterwards.{at_rest, broken}
 use Rattle.store.proofs.store.Store.commit.Goals as goal
 
@@ -50,7 +50,7 @@ returns-in_default-clause-any_moment g c works h stands =
     let x : Standing = record { header = s.header; slot = s.slot; epoch = s.epoch; network = s.network; version = s.version; next = s.next_sequence; unchecked = s.unchecked } in
     let follow : Follow x (changed_by c.args.self.now.network c.args.commands.now) c.args.commands.now =
     record { numbers = s.numbers; room = c.if-self-2.false; versions = omega (arith, c.if-self-count-gt-MOST_VERSIONS.false); some = c.requires.some; few = c.requires.few; fit = c.in-Ok.ensures.fits; goes = c.in-Ok.ensures.after } in
-    weaker g.D.Disk.moment g.D.Disk.left_since s.disk c.append_page.new.disk (IsWholeOrShut (g.D.Disk.content s.disk) (4096 * journal_page_at s.header s.next_sequence) (page_body x c.args.commands.now)) (IsBeforeOrAfter s.network s.version c.args.commands.now)
+    weaker g.D.Disk.moment g.D.Disk.left_since s.disk c.append_page.new.disk (IsWholeOrShut (g.D.Disk.content s.disk) (4096 * journal_page_at s.header s.next_sequence) (page_body x c.args.commands.now)) (IsBeforeOrAfter s.header.journal_pages s.network s.version c.args.commands.now)
     (c.append_page.ensures.any_moment h)
     (λ d way. meanwhile (g.D.Disk.content s.disk) x (changed_by c.args.self.now.network c.args.commands.now) c.args.commands.now follow stands d way)
 
@@ -65,7 +65,7 @@ returns-clause-any_moment g c works h stands =
     let x : Standing = record { header = s.header; slot = s.slot; epoch = s.epoch; network = s.network; version = s.version; next = s.next_sequence; unchecked = s.unchecked } in
     let follow : Follow x c.carry_out.new.self c.args.commands.now =
     record { numbers = s.numbers; room = c.if-self-2.false; versions = omega (arith, c.if-self-count-gt-MOST_VERSIONS.false); some = c.requires.some; few = c.requires.few; fit = c.in-Ok.ensures.fits; goes = c.carry_out.ensures } in
-    weaker g.D.Disk.moment g.D.Disk.left_since s.disk c.append_page.new.disk (IsWholeOrShut (g.D.Disk.content s.disk) (4096 * journal_page_at s.header s.next_sequence) (page_body x c.args.commands.now)) (IsBeforeOrAfter s.network s.version c.args.commands.now)
+    weaker g.D.Disk.moment g.D.Disk.left_since s.disk c.append_page.new.disk (IsWholeOrShut (g.D.Disk.content s.disk) (4096 * journal_page_at s.header s.next_sequence) (page_body x c.args.commands.now)) (IsBeforeOrAfter s.header.journal_pages s.network s.version c.args.commands.now)
     (c.append_page.ensures.any_moment h)
     (λ d way. meanwhile (g.D.Disk.content s.disk) x c.carry_out.new.self c.args.commands.now follow stands d way)
 
@@ -116,7 +116,11 @@ returns-clause-rests g c h in_flight leaves =
 
 pub returns-in_default-clause-left_in_flight : goal.returns-in_default-clause-left_in_flight
 returns-in_default-clause-left_in_flight g c h in_flight leaves is =
-    broken c.args.self.now _ c.args.commands.now refl refl refl (returns-in_default-clause-in_flight g c c.if-self.false h (leaves.works c.if-self.false).1)
+    broken c.args.self.now _ c.args.commands.now refl refl refl refl (returns-in_default-clause-in_flight g c c.if-self.false h (leaves.works c.if-self.false).1)
 
 pub returns-in-Err-clause-left_in_flight : goal.returns-in-Err-clause-left_in_flight
 returns-in-Err-clause-left_in_flight g c h in_flight leaves is = absurd (not_device c.args.self.now.network c.args.commands.now c.in-Err.refusal c.in-Err.ensures.refused is)
+
+pub returns-in-Err-clause-counted : goal.returns-in-Err-clause-counted
+returns-in-Err-clause-counted g c =
+    not_told c.in-Err.refusal (g.D.Disk.failures c.args.self.now.disk) (not_device c.args.self.now.network c.args.commands.now c.in-Err.refusal c.in-Err.ensures.refused)

@@ -46,13 +46,6 @@ impl<F> FileDisk<F> {
         self.failures
     }
 
-    /// The file, lent.
-    pub(crate) fn file(&self) -> &F
-        ensures { result.now ≡ file_of self.now }
-    {
-        &self.file
-    }
-
     /// The file.
     pub fn into_file(self) -> F
         ensures { result ≡ file_of self }

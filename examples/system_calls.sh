@@ -29,6 +29,7 @@ fdatasync(3) = 0
 pread64(4, "FxR", 5, 4294967301) = 3
 pread64(3, "FxR", 5, 4294967301) = 3
 pread64(3, "", 2, 4294967304) = 0
+ftruncate(3, 4294967310) = 0
 CALLS
 
 # the loader's own reads come before the lock

@@ -355,6 +355,9 @@ fn offsets_of_a_real_file(rt: HostRuntime) -> Result<(), Fail> {
     assert!(rt; into.as_slice().starts_with(b"FxR"));
     assert!(rt; disk.read(far, &mut into).is_err());
     assert!(rt; disk.write_at(u64::MAX, b"x").is_err());
+    let mut file = disk.into_file();
+    assert!(rt; file.lengthen(far + 9).is_ok());
+    assert_eq!(rt; other.metadata()?.len(), far + 9);
     fs::remove_file(&rt, path)?;
     Ok(())
 }

@@ -1,2 +1,4 @@
 pub mod Pieces
+pub mod Steps
 pub mod Tearing
+pub mod Tries

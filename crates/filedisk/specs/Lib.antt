@@ -1,1 +1,4 @@
 pub mod Files
+pub mod Noted
+pub mod SystemFiles
+pub mod Whole

@@ -46,13 +46,6 @@ impl<F> FileDisk<F> {
         self.failures
     }
 
-    /// The file, lent.
-    pub(crate) fn file(&self) -> &F
-        ensures { result.now ≡ file_of self.now }
-    {
-        &self.file
-    }
-
     /// The file.
     pub fn into_file(self) -> F
         ensures { result ≡ file_of self }
@@ -62,6 +55,8 @@ impl<F> FileDisk<F> {
 }
 
 impl<F: RawFile> Disk for FileDisk<F> {
+    ghost use Rattle.filedisk.specs.Whole.{FileTakes};
+
     ghost content = { λ disk. F.content disk.file };
 
     ghost left = { λ disk. F.left disk.file };
@@ -73,6 +68,8 @@ impl<F: RawFile> Disk for FileDisk<F> {
     ghost failures = { λ disk. disk.failures };
 
     ghost honest = { λ disk. F.honest disk.file };
+
+    ghost takes = { FileTakes F.calls };
 
     fn len(&mut self) -> Result<u64, DiskError> {
         let outcome = match self.file.size() {

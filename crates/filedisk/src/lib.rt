@@ -3,13 +3,17 @@
 
 mod file_disk;
 mod names;
+mod notes;
 mod opened;
 mod raw_file;
+mod system;
+mod system_file;
 mod whole;
 
 pub use file_disk::FileDisk;
 pub use opened::{MadeFile, NewFile, OpenError, create_file, open_file, open_to_read};
 pub use raw_file::RawFile;
+pub use system_file::SystemFile;
 
 #[cfg(test)]
 mod tests;

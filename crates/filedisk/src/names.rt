@@ -1,5 +1,5 @@
 //! The names of files: to which file a link leads, and in which folder a file stands.
-use std::fs::{self, File};
+use std::fs;
 use std::io::{self, ErrorKind};
 use std::path::{Path, PathBuf};
 use std::rt::Files;
@@ -30,10 +30,4 @@ pub(crate) fn folder_of(path: Path<'_>) -> Path<'_> {
         Some(folder) if !folder.as_str().is_empty() => folder,
         _ => Path::new("."),
     }
-}
-
-/// Syncs the folder in which the file stands, so that its name is there after a stop.
-pub(crate) fn sync_folder<R: Files<File = File>>(rt: &R, path: Path<'_>) -> io::Result<()> {
-    let folder = File::open(rt, folder_of(path))?;
-    folder.sync_all()
 }

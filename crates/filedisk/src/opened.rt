@@ -1,9 +1,14 @@
 //! Files opened for a disk.
-ghost use Rattle.std.specs.Prelude.{◌≡◌, IfOk};
+ghost use Rattle.std.specs.Prelude.{◌≡◌, [], ◌∷◌, false, IfOk, OnOk};
 ghost use Rattle.filedisk.specs.Files.{failures_of};
+ghost use Rattle.filedisk.specs.Noted.{Lock, SyncAll, SyncFolder, Done, has_failed_sync};
+ghost use Rattle.filedisk.specs.SystemFiles.{calls_made, calls_of};
+ghost use Rattle.filedisk.specs.declared.notes.Share.TheVariants.{Alone, WithReaders};
 
-use crate::FileDisk;
-use crate::names::{resolve, sync_folder};
+use crate::names::{folder_of, resolve};
+use crate::notes::Share;
+use crate::system::NotedFile;
+use crate::{FileDisk, SystemFile};
 use std::fs::{self, File, OpenOptions};
 use std::io::{self, ErrorKind};
 use std::os::unix::fs::OpenOptionsExt;
@@ -34,15 +39,6 @@ pub enum OpenError {
 /// Read and written by its owner and group, and read by all.
 const MODE: u32 = 0o664;
 
-/// Who else may have the file open for a disk meanwhile.
-#[derive(Clone, Copy)]
-enum Share {
-    /// Nobody.
-    Alone,
-    /// Those who read it.
-    WithReaders,
-}
-
 /// A file that this opening made, by its own name: no link is left to follow in the name's last part.
 #[derive(Drop)]
 pub struct MadeFile {
@@ -60,27 +56,14 @@ impl MadeFile {
 #[derive(Drop)]
 pub struct NewFile {
     /// The file as a disk.
-    pub disk: FileDisk<File>,
+    pub disk: FileDisk<SystemFile>,
     /// The file, where there was none and this opening made it.
     pub made: Option<MadeFile>,
 }
 
-/// Locks the file for this opening of it, until it is closed, and waits for nobody. Two openings, of one program or of two, don't lock it
-/// at once, but where both share it.
-fn lock(file: &File, share: Share) -> Result<(), OpenError> {
-    let locked = match share {
-        Share::Alone => file.try_lock(),
-        Share::WithReaders => file.try_lock_shared(),
-    };
-    match locked {
-        Ok(()) => Ok(()),
-        Err(_) => Err(OpenError::InUse),
-    }
-}
-
-/// The file as a disk, where it is one and no other opening keeps it from this one.
-fn claim(file: File, share: Share) -> Result<FileDisk<File>, OpenError>
-    ensures { IfOk result (λ disk. failures_of disk ≡ 0) }
+/// The file, where it is one and no other opening keeps it from this one.
+fn claim(file: File, share: Share) -> Result<NotedFile, OpenError>
+    ensures { IfOk result (λ file. calls_made file ≡ (Lock share, Done) ∷ []) }
 {
     let Ok(metadata) = file.metadata() else {
         return Err(OpenError::NotOpened);
@@ -88,8 +71,20 @@ fn claim(file: File, share: Share) -> Result<FileDisk<File>, OpenError>
     if !metadata.is_file() {
         return Err(OpenError::NoFile);
     }
-    lock(&file, share)?;
-    Ok(FileDisk::new(file))
+    let mut file = NotedFile::new(file);
+    match file.lock(share) {
+        Ok(()) => Ok(file),
+        Err(_) => Err(OpenError::InUse),
+    }
+}
+
+/// The file as a disk.
+fn disk_of(file: NotedFile) -> FileDisk<SystemFile>
+    requires { has_failed_sync (calls_made file) ≡ false }
+    ensures calls { calls_of result ≡ calls_made file }
+    ensures failures { failures_of result ≡ 0 }
+{
+    FileDisk::new(SystemFile::new(file))
 }
 
 /// Opens a file that is there. What is no file is not opened at all: opening a device may do something, and opening a pipe to read it
@@ -119,26 +114,32 @@ fn open_to_write<R: Files<File = File>>(rt: &R, path: &str) -> Result<File, Open
 }
 
 /// Opens a file that is there, to be read and written. It is locked for this opening alone until the disk is dropped.
-pub fn open_file<R: Files<File = File>>(rt: &R, path: &str) -> Result<FileDisk<File>, OpenError>
-    ensures { IfOk result (λ disk. failures_of disk ≡ 0) }
+pub fn open_file<R: Files<File = File>>(
+    rt: &R,
+    path: &str,
+) -> Result<FileDisk<SystemFile>, OpenError>
+    ensures failures { IfOk result (λ disk. failures_of disk ≡ 0) }
+    ensures calls { IfOk result (λ disk. calls_of disk ≡ (Lock Alone, Done) ∷ []) }
 {
-    match open_to_write(rt, path) {
-        Ok(file) => claim(file, Share::Alone),
-        Err(error) => Err(error),
-    }
+    let file = open_to_write(rt, path)?;
+    let file = claim(file, Share::Alone)?;
+    Ok(disk_of(file))
 }
 
 /// Opens a file that is there, to be read: each write of the disk fails. Until the disk is dropped it is locked, shared with others that
 /// read it.
-pub fn open_to_read<R: Files<File = File>>(rt: &R, path: &str) -> Result<FileDisk<File>, OpenError>
-    ensures { IfOk result (λ disk. failures_of disk ≡ 0) }
+pub fn open_to_read<R: Files<File = File>>(
+    rt: &R,
+    path: &str,
+) -> Result<FileDisk<SystemFile>, OpenError>
+    ensures failures { IfOk result (λ disk. failures_of disk ≡ 0) }
+    ensures calls { IfOk result (λ disk. calls_of disk ≡ (Lock WithReaders, Done) ∷ []) }
 {
     let mut options = OpenOptions::new();
     options.read(true);
-    match open_as(rt, path, &options) {
-        Ok(file) => claim(file, Share::WithReaders),
-        Err(error) => Err(error),
-    }
+    let file = open_as(rt, path, &options)?;
+    let file = claim(file, Share::WithReaders)?;
+    Ok(disk_of(file))
 }
 
 /// The file of this name to be read and written, and whether it was made: there was none.
@@ -155,18 +156,22 @@ fn open_or_make<R: Files<File = File>>(rt: &R, path: &str) -> Result<(File, bool
     }
 }
 
-/// Makes the name durable under which a file was opened: the file and its folder are synced. Where that fails, a file that was made is
-/// removed.
+/// Makes the name durable under which a file was opened: the file and its folder are synced.
 fn sync_name<R: Files<File = File>>(
     rt: &R,
-    disk: &FileDisk<File>,
+    file: &mut NotedFile,
     path: &PathBuf,
-) -> Result<(), OpenError> {
-    match disk.file().sync_all() {
+) -> Result<(), OpenError>
+    ensures { OnOk result (calls_made file.new ≡ (SyncFolder, Done) ∷ (SyncAll, Done) ∷ calls_made file.old) }
+{
+    let Ok(folder) = File::open(rt, folder_of(path.as_path())) else {
+        return Err(OpenError::NameNotSynced);
+    };
+    match file.sync_all() {
         Ok(()) => {}
         Err(_) => return Err(OpenError::NameNotSynced),
     }
-    match sync_folder(rt, path.as_path()) {
+    match file.sync_folder(&folder) {
         Ok(()) => Ok(()),
         Err(_) => Err(OpenError::NameNotSynced),
     }
@@ -179,7 +184,8 @@ pub fn create_file<R: AllocGlobal + Files<File = File>>(
     rt: &R,
     path: &str,
 ) -> Result<NewFile, OpenError>
-    ensures { IfOk result (λ new. failures_of new.disk ≡ 0) }
+    ensures failures { IfOk result (λ new. failures_of new.disk ≡ 0) }
+    ensures calls { IfOk result (λ new. calls_of new.disk ≡ (SyncFolder, Done) ∷ (SyncAll, Done) ∷ (Lock Alone, Done) ∷ []) }
 {
     let path = match resolve(rt, path) {
         Ok(path) => path,
@@ -187,15 +193,18 @@ pub fn create_file<R: AllocGlobal + Files<File = File>>(
         Err(_) => return Err(OpenError::NotOpened),
     };
     let (file, is_new) = open_or_make(rt, path.as_str())?;
-    let disk = claim(file, Share::Alone)?;
-    let synced = sync_name(rt, &disk, &path);
+    let mut file = claim(file, Share::Alone)?;
+    let synced = sync_name(rt, &mut file, &path);
     let made = if is_new {
         Some(MadeFile { path })
     } else {
         None
     };
     match synced {
-        Ok(()) => Ok(NewFile { disk, made }),
+        Ok(()) => {
+            let disk = disk_of(file);
+            Ok(NewFile { disk, made })
+        }
         Err(error) => {
             if let Some(made) = made {
                 let _ = made.remove(rt);

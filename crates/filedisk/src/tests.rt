@@ -1,16 +1,23 @@
+ghost use Rattle.std.specs.Prelude.{◌≡◌, ◌≤◌, length, IfOk, IfErr};
+ghost use Rattle.std.specs.IoError.{error_kind};
+ghost use Rattle.std.specs.declared.io.ErrorKind.TheVariants.{BrokenPipe};
+ghost use Rattle.filedisk.specs.Noted.{has_failed_sync};
+
 use crate::names::{folder_of, resolve};
+use crate::notes::{Answer, Asked, Note, Notes};
 use crate::{FileDisk, OpenError, RawFile, create_file, open_file, open_to_read};
 use disk::Disk;
+use std::fs::File;
 use std::io::ErrorKind;
-use std::os::unix::fs::symlink;
+use std::os::unix::fs::{FileExt, symlink};
 use std::path::Path;
 use std::process::Abort;
 use std::test::Fail;
 use std::{env, fs, io, process};
 
-/// A file in memory that reads and writes at most so many bytes a call, and whose n-th call fails.
+/// Bytes of which at most so many are read or written a call, and whose n-th call fails.
 #[derive(Drop)]
-struct ShortFile {
+struct ShortBytes {
     bytes: Vec<u8>,
     most: usize,
     calls: u64,
@@ -18,35 +25,21 @@ struct ShortFile {
     synced: bool,
 }
 
-impl ShortFile {
-    fn admit(&mut self) -> io::Result<()> {
+impl ShortBytes {
+    fn admit(&mut self) -> io::Result<()>
+        ensures { IfErr result (λ error. error_kind error ≡ BrokenPipe) }
+    {
         self.calls = self.calls.wrapping_add(1);
         if self.calls == self.fails_at {
             return Err(io::Error::from(ErrorKind::BrokenPipe));
         }
         Ok(())
     }
-}
 
-impl RawFile for ShortFile {
-    ghost use Rattle.std.specs.Prelude.{[]};
-
-    ghost content = { λ _. [] };
-
-    ghost left = { λ _ _. ⊥ };
-
-    ghost moment = { λ _. 0 };
-
-    ghost left_since = { λ _ _ _. ⊥ };
-
-    ghost honest = { λ _. ⊥ };
-
-    fn size(&mut self) -> io::Result<u64> {
-        self.admit()?;
-        Ok(self.bytes.len() as u64)
-    }
-
-    fn read_some(&mut self, at: u64, into: &mut [u8]) -> io::Result<usize> {
+    fn read(&mut self, at: u64, into: &mut [u8]) -> io::Result<usize>
+        ensures bound { IfOk result (λ n. n ≤ length into.old) }
+        ensures kind { IfErr result (λ error. error_kind error ≡ BrokenPipe) }
+    {
         self.admit()?;
         let Some(from) = self.bytes.get(at as usize..) else {
             return Ok(0);
@@ -66,7 +59,10 @@ impl RawFile for ShortFile {
         }
     }
 
-    fn write_some(&mut self, at: u64, bytes: &[u8]) -> io::Result<usize> {
+    fn write(&mut self, at: u64, bytes: &[u8]) -> io::Result<usize>
+        ensures bound { IfOk result (λ n. n ≤ length bytes.now) }
+        ensures kind { IfErr result (λ error. error_kind error ≡ BrokenPipe) }
+    {
         self.admit()?;
         let start = (at as usize).min(self.bytes.len());
         let to = &mut self.bytes.as_mut_slice()[start..];
@@ -76,11 +72,107 @@ impl RawFile for ShortFile {
         }
         Ok(count)
     }
+}
+
+/// A file of such bytes.
+#[derive(Drop)]
+struct ShortFile {
+    short: ShortBytes,
+    sync_failed: bool,
+    notes: Notes,
+    ghost failed: { sync_failed ≡ has_failed_sync notes.calls },
+}
+
+impl RawFile for ShortFile {
+    ghost use Rattle.std.specs.Prelude.{[]};
+
+    ghost calls = { λ file. file.notes.calls };
+
+    ghost content = { λ _. [] };
+
+    ghost left = { λ _ _. ⊥ };
+
+    ghost moment = { λ _. 0 };
+
+    ghost left_since = { λ _ _ _. ⊥ };
+
+    ghost honest = { λ _. ⊥ };
+
+    fn size(&mut self) -> io::Result<u64> {
+        let asked = Asked::Size;
+        match self.short.admit() {
+            Ok(()) => {
+                let size = self.short.bytes.len() as u64;
+                let answer = Answer::Told(size);
+                self.notes = self.notes.then(&Note { asked, answer });
+                Ok(size)
+            }
+            Err(error) => {
+                let answer = Answer::Failed(error.kind());
+                self.notes = self.notes.then(&Note { asked, answer });
+                Err(error)
+            }
+        }
+    }
+
+    fn read_some(&mut self, at: u64, into: &mut [u8]) -> io::Result<usize> {
+        let count = into.len();
+        let asked = Asked::Read { at, count };
+        let outcome = self.short.read(at, into);
+        match outcome {
+            Ok(given) => {
+                let answer = Answer::Gave(&into[..given]);
+                self.notes = self.notes.then(&Note { asked, answer });
+            }
+            Err(error) => {
+                let answer = Answer::Failed(error.kind());
+                self.notes = self.notes.then(&Note { asked, answer });
+            }
+        }
+        outcome
+    }
+
+    fn lengthen(&mut self, size: u64) -> io::Result<()> {
+        let outcome = self.short.lengthen(size);
+        let answer = match outcome {
+            Ok(()) => Answer::Done,
+            Err(error) => Answer::Failed(error.kind()),
+        };
+        let asked = Asked::Lengthen { size };
+        self.notes = self.notes.then(&Note { asked, answer });
+        outcome
+    }
+
+    fn write_some(&mut self, at: u64, bytes: &[u8]) -> io::Result<usize> {
+        let outcome = self.short.write(at, bytes);
+        let answer = match outcome {
+            Ok(count) => Answer::Told(count as u64),
+            Err(error) => Answer::Failed(error.kind()),
+        };
+        let asked = Asked::Write { at, bytes };
+        self.notes = self.notes.then(&Note { asked, answer });
+        outcome
+    }
 
     fn sync(&mut self) -> io::Result<()> {
-        self.admit()?;
-        self.synced = true;
-        Ok(())
+        if self.sync_failed {
+            return Err(io::Error::from(ErrorKind::BrokenPipe));
+        }
+        let asked = Asked::SyncAll;
+        match self.short.admit() {
+            Ok(()) => {
+                self.short.synced = true;
+                let answer = Answer::Done;
+                self.notes = self.notes.then(&Note { asked, answer });
+                Ok(())
+            }
+            Err(error) => {
+                self.sync_failed = true;
+                let answer = Answer::Failed(error.kind());
+                self.notes = self.notes.then(&Note { asked, answer });
+                Err(error)
+            }
+        }
     }
 
     ghost leaves_content = { λ _ never. absurd never };
@@ -91,12 +183,17 @@ impl RawFile for ShortFile {
 }
 
 fn short_file(rt: &impl AllocGlobal, most: usize, fails_at: u64) -> ShortFile {
-    ShortFile {
+    let short = ShortBytes {
         bytes: Vec::new(rt.alloc()),
         most,
         calls: 0,
         fails_at,
         synced: false,
+    };
+    ShortFile {
+        short,
+        sync_failed: false,
+        notes: Notes::new(),
     }
 }
 
@@ -114,7 +211,7 @@ fn pieces_are_finished(rt: HostRuntime) {
     assert_eq!(rt; disk.failed_calls(), 0);
     assert!(rt; disk.read(3, &mut into).is_err());
     assert_eq!(rt; disk.failed_calls(), 1);
-    let file = disk.into_file();
+    let file = disk.into_file().short;
     assert!(rt; file.synced && file.bytes.as_slice() == b"abcdefGHI".as_slice());
     let mut stuck = FileDisk::new(short_file(&rt, 0, 0));
     assert!(rt; stuck.write_at(0, b"a").is_err() && stuck.read(0, &mut into).is_err());
@@ -142,6 +239,18 @@ fn each_call_fails_in_turn(rt: HostRuntime) {
         assert!(rt; disk.failed_calls() == own as u64, "{fails_at}");
         assert!(rt; fails_at < 10 || own == 0, "{fails_at}");
     }
+}
+
+/// After a sync that failed each later one fails.
+#[test]
+fn no_sync_after_one_that_failed(rt: HostRuntime) {
+    let mut disk = FileDisk::new(short_file(&rt, 8, 2));
+    let mut into = [0u8; 0];
+    assert!(rt; disk.sync() == Ok(()));
+    assert!(rt; disk.sync().is_err() && disk.sync().is_err());
+    assert!(rt; disk.len() == Ok(0) && disk.read(0, &mut into) == Ok(()));
+    assert!(rt; disk.sync().is_err());
+    assert_eq!(rt; disk.failed_calls(), 3);
 }
 
 #[test]
@@ -207,6 +316,75 @@ fn a_real_file_that_is_read(rt: HostRuntime) -> Result<(), Fail> {
         _ => assert!(rt; false),
     }
     assert!(rt; open_file(&rt, path).is_ok());
+    fs::remove_file(&rt, path)?;
+    Ok(())
+}
+
+/// Each byte stands where it was written, and is read from there, also past 2^32: the file is read and written by another handle.
+#[test]
+fn offsets_of_a_real_file(rt: HostRuntime) -> Result<(), Fail> {
+    let folder = env::temp_dir(&rt)?;
+    let id = process::id(rt.process());
+    let path = format!(in rt.alloc(); "{}/filedisk-far-{id}", folder.as_str())?;
+    let path = path.as_str();
+    let far = (1u64 << 32) + 5;
+    let Ok(new) = create_file(&rt, path) else {
+        return Err(Fail::from(io::Error::from(ErrorKind::Other)));
+    };
+    let mut disk = new.disk;
+    let other = fs::OpenOptions::new()
+        .read(true)
+        .write(true)
+        .open(&rt, path)?;
+    let mut into = [1u8; 5];
+    assert!(rt; disk.write_at(3, b"near") == Ok(()));
+    assert!(rt; disk.sync() == Ok(()));
+    assert!(rt; disk.write_at(far, b"far") == Ok(()));
+    assert!(rt; disk.sync() == Ok(()) && disk.sync() == Ok(()));
+    assert!(rt; disk.len() == Ok(far + 3) && other.metadata()?.len() == far + 3);
+    assert_eq!(rt; other.read_at(&mut into, 2)?, 5);
+    assert!(rt; into.as_slice() == b"\0near".as_slice());
+    assert_eq!(rt; other.read_at(&mut into, far - 1)?, 4);
+    assert!(rt; into.as_slice().starts_with(b"\0far"));
+    assert_eq!(rt; other.write_at(b"FAR", far)?, 3);
+    assert!(rt; disk.read(far - 2, &mut into) == Ok(()));
+    assert!(rt; into.as_slice() == b"\0\0FAR".as_slice());
+    assert!(rt; disk.write_at(far + 1, b"x") == Ok(()) && disk.sync() == Ok(()));
+    assert!(rt; disk.len() == Ok(far + 3));
+    assert_eq!(rt; other.read_at(&mut into, far)?, 3);
+    assert!(rt; into.as_slice().starts_with(b"FxR"));
+    assert!(rt; disk.read(far, &mut into).is_err());
+    assert!(rt; disk.write_at(u64::MAX, b"x").is_err());
+    let mut file = disk.into_file();
+    assert!(rt; file.lengthen(far + 9).is_ok());
+    assert_eq!(rt; other.metadata()?.len(), far + 9);
+    fs::remove_file(&rt, path)?;
+    Ok(())
+}
+
+/// A file that another holds locked is not opened, or with those who read it alone.
+#[test]
+fn a_file_that_another_holds(rt: HostRuntime) -> Result<(), Fail> {
+    let folder = env::temp_dir(&rt)?;
+    let id = process::id(rt.process());
+    let path = format!(in rt.alloc(); "{}/filedisk-held-{id}", folder.as_str())?;
+    let path = path.as_str();
+    fs::write(&rt, path, "abc")?;
+    let other = File::open(&rt, path)?;
+    other.lock()?;
+    assert!(rt; matches!(open_file(&rt, path), Err(OpenError::InUse)));
+    assert!(rt; matches!(create_file(&rt, path), Err(OpenError::InUse)));
+    assert!(rt; matches!(open_to_read(&rt, path), Err(OpenError::InUse)));
+    other.lock_shared()?;
+    assert!(rt; matches!(open_file(&rt, path), Err(OpenError::InUse)));
+    assert!(rt; matches!(create_file(&rt, path), Err(OpenError::InUse)));
+    assert!(rt; open_to_read(&rt, path).is_ok());
+    other.unlock()?;
+    let disk = open_file(&rt, path);
+    assert!(rt; disk.is_ok() && other.try_lock().is_err() && other.try_lock_shared().is_err());
+    drop(disk);
+    let disk = open_to_read(&rt, path);
+    assert!(rt; disk.is_ok() && other.try_lock().is_err() && other.try_lock_shared().is_ok());
     fs::remove_file(&rt, path)?;
     Ok(())
 }

@@ -2,6 +2,7 @@
 ghost use Rattle.std.specs.Prelude.{◌≡◌, ◌+◌, ◌≤◌, ◌↔◌, length, slice_range, OnOk, OnErr};
 ghost use Rattle.disk.specs.Contents.{overwritten, AreAmong, PartlyWritten};
 ghost use Rattle.filedisk.specs.Files.{Unchanged, Tears, lengthened};
+ghost use Rattle.filedisk.specs.Whole.{MakesRoom, FailsRoom, WritesAll, WritesPart, WritesWhole, FailsWhole, ReadsAll, ReadsPart};
 
 use crate::RawFile;
 use disk::DiskError;
@@ -13,6 +14,8 @@ pub(crate) fn read_whole<F: RawFile>(
     into: &mut [u8],
 ) -> Result<(), DiskError>
     requires { F.honest file.old → at + length into.old ≤ length (F.content file.old) }
+    ensures made { OnOk result (ReadsAll at into.new (F.calls file.old) (F.calls file.new)) }
+    ensures ended { OnErr result (ReadsPart at (length into.old) (F.calls file.old) (F.calls file.new)) }
     ensures bytes { F.honest file.old → OnOk result (into.new ≡ slice_range (F.content file.old) at (at + length into.old)) }
     ensures same { F.honest file.old → Unchanged F.content F.left F.moment F.left_since file.old file.new }
     ensures honest { F.honest file.new ↔ F.honest file.old }
@@ -37,6 +40,8 @@ pub(crate) fn read_whole<F: RawFile>(
 /// Writes all of the bytes at `at`, within the length.
 fn write_within<F: RawFile>(file: &mut F, at: u64, bytes: &[u8]) -> Result<(), DiskError>
     requires { F.honest file.old → at + length bytes.now ≤ length (F.content file.old) }
+    ensures made { OnOk result (WritesAll at bytes.now (F.calls file.old) (F.calls file.new)) }
+    ensures ended { OnErr result (WritesPart at bytes.now (F.calls file.old) (F.calls file.new)) }
     ensures written { F.honest file.old → OnOk result (F.content file.new ≡ overwritten (F.content file.old) at bytes.now) }
     ensures tears { F.honest file.old → Tears at (length bytes.now) F.content F.left F.moment F.left_since file.old file.new }
     ensures keeps { F.honest file.old → AreAmong (F.left file.old) (F.left file.new) }
@@ -62,6 +67,8 @@ fn write_within<F: RawFile>(file: &mut F, at: u64, bytes: &[u8]) -> Result<(), D
 /// Makes the file as long as these bytes need, where it is shorter.
 fn make_room<F: RawFile>(file: &mut F, at: u64, count: usize) -> Result<(), DiskError>
     requires { F.honest file.old → at ≤ length (F.content file.old) }
+    ensures made { OnOk result (MakesRoom (at + count) (F.calls file.old) (F.calls file.new)) }
+    ensures ended { OnErr result (FailsRoom (at + count) (F.calls file.old) (F.calls file.new)) }
     ensures room { F.honest file.old → OnOk result (F.content file.new ≡ lengthened (F.content file.old) (at + count)) }
     ensures failed { F.honest file.old → OnErr result (F.content file.new ≡ F.content file.old) }
     ensures tears { F.honest file.old → Tears at count F.content F.left F.moment F.left_since file.old file.new }
@@ -86,6 +93,8 @@ fn make_room<F: RawFile>(file: &mut F, at: u64, count: usize) -> Result<(), Disk
 /// a write that fails leaves the old length or the one of success.
 pub(crate) fn write_whole<F: RawFile>(file: &mut F, at: u64, bytes: &[u8]) -> Result<(), DiskError>
     requires { F.honest file.old → at ≤ length (F.content file.old) }
+    ensures made { OnOk result (WritesWhole at bytes.now (F.calls file.old) (F.calls file.new)) }
+    ensures ended { OnErr result (FailsWhole at bytes.now (F.calls file.old) (F.calls file.new)) }
     ensures written { F.honest file.old → OnOk result (F.content file.new ≡ overwritten (F.content file.old) at bytes.now) }
     ensures failed { F.honest file.old → OnErr result (PartlyWritten at (length bytes.now) (F.content file.old) (F.content file.new)) }
     ensures tears { F.honest file.old → Tears at (length bytes.now) F.content F.left F.moment F.left_since file.old file.new }

@@ -4,7 +4,7 @@ ghost use Rattle.std.specs.Io.Buffered.{reader_inner, reader_buffer};
 ghost use Rattle.roadmark.specs.Failures.{unopened, IsUnopened, IsFaultOrUnopened, IsFileUnmade};
 
 use dimacs::{Code, Fault, read_gr};
-use filedisk::{FileDisk, NewFile, OpenError, create_file, open_file, open_to_read};
+use filedisk::{FileDisk, NewFile, OpenError, SystemFile, create_file, open_file, open_to_read};
 use printing::Failed;
 use roadnet::Refusal;
 use std::alloc::Global;
@@ -77,7 +77,7 @@ pub fn open_texts<R: AllocGlobal + Files>(
 }
 
 /// The file of a store that is changed. One that can't be opened to be read and written, is no file, or is in use is fault 10 of line 0.
-pub fn open_store<R: Files<File = File>>(rt: &R, name: &str) -> Result<FileDisk<File>, Failed>
+pub fn open_store<R: Files<File = File>>(rt: &R, name: &str) -> Result<FileDisk<SystemFile>, Failed>
     ensures { IfErr result (λ failed. failed ≡ unopened 2) }
 {
     match open_file(rt, name) {
@@ -90,7 +90,7 @@ pub fn open_store<R: Files<File = File>>(rt: &R, name: &str) -> Result<FileDisk<
 pub fn open_store_to_read<R: Files<File = File>>(
     rt: &R,
     name: &str,
-) -> Result<FileDisk<File>, Failed>
+) -> Result<FileDisk<SystemFile>, Failed>
     ensures { IfErr result (λ failed. failed ≡ unopened 2) }
 {
     match open_to_read(rt, name) {

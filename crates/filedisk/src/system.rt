@@ -1,0 +1,141 @@
+//! The system's calls on an open file, each noted with its answer. No clause can see the system: that each function here makes the call
+//! which it notes, of this file, is to be read here, and nowhere else.
+ghost use Rattle.std.specs.Prelude.{◌≡◌, ◌≤◌, [], ◌∷◌, length, IfOk};
+ghost use Rattle.filedisk.specs.Noted.{Size, Read, Write, Lengthen, SyncAll, SyncData, Lock, SyncFolder, call_of, outcome_of, told, done, gave};
+
+use crate::notes::{Answer, Asked, Note, Notes, Share};
+use std::fs::File;
+use std::io;
+use std::os::unix::fs::FileExt;
+
+/// An open file of the system, with the calls that were made of it.
+#[derive(Drop)]
+pub(crate) struct NotedFile {
+    file: File,
+    notes: Notes,
+}
+
+/// What a call answered that tells nothing.
+fn as_done<'a>(answer: &io::Result<()>) -> Answer<'a>
+    ensures { outcome_of result ≡ done answer.now }
+{
+    match answer {
+        Ok(()) => Answer::Done,
+        Err(error) => Answer::Failed(error.kind()),
+    }
+}
+
+impl NotedFile {
+    /// A file of which no call has been made.
+    pub(crate) fn new(file: File) -> NotedFile
+        ensures { result.notes.calls ≡ [] }
+    {
+        NotedFile {
+            file,
+            notes: Notes::new(),
+        }
+    }
+
+    fn note(&mut self, asked: Asked<'_>, answer: Answer<'_>)
+        ensures { self.new.notes.calls ≡ (call_of asked.entry, outcome_of answer.entry) ∷ self.old.notes.calls }
+    {
+        self.notes = self.notes.then(&Note { asked, answer });
+    }
+
+    /// The file's length.
+    pub(crate) fn size(&mut self) -> io::Result<u64>
+        ensures { self.new.notes.calls ≡ (Size, told result) ∷ self.old.notes.calls }
+    {
+        let answer = self.file.metadata();
+        match answer {
+            Ok(metadata) => {
+                self.note(Asked::Size, Answer::Told(metadata.len()));
+                Ok(metadata.len())
+            }
+            Err(error) => {
+                self.note(Asked::Size, Answer::Failed(error.kind()));
+                Err(error)
+            }
+        }
+    }
+
+    /// Reads once, at this offset.
+    pub(crate) fn read(&mut self, at: u64, into: &mut [u8]) -> io::Result<usize>
+        ensures bound { IfOk result (λ n. n ≤ length into.old) }
+        ensures noted { self.new.notes.calls ≡ (Read at (length into.old), gave into.new result) ∷ self.old.notes.calls }
+    {
+        let count = into.len();
+        let answer = self.file.read_at(into, at);
+        match answer {
+            Ok(given) => self.note(Asked::Read { at, count }, Answer::Gave(&into[..given])),
+            Err(error) => self.note(Asked::Read { at, count }, Answer::Failed(error.kind())),
+        }
+        answer
+    }
+
+    /// Writes once, at this offset.
+    pub(crate) fn write(&mut self, at: u64, bytes: &[u8]) -> io::Result<usize>
+        ensures bound { IfOk result (λ n. n ≤ length bytes.now) }
+        ensures noted { self.new.notes.calls ≡ (Write at bytes.now, told result) ∷ self.old.notes.calls }
+    {
+        let answer = self.file.write_at(bytes, at);
+        match answer {
+            Ok(count) => self.note(Asked::Write { at, bytes }, Answer::Told(count as u64)),
+            Err(error) => self.note(Asked::Write { at, bytes }, Answer::Failed(error.kind())),
+        }
+        answer
+    }
+
+    /// Makes the file so long.
+    pub(crate) fn lengthen(&mut self, size: u64) -> io::Result<()>
+        ensures { self.new.notes.calls ≡ (Lengthen size, done result) ∷ self.old.notes.calls }
+    {
+        let answer = self.file.set_len(size);
+        self.note(Asked::Lengthen { size }, as_done(&answer));
+        answer
+    }
+
+    /// Syncs the data, and all that tells of the file.
+    pub(crate) fn sync_all(&mut self) -> io::Result<()>
+        ensures { self.new.notes.calls ≡ (SyncAll, done result) ∷ self.old.notes.calls }
+    {
+        let answer = self.file.sync_all();
+        self.note(Asked::SyncAll, as_done(&answer));
+        answer
+    }
+
+    /// Syncs the data, and what it takes to read it again.
+    pub(crate) fn sync_data(&mut self) -> io::Result<()>
+        ensures { self.new.notes.calls ≡ (SyncData, done result) ∷ self.old.notes.calls }
+    {
+        let answer = self.file.sync_data();
+        self.note(Asked::SyncData, as_done(&answer));
+        answer
+    }
+
+    /// Locks the file for this opening of it, until it is closed, and waits for nobody. Two openings, of one program or of two, don't
+    /// lock it at once, but where both share it.
+    pub(crate) fn lock(&mut self, share: Share) -> io::Result<()>
+        ensures { self.new.notes.calls ≡ (Lock share, done result) ∷ self.old.notes.calls }
+    {
+        let locked = match share {
+            Share::Alone => self.file.try_lock(),
+            Share::WithReaders => self.file.try_lock_shared(),
+        };
+        let answer = match locked {
+            Ok(()) => Ok(()),
+            Err(error) => Err(io::Error::from(error)),
+        };
+        self.note(Asked::Lock(share), as_done(&answer));
+        answer
+    }
+
+    /// Syncs the folder in which the file stands.
+    pub(crate) fn sync_folder(&mut self, folder: &File) -> io::Result<()>
+        ensures { self.new.notes.calls ≡ (SyncFolder, done result) ∷ self.old.notes.calls }
+    {
+        let answer = folder.sync_all();
+        self.note(Asked::SyncFolder, as_done(&answer));
+        answer
+    }
+}

@@ -1,0 +1,124 @@
+//! A file of the system as a `RawFile`.
+ghost use Rattle.std.specs.Prelude.{◌≡◌, ◌≤◌, [], ◌∷◌, true, false, length, IfOk, IsTrue, IsErr};
+ghost use Rattle.filedisk.specs.Noted.{Size, Read, Write, Lengthen, SyncAll, SyncData, told, done, gave, Makes, MakesSync, has_failed_sync, has_synced_length};
+
+use crate::RawFile;
+use crate::system::NotedFile;
+use std::io;
+use std::io::ErrorKind;
+
+/// An open file of the system.
+///
+/// After a sync that failed each later one fails, and is not made: the system may have forgotten what it did not write then. Where the
+/// length is as it was at a sync of all that tells of the file, a sync is one of the data.
+#[derive(Drop)]
+pub struct SystemFile {
+    file: NotedFile,
+    sync_failed: bool,
+    length_synced: bool,
+    ghost failed: { sync_failed ≡ has_failed_sync file.notes.calls },
+    ghost synced: { length_synced ≡ true → has_synced_length file.notes.calls ≡ true },
+}
+
+/// How often a call is made again that a signal interrupts.
+const MOST_TRIES: u32 = 1_000_000;
+
+/// Writes once, and again where a signal interrupts the call.
+fn write_uninterrupted(file: &mut NotedFile, at: u64, bytes: &[u8]) -> io::Result<usize>
+    ensures bound { IfOk result (λ n. n ≤ length bytes.now) }
+    ensures made { Makes (Write at bytes.now) (told result) file.old.notes.calls file.new.notes.calls }
+{
+    let mut tries = 0u32;
+    while tries < MOST_TRIES {
+        match file.write(at, bytes) {
+            Err(error) if error.kind() == ErrorKind::Interrupted => tries += 1,
+            answer => return answer,
+        }
+    }
+    file.write(at, bytes)
+}
+
+/// Reads once, and again where a signal interrupts the call.
+fn read_uninterrupted(file: &mut NotedFile, at: u64, into: &mut [u8]) -> io::Result<usize>
+    ensures bound { IfOk result (λ n. n ≤ length into.old) }
+    ensures made { Makes (Read at (length into.old)) (gave into.new result) file.old.notes.calls file.new.notes.calls }
+{
+    let mut tries = 0u32;
+    while tries < MOST_TRIES {
+        match file.read(at, into) {
+            Err(error) if error.kind() == ErrorKind::Interrupted => tries += 1,
+            answer => return answer,
+        }
+    }
+    file.read(at, into)
+}
+
+impl SystemFile {
+    ghost use Rattle.filedisk.specs.SystemFiles.{calls_made};
+
+    /// A file of which these calls have been made, with no sync that failed.
+    pub(crate) fn new(file: NotedFile) -> SystemFile
+        requires { has_failed_sync (calls_made file) ≡ false }
+        ensures { result.file.notes.calls ≡ calls_made file }
+    {
+        SystemFile {
+            file,
+            sync_failed: false,
+            length_synced: false,
+        }
+    }
+}
+
+// No clause can say which bytes a file of the system has, so nothing is promised of it here: that it is honest is a premise.
+impl RawFile for SystemFile {
+    ghost calls = { λ file. file.file.notes.calls };
+
+    ghost content = { λ _. [] };
+
+    ghost left = { λ _ _. ⊥ };
+
+    ghost moment = { λ _. 0 };
+
+    ghost left_since = { λ _ _ _. ⊥ };
+
+    ghost honest = { λ _. ⊥ };
+
+    fn size(&mut self) -> io::Result<u64> {
+        self.file.size()
+    }
+
+    fn read_some(&mut self, at: u64, into: &mut [u8]) -> io::Result<usize> {
+        read_uninterrupted(&mut self.file, at, into)
+    }
+
+    fn lengthen(&mut self, size: u64) -> io::Result<()> {
+        self.length_synced = false;
+        self.file.lengthen(size)
+    }
+
+    fn write_some(&mut self, at: u64, bytes: &[u8]) -> io::Result<usize> {
+        write_uninterrupted(&mut self.file, at, bytes)
+    }
+
+    fn sync(&mut self) -> io::Result<()> {
+        if self.sync_failed {
+            return Err(io::Error::from(ErrorKind::BrokenPipe));
+        }
+        let answer = if self.length_synced {
+            self.file.sync_data()
+        } else {
+            self.file.sync_all()
+        };
+        match answer {
+            Ok(()) => self.length_synced = true,
+            Err(_) => self.sync_failed = true,
+        }
+        answer
+    }
+
+    ghost leaves_content = { λ _ never. absurd never };
+
+    ghost counts_now = { λ _ _ _ never _ _. absurd never };
+
+    ghost only_now = { λ _ _ never _. absurd never };
+}

@@ -9,7 +9,8 @@ ghost use Rattle.buckets.specs.Tables.{entries_of, without};
 use std::alloc::{AllocError, Global};
 use std::marker::Model;
 
-/// A map from nodes to values, in two tables that go up to the greatest node that it ever had: 9 bytes a node.
+/// A map from nodes to values, in two tables. They go up to the greatest node that it ever had at least, and to at most twice that, since
+/// they grow by doubling: 9 bytes for each place.
 #[derive(Drop)]
 pub struct NodeValues {
     values: Vec<u64>,
@@ -43,15 +44,17 @@ pub fn is_in_bucket(value: Option<u64>, delta: u32, bucket: u64) -> bool
     }
 }
 
-/// Makes room in both tables for this many nodes. After want of memory they may have grown, and stand for the same map.
+/// Makes room in both tables for this many nodes, and for twice as many as there are places. After want of memory they may have grown, and
+/// stand for the same map.
 fn grow(values: &mut Vec<u64>, queued: &mut Vec<bool>, nodes: usize) -> Result<(), AllocError>
     requires { length queued.old.items ≤ length values.old.items }
     ensures room { OnOk result (nodes ≤ length queued.new.items) }
     ensures sized { length queued.new.items ≤ length values.new.items }
     ensures same { entries_of values.new.items queued.new.items ≡ entries_of values.old.items queued.old.items }
 {
-    values.resize(nodes.max(values.len()), 0)?;
-    queued.resize(nodes.max(queued.len()), false)?;
+    let room = nodes.max(queued.len().saturating_mul(2));
+    values.resize(room.max(values.len()), 0)?;
+    queued.resize(room.max(queued.len()), false)?;
     Ok(())
 }
 
@@ -70,6 +73,7 @@ fn make_room(values: &mut Vec<u64>, queued: &mut Vec<bool>, nodes: usize) -> Res
 }
 
 /// Whether the node of this place is queued.
+#[inline(always)]
 fn is_queued(queued: &[bool], place: usize) -> bool
     ensures value { result ≡ slice_index_or queued.now place false }
     ensures within { IsTrue result → place < length queued.now }
@@ -97,6 +101,7 @@ impl NodeValues {
     }
 
     /// The value of the node, if it has one, in O(1).
+    #[inline(always)]
     pub fn get(&self, node: u32) -> Option<u64>
         ensures { result ≡ map.get self.now node }
     {
@@ -136,6 +141,7 @@ impl NodeValues {
     }
 
     /// Takes the value of the node away, if it has one, in O(1).
+    #[inline(always)]
     pub fn remove(&mut self, node: u32)
         ensures { self.new ≡ map.remove self.old node }
     {

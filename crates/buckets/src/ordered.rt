@@ -10,7 +10,7 @@ use std::collections::BTreeMap;
 /// A bucket queue without a window: every value fits.
 ///
 /// It keeps the value of each node in a table, and a list of nodes for each bucket in a search tree. A node that moves to another bucket
-/// stays in the list of the old one too; it is dropped when that bucket is taken. The tables take 9 bytes a node up to the greatest
+/// stays in the list of the old one too; it is dropped when that bucket is taken. The tables take 9 bytes a node, up to twice the greatest
 /// node that was ever put, and the lists 4 bytes for each put that brought a node into a bucket, until that bucket is taken.
 #[derive(Drop)]
 pub struct OrderedBuckets {

@@ -64,14 +64,27 @@ fn take_out(lists: &mut Vec<Vec<u32>>, places: &mut Vec<u32>, list: usize, place
     lists[list].swap_remove(place as usize);
 }
 
+/// Gives the table a place for the node, and twice as many as it has. After want of memory it is as it was.
+fn grow(places: &mut Vec<u32>, node: u32) -> Result<(), AllocError>
+    requires { length places.old.items ≤ node }
+    ensures room { OnOk result (node < length places.new.items) }
+    ensures more { length places.old.items ≤ length places.new.items }
+    ensures same { (k : ℕ) → k < length places.old.items → slice_index places.new.items k ≡ slice_index places.old.items k }
+{
+    let room = (node as usize + 1).max(places.len().saturating_mul(2));
+    places.resize(room, 0)?;
+    Ok(())
+}
+
 /// Sees to it that the node has a place in the table, in O(1) amortized. After want of memory the table is as it was.
+#[inline(always)]
 fn make_room(places: &mut Vec<u32>, node: u32) -> Result<(), AllocError>
     ensures room { OnOk result (node < length places.new.items) }
     ensures more { length places.old.items ≤ length places.new.items }
     ensures same { (k : ℕ) → k < length places.old.items → slice_index places.new.items k ≡ slice_index places.old.items k }
 {
     if places.len() <= node as usize {
-        places.resize(node as usize + 1, 0)?;
+        grow(places, node)?;
     }
     Ok(())
 }
@@ -125,8 +138,8 @@ fn relist(
 }
 
 /// Lists of nodes, of which each node stands in at most one. The place of a node in its list is kept, so that it moves to another list in
-/// O(1), and the lists that have nodes are marked in a set of bits. It takes 24 bytes a list, 4 for each node up to the greatest that was
-/// ever added, and 4 for each place of a list that was ever in use at once.
+/// O(1), and the lists that have nodes are marked in a set of bits. It takes 24 bytes a list, 4 for each place of its table, of which there
+/// are at most twice as many as the greatest node that was ever added, and 4 for each place of a list that was ever in use at once.
 #[derive(Drop)]
 pub struct PlacedLists {
     alloc: Global,

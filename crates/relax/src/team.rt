@@ -1,4 +1,4 @@
-ghost use Rattle.std.specs.Prelude.{◌≡◌, ℕ, ◌+◌, ◌≤◌, ◌<◌, ◌^◌, ◌++◌, map, length, OnOk, IfOk, IsSome, All};
+ghost use Rattle.std.specs.Prelude.{◌≡◌, ℕ, ◌+◌, ◌≤◌, ◌<◌, ◌^◌, ◌++◌, List, [], Option, map, length, OnOk, IfOk, IsSome, All};
 ghost use Rattle.relax.specs.Values.{value_at, value_or};
 ghost use Rattle.relax.specs.Requests.{requests_of};
 
@@ -38,7 +38,11 @@ impl Team for Solo {
         tentative: &Tentative,
         part: Part,
     ) -> Result<Vec<(u32, u64)>, OutOfMemory> {
-        let mut requests = Vec::with_capacity(alloc, count(snapshot, nodes, part))?;
+        let count = count(snapshot, nodes, part);
+        if count == 0 {
+            return Ok(Vec::new(alloc));
+        }
+        let mut requests = Vec::with_capacity(alloc, count)?;
         for node in nodes {
             let value = tentative.get(*node).unwrap_or(0);
             push_requests(&mut requests, value, snapshot.legs(*node, part))?;
@@ -47,8 +51,11 @@ impl Team for Solo {
     }
 }
 
-/// How many legs of the part the nodes have, if that is below 2^64.
-fn count(snapshot: &Snapshot, nodes: &[u32], part: Part) -> usize {
+/// How many legs of the part the nodes have, if that is below 2^64; 0 only where they have none.
+#[inline(always)]
+fn count(snapshot: &Snapshot, nodes: &[u32], part: Part) -> usize
+    ensures none { result ≡ 0 → (tentative : List (Option ℕ)) → requests_of snapshot.now nodes.now tentative part ≡ [] }
+{
     let mut count: usize = 0;
     for node in nodes {
         count = count.saturating_add(snapshot.legs(*node, part).len());

@@ -1,4 +1,4 @@
-use Rattle.std.proofs.Common.{◌≡◌, ℕ, ◌+◌, ◌<◌, [], ◌++◌, take, map, length, get_or, Option, sym, ap, ap₂, ◌∙◌, arith, unwrap_or}
+use Rattle.std.proofs.Common.{rules, ◌≡◌, ℕ, ◌+◌, ◌<◌, [], ◌++◌, take, map, length, get_or, Option, sym, ap, ap₂, ◌∙◌, arith, unwrap_or}
 use Rattle.snapshot.specs.declared.legs.Leg.{Leg}
 use Rattle.relax.specs.Requests.{requests_of, requests_from}
 use Rattle.relax.specs.Values.{value_or}
@@ -18,3 +18,9 @@ loop-node-preserved c =
     ∙ (ap₂ (λ xs ys. xs ++ ys) c.loop-node.invariant added
     ∙ (flat_map_more from [] (take i nodes) (get_or nodes i 0)
     ∙ ap (λ ns. requests_of c.args.snapshot.now ns c.args.tentative.now c.args.part) (sym (take_more nodes i 0 lt))))
+
+pub returns-then-count-eq0 : goal.returns-then-count-eq0
+returns-then-count-eq0 c =
+    let none : requests_of c.args.snapshot.now c.args.nodes.now c.args.tentative.now c.args.part ≡ [] = c.count-count.ensures.none (omega arith) c.args.tentative.now in
+    let empty : c.new.result.items ≡ [] = search rules in
+    record { requests = empty ∙ sym none }

@@ -73,7 +73,9 @@ fn delta_option<'w>(alloc: Global) -> Arg<'w> {
         .long(DELTA)
         .value_name("D")
         .value_parser(value_parser!(u32).range(1..=2147483647))
-        .help("Width of the search's buckets, 1 to 2147483647; every width gives the same answers. Give one, of about a thousandth of a usual long arc, where a few arcs are far longer than the rest")
+        .help(
+            "Width of the search's buckets, 1 to 2147483647; every width gives the same answers. Give one, of about a thousandth of a usual long arc, where a few arcs are far longer than the rest",
+        )
 }
 
 /// An option `--journal J`.

@@ -5,6 +5,7 @@ ghost use Rattle.filedisk.specs.Noted.{has_failed_sync};
 
 use crate::names::{folder_of, resolve};
 use crate::notes::{Answer, Asked, Note, Notes};
+use crate::system::NotedFile;
 use crate::{FileDisk, OpenError, RawFile, create_file, open_file, open_to_read};
 use disk::Disk;
 use std::fs::File;
@@ -402,5 +403,16 @@ fn names_of_files(rt: HostRuntime) -> Result<(), Fail> {
     assert!(rt; resolve(&rt, circle.as_str()).is_err());
     assert!(rt; matches!(create_file(&rt, circle.as_str()), Err(OpenError::NotOpened)));
     fs::remove_file(&rt, circle.as_str())?;
+    Ok(())
+}
+
+/// Each sync is made: the system refuses those of a device.
+#[test]
+fn syncs_reach_the_system(rt: HostRuntime) -> Result<(), Fail> {
+    let mut file = NotedFile::new(File::open(&rt, "/dev/null")?);
+    let device = File::open(&rt, "/dev/null")?;
+    assert!(rt; file.sync_all().is_err());
+    assert!(rt; file.sync_data().is_err());
+    assert!(rt; file.sync_folder(&device).is_err());
     Ok(())
 }

@@ -2,7 +2,7 @@
 # Runs every word of the program with each of its standard streams closed, and compares a store, byte for byte, before and after. Needs a built program.
 set -u
 top=$(cd "$(dirname "${BASH_SOURCE[0]}")/.." && pwd)
-program=${1:-$top/crates/roadmark/out/roadmark}
+program=$(realpath "${1:-$top/crates/roadmark/out/roadmark}")
 folder=$(mktemp -d)
 trap 'rm -rf "$folder"' EXIT
 cd "$folder" || exit 1

@@ -110,14 +110,25 @@ impl BucketQueue for OrderedBuckets {
         self.nodes.set(node, value)
     }
 
+    /// Takes out the nodes of the least bucket, as `take_least_into` does.
+    fn take_least(&mut self) -> Result<Option<(u64, Vec<u32>)>, AllocError> {
+        let mut nodes = Vec::new(self.alloc);
+        match self.take_least_into(&mut nodes)? {
+            Some(bucket) => Ok(Some((bucket, nodes))),
+            None => Ok(None),
+        }
+    }
+
     /// Takes out the nodes of the least bucket, in O(log b + k log k) for b buckets and a list of k nodes; lists of which no node is left
     /// are dropped on the way, each node of them in O(1). It takes no memory, so there is no error.
-    fn take_least(&mut self) -> Result<Option<(u64, Vec<u32>)>, AllocError> {
-        while let Some((bucket, mut nodes)) = self.lists.pop_first() {
-            self.nodes.keep_bucket(self.delta, bucket, &mut nodes);
-            if !nodes.is_empty() {
-                self.nodes.remove_all(&nodes);
-                return Ok(Some((bucket, nodes)));
+    fn take_least_into(&mut self, nodes: &mut Vec<u32>) -> Result<Option<u64>, AllocError> {
+        nodes.clear();
+        while let Some((bucket, mut list)) = self.lists.pop_first() {
+            self.nodes.keep_bucket(self.delta, bucket, &mut list);
+            if !list.is_empty() {
+                self.nodes.remove_all(&list);
+                *nodes = list;
+                return Ok(Some(bucket));
             }
         }
         Ok(None)

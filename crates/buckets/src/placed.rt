@@ -9,6 +9,9 @@ use crate::places::Places;
 use std::alloc::{AllocError, Global};
 use std::mem::replace;
 
+/// A list of at most so many places keeps them when it is taken.
+const FEW_PLACES: usize = 8;
+
 /// As many empty lists.
 fn empty_lists(alloc: Global, size: u32) -> Result<Vec<Vec<u32>>, AllocError>
     ensures len { IfOk result (λ lists. length lists.items ≡ size) }
@@ -137,12 +140,38 @@ fn relist(
     Ok(())
 }
 
+/// Takes all nodes of the list, into one that is empty: a list of few places keeps them, and its nodes are copied. After want of memory
+/// each list is as it was.
+#[inline(always)]
+fn take_list(
+    lists: &mut Vec<Vec<u32>>,
+    alloc: Global,
+    list: usize,
+    nodes: &mut Vec<u32>,
+) -> Result<(), AllocError>
+    requires list { list < length lists.old.items }
+    requires none { nodes.old.items ≡ [] }
+    ensures taken { OnOk result (nodes.new.items ≡ nodes_of lists.old.items list) }
+    ensures emptied { OnOk result (nodes_of lists.new.items list ≡ []) }
+    ensures err { OnErr result (lists.new ≡ lists.old) }
+    ensures others { (p : ℕ) → p ≢ list → nodes_of lists.new.items p ≡ nodes_of lists.old.items p }
+    ensures len { length lists.new.items ≡ length lists.old.items }
+{
+    if lists[list].capacity() <= FEW_PLACES {
+        nodes.extend_from_slice(&lists[list])?;
+        lists[list].clear();
+    } else {
+        *nodes = replace(&mut lists[list], Vec::new(alloc));
+    }
+    Ok(())
+}
+
 /// Lists of nodes, of which each node stands in at most one. The place of a node in its list is kept, so that it moves to another list in
 /// O(1), and the lists that have nodes are marked in a set of bits. It takes 24 bytes a list, 4 for each place of its table, of which there
 /// are at most twice as many as the greatest node that was ever added, and 4 for each place of a list that was ever in use at once.
 #[derive(Drop)]
 pub struct PlacedLists {
-    alloc: Global,
+    pub(crate) alloc: Global,
     pub(crate) lists: Vec<Vec<u32>>,
     pub(crate) places: Vec<u32>,
     pub(crate) marks: Places,
@@ -202,16 +231,19 @@ impl PlacedLists {
         Ok(())
     }
 
-    /// Takes all nodes of this list.
-    pub fn take(&mut self, list: usize) -> Vec<u32>
-        requires { list < length self.old.lists.items }
-        ensures taken { slice_get self.old.lists.items list ≡ Some result }
-        ensures emptied { nodes_of self.new.lists.items list ≡ [] }
-        ensures others { (p : ℕ) → p ≢ list → slice_get self.new.lists.items p ≡ slice_get self.old.lists.items p }
+    /// Takes all nodes of this list, into a list that is empty. After want of memory each node stands where it stood.
+    pub fn take(&mut self, list: usize, nodes: &mut Vec<u32>) -> Result<(), AllocError>
+        requires list { list < length self.old.lists.items }
+        requires none { nodes.old.items ≡ [] }
+        ensures taken { OnOk result (nodes.new.items ≡ nodes_of self.old.lists.items list) }
+        ensures emptied { OnOk result (nodes_of self.new.lists.items list ≡ []) }
+        ensures err { OnErr result (self.new ≡ self.old) }
+        ensures others { (p : ℕ) → p ≢ list → nodes_of self.new.lists.items p ≡ nodes_of self.old.lists.items p }
         ensures places { self.new.places ≡ self.old.places }
         ensures len { length self.new.lists.items ≡ length self.old.lists.items }
     {
+        take_list(&mut self.lists, self.alloc, list, nodes)?;
         self.marks.remove(list);
-        replace(&mut self.lists[list], Vec::new(self.alloc))
+        Ok(())
     }
 }

@@ -1,4 +1,4 @@
-ghost use Rattle.std.specs.Prelude.{◌≡◌, ℕ, ◌≤◌, ◌<◌, ◌/◌, ◌+◌, ◌↔◌, IsTrue, OnOk, OnErr, IfOk, MatchOption};
+ghost use Rattle.std.specs.Prelude.{◌≡◌, ℕ, ◌≤◌, ◌<◌, ◌/◌, ◌+◌, ◌↔◌, [], IsTrue, OnOk, OnErr, IfOk, MatchOption};
 ghost use Rattle.std.specs.FinMap as map;
 ghost use Rattle.buckets.specs.Queue.{Entries, TakesLeast};
 
@@ -53,6 +53,19 @@ pub trait BucketQueue {
     fn take_least(&mut self) -> Result<Option<(u64, Vec<u32>)>, AllocError>
         ensures taken { IfOk result (λ taken. MatchOption taken (entries self.old ≡ map.empty) (λ t. TakesLeast (width self.old) (entries self.old) t.0 t.1.items (entries self.new))) }
         ensures window { IfOk result (λ taken. MatchOption taken ((v : ℕ) → accepts self.old v ↔ accepts self.new v) (λ t. (v : ℕ) → t.0 ≤ v / width self.old → v / width self.old < t.0 + span self.old → accepts self.new v)) }
+        ensures kept { IfOk result (λ taken. MatchOption taken (entries self.new ≡ entries self.old) (λ _. Unit {0})) }
+        ensures err { OnErr result (entries self.new ≡ entries self.old) }
+        ensures err_accepts { OnErr result ((v : ℕ) → accepts self.old v ↔ accepts self.new v) }
+        ensures width { width self.new ≡ width self.old }
+        ensures span { span self.new ≡ span self.old };
+
+    /// Takes out all nodes of the least bucket that is not empty, as `take_least` does, into a list of the caller's, and gives the bucket's
+    /// number. What was in the list is gone; it is empty where no node is queued. So a caller that takes one bucket after another keeps one
+    /// list. After want of memory the list may be anything.
+    fn take_least_into(&mut self, nodes: &mut Vec<u32>) -> Result<Option<u64>, AllocError>
+        ensures taken { IfOk result (λ taken. MatchOption taken (entries self.old ≡ map.empty) (λ bucket. TakesLeast (width self.old) (entries self.old) bucket nodes.new.items (entries self.new))) }
+        ensures none { IfOk result (λ taken. MatchOption taken (nodes.new.items ≡ []) (λ _. Unit {0})) }
+        ensures window { IfOk result (λ taken. MatchOption taken ((v : ℕ) → accepts self.old v ↔ accepts self.new v) (λ bucket. (v : ℕ) → bucket ≤ v / width self.old → v / width self.old < bucket + span self.old → accepts self.new v)) }
         ensures kept { IfOk result (λ taken. MatchOption taken (entries self.new ≡ entries self.old) (λ _. Unit {0})) }
         ensures err { OnErr result (entries self.new ≡ entries self.old) }
         ensures err_accepts { OnErr result ((v : ℕ) → accepts self.old v ↔ accepts self.new v) }

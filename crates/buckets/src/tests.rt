@@ -3,12 +3,30 @@ ghost use Rattle.std.specs.Prelude.{◌≤◌};
 use crate::{BucketQueue, OrderedBuckets, RingBuckets};
 use std::alloc::{AllocError, Global};
 
-/// Whether the queue has as its least bucket this one with just these nodes, and gives it.
+/// Whether the queue has as its least bucket this one with just these nodes, and gives it. A taking that was given no memory is made again.
 fn takes<Q: BucketQueue>(queue: &mut Q, bucket: u64, nodes: &[u32]) -> Result<bool, AllocError> {
-    match queue.take_least()? {
+    let taken = match queue.take_least() {
+        Ok(taken) => taken,
+        Err(_) => queue.take_least()?,
+    };
+    match taken {
         Some((number, taken)) => Ok(number == bucket && taken.as_slice() == nodes),
         None => Ok(false),
     }
+}
+
+/// The same into a list that has something else.
+fn takes_into<Q: BucketQueue>(
+    queue: &mut Q,
+    list: &mut Vec<u32>,
+    bucket: u64,
+    nodes: &[u32],
+) -> Result<bool, AllocError> {
+    let taken = match queue.take_least_into(list) {
+        Ok(taken) => taken,
+        Err(_) => queue.take_least_into(list)?,
+    };
+    Ok(taken == Some(bucket) && list.as_slice() == nodes)
 }
 
 /// Puts these nodes with their values, of which each must fit. A put that was given no memory is made again.
@@ -54,6 +72,38 @@ fn moves<Q: BucketQueue>(queue: &mut Q) -> Result<bool, AllocError> {
     right = right && queue.is_empty() && queue.take_least()?.is_none();
     right = right && put_all(queue, &[(1, 31), (1, 26)])? && takes(queue, 5, &[1])?;
     Ok(right && queue.is_empty() && queue.take_least()?.is_none())
+}
+
+/// Takings into one list: of ten nodes, of two, of one, of two again, and of none.
+fn into_one_list<Q: BucketQueue>(alloc: Global, queue: &mut Q) -> Result<bool, AllocError> {
+    let mut list = Vec::new(alloc);
+    let ten = [
+        (7, 2),
+        (3, 1),
+        (9, 0),
+        (1, 4),
+        (4, 3),
+        (8, 0),
+        (2, 2),
+        (6, 1),
+        (5, 4),
+        (10, 0),
+    ];
+    let mut right = put_all(queue, &ten)? && put_all(queue, &[(12, 6), (11, 5), (13, 24)])?;
+    right = right && takes_into(queue, &mut list, 0, &[1, 2, 3, 4, 5, 6, 7, 8, 9, 10])?;
+    right = right && takes_into(queue, &mut list, 1, &[11, 12])?;
+    right = right && takes_into(queue, &mut list, 4, &[13])?;
+    right = right && put_all(queue, &[(2, 26), (1, 26)])?;
+    right = right && takes_into(queue, &mut list, 5, &[1, 2])?;
+    Ok(right && queue.take_least_into(&mut list)?.is_none() && list.is_empty())
+}
+
+#[test]
+fn takings_into_one_list(rt: HostRuntime) -> Result<(), AllocError> {
+    let alloc = rt.alloc();
+    assert!(rt; into_one_list(alloc, &mut ordered(alloc, 5))?);
+    assert!(rt; into_one_list(alloc, &mut ring(alloc, 5, 5)?)?);
+    Ok(())
 }
 
 #[test]

@@ -1,7 +1,6 @@
 -- The queued values lie in as many buckets in a row as a ring needs, through a phase and a taking.
 use Rattle.std.proofs.Common.{◌≡◌, ℕ, ◌+◌, ◌/◌, ◌<◌, ◌≤◌, List, Contains, Option, Some, None, Bool, true, false, MatchBool, MatchOption, sym, ap, subst, ◌∙◌, inl, inr, arith, div-le_self}
 use Rattle.std.specs.FinMap.{get, insert, empty, get-empty}
-use Rattle.std.specs.Global.{Vec}
 use Rattle.std.specs.Ordering.{nat_cmp}
 use Rattle.std.proofs.lemmas.Bool.{cases_eq}
 use Rattle.std.proofs.lemmas.Option.{same_Some}
@@ -60,6 +59,6 @@ AreLiveFrom-first groups source m q true none is u x has =
 AreLiveFrom-first groups source m q false none is u x has = absurd (let no : None ≡ Some x = sym (ap (λ (n : Entries). get n u) (is ∙ none) ∙ get-empty nat_cmp u) ∙ has in let absurdity : ⊥ = cc in absurdity)
 
 -- a taking, by what the queue tells of it
-pub AreLiveFrom-taking : (groups : Groups) (width : ℕ) (taken : Option (ℕ × Vec ℕ)) (old new : Entries) (b : ℕ) → width ≡ groups.delta → AreLiveFrom groups b old → MatchOption taken (old ≡ empty) (λ t. TakesLeast width old t.0 t.1.items new) → MatchOption taken (new ≡ old) (λ _. Unit {0}) → MatchOption taken (new ≡ empty) (λ t. AreLiveFrom groups t.0 old)
-AreLiveFrom-taking groups width None old new b is live none same = same ∙ none
-AreLiveFrom-taking groups width (Some t) old new b is live takes _ = AreLiveFrom-least groups b t.0 old t.1.items new (subst (λ w. TakesLeast w old t.0 t.1.items new) is takes) live
+pub AreLiveFrom-taking : (groups : Groups) (width : ℕ) (bucket : Option ℕ) (nodes : List ℕ) (old new : Entries) (b : ℕ) → width ≡ groups.delta → AreLiveFrom groups b old → MatchOption bucket (old ≡ empty) (λ least. TakesLeast width old least nodes new) → MatchOption bucket (new ≡ old) (λ _. Unit {0}) → MatchOption bucket (new ≡ empty) (λ least. AreLiveFrom groups least old)
+AreLiveFrom-taking groups width None nodes old new b is live none same = same ∙ none
+AreLiveFrom-taking groups width (Some least) nodes old new b is live takes _ = AreLiveFrom-least groups b least old nodes new (subst (λ w. TakesLeast w old least nodes new) is takes) live

@@ -1,12 +1,14 @@
 -- One phase of a bucket, from what relaxing the light arcs and the take that follows leave.
-use Rattle.std.proofs.Common.{◌≡◌, ℕ, ◌+◌, ◌/◌, ◌<◌, ◌≤◌, List, [], Contains, Option, Some, None, Bool, true, false, refl, sym, ap, subst, ◌∙◌, arith, append-nil, MatchOption, MatchBool, IsSome, ◌⊎◌, inl, inr}
+use Rattle.std.proofs.Common.{◌≡◌, ℕ, ◌+◌, ◌/◌, ◌<◌, ◌≤◌, List, [], ◌∷◌, length, get_or, ap₂, Contains, Option, Some, None, Bool, true, false, refl, sym, ap, subst, ◌∙◌, arith, append-nil, MatchOption, MatchBool, IsSome, ◌⊎◌, inl, inr}
 use Rattle.std.specs.Bool.{OnTrue, OnFalse}
 use Rattle.std.specs.FinMap.{get, insert, get-empty, empty as FinMap_empty}
 use Rattle.std.specs.Ordering.{nat_cmp}
-use Rattle.snapshot.specs.Groups.{Groups, IsGrouped}
+use Rattle.snapshot.specs.Groups.{Groups, IsGrouped, legs_of}
+use Rattle.snapshot.specs.declared.legs.Leg.{Leg}
 use Rattle.buckets.specs.Queue.{Entries, TakesLeast}
 use Rattle.relax.specs.Requests.{requests_of}
-use Rattle.deltastep.specs.Search.{top_of, AreReached, IsSearch, IsRelaxedBut, IsRelaxed, IsInBucket, AreInBucket, MeetsRequests, HasQueued, EndsPhase, EmptiesBucket, FitsFrom, ring_buckets, IsBetweenBuckets, IsBucketEmpty, weight}
+use Rattle.relax.specs.Values.{value_or}
+use Rattle.deltastep.specs.Search.{top_of, AreReached, IsSearch, IsRelaxedBut, IsRelaxed, IsInBucket, AreInBucket, MeetsRequests, HasQueued, EndsPhase, EmptiesBucket, FitsFrom, ring_buckets, IsBetweenBuckets, IsBucketEmpty, requests_by, weight}
 use Rattle.snapshot.specs.declared.legs.Part.{Part}
 use Rattle.deltastep.specs.Remembered.{remember_all}
 use Rattle.deltastep.proofs.Flags.{remember_all-of}
@@ -24,6 +26,23 @@ match_none o P Q e h = subst (λ p. MatchOption p P Q) e h
 
 pub on_true : (b : Bool) (P : Type 0) → b ≡ true → OnTrue b P → P
 on_true b P e h = subst (λ p. OnTrue p P) e h
+
+-- what holds where a test succeeds, and what holds where it fails
+pub on_true_of : (b : Bool) (P : Type 0) → (b ≡ true → P) → OnTrue b P
+on_true_of true P f = f refl
+on_true_of false P f = tt
+
+pub on_false_of : (b : Bool) (P : Type 0) → (b ≡ false → P) → OnFalse b P
+on_false_of true P f = tt
+on_false_of false P f = f refl
+
+pub map_true : (b : Bool) (P Q : Type 0) → (P → Q) → OnTrue b P → OnTrue b Q
+map_true true P Q f p = f p
+map_true false P Q f p = p
+
+pub map_false : (b : Bool) (P Q : Type 0) → (P → Q) → OnFalse b P → OnFalse b Q
+map_false true P Q f p = p
+map_false false P Q f p = f p
 
 -- no node came back
 pub EndsPhase-none : (groups : Groups) (b : ℕ) (nodes : List ℕ) (old : List (Option ℕ)) (queue : Entries) (new : List (Option ℕ)) (queue' : Entries) → AreInBucket old groups.delta b nodes → IsRelaxedBut groups Light old queue nodes → MeetsRequests (top_of groups) (requests_of groups nodes old Light) old queue new queue' → IsSearch groups new queue' b → ((source : ℕ) → AreReached groups source old → AreReached groups source new) → ((others : List ℕ) → AreInBucket old groups.delta b others → AreInBucket new groups.delta b others) → EndsPhase groups b old queue new queue' []
@@ -48,6 +67,14 @@ EndsPhase-some groups b old queue new queue' ends queued b' next queue'' takes =
       nodes = subst (λ n. AreInBucket new groups.delta n next) is (AreInBucket-taken groups new queue' b' next queue'' takes b ends.search);
       stays = ends.stays;
     }
+
+-- where a node came back, the taking that follows takes its bucket
+pub TakesLeast-back : (groups : Groups) (b : ℕ) (t : List (Option ℕ)) (queue : Entries) (taken : Option ℕ) (nodes : List ℕ) (queue' : Entries) (width : ℕ) → width ≡ groups.delta → IsSearch groups t queue b → HasQueued t queue groups.delta b → MatchOption taken (queue ≡ FinMap_empty) (λ least. TakesLeast width queue least nodes queue') → (taken ≡ Some b) × TakesLeast groups.delta queue b nodes queue'
+TakesLeast-back groups b t queue None nodes queue' width e search queued none = absurd (let no : None ≡ Some queued.value = sym (ap (λ (m : Entries). get m queued.node) none ∙ get-empty nat_cmp queued.node) ∙ queued.queued in let absurdity : ⊥ = cc in absurdity)
+TakesLeast-back groups b t queue (Some least) nodes queue' width e search queued takes =
+    let took : TakesLeast groups.delta queue least nodes queue' = subst (λ w. TakesLeast w queue least nodes queue') e takes in
+    let is : least ≡ b = bucket_is groups t queue least nodes queue' took b search queued in
+    (ap (λ n. Some n) is, subst (λ n. TakesLeast groups.delta queue n nodes queue') is took)
 
 -- a take lowers the weight
 pub weight-taken : (top width b : ℕ) (t : List (Option ℕ)) (queue : Entries) (taken : List ℕ) (queue' : Entries) → TakesLeast width queue b taken queue' → weight top t queue' < weight top t queue
@@ -111,3 +138,9 @@ IsBucketEmpty-more width b node value queue queue' true is out empty u x has wit
       | inr ne ↦ empty u x (sym (get-insert_other queue node value u ne) ∙ now) within
     ]
 IsBucketEmpty-more width b node value queue queue' false is out empty u x has within = empty u x (subst (λ (m : Entries). get m u ≡ Some x) is has) within
+
+-- the requests of one node are those of its legs
+pub requests_of_one : (groups : Groups) (nodes : List ℕ) (t : List (Option ℕ)) (part : Part) (value : ℕ) (legs : List Leg) → 1 ≤ length nodes → length nodes < 2 → value ≡ value_or 0 t (get_or nodes 0 0) → legs ≡ legs_of groups part (get_or nodes 0 0) → requests_by value legs ≡ requests_of groups nodes t part
+requests_of_one groups [] t part value legs some few e e' = absurd (omega arith)
+requests_of_one groups (u ∷ []) t part value legs some few e e' = ap₂ (λ v ls. requests_by v ls) e e' ∙ sym (append-nil (requests_by (value_or 0 t u) (legs_of groups part u)))
+requests_of_one groups (u ∷ (v ∷ nodes)) t part value legs some few e e' = absurd (omega arith)

@@ -10,7 +10,7 @@
 --     AreLiveFrom groups b queue        all queued values lie in ring_buckets buckets in a row, from bucket b on
 --     MeetsRequests top requests ..     the nodes that changed took the value of a request and are queued with it,
 --                                   and no request asks for less than is known now
-use Rattle.std.specs.Prelude.{◌≡◌, ℕ, ◌+◌, ◌*◌, ◌-◌, ◌/◌, ◌<◌, ◌≤◌, ◌⊎◌, ◌≢◌, List, [], ◌∷◌, ◌++◌, length, sum_by, unwrap_or, IsSome, Contains, Option, Some}
+use Rattle.std.specs.Prelude.{◌≡◌, ℕ, ◌+◌, ◌*◌, ◌-◌, ◌/◌, ◌<◌, ◌≤◌, ◌⊎◌, ◌≢◌, List, [], ◌∷◌, ◌++◌, length, map as list_map, sum_by, unwrap_or, IsSome, Contains, Option, Some}
 use Rattle.relax.specs.Values.{value_at, value_or}
 use Rattle.std.specs.FinMap as map
 use Rattle.snapshot.specs.Groups.{Groups, legs_of}
@@ -60,6 +60,10 @@ pub record IsInBucket (tentative : List (Option ℕ)) (width b u : ℕ) : Type 0
 
 abbrev pub AreInBucket : List (Option ℕ) → ℕ → ℕ → List ℕ → Type 0
 AreInBucket tentative width b nodes = (u : ℕ) → Contains nodes u → IsInBucket tentative width b u
+
+-- the requests of one node, given its value: for each of these legs in order its head and the sum
+abbrev pub requests_by : ℕ → List Leg → List (ℕ × ℕ)
+requests_by value legs = list_map (λ leg. (leg.head, value + leg.length)) legs
 
 -- a node that took the value of a request
 pub record TookRequest (top : ℕ) (requests : List (ℕ × ℕ)) (old new : List (Option ℕ)) (queue : Entries) (u : ℕ) : Type 0 where

@@ -1,22 +1,22 @@
 //! A search by delta-stepping: bucket after bucket is settled, the least first.
 
-ghost use Rattle.std.specs.Prelude.{◌≡◌, ◌↔◌, ℕ, ◌≤◌, ◌<◌, ◌/◌, ◌*◌, ◌+◌, min, IsTrue, ◌==◌, ◌^◌, List, [], IfOk, OnOk, MatchBool, MatchOption, All, Some, slice_set, length, vec_len};
+ghost use Rattle.std.specs.Prelude.{◌≡◌, ◌↔◌, ℕ, ◌≤◌, ◌<◌, ◌/◌, ◌*◌, ◌+◌, min, IsTrue, ◌==◌, ◌^◌, List, [], ◌∷◌, ◌++◌, Option, IfOk, OnOk, MatchBool, MatchOption, All, Some, slice_set, length, vec_len};
 ghost use Rattle.std.specs.List.{IsDistinct};
 ghost use Rattle.std.specs.Bool.{OnTrue, OnFalse};
 ghost use Rattle.std.specs.FinMap as map;
 ghost use Rattle.snapshot.specs.Groups.{IsGrouped};
 ghost use Rattle.snapshot.specs.declared.legs.Part.TheVariants.{Light, Heavy};
-ghost use Rattle.buckets.specs.Queue.{TakesLeast};
+ghost use Rattle.buckets.specs.Queue.{Entries, TakesLeast};
 ghost use Rattle.relax.specs.Values.{value_or};
 ghost use Rattle.relax.specs.Requests.{requests_of};
 ghost use Rattle.deltastep.specs.Remembered.{Memory};
-ghost use Rattle.deltastep.specs.Search.{AreLive, AreLiveFrom, AreReached, IsBetweenBuckets, EndsPhase, EmptiesBucket, IsSearch, IsRelaxedBut, IsBucketEmpty, AreInBucket, FitsFrom, IsSuited, Suits, top_of, MeetsRequests, weight, HasQueued};
+ghost use Rattle.deltastep.specs.Search.{AreLive, AreLiveFrom, AreReached, IsBetweenBuckets, EndsPhase, EmptiesBucket, IsSearch, IsRelaxedBut, IsBucketEmpty, AreInBucket, FitsFrom, IsSuited, Suits, top_of, MeetsRequests, requests_by, weight, HasQueued};
 
 use crate::distances::RowError;
 use crate::remembered::Remembered;
 use buckets::BucketQueue;
 use relax::{Team, Tentative};
-use snapshot::{Part, Snapshot};
+use snapshot::{Leg, Part, Snapshot};
 use std::alloc::Global;
 
 /// One above the length of every walk that visits no node twice: a longer way is dropped.
@@ -74,18 +74,23 @@ impl<Q: BucketQueue> Search<Q> {
         Ok(search)
     }
 
-    /// Takes the least bucket that is not empty: its number and its nodes, ascending; nothing where no node is queued. All values that
-    /// are queued lie in `ceil(L / delta) + 1` buckets in a row then, from the one that is taken on, with L the greatest length of a leg.
-    pub fn take_bucket(&mut self, _snapshot: &Snapshot) -> Result<Option<(u64, Vec<u32>)>, RowError>
+    /// Takes the least bucket that is not empty: gives its number, or nothing where no node is queued, and puts its nodes, ascending, into
+    /// the given list in place of what was there. All values that are queued lie in `ceil(L / delta) + 1` buckets in a row then, from the one
+    /// that is taken on, with L the greatest length of a leg.
+    pub fn take_bucket(
+        &mut self,
+        _snapshot: &Snapshot,
+        taken: &mut Vec<u32>,
+    ) -> Result<Option<u64>, RowError>
         requires live { AreLive _snapshot.now (Q.entries self.old.buckets) }
         requires suited { IsSuited _snapshot.now (Q.width self.old.buckets) (Q.span self.old.buckets) }
-        ensures taken { IfOk result (λ taken. MatchOption taken (Q.entries self.old.buckets ≡ map.empty) (λ t. TakesLeast _snapshot.now.delta (Q.entries self.old.buckets) t.0 t.1.items (Q.entries self.new.buckets))) }
-        ensures live { IfOk result (λ taken. MatchOption taken (Q.entries self.new.buckets ≡ map.empty) (λ t. AreLiveFrom _snapshot.now t.0 (Q.entries self.old.buckets))) }
-        ensures window { IfOk result (λ taken. MatchOption taken (Unit {0}) (λ t. FitsFrom (Q.accepts self.new.buckets) _snapshot.now t.0)) }
+        ensures taken { IfOk result (λ bucket. MatchOption bucket (Q.entries self.old.buckets ≡ map.empty) (λ bucket. TakesLeast _snapshot.now.delta (Q.entries self.old.buckets) bucket taken.new.items (Q.entries self.new.buckets))) }
+        ensures live { IfOk result (λ bucket. MatchOption bucket (Q.entries self.new.buckets ≡ map.empty) (λ bucket. AreLiveFrom _snapshot.now bucket (Q.entries self.old.buckets))) }
+        ensures window { IfOk result (λ bucket. MatchOption bucket (Unit {0}) (λ bucket. FitsFrom (Q.accepts self.new.buckets) _snapshot.now bucket)) }
         ensures tentative { self.new.tentative ≡ self.old.tentative }
         ensures suited { IsSuited _snapshot.now (Q.width self.new.buckets) (Q.span self.new.buckets) }
     {
-        Ok(self.buckets.take_least()?)
+        Ok(self.buckets.take_least_into(taken)?)
     }
 
     /// Settles bucket after bucket until none is left.
@@ -101,27 +106,29 @@ impl<Q: BucketQueue> Search<Q> {
         ensures settled { OnOk result ((source : ℕ) → IsBetweenBuckets snapshot.now source self.old.tentative (Q.entries self.old.buckets) → IsBetweenBuckets snapshot.now source self.new.tentative map.empty) }
     {
         let mut remembered = Remembered::new(alloc, snapshot.nodes() as usize + 1)?;
-        'buckets: while let Some((bucket, taken)) = self.take_bucket(snapshot)? {
-            self.settle(alloc, snapshot, team, bucket, taken, &mut remembered)?;
+        let mut taken = Vec::new(alloc);
+        'buckets: while let Some(bucket) = self.take_bucket(snapshot, &mut taken)? {
+            self.settle(alloc, snapshot, team, bucket, &mut taken, &mut remembered)?;
         }
         Ok(())
     }
 
     /// Settles a bucket, given the nodes that were taken from it: relaxes light legs while nodes come back into it, and then once the
     /// heavy legs of all nodes that were taken. Nothing is left in the bucket.
+    /// The list is used for the nodes that come back.
     pub fn settle<T: Team>(
         &mut self,
         alloc: Global,
         snapshot: &Snapshot,
         team: &T,
         bucket: u64,
-        taken: Vec<u32>,
+        taken: &mut Vec<u32>,
         remembered: &mut Remembered,
     ) -> Result<(), RowError>
         requires search { IsSearch snapshot.now self.old.tentative (Q.entries self.old.buckets) bucket }
-        requires light { IsRelaxedBut snapshot.now Light self.old.tentative (Q.entries self.old.buckets) taken.items }
-        requires heavy { IsRelaxedBut snapshot.now Heavy self.old.tentative (Q.entries self.old.buckets) taken.items }
-        requires taken { AreInBucket self.old.tentative snapshot.now.delta bucket taken.items }
+        requires light { IsRelaxedBut snapshot.now Light self.old.tentative (Q.entries self.old.buckets) taken.old.items }
+        requires heavy { IsRelaxedBut snapshot.now Heavy self.old.tentative (Q.entries self.old.buckets) taken.old.items }
+        requires taken { AreInBucket self.old.tentative snapshot.now.delta bucket taken.old.items }
         requires emptied { IsBucketEmpty snapshot.now.delta bucket (Q.entries self.old.buckets) }
         requires none { remembered.old ≡ record { limit = snapshot.now.nodes + 1; nodes = [] } }
         requires live { AreLiveFrom snapshot.now bucket (Q.entries self.old.buckets) }
@@ -153,13 +160,13 @@ impl<Q: BucketQueue> Search<Q> {
         snapshot: &Snapshot,
         team: &T,
         bucket: u64,
-        taken: Vec<u32>,
+        nodes: &mut Vec<u32>,
         remembered: &mut Remembered,
     ) -> Result<(), RowError>
         requires search { IsSearch snapshot.now self.old.tentative (Q.entries self.old.buckets) bucket }
-        requires light { IsRelaxedBut snapshot.now Light self.old.tentative (Q.entries self.old.buckets) taken.items }
-        requires heavy { IsRelaxedBut snapshot.now Heavy self.old.tentative (Q.entries self.old.buckets) taken.items }
-        requires taken { AreInBucket self.old.tentative snapshot.now.delta bucket taken.items }
+        requires light { IsRelaxedBut snapshot.now Light self.old.tentative (Q.entries self.old.buckets) nodes.old.items }
+        requires heavy { IsRelaxedBut snapshot.now Heavy self.old.tentative (Q.entries self.old.buckets) nodes.old.items }
+        requires nodes { AreInBucket self.old.tentative snapshot.now.delta bucket nodes.old.items }
         requires emptied { IsBucketEmpty snapshot.now.delta bucket (Q.entries self.old.buckets) }
         requires none { remembered.old ≡ record { limit = snapshot.now.nodes + 1; nodes = [] } }
         requires live { AreLiveFrom snapshot.now bucket (Q.entries self.old.buckets) }
@@ -172,45 +179,44 @@ impl<Q: BucketQueue> Search<Q> {
         ensures live { OnOk result (AreLiveFrom snapshot.now bucket (Q.entries self.new.buckets)) }
         ensures suited { OnOk result (IsSuited snapshot.now (Q.width self.new.buckets) (Q.span self.new.buckets)) }
     {
-        let mut nodes = taken;
         'phases: while !nodes.is_empty() {
-            remembered.add_all(&nodes)?;
-            nodes = self.phase(alloc, snapshot, team, bucket, &nodes)?;
+            remembered.add_all(nodes)?;
+            self.phase(alloc, snapshot, team, bucket, nodes)?;
         }
         Ok(())
     }
 
-    /// Relaxes the light legs of nodes that were taken from a bucket, and takes out the nodes that came back into it, if any.
+    /// Relaxes the light legs of nodes that were taken from a bucket, and takes out the nodes that came back into it, if any,
+    /// in place of those.
     fn phase<T: Team>(
         &mut self,
         alloc: Global,
         snapshot: &Snapshot,
         team: &T,
         bucket: u64,
-        nodes: &[u32],
-    ) -> Result<Vec<u32>, RowError>
+        nodes: &mut Vec<u32>,
+    ) -> Result<(), RowError>
         requires search { IsSearch snapshot.now self.old.tentative (Q.entries self.old.buckets) bucket }
-        requires light { IsRelaxedBut snapshot.now Light self.old.tentative (Q.entries self.old.buckets) nodes.now }
-        requires nodes { AreInBucket self.old.tentative snapshot.now.delta bucket nodes.now }
+        requires light { IsRelaxedBut snapshot.now Light self.old.tentative (Q.entries self.old.buckets) nodes.old.items }
+        requires nodes { AreInBucket self.old.tentative snapshot.now.delta bucket nodes.old.items }
         requires emptied { IsBucketEmpty snapshot.now.delta bucket (Q.entries self.old.buckets) }
         requires live { AreLiveFrom snapshot.now bucket (Q.entries self.old.buckets) }
         requires window { FitsFrom (Q.accepts self.old.buckets) snapshot.now bucket }
         requires suited { IsSuited snapshot.now (Q.width self.old.buckets) (Q.span self.old.buckets) }
-        ensures phase { IfOk result (λ next. EndsPhase snapshot.now bucket self.old.tentative (Q.entries self.old.buckets) self.new.tentative (Q.entries self.new.buckets) next.items) }
+        ensures phase { OnOk result (EndsPhase snapshot.now bucket self.old.tentative (Q.entries self.old.buckets) self.new.tentative (Q.entries self.new.buckets) nodes.new.items) }
         ensures weight { OnOk result (weight (top_of snapshot.now) self.new.tentative (Q.entries self.new.buckets) ≤ weight (top_of snapshot.now) self.old.tentative (Q.entries self.old.buckets)) }
         ensures emptied { OnOk result (IsBucketEmpty snapshot.now.delta bucket (Q.entries self.new.buckets)) }
-        ensures falls { IfOk result (λ next. 0 < vec_len next → weight (top_of snapshot.now) self.new.tentative (Q.entries self.new.buckets) < weight (top_of snapshot.now) self.old.tentative (Q.entries self.old.buckets)) }
+        ensures falls { OnOk result (0 < vec_len nodes.new → weight (top_of snapshot.now) self.new.tentative (Q.entries self.new.buckets) < weight (top_of snapshot.now) self.old.tentative (Q.entries self.old.buckets)) }
         ensures window { OnOk result (FitsFrom (Q.accepts self.new.buckets) snapshot.now bucket) }
         ensures live { OnOk result (AreLiveFrom snapshot.now bucket (Q.entries self.new.buckets)) }
         ensures suited { OnOk result (IsSuited snapshot.now (Q.width self.new.buckets) (Q.span self.new.buckets)) }
     {
-        if !self.relax(alloc, snapshot, team, bucket, nodes, Part::Light)? {
-            return Ok(Vec::new(alloc));
+        if self.relax(alloc, snapshot, team, bucket, nodes, Part::Light)? {
+            self.buckets.take_least_into(nodes)?;
+        } else {
+            nodes.clear();
         }
-        match self.buckets.take_least()? {
-            Some((_, next)) => Ok(next),
-            None => Ok(Vec::new(alloc)),
-        }
+        Ok(())
     }
 
     /// Relaxes the legs of a part of the nodes, whose values are in the given bucket, and tells whether a node came into it.
@@ -242,8 +248,74 @@ impl<Q: BucketQueue> Search<Q> {
         ensures grouped { OnOk result (IsGrouped snapshot.now) }
     {
         let top = top(snapshot);
+        let came_back = self.ask(alloc, snapshot, team, top, bucket, nodes, part)?;
+        Ok(came_back)
+    }
+
+    /// Meets the requests that the nodes make, and tells whether a node came into the given bucket. The requests of one node alone need
+    /// neither a list nor a team.
+    #[inline(always)]
+    fn ask<T: Team>(
+        &mut self,
+        alloc: Global,
+        snapshot: &Snapshot,
+        team: &T,
+        top: u64,
+        bucket: u64,
+        nodes: &[u32],
+        part: Part,
+    ) -> Result<bool, RowError>
+        requires top { top ≡ top_of snapshot.now }
+        requires small { top ≤ 2 ^ 56 }
+        requires grouped { IsGrouped snapshot.now }
+        requires search { IsSearch snapshot.now self.old.tentative (Q.entries self.old.buckets) bucket }
+        requires nodes { AreInBucket self.old.tentative snapshot.now.delta bucket nodes.now }
+        requires window { FitsFrom (Q.accepts self.old.buckets) snapshot.now bucket }
+        requires width { Q.width self.old.buckets ≡ snapshot.now.delta }
+        ensures met { OnOk result (MeetsRequests top (requests_of snapshot.now nodes.now self.old.tentative part) self.old.tentative (Q.entries self.old.buckets) self.new.tentative (Q.entries self.new.buckets)) }
+        ensures came_back { IfOk result (λ came_back. OnTrue came_back (HasQueued self.new.tentative (Q.entries self.new.buckets) (Q.width self.old.buckets) bucket)) }
+        ensures none_came { IfOk result (λ came_back. OnFalse came_back (IsBucketEmpty (Q.width self.old.buckets) bucket (Q.entries self.old.buckets) → IsBucketEmpty (Q.width self.old.buckets) bucket (Q.entries self.new.buckets))) }
+        ensures weight { OnOk result (weight top self.new.tentative (Q.entries self.new.buckets) ≤ weight top self.old.tentative (Q.entries self.old.buckets)) }
+        ensures accepts { OnOk result ((v : ℕ) → Q.accepts self.old.buckets v → Q.accepts self.new.buckets v) }
+        ensures width { OnOk result (Q.width self.new.buckets ≡ Q.width self.old.buckets) }
+        ensures span { OnOk result (Q.span self.new.buckets ≡ Q.span self.old.buckets) }
+    {
+        if let [node] = nodes {
+            let value = self.tentative.get(*node).unwrap_or(0);
+            return self.meet_legs(top, bucket, value, snapshot.legs(*node, part));
+        }
         let requests = team.requests(alloc, snapshot, nodes, &self.tentative, part)?;
-        let came_back = self.meet(top, bucket, &requests)?;
+        self.meet(top, bucket, &requests)
+    }
+
+    /// Meets the requests of one node, whose value is given, leg by leg, and tells whether a node came into the given bucket.
+    #[inline(always)]
+    fn meet_legs(
+        &mut self,
+        top: u64,
+        bucket: u64,
+        value: u64,
+        legs: &[Leg],
+    ) -> Result<bool, RowError>
+        requires nodes { All (λ r. (1 ≤ r.0) × (r.0 < length self.old.tentative)) (requests_by value legs.now) }
+        requires fits { All (λ r. Q.accepts self.old.buckets r.1) (requests_by value legs.now) }
+        requires above { All (λ r. bucket ≤ r.1 / Q.width self.old.buckets) (requests_by value legs.now) }
+        requires small { (top ≤ 2 ^ 56) × (value < 2 ^ 56) }
+        ensures met { OnOk result (MeetsRequests top (requests_by value legs.now) self.old.tentative (Q.entries self.old.buckets) self.new.tentative (Q.entries self.new.buckets)) }
+        ensures came_back { IfOk result (λ came_back. OnTrue came_back (HasQueued self.new.tentative (Q.entries self.new.buckets) (Q.width self.old.buckets) bucket)) }
+        ensures none_came { IfOk result (λ came_back. OnFalse came_back (IsBucketEmpty (Q.width self.old.buckets) bucket (Q.entries self.old.buckets) → IsBucketEmpty (Q.width self.old.buckets) bucket (Q.entries self.new.buckets))) }
+        ensures weight { OnOk result (weight top self.new.tentative (Q.entries self.new.buckets) ≤ weight top self.old.tentative (Q.entries self.old.buckets)) }
+        ensures accepts { OnOk result ((v : ℕ) → Q.accepts self.old.buckets v → Q.accepts self.new.buckets v) }
+        ensures width { OnOk result (Q.width self.new.buckets ≡ Q.width self.old.buckets) }
+        ensures span { OnOk result (Q.span self.new.buckets ≡ Q.span self.old.buckets) }
+    {
+        let mut came_back = false;
+        for leg in legs {
+            let through = value + u64::from(leg.length);
+            if self.meet_one(top, bucket, leg.head, through)? {
+                came_back = true;
+            }
+        }
         Ok(came_back)
     }
 
@@ -261,16 +333,39 @@ impl<Q: BucketQueue> Search<Q> {
         ensures width { OnOk result (Q.width self.new.buckets ≡ Q.width self.old.buckets) }
         ensures span { OnOk result (Q.span self.new.buckets ≡ Q.span self.old.buckets) }
     {
-        let delta = u64::from(self.buckets.delta());
-        let start = bucket.saturating_mul(delta);
         let mut came_back = false;
         for request in requests {
             let (node, value) = *request;
-            if self.lower(top, node, value)? && is_near(start, value, delta) {
+            if self.meet_one(top, bucket, node, value)? {
                 came_back = true;
             }
         }
         Ok(came_back)
+    }
+
+    /// Meets one request, and tells whether its node came into the given bucket.
+    #[inline(always)]
+    fn meet_one(&mut self, top: u64, bucket: u64, node: u32, value: u64) -> Result<bool, RowError>
+        requires node { (1 ≤ node) × (node < length self.old.tentative) }
+        requires fits { Q.accepts self.old.buckets value }
+        requires above { bucket ≤ value / Q.width self.old.buckets }
+        requires small { top ≤ 2 ^ 56 }
+        ensures met { OnOk result ((requests : List (ℕ × ℕ)) (first : List (Option ℕ)) (queue : Entries) → MeetsRequests top requests first queue self.old.tentative (Q.entries self.old.buckets) → MeetsRequests top (requests ++ (node, value) ∷ []) first queue self.new.tentative (Q.entries self.new.buckets)) }
+        ensures came_back { IfOk result (λ came_back. OnTrue came_back (HasQueued self.new.tentative (Q.entries self.new.buckets) (Q.width self.old.buckets) bucket)) }
+        ensures stays { OnOk result (HasQueued self.old.tentative (Q.entries self.old.buckets) (Q.width self.old.buckets) bucket → HasQueued self.new.tentative (Q.entries self.new.buckets) (Q.width self.old.buckets) bucket) }
+        ensures none_came { IfOk result (λ came_back. OnFalse came_back (IsBucketEmpty (Q.width self.old.buckets) bucket (Q.entries self.old.buckets) → IsBucketEmpty (Q.width self.old.buckets) bucket (Q.entries self.new.buckets))) }
+        ensures weight { OnOk result (weight top self.new.tentative (Q.entries self.new.buckets) ≤ weight top self.old.tentative (Q.entries self.old.buckets)) }
+        ensures accepts { OnOk result ((v : ℕ) → Q.accepts self.old.buckets v → Q.accepts self.new.buckets v) }
+        ensures width { OnOk result (Q.width self.new.buckets ≡ Q.width self.old.buckets) }
+        ensures span { OnOk result (Q.span self.new.buckets ≡ Q.span self.old.buckets) }
+        ensures places { OnOk result (length self.new.tentative ≡ length self.old.tentative) }
+    {
+        if !self.lower(top, node, value)? {
+            return Ok(false);
+        }
+        let delta = u64::from(self.buckets.delta());
+        let start = bucket.saturating_mul(delta);
+        Ok(is_near(start, value, delta))
     }
 
     /// Lowers a node's value to the given one, if that is below `top` and the value so far, and queues the node. Tells whether it did.

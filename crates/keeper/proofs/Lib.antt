@@ -5,6 +5,6 @@ pub mod Held
 pub mod LifeKept
 pub mod LivesInRun
 pub mod Runs
-pub mod Shown
+pub mod Answering
 pub mod Stopped
 pub mod Ticketed

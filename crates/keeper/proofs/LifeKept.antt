@@ -1,6 +1,6 @@
 -- What each call does to a life of a rehearsal.
 use Rattle.std.proofs.Common.{◌≡◌, ⊎_elim, ℕ, ◌-◌, ◌≤◌, Bool, true, false, cond, eqb, take, Option, Some, None, Result, Ok, Err, refl, sym, ◌∙◌, ap, subst, arith, eq-eqb}
-use Rattle.std.specs.Prelude.{IfSome, is_some, ◌||◌, ◌==◌, nat_lt}
+use Rattle.std.specs.Prelude.{IfSome, OnOk, OnErr, is_some, ◌||◌, ◌==◌, nat_lt}
 use Rattle.std.proofs.lemmas.List.{take-take}
 use Rattle.roadnet.specs.declared.commands.Command.{Command}
 use Rattle.roadnet.specs.declared.refusals.Refusal.{Refusal}
@@ -80,3 +80,8 @@ given_back old mid new task step gave =
 pub not_refused : (m : Machine) (opened : ℕ) (view : ℕ × Net) (refusal : Refusal) → IsLife m opened (Some view) → RefusesView m view.0 view.1 refusal → ⊥
 not_refused m opened view refusal k refuses =
     ⊎_elim (λ none. let never : ◌≡◌ {A = Option ℕ} (Some view.0) None = sym k.task_is ∙ none.1 in cc) (λ other. other.2 (k.task_is, k.task_network)) refuses
+
+-- the width of the view that is shown, behind a publishing: that of the view where it was shown, else as it was
+pub width_behind : {T E : Type 0} (r : Result T E) (new old given w : ℕ) → OnOk r (new ≡ given) → OnErr r (new ≡ old) → old ≡ w → given ≡ w → new ≡ w
+width_behind (Ok v) new old given w shown same was is = shown ∙ is
+width_behind (Err e) new old given w shown same was is = same ∙ was

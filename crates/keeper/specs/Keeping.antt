@@ -10,6 +10,7 @@ use Rattle.storefile.specs.StoreFile.{StandsTidyFor}
 use Rattle.storefile.specs.Standing.{Standing}
 use Rattle.store.specs.declared.store.Store.{Store}
 use Rattle.store.specs.Committing.{StandsTidily}
+use Rattle.store.specs.Durable.{told_by}
 use Rattle.machine.specs.Machine.{Sizes, Machine}
 use Rattle.machine.specs.Lives.{HoldsDurable}
 
@@ -35,13 +36,27 @@ machine_of store base opened accepted shown broken written task = record {
   checkpoint = None;
 }
 
--- the machine, the disk, what the store says of the disk's content, and how the shown view searches
+-- what a keeper was given: its store's disk, and what the store said of the disk's content then
+pub record Given (D : Type 0) : Type 0 where
+  pub disk : D
+  pub standing : Standing
+
+-- what a keeper of this store is given
+abbrev pub given_of : {D : Type 0} {disk : Ghosts D} → Store D disk → Given D
+given_of store = record { disk = store.disk; standing = told_by store }
+
+-- It came tidy: the disk keeps the disk model, and its content stood for what the store said, tidily.
+abbrev pub CameTidy : {D : Type 0} → (D → Type 0) → (D → List ℕ) → Given D → Type 0
+CameTidy honest content given = honest given.disk × StandsTidily (content given.disk) given.standing
+
+-- the machine, the disk, what the store says of the disk's content, how the shown view searches, and what the keeper was given
 pub record Keeping (D : Type 0) : Type 0 where
   pub machine : Machine
   pub disk : D
   pub standing : Standing
   -- the width of the buckets of the searches in the view that is shown
   pub width : ℕ
+  pub given : Given D
 
 -- The content has the machine's number of journal pages and stands, tidy, for what is durable, with the commands in flight or without.
 abbrev pub IsDurableIn : Machine → List ℕ → Type 0

@@ -2,20 +2,20 @@ ghost use Rattle.std.specs.Prelude.{◌≡◌, Err};
 ghost use Rattle.std.specs.Bool.{Decides};
 ghost use Rattle.roadnet.specs.declared.refusals.Refusal.TheVariants.{Device as device};
 
+use crate::shown::Shown;
 use crate::tasks::Task;
 use disk::Disk;
 use roadnet::{Command, Network, Refusal};
-use rows::{RowCache, View};
 use std::alloc::Global;
 use std::marker::Model;
 use std::snapshot::Snapshot;
-use std::sync::Arc;
 use store::Store;
 
 /// The keeper of a store: the commands accepted since it was opened, of which the first are durable, and the view that answers are given
 /// from. It is plain data: whoever has it alone may call it.
 ///
-/// It takes the network of the store, that of the accepted commands, and 24 bytes a command of this life.
+/// It takes the network of the store, that of the accepted commands, 24 bytes a command of this life, and 8 bytes a node for each of up to
+/// 16 rows.
 #[derive(Drop)]
 pub struct Keeper<D: Disk> {
     pub(crate) alloc: Global,
@@ -26,32 +26,35 @@ pub struct Keeper<D: Disk> {
     /// The commands accepted since, in order, and the network after them.
     pub(crate) history: Vec<Command>,
     pub(crate) network: Network,
-    pub(crate) view: Arc<View>,
-    pub(crate) cache: RowCache,
+    pub(crate) shown: Shown,
     pub(crate) task: Option<Task>,
     /// A write failed: the store takes no more of them before it is opened again.
     pub(crate) broken: bool,
     /// How many commands the last write had: where it failed, they are in flight.
     pub(crate) written: Snapshot<usize>,
+    /// The store that the keeper was made of: where it came tidy, the disk holds what is durable from then on.
+    pub(crate) given: Snapshot<Store<D>>,
 }
 
 impl<D: Disk> Model for Keeper<D> {
     ghost use Rattle.std.specs.Prelude.{◌≡◌, option_map};
     ghost use Rattle.store.specs.Durable.{told_by};
     ghost use Rattle.machine.specs.Keeping.{IsKept};
-    ghost use Rattle.keeper.specs.Keeping.{Keeping, machine_of};
+    ghost use Rattle.keeper.specs.Keeping.{Keeping, CameTidy, Holds, given_of, machine_of};
 
     ghost Value = { Keeping D };
 
     ghost view = { λ k. record {
-      machine = machine_of k.store k.base.value k.opened k.history.items k.view.value.version k.broken k.written.value (option_map (λ t. t.version) k.task);
+      machine = machine_of k.store k.base.value k.opened k.history.items k.shown.version k.broken k.written.value (option_map (λ t. t.version) k.task);
       disk = k.store.disk;
       standing = told_by k.store;
-      width = k.view.value.delta;
+      width = k.shown.delta;
+      given = given_of k.given.value;
     } };
 
-    ghost invariant = { λ k. IsKept (machine_of k.store k.base.value k.opened k.history.items k.view.value.version k.broken k.written.value (option_map (λ t. t.version) k.task)) k.network k.store.network k.view.value.network (option_map (λ t. (t.version, t.network.value)) k.task)
-        × (k.broken ≡ k.store.broken) };
+    ghost invariant = { λ k. IsKept (machine_of k.store k.base.value k.opened k.history.items k.shown.version k.broken k.written.value (option_map (λ t. t.version) k.task)) k.network k.store.network k.shown.network (option_map (λ t. (t.version, t.network.value)) k.task)
+        × (k.broken ≡ k.store.broken)
+        × (CameTidy D.honest D.content (given_of k.given.value) → D.honest k.store.disk × Holds (D.content k.store.disk) (D.left k.store.disk) (machine_of k.store k.base.value k.opened k.history.items k.shown.version k.broken k.written.value (option_map (λ t. t.version) k.task)) (told_by k.store)) };
 }
 
 /// Whether the disk failed in a write that told this.

@@ -10,6 +10,7 @@ mod lives;
 mod numbers;
 mod rehearsing;
 mod same;
+mod shown;
 mod starting;
 mod submitting;
 mod tasks;

@@ -20,11 +20,12 @@ use crate::keepers::Keeper;
 use crate::tasks::Task;
 use disk::{Pick, Stoppable};
 use machine::{Event, PAGES_OF_STEP, Replied, Writing};
-use relax::Solo;
+use relax::{CHUNK, Crew};
 use roadnet::{Command, OutOfMemory, Refusal};
 use rows::{Query, View};
 use std::alloc::Global;
 use std::sync::Arc;
+use std::thread::Threads;
 use store::{Part, Store};
 
 /// A keeper from an opening of its store to the next stop, and the view that is kept aside.
@@ -35,6 +36,11 @@ pub(crate) struct Life<D: Stoppable> {
     pub(crate) opened: u64,
     /// The view of the task that is out.
     pub(crate) aside: Option<Arc<View>>,
+    /// The width of the buckets that was given, if one was: it is that of each view.
+    pub(crate) delta: Option<u32>,
+    ghost width: { ForSome delta IsWidth },
+    ghost shown: { (w : ℕ) → delta ≡ Some w → keeper.width ≡ w },
+    ghost built: { (w : ℕ) → delta ≡ Some w → ForSome aside (λ view. view.value.delta ≡ w) },
 }
 
 /// The reply to a flush or a checkpoint.
@@ -48,7 +54,12 @@ pub(crate) fn told_version(written: &Result<u64, Refusal>) -> Replied
 }
 
 /// The view of a task.
-fn view_of(alloc: Global, task: &Task, delta: Option<u32>) -> Result<Arc<View>, OutOfMemory>
+fn view_of<R: Threads>(
+    rt: &R,
+    alloc: Global,
+    task: &Task,
+    delta: Option<u32>,
+) -> Result<Arc<View>, OutOfMemory>
     requires { ForSome delta IsWidth }
     ensures version { IfOk result (λ view. view.value.version ≡ task.now.version) }
     ensures network { IfOk result (λ view. view.value.network ≡ task.now.network.value) }
@@ -57,7 +68,7 @@ fn view_of(alloc: Global, task: &Task, delta: Option<u32>) -> Result<Arc<View>, 
     let Ok(network) = task.network.copy() else {
         return Err(OutOfMemory);
     };
-    let Ok(view) = View::build(alloc, task.version, network, delta, &Solo) else {
+    let Ok(view) = View::build(alloc, task.version, network, delta, &Crew::new(rt, CHUNK)) else {
         return Err(OutOfMemory);
     };
     match Arc::new(alloc, view) {
@@ -68,7 +79,8 @@ fn view_of(alloc: Global, task: &Task, delta: Option<u32>) -> Result<Arc<View>, 
 
 impl<D: Stoppable> Life<D> {
     /// The life that an opened store begins.
-    pub(crate) fn begin(
+    pub(crate) fn begin<R: Threads>(
+        rt: &R,
         alloc: Global,
         store: Store<D>,
         delta: Option<u32>,
@@ -79,14 +91,16 @@ impl<D: Stoppable> Life<D> {
         ensures life { IfOk result (λ life. IsLife life.keeper.machine life.opened (option_map (λ view. (view.value.version, view.value.network)) life.aside)) }
         ensures disk { IfOk result (λ life. life.keeper.disk ≡ store.disk) }
         ensures holds { D.honest store.disk → StandsTidily (D.content store.disk) (told_by store) → IfOk result (λ life. Holds (D.content life.keeper.disk) (D.left life.keeper.disk) life.keeper.machine life.keeper.standing) }
+        ensures delta { IfOk result (λ life. life.delta ≡ delta) }
         ensures handed_back { IfErr result (λ refused. refused ≡ store) }
     {
         let opened = store.version();
-        match Keeper::new(alloc, store, delta) {
+        match Keeper::new(rt, alloc, store, delta) {
             Ok(keeper) => Ok(Life {
                 keeper,
                 opened,
                 aside: None,
+                delta,
             }),
             Err((_, store)) => Err(store),
         }
@@ -105,6 +119,7 @@ impl<D: Stoppable> Life<D> {
         requires life { IsLife self.old.keeper.machine self.old.opened (option_map (λ view. (view.value.version, view.value.network)) self.old.aside) }
         ensures does { Does {P = StopPick} self.old.keeper.machine (Submit command) (result ∷ []) self.new.keeper.machine }
         ensures life { IsLife self.new.keeper.machine self.new.opened (option_map (λ view. (view.value.version, view.value.network)) self.new.aside) }
+        ensures delta { self.new.delta ≡ self.old.delta }
         ensures holds { D.honest self.old.keeper.disk → Holds (D.content self.old.keeper.disk) (D.left self.old.keeper.disk) self.old.keeper.machine self.old.keeper.standing → Holds (D.content self.new.keeper.disk) (D.left self.new.keeper.disk) self.new.keeper.machine self.new.keeper.standing }
         ensures honest { D.honest self.old.keeper.disk → D.honest self.new.keeper.disk }
         ensures failures { D.failures self.new.keeper.disk ≡ D.failures self.old.keeper.disk }
@@ -122,6 +137,7 @@ impl<D: Stoppable> Life<D> {
         requires life { IsLife self.old.keeper.machine self.old.opened (option_map (λ view. (view.value.version, view.value.network)) self.old.aside) }
         ensures does { Writes self.old.keeper.machine writing result self.new.keeper.machine }
         ensures life { IsLife self.new.keeper.machine self.new.opened (option_map (λ view. (view.value.version, view.value.network)) self.new.aside) }
+        ensures delta { self.new.delta ≡ self.old.delta }
         ensures holds { D.honest self.old.keeper.disk → Holds (D.content self.old.keeper.disk) (D.left self.old.keeper.disk) self.old.keeper.machine self.old.keeper.standing → Holds (D.content self.new.keeper.disk) (D.left self.new.keeper.disk) self.new.keeper.machine self.new.keeper.standing }
         ensures honest { D.honest self.old.keeper.disk → D.honest self.new.keeper.disk }
         ensures counted { D.failures self.new.keeper.disk ≡ failures_told result (D.failures self.old.keeper.disk) }
@@ -137,6 +153,7 @@ impl<D: Stoppable> Life<D> {
         requires life { IsLife self.old.keeper.machine self.old.opened (option_map (λ view. (view.value.version, view.value.network)) self.old.aside) }
         ensures does { EndsCheckpoint self.old.keeper.machine self.old.keeper.machine.sizes.slot_pages result self.new.keeper.machine }
         ensures life { IsLife self.new.keeper.machine self.new.opened (option_map (λ view. (view.value.version, view.value.network)) self.new.aside) }
+        ensures delta { self.new.delta ≡ self.old.delta }
         ensures holds { D.honest self.old.keeper.disk → Holds (D.content self.old.keeper.disk) (D.left self.old.keeper.disk) self.old.keeper.machine self.old.keeper.standing → Holds (D.content self.new.keeper.disk) (D.left self.new.keeper.disk) self.new.keeper.machine self.new.keeper.standing }
         ensures honest { D.honest self.old.keeper.disk → D.honest self.new.keeper.disk }
         ensures counted { D.failures self.new.keeper.disk ≡ failures_told result (D.failures self.old.keeper.disk) }
@@ -149,12 +166,11 @@ impl<D: Stoppable> Life<D> {
     }
 
     /// A task is taken, and its view is built and kept aside. A task whose view finds no memory is given up.
-    pub(crate) fn task(&mut self, alloc: Global, delta: Option<u32>) -> Replied
+    pub(crate) fn task<R: Threads>(&mut self, rt: &R, alloc: Global) -> Replied
         requires life { IsLife self.old.keeper.machine self.old.opened (option_map (λ view. (view.value.version, view.value.network)) self.old.aside) }
-        requires width { ForSome delta IsWidth }
         ensures does { Does {P = StopPick} self.old.keeper.machine TaskEvent (result ∷ []) self.new.keeper.machine }
         ensures life { IsLife self.new.keeper.machine self.new.opened (option_map (λ view. (view.value.version, view.value.network)) self.new.aside) }
-        ensures width { (version width : ℕ) → result ≡ TaskOf version → delta ≡ Some width → IfSome self.new.aside (λ view. view.value.delta ≡ width) }
+        ensures delta { self.new.delta ≡ self.old.delta }
         ensures holds { D.honest self.old.keeper.disk → Holds (D.content self.old.keeper.disk) (D.left self.old.keeper.disk) self.old.keeper.machine self.old.keeper.standing → Holds (D.content self.new.keeper.disk) (D.left self.new.keeper.disk) self.new.keeper.machine self.new.keeper.standing }
         ensures honest { D.honest self.old.keeper.disk → D.honest self.new.keeper.disk }
         ensures failures { D.failures self.new.keeper.disk ≡ D.failures self.old.keeper.disk }
@@ -173,7 +189,7 @@ impl<D: Stoppable> Life<D> {
             }
         };
         let version = task.version;
-        match view_of(alloc, &task, delta) {
+        match view_of(rt, alloc, &task, self.delta) {
             Ok(view) => {
                 self.aside = Some(view);
                 Replied::Task { version }
@@ -192,6 +208,7 @@ impl<D: Stoppable> Life<D> {
         requires life { IsLife self.old.keeper.machine self.old.opened (option_map (λ view. (view.value.version, view.value.network)) self.old.aside) }
         ensures does { Does {P = StopPick} self.old.keeper.machine Publish (result ∷ []) self.new.keeper.machine }
         ensures life { IsLife self.new.keeper.machine self.new.opened (option_map (λ view. (view.value.version, view.value.network)) self.new.aside) }
+        ensures delta { self.new.delta ≡ self.old.delta }
         ensures holds { D.honest self.old.keeper.disk → Holds (D.content self.old.keeper.disk) (D.left self.old.keeper.disk) self.old.keeper.machine self.old.keeper.standing → Holds (D.content self.new.keeper.disk) (D.left self.new.keeper.disk) self.new.keeper.machine self.new.keeper.standing }
         ensures honest { D.honest self.old.keeper.disk → D.honest self.new.keeper.disk }
         ensures failures { D.failures self.new.keeper.disk ≡ D.failures self.old.keeper.disk }
@@ -208,15 +225,16 @@ impl<D: Stoppable> Life<D> {
     }
 
     /// A query is answered from the view that is shown.
-    pub(crate) fn ask(&mut self, query: Query) -> Replied
+    pub(crate) fn ask<R: Threads>(&mut self, rt: &R, query: Query) -> Replied
         requires life { IsLife self.old.keeper.machine self.old.opened (option_map (λ view. (view.value.version, view.value.network)) self.old.aside) }
         ensures does { Does {P = StopPick} self.old.keeper.machine (Ask query) (result ∷ []) self.new.keeper.machine }
         ensures life { IsLife self.new.keeper.machine self.new.opened (option_map (λ view. (view.value.version, view.value.network)) self.new.aside) }
+        ensures delta { self.new.delta ≡ self.old.delta }
         ensures holds { D.honest self.old.keeper.disk → Holds (D.content self.old.keeper.disk) (D.left self.old.keeper.disk) self.old.keeper.machine self.old.keeper.standing → Holds (D.content self.new.keeper.disk) (D.left self.new.keeper.disk) self.new.keeper.machine self.new.keeper.standing }
         ensures honest { D.honest self.old.keeper.disk → D.honest self.new.keeper.disk }
         ensures failures { D.failures self.new.keeper.disk ≡ D.failures self.old.keeper.disk }
     {
-        match self.keeper.ask(query) {
+        match self.keeper.ask(rt, query) {
             Ok(answer) => Replied::Answered { query, answer },
             Err(_) => Replied::Refused {
                 refusal: Refusal::OutOfMemory,
@@ -231,6 +249,7 @@ impl<D: Stoppable> Life<D> {
         ensures machine { self.new.keeper.machine ≡ self.old.keeper.machine }
         ensures opened { self.new.opened ≡ self.old.opened }
         ensures aside { self.new.aside ≡ self.old.aside }
+        ensures delta { self.new.delta ≡ self.old.delta }
         ensures holds { Holds (D.content self.old.keeper.disk) (D.left self.old.keeper.disk) self.old.keeper.machine self.old.keeper.standing → Holds (D.content self.new.keeper.disk) (D.left self.new.keeper.disk) self.new.keeper.machine self.new.keeper.standing }
         ensures honest { D.honest self.old.keeper.disk → D.honest self.new.keeper.disk }
         ensures failures { D.failures self.new.keeper.disk ≡ D.failures self.old.keeper.disk }
@@ -241,17 +260,17 @@ impl<D: Stoppable> Life<D> {
     }
 
     /// The reply to an event that is no stop.
-    pub(crate) fn reply(
+    pub(crate) fn reply<R: Threads>(
         &mut self,
+        rt: &R,
         alloc: Global,
-        delta: Option<u32>,
         event: &Event<Pick>,
     ) -> Replied
         requires life { IsLife self.old.keeper.machine self.old.opened (option_map (λ view. (view.value.version, view.value.network)) self.old.aside) }
-        requires width { ForSome delta IsWidth }
         requires no_stop { is_stop event.now ≡ false }
         ensures does { Does self.old.keeper.machine event.now (result ∷ []) self.new.keeper.machine }
         ensures life { IsLife self.new.keeper.machine self.new.opened (option_map (λ view. (view.value.version, view.value.network)) self.new.aside) }
+        ensures delta { self.new.delta ≡ self.old.delta }
         ensures holds { D.honest self.old.keeper.disk → Holds (D.content self.old.keeper.disk) (D.left self.old.keeper.disk) self.old.keeper.machine self.old.keeper.standing → Holds (D.content self.new.keeper.disk) (D.left self.new.keeper.disk) self.new.keeper.machine self.new.keeper.standing }
         ensures honest { D.honest self.old.keeper.disk → D.honest self.new.keeper.disk }
         ensures counted { D.failures self.new.keeper.disk ≡ failures_after event.now (result ∷ []) (D.failures self.old.keeper.disk) }
@@ -260,9 +279,9 @@ impl<D: Stoppable> Life<D> {
             Event::Submit { command } => self.submit(*command),
             Event::Flush => told_version(&self.write(Writing::Flush)),
             Event::Checkpoint => told_version(&self.write(Writing::Checkpoint)),
-            Event::Task => self.task(alloc, delta),
+            Event::Task => self.task(rt, alloc),
             Event::Publish => self.publish(),
-            Event::Ask { query } => self.ask(*query),
+            Event::Ask { query } => self.ask(rt, *query),
             _ => unreachable!(),
         }
     }

@@ -2,6 +2,7 @@
 ghost use Rattle.std.specs.Prelude.{◌≡◌, Some};
 ghost use Rattle.machine.specs.Machine.{network_at, pending};
 ghost use Rattle.machine.specs.Calls.{IsTicketOf, receipt_for};
+ghost use Rattle.keeper.specs.Keeping.{CameTidy, Holds};
 
 use crate::keepers::Keeper;
 use disk::Disk;
@@ -18,9 +19,12 @@ impl<D: Disk> Keeper<D> {
         self.opened + self.history.len() as u64 - self.store.version()
     }
 
-    /// The versions up to this one are durable.
+    /// The versions up to this one are durable. Where the keeper's store came tidy, over a disk that keeps the disk model, the disk holds
+    /// them, whatever was called since: that is a fact of the keeper, so who shares one under a lock needs no premise.
     pub fn durable(&self) -> u64
-        ensures { result ≡ self.now.machine.durable }
+        ensures version { result ≡ self.now.machine.durable }
+        ensures honest { CameTidy D.honest D.content self.now.given → D.honest self.now.disk }
+        ensures holds { CameTidy D.honest D.content self.now.given → Holds (D.content self.now.disk) (D.left self.now.disk) self.now.machine self.now.standing }
     {
         self.store.version()
     }
@@ -29,7 +33,7 @@ impl<D: Disk> Keeper<D> {
     pub fn shown(&self) -> u64
         ensures { result ≡ self.now.machine.shown }
     {
-        self.view.version()
+        self.shown.version()
     }
 
     /// Whether a write failed: nothing is written before the store is opened again.
@@ -45,7 +49,7 @@ impl<D: Disk> Keeper<D> {
         ensures network { network_at self.now.machine self.now.machine.shown ≡ Some result.now.value.network }
         ensures width { result.now.value.delta ≡ self.now.width }
     {
-        &self.view
+        self.shown.view()
     }
 
     /// The commands accepted in this life, in order.

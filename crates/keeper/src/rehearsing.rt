@@ -27,6 +27,7 @@ use disk::{Disk, Pick, Stoppable};
 use machine::{Event, Replied, Writing};
 use roadnet::{Command, Refusal};
 use std::alloc::Global;
+use std::thread::Threads;
 use store::{Store, open};
 
 /// How many replies an event has at most.
@@ -45,6 +46,8 @@ pub struct Rehearsal<D: Disk> {
     pub ended: Option<Refusal>,
     /// The disk, as the run left it.
     pub disk: D,
+    /// The width of the buckets that each view was built with, where one was given.
+    pub delta: Option<u32>,
 }
 
 /// A run that goes on.
@@ -68,6 +71,9 @@ struct Halted<D: Stoppable> {
     opened: u64,
     durable: u64,
     disk: D,
+    /// The width that was given, for the lives that follow.
+    delta: Option<u32>,
+    ghost width: { ForSome delta IsWidth },
 }
 
 /// Puts commands behind a history that has room for them.
@@ -112,12 +118,18 @@ fn tell_write(replies: &mut Vec<Replied>, came: bool, written: &Result<u64, Refu
 
 /// Opens the store that was stopped on this disk, and begins a life with it. The disk is handed back where the store isn't opened, or its
 /// first view not built.
-fn reopen<D: Stoppable>(alloc: Global, disk: D, delta: Option<u32>) -> Result<Life<D>, (Refusal, D)>
+fn reopen<R: Threads, D: Stoppable>(
+    rt: &R,
+    alloc: Global,
+    disk: D,
+    delta: Option<u32>,
+) -> Result<Life<D>, (Refusal, D)>
     requires width { ForSome delta IsWidth }
     ensures begins { (m : Machine) → IsState m → HasSlotOfNetwork m → D.honest disk → IsDurableIn m (D.content disk) → IfOk result (λ life. BeginsAfter m life.keeper.machine) }
     ensures holds { (m : Machine) → IsState m → HasSlotOfNetwork m → D.honest disk → IsDurableIn m (D.content disk) → IfOk result (λ life. Holds (D.content life.keeper.disk) (D.left life.keeper.disk) life.keeper.machine life.keeper.standing) }
     ensures life { IfOk result (λ life. IsLife life.keeper.machine life.opened (option_map (λ view. (view.value.version, view.value.network)) life.aside)) }
     ensures empty { IfOk result (λ life. life.keeper.machine.accepted ≡ []) }
+    ensures delta { IfOk result (λ life. life.delta ≡ delta) }
     ensures honest { D.honest disk → IfOk result (λ life. D.honest life.keeper.disk) }
     ensures passing { D.honest disk → ((c : List ℕ) → D.left disk c → StandsForSome c) → IfErr result (λ refused. IsPassing refused.0) }
     ensures among { D.honest disk → IfErr result (λ refused. AreAmong (D.left refused.1) (D.left disk)) }
@@ -128,7 +140,7 @@ fn reopen<D: Stoppable>(alloc: Global, disk: D, delta: Option<u32>) -> Result<Li
         Ok(store) => store,
         Err(refused) => return Err(refused),
     };
-    match Life::begin(alloc, store, delta) {
+    match Life::begin(rt, alloc, store, delta) {
         Ok(life) => Ok(life),
         Err(store) => Err((Refusal::OutOfMemory, store.close())),
     }
@@ -136,8 +148,7 @@ fn reopen<D: Stoppable>(alloc: Global, disk: D, delta: Option<u32>) -> Result<Li
 
 impl<D: Stoppable> Halted<D> {
     /// Opens what the stop left, and begins the next life; or ends the run, where the store isn't opened or its first view not built.
-    fn resume(self, alloc: Global, delta: Option<u32>) -> Result<Run<D>, Rehearsal<D>>
-        requires width { ForSome delta IsWidth }
+    fn resume<R: Threads>(self, rt: &R, alloc: Global) -> Result<Run<D>, Rehearsal<D>>
         requires opened { self.opened ≤ self.durable }
         requires durable { self.durable ≤ self.opened + vec_len self.commands }
         requires room { vec_len self.history + vec_len self.commands ≤ vec_capacity self.history }
@@ -152,6 +163,7 @@ impl<D: Stoppable> Halted<D> {
         ensures ended { (m : Machine) → D.honest self.disk → HasHalted m self.commands.items self.opened self.durable (D.content self.disk) (D.left self.disk) → IfErr result (λ ended. (ended.ended ≡ Some out_of_memory) ⊎ (ended.ended ≡ Some device)) }
         ensures left { (m : Machine) → D.honest self.disk → HasHalted m self.commands.items self.opened self.durable (D.content self.disk) (D.left self.disk) → IfErr result (λ ended. (c : List ℕ) → D.left ended.disk c → IsDurableIn m c) }
         ensures counted { MatchResult result (λ run. D.failures run.life.keeper.disk ≡ D.failures self.disk) (λ ended. D.failures ended.disk ≡ failures_at_end ended.ended (D.failures self.disk)) }
+        ensures delta { MatchResult result (λ run. run.life.delta ≡ self.delta) (λ ended. ended.delta ≡ self.delta) }
         ensures stopped { IfErr result (λ ended. ended.replies.items ≡ self.replies.items ++ Stopped ∷ []) }
         ensures durable { IfErr result (λ ended. ended.history.items ≡ self.history.items ++ take (self.durable - self.opened) self.commands.items) }
     {
@@ -162,8 +174,9 @@ impl<D: Stoppable> Halted<D> {
             opened,
             durable,
             disk,
+            delta,
         } = self;
-        match reopen(alloc, disk, delta) {
+        match reopen(rt, alloc, disk, delta) {
             Ok(life) => {
                 let kept = (life.opened.saturating_sub(opened) as usize).min(commands.len());
                 put_behind(&mut history, &commands[..kept]);
@@ -185,6 +198,7 @@ impl<D: Stoppable> Halted<D> {
                     replies,
                     ended: Some(refusal),
                     disk,
+                    delta,
                 })
             }
         }
@@ -220,6 +234,7 @@ impl<D: Stoppable> Run<D> {
         ensures commands { result.0.commands.items ≡ self.life.keeper.machine.accepted }
         ensures opened { result.0.opened ≡ self.life.keeper.machine.base_version }
         ensures durable { result.0.durable ≡ self.life.keeper.machine.durable }
+        ensures delta { result.0.delta ≡ self.life.delta }
         ensures halted { D.honest self.life.keeper.disk → Holds (D.content self.life.keeper.disk) (D.left self.life.keeper.disk) self.life.keeper.machine self.life.keeper.standing → HasHalted self.life.keeper.machine result.0.commands.items result.0.opened result.0.durable (D.content result.0.disk) (D.left result.0.disk) }
         ensures honest { D.honest self.life.keeper.disk → D.honest result.0.disk }
         ensures failures { D.failures result.0.disk ≡ D.failures self.life.keeper.disk }
@@ -231,7 +246,12 @@ impl<D: Stoppable> Run<D> {
             replies,
             life,
         } = self;
-        let Life { keeper, opened, .. } = life;
+        let Life {
+            keeper,
+            opened,
+            delta,
+            ..
+        } = life;
         let durable = keeper.durable();
         let (commands, mut disk) = keeper.close();
         let came = stop_disk(&mut disk, picks);
@@ -242,18 +262,19 @@ impl<D: Stoppable> Run<D> {
             opened,
             durable,
             disk,
+            delta,
         };
         (halted, came)
     }
 
     /// A stop between two calls.
-    fn stop(self, alloc: Global, delta: Option<u32>) -> Result<Run<D>, Rehearsal<D>>
+    fn stop<R: Threads>(self, rt: &R, alloc: Global) -> Result<Run<D>, Rehearsal<D>>
         requires life { IsLife self.life.keeper.machine self.life.opened (option_map (λ view. (view.value.version, view.value.network)) self.life.aside) }
-        requires width { ForSome delta IsWidth }
         requires room { vec_len self.history + length self.life.keeper.machine.accepted + 1 ≤ vec_capacity self.history }
         requires reply { vec_len self.replies + 2 ≤ vec_capacity self.replies }
         ensures life { IfOk result (λ run. IsLife run.life.keeper.machine run.life.opened (option_map (λ view. (view.value.version, view.value.network)) run.life.aside)) }
         ensures room { IfOk result (λ run. vec_len run.history + length run.life.keeper.machine.accepted ≤ vec_capacity run.history) }
+        ensures delta { MatchResult result (λ run. run.life.delta ≡ self.life.delta) (λ ended. ended.delta ≡ self.life.delta) }
         // It has run this event too.
         ensures goes { (first : First) (done : List (ScriptEvent StopPick)) → IsGoing D.honest D.content D.left first done self.replies.items self.history.items self.life.keeper → IfOk result (λ run. IsGoing D.honest D.content D.left first (done ++ Stop ∷ []) run.replies.items run.history.items run.life.keeper) }
         // It has ended with the event.
@@ -262,24 +283,24 @@ impl<D: Stoppable> Run<D> {
         ensures counted { (before : ℕ) (done : List (ScriptEvent StopPick)) → FailsAsTold done self.replies.items before (D.failures self.life.keeper.disk) → MatchResult result (λ run. FailsAsTold (done ++ Stop ∷ []) run.replies.items before (D.failures run.life.keeper.disk)) (λ ended. (rest : List (ScriptEvent StopPick)) → EndsAsTold ((done ++ Stop ∷ []) ++ rest) ended.replies.items ended.ended before (D.failures ended.disk)) }
     {
         let (halted, _) = self.halt(&[Pick::Old]);
-        halted.resume(alloc, delta)
+        halted.resume(rt, alloc)
     }
 
     /// A stop within the write or sync of this number of a flush or a checkpoint, or behind that where it makes fewer.
-    fn stop_within(
+    fn stop_within<R: Threads>(
         self,
+        rt: &R,
         alloc: Global,
-        delta: Option<u32>,
         call: u64,
         picks: &[Pick],
         writing: Writing,
     ) -> Result<Run<D>, Rehearsal<D>>
         requires life { IsLife self.life.keeper.machine self.life.opened (option_map (λ view. (view.value.version, view.value.network)) self.life.aside) }
-        requires width { ForSome delta IsWidth }
         requires room { vec_len self.history + length self.life.keeper.machine.accepted + 1 ≤ vec_capacity self.history }
         requires reply { vec_len self.replies + 2 ≤ vec_capacity self.replies }
         ensures life { IfOk result (λ run. IsLife run.life.keeper.machine run.life.opened (option_map (λ view. (view.value.version, view.value.network)) run.life.aside)) }
         ensures room { IfOk result (λ run. vec_len run.history + length run.life.keeper.machine.accepted ≤ vec_capacity run.history) }
+        ensures delta { MatchResult result (λ run. run.life.delta ≡ self.life.delta) (λ ended. ended.delta ≡ self.life.delta) }
         // It has run this event too.
         ensures goes { (first : First) (done : List (ScriptEvent StopPick)) → IsGoing D.honest D.content D.left first done self.replies.items self.history.items self.life.keeper → (event : ScriptEvent StopPick) → within_of event ≡ Some writing → IfOk result (λ run. IsGoing D.honest D.content D.left first (done ++ event ∷ []) run.replies.items run.history.items run.life.keeper) }
         // It has ended with the event.
@@ -292,22 +313,22 @@ impl<D: Stoppable> Run<D> {
         let written = run.life.write(writing);
         let (mut halted, came) = run.halt(picks);
         tell_write(&mut halted.replies, came, &written);
-        halted.resume(alloc, delta)
+        halted.resume(rt, alloc)
     }
 
     /// Runs an event.
-    fn next(
+    fn next<R: Threads>(
         self,
+        rt: &R,
         alloc: Global,
-        delta: Option<u32>,
         event: &Event<Pick>,
     ) -> Result<Run<D>, Rehearsal<D>>
         requires life { IsLife self.life.keeper.machine self.life.opened (option_map (λ view. (view.value.version, view.value.network)) self.life.aside) }
-        requires width { ForSome delta IsWidth }
         requires room { vec_len self.history + length self.life.keeper.machine.accepted + 1 ≤ vec_capacity self.history }
         requires reply { vec_len self.replies + 2 ≤ vec_capacity self.replies }
         ensures life { IfOk result (λ run. IsLife run.life.keeper.machine run.life.opened (option_map (λ view. (view.value.version, view.value.network)) run.life.aside)) }
         ensures room { IfOk result (λ run. vec_len run.history + length run.life.keeper.machine.accepted ≤ vec_capacity run.history) }
+        ensures delta { MatchResult result (λ run. run.life.delta ≡ self.life.delta) (λ ended. ended.delta ≡ self.life.delta) }
         // It has run this event too.
         ensures goes { (first : First) (done : List (ScriptEvent StopPick)) → IsGoing D.honest D.content D.left first done self.replies.items self.history.items self.life.keeper → IfOk result (λ run. IsGoing D.honest D.content D.left first (done ++ event.now ∷ []) run.replies.items run.history.items run.life.keeper) }
         // It has ended with the event.
@@ -316,15 +337,15 @@ impl<D: Stoppable> Run<D> {
         ensures counted { (before : ℕ) (done : List (ScriptEvent StopPick)) → FailsAsTold done self.replies.items before (D.failures self.life.keeper.disk) → MatchResult result (λ run. FailsAsTold (done ++ event.now ∷ []) run.replies.items before (D.failures run.life.keeper.disk)) (λ ended. (rest : List (ScriptEvent StopPick)) → EndsAsTold ((done ++ event.now ∷ []) ++ rest) ended.replies.items ended.ended before (D.failures ended.disk)) }
     {
         match event {
-            Event::Stop => self.stop(alloc, delta),
+            Event::Stop => self.stop(rt, alloc),
             Event::StopWithin {
                 call,
                 picks,
                 writing,
-            } => self.stop_within(alloc, delta, *call, picks, *writing),
+            } => self.stop_within(rt, alloc, *call, picks, *writing),
             _ => {
                 let mut run = self;
-                let told = run.life.reply(alloc, delta, event);
+                let told = run.life.reply(rt, alloc, event);
                 run.replies.push_reserved(told);
                 Ok(run)
             }
@@ -338,12 +359,14 @@ impl<D: Stoppable> Run<D> {
         ensures replies { result.replies ≡ self.replies }
         ensures ended { result.ended ≡ ended }
         ensures disk { result.disk ≡ self.life.keeper.disk }
+        ensures delta { result.delta ≡ self.life.delta }
     {
         let Run {
             mut history,
             replies,
             life,
         } = self;
+        let delta = life.delta;
         let (commands, disk) = life.keeper.close();
         put_behind(&mut history, &commands);
         Rehearsal {
@@ -351,6 +374,7 @@ impl<D: Stoppable> Run<D> {
             replies,
             ended,
             disk,
+            delta,
         }
     }
 }
@@ -362,7 +386,8 @@ impl<D: Stoppable> Run<D> {
 /// Each event has one reply, and a stop that comes behind its event has a second one. A view that is kept aside and all pending commands are
 /// lost by a stop. The run ends before an event for want of memory (11), or with a stop whose store is not opened, or whose first view is not
 /// built (43 or 11).
-pub fn rehearse<D: Stoppable>(
+pub fn rehearse<R: Threads, D: Stoppable>(
+    rt: &R,
     alloc: Global,
     store: Store<D>,
     delta: Option<u32>,
@@ -372,11 +397,13 @@ pub fn rehearse<D: Stoppable>(
     requires width { ForSome delta IsWidth }
     // The run is one of the lives of the store's network and version, and a stop now leaves of the disk what its last state says.
     ensures lives { D.honest store.disk → StandsTidily (D.content store.disk) (told_by store) → LivesOn (StandsTidyFor store.header.journal_pages) (D.left result.disk) (sizes_of store.header) store.network store.version store.unchecked events.now result.replies.items result.ended result.history.items }
+    // A given width is that of each view.
+    ensures width { result.delta ≡ delta }
     // Over any disk its count of failures rises by one for each failure that the replies tell, with 43 or by a stop that came within an event,
     // and by one more where the run ended with 43, whose last stop left a disk that then failed. A stop leaves the count as it is.
     ensures failed { EndsAsTold events.now result.replies.items result.ended (D.failures store.disk) (D.failures result.disk) }
 {
-    let life = match Life::begin(alloc, store, delta) {
+    let life = match Life::begin(rt, alloc, store, delta) {
         Ok(life) => life,
         Err(store) => {
             return Rehearsal {
@@ -384,6 +411,7 @@ pub fn rehearse<D: Stoppable>(
                 replies: Vec::new(alloc),
                 ended: Some(Refusal::OutOfMemory),
                 disk: store.close(),
+                delta,
             };
         }
     };
@@ -396,7 +424,7 @@ pub fn rehearse<D: Stoppable>(
         if run.grow().is_err() {
             return run.end(Some(Refusal::OutOfMemory));
         }
-        run = match run.next(alloc, delta, event) {
+        run = match run.next(rt, alloc, event) {
             Ok(run) => run,
             Err(rehearsal) => return rehearsal,
         };

@@ -7,6 +7,7 @@ use roadnet::{Command, Network, Refusal, RoadArc};
 use rows::{Query, Reply};
 use std::alloc::Global;
 use std::test::Fail;
+use std::thread::Threads;
 use store::{Store, create, open};
 
 fn arc(tail: u32, head: u32, length: u32) -> RoadArc {
@@ -61,7 +62,8 @@ fn want_of(run: &Rehearsal<MemDisk>) -> Option<Refusal> {
 }
 
 // The run of these events on a new store, each told without a want.
-fn rehearsed(
+fn rehearsed<R: Threads>(
+    rt: &R,
     alloc: Global,
     journal_pages: u32,
     events: &[Event<Pick>],
@@ -73,7 +75,7 @@ fn rehearsed(
         Ok(store) => store,
         Err(refusal) => return Err(refusal),
     };
-    let run = rehearse(alloc, store, None, events);
+    let run = rehearse(rt, alloc, store, None, events);
     match want_of(&run) {
         Some(refusal) => Err(refusal),
         None => Ok(run),
@@ -137,9 +139,15 @@ fn answered(version: u64, source: u64, target: u64, reply: Reply) -> Replied {
 
 // Whether `close 7` and a flush that is stopped within its write or sync of this number, with this pick, have the replies of a run that
 // keeps so many commands. The flush makes four of them, so that a stop within the fifth comes behind it.
-fn keeps(alloc: Global, call: u64, pick: Pick, kept: u64) -> Result<bool, Refusal> {
+fn keeps<R: Threads>(
+    rt: &R,
+    alloc: Global,
+    call: u64,
+    pick: Pick,
+    kept: u64,
+) -> Result<bool, Refusal> {
     let events = [close(7), stop_within(alloc, call, pick, Writing::Flush)?];
-    let run = rehearsed(alloc, 64, &events)?;
+    let run = rehearsed(rt, alloc, 64, &events)?;
     let is_told = if call < 5 {
         run.replies.as_slice() == [accepted(1), opened(kept)].as_slice()
     } else {
@@ -173,7 +181,7 @@ fn stop_within_flush(rt: HostRuntime) -> Result<(), Fail> {
         (5, Pick::Byte(17), 1),
     ];
     for (call, pick, kept) in table {
-        assert!(rt; keeps(rt.alloc(), call, pick, kept)?);
+        assert!(rt; keeps(&rt, rt.alloc(), call, pick, kept)?);
     }
     Ok(())
 }
@@ -208,7 +216,7 @@ fn stop_within_checkpoint(rt: HostRuntime) -> Result<(), Fail> {
         stop_within(alloc, 4, Pick::New, Writing::Checkpoint)?,
         dist(1, 6),
     ];
-    let run = rehearsed(alloc, 64, &events)?;
+    let run = rehearsed(&rt, alloc, 64, &events)?;
     let replies = [
         accepted(1),
         durable(1),
@@ -245,7 +253,7 @@ fn a_stop_forgets(rt: HostRuntime) -> Result<(), Fail> {
         dist(1, 6),
         Event::Stop,
     ];
-    let run = rehearsed(rt.alloc(), 64, &events)?;
+    let run = rehearsed(&rt, rt.alloc(), 64, &events)?;
     let replies = [
         accepted(1),
         durable(1),
@@ -265,7 +273,7 @@ fn a_stop_forgets(rt: HostRuntime) -> Result<(), Fail> {
 // A run without events hands back what it was given.
 #[test]
 fn no_events(rt: HostRuntime) -> Result<(), Fail> {
-    let run = rehearsed(rt.alloc(), 64, &[])?;
+    let run = rehearsed(&rt, rt.alloc(), 64, &[])?;
     assert!(rt; run.replies.is_empty() && run.history.is_empty());
     Ok(())
 }

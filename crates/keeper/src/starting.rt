@@ -7,23 +7,23 @@ ghost use Rattle.snapshot.specs.Groups.{default_width};
 ghost use Rattle.store.specs.Committing.{StandsTidily};
 ghost use Rattle.store.specs.Durable.{told_by};
 ghost use Rattle.machine.specs.Machine.{start};
-ghost use Rattle.keeper.specs.Keeping.{Holds, sizes_of};
+ghost use Rattle.keeper.specs.Keeping.{Holds, given_of, sizes_of};
 
 use crate::keepers::Keeper;
+use crate::shown::Shown;
 use disk::{Disk, Stoppable};
-use relax::Solo;
+use relax::{CHUNK, Crew};
 use roadnet::{Command, Network, OutOfMemory};
-use rows::{RowCache, View};
+use rows::View;
 use std::alloc::Global;
 use std::snapshot::Snapshot;
 use std::sync::Arc;
+use std::thread::Threads;
 use store::Store;
 
-/// How many rows the keeper's cache may keep.
-const ROWS: u32 = 16;
-
 /// A view of a copy of the network.
-fn first_view(
+fn first_view<R: Threads>(
+    rt: &R,
     alloc: Global,
     version: u64,
     network: &Network,
@@ -37,7 +37,7 @@ fn first_view(
     let Ok(copy) = network.copy() else {
         return Err(OutOfMemory);
     };
-    let Ok(view) = View::build(alloc, version, copy, delta, &Solo) else {
+    let Ok(view) = View::build(alloc, version, copy, delta, &Crew::new(rt, CHUNK)) else {
         return Err(OutOfMemory);
     };
     match Arc::new(alloc, view) {
@@ -52,7 +52,8 @@ impl<D: Disk> Keeper<D> {
     /// network's default.
     ///
     /// The one error is want of memory, and then the store is handed back.
-    pub fn new(
+    pub fn new<R: Threads>(
+        rt: &R,
         alloc: Global,
         store: Store<D>,
         delta: Option<u32>,
@@ -63,6 +64,7 @@ impl<D: Disk> Keeper<D> {
         ensures disk { IfOk result (λ keeper. keeper.disk ≡ store.disk) }
         ensures standing { IfOk result (λ keeper. keeper.standing ≡ told_by store) }
         ensures width { IfOk result (λ keeper. keeper.width ≡ unwrap_or delta (default_width store.network)) }
+        ensures given { IfOk result (λ keeper. keeper.given ≡ given_of store) }
         ensures holds { D.honest store.disk → StandsTidily (D.content store.disk) (told_by store) → IfOk result (λ keeper. Holds (D.content keeper.disk) (D.left keeper.disk) keeper.machine keeper.standing) }
         ensures handed_back { IfErr result (λ refused. refused.1 ≡ store) }
     {
@@ -70,10 +72,11 @@ impl<D: Disk> Keeper<D> {
         let Ok(network) = store.network().copy() else {
             return Err((OutOfMemory, store));
         };
-        let Ok(view) = first_view(alloc, opened, store.network(), delta) else {
+        let Ok(view) = first_view(rt, alloc, opened, store.network(), delta) else {
             return Err((OutOfMemory, store));
         };
         let base = Snapshot::of(store.network());
+        let given = Snapshot::of(&store);
         Ok(Keeper {
             alloc,
             store,
@@ -81,11 +84,11 @@ impl<D: Disk> Keeper<D> {
             opened,
             history: Vec::new(alloc),
             network,
-            view,
-            cache: RowCache::new(alloc, ROWS),
+            shown: Shown::new(alloc, view),
             task: None,
             broken: false,
             written: Snapshot::of(&0),
+            given,
         })
     }
 
@@ -105,6 +108,7 @@ impl<D: Stoppable> Keeper<D> {
         requires { 1 ≤ k }
         ensures machine { self.new.machine ≡ self.old.machine }
         ensures standing { self.new.standing ≡ self.old.standing }
+        ensures given { self.new.given ≡ self.old.given }
         ensures width { self.new.width ≡ self.old.width }
         ensures holds { Holds (D.content self.old.disk) (D.left self.old.disk) self.old.machine self.old.standing → Holds (D.content self.new.disk) (D.left self.new.disk) self.new.machine self.new.standing }
         ensures armed { D.armed self.new.disk ≡ armed_at k (D.armed self.old.disk) }

@@ -65,6 +65,7 @@ impl<D: Disk> Keeper<D> {
         ensures step { Submits self.old.machine command result self.new.machine }
         ensures disk { self.new.disk ≡ self.old.disk }
         ensures standing { self.new.standing ≡ self.old.standing }
+        ensures given { self.new.given ≡ self.old.given }
         ensures width { self.new.width ≡ self.old.width }
         ensures holds { Holds (D.content self.old.disk) (D.left self.old.disk) self.old.machine self.old.standing → Holds (D.content self.new.disk) (D.left self.new.disk) self.new.machine self.new.standing }
     {

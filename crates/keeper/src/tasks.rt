@@ -52,10 +52,11 @@ impl<D: Disk> Keeper<D> {
         ensures step { MatchResult result (λ task. TakesTask self.old.machine (Ok (option_map (λ t. (t.version, t.network.value)) task)) self.new.machine) (λ _. TakesTask self.old.machine (Err out_of_memory) self.new.machine) }
         ensures disk { self.new.disk ≡ self.old.disk }
         ensures standing { self.new.standing ≡ self.old.standing }
+        ensures given { self.new.given ≡ self.old.given }
         ensures width { self.new.width ≡ self.old.width }
         ensures holds { Holds (D.content self.old.disk) (D.left self.old.disk) self.old.machine self.old.standing → Holds (D.content self.new.disk) (D.left self.new.disk) self.new.machine self.new.standing }
     {
-        if self.task.is_some() || self.view.version() == self.store.version() {
+        if self.task.is_some() || self.shown.version() == self.store.version() {
             return Ok(None);
         }
         let (kept, given) = match shared_task(
@@ -75,6 +76,7 @@ impl<D: Disk> Keeper<D> {
         ensures step { self.new.machine ≡ without_task self.old.machine version }
         ensures disk { self.new.disk ≡ self.old.disk }
         ensures standing { self.new.standing ≡ self.old.standing }
+        ensures given { self.new.given ≡ self.old.given }
         ensures width { self.new.width ≡ self.old.width }
         ensures holds { Holds (D.content self.old.disk) (D.left self.old.disk) self.old.machine self.old.standing → Holds (D.content self.new.disk) (D.left self.new.disk) self.new.machine self.new.standing }
     {
@@ -107,6 +109,7 @@ impl<D: Disk> Keeper<D> {
         ensures handed_back { IfErr result (λ refused. refused.1 ≡ view) }
         ensures disk { self.new.disk ≡ self.old.disk }
         ensures standing { self.new.standing ≡ self.old.standing }
+        ensures given { self.new.given ≡ self.old.given }
         ensures width { OnOk result (self.new.width ≡ view.value.delta) }
         ensures same_width { OnErr result (self.new.width ≡ self.old.width) }
         ensures holds { Holds (D.content self.old.disk) (D.left self.old.disk) self.old.machine self.old.standing → Holds (D.content self.new.disk) (D.left self.new.disk) self.new.machine self.new.standing }
@@ -116,7 +119,7 @@ impl<D: Disk> Keeper<D> {
         }
         let shown = view.version();
         self.task = None;
-        self.view = view;
+        self.shown.show(view);
         Ok(shown)
     }
 }

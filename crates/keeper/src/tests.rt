@@ -10,6 +10,7 @@ use rows::{Query, Reply, View};
 use std::alloc::Global;
 use std::sync::Arc;
 use std::test::Fail;
+use std::thread::Threads;
 use store::{Part, Store, create, open};
 
 const CLOSE: Command = Command::Close { arc: 7 };
@@ -35,6 +36,7 @@ enum Call {
     // A view of this version and of the network of the worked rows is offered, with the seventh arc closed or not.
     Offer(u64, bool),
     Dist(u64, u64),
+    Lower(u64, u64),
     Pending,
     Durable,
     Shown,
@@ -92,54 +94,72 @@ fn six(alloc: Global) -> Result<Network, Refusal> {
 }
 
 // A keeper of a store.
-fn keeper_of<D: Disk + Drop>(alloc: Global, store: Store<D>) -> Result<Keeper<D>, Refusal>
+fn keeper_of<R: Threads, D: Disk + Drop>(
+    rt: &R,
+    alloc: Global,
+    store: Store<D>,
+) -> Result<Keeper<D>, Refusal>
     requires { store.broken ≡ false }
 {
-    match Keeper::new(alloc, store, None) {
+    match Keeper::new(rt, alloc, store, None) {
         Ok(keeper) => Ok(keeper),
         Err((_, _)) => Err(Refusal::OutOfMemory),
     }
 }
 
 // A keeper of a new store of this network.
-fn keeper(alloc: Global, network: &Network, journal_pages: u32) -> Result<Keeper<MemDisk>, Refusal>
+fn keeper<R: Threads>(
+    rt: &R,
+    alloc: Global,
+    network: &Network,
+    journal_pages: u32,
+) -> Result<Keeper<MemDisk>, Refusal>
     requires some { 1 ≤ journal_pages }
     requires few { journal_pages ≤ 65536 }
 {
     match create(alloc, MemDisk::new(alloc), network, journal_pages) {
-        Ok(store) => keeper_of(alloc, store),
+        Ok(store) => keeper_of(rt, alloc, store),
         Err((refusal, _)) => Err(refusal),
     }
 }
 
 // A keeper of a new store of the network of the worked rows.
-fn keeper_of_six(alloc: Global, journal_pages: u32) -> Result<Keeper<MemDisk>, Refusal>
+fn keeper_of_six<R: Threads>(
+    rt: &R,
+    alloc: Global,
+    journal_pages: u32,
+) -> Result<Keeper<MemDisk>, Refusal>
     requires some { 1 ≤ journal_pages }
     requires few { journal_pages ≤ 65536 }
 {
     match six(alloc) {
-        Ok(network) => keeper(alloc, &network, journal_pages),
+        Ok(network) => keeper(rt, alloc, &network, journal_pages),
         Err(refusal) => Err(refusal),
     }
 }
 
 // A keeper of what this disk has.
-fn reopened<D: Disk + Drop>(alloc: Global, disk: D) -> Result<Keeper<D>, Refusal> {
+fn reopened<R: Threads, D: Disk + Drop>(
+    rt: &R,
+    alloc: Global,
+    disk: D,
+) -> Result<Keeper<D>, Refusal> {
     match open(alloc, disk) {
-        Ok(store) => keeper_of(alloc, store),
+        Ok(store) => keeper_of(rt, alloc, store),
         Err((refusal, _)) => Err(refusal),
     }
 }
 
 // A keeper of what a stop with this pick leaves of the keeper's disk, how many commands it had accepted, and whether an armed call came.
-fn stopped<D: Stoppable + Drop>(
+fn stopped<R: Threads, D: Stoppable + Drop>(
+    rt: &R,
     alloc: Global,
     keeper: Keeper<D>,
     pick: Pick,
 ) -> (Result<Keeper<D>, Refusal>, usize, bool) {
     let (history, mut disk) = keeper.close();
     let came = disk.stop(&[pick]);
-    (reopened(alloc, disk), history.len(), came)
+    (reopened(rt, alloc, disk), history.len(), came)
 }
 
 // A view of this network.
@@ -234,15 +254,20 @@ fn offer<D: Disk>(alloc: Global, keeper: &mut Keeper<D>, version: u64, closed: b
     }
 }
 
-fn dist<D: Disk>(keeper: &mut Keeper<D>, source: u64, target: u64) -> Told {
-    match keeper.ask(Query::Dist { source, target }) {
+fn ask<R: Threads, D: Disk>(rt: &R, keeper: &mut Keeper<D>, query: Query) -> Told {
+    match keeper.ask(rt, query) {
         Ok(answer) => Told::Reply(answer.version, answer.reply),
         Err(_) => Told::Refused(Refusal::OutOfMemory),
     }
 }
 
 // What the keeper tells at a call.
-fn reply_to<D: Disk>(alloc: Global, keeper: &mut Keeper<D>, call: Call) -> Told {
+fn reply_to<R: Threads, D: Disk>(
+    rt: &R,
+    alloc: Global,
+    keeper: &mut Keeper<D>,
+    call: Call,
+) -> Told {
     match call {
         Call::Submit(command) => submit(keeper, command),
         Call::Fill(count, command) => fill(keeper, count, command),
@@ -255,7 +280,8 @@ fn reply_to<D: Disk>(alloc: Global, keeper: &mut Keeper<D>, call: Call) -> Told 
         }
         Call::Show => show(alloc, keeper),
         Call::Offer(version, closed) => offer(alloc, keeper, version, closed),
-        Call::Dist(source, target) => dist(keeper, source, target),
+        Call::Dist(source, target) => ask(rt, keeper, Query::Dist { source, target }),
+        Call::Lower(source, target) => ask(rt, keeper, Query::Lower { source, target }),
         Call::Pending => Told::Number(keeper.pending()),
         Call::Durable => Told::Number(keeper.durable()),
         Call::Shown => Told::Number(keeper.shown()),
@@ -265,14 +291,15 @@ fn reply_to<D: Disk>(alloc: Global, keeper: &mut Keeper<D>, call: Call) -> Told 
 }
 
 // Makes these calls in turn, up to the first that is told something else.
-fn plays<D: Disk>(
+fn plays<R: Threads, D: Disk>(
+    rt: &R,
     alloc: Global,
     keeper: &mut Keeper<D>,
     table: &[(Call, Told)],
 ) -> Result<(), Wrong> {
     for at in 0..table.len() {
         let (call, want) = table[at];
-        let told = reply_to(alloc, keeper, call);
+        let told = reply_to(rt, alloc, keeper, call);
         if told != want {
             return Err(Wrong { at, told });
         }
@@ -281,7 +308,8 @@ fn plays<D: Disk>(
 }
 
 // The keeper, once it was told what the table says.
-fn played<D: Disk + Drop>(
+fn played<R: Threads, D: Disk + Drop>(
+    rt: &R,
     alloc: Global,
     keeper: Result<Keeper<D>, Refusal>,
     table: &[(Call, Told)],
@@ -295,26 +323,27 @@ fn played<D: Disk + Drop>(
             });
         }
     };
-    match plays(alloc, &mut keeper, table) {
+    match plays(rt, alloc, &mut keeper, table) {
         Ok(()) => Ok(keeper),
         Err(wrong) => Err(wrong),
     }
 }
 
 // The same, and the keeper is let go.
-fn plays_on<D: Disk + Drop>(
+fn plays_on<R: Threads, D: Disk + Drop>(
+    rt: &R,
     alloc: Global,
     keeper: Result<Keeper<D>, Refusal>,
     table: &[(Call, Told)],
 ) -> Result<(), Wrong> {
-    match played(alloc, keeper, table) {
+    match played(rt, alloc, keeper, table) {
         Ok(_) => Ok(()),
         Err(wrong) => Err(wrong),
     }
 }
 
-fn plays_on_six(alloc: Global, table: &[(Call, Told)]) -> Result<(), Wrong> {
-    plays_on(alloc, keeper_of_six(alloc, 64), table)
+fn plays_on_six<R: Threads>(rt: &R, alloc: Global, table: &[(Call, Told)]) -> Result<(), Wrong> {
+    plays_on(rt, alloc, keeper_of_six(rt, alloc, 64), table)
 }
 
 // A ticket of this life.
@@ -362,7 +391,7 @@ fn closed_arc_lengthens(rt: HostRuntime) -> Result<(), Wrong> {
         (Call::Show, Told::Number(1)),
         (Call::Dist(1, 6), Told::Reply(1, Reply::Length(22))),
     ];
-    plays_on_six(rt.alloc(), &table)
+    plays_on_six(&rt, rt.alloc(), &table)
 }
 
 #[test]
@@ -382,7 +411,7 @@ fn shorter_length_shortens(rt: HostRuntime) -> Result<(), Wrong> {
         (Call::Show, Told::Number(3)),
         (Call::Dist(1, 6), Told::Reply(3, Reply::Length(14))),
     ];
-    plays_on_six(rt.alloc(), &table)
+    plays_on_six(&rt, rt.alloc(), &table)
 }
 
 #[test]
@@ -393,7 +422,7 @@ fn second_close_refused(rt: HostRuntime) -> Result<(), Wrong> {
         (Call::Flush, Told::Number(1)),
         (Call::Flush, Told::Refused(Refusal::NothingPending)),
     ];
-    plays_on_six(rt.alloc(), &table)
+    plays_on_six(&rt, rt.alloc(), &table)
 }
 
 // A `set` that is refused with this.
@@ -419,13 +448,13 @@ fn refusals_of_commands(rt: HostRuntime) -> Result<(), Wrong> {
         (Call::Durable, Told::Number(0)),
         (Call::Shown, Told::Number(0)),
     ];
-    plays_on_six(rt.alloc(), &table)
+    plays_on_six(&rt, rt.alloc(), &table)
 }
 
 // A keeper of two nodes, with two arcs between them and a loop.
-fn keeper_of_two(alloc: Global) -> Result<Keeper<MemDisk>, Refusal> {
+fn keeper_of_two<R: Threads>(rt: &R, alloc: Global) -> Result<Keeper<MemDisk>, Refusal> {
     match network(alloc, 2, &[(1, 2, 5), (1, 2, 3), (1, 1, 0)]) {
-        Ok(network) => keeper(alloc, &network, 64),
+        Ok(network) => keeper(rt, alloc, &network, 64),
         Err(refusal) => Err(refusal),
     }
 }
@@ -440,7 +469,7 @@ fn parallel_arcs_and_loops(rt: HostRuntime) -> Result<(), Wrong> {
         (Call::Show, Told::Number(1)),
         (Call::Dist(1, 2), Told::Reply(1, Reply::Length(5))),
     ];
-    plays_on(alloc, keeper_of_two(alloc), &table)
+    plays_on(&rt, alloc, keeper_of_two(&rt, alloc), &table)
 }
 
 #[test]
@@ -453,15 +482,15 @@ fn full_page_of_commands(rt: HostRuntime) -> Result<(), Wrong> {
         (Call::Durable, Told::Number(253)),
         (Call::Shown, Told::Number(0)),
     ];
-    let keeper = played(alloc, keeper_of_six(alloc, 64), &table)?;
-    let (reopened, accepted, _) = stopped(alloc, keeper, Pick::New);
+    let keeper = played(&rt, alloc, keeper_of_six(&rt, alloc, 64), &table)?;
+    let (reopened, accepted, _) = stopped(&rt, alloc, keeper, Pick::New);
     assert!(rt; accepted == 254);
     let left = [
         (Call::Pending, Told::Number(0)),
         (Call::Durable, Told::Number(253)),
         (Call::Shown, Told::Number(253)),
     ];
-    plays_on(alloc, reopened, &left)
+    plays_on(&rt, alloc, reopened, &left)
 }
 
 #[test]
@@ -474,14 +503,14 @@ fn queue_is_full_at_4096(rt: HostRuntime) -> Result<(), Wrong> {
         (Call::Flush, Told::Number(253)),
         (Call::Submit(SAME), Told::Number(4097)),
     ];
-    plays_on_six(rt.alloc(), &table)
+    plays_on_six(&rt, rt.alloc(), &table)
 }
 
 // A keeper whose first flush fails at its second sync. Opening makes nine calls of the disk; the flush reads the gate, writes the body,
 // syncs, opens the gate, and then its second sync fails.
-fn failing(alloc: Global) -> Result<Keeper<FailOnce<MemDisk>>, Refusal> {
-    match keeper_of_six(alloc, 64) {
-        Ok(keeper) => reopened(alloc, FailOnce::new(keeper.close().1, 9 + 5)),
+fn failing<R: Threads>(rt: &R, alloc: Global) -> Result<Keeper<FailOnce<MemDisk>>, Refusal> {
+    match keeper_of_six(rt, alloc, 64) {
+        Ok(keeper) => reopened(rt, alloc, FailOnce::new(keeper.close().1, 9 + 5)),
         Err(refusal) => Err(refusal),
     }
 }
@@ -489,7 +518,7 @@ fn failing(alloc: Global) -> Result<Keeper<FailOnce<MemDisk>>, Refusal> {
 #[test]
 fn sync_fails_once(rt: HostRuntime) -> Result<(), Fail> {
     let alloc = rt.alloc();
-    let mut keeper = failing(alloc)?;
+    let mut keeper = failing(&rt, alloc)?;
     let told = received(&mut keeper, CLOSE)?;
     assert!(rt;
         told == (
@@ -504,7 +533,7 @@ fn sync_fails_once(rt: HostRuntime) -> Result<(), Fail> {
         (Call::Step, Told::Refused(Refusal::Broken)),
         (Call::Dist(1, 6), Told::Reply(0, Reply::Length(15))),
     ];
-    plays(alloc, &mut keeper, &table)?;
+    plays(&rt, alloc, &mut keeper, &table)?;
     Ok(())
 }
 
@@ -515,24 +544,24 @@ fn failed_flush_is_there_when_opened(rt: HostRuntime) -> Result<(), Wrong> {
         (Call::Submit(CLOSE), Told::Number(1)),
         (Call::Flush, Told::Refused(Refusal::Device)),
     ];
-    let keeper = played(alloc, failing(alloc), &table)?;
-    let keeper = reopened(alloc, keeper.close().1);
+    let keeper = played(&rt, alloc, failing(&rt, alloc), &table)?;
+    let keeper = reopened(&rt, alloc, keeper.close().1);
     let left = [
         (Call::Pending, Told::Number(0)),
         (Call::Durable, Told::Number(1)),
         (Call::Shown, Told::Number(1)),
     ];
-    let keeper = played(alloc, keeper, &left)?;
+    let keeper = played(&rt, alloc, keeper, &left)?;
     let mut disk = keeper.close().1.into_inner();
     let _ = disk.stop(&[Pick::Old]);
     let reply = [(Call::Dist(1, 6), Told::Reply(1, Reply::Length(22)))];
-    plays_on(alloc, reopened(alloc, disk), &reply)
+    plays_on(&rt, alloc, reopened(&rt, alloc, disk), &reply)
 }
 
 #[test]
 fn receipt_behind_a_flush(rt: HostRuntime) -> Result<(), Fail> {
     let alloc = rt.alloc();
-    let told = received(&mut keeper_of_six(alloc, 64)?, CLOSE)?;
+    let told = received(&mut keeper_of_six(&rt, alloc, 64)?, CLOSE)?;
     let receipt = Receipt {
         number: 1,
         command: CLOSE,
@@ -561,13 +590,28 @@ fn checkpoint_frees_the_journal(rt: HostRuntime) -> Result<(), Wrong> {
         (Call::Unchecked, Told::Number(0)),
         (Call::Flush, Told::Number(3)),
     ];
-    let keeper = played(alloc, keeper_of_six(alloc, 2), &table)?;
+    let keeper = played(&rt, alloc, keeper_of_six(&rt, alloc, 2), &table)?;
     let left = [
         (Call::Unchecked, Told::Number(1)),
         (Call::JournalPages, Told::Number(2)),
         (Call::Dist(1, 6), Told::Reply(3, Reply::Length(7))),
     ];
-    plays_on(alloc, reopened(alloc, keeper.close().1), &left)
+    plays_on(&rt, alloc, reopened(&rt, alloc, keeper.close().1), &left)
+}
+
+#[test]
+fn bounds_of_landmarks(rt: HostRuntime) -> Result<(), Wrong> {
+    let table = [
+        (Call::Submit(Command::Mark { node: 1 }), Told::Number(1)),
+        (Call::Submit(Command::Mark { node: 3 }), Told::Number(2)),
+        (Call::Flush, Told::Number(2)),
+        (Call::Lower(4, 1), Told::Reply(0, Reply::AtLeast(0))),
+        (Call::Show, Told::Number(2)),
+        (Call::Lower(1, 6), Told::Reply(2, Reply::AtLeast(15))),
+        (Call::Lower(5, 2), Told::Reply(2, Reply::AtLeast(0))),
+        (Call::Lower(4, 1), Told::Reply(2, Reply::NoWalk)),
+    ];
+    plays_on_six(&rt, rt.alloc(), &table)
 }
 
 #[test]
@@ -589,26 +633,26 @@ fn another_view_is_refused(rt: HostRuntime) -> Result<(), Wrong> {
         (Call::Offer(1, true), Told::Refused(Refusal::NoTask)),
         (Call::Show, Told::Number(1)),
     ];
-    plays_on_six(rt.alloc(), &table)
+    plays_on_six(&rt, rt.alloc(), &table)
 }
 
 #[test]
 fn armed_flush_fails(rt: HostRuntime) -> Result<(), Fail> {
     let alloc = rt.alloc();
-    let mut keeper = keeper_of_six(alloc, 64)?;
+    let mut keeper = keeper_of_six(&rt, alloc, 64)?;
     keeper.arm(3);
     let table = [
         (Call::Submit(CLOSE), Told::Number(1)),
         (Call::Flush, Told::Refused(Refusal::Device)),
     ];
-    plays(alloc, &mut keeper, &table)?;
-    let (reopened, _, came) = stopped(alloc, keeper, Pick::Old);
+    plays(&rt, alloc, &mut keeper, &table)?;
+    let (reopened, _, came) = stopped(&rt, alloc, keeper, Pick::Old);
     assert!(rt; came);
     let left = [
         (Call::Pending, Told::Number(0)),
         (Call::Durable, Told::Number(0)),
         (Call::Shown, Told::Number(0)),
     ];
-    plays_on(alloc, reopened, &left)?;
+    plays_on(&rt, alloc, reopened, &left)?;
     Ok(())
 }

@@ -4,7 +4,7 @@ use lib.Chars.{codes}
 use Rattle.roadnet.specs.Numbers.{number_of}
 use Rattle.rows.specs.declared.queries.Query.{Query}
 use Rattle.rows.specs.declared.queries.Reply.{Reply}
-use Rattle.rows.specs.declared.queries.Reply.TheVariants.{Length, NoWalk, Refused}
+use Rattle.rows.specs.declared.queries.Reply.TheVariants.{Length, NoWalk, AtLeast, Refused}
 use Rattle.rows.specs.Replies.{source_of, target_of}
 
 -- `v V`
@@ -19,10 +19,11 @@ with_nodes letter query = letter ++ decimal (source_of query) ++ codes " " ++ de
 abbrev pub refusal_line : ℕ → List ℕ
 refusal_line code = codes "no " ++ decimal code ++ codes "\n"
 
--- `d S T L`, `x S T` or `no CODE`
+-- `d S T L`, `x S T`, `b S T L` or `no CODE`
 abbrev pub answer_line : Query → Reply → List ℕ
 answer_line query (Length d) = with_nodes (codes "d ") query ++ codes " " ++ decimal d ++ codes "\n"
 answer_line query NoWalk = with_nodes (codes "x ") query ++ codes "\n"
+answer_line query (AtLeast d) = with_nodes (codes "b ") query ++ codes " " ++ decimal d ++ codes "\n"
 answer_line query (Refused refusal) = refusal_line (number_of refusal)
 
 -- the lines of a query at a version; where no memory was there for its reply, `no 11` alone

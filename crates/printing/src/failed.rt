@@ -44,7 +44,7 @@ pub fn fault_line<'a>(failed: &Failed, name: &'a str) -> FaultLine<'a>
 }
 
 /// The exit status of the program: 0 where all is done, 1 after a fault.
-pub fn status(outcome: &Result<(), Failed>) -> u8
+pub fn status<T>(outcome: &Result<T, Failed>) -> u8
     ensures { result ≡ (if is_ok outcome.now then 0 else 1) }
 {
     if outcome.is_ok() { 0 } else { 1 }

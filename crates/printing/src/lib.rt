@@ -2,11 +2,13 @@
 //! failed calls.
 #![tactic(auto)]
 
+mod done;
 mod failed;
 mod printed;
 mod replied;
 mod writer;
 
+pub use done::Done;
 pub use failed::{Failed, FaultLine, fault_line, status};
 pub use printed::{put_answer, put_lines, put_number, put_refusal, put_version};
 pub use replied::{put_replies, put_reply};

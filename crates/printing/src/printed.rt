@@ -80,6 +80,23 @@ fn put_length<W: Write>(
     out.write_all(b"\n")
 }
 
+/// `b S T L`
+fn put_bound<W: Write>(
+    out: &mut CountedWriter<'_, W>,
+    query: &Query,
+    bound: u64,
+) -> Result<(), Failed>
+    ensures ok { OnOk result (Appends (W.contents (writer_of out.old)) (W.contents (writer_of out.new)) (answer_line query.now (Reply.AtLeast bound))) }
+    ensures refused { IfErr result (λ failed. failed ≡ Failed.Code Refusal.Write) }
+    ensures counts { CountsFailure (failed_writes out.old) (failed_writes out.new) result }
+    ensures same { IsSameWriter out.old out.new }
+{
+    put_nodes(out, b"b ", query)?;
+    out.write_all(b" ")?;
+    put_number(out, bound)?;
+    out.write_all(b"\n")
+}
+
 /// `x S T`
 fn put_no_walk<W: Write>(out: &mut CountedWriter<'_, W>, query: &Query) -> Result<(), Failed>
     ensures ok { OnOk result (Appends (W.contents (writer_of out.old)) (W.contents (writer_of out.new)) (answer_line query.now Reply.NoWalk)) }
@@ -91,7 +108,7 @@ fn put_no_walk<W: Write>(out: &mut CountedWriter<'_, W>, query: &Query) -> Resul
     out.write_all(b"\n")
 }
 
-/// `d S T L`, `x S T` or `no CODE`
+/// `d S T L`, `x S T`, `b S T L` or `no CODE`
 pub fn put_answer<W: Write>(
     out: &mut CountedWriter<'_, W>,
     query: &Query,
@@ -105,6 +122,7 @@ pub fn put_answer<W: Write>(
     match reply {
         Reply::Length(length) => put_length(out, query, length),
         Reply::NoWalk => put_no_walk(out, query),
+        Reply::AtLeast(bound) => put_bound(out, query, bound),
         Reply::Refused(refusal) => put_refusal(out, refusal.number()),
     }
 }

@@ -33,7 +33,8 @@ fn fault_lines_and_statuses(rt: HostRuntime) -> Result<(), Fail> {
             format!(in rt.alloc(); "{line}")?.as_str() == want,
             "{want}"
         );
-        assert_eq!(rt; status(&Err(failed)), 1);
+        let outcome: Result<(), Failed> = Err(failed);
+        assert_eq!(rt; status(&outcome), 1);
     }
     assert_eq!(rt; status(&Ok(())), 0);
     Ok(())
@@ -56,6 +57,7 @@ fn replies_are_printed(rt: HostRuntime) {
         Replied::Task { version: 1 },
         Replied::Shown { version: 1 },
         answer(1, Reply::NoWalk),
+        answer(1, Reply::AtLeast(5)),
         answer(1, Reply::Refused(Refusal::NotALandmark)),
         Replied::Refused {
             refusal: Refusal::NothingPending,
@@ -64,7 +66,7 @@ fn replies_are_printed(rt: HostRuntime) {
         Replied::Stopped,
     ];
     let want =
-        "t 1\nok 1\nv 0\nd 1 6 15\ntask 1\nshown 1\nv 1\nx 1 6\nv 1\nno 26\nno 53\nstopped\nv 1\nstopped\n";
+        "t 1\nok 1\nv 0\nd 1 6 15\ntask 1\nshown 1\nv 1\nx 1 6\nv 1\nb 1 6 5\nv 1\nno 26\nno 53\nstopped\nv 1\nstopped\n";
     let mut out = Vec::new(rt.alloc());
     let mut writer = CountedWriter::new(&mut out);
     let outcome = put_replies(&mut writer, &replies);

@@ -2,6 +2,7 @@
 ghost use Rattle.std.specs.Prelude.{◌≡◌, ℕ, length, OnOk, IfOk, IfErr, IfSome};
 ghost use Rattle.std.specs.Option.{ForSome};
 ghost use Rattle.rows.specs.Kept.{AreOf, IsWidth, given_width};
+ghost use Rattle.rows.specs.Replies.{IsRight};
 ghost use Rattle.std.specs.Io.KnownBytes.{Appends};
 ghost use Rattle.roadnet.specs.Net.{IsNetwork};
 ghost use Rattle.dimacs.specs.Counts.{failed_calls, reader_of, IsSameReader};
@@ -11,15 +12,19 @@ ghost use Rattle.querytexts.specs.Once.{IsUnanswered};
 ghost use Rattle.querytexts.specs.Batch.{AreRight, query_of, answer_lines, AnswersAll, IsAnsweredBatch, IsRefusedBatch, IsTextRefusedBatch};
 
 use dimacs::{Counted, Pair, parse_gr, parse_p2p, read_gr_counted, read_p2p_counted};
-use printing::{CountedWriter, Failed, put_answer, put_version};
-use roadnet::{Network, Refusal};
+use printing::{CountedWriter, Done, Failed, put_answer, put_version};
+use roadnet::{Network, OutOfMemory, Refusal};
 use rows::{Query, Reply, Searches};
 use std::alloc::Global;
 use std::io::{BufRead, Write};
+use std::thread::Threads;
 
 const NETWORK: u8 = 0;
 
 const PAIRS: u8 = 1;
+
+/// How many rows are kept while pairs are answered.
+const ROWS: u32 = 16;
 
 /// The query that a pair asks.
 fn query_of(pair: Pair) -> Query
@@ -31,9 +36,32 @@ fn query_of(pair: Pair) -> Query
     }
 }
 
-/// A right reply to each pair, in their order, or none at all, by searches of one network and their width. Pairs of one source that follow
-/// one another search once.
-fn reply_to_all(
+/// A right reply to a pair, or none where no memory is there for the row of its source.
+fn reply_to<T: Threads>(
+    rt: &T,
+    alloc: Global,
+    network: &Network,
+    searches: &mut Searches,
+    pair: Pair,
+) -> Result<Reply, OutOfMemory>
+    requires { AreOf network.now searches.old }
+    ensures right { IfOk result (IsRight network.now (query_of pair)) }
+    ensures kept { AreOf network.now searches.new }
+    ensures width { given_width searches.new ≡ given_width searches.old }
+{
+    searches.dist(
+        rt,
+        alloc,
+        network,
+        u64::from(pair.source),
+        u64::from(pair.target),
+    )
+}
+
+/// A right reply to each pair, in their order, or none at all, by searches of one network and their width. They keep rows: a source whose
+/// row is kept is not searched again.
+fn reply_to_all<T: Threads>(
+    rt: &T,
     alloc: Global,
     network: &Network,
     searches: &mut Searches,
@@ -49,7 +77,7 @@ fn reply_to_all(
         Err(_) => return Err(Failed::Code(Refusal::OutOfMemory)),
     };
     for pair in pairs {
-        let reply = match searches.answer(alloc, network, &query_of(*pair)) {
+        let reply = match reply_to(rt, alloc, network, searches, *pair) {
             Ok(reply) => reply,
             Err(_) => return Err(Failed::Code(Refusal::OutOfMemory)),
         };
@@ -78,26 +106,26 @@ fn put_answers<W: Write>(
     Ok(())
 }
 
-/// Writes the network's version and a right answer to each pair, in their order, and sends them out; or nothing, where no memory is
-/// there for all replies (11). A failed write is 12, and then an unknown part was written. `delta` is the width of a search's buckets, 1
-/// to 2147483647; without one it is the network's default. Pairs of one source that follow one another search once.
-pub fn answer_pairs<W: Write>(
+/// Writes the network's version and a right answer to each pair, by searches of the network, and sends them out; or nothing, where no
+/// memory is there for all replies (11). A failed write is 12, and then an unknown part was written.
+pub(crate) fn answer_by<T: Threads, W: Write>(
+    rt: &T,
     alloc: Global,
     network: &Network,
     version: u64,
-    delta: Option<u32>,
+    searches: &mut Searches,
     pairs: &[Pair],
     out: &mut CountedWriter<'_, W>,
-) -> Result<(), Failed>
-    requires { ForSome delta IsWidth }
+) -> Result<Done, Failed>
+    requires { AreOf network.now searches.old }
     ensures answered { OnOk result (AnswersAll network.now version pairs.now (W.contents (writer_of out.old)) (W.contents (writer_of out.new))) }
+    ensures width { IfOk result (λ done. done.delta ≡ given_width searches.old) }
     ensures refused { IfErr result IsUnanswered }
     ensures unwritten { IfErr result (LeavesUnwritten (writer_of out.old) (writer_of out.new)) }
     ensures writes { CountsWrites (failed_writes out.old) (failed_writes out.new) result }
     ensures same { IsSameWriter out.old out.new }
 {
-    let mut searches = Searches::new(delta);
-    let replies = match reply_to_all(alloc, network, &mut searches, pairs) {
+    let replies = match reply_to_all(rt, alloc, network, searches, pairs) {
         Ok(replies) => replies,
         Err(failed) => return Err(failed),
     };
@@ -107,7 +135,39 @@ pub fn answer_pairs<W: Write>(
     if let Err(failed) = put_answers(out, pairs, &replies) {
         return Err(failed);
     }
-    out.flush()
+    match out.flush() {
+        Ok(()) => Ok(Done {
+            delta: searches.delta(),
+        }),
+        Err(failed) => Err(failed),
+    }
+}
+
+/// Writes the network's version and a right answer to each pair, in their order, and sends them out; or nothing, where no memory is
+/// there for all replies (11). A failed write is 12, and then an unknown part was written.
+///
+/// `delta` is the width of a search's buckets, 1 to 2147483647; without one it is the network's default. The rows of the last 16 sources
+/// are kept, 8 bytes a node and row: so where few sources alternate, each is searched once. The rows are made by a crew of the runtime's
+/// threads.
+pub fn answer_pairs<T: Threads, W: Write>(
+    rt: &T,
+    alloc: Global,
+    network: &Network,
+    version: u64,
+    delta: Option<u32>,
+    pairs: &[Pair],
+    out: &mut CountedWriter<'_, W>,
+) -> Result<Done, Failed>
+    requires { ForSome delta IsWidth }
+    ensures answered { OnOk result (AnswersAll network.now version pairs.now (W.contents (writer_of out.old)) (W.contents (writer_of out.new))) }
+    ensures width { IfOk result (λ done. done.delta ≡ delta) }
+    ensures refused { IfErr result IsUnanswered }
+    ensures unwritten { IfErr result (LeavesUnwritten (writer_of out.old) (writer_of out.new)) }
+    ensures writes { CountsWrites (failed_writes out.old) (failed_writes out.new) result }
+    ensures same { IsSameWriter out.old out.new }
+{
+    let mut searches = Searches::new(alloc, delta, ROWS);
+    answer_by(rt, alloc, network, version, &mut searches, pairs, out)
 }
 
 /// Writes the answer to each pair of a reader's `.p2p` text, in the network of another reader's `.gr` text, and nothing else: `v 0`,
@@ -115,19 +175,21 @@ pub fn answer_pairs<W: Write>(
 /// decides. Nodes of the pairs are judged by the network's number of nodes.
 ///
 /// `delta` is the width of a search's buckets, 1 to 2147483647: every width gives the same answers; without one it is
-/// the network's default. Pairs of one source that follow one another search once. Where no memory is there for all replies the call is refused with 11 and nothing is
-/// written. A failed read is fault 10 of the text and line being read, and a failed write is 12: both are told only where the count of
+/// the network's default. The rows of the last 16 sources are kept, 8 bytes a node and row. Where no memory is there for all replies the
+/// call is refused with 11 and nothing is written. A failed read is fault 10 of the text and line being read, and a failed write is 12: both are told only where the count of
 /// that reader's or the writer's failed calls rose. After an `Err` readers and writer are not used again.
-pub fn batch_counted<R: BufRead, Q: BufRead, W: Write>(
+pub fn batch_counted<T: Threads, R: BufRead, Q: BufRead, W: Write>(
+    rt: &T,
     alloc: Global,
     gr: &mut Counted<'_, R>,
     p2p: &mut Counted<'_, Q>,
     delta: Option<u32>,
     out: &mut CountedWriter<'_, W>,
-) -> Result<(), Failed>
+) -> Result<Done, Failed>
     requires { ForSome delta IsWidth }
     ensures answered { OnOk result (IfSome (R.remaining (reader_of gr.old)) (λ network. IfSome (Q.remaining (reader_of p2p.old))
         (λ pairs. IsAnsweredBatch network pairs (W.contents (writer_of out.old)) (W.contents (writer_of out.new))))) }
+    ensures width { IfOk result (λ done. done.delta ≡ delta) }
     ensures refused { IfErr result (λ failed. IfSome (R.remaining (reader_of gr.old)) (λ network. IfSome (Q.remaining (reader_of p2p.old))
         (λ pairs. IsRefusedBatch network pairs (R.remaining (reader_of gr.new)) (Q.remaining (reader_of p2p.new)) failed))) }
     ensures unwritten { IfErr result (LeavesUnwritten (writer_of out.old) (writer_of out.new)) }
@@ -152,19 +214,21 @@ pub fn batch_counted<R: BufRead, Q: BufRead, W: Write>(
             fault,
         }),
     };
-    answer_pairs(alloc, &network, 0, delta, &pairs, out)
+    answer_pairs(rt, alloc, &network, 0, delta, &pairs, out)
 }
 
 /// The same for texts in memory, over any writer, whose failed calls nobody counts.
-pub fn batch_text<W: Write>(
+pub fn batch_text<T: Threads, W: Write>(
+    rt: &T,
     alloc: Global,
     gr: &[u8],
     p2p: &[u8],
     delta: Option<u32>,
     out: &mut W,
-) -> Result<(), Failed>
+) -> Result<Done, Failed>
     requires { ForSome delta IsWidth }
     ensures answered { OnOk result (IsAnsweredBatch gr.now p2p.now (W.contents out.old) (W.contents out.new)) }
+    ensures width { IfOk result (λ done. done.delta ≡ delta) }
     ensures refused { IfErr result (IsTextRefusedBatch gr.now p2p.now) }
     ensures unwritten { IfErr result (LeavesUnwritten out.old out.new) }
 {
@@ -183,5 +247,5 @@ pub fn batch_text<W: Write>(
         }),
     };
     let mut out = CountedWriter::new(out);
-    answer_pairs(alloc, &network, 0, delta, &pairs, &mut out)
+    answer_pairs(rt, alloc, &network, 0, delta, &pairs, &mut out)
 }

@@ -1,5 +1,5 @@
 //! One query of a text.
-ghost use Rattle.std.specs.Prelude.{◌≡◌, ℕ, OnOk, IfErr, IfSome, IsSome, MatchResult};
+ghost use Rattle.std.specs.Prelude.{◌≡◌, ℕ, OnOk, IfOk, IfErr, IfSome, IsSome, MatchResult};
 ghost use Rattle.std.specs.Option.{ForSome};
 ghost use Rattle.rows.specs.Kept.{IsWidth};
 ghost use Rattle.rows.specs.Replies.{refusal_of};
@@ -9,23 +9,29 @@ ghost use Rattle.printing.specs.Failing.{CountsReads, CountsWrites, LeavesUnwrit
 ghost use Rattle.querytexts.specs.Once.{AnswersOne, IsUnanswered, IsAnsweredOnce, IsRefusedOnce, IsTextRefusedOnce};
 
 use dimacs::{Counted, parse_gr, read_gr_counted};
-use printing::{CountedWriter, Failed, put_lines};
+use printing::{CountedWriter, Done, Failed, put_lines};
 use roadnet::{Network, Refusal};
 use rows::{Query, Searches};
 use std::alloc::Global;
 use std::io::{BufRead, Write};
+use std::thread::Threads;
+
+/// How many rows are kept for one query.
+const ROWS: u32 = 1;
 
 /// Writes the lines of a right reply to `dist s t`, at version 0, and sends them out; or nothing, where no memory is there for the reply.
-fn answer_one<W: Write>(
+fn answer_one<T: Threads, W: Write>(
+    rt: &T,
     alloc: Global,
     network: &Network,
     delta: Option<u32>,
     s: u64,
     t: u64,
     out: &mut CountedWriter<'_, W>,
-) -> Result<(), Failed>
+) -> Result<Done, Failed>
     requires { ForSome delta IsWidth }
     ensures answered { OnOk result (AnswersOne network.now (Query.Dist s t) (W.contents (writer_of out.old)) (W.contents (writer_of out.new))) }
+    ensures width { IfOk result (λ done. done.delta ≡ delta) }
     ensures refused { IfErr result IsUnanswered }
     // A refused query takes no memory.
     ensures memory { IsSome (refusal_of network.now (Query.Dist s t)) → IfErr result (λ failed. failed ≡ Failed.Code Refusal.Write) }
@@ -37,12 +43,18 @@ fn answer_one<W: Write>(
         source: s,
         target: t,
     };
-    let reply = match Searches::new(delta).answer(alloc, network, &query) {
+    let mut searches = Searches::new(alloc, delta, ROWS);
+    let reply = match searches.dist(rt, alloc, network, s, t) {
         Ok(reply) => reply,
         Err(_) => return Err(Failed::Code(Refusal::OutOfMemory)),
     };
-    match put_lines(out, 0, &query, Some(reply)) {
-        Ok(()) => out.flush(),
+    if let Err(failed) = put_lines(out, 0, &query, Some(reply)) {
+        return Err(failed);
+    }
+    match out.flush() {
+        Ok(()) => Ok(Done {
+            delta: searches.delta(),
+        }),
         Err(failed) => Err(failed),
     }
 }
@@ -51,21 +63,23 @@ fn answer_one<W: Write>(
 /// before anything is written.
 ///
 /// `delta` is the width of a search's buckets, 1 to 2147483647: every width gives the same answer; without one it is the
-/// network's default.
+/// network's default. The row is made by a crew of the runtime's threads.
 /// Where no memory is there for the reply the call is refused with 11 and nothing is written. A failed read is fault 10 of the line
 /// being read, and a failed write is 12: both are told only where the count of the reader's or writer's failed calls rose. After an
 /// `Err` reader and writer are not used again.
-pub fn once_counted<R: BufRead, W: Write>(
+pub fn once_counted<T: Threads, R: BufRead, W: Write>(
+    rt: &T,
     alloc: Global,
     gr: &mut Counted<'_, R>,
     s: u64,
     t: u64,
     delta: Option<u32>,
     out: &mut CountedWriter<'_, W>,
-) -> Result<(), Failed>
+) -> Result<Done, Failed>
     requires { ForSome delta IsWidth }
     ensures answered { OnOk result (IfSome (R.remaining (reader_of gr.old))
         (λ text. IsAnsweredOnce text (Query.Dist s t) (W.contents (writer_of out.old)) (W.contents (writer_of out.new)))) }
+    ensures width { IfOk result (λ done. done.delta ≡ delta) }
     ensures refused { IfErr result (λ failed. IfSome (R.remaining (reader_of gr.old))
         (λ text. IsRefusedOnce text (R.remaining (reader_of gr.new)) failed)) }
     ensures unwritten { IfErr result (LeavesUnwritten (writer_of out.old) (writer_of out.new)) }
@@ -78,20 +92,22 @@ pub fn once_counted<R: BufRead, W: Write>(
         Ok(network) => network,
         Err(fault) => return Err(Failed::Text { which: 0, fault }),
     };
-    answer_one(alloc, &network, delta, s, t, out)
+    answer_one(rt, alloc, &network, delta, s, t, out)
 }
 
 /// The same for a text in memory, over any writer, whose failed calls nobody counts.
-pub fn once_text<W: Write>(
+pub fn once_text<T: Threads, W: Write>(
+    rt: &T,
     alloc: Global,
     gr: &[u8],
     s: u64,
     t: u64,
     delta: Option<u32>,
     out: &mut W,
-) -> Result<(), Failed>
+) -> Result<Done, Failed>
     requires { ForSome delta IsWidth }
     ensures answered { OnOk result (IsAnsweredOnce gr.now (Query.Dist s t) (W.contents out.old) (W.contents out.new)) }
+    ensures width { IfOk result (λ done. done.delta ≡ delta) }
     ensures refused { IfErr result (IsTextRefusedOnce gr.now) }
     ensures unwritten { IfErr result (LeavesUnwritten out.old out.new) }
 {
@@ -100,5 +116,5 @@ pub fn once_text<W: Write>(
         Err(fault) => return Err(Failed::Text { which: 0, fault }),
     };
     let mut out = CountedWriter::new(out);
-    answer_one(alloc, &network, delta, s, t, &mut out)
+    answer_one(rt, alloc, &network, delta, s, t, &mut out)
 }

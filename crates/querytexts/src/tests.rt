@@ -1,12 +1,17 @@
+ghost use Rattle.std.specs.Prelude.{◌≤◌};
+
+use crate::batch::answer_by;
 use crate::{batch_text, once_counted, once_text};
-use dimacs::{Code, Counted, Fault};
-use printing::{CountedWriter, Failed};
-use roadnet::Refusal;
+use dimacs::{Code, Counted, Fault, Pair, parse_gr, parse_p2p};
+use printing::{CountedWriter, Done, Failed};
+use roadnet::{Network, Refusal};
+use rows::{Query, Reply, Searches, answer_plain};
 use std::alloc::Global;
 use std::io;
 use std::io::{ErrorKind, Write};
 use std::process::Abort;
 use std::test::Fail;
+use std::thread::Threads;
 
 /// The network of the worked rows.
 const SIX: &[u8] =
@@ -15,9 +20,13 @@ const SIX: &[u8] =
 #[test]
 fn one_query_of_a_text(rt: HostRuntime) {
     let mut out = Vec::new(rt.alloc());
-    assert!(rt; once_text(rt.alloc(), SIX, 1, 6, None, &mut out) == Ok(()));
-    assert!(rt; once_text(rt.alloc(), SIX, 6, 1, Some(5), &mut out) == Ok(()));
-    assert!(rt; once_text(rt.alloc(), SIX, 7, u64::MAX, None, &mut out) == Ok(()));
+    assert!(rt; once_text(&rt, rt.alloc(), SIX, 1, 6, None, &mut out) == Ok(Done { delta: None }));
+    assert!(rt;
+        once_text(&rt, rt.alloc(), SIX, 6, 1, Some(5), &mut out) == Ok(Done { delta: Some(5) })
+    );
+    assert!(rt;
+        once_text(&rt, rt.alloc(), SIX, 7, u64::MAX, None, &mut out) == Ok(Done { delta: None })
+    );
     assert!(rt; out.as_slice() == b"v 0\nd 1 6 15\nv 0\nx 6 1\nv 0\nno 24\n".as_slice());
     let fault = Fault {
         line: 3,
@@ -25,6 +34,7 @@ fn one_query_of_a_text(rt: HostRuntime) {
     };
     let mut unwritten = Vec::new(rt.alloc());
     let outcome = once_text(
+        &rt,
         rt.alloc(),
         b"p sp 6 8\na 1 2 17\na 1 2 -5\n",
         1,
@@ -67,15 +77,16 @@ fn a_writer_fails_at_each_write(rt: HostRuntime) {
         let mut six = SIX;
         let mut writer = CountedWriter::new(&mut failing);
         let outcome = once_counted(
+            &rt,
             rt.alloc(),
             &mut Counted::new(&mut six),
             1,
             6,
-            None,
+            Some(5),
             &mut writer,
         );
         let failed = writer.failed_writes();
-        if outcome == Ok(()) {
+        if outcome == Ok(Done { delta: Some(5) }) {
             assert!(rt; failed == 0 && writes > 8, "write {writes}");
         } else {
             assert!(rt;
@@ -105,7 +116,9 @@ fn batch_of_pairs(rt: HostRuntime) -> Result<(), Fail> {
     ];
     for (gr, p2p, want) in table {
         let mut out = Vec::new(rt.alloc());
-        assert!(rt; batch_text(rt.alloc(), gr, p2p, Some(5), &mut out) == Ok(()));
+        assert!(rt;
+            batch_text(&rt, rt.alloc(), gr, p2p, Some(5), &mut out) == Ok(Done { delta: Some(5) })
+        );
         assert!(rt; out.as_slice() == want.as_bytes(), "{want}");
     }
     Ok(())
@@ -163,7 +176,7 @@ fn faults_of_batches(rt: HostRuntime) {
     ];
     for (gr, p2p, which, fault) in table {
         let mut out = Vec::new(rt.alloc());
-        let outcome = batch_text(rt.alloc(), gr, p2p, None, &mut out);
+        let outcome = batch_text(&rt, rt.alloc(), gr, p2p, None, &mut out);
         assert!(rt; outcome == Err(Failed::Text { which, fault }), "{fault}");
         assert!(rt; out.is_empty(), "{fault}");
     }
@@ -200,8 +213,110 @@ fn sending_writer(alloc: Global) -> SendingWriter {
 #[test]
 fn answers_are_sent_out(rt: HostRuntime) {
     let mut out = sending_writer(rt.alloc());
-    assert!(rt; once_text(rt.alloc(), SIX, 1, 6, None, &mut out) == Ok(()));
+    assert!(rt; once_text(&rt, rt.alloc(), SIX, 1, 6, None, &mut out) == Ok(Done { delta: None }));
     let pairs = b"p aux sp p2p 2\nq 1 6\nq 6 1\n";
-    assert!(rt; batch_text(rt.alloc(), SIX, pairs, None, &mut out) == Ok(()));
+    assert!(rt;
+        batch_text(&rt, rt.alloc(), SIX, pairs, None, &mut out) == Ok(Done { delta: None })
+    );
     assert!(rt; out.sent.as_slice() == [13, 19].as_slice() && out.waiting == 0);
+}
+
+/// The next of a row of numbers that look random, from 1 up to `most`.
+fn next_of(state: &mut u64, most: u64) -> u64
+    requires { 1 ≤ most }
+{
+    *state = state
+        .wrapping_mul(6364136223846793005)
+        .wrapping_add(1442695040888963407);
+    (*state >> 33) % most + 1
+}
+
+/// A network of 60 nodes and 130 arcs, and 100 pairs of 20 sources.
+fn mixed_texts(alloc: Global) -> Result<(String, String), Fail> {
+    let mut state = 7;
+    let mut gr = String::from_str(alloc, "p sp 60 130\n")?;
+    for _ in 0..130 {
+        let tail = next_of(&mut state, 60);
+        let head = next_of(&mut state, 60);
+        let length = next_of(&mut state, 1000);
+        let line = format!(in alloc; "a {tail} {head} {length}\n")?;
+        gr.push_str(line.as_str())?;
+    }
+    let mut p2p = String::from_str(alloc, "p aux sp p2p 100\n")?;
+    for _ in 0..100 {
+        let source = next_of(&mut state, 20);
+        let target = next_of(&mut state, 60);
+        let line = format!(in alloc; "q {source} {target}\n")?;
+        p2p.push_str(line.as_str())?;
+    }
+    Ok((gr, p2p))
+}
+
+/// The lines of a batch, by a plain row for each pair.
+fn plain_lines(alloc: Global, network: &Network, pairs: &[Pair]) -> Result<String, Fail> {
+    let mut lines = String::from_str(alloc, "v 0\n")?;
+    for pair in pairs {
+        let Pair { source, target } = *pair;
+        let query = Query::Dist {
+            source: u64::from(source),
+            target: u64::from(target),
+        };
+        let line = match answer_plain(alloc, network, &query) {
+            Ok(Reply::Length(length)) => format!(in alloc; "d {source} {target} {length}\n")?,
+            Ok(Reply::NoWalk) => format!(in alloc; "x {source} {target}\n")?,
+            _ => format!(in alloc; "no reply\n")?,
+        };
+        lines.push_str(line.as_str())?;
+    }
+    Ok(lines)
+}
+
+/// Searches that keep so many rows write these bytes.
+fn is_answered_with(
+    rt: &(impl Abort + AllocGlobal + Threads),
+    network: &Network,
+    pairs: &[Pair],
+    capacity: u32,
+    want: &str,
+)
+    requires { (1 ≤ capacity) × (capacity ≤ 64) }
+{
+    let mut searches = Searches::new(rt.alloc(), None, capacity);
+    let mut out = Vec::new(rt.alloc());
+    let mut writer = CountedWriter::new(&mut out);
+    let outcome = answer_by(
+        rt,
+        rt.alloc(),
+        network,
+        0,
+        &mut searches,
+        pairs,
+        &mut writer,
+    );
+    assert!(rt; outcome == Ok(Done { delta: None }), "{capacity}");
+    assert!(rt; out.as_slice() == want.as_bytes(), "{capacity}");
+}
+
+/// Whatever number of rows is kept, the bytes are those of plain rows.
+#[test]
+fn kept_rows_change_no_byte(rt: HostRuntime) -> Result<(), Fail> {
+    let (gr, p2p) = mixed_texts(rt.alloc())?;
+    let (gr, p2p) = (gr.as_bytes(), p2p.as_bytes());
+    let Ok(network) = parse_gr(rt.alloc(), gr) else {
+        assert!(rt; false, "network");
+        return Ok(());
+    };
+    let Ok(pairs) = parse_p2p(rt.alloc(), p2p, network.nodes()) else {
+        assert!(rt; false, "pairs");
+        return Ok(());
+    };
+    let want = plain_lines(rt.alloc(), &network, &pairs)?;
+    assert!(rt; want.as_str().contains("\nd ") && want.as_str().contains("\nx "));
+    is_answered_with(&rt, &network, &pairs, 1, want.as_str());
+    is_answered_with(&rt, &network, &pairs, 16, want.as_str());
+    is_answered_with(&rt, &network, &pairs, 64, want.as_str());
+    let mut out = Vec::new(rt.alloc());
+    assert!(rt; batch_text(&rt, rt.alloc(), gr, p2p, Some(50), &mut out).is_ok());
+    assert!(rt; out.as_slice() == want.as_bytes());
+    Ok(())
 }

@@ -1,5 +1,5 @@
 //! The joint form: a network, a line `run`, and a script.
-ghost use Rattle.std.specs.Prelude.{IfSome, OnOk, IfErr};
+ghost use Rattle.std.specs.Prelude.{◌≡◌, IfSome, IfOk, OnOk, IfErr};
 ghost use Rattle.std.specs.Option.{ForSome};
 ghost use Rattle.rows.specs.Kept.{IsWidth};
 ghost use Rattle.dimacs.specs.Counts.{failed_calls, reader_of, IsSameReader};
@@ -12,11 +12,12 @@ use crate::running::run_events;
 use dimacs::{Counted, read_gr_before_run};
 use disk::Pick;
 use machine::Event;
-use printing::{CountedWriter, Failed};
+use printing::{CountedWriter, Done, Failed};
 use roadnet::Network;
 use scripts::read_script_counted;
 use std::alloc::Global;
 use std::io::{BufRead, Write};
+use std::thread::Threads;
 
 const NETWORK: u8 = 0;
 
@@ -72,13 +73,15 @@ fn read_joint<R: BufRead>(alloc: Global, reader: &mut Counted<'_, R>) -> Result<
 /// is wanting in the disk), nothing is written; where the run ends early (11 or 43), the replies so far are. A failed read is fault 10 of
 /// the text and line being read, and a failed write is 12: both are told only where the count of the reader's or writer's failed calls
 /// rose. After an `Err` reader and writer are not used again.
-pub fn joint_counted<R: BufRead, W: Write>(
+pub fn joint_counted<T: Threads, R: BufRead, W: Write>(
+    rt: &T,
     alloc: Global,
     reader: &mut Counted<'_, R>,
     delta: Option<u32>,
     out: &mut CountedWriter<'_, W>,
-) -> Result<(), Failed>
+) -> Result<Done, Failed>
     requires { ForSome delta IsWidth }
+    ensures width { IfOk result (λ done. done.delta ≡ delta) }
     ensures answered { OnOk result (IfSome (R.remaining (reader_of reader.old))
         (λ text. IsAnswered text (W.contents (writer_of out.old)) (W.contents (writer_of out.new)))) }
     ensures refused { IfErr result (λ failed. IfSome (R.remaining (reader_of reader.old))
@@ -95,6 +98,7 @@ pub fn joint_counted<R: BufRead, W: Write>(
         Err(failed) => return Err(failed),
     };
     run_events(
+        rt,
         alloc,
         &joint.network,
         JOURNAL_PAGES,
@@ -105,13 +109,15 @@ pub fn joint_counted<R: BufRead, W: Write>(
 }
 
 /// The same over any reader and writer, whose failed calls nobody counts.
-pub fn joint_text<R: BufRead, W: Write>(
+pub fn joint_text<T: Threads, R: BufRead, W: Write>(
+    rt: &T,
     alloc: Global,
     reader: &mut R,
     delta: Option<u32>,
     out: &mut W,
-) -> Result<(), Failed>
+) -> Result<Done, Failed>
     requires { ForSome delta IsWidth }
+    ensures width { IfOk result (λ done. done.delta ≡ delta) }
     ensures answered { OnOk result (IfSome (R.remaining reader.old)
         (λ text. IsAnswered text (W.contents out.old) (W.contents out.new))) }
     ensures refused { IfErr result (λ failed. IfSome (R.remaining reader.old)
@@ -121,5 +127,5 @@ pub fn joint_text<R: BufRead, W: Write>(
 {
     let mut reader = Counted::new(reader);
     let mut out = CountedWriter::new(out);
-    joint_counted(alloc, &mut reader, delta, &mut out)
+    joint_counted(rt, alloc, &mut reader, delta, &mut out)
 }

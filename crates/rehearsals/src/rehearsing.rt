@@ -1,5 +1,5 @@
 //! A network's text, and a script that is run on it.
-ghost use Rattle.std.specs.Prelude.{◌≤◌, OnOk, IfErr, IfSome};
+ghost use Rattle.std.specs.Prelude.{◌≡◌, ◌≤◌, OnOk, IfOk, IfErr, IfSome};
 ghost use Rattle.std.specs.Option.{ForSome};
 ghost use Rattle.rows.specs.Kept.{IsWidth};
 ghost use Rattle.dimacs.specs.Counts.{failed_calls, reader_of, IsSameReader};
@@ -10,10 +10,11 @@ ghost use Rattle.rehearsals.specs.Texts.{IsRehearsed, IsRefusedRehearsal, IsText
 
 use crate::running::run_events;
 use dimacs::{Counted, parse_gr, read_gr_counted};
-use printing::{CountedWriter, Failed};
+use printing::{CountedWriter, Done, Failed};
 use scripts::{parse_script, read_script_counted};
 use std::alloc::Global;
 use std::io::{BufRead, Write};
+use std::thread::Threads;
 
 const NETWORK: u8 = 0;
 
@@ -28,17 +29,19 @@ const SCRIPT: u8 = 1;
 /// `no 11`. Where the store cannot be made (11, or 43 where memory is wanting in the disk), nothing is written; where the run ends early
 /// (11 or 43), the replies so far are. A failed read is fault 10 of the text and line being read, and a failed write is 12: both are told
 /// only where the count of that reader's or the writer's failed calls rose. After an `Err` readers and writer are not used again.
-pub fn rehearse_counted<R: BufRead, Q: BufRead, W: Write>(
+pub fn rehearse_counted<T: Threads, R: BufRead, Q: BufRead, W: Write>(
+    rt: &T,
     alloc: Global,
     gr: &mut Counted<'_, R>,
     script: &mut Counted<'_, Q>,
     journal_pages: u32,
     delta: Option<u32>,
     out: &mut CountedWriter<'_, W>,
-) -> Result<(), Failed>
+) -> Result<Done, Failed>
     requires width { ForSome delta IsWidth }
     requires some { 1 ≤ journal_pages }
     requires few { journal_pages ≤ 65536 }
+    ensures width { IfOk result (λ done. done.delta ≡ delta) }
     ensures answered { OnOk result (IfSome (R.remaining (reader_of gr.old)) (λ network. IfSome (Q.remaining (reader_of script.old))
         (λ events. IsRehearsed journal_pages (rows network) (rows events) (W.contents (writer_of out.old)) (W.contents (writer_of out.new))))) }
     ensures refused { IfErr result (λ failed. IfSome (R.remaining (reader_of gr.old)) (λ network. IfSome (Q.remaining (reader_of script.old))
@@ -66,21 +69,23 @@ pub fn rehearse_counted<R: BufRead, Q: BufRead, W: Write>(
             fault,
         }),
     };
-    run_events(alloc, &network, journal_pages, delta, &events, out)
+    run_events(rt, alloc, &network, journal_pages, delta, &events, out)
 }
 
 /// The same for texts in memory, over any writer, whose failed calls nobody counts.
-pub fn rehearse_text<W: Write>(
+pub fn rehearse_text<T: Threads, W: Write>(
+    rt: &T,
     alloc: Global,
     gr: &[u8],
     script: &[u8],
     journal_pages: u32,
     delta: Option<u32>,
     out: &mut W,
-) -> Result<(), Failed>
+) -> Result<Done, Failed>
     requires width { ForSome delta IsWidth }
     requires some { 1 ≤ journal_pages }
     requires few { journal_pages ≤ 65536 }
+    ensures width { IfOk result (λ done. done.delta ≡ delta) }
     ensures answered { OnOk result (IsRehearsed journal_pages (rows gr.now) (rows script.now) (W.contents out.old) (W.contents out.new)) }
     ensures refused { IfErr result (IsTextRefusedRehearsal journal_pages gr.now script.now (W.contents out.old) (W.contents out.new)) }
     ensures unwritten { IfErr result (KeepsWriter out.old out.new) }
@@ -100,5 +105,5 @@ pub fn rehearse_text<W: Write>(
         }),
     };
     let mut out = CountedWriter::new(out);
-    run_events(alloc, &network, journal_pages, delta, &events, &mut out)
+    run_events(rt, alloc, &network, journal_pages, delta, &events, &mut out)
 }

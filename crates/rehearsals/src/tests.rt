@@ -2,13 +2,14 @@ ghost use Rattle.std.specs.Prelude.{◌≤◌};
 
 use crate::{joint_counted, joint_text, rehearse_counted, rehearse_text};
 use dimacs::{Code, Counted, Fault};
-use printing::{CountedWriter, Failed};
+use printing::{CountedWriter, Done, Failed};
 use roadnet::Refusal;
 use std::alloc::Global;
 use std::io;
 use std::io::{BufReader, ErrorKind, Read, Write};
 use std::process::Abort;
 use std::test::Fail;
+use std::thread::Threads;
 
 /// The network of the worked rows.
 const SIX: &[u8] =
@@ -20,7 +21,7 @@ const CLOSED: &[u8] = b"close 7\nflush\ndist 1 6\ntask\npublish\ndist 1 6\n";
 
 /// A script on a new store of the network is told of with just these bytes.
 fn is_rehearsed(
-    rt: &(impl Abort + AllocGlobal),
+    rt: &(impl Abort + AllocGlobal + Threads),
     name: &str,
     gr: &[u8],
     journal_pages: u32,
@@ -31,17 +32,17 @@ fn is_rehearsed(
     requires few { journal_pages ≤ 65536 }
 {
     let mut out = Vec::new(rt.alloc());
-    let outcome = rehearse_text(rt.alloc(), gr, script, journal_pages, None, &mut out);
-    assert!(rt; outcome == Ok(()), "{name}");
+    let outcome = rehearse_text(rt, rt.alloc(), gr, script, journal_pages, None, &mut out);
+    assert!(rt; outcome.is_ok(), "{name}");
     assert!(rt; out.as_slice() == want, "{name}");
 }
 
 /// A joint text is answered with just these bytes.
-fn is_answered(rt: &(impl Abort + AllocGlobal), name: &str, text: &[u8], want: &[u8]) {
+fn is_answered(rt: &(impl Abort + AllocGlobal + Threads), name: &str, text: &[u8], want: &[u8]) {
     let mut reader = text;
     let mut out = Vec::new(rt.alloc());
-    let outcome = joint_text(rt.alloc(), &mut reader, None, &mut out);
-    assert!(rt; outcome == Ok(()), "{name}");
+    let outcome = joint_text(rt, rt.alloc(), &mut reader, None, &mut out);
+    assert!(rt; outcome.is_ok(), "{name}");
     assert!(rt; out.as_slice() == want, "{name}");
 }
 
@@ -73,7 +74,7 @@ fn joint_texts(rt: HostRuntime) {
 
 #[test]
 fn scripts_of_the_default_journal(rt: HostRuntime) {
-    let table: [(&str, &[u8], &[u8], &[u8]); 10] = [
+    let table: [(&str, &[u8], &[u8], &[u8]); 11] = [
         (
             "no_walk_itself_no_node",
             SIX,
@@ -123,10 +124,16 @@ fn scripts_of_the_default_journal(rt: HostRuntime) {
             b"t 1\nok 1\nstopped\nv 1\nv 1\nd 1 6 22\nstopped\nv 1\nv 1\nd 1 6 22\n",
         ),
         (
-            "rows of a landmark",
+            "bounds_and_rows",
             SIX,
-            b"mark 3\nflush\ntask\npublish\ndist 5 6\nfrom 3 4\nfrom 1 4\n",
-            b"t 1\nok 1\ntask 1\nshown 1\nv 1\nd 5 6 5\nv 1\nd 3 4 2\nv 1\nno 26\n",
+            b"mark 3\nflush\ntask\npublish\nlower 5 6\ndist 5 6\nlower 5 1\nfrom 3 4\nfrom 1 4\n",
+            b"t 1\nok 1\ntask 1\nshown 1\nv 1\nb 5 6 5\nv 1\nd 5 6 5\nv 1\nx 5 1\nv 1\nd 3 4 2\nv 1\nno 26\n",
+        ),
+        (
+            "bounds_of_two_landmarks",
+            SIX,
+            b"mark 1\nmark 3\nflush\ntask\npublish\nlower 1 6\nlower 5 2\nlower 4 1\n",
+            b"t 1\nt 2\nok 2\ntask 2\nshown 2\nv 2\nb 1 6 15\nv 2\nb 5 2 0\nv 2\nx 4 1\n",
         ),
         ("no_events", SIX, b"# none\n", b""),
     ];
@@ -197,9 +204,9 @@ fn full_page_of_commands(rt: HostRuntime) -> Result<(), Fail> {
 fn faults_of_texts(rt: HostRuntime) {
     let table: [(&[u8], &[u8], u8, u64, Code); 7] = [
         (b"p sp 0 0\n", b"q", 0, 1, Code::NumberRange),
-        (b"", b"lower 1 2", 0, 0, Code::NoProblemLine),
+        (b"", b"under 1 2", 0, 0, Code::NoProblemLine),
         (b"p sp 1 0\nrun\n", b"", 0, 2, Code::BadLine),
-        (SIX, b"lower 5 6\n", 1, 1, Code::BadLine),
+        (SIX, b"lower 5\n", 1, 1, Code::BadLine),
         (
             SIX,
             b"dist 1 6\n\nstop 0 old flush\n",
@@ -213,7 +220,7 @@ fn faults_of_texts(rt: HostRuntime) {
     for (gr, script, which, line, code) in table {
         let mut out = Vec::new(rt.alloc());
         let fault = Fault { line, code };
-        let outcome = rehearse_text(rt.alloc(), gr, script, 64, None, &mut out);
+        let outcome = rehearse_text(&rt, rt.alloc(), gr, script, 64, None, &mut out);
         assert!(rt; outcome == Err(Failed::Text { which, fault }), "{fault}");
         assert!(rt; out.is_empty(), "{fault}");
     }
@@ -233,7 +240,7 @@ fn faults_of_joint_texts(rt: HostRuntime) {
         (b"p sp 2 1\nrun\n", 0, 1, Code::LineCount),
         (b"p sp 2 0\nrun\ndist 1\n", 1, 1, Code::BadLine),
         (
-            b"p sp 2 0\nrun\n\ndist 1 2\nlower 1 2\n",
+            b"p sp 2 0\nrun\n\ndist 1 2\nlower 1 2 3\n",
             1,
             3,
             Code::BadLine,
@@ -258,7 +265,7 @@ fn faults_of_joint_texts(rt: HostRuntime) {
         let mut reader = text;
         let mut out = Vec::new(rt.alloc());
         let fault = Fault { line, code };
-        let outcome = joint_text(rt.alloc(), &mut reader, None, &mut out);
+        let outcome = joint_text(&rt, rt.alloc(), &mut reader, None, &mut out);
         assert!(rt; outcome == Err(Failed::Text { which, fault }), "{fault}");
         assert!(rt; out.is_empty(), "{fault}");
     }
@@ -269,8 +276,8 @@ fn faults_of_joint_texts(rt: HostRuntime) {
 fn widths_give_one_answer(rt: HostRuntime) {
     for delta in [Some(1), Some(5), Some(2147483647)] {
         let mut out = Vec::new(rt.alloc());
-        let outcome = rehearse_text(rt.alloc(), SIX, CLOSED, 1, delta, &mut out);
-        assert!(rt; outcome == Ok(()), "{delta:?}");
+        let outcome = rehearse_text(&rt, rt.alloc(), SIX, CLOSED, 1, delta, &mut out);
+        assert!(rt; outcome == Ok(Done { delta }), "{delta:?}");
         assert!(rt;
             out.as_slice()
                 == b"t 1\nok 1\nv 0\nd 1 6 15\ntask 1\nshown 1\nv 1\nd 1 6 22\n".as_slice(),
@@ -309,13 +316,13 @@ fn a_reader_fails_at_each_read(rt: HostRuntime) -> Result<(), Fail> {
         let mut counted = Counted::new(&mut reader);
         let mut out = Vec::new(rt.alloc());
         let mut writer = CountedWriter::new(&mut out);
-        let outcome = joint_counted(rt.alloc(), &mut counted, None, &mut writer);
+        let outcome = joint_counted(&rt, rt.alloc(), &mut counted, None, &mut writer);
         let failed = counted.failed_calls();
         if let Err(Failed::Text { which: _, fault }) = outcome {
             assert!(rt; fault.code == Code::Read && failed == 1, "read {reads}");
             assert!(rt; out.is_empty(), "read {reads}");
         } else {
-            assert!(rt; outcome == Ok(()) && failed == 0, "read {reads}");
+            assert!(rt; outcome.is_ok() && failed == 0, "read {reads}");
             assert!(rt; out.as_slice() == b"v 0\nd 1 6 15\n".as_slice());
             assert!(rt; reads > 12);
         }
@@ -336,6 +343,7 @@ fn a_reader_of_a_script_fails(rt: HostRuntime) -> Result<(), Fail> {
         let mut out = Vec::new(rt.alloc());
         let mut writer = CountedWriter::new(&mut out);
         let outcome = rehearse_counted(
+            &rt,
             rt.alloc(),
             &mut Counted::new(&mut gr),
             &mut script,
@@ -351,7 +359,7 @@ fn a_reader_of_a_script_fails(rt: HostRuntime) -> Result<(), Fail> {
             );
             assert!(rt; out.is_empty(), "read {reads}");
         } else {
-            assert!(rt; outcome == Ok(()) && failed == 0, "read {reads}");
+            assert!(rt; outcome.is_ok() && failed == 0, "read {reads}");
             assert!(rt; out.as_slice() == b"v 0\nd 1 6 15\nv 0\nd 4 4 0\n".as_slice());
             assert!(rt; reads > 3);
         }
@@ -399,10 +407,10 @@ fn allocations_fail_in_turn(rt: HostRuntime) {
         bytes: [0; 96],
         len: 0,
     };
-    let outcome = rehearse_text(rt.alloc(), SIX, CLOSED, 64, None, &mut page);
+    let outcome = rehearse_text(&rt, rt.alloc(), SIX, CLOSED, 64, None, &mut page);
     let told = &page.bytes[..page.len.min(96)];
     match outcome {
-        Ok(()) => assert!(rt; whole.iter().any(|want| *want == told)),
+        Ok(_) => assert!(rt; whole.iter().any(|want| *want == told)),
         Err(Failed::Text { which: _, fault }) => {
             assert!(rt; fault.code == Code::OutOfMemory && told.is_empty());
         }
@@ -444,9 +452,17 @@ fn sending_writer(alloc: Global) -> SendingWriter {
 #[test]
 fn replies_are_sent_out(rt: HostRuntime) {
     let mut out = sending_writer(rt.alloc());
-    let outcome = rehearse_text(rt.alloc(), SIX, b"close 7\nflush\n", 64, None, &mut out);
-    assert!(rt; outcome == Ok(()));
+    let outcome = rehearse_text(
+        &rt,
+        rt.alloc(),
+        SIX,
+        b"close 7\nflush\n",
+        64,
+        None,
+        &mut out,
+    );
+    assert!(rt; outcome == Ok(Done { delta: None }));
     let mut text: &[u8] = b"p sp 1 0\nrun\ndist 1 1\n";
-    assert!(rt; joint_text(rt.alloc(), &mut text, None, &mut out) == Ok(()));
+    assert!(rt; joint_text(&rt, rt.alloc(), &mut text, None, &mut out) == Ok(Done { delta: None }));
     assert!(rt; out.sent.as_slice() == [9, 12].as_slice() && out.waiting == 0);
 }

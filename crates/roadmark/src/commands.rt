@@ -50,7 +50,7 @@ const ABOUT_BATCH: &str =
     "Answers the pairs of the file P2P in the network of the file GR: the line `v 0`, then one line a pair, in their order: `d S T LENGTH`, or `x S T` where no walk leads there.";
 
 const ABOUT_REHEARSE: &str =
-    "Makes a store in memory for the network of the file GR, runs the script of the file SCRIPT on it, and prints the lines of its events: commands, flushes, checkpoints, queries, and stops as a power cut makes them. No file is written.";
+    "Makes a store in memory for the network of the file GR, runs the script of the file SCRIPT on it, and prints the lines of its events: commands, flushes, checkpoints, queries (`dist S T`, `from X T`, `lower S T`), and stops as a power cut makes them. No file is written.";
 
 const ABOUT_CREATE: &str =
     "Makes a store in the file STORE, which is absent or empty: it holds the network of the file GR with the landmarks of the file SS, at version 0. It prints `ok 0` once the store is there for good.";

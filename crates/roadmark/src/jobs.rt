@@ -1,37 +1,44 @@
 //! The jobs of the program on texts, answered on standard output.
+ghost use Rattle.std.specs.Prelude.{◌≡◌, IfOk};
 ghost use Rattle.std.specs.Option.{ForSome};
 ghost use Rattle.rows.specs.Kept.{IsWidth};
 ghost use Rattle.roadmark.specs.Words.{IsJournal};
 
 use crate::files::{BUFFER, buffered, open_text, open_texts};
 use dimacs::Counted;
-use printing::{CountedWriter, Failed};
+use printing::{CountedWriter, Done, Failed};
 use querytexts::{batch_counted, once_counted};
 use rehearsals::{joint_text, rehearse_counted};
 use roadnet::Refusal;
 use std::io::{self, BufWriter};
 use std::rt::Files;
+use std::thread::Threads;
 
 /// The joint form on standard input.
-pub fn run_joint<R: AllocGlobal + Input + Print>(rt: &R, delta: Option<u32>) -> Result<(), Failed>
+pub fn run_joint<R: AllocGlobal + Input + Print + Threads>(
+    rt: &R,
+    delta: Option<u32>,
+) -> Result<Done, Failed>
     requires { ForSome delta IsWidth }
+    ensures { IfOk result (λ done. done.delta ≡ delta) }
 {
     let mut reader = buffered(rt.alloc(), rt.reader())?;
     let Ok(mut writer) = BufWriter::with_capacity(rt.alloc(), BUFFER, io::writer(rt)) else {
         return Err(Failed::Code(Refusal::OutOfMemory));
     };
-    joint_text(rt.alloc(), &mut reader, delta, &mut writer)
+    joint_text(rt, rt.alloc(), &mut reader, delta, &mut writer)
 }
 
 /// One distance in the network of a file.
-pub fn run_once<R: AllocGlobal + Files + Print>(
+pub fn run_once<R: AllocGlobal + Files + Print + Threads>(
     rt: &R,
     network: &str,
     source: u64,
     target: u64,
     delta: Option<u32>,
-) -> Result<(), Failed>
+) -> Result<Done, Failed>
     requires { ForSome delta IsWidth }
+    ensures { IfOk result (λ done. done.delta ≡ delta) }
 {
     let mut reader = open_text(rt, 0, network)?;
     let Ok(mut writer) = BufWriter::with_capacity(rt.alloc(), BUFFER, io::writer(rt)) else {
@@ -39,17 +46,26 @@ pub fn run_once<R: AllocGlobal + Files + Print>(
     };
     let mut reader = Counted::new(&mut reader);
     let mut writer = CountedWriter::new(&mut writer);
-    once_counted(rt.alloc(), &mut reader, source, target, delta, &mut writer)
+    once_counted(
+        rt,
+        rt.alloc(),
+        &mut reader,
+        source,
+        target,
+        delta,
+        &mut writer,
+    )
 }
 
 /// The pairs of a file in the network of another.
-pub fn run_batch<R: AllocGlobal + Files + Print>(
+pub fn run_batch<R: AllocGlobal + Files + Print + Threads>(
     rt: &R,
     network: &str,
     pairs: &str,
     delta: Option<u32>,
-) -> Result<(), Failed>
+) -> Result<Done, Failed>
     requires { ForSome delta IsWidth }
+    ensures { IfOk result (λ done. done.delta ≡ delta) }
 {
     let (mut gr, mut p2p) = open_texts(rt, network, pairs)?;
     let Ok(mut writer) = BufWriter::with_capacity(rt.alloc(), BUFFER, io::writer(rt)) else {
@@ -58,19 +74,20 @@ pub fn run_batch<R: AllocGlobal + Files + Print>(
     let mut gr = Counted::new(&mut gr);
     let mut p2p = Counted::new(&mut p2p);
     let mut writer = CountedWriter::new(&mut writer);
-    batch_counted(rt.alloc(), &mut gr, &mut p2p, delta, &mut writer)
+    batch_counted(rt, rt.alloc(), &mut gr, &mut p2p, delta, &mut writer)
 }
 
 /// The script of a file, on a store in memory for the network of another.
-pub fn run_rehearse<R: AllocGlobal + Files + Print>(
+pub fn run_rehearse<R: AllocGlobal + Files + Print + Threads>(
     rt: &R,
     network: &str,
     script: &str,
     journal_pages: u32,
     delta: Option<u32>,
-) -> Result<(), Failed>
+) -> Result<Done, Failed>
     requires journal { IsJournal journal_pages }
     requires width { ForSome delta IsWidth }
+    ensures width { IfOk result (λ done. done.delta ≡ delta) }
 {
     let (mut gr, mut script) = open_texts(rt, network, script)?;
     let Ok(mut writer) = BufWriter::with_capacity(rt.alloc(), BUFFER, io::writer(rt)) else {
@@ -80,6 +97,7 @@ pub fn run_rehearse<R: AllocGlobal + Files + Print>(
     let mut script = Counted::new(&mut script);
     let mut writer = CountedWriter::new(&mut writer);
     rehearse_counted(
+        rt,
         rt.alloc(),
         &mut gr,
         &mut script,

@@ -7,7 +7,7 @@
 //! closed, the next file that is opened takes its number, and what is printed would be written into that file.
 #![tactic(auto)]
 
-ghost use Rattle.std.specs.Prelude.{◌≡◌, ◌≢◌, ◌≤◌, is_ok, if◌then◌else◌};
+ghost use Rattle.std.specs.Prelude.{◌≡◌, ◌≢◌, ◌≤◌, is_ok, if◌then◌else◌, IfOk};
 ghost use Rattle.std.specs.Option.{ForSome};
 ghost use Rattle.std.specs.IoError.{error_kind};
 ghost use Rattle.rows.specs.Kept.{IsWidth};
@@ -22,13 +22,14 @@ mod streams;
 mod words;
 
 use jobs::{run_batch, run_joint, run_once, run_rehearse};
-use printing::{Failed, fault_line, status};
+use printing::{Done, Failed, fault_line, status};
 use roadnet::Refusal;
 use std::env;
 use std::fs::File;
 use std::io::{self, ErrorKind};
 use std::process::ExitCode;
 use std::rt::{Env, Files};
+use std::thread::Threads;
 use store_jobs::{run_apply, run_ask, run_create};
 use streams::hold_streams;
 pub use words::{Job, MISUSE, Usage, read_words};
@@ -42,13 +43,14 @@ mod store_tests;
 #[cfg(test)]
 mod tests;
 
-/// Does a job.
-fn run<R: AllocGlobal + Files<File = File> + Input + Print>(
+/// Does a job, with searches of the job's width.
+fn run<R: AllocGlobal + Files<File = File> + Input + Print + Threads>(
     rt: &R,
     job: &Job<'_>,
-) -> Result<(), Failed>
+) -> Result<Done, Failed>
     requires width { ForSome (delta_of job.now) IsWidth }
     requires journal { ForSome (journal_of job.now) IsJournal }
+    ensures width { IfOk result (λ done. done.delta ≡ delta_of job.now) }
 {
     match *job {
         Job::Joint { delta } => run_joint(rt, delta),
@@ -148,7 +150,7 @@ fn show<R: Print + Eprint>(rt: &R, usage: &Usage) -> u8
 }
 
 /// Prints the fault line of a failure, if there is one, and gives the exit status.
-fn ended<R: Eprint>(rt: &R, outcome: &Result<(), Failed>, name: &str) -> u8
+fn ended<R: Eprint, T>(rt: &R, outcome: &Result<T, Failed>, name: &str) -> u8
     ensures { result ≡ (if is_ok outcome.now then 0 else 1) }
 {
     if let Err(failed) = outcome {
@@ -164,7 +166,7 @@ fn without_words<R: Eprint>(rt: &R, error: &io::Error) -> u8
     ensures misuse { error_kind error.now ≢ ErrorKind.OutOfMemory → result ≡ 2 }
 {
     match error.kind() {
-        ErrorKind::OutOfMemory => ended(rt, &Err(Failed::Code(Refusal::OutOfMemory)), ""),
+        ErrorKind::OutOfMemory => ended::<R, ()>(rt, &Err(Failed::Code(Refusal::OutOfMemory)), ""),
         _ => {
             let _ = eprintln!(rt;
                 "error: a word is not UTF-8\n\nFor more information, try '--help'."
@@ -176,18 +178,20 @@ fn without_words<R: Eprint>(rt: &R, error: &io::Error) -> u8
 
 /// Does what the program's words ask for, and gives the exit status: 0 where all was done, 1 after a fault, 2 where the words are not
 /// ones that it takes. The standard streams are held first.
-fn program<R: AllocGlobal + Env + Eprint + Files<File = File> + Input + Print>(rt: &R) -> u8
+fn program<R: AllocGlobal + Env + Eprint + Files<File = File> + Input + Print + Threads>(
+    rt: &R,
+) -> u8
     ensures { result ≤ 2 }
 {
     let Ok(_streams) = hold_streams(rt) else {
-        return ended(rt, &Err(Failed::Code(Refusal::Write)), "");
+        return ended::<R, ()>(rt, &Err(Failed::Code(Refusal::Write)), "");
     };
     let words = match env::args(rt) {
         Ok(words) => words,
         Err(error) => return without_words(rt, &error),
     };
     let Ok(words) = words.collect::<Vec<String>>(rt.alloc()) else {
-        return ended(rt, &Err(Failed::Code(Refusal::OutOfMemory)), "");
+        return ended::<R, ()>(rt, &Err(Failed::Code(Refusal::OutOfMemory)), "");
     };
     let job = match read_words(rt.alloc(), &words) {
         Ok(job) => job,
@@ -195,7 +199,7 @@ fn program<R: AllocGlobal + Env + Eprint + Files<File = File> + Input + Print>(r
     };
     let outcome = run(rt, &job);
     let name = match &outcome {
-        Ok(()) => "",
+        Ok(_) => "",
         Err(failed) => text_name(&job, failed),
     };
     ended(rt, &outcome, name)

@@ -5,6 +5,7 @@ use std::fs::File;
 use std::process::Abort;
 use std::rt::{Env, Files};
 use std::test::Fail;
+use std::thread::Threads;
 use std::{env, fs, process};
 
 const SIX: &str =
@@ -63,7 +64,7 @@ fn refused(words: &'static [Option<&'static str>], err: &'static str) -> Run {
 }
 
 /// The run of these words prints and ends so.
-fn is_run<R: Abort + AllocGlobal + Files<File = File>>(rt: &R, folder: &str, run: &Run) {
+fn is_run<R: Abort + AllocGlobal + Files<File = File> + Threads>(rt: &R, folder: &str, run: &Run) {
     let Ok(mut shell) = Shell::new(rt, folder, run.words) else {
         return assert!(rt; false);
     };

@@ -8,6 +8,7 @@ use std::io;
 use std::io::{ErrorKind, Lines};
 use std::path::PathBuf;
 use std::rt::{Env, Files};
+use std::thread::Threads;
 
 /// A run's words, input and output, over the files of a runtime.
 #[derive(Drop)]
@@ -99,6 +100,8 @@ impl<'a, R: AllocGlobal> Alloc for Shell<'a, R> {
         self.rt.alloc()
     }
 }
+
+impl<'a, R: Threads> Threads for Shell<'a, R> {}
 
 impl<'a, R: AllocGlobal> Print for Shell<'a, R> {
     fn print<D: Display + Drop>(&self, value: D) -> io::Result<()> {

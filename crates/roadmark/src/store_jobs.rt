@@ -1,4 +1,5 @@
 //! The jobs of the program on a store in a file, answered on standard output.
+ghost use Rattle.std.specs.Prelude.{◌≡◌, None, IfOk};
 ghost use Rattle.std.specs.Option.{ForSome};
 ghost use Rattle.rows.specs.Kept.{IsWidth};
 ghost use Rattle.std.specs.Bool.{Decides};
@@ -11,12 +12,13 @@ use crate::files::{
 use dimacs::Counted;
 use disk::Disk;
 use filedisk::NewFile;
-use printing::{CountedWriter, Failed};
+use printing::{CountedWriter, Done, Failed};
 use roadnet::Refusal;
 use std::alloc::Global;
 use std::fs::File;
 use std::io::{self, BufWriter};
 use std::rt::Files;
+use std::thread::Threads;
 use store::open;
 use storetexts::{apply_counted, ask_counted, create_store, read_planned};
 
@@ -38,8 +40,9 @@ pub fn run_create<R: AllocGlobal + Files<File = File> + Print>(
     network: &str,
     landmarks: &str,
     journal_pages: u32,
-) -> Result<(), Failed>
+) -> Result<Done, Failed>
     requires { IsJournal journal_pages }
+    ensures { IfOk result (λ done. done.delta ≡ None) }
 {
     let (mut gr, mut ss) = open_texts(rt, network, landmarks)?;
     let mut gr = Counted::new(&mut gr);
@@ -56,7 +59,10 @@ pub fn run_create<R: AllocGlobal + Files<File = File> + Print>(
     {
         let _ = made.remove(rt);
     }
-    outcome
+    match outcome {
+        Ok(()) => Ok(Done { delta: None }),
+        Err(failed) => Err(failed),
+    }
 }
 
 /// The failure of a text that is read for a store: a refusal of the store is told before it.
@@ -70,13 +76,14 @@ fn after_opening<D: Disk + Drop>(alloc: Global, disk: D, failed: Failed) -> Fail
 }
 
 /// The commands of a file, on the store of another. A fault of the store is told before one of the commands.
-pub fn run_apply<R: AllocGlobal + Files<File = File> + Print>(
+pub fn run_apply<R: AllocGlobal + Files<File = File> + Print + Threads>(
     rt: &R,
     store: &str,
     commands: &str,
     delta: Option<u32>,
-) -> Result<(), Failed>
+) -> Result<Done, Failed>
     requires { ForSome delta IsWidth }
+    ensures { IfOk result (λ done. done.delta ≡ delta) }
 {
     let disk = open_store(rt, store)?;
     let mut commands = match open_text(rt, 0, commands) {
@@ -88,19 +95,20 @@ pub fn run_apply<R: AllocGlobal + Files<File = File> + Print>(
     };
     let mut commands = Counted::new(&mut commands);
     let mut writer = CountedWriter::new(&mut writer);
-    let (outcome, _disk) = apply_counted(rt.alloc(), disk, &mut commands, delta, &mut writer);
+    let (outcome, _disk) = apply_counted(rt, rt.alloc(), disk, &mut commands, delta, &mut writer);
     outcome
 }
 
 /// The pairs of a file in the network of a store, which is read alone and stays as it is. A fault of the store is told before one of the
 /// pairs.
-pub fn run_ask<R: AllocGlobal + Files<File = File> + Print>(
+pub fn run_ask<R: AllocGlobal + Files<File = File> + Print + Threads>(
     rt: &R,
     store: &str,
     pairs: &str,
     delta: Option<u32>,
-) -> Result<(), Failed>
+) -> Result<Done, Failed>
     requires { ForSome delta IsWidth }
+    ensures { IfOk result (λ done. done.delta ≡ delta) }
 {
     let disk = open_store_to_read(rt, store)?;
     let mut p2p = match open_text(rt, 0, pairs) {
@@ -112,6 +120,6 @@ pub fn run_ask<R: AllocGlobal + Files<File = File> + Print>(
     };
     let mut p2p = Counted::new(&mut p2p);
     let mut writer = CountedWriter::new(&mut writer);
-    let (outcome, _disk) = ask_counted(rt.alloc(), disk, &mut p2p, delta, &mut writer);
+    let (outcome, _disk) = ask_counted(rt, rt.alloc(), disk, &mut p2p, delta, &mut writer);
     outcome
 }

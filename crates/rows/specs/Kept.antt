@@ -2,9 +2,8 @@
 use Rattle.std.specs.Prelude.{◌≡◌, ◌≤◌, ℕ, Option, Some, MatchOption, unwrap_or, ⊤}
 use Rattle.std.specs.Option.{ForSome}
 use Rattle.roadnet.specs.Net.{Net}
-use Rattle.roadnet.specs.Walks.{RowOf}
 use Rattle.snapshot.specs.Groups.{Groups, IsSnapshotOf, default_width}
-use Rattle.rows.specs.declared.searches.KeptRow.{KeptRow}
+use Rattle.rows.specs.Cached.{HasRowsOf}
 use Rattle.rows.specs.declared.searches.Searches.{Searches}
 
 -- a width of a search's buckets
@@ -20,17 +19,13 @@ pub record AreGroupsOf (net : Net) (given : Option ℕ) (groups : Groups) : Type
   pub arcs : IsSnapshotOf net groups
   pub width : groups.delta ≡ unwrap_or given (default_width net)
 
--- the width, if one was given, is one; the groups, if they were made, are those of the network's open arcs by it; the row that is
--- kept, if any, is that of its source
+-- the width, if one was given, is one; the groups, if they were made, are those of the network's open arcs by it; the rows that are
+-- kept are those of their sources
 pub record AreOf (net : Net) (s : Searches) : Type 0 where
   pub width : ForSome s.delta IsWidth
   pub groups : MatchOption s.snapshot ⊤ (AreGroupsOf net s.delta)
-  pub row : MatchOption s.kept ⊤ (λ row. RowOf net row.source row.distances)
+  pub rows : HasRowsOf 0 net s.rows
 
 -- the groups were made
 abbrev pub HasGroupsOf : Net → Searches → Type 0
 HasGroupsOf net s = (groups : Groups) × (s.snapshot ≡ Some groups) × AreGroupsOf net s.delta groups
-
--- the row of this source is kept
-abbrev pub HasRowOf : Net → ℕ → Searches → Type 0
-HasRowOf net source s = (row : KeptRow) × (s.kept ≡ Some row) × (row.source ≡ source) × RowOf net row.source row.distances

@@ -1,9 +1,11 @@
-ghost use Rattle.std.specs.Prelude.{◌≡◌, IfOk, IsOk, IsSome, MatchResult};
-ghost use Rattle.roadnet.specs.Net.{IsNetwork};
-ghost use Rattle.rows.specs.Replies.{IsRight, refusal_of};
+ghost use Rattle.std.specs.Prelude.{◌≡◌, ℕ, IfOk, IsOk, IsSome};
+ghost use Rattle.roadnet.specs.Net.{Net, IsNetwork, IsNode};
+ghost use Rattle.roadnet.specs.Walks.{RowOf};
+ghost use Rattle.rows.specs.Replies.{IsDistance, IsRight, refusal_of};
 
+use crate::bounds::plain_bound;
 use crate::queries::{Query, Reply};
-use deltastep::{RowError, plain_row};
+use deltastep::{Distances, RowError, plain_row};
 use roadnet::{Network, OutOfMemory, Refusal};
 use std::alloc::Global;
 
@@ -24,9 +26,37 @@ pub(crate) fn refusal_of(network: &Network, query: &Query) -> Option<Refusal>
     }
 }
 
-/// The reply to a query, by a row of plain relaxation that is made for it alone: slow, for comparison with faster ways.
+/// What a row tells of the walks from its source to a node.
+pub(crate) fn distance_in(row: &Distances, target: u64) -> Reply
+    ensures { (net : Net) (source : ℕ) → IsNode net target → RowOf net source row.now → IsDistance net source target result }
+{
+    match row.get(target) {
+        Some(length) => Reply::Length(length),
+        None => Reply::NoWalk,
+    }
+}
+
+/// The least length of a walk between two nodes, by a row that is made for it alone.
+fn plain_distance(
+    alloc: Global,
+    network: &Network,
+    source: u64,
+    target: u64,
+) -> Result<Reply, OutOfMemory>
+    requires source { IsNode network.now source }
+    requires target { IsNode network.now target }
+    ensures { IfOk result (IsDistance network.now source target) }
+{
+    let _ = network.landmarks();
+    match plain_row(alloc, network, source as u32) {
+        Ok(row) => Ok(distance_in(&row, target)),
+        Err(RowError::OutOfMemory) => Err(OutOfMemory),
+    }
+}
+
+/// The reply to a query, by rows of plain relaxation that are made for it alone: slow, for comparison with faster ways.
 ///
-/// Its one error is want of memory for that row; a refused query takes none.
+/// Its one error is want of memory for a row; a refused query takes none.
 pub fn answer_plain(alloc: Global, network: &Network, query: &Query) -> Result<Reply, OutOfMemory>
     ensures right { IfOk result (IsRight network.now query.now) }
     ensures refused { IsSome (refusal_of network.now query.now) → IsOk result }
@@ -34,13 +64,9 @@ pub fn answer_plain(alloc: Global, network: &Network, query: &Query) -> Result<R
     if let Some(refusal) = refusal_of(network, query) {
         return Ok(Reply::Refused(refusal));
     }
-    let source = query.source() as u32;
-    let row = match plain_row(alloc, network, source) {
-        Ok(row) => row,
-        Err(RowError::OutOfMemory) => return Err(OutOfMemory),
-    };
-    match row.get(query.target()) {
-        Some(length) => Ok(Reply::Length(length)),
-        None => Ok(Reply::NoWalk),
+    match *query {
+        Query::Dist { source, target } => plain_distance(alloc, network, source, target),
+        Query::From { landmark, target } => plain_distance(alloc, network, landmark, target),
+        Query::Lower { source, target } => plain_bound(alloc, network, source, target),
     }
 }

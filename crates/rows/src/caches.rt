@@ -1,27 +1,148 @@
 ghost use Rattle.std.specs.Prelude.{◌≡◌, ◌≤◌};
+ghost use Rattle.std.specs.Option.{ForSome};
+ghost use Rattle.std.specs.NonZero.{non_zero_usize_get};
 
+use crate::answers::distance_in;
+use crate::queries::Reply;
+use deltastep::{Distances, RowError, row};
+use lru::LruCache;
+use relax::{CHUNK, Crew};
+use roadnet::OutOfMemory;
+use snapshot::Snapshot;
 use std::alloc::Global;
+use std::num::NonZeroUsize;
+use std::thread::Threads;
 
-/// A place for rows that queries make, up to a number of them. No row is kept in it yet.
+/// Rows that queries made, by version and source, up to a number of them: where it is full, the row that was not used for the longest
+/// time gives way. It takes 8 bytes a node for each row.
 #[derive(Drop)]
 pub struct RowCache {
     alloc: Global,
-    capacity: u32,
+    capacity: NonZeroUsize,
+    rows: Option<LruCache<(u64, u32), Distances>>,
+    ghost sized: { ForSome rows (λ rows. rows.cap ≡ non_zero_usize_get capacity) },
 }
 
 impl RowCache {
-    /// An empty cache for so many rows, 1 to 64. It takes no memory.
+    ghost use Rattle.std.specs.Prelude.{◌≡◌, ◌≤◌, ℕ, [], None, length, Contains, IfSome, IfOk, OnErr};
+    ghost use Rattle.roadnet.specs.Net.{Net, IsNode};
+    ghost use Rattle.snapshot.specs.Groups.{IsSnapshotOf};
+    ghost use Rattle.rows.specs.Replies.{IsDistance};
+    ghost use Rattle.rows.specs.Cached.{capacity_of, rows_of, HasRowsOf, HasNoNewRow, HasOneNewRow, KeepsOthers};
+
+    /// An empty cache for so many rows, 1 to 64. It takes no memory before the first row is kept.
     pub fn new(alloc: Global, capacity: u32) -> RowCache
         requires { (1 ≤ capacity) × (capacity ≤ 64) }
-        ensures { result.capacity ≡ capacity }
+        ensures capacity { capacity_of result ≡ capacity }
+        ensures empty { rows_of result ≡ [] }
     {
-        RowCache { alloc, capacity }
+        let Some(capacity) = NonZeroUsize::new(capacity as usize) else {
+            unreachable!();
+        };
+        RowCache {
+            alloc,
+            capacity,
+            rows: None,
+        }
     }
 
     /// How many rows it may keep.
-    pub fn capacity(&self) -> u32
-        ensures { result ≡ self.now.capacity }
+    pub fn capacity(&self) -> usize
+        ensures { result ≡ capacity_of self.now }
     {
-        self.capacity
+        self.capacity.get()
+    }
+
+    /// How many rows it keeps.
+    pub fn len(&self) -> usize
+        ensures rows { result ≡ length (rows_of self.now) }
+        ensures within { result ≤ capacity_of self.now }
+    {
+        match &self.rows {
+            Some(rows) => rows.len(),
+            None => 0,
+        }
+    }
+
+    /// Drops all rows. It takes no memory.
+    pub fn clear(&mut self)
+        ensures empty { rows_of self.new ≡ [] }
+        ensures capacity { capacity_of self.new ≡ capacity_of self.old }
+    {
+        self.rows = None;
+    }
+
+    /// What the row of this version and source tells of the walks to a node, if that row is kept: it then counts as used.
+    fn find(&mut self, version: u64, source: u32, target: u64) -> Option<Reply>
+        ensures found { IfSome result (λ reply. (net : Net) → HasRowsOf version net self.old → IsNode net target → IsDistance net source target reply) }
+        ensures rows { HasNoNewRow self.old self.new }
+        ensures missed { result ≡ None → rows_of self.new ≡ rows_of self.old }
+        ensures capacity { capacity_of self.new ≡ capacity_of self.old }
+    {
+        let Some(rows) = &mut self.rows else {
+            return None;
+        };
+        match rows.get(&(version, source)) {
+            Some(row) => Some(distance_in(row, target)),
+            None => None,
+        }
+    }
+
+    /// Makes the map, where it is not made yet and memory is there for it.
+    fn make_map(&mut self)
+        ensures rows { rows_of self.new ≡ rows_of self.old }
+        ensures capacity { capacity_of self.new ≡ capacity_of self.old }
+    {
+        if self.rows.is_some() {
+            return;
+        }
+        if let Ok(rows) = LruCache::sparse(self.alloc, self.capacity) {
+            self.rows = Some(rows);
+        }
+    }
+
+    /// Keeps a row. Where no memory is there for it, it is dropped, and what was kept still is.
+    fn keep(&mut self, version: u64, source: u32, distances: Distances)
+        ensures rows { HasOneNewRow self.old self.new version source distances }
+        ensures capacity { capacity_of self.new ≡ capacity_of self.old }
+    {
+        self.make_map();
+        let Some(rows) = &mut self.rows else {
+            return;
+        };
+        let _ = rows.put((version, source), distances);
+    }
+
+    /// The least length of a walk from one node to another, in each network of which the groups are: by the row of this version and
+    /// source, if it is kept, else by a new one, which is then kept where memory is there for it. The row is never copied.
+    ///
+    /// The one error is want of memory for a new row, and then what was kept still is.
+    pub(crate) fn distance<R: Threads>(
+        &mut self,
+        rt: &R,
+        alloc: Global,
+        version: u64,
+        snapshot: &Snapshot,
+        source: u32,
+        target: u64,
+    ) -> Result<Reply, OutOfMemory>
+        requires node { (1 ≤ source) × (source ≤ snapshot.now.nodes) }
+        ensures distance { IfOk result (λ reply. (net : Net) → IsSnapshotOf net snapshot.now → HasRowsOf version net self.old → IsNode net target → IsDistance net source target reply) }
+        ensures kept { (net : Net) → IsSnapshotOf net snapshot.now → HasRowsOf version net self.old → HasRowsOf version net self.new }
+        ensures others { KeepsOthers version self.old self.new }
+        ensures cut { OnErr result (rows_of self.new ≡ rows_of self.old) }
+        ensures capacity { capacity_of self.new ≡ capacity_of self.old }
+    {
+        if let Some(reply) = self.find(version, source, target) {
+            return Ok(reply);
+        }
+        match row(alloc, snapshot, source, &Crew::new(rt, CHUNK)) {
+            Ok(distances) => {
+                let reply = distance_in(&distances, target);
+                self.keep(version, source, distances);
+                Ok(reply)
+            }
+            Err(RowError::OutOfMemory) => Err(OutOfMemory),
+        }
     }
 }

@@ -2,9 +2,10 @@
 #![tactic(auto)]
 
 mod answers;
+mod bounds;
 mod caches;
 mod landmark_rows;
-mod last_rows;
+mod laws;
 mod pinned;
 mod queries;
 mod searches;
@@ -13,11 +14,14 @@ mod views;
 pub use answers::answer_plain;
 pub use caches::RowCache;
 pub use landmark_rows::Row;
+pub use laws::{laws_of_bounds, laws_of_replies};
 pub use pinned::Pinned;
 pub use queries::{Query, Reply};
 pub use searches::Searches;
 pub use views::View;
 
+#[cfg(test)]
+mod compared_tests;
 #[cfg(test)]
 mod tests;
 #[cfg(test)]

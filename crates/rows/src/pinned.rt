@@ -1,91 +1,71 @@
-ghost use Rattle.std.specs.Prelude.{◌≡◌, ℕ, IfOk, IsOk, IsSome, None};
-ghost use Rattle.roadnet.specs.Net.{Net};
-ghost use Rattle.roadnet.specs.Walks.{RowOf};
-ghost use Rattle.rows.specs.Replies.{IsRight, refusal_of, source_of, target_of};
-ghost use Rattle.rows.specs.LastRows.{IsLastOf};
+ghost use Rattle.std.specs.Prelude.{◌≡◌, ℕ, IfOk, IsOk, IsSome, OnErr};
+ghost use Rattle.rows.specs.Cached.{KeepsOthers, HasRowsOf, capacity_of, rows_of};
+ghost use Rattle.rows.specs.Replies.{IsRight, refusal_of};
 ghost use Rattle.rows.specs.Views.{AreRight};
-ghost use Rattle.rows.specs.declared.queries.Query.{Query as SpecQuery};
-ghost use Rattle.rows.specs.declared.queries.Query.TheVariants.{Dist, From};
+ghost use Rattle.rows.specs.Pins.{viewed, cached, HasOwnRows, IsSamePin};
+ghost use Rattle.rows.specs.declared.queries.Query.TheVariants.{Dist, From, Lower};
 
-use crate::answers::refusal_of;
+use crate::answers::{distance_in, refusal_of};
+use crate::bounds::bound_by;
 use crate::caches::RowCache;
-use crate::last_rows::LastRow;
 use crate::queries::{Query, Reply};
 use crate::views::View;
-use deltastep::{Distances, RowError, row};
-use relax::Solo;
 use roadnet::OutOfMemory;
 use std::alloc::Global;
-use std::marker::Model;
+use std::thread::Threads;
 
-/// A view that answers queries.
+/// A view that answers queries, with a cache for the rows that they make.
 #[derive(Drop)]
 pub struct Pinned<'a> {
     view: &'a View,
     cache: &'a mut RowCache,
 }
 
-impl<'a> Model for Pinned<'a> {
-    ghost use Rattle.rows.specs.Views.{Viewed};
-
-    ghost Value = { Viewed };
-
-    ghost view = { λ p. p.view.now };
-}
-
-/// The reply to a query that is not refused, from the row of its source.
-fn reply_from(distances: &Distances, target: u64) -> Reply
-    ensures { (net : Net) (query : SpecQuery) → refusal_of net query ≡ None → target ≡ target_of query → RowOf net (source_of query) distances.now → IsRight net query result }
-{
-    match distances.get(target) {
-        Some(length) => Reply::Length(length),
-        None => Reply::NoWalk,
-    }
-}
-
-/// The reply to `Dist`, by the last row, where it is that of the source, else by a new one, which is then the last.
-fn dist_by(
+/// The reply to `Dist`, by a row of the cache or a new one.
+fn dist_by<R: Threads>(
+    rt: &R,
     alloc: Global,
     view: &View,
-    last: &mut Option<LastRow>,
+    cache: &mut RowCache,
     source: u64,
     target: u64,
 ) -> Result<Reply, OutOfMemory>
-    requires { IsLastOf view.now.network last.old }
+    requires { HasRowsOf view.now.version view.now.network cache.old }
     ensures right { IfOk result (IsRight view.now.network (Dist source target)) }
     ensures refused { IsSome (refusal_of view.now.network (Dist source target)) → IsOk result }
-    ensures last { IsLastOf view.now.network last.new }
+    ensures kept { HasRowsOf view.now.version view.now.network cache.new }
+    ensures others { KeepsOthers view.now.version cache.old cache.new }
+    ensures cut { OnErr result (rows_of cache.new ≡ rows_of cache.old) }
+    ensures capacity { capacity_of cache.new ≡ capacity_of cache.old }
 {
     let query = Query::Dist { source, target };
     if let Some(refusal) = refusal_of(view.network(), &query) {
         return Ok(Reply::Refused(refusal));
     }
-    if let Some(row) = last
-        && row.source == source
-    {
-        return Ok(reply_from(&row.distances, target));
-    }
-    match row(alloc, view.snapshot(), source as u32, &Solo) {
-        Ok(distances) => {
-            let reply = reply_from(&distances, target);
-            *last = Some(LastRow { source, distances });
-            Ok(reply)
-        }
-        Err(RowError::OutOfMemory) => Err(OutOfMemory),
-    }
+    let version = view.version();
+    cache.distance(rt, alloc, version, view.snapshot(), source as u32, target)
 }
 
 /// The replies to `Dist` for pairs, in their order.
-fn batch_by(alloc: Global, view: &View, pairs: &[(u64, u64)]) -> Result<Vec<Reply>, OutOfMemory>
-    ensures { IfOk result (λ replies. AreRight view.now.network pairs.now replies.items) }
+fn batch_by<R: Threads>(
+    rt: &R,
+    alloc: Global,
+    view: &View,
+    cache: &mut RowCache,
+    pairs: &[(u64, u64)],
+) -> Result<Vec<Reply>, OutOfMemory>
+    requires { HasRowsOf view.now.version view.now.network cache.old }
+    ensures right { IfOk result (λ replies. AreRight view.now.network pairs.now replies.items) }
+    ensures kept { HasRowsOf view.now.version view.now.network cache.new }
+    ensures others { KeepsOthers view.now.version cache.old cache.new }
+    ensures capacity { capacity_of cache.new ≡ capacity_of cache.old }
 {
-    let mut last = None;
     let mut replies = match Vec::with_capacity(alloc, pairs.len()) {
         Ok(replies) => replies,
         Err(_) => return Err(OutOfMemory),
     };
     for pair in pairs {
-        let reply = match dist_by(alloc, view, &mut last, pair.0, pair.1) {
+        let reply = match dist_by(rt, alloc, view, cache, pair.0, pair.1) {
             Ok(reply) => reply,
             Err(error) => return Err(error),
         };
@@ -98,14 +78,16 @@ fn batch_by(alloc: Global, view: &View, pairs: &[(u64, u64)]) -> Result<Vec<Repl
 
 impl<'a> Pinned<'a> {
     pub(crate) fn new(view: &'a View, cache: &'a mut RowCache) -> Pinned<'a>
-        ensures { result ≡ view.now }
+        ensures view { viewed result ≡ view.now }
+        ensures cache { cached result ≡ cache.old }
+        ensures same { result.cache.ghost_name ≡ cache.entry.ghost_name }
     {
         Pinned { view, cache }
     }
 
     /// The version of the network that is asked. It takes no memory.
     pub fn version(&self) -> u64
-        ensures { result ≡ self.now.version }
+        ensures { result ≡ (viewed self.now).version }
     {
         let view = self.view;
         view.version()
@@ -113,7 +95,7 @@ impl<'a> Pinned<'a> {
 
     /// The reply to `From`, by the landmark's row. It takes no memory.
     pub fn from_landmark(&self, landmark: u64, target: u64) -> Reply
-        ensures { IsRight self.now.network (From landmark target) result }
+        ensures { IsRight (viewed self.now).network (From landmark target) result }
     {
         let view = self.view;
         let query = Query::From { landmark, target };
@@ -121,38 +103,80 @@ impl<'a> Pinned<'a> {
             return Reply::Refused(refusal);
         }
         let row = view.row_of(landmark as u32);
-        reply_from(&row.distances, target)
+        distance_in(&row.distances, target)
     }
 
-    /// The reply to `Dist`, by a search. The one error is want of memory for the search; a refused query takes none.
-    pub fn dist(&mut self, alloc: Global, source: u64, target: u64) -> Result<Reply, OutOfMemory>
-        ensures right { IfOk result (IsRight self.old.network (Dist source target)) }
-        ensures refused { IsSome (refusal_of self.old.network (Dist source target)) → IsOk result }
-        ensures same { self.new ≡ self.old }
+    /// The reply to `Lower`, by the rows of all landmarks, each read once. It takes no memory.
+    pub fn lower(&self, source: u64, target: u64) -> Reply
+        ensures { IsRight (viewed self.now).network (Lower source target) result }
     {
-        let mut last = None;
-        dist_by(alloc, self.view, &mut last, source, target)
+        let view = self.view;
+        let query = Query::Lower { source, target };
+        if let Some(refusal) = refusal_of(view.network(), &query) {
+            return Reply::Refused(refusal);
+        }
+        bound_by(view, source, target)
     }
 
-    /// The replies to `Dist` for pairs of a source and a target, in their order. Pairs of one source that follow one another search
-    /// once. The one error is want of memory, for 16 bytes a pair and a row.
-    pub fn batch(&mut self, alloc: Global, pairs: &[(u64, u64)]) -> Result<Vec<Reply>, OutOfMemory>
-        ensures right { IfOk result (λ replies. AreRight self.old.network pairs.now replies.items) }
-        ensures same { self.new ≡ self.old }
+    /// The reply to `Dist`, by a row of the cache, or by a new one, which the cache then keeps where memory is there for it. The one
+    /// error is want of memory for a new row, and then what the cache keeps stays as it was; a refused query takes none.
+    pub fn dist<R: Threads>(
+        &mut self,
+        rt: &R,
+        alloc: Global,
+        source: u64,
+        target: u64,
+    ) -> Result<Reply, OutOfMemory>
+        requires { HasOwnRows self.old }
+        ensures right { IfOk result (IsRight (viewed self.old).network (Dist source target)) }
+        ensures refused { IsSome (refusal_of (viewed self.old).network (Dist source target)) → IsOk result }
+        ensures kept { HasOwnRows self.new }
+        ensures others { KeepsOthers (viewed self.old).version (cached self.old) (cached self.new) }
+        ensures cut { OnErr result (rows_of (cached self.new) ≡ rows_of (cached self.old)) }
+        ensures same { IsSamePin self.old self.new }
     {
-        batch_by(alloc, self.view, pairs)
+        dist_by(rt, alloc, self.view, self.cache, source, target)
     }
 
-    /// The reply to a query. The one error is want of memory for the search of `Dist`; a refused query takes none.
-    pub fn answer(&mut self, alloc: Global, query: &Query) -> Result<Reply, OutOfMemory>
-        ensures right { IfOk result (IsRight self.old.network query.now) }
-        ensures refused { IsSome (refusal_of self.old.network query.now) → IsOk result }
+    /// The replies to `Dist` for pairs of a source and a target, in their order, each as `dist` gives it. The one error is want of
+    /// memory, for 16 bytes a pair and a row.
+    pub fn batch<R: Threads>(
+        &mut self,
+        rt: &R,
+        alloc: Global,
+        pairs: &[(u64, u64)],
+    ) -> Result<Vec<Reply>, OutOfMemory>
+        requires { HasOwnRows self.old }
+        ensures right { IfOk result (λ replies. AreRight (viewed self.old).network pairs.now replies.items) }
+        ensures kept { HasOwnRows self.new }
+        ensures others { KeepsOthers (viewed self.old).version (cached self.old) (cached self.new) }
+        ensures same { IsSamePin self.old self.new }
+    {
+        batch_by(rt, alloc, self.view, self.cache, pairs)
+    }
+
+    /// The reply to a query. The one error is want of memory for the row of `Dist`, and then what the cache keeps stays as it was; a refused
+    /// query takes none.
+    pub fn answer<R: Threads>(
+        &mut self,
+        rt: &R,
+        alloc: Global,
+        query: &Query,
+    ) -> Result<Reply, OutOfMemory>
+        requires { HasOwnRows self.old }
+        ensures right { IfOk result (IsRight (viewed self.old).network query.now) }
+        ensures refused { IsSome (refusal_of (viewed self.old).network query.now) → IsOk result }
         ensures landmark { (l t : ℕ) → query.now ≡ From l t → IsOk result }
-        ensures same { self.new ≡ self.old }
+        ensures lower { (s t : ℕ) → query.now ≡ Lower s t → IsOk result }
+        ensures kept { HasOwnRows self.new }
+        ensures others { KeepsOthers (viewed self.old).version (cached self.old) (cached self.new) }
+        ensures cut { OnErr result (rows_of (cached self.new) ≡ rows_of (cached self.old)) }
+        ensures same { IsSamePin self.old self.new }
     {
         match *query {
-            Query::Dist { source, target } => self.dist(alloc, source, target),
+            Query::Dist { source, target } => self.dist(rt, alloc, source, target),
             Query::From { landmark, target } => Ok(self.from_landmark(landmark, target)),
+            Query::Lower { source, target } => Ok(self.lower(source, target)),
         }
     }
 }

@@ -9,6 +9,8 @@ pub enum Query {
     Dist { source: u64, target: u64 },
     /// The same, from a node that has to be a landmark.
     From { landmark: u64, target: u64 },
+    /// What the landmarks tell of the walks from `source` to `target`: how long each is at least, or that there is none.
+    Lower { source: u64, target: u64 },
 }
 
 impl Query {
@@ -19,7 +21,7 @@ impl Query {
         ensures { result ≡ source_of self.now }
     {
         match *self {
-            Query::Dist { source, target: _ } => source,
+            Query::Dist { source, target: _ } | Query::Lower { source, target: _ } => source,
             Query::From {
                 landmark,
                 target: _,
@@ -36,7 +38,8 @@ impl Query {
             | Query::From {
                 landmark: _,
                 target,
-            } => target,
+            }
+            | Query::Lower { source: _, target } => target,
         }
     }
 }
@@ -48,6 +51,8 @@ pub enum Reply {
     Length(u64),
     /// There is no walk.
     NoWalk,
+    /// To `Lower` alone: each walk is at least so long.
+    AtLeast(u64),
     /// 24 where one of the two is no node, else 26 where the first node of `From` is no landmark.
     Refused(Refusal),
 }

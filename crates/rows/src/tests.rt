@@ -67,3 +67,25 @@ fn rows_from_landmarks(rt: HostRuntime) -> Result<(), Refusal> {
     }
     Ok(())
 }
+
+#[test]
+fn bounds_by_plain_rows(rt: HostRuntime) -> Result<(), Refusal> {
+    let mut network = six(rt.alloc())?;
+    let table = [
+        (5, 6, Reply::AtLeast(5)),
+        (5, 1, Reply::NoWalk),
+        (1, 6, Reply::AtLeast(0)),
+        (7, 1, Reply::Refused(Refusal::NoSuchNode)),
+    ];
+    for (source, target, want) in table {
+        let reply = answer_plain(rt.alloc(), &network, &Query::Lower { source, target })?;
+        assert!(rt; reply == want, "{source} to {target}");
+    }
+    network.apply(Command::Unmark { node: 3 })?;
+    let query = Query::Lower {
+        source: 5,
+        target: 1,
+    };
+    assert!(rt; answer_plain(rt.alloc(), &network, &query)? == Reply::AtLeast(0));
+    Ok(())
+}

@@ -1,7 +1,11 @@
-use crate::{Query, Reply, Row, RowCache, View};
+ghost use Rattle.std.specs.Prelude.{◌≡◌, ◌≢◌, ◌≤◌, []};
+ghost use Rattle.rows.specs.Cached.{HasRowsOf, KeepsOthers, rows_of};
+
+use crate::{Query, Reply, Row, RowCache, Searches, View, answer_plain};
 use relax::Solo;
-use roadnet::{Command, Network, Refusal, RoadArc};
+use roadnet::{Command, Network, OutOfMemory, Refusal, RoadArc};
 use std::alloc::{AllocError, Global};
+use std::thread::Threads;
 
 /// The network of the worked rows: six nodes and eight arcs, with these landmarks.
 fn six(alloc: Global, landmarks: &[u32]) -> Result<Network, Refusal> {
@@ -55,39 +59,211 @@ fn bounds_and_rows(rt: HostRuntime) -> Result<(), Refusal> {
 }
 
 #[test]
+fn bounds_by_landmarks(rt: HostRuntime) -> Result<(), Refusal> {
+    let network = six(rt.alloc(), &[1, 3])?;
+    let view = View::build(rt.alloc(), 2, network, None, &Solo)?;
+    let mut cache = RowCache::new(rt.alloc(), 16);
+    let pinned = view.pinned(&mut cache);
+    let table = [
+        (1, 6, Reply::AtLeast(15)),
+        (5, 2, Reply::AtLeast(0)),
+        (4, 1, Reply::NoWalk),
+        (5, 6, Reply::AtLeast(5)),
+        (1, 7, Reply::Refused(Refusal::NoSuchNode)),
+    ];
+    for (source, target, want) in table {
+        let reply = pinned.lower(source, target);
+        assert!(rt; reply == want, "{source} to {target}");
+        let query = Query::Lower { source, target };
+        assert!(rt;
+            answer_plain(rt.alloc(), view.network(), &query)? == want,
+            "{source} to {target}"
+        );
+    }
+    Ok(())
+}
+
+/// The reply to `Dist` by a view and a cache.
+fn ask<R: Threads>(
+    rt: &R,
+    alloc: Global,
+    view: &View,
+    cache: &mut RowCache,
+    source: u64,
+    target: u64,
+) -> Result<Reply, OutOfMemory>
+    requires { HasRowsOf view.now.version view.now.network cache.old }
+    ensures kept { HasRowsOf view.now.version view.now.network cache.new }
+    ensures others { KeepsOthers view.now.version cache.old cache.new }
+{
+    let mut pinned = view.pinned(cache);
+    pinned.dist(rt, alloc, source, target)
+}
+
+/// The replies to `Dist` of one view, of another one, and of the first again, by one cache.
+fn ask_in_turn<R: Threads>(
+    rt: &R,
+    alloc: Global,
+    first: &View,
+    second: &View,
+    cache: &mut RowCache,
+) -> Result<(Reply, Reply, Reply), OutOfMemory>
+    requires apart { first.now.version ≢ second.now.version }
+    requires empty { rows_of cache.old ≡ [] }
+{
+    let before = match ask(rt, alloc, first, cache, 1, 6) {
+        Ok(reply) => reply,
+        Err(error) => return Err(error),
+    };
+    let after = match ask(rt, alloc, second, cache, 1, 6) {
+        Ok(reply) => reply,
+        Err(error) => return Err(error),
+    };
+    match ask(rt, alloc, first, cache, 1, 6) {
+        Ok(again) => Ok((before, after, again)),
+        Err(error) => Err(error),
+    }
+}
+
+#[test]
 fn closed_arc_lengthens(rt: HostRuntime) -> Result<(), Refusal> {
     let mut network = six(rt.alloc(), &[])?;
     let before = View::build(rt.alloc(), 0, network.copy()?, Some(1), &Solo)?;
     network.apply(Command::Close { arc: 7 })?;
     let after = View::build(rt.alloc(), 1, network, None, &Solo)?;
     assert!(rt; !after.network().arcs()[6].opened);
+    let mut cache = RowCache::new(rt.alloc(), 16);
+    let (first, second, again) = ask_in_turn(&rt, rt.alloc(), &before, &after, &mut cache)?;
+    assert!(rt; first == Reply::Length(15) && again == first);
+    assert!(rt; second == Reply::Length(22));
+    // The row of node 1 is kept for each of the two versions.
+    assert!(rt; cache.len() == 2);
+    Ok(())
+}
+
+#[test]
+fn answers_of_a_pinned_view(rt: HostRuntime) -> Result<(), Refusal> {
+    let mut network = six(rt.alloc(), &[])?;
+    network.apply(Command::Close { arc: 7 })?;
+    let view = View::build(rt.alloc(), 1, network, None, &Solo)?;
     let mut cache = RowCache::new(rt.alloc(), 1);
-    let mut pinned = before.pinned(&mut cache);
-    assert!(rt; pinned.version() == 0);
-    assert!(rt; pinned.dist(rt.alloc(), 1, 6)? == Reply::Length(15));
-    let mut pinned = after.pinned(&mut cache);
-    assert!(rt; pinned.version() == 1);
-    assert!(rt; pinned.dist(rt.alloc(), 1, 6)? == Reply::Length(22));
+    let mut pinned = view.pinned(&mut cache);
     let query = Query::Dist {
         source: 1,
         target: 6,
     };
-    assert!(rt; pinned.answer(rt.alloc(), &query)? == Reply::Length(22));
+    assert!(rt; pinned.answer(&rt, rt.alloc(), &query)? == Reply::Length(22));
     let query = Query::From {
         landmark: 1,
         target: 4,
     };
-    assert!(rt; pinned.answer(rt.alloc(), &query)? == Reply::Refused(Refusal::NotALandmark));
+    assert!(rt; pinned.answer(&rt, rt.alloc(), &query)? == Reply::Refused(Refusal::NotALandmark));
+    let query = Query::Lower {
+        source: 1,
+        target: 4,
+    };
+    assert!(rt; pinned.answer(&rt, rt.alloc(), &query)? == Reply::AtLeast(0));
     Ok(())
+}
+
+/// How many rows a cache of this size keeps after rows of three sources were asked for in turn, twice.
+fn kept_of_three<R: Threads>(
+    rt: &R,
+    alloc: Global,
+    view: &View,
+    capacity: u32,
+) -> Result<usize, OutOfMemory>
+    requires { (1 ≤ capacity) × (capacity ≤ 64) }
+{
+    let mut cache = RowCache::new(alloc, capacity);
+    let pairs = [(1, 6), (2, 6), (3, 4), (1, 6), (2, 6), (3, 4)];
+    let mut pinned = view.pinned(&mut cache);
+    match pinned.batch(rt, alloc, &pairs) {
+        Ok(_) => Ok(cache.len()),
+        Err(error) => Err(error),
+    }
+}
+
+#[test]
+fn rows_give_way(rt: HostRuntime) -> Result<(), Refusal> {
+    let network = six(rt.alloc(), &[])?;
+    let view = View::build(rt.alloc(), 0, network, None, &Solo)?;
+    for (capacity, kept) in [(1, 1), (2, 2), (3, 3), (16, 3)] {
+        assert!(rt;
+            kept_of_three(&rt, rt.alloc(), &view, capacity)? == kept,
+            "{capacity}"
+        );
+    }
+    let mut cache = RowCache::new(rt.alloc(), 1);
+    assert!(rt; cache.len() == 0);
+    let reply = ask(&rt, rt.alloc(), &view, &mut cache, 1, 6)?;
+    assert!(rt; reply == Reply::Length(15) && cache.len() == 1);
+    cache.clear();
+    assert!(rt; cache.len() == 0);
+    Ok(())
+}
+
+/// The replies to `Dist` of two sources in turn, by searches that keep so many rows.
+fn search_in_turn<R: Threads>(
+    rt: &R,
+    alloc: Global,
+    network: &Network,
+    capacity: u32,
+) -> Result<(Reply, Reply, Reply), OutOfMemory>
+    requires { (1 ≤ capacity) × (capacity ≤ 64) }
+{
+    let mut searches = Searches::new(alloc, None, capacity);
+    let first = match searches.dist(rt, alloc, network, 1, 6) {
+        Ok(reply) => reply,
+        Err(error) => return Err(error),
+    };
+    let second = match searches.dist(rt, alloc, network, 2, 1) {
+        Ok(reply) => reply,
+        Err(error) => return Err(error),
+    };
+    match searches.dist(rt, alloc, network, 1, 4) {
+        Ok(again) => Ok((first, second, again)),
+        Err(error) => Err(error),
+    }
+}
+
+#[test]
+fn searches_of_alternating_sources(rt: HostRuntime) -> Result<(), Refusal> {
+    let network = six(rt.alloc(), &[])?;
+    let want = (Reply::Length(15), Reply::NoWalk, Reply::Length(12));
+    assert!(rt; search_in_turn(&rt, rt.alloc(), &network, 1)? == want);
+    assert!(rt; search_in_turn(&rt, rt.alloc(), &network, 16)? == want);
+    assert!(rt; search_in_turn(&rt, rt.alloc(), &network, 64)? == want);
+    Ok(())
+}
+
+/// The replies to pairs, and to the same pairs once more, by a cache of this size.
+fn two_batches<R: Threads>(
+    rt: &R,
+    alloc: Global,
+    view: &View,
+    capacity: u32,
+    pairs: &[(u64, u64)],
+) -> Result<(Vec<Reply>, Vec<Reply>), OutOfMemory>
+    requires { (1 ≤ capacity) × (capacity ≤ 64) }
+{
+    let mut cache = RowCache::new(alloc, capacity);
+    let mut pinned = view.pinned(&mut cache);
+    let first = match pinned.batch(rt, alloc, pairs) {
+        Ok(replies) => replies,
+        Err(error) => return Err(error),
+    };
+    match pinned.batch(rt, alloc, pairs) {
+        Ok(again) => Ok((first, again)),
+        Err(error) => Err(error),
+    }
 }
 
 #[test]
 fn batch_of_pairs(rt: HostRuntime) -> Result<(), Refusal> {
     let network = six(rt.alloc(), &[])?;
     let view = View::build(rt.alloc(), 0, network, None, &Solo)?;
-    let mut cache = RowCache::new(rt.alloc(), 64);
     let pairs = [(1, 6), (6, 1), (4, 4), (1, 7), (1, 6), (0, 1)];
-    let replies = view.pinned(&mut cache).batch(rt.alloc(), &pairs)?;
     let want = [
         Reply::Length(15),
         Reply::NoWalk,
@@ -96,7 +272,11 @@ fn batch_of_pairs(rt: HostRuntime) -> Result<(), Refusal> {
         Reply::Length(15),
         Reply::Refused(Refusal::NoSuchNode),
     ];
-    assert!(rt; replies.as_slice() == want.as_slice());
+    for (capacity, name) in [(1, "1"), (16, "16"), (64, "64")] {
+        let (first, again) = two_batches(&rt, rt.alloc(), &view, capacity, &pairs)?;
+        assert!(rt; first.as_slice() == want.as_slice(), "{name}");
+        assert!(rt; again.as_slice() == want.as_slice(), "{name}");
+    }
     Ok(())
 }
 

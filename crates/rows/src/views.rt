@@ -7,6 +7,8 @@ ghost use Rattle.roadnet.specs.Step.{is_landmark};
 ghost use Rattle.roadnet.specs.Walks.{RowOf};
 ghost use Rattle.rows.specs.Kept.{IsWidth};
 ghost use Rattle.rows.specs.Views.{AreLandmarkRows};
+ghost use Rattle.rows.specs.Cached.{HasRowsOf};
+ghost use Rattle.rows.specs.Pins.{viewed, cached, HasOwnRows};
 
 use crate::caches::RowCache;
 use crate::landmark_rows::Row;
@@ -161,9 +163,14 @@ impl View {
         &self.rows[place]
     }
 
-    /// Answers queries of this view. The cache may keep rows that queries make.
+    /// Answers queries of this view. What the cache keeps for the view's version are rows of its network, and that stays so; it keeps
+    /// rows that queries make. It takes no memory.
     pub fn pinned<'a>(&'a self, cache: &'a mut RowCache) -> Pinned<'a>
-        ensures { result ≡ self.now }
+        requires { HasRowsOf self.now.version self.now.network cache.old }
+        ensures view { viewed result ≡ self.now }
+        ensures cache { cached result ≡ cache.old }
+        ensures own { HasOwnRows result }
+        ensures same { result.cache.ghost_name ≡ cache.entry.ghost_name }
     {
         Pinned::new(self, cache)
     }

@@ -26,7 +26,7 @@ use Rattle.scripts.specs.declared.script_words.Bare.TheVariants.{Flush, Checkpoi
 use Rattle.scripts.specs.declared.script_words.OneNumber.{OneNumber}
 use Rattle.scripts.specs.declared.script_words.OneNumber.TheVariants.{Close, Reopen, Mark, Unmark}
 use Rattle.scripts.specs.declared.script_words.TwoNumbers.{TwoNumbers}
-use Rattle.scripts.specs.declared.script_words.TwoNumbers.TheVariants.{Set, Dist, From}
+use Rattle.scripts.specs.declared.script_words.TwoNumbers.TheVariants.{Set, Dist, From, Lower}
 use Rattle.scripts.specs.declared.script_words.Word.{Word}
 use Rattle.scripts.specs.declared.script_words.Word.TheVariants.{WithNone, WithOne, WithTwo}
 use Rattle.scripts.specs.declared.script_texts.EventLines.{EventLines}
@@ -90,8 +90,9 @@ unspelled field others e =
     let n9 = none_first (bytes_eq field (codes "set")) _ _ n8.1 in
     let n10 = none_first (bytes_eq field (codes "dist")) _ _ n9.1 in
     let n11 = none_first (bytes_eq field (codes "from")) _ _ n10.1 in
-    let n12 = none_first (bytes_eq field (codes "stop")) _ _ n11.1 in
-    (n12.0, rw (n1.0, n2.0, n3.0, n4.0, n5.0, n6.0, n7.0, n8.0, n9.0, n10.0, n11.0) refl)
+    let n12 = none_first (bytes_eq field (codes "lower")) _ _ n11.1 in
+    let n13 = none_first (bytes_eq field (codes "stop")) _ _ n12.1 in
+    (n13.0, rw (n1.0, n2.0, n3.0, n4.0, n5.0, n6.0, n7.0, n8.0, n9.0, n10.0, n11.0, n12.0) refl)
 
 -- ---- words with so many numbers behind them
 record IsForm (word : List ℕ) (n : ℕ) : Type 0 where
@@ -115,6 +116,7 @@ two_form : (word : TwoNumbers) → IsForm (spelling (WithTwo word)) 2
 two_form Set = record { plain = λ numbers. refl; no_stop = λ numbers. refl; formed = λ numbers. refl }
 two_form Dist = record { plain = λ numbers. refl; no_stop = λ numbers. refl; formed = λ numbers. refl }
 two_form From = record { plain = λ numbers. refl; no_stop = λ numbers. refl; formed = λ numbers. refl }
+two_form Lower = record { plain = λ numbers. refl; no_stop = λ numbers. refl; formed = λ numbers. refl }
 
 bare_made : (word : Bare) (numbers : Row) → line_of (spelling (WithNone word) ∷ numbers) ≡ Some (bare_line word)
 bare_made Flush numbers = refl
@@ -132,6 +134,7 @@ two_made : (word : TwoNumbers) (numbers : Row) → line_of (spelling (WithTwo wo
 two_made Set numbers = refl
 two_made Dist numbers = refl
 two_made From numbers = refl
+two_made Lower numbers = refl
 
 module _ (word : List ℕ) where
   malformed : (n : ℕ) (earlier : List Row) (numbers : Row) → IsForm word n → is_malformed n numbers ≡ true → script_line_code earlier (word ∷ numbers) ≡ Some BadLine

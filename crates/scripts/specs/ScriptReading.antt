@@ -14,7 +14,7 @@ use Rattle.dimacs.specs.Numerals.{numeral, kept}
 use Rattle.dimacs.specs.Taking.{ByMemory}
 use Rattle.disk.specs.declared.stoppable.Pick.{Pick}
 use Rattle.disk.specs.declared.stoppable.Pick.TheVariants.{Old, New, Byte}
-use Rattle.rows.specs.declared.queries.Query.TheVariants.{Dist as distance, From as distance_from}
+use Rattle.rows.specs.declared.queries.Query.TheVariants.{Dist as distance, From as distance_from, Lower as lower_bound}
 use Rattle.machine.specs.declared.events.Event.{Event}
 use Rattle.machine.specs.declared.events.Writing.{Writing}
 use Rattle.machine.specs.declared.events.Writing.TheVariants.{Flush as a_flush, Checkpoint as a_checkpoint}
@@ -23,7 +23,7 @@ use Rattle.scripts.specs.declared.script_words.Bare.TheVariants.{Flush, Checkpoi
 use Rattle.scripts.specs.declared.script_words.OneNumber.{OneNumber}
 use Rattle.scripts.specs.declared.script_words.OneNumber.TheVariants.{Close, Reopen, Mark, Unmark}
 use Rattle.scripts.specs.declared.script_words.TwoNumbers.{TwoNumbers}
-use Rattle.scripts.specs.declared.script_words.TwoNumbers.TheVariants.{Set, Dist, From}
+use Rattle.scripts.specs.declared.script_words.TwoNumbers.TheVariants.{Set, Dist, From, Lower}
 use Rattle.scripts.specs.declared.script_words.Word.{Word}
 use Rattle.scripts.specs.declared.script_words.Word.TheVariants.{WithNone, WithOne, WithTwo, Stop}
 use Rattle.scripts.specs.declared.script_stops.Cut.{Cut}
@@ -46,10 +46,11 @@ spelling (WithOne Unmark) = codes "unmark"
 spelling (WithTwo Set) = codes "set"
 spelling (WithTwo Dist) = codes "dist"
 spelling (WithTwo From) = codes "from"
+spelling (WithTwo Lower) = codes "lower"
 spelling Stop = codes "stop"
 
 abbrev pub words : List Word
-words = WithNone Flush ∷ WithNone Checkpoint ∷ WithNone Task ∷ WithNone Publish ∷ WithOne Close ∷ WithOne Reopen ∷ WithOne Mark ∷ WithOne Unmark ∷ WithTwo Set ∷ WithTwo Dist ∷ WithTwo From ∷ Stop ∷ []
+words = WithNone Flush ∷ WithNone Checkpoint ∷ WithNone Task ∷ WithNone Publish ∷ WithOne Close ∷ WithOne Reopen ∷ WithOne Mark ∷ WithOne Unmark ∷ WithTwo Set ∷ WithTwo Dist ∷ WithTwo From ∷ WithTwo Lower ∷ Stop ∷ []
 
 -- the word that a field spells
 abbrev pub word_from : List ℕ → Option Word
@@ -77,6 +78,7 @@ abbrev pub two_line : TwoNumbers → ℕ → ℕ → ScriptLine
 two_line Set n m = CommandLine (set_arc n m)
 two_line Dist n m = QueryLine (distance n m)
 two_line From n m = QueryLine (distance_from n m)
+two_line Lower n m = QueryLine (lower_bound n m)
 
 -- FIELDS BEHIND `stop`
 

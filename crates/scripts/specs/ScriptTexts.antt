@@ -16,7 +16,7 @@ use Rattle.dimacs.specs.Texts.{TextKind}
 use Rattle.disk.specs.declared.stoppable.Pick.{Pick}
 use Rattle.disk.specs.declared.stoppable.Pick.TheVariants.{Old, New, Byte}
 use Rattle.rows.specs.declared.queries.Query.{Query}
-use Rattle.rows.specs.declared.queries.Query.TheVariants.{Dist, From}
+use Rattle.rows.specs.declared.queries.Query.TheVariants.{Dist, From, Lower}
 use Rattle.machine.specs.declared.events.Event.{Event}
 use Rattle.machine.specs.declared.events.Event.TheVariants.{Submit, Flush, Checkpoint, Task, Publish, Ask, Stop, StopWithin}
 use Rattle.machine.specs.declared.events.Writing.{Writing}
@@ -67,8 +67,9 @@ line_from word others = if bytes_eq word (codes "flush") then Some FlushLine
     else (if bytes_eq word (codes "publish") then Some PublishLine
     else (if bytes_eq word (codes "dist") then Some (QueryLine (Dist (size_at others 0) (size_at others 1)))
     else (if bytes_eq word (codes "from") then Some (QueryLine (From (size_at others 0) (size_at others 1)))
+    else (if bytes_eq word (codes "lower") then Some (QueryLine (Lower (size_at others 0) (size_at others 1)))
     else (if bytes_eq word (codes "stop") then Some (stop_from others)
-    else option_map CommandLine (command_from word others)))))))
+    else option_map CommandLine (command_from word others))))))))
 
 -- the event of a line, if it has one
 abbrev pub line_of : Row → Option ScriptLine
@@ -83,7 +84,7 @@ lines_in rs = filter_map line_of rs
 
 -- the words of commands and of events, with how many numbers follow them
 abbrev pub numbered : List Form
-numbered = commands ++ form (codes "flush") 0 ∷ form (codes "checkpoint") 0 ∷ form (codes "task") 0 ∷ form (codes "publish") 0 ∷ form (codes "dist") 2 ∷ form (codes "from") 2 ∷ []
+numbered = commands ++ form (codes "flush") 0 ∷ form (codes "checkpoint") 0 ∷ form (codes "task") 0 ∷ form (codes "publish") 0 ∷ form (codes "dist") 2 ∷ form (codes "from") 2 ∷ form (codes "lower") 2 ∷ []
 
 abbrev pub is_stop : Row → Bool
 is_stop row = has_first (λ first. bytes_eq first (codes "stop")) row

@@ -32,6 +32,7 @@ pub(crate) enum TwoNumbers {
     Set,
     Dist,
     From,
+    Lower,
 }
 
 /// A word by what stands behind it.
@@ -79,6 +80,9 @@ pub(crate) fn word_of(field: &[u8]) -> Option<Word>
     }
     if field == b"from".as_slice() {
         return Some(Word::WithTwo(TwoNumbers::From));
+    }
+    if field == b"lower".as_slice() {
+        return Some(Word::WithTwo(TwoNumbers::Lower));
     }
     if field == b"stop".as_slice() {
         return Some(Word::Stop);
@@ -131,6 +135,12 @@ pub(crate) fn two_event(word: TwoNumbers, first: u64, second: u64) -> Event<Pick
         TwoNumbers::From => Event::Ask {
             query: Query::From {
                 landmark: first,
+                target: second,
+            },
+        },
+        TwoNumbers::Lower => Event::Ask {
+            query: Query::Lower {
+                source: first,
                 target: second,
             },
         },

@@ -46,6 +46,7 @@ fn each_line_is_its_event(rt: HostRuntime) -> Result<(), Fail> {
         ("publish\r\n", "Publish"),
         ("dist 1 6", "Ask { query: Dist { source: 1, target: 6 } }"),
         ("from 3 4", "Ask { query: From { landmark: 3, target: 4 } }"),
+        ("lower 5 6", "Ask { query: Lower { source: 5, target: 6 } }"),
         ("stop", "Stop"),
         (
             "stop 4 old checkpoint",
@@ -79,7 +80,8 @@ fn faults_of_script_lines(rt: HostRuntime) {
     let bad = [
         "run",
         "c",
-        "lower 1 2",
+        "lower 1",
+        "lower 1 2 3",
         "step 64",
         "sets 1 2",
         "Flush",
@@ -120,6 +122,7 @@ fn faults_of_script_lines(rt: HostRuntime) {
         "unmark 18446744073709551616",
         "dist -1 2",
         "from 1 9223372036854775808",
+        "lower -1 2",
         "stop 0 old flush",
         "stop -1 new flush",
         "stop 9223372036854775808 0 flush",

@@ -25,11 +25,11 @@ module _ (file : List ℕ) (net : Net) (version next nodes : ℕ) (stands : Stan
     holds = record { list = list; pairs_are = subst (λ (n : ℕ). content_by (p2p_text n) (rows text) ≡ Ok list) is said; answers = answers };
   }
 
-  pub asked : (r : Result (Unit {0}) Failed) (text : List ℕ) (list : List Pair) (old new : Option (List ℕ)) → content_by (p2p_text nodes) (rows text) ≡ Ok list → OnOk r (AnswersAll net version list old new) → OnOk r (IsAsked text file old new)
+  pub asked : {X : Type 0} (r : Result X Failed) (text : List ℕ) (list : List Pair) (old new : Option (List ℕ)) → content_by (p2p_text nodes) (rows text) ≡ Ok list → OnOk r (AnswersAll net version list old new) → OnOk r (IsAsked text file old new)
   asked (Ok done) text list old new said answers = asked_one text list old new said answers
   asked (Err failed) text list old new said answers = tt
 
-  pub asked_of : (r : Result (Unit {0}) Failed) (known left : Option (List ℕ)) (list : List Pair) (old new : Option (List ℕ)) → IfSome known (λ text. Reads (p2p_text nodes) text left (Ok list)) → OnOk r (AnswersAll net version list old new)
+  pub asked_of : {X : Type 0} (r : Result X Failed) (known left : Option (List ℕ)) (list : List Pair) (old new : Option (List ℕ)) → IfSome known (λ text. Reads (p2p_text nodes) text left (Ok list)) → OnOk r (AnswersAll net version list old new)
       → OnOk r (IfSome known (λ text. IsAsked text file old new))
   asked_of (Ok done) None left list old new said answers = tt
   asked_of (Ok done) (Some text) left list old new said answers = asked_one text list old new said.0 answers
@@ -46,7 +46,7 @@ unanswered file text left (Code Write) h = tt
 unanswered file text left (Code OutOfMemory) h = inl (inl refl)
 unanswered file text left _ h = absurd h
 
-pub refused_so : (r : Result (Unit {0}) Failed) (file : List ℕ) (known left : Option (List ℕ)) → IfErr r IsUnanswered → IfErr r (λ failed. IfSome known (λ text. IsRefusedAsk file text left failed))
+pub refused_so : {X : Type 0} (r : Result X Failed) (file : List ℕ) (known left : Option (List ℕ)) → IfErr r IsUnanswered → IfErr r (λ failed. IfSome known (λ text. IsRefusedAsk file text left failed))
 refused_so (Ok done) file known left h = tt
 refused_so (Err failed) file None left h = tt
 refused_so (Err failed) file (Some text) left h = unanswered file text left failed h

@@ -119,9 +119,9 @@ opening_is_no_write file refusal may is =
     (λ (j : judged file ≡ Some refusal). let of : OfFormat Write = subst OfFormat is (told (opened file) refusal (whole (length file) (page file)) j) in of)
     may
 
-pub not_written : (refusal : Refusal) (n : ℕ) → (refusal ≡ Write → ⊥) → CountsWrites {X = Unit {0}} n n (Err (Code refusal))
-not_written Write n not = absurd (not refl)
-not_written _ n not = refl
+pub not_written : (T : Type 0) (refusal : Refusal) (n : ℕ) → (refusal ≡ Write → ⊥) → CountsWrites {X = T} n n (Err (Code refusal))
+not_written T Write n not = absurd (not refl)
+not_written T _ n not = refl
 
 pub opening_refused : (file : List ℕ) (known left : Option (List ℕ)) (refusal : Refusal) → MayRefuseToOpen file refusal → IfSome known (λ text. IsRefusedAsk file text left (Code refusal))
 opening_refused file None left refusal may = tt

@@ -135,7 +135,7 @@ pub if_known : (known : Option (List ℕ)) (P : List ℕ → Type 0) → ((text 
 if_known None P p = tt
 if_known (Some text) P p = p text
 
-module _ (net : Net) (version : ℕ) (list : List Command) (left : List ℕ → Type 0) (r : Result (Unit {0}) Failed) where
+module _ {X : Type 0} (net : Net) (version : ℕ) (list : List Command) (left : List ℕ → Type 0) (r : Result X Failed) where
   pub applied_known : (content : List ℕ) (known rest : Option (List ℕ)) (old new : Option (List ℕ)) → OnOk r (AppliesAll net version list content left old new) → IfSome known (λ text. Reads command_text text rest (Ok list))
       → OnOk r (IfSome known (λ text. IsApplied net version text content left old new))
   applied_known content known rest old new applies read = go r applies
@@ -144,14 +144,14 @@ module _ (net : Net) (version : ℕ) (list : List Command) (left : List ℕ → 
       read_so None said a = tt
       read_so (Some text) said a = record { list = list; list_is = said.0; applies = a }
 
-      go : (e : Result (Unit {0}) Failed) → OnOk e (AppliesAll net version list content left old new) → OnOk e (IfSome known (λ text. IsApplied net version text content left old new))
+      go : (e : Result X Failed) → OnOk e (AppliesAll net version list content left old new) → OnOk e (IfSome known (λ text. IsApplied net version text content left old new))
       go (Ok done) a = read_so known read a
       go (Err failed) a = tt
 
   pub applied_text : (content text : List ℕ) (old old' new new' : Option (List ℕ)) → old' ≡ old → new' ≡ new → OnOk r (AppliesAll net version list content left old' new') → commands_of text ≡ Ok list → OnOk r (IsApplied net version text content left old new)
   applied_text content text old old' new new' e f applies said = go r applies
     where
-      go : (x : Result (Unit {0}) Failed) → OnOk x (AppliesAll net version list content left old' new') → OnOk x (IsApplied net version text content left old new)
+      go : (x : Result X Failed) → OnOk x (AppliesAll net version list content left old' new') → OnOk x (IsApplied net version text content left old new)
       go (Ok done) a = record { list = list; list_is = said; applies = subst (λ (o : Option (List ℕ)). AppliesAll net version list content left o new) e (subst (λ (o : Option (List ℕ)). AppliesAll net version list content left old' o) f a) }
       go (Err failed) a = tt
 
@@ -163,7 +163,7 @@ module _ (net : Net) (version : ℕ) (list : List Command) (left : List ℕ → 
       read_so failed None said a = tt
       read_so failed (Some text) said a = inr (record { list = list; list_is = said.0; applies = a })
 
-      go : (e : Result (Unit {0}) Failed) → IfErr e (AppliesSome net version list left old new) → IfErr e (λ failed. IfSome known (λ text. A ⊎ IsCutOff net version text left old new failed))
+      go : (e : Result X Failed) → IfErr e (AppliesSome net version list left old new) → IfErr e (λ failed. IfSome known (λ text. A ⊎ IsCutOff net version text left old new failed))
       go (Ok done) a = tt
       go (Err failed) a = read_so failed known read a
 
@@ -171,6 +171,6 @@ module _ (net : Net) (version : ℕ) (list : List Command) (left : List ℕ → 
       → IfErr r (λ failed. A ⊎ IsCutOff net version text left old new failed)
   cut_off_text A text old old' new new' e f applies said = go r applies
     where
-      go : (x : Result (Unit {0}) Failed) → IfErr x (AppliesSome net version list left old' new') → IfErr x (λ failed. A ⊎ IsCutOff net version text left old new failed)
+      go : (x : Result X Failed) → IfErr x (AppliesSome net version list left old' new') → IfErr x (λ failed. A ⊎ IsCutOff net version text left old new failed)
       go (Ok done) a = tt
       go (Err failed) a = inr (record { list = list; list_is = said; applies = subst (λ (o : Option (List ℕ)). AppliesSome net version list left o new failed) e (subst (λ (o : Option (List ℕ)). AppliesSome net version list left old' o failed) f a) })

@@ -31,6 +31,6 @@ begun (Code WrongFormat) P h = absurd (no_format h)
 begun (Code (Damaged page)) P h = absurd (no_damage page h)
 begun (Code _) P h = tt
 
-pub cut_off_begun : (r : Result (Unit {0}) Failed) (P : Type 0) → IfErr r IsCutOffBy → IfErr r (λ failed. IfUnbegun failed P)
+pub cut_off_begun : {X : Type 0} (r : Result X Failed) (P : Type 0) → IfErr r IsCutOffBy → IfErr r (λ failed. IfUnbegun failed P)
 cut_off_begun (Ok done) P h = tt
 cut_off_begun (Err failed) P h = begun failed P h

@@ -22,10 +22,11 @@ use disk::Disk;
 use keeper::Keeper;
 use machine::PAGES_OF_STEP;
 use pages::MOST_COMMANDS;
-use printing::{CountedWriter, Failed, put_reply};
+use printing::{CountedWriter, Done, Failed, put_reply};
 use roadnet::{Command, Refusal};
 use std::alloc::Global;
 use std::io::{BufRead, Write};
+use std::thread::Threads;
 use store::{Part, open};
 
 const COMMANDS: u8 = 0;
@@ -321,7 +322,12 @@ impl<D: Disk> Applying<D> {
 }
 
 /// The keeper of the store on a disk.
-fn keeper_on<D: Disk>(alloc: Global, disk: D, delta: Option<u32>) -> Result<Keeper<D>, (Refusal, D)>
+fn keeper_on<T: Threads, D: Disk>(
+    rt: &T,
+    alloc: Global,
+    disk: D,
+    delta: Option<u32>,
+) -> Result<Keeper<D>, (Refusal, D)>
     requires { ForSome delta IsWidth }
     ensures steady { IfOk result (λ keeper. IsSteady keeper.machine) }
     ensures calm { IfOk result (λ keeper. keeper.machine.broken ≡ false) }
@@ -338,22 +344,32 @@ fn keeper_on<D: Disk>(alloc: Global, disk: D, delta: Option<u32>) -> Result<Keep
         Ok(store) => store,
         Err(refused) => return Err(refused),
     };
-    match Keeper::new(alloc, store, delta) {
+    match Keeper::new(rt, alloc, store, delta) {
         Ok(keeper) => Ok(keeper),
         Err((_, store)) => Err((Refusal::OutOfMemory, store.close())),
     }
 }
 
-/// Applies these commands to the store of a keeper that has just begun.
+/// What is told when all is done by a keeper whose searches have this width, if one was given.
+fn done_by<D: Disk>(_keeper: &Keeper<D>, delta: Option<u32>) -> Done
+    requires { (width : ℕ) → delta ≡ Some width → _keeper.now.width ≡ width }
+    ensures { result.delta ≡ delta }
+{
+    Done { delta }
+}
+
+/// Applies these commands to the store of a keeper that has just begun, and then tells this.
 fn apply_commands<D: Disk, W: Write>(
     alloc: Global,
     keeper: Keeper<D>,
+    done: Done,
     commands: &[Command],
     out: &mut CountedWriter<'_, W>,
-) -> (Result<(), Failed>, D)
+) -> (Result<Done, Failed>, D)
     requires steady { IsSteady keeper.machine }
     requires calm { keeper.machine.broken ≡ false }
     requires none { pending keeper.machine ≡ 0 }
+    ensures done { IfOk result.0 (λ told. told ≡ done) }
     ensures applied { D.honest keeper.disk → Holds (D.content keeper.disk) (D.left keeper.disk) keeper.machine keeper.standing → (net : Net) (version : ℕ) → HaveCome net version [] [] 0 keeper.machine → OnOk result.0 (AppliesAll net version commands.now (D.content result.1) (D.left result.1) (W.contents (writer_of out.old)) (W.contents (writer_of out.new))) }
     ensures cut_off { D.honest keeper.disk → Holds (D.content keeper.disk) (D.left keeper.disk) keeper.machine keeper.standing → (net : Net) (version : ℕ) → HaveCome net version [] [] 0 keeper.machine → IfErr result.0 (AppliesSome net version commands.now (D.left result.1) (W.contents (writer_of out.old)) (W.contents (writer_of out.new))) }
     ensures refused { IfErr result.0 IsCutOffBy }
@@ -374,26 +390,32 @@ fn apply_commands<D: Disk, W: Write>(
         told: 0,
     };
     let ended = applying.run(commands, out);
-    (ended, applying.close())
+    let left = applying.close();
+    match ended {
+        Ok(()) => (Ok(done), left),
+        Err(failed) => (Err(failed), left),
+    }
 }
 
 /// The same over any writer, whose failed calls nobody counts.
 fn apply_to_writer<D: Disk, W: Write>(
     alloc: Global,
     keeper: Keeper<D>,
+    done: Done,
     commands: &[Command],
     out: &mut W,
-) -> (Result<(), Failed>, D)
+) -> (Result<Done, Failed>, D)
     requires steady { IsSteady keeper.machine }
     requires calm { keeper.machine.broken ≡ false }
     requires none { pending keeper.machine ≡ 0 }
+    ensures done { IfOk result.0 (λ told. told ≡ done) }
     ensures applied { D.honest keeper.disk → Holds (D.content keeper.disk) (D.left keeper.disk) keeper.machine keeper.standing → (net : Net) (version : ℕ) → HaveCome net version [] [] 0 keeper.machine → OnOk result.0 (AppliesAll net version commands.now (D.content result.1) (D.left result.1) (W.contents out.old) (W.contents out.new)) }
     ensures cut_off { D.honest keeper.disk → Holds (D.content keeper.disk) (D.left keeper.disk) keeper.machine keeper.standing → (net : Net) (version : ℕ) → HaveCome net version [] [] 0 keeper.machine → IfErr result.0 (AppliesSome net version commands.now (D.left result.1) (W.contents out.old) (W.contents out.new)) }
     ensures refused { IfErr result.0 IsCutOffBy }
     ensures honest { D.honest result.1 ↔ D.honest keeper.disk }
 {
     let mut counted = CountedWriter::new(out);
-    apply_commands(alloc, keeper, commands, &mut counted)
+    apply_commands(alloc, keeper, done, commands, &mut counted)
 }
 
 /// Applies the commands of a reader's text to the store on a disk, in their order, and writes one line a command: `ok N` once the command is
@@ -408,14 +430,16 @@ fn apply_to_writer<D: Disk, W: Write>(
 /// write (12) ends it too: then the last commands may be durable and not told, or lost. A failed read is fault 10 of the line being read; it
 /// and 12 are told only where the count of the reader's or the writer's failed calls rose. After an `Err` reader and writer are not used
 /// again.
-pub fn apply_counted<D: Disk, R: BufRead, W: Write>(
+pub fn apply_counted<T: Threads, D: Disk, R: BufRead, W: Write>(
+    rt: &T,
     alloc: Global,
     disk: D,
     commands: &mut Counted<'_, R>,
     delta: Option<u32>,
     out: &mut CountedWriter<'_, W>,
-) -> (Result<(), Failed>, D)
+) -> (Result<Done, Failed>, D)
     requires { ForSome delta IsWidth }
+    ensures width { IfOk result.0 (λ done. done.delta ≡ delta) }
     // Where the disk stands, tidy, for this network at this version, all that a stop may leave stands for that network after the accepted
     // commands, and the lines of all commands are written.
     ensures applied { D.honest disk → (journal_pages : ℕ) (net : Net) (version : ℕ) → StandsTidyFor journal_pages (D.content disk) net version → OnOk result.0 (IfSome (R.remaining (reader_of commands.old))
@@ -433,10 +457,11 @@ pub fn apply_counted<D: Disk, R: BufRead, W: Write>(
     ensures same_reader { IsSameReader commands.old commands.new }
     ensures same_writer { IsSameWriter out.old out.new }
 {
-    let keeper = match keeper_on(alloc, disk, delta) {
+    let keeper = match keeper_on(rt, alloc, disk, delta) {
         Ok(keeper) => keeper,
         Err((refusal, disk)) => return (Err(Failed::Code(refusal)), disk),
     };
+    let done = done_by(&keeper, delta);
     let commands = match read_commands_counted(alloc, commands) {
         Ok(commands) => commands,
         Err(fault) => {
@@ -450,18 +475,20 @@ pub fn apply_counted<D: Disk, R: BufRead, W: Write>(
             );
         }
     };
-    apply_commands(alloc, keeper, &commands, out)
+    apply_commands(alloc, keeper, done, &commands, out)
 }
 
 /// The same for a text in memory, over any writer, whose failed calls nobody counts.
-pub fn apply_text<D: Disk, W: Write>(
+pub fn apply_text<T: Threads, D: Disk, W: Write>(
+    rt: &T,
     alloc: Global,
     disk: D,
     commands: &[u8],
     delta: Option<u32>,
     out: &mut W,
-) -> (Result<(), Failed>, D)
+) -> (Result<Done, Failed>, D)
     requires { ForSome delta IsWidth }
+    ensures width { IfOk result.0 (λ done. done.delta ≡ delta) }
     ensures applied { D.honest disk → (journal_pages : ℕ) (net : Net) (version : ℕ) → StandsTidyFor journal_pages (D.content disk) net version → OnOk result.0 (IsApplied net version commands.now (D.content result.1) (D.left result.1) (W.contents out.old) (W.contents out.new)) }
     ensures cut_off { D.honest disk → (journal_pages : ℕ) (net : Net) (version : ℕ) → StandsTidyFor journal_pages (D.content disk) net version → IfErr result.0 (λ failed. (StaysSame D.content D.left D.moment D.left_since disk result.1 × (out.new ≡ out.old)) ⊎ IsCutOff net version commands.now (D.left result.1) (W.contents out.old) (W.contents out.new) failed) }
     ensures refused { D.honest disk → IfErr result.0 (IsTextRefusedApply (D.content disk) commands.now) }
@@ -469,10 +496,11 @@ pub fn apply_text<D: Disk, W: Write>(
     ensures unwritten { IfErr result.0 (λ failed. IfUnbegun failed (out.new ≡ out.old)) }
     ensures honest { D.honest result.1 ↔ D.honest disk }
 {
-    let keeper = match keeper_on(alloc, disk, delta) {
+    let keeper = match keeper_on(rt, alloc, disk, delta) {
         Ok(keeper) => keeper,
         Err((refusal, disk)) => return (Err(Failed::Code(refusal)), disk),
     };
+    let done = done_by(&keeper, delta);
     let commands = match parse_commands(alloc, commands) {
         Ok(commands) => commands,
         Err(fault) => {
@@ -486,5 +514,5 @@ pub fn apply_text<D: Disk, W: Write>(
             );
         }
     };
-    apply_to_writer(alloc, keeper, &commands, out)
+    apply_to_writer(alloc, keeper, done, &commands, out)
 }

@@ -1,5 +1,5 @@
 // The pairs of a text, asked of a store.
-ghost use Rattle.std.specs.Prelude.{◌≡◌, ◌↔◌, OnOk, IfErr, IfSome};
+ghost use Rattle.std.specs.Prelude.{◌≡◌, ◌↔◌, OnOk, IfOk, IfErr, IfSome};
 ghost use Rattle.std.specs.Option.{ForSome};
 ghost use Rattle.dimacs.specs.Counts.{failed_calls, reader_of, IsSameReader};
 ghost use Rattle.disk.specs.Moments.{StaysSame};
@@ -12,23 +12,26 @@ ghost use Rattle.storetexts.specs.Asked.{IsAsked, IsRefusedAsk, IsTextRefusedAsk
 
 use dimacs::{Counted, Pair, parse_p2p, read_p2p_counted};
 use disk::Disk;
-use printing::{CountedWriter, Failed};
+use printing::{CountedWriter, Done, Failed};
 use querytexts::answer_pairs;
 use std::alloc::Global;
 use std::io::{BufRead, Write};
+use std::thread::Threads;
 use store::{Store, open};
 
 const PAIRS: u8 = 0;
 
 /// Writes the version of the store and a right answer to each pair, and hands the disk back.
-fn ask_opened<D: Disk, W: Write>(
+fn ask_opened<T: Threads, D: Disk, W: Write>(
+    rt: &T,
     alloc: Global,
     store: Store<D>,
     pairs: &[Pair],
     delta: Option<u32>,
     out: &mut CountedWriter<'_, W>,
-) -> (Result<(), Failed>, D)
+) -> (Result<Done, Failed>, D)
     requires { ForSome delta IsWidth }
+    ensures width { IfOk result.0 (λ done. done.delta ≡ delta) }
     ensures answered { OnOk result.0 (AnswersAll store.network store.version pairs.now (W.contents (writer_of out.old)) (W.contents (writer_of out.new))) }
     ensures refused { IfErr result.0 IsUnanswered }
     ensures disk { result.1 ≡ store.disk }
@@ -36,7 +39,15 @@ fn ask_opened<D: Disk, W: Write>(
     ensures writes { CountsWrites (failed_writes out.old) (failed_writes out.new) result.0 }
     ensures same { IsSameWriter out.old out.new }
 {
-    let answered = answer_pairs(alloc, store.network(), store.version(), delta, pairs, out);
+    let answered = answer_pairs(
+        rt,
+        alloc,
+        store.network(),
+        store.version(),
+        delta,
+        pairs,
+        out,
+    );
     (answered, store.close())
 }
 
@@ -49,15 +60,17 @@ fn ask_opened<D: Disk, W: Write>(
 /// After an `Err` reader and writer are not used again.
 ///
 /// `delta` is the width of a search's buckets, 1 to 2147483647: every width gives the same answers; without one it is the network's
-/// default.
-pub fn ask_counted<D: Disk, R: BufRead, W: Write>(
+/// default. The rows of the last 16 sources are kept, 8 bytes a node and row, and a crew of the runtime's threads makes them.
+pub fn ask_counted<T: Threads, D: Disk, R: BufRead, W: Write>(
+    rt: &T,
     alloc: Global,
     disk: D,
     p2p: &mut Counted<'_, R>,
     delta: Option<u32>,
     out: &mut CountedWriter<'_, W>,
-) -> (Result<(), Failed>, D)
+) -> (Result<Done, Failed>, D)
     requires { ForSome delta IsWidth }
+    ensures width { IfOk result.0 (λ done. done.delta ≡ delta) }
     ensures answered { D.honest disk → OnOk result.0 (IfSome (R.remaining (reader_of p2p.old))
         (λ text. IsAsked text (D.content disk) (W.contents (writer_of out.old)) (W.contents (writer_of out.new)))) }
     ensures refused { D.honest disk → IfErr result.0 (λ failed. IfSome (R.remaining (reader_of p2p.old))
@@ -87,18 +100,20 @@ pub fn ask_counted<D: Disk, R: BufRead, W: Write>(
             );
         }
     };
-    ask_opened(alloc, store, &pairs, delta, out)
+    ask_opened(rt, alloc, store, &pairs, delta, out)
 }
 
 /// The same for a text in memory, over any writer, whose failed calls nobody counts.
-pub fn ask_text<D: Disk, W: Write>(
+pub fn ask_text<T: Threads, D: Disk, W: Write>(
+    rt: &T,
     alloc: Global,
     disk: D,
     p2p: &[u8],
     delta: Option<u32>,
     out: &mut W,
-) -> (Result<(), Failed>, D)
+) -> (Result<Done, Failed>, D)
     requires { ForSome delta IsWidth }
+    ensures width { IfOk result.0 (λ done. done.delta ≡ delta) }
     ensures answered { D.honest disk → OnOk result.0 (IsAsked p2p.now (D.content disk) (W.contents out.old) (W.contents out.new)) }
     ensures refused { D.honest disk → IfErr result.0 (IsTextRefusedAsk (D.content disk) p2p.now) }
     ensures untouched { D.honest disk → StaysSame D.content D.left D.moment D.left_since disk result.1 }
@@ -122,5 +137,5 @@ pub fn ask_text<D: Disk, W: Write>(
         }
     };
     let mut out = CountedWriter::new(out);
-    ask_opened(alloc, store, &pairs, delta, &mut out)
+    ask_opened(rt, alloc, store, &pairs, delta, &mut out)
 }

@@ -3,7 +3,7 @@ ghost use Rattle.std.specs.Prelude.{◌≤◌};
 use crate::{apply_text, ask_text, create_text};
 use dimacs::{Code, Fault};
 use disk::{Disk, FailOnce, MemDisk};
-use printing::Failed;
+use printing::{Done, Failed};
 use roadnet::Refusal;
 use std::alloc::Global;
 use std::io;
@@ -99,11 +99,11 @@ fn made_changed_and_asked(rt: HostRuntime) -> Result<(), Refusal> {
     for (applies, text, want) in table {
         let mut out = Vec::new(alloc);
         let (outcome, same) = if applies {
-            apply_text(alloc, disk, text, None, &mut out)
+            apply_text(&rt, alloc, disk, text, None, &mut out)
         } else {
-            ask_text(alloc, disk, text, Some(5), &mut out)
+            ask_text(&rt, alloc, disk, text, Some(5), &mut out)
         };
-        assert!(rt; outcome == Ok(()));
+        assert!(rt; outcome.is_ok());
         assert!(rt; out.as_slice() == want);
         disk = same;
     }
@@ -133,8 +133,8 @@ fn applied_across_a_checkpoint(rt: HostRuntime) -> Result<(), Refusal> {
     let (disk, _) = created(alloc, 2)?;
     let text = repeated(alloc, 762)?;
     let mut out = Vec::new(alloc);
-    let (outcome, disk) = apply_text(alloc, disk, &text, None, &mut out);
-    assert!(rt; outcome == Ok(()));
+    let (outcome, disk) = apply_text(&rt, alloc, disk, &text, None, &mut out);
+    assert!(rt; outcome == Ok(Done { delta: None }));
     assert_eq!(rt; lines_of(&out), 762);
     assert!(rt; out.as_slice().starts_with(b"ok 1\nok 2\n"));
     assert!(rt; out.as_slice().ends_with(b"ok 761\nok 762\n"));
@@ -151,12 +151,19 @@ fn nothing_told_is_lost(rt: HostRuntime) -> Result<(), Refusal> {
     for call in 1..=45 {
         let (disk, _) = created(alloc, 1)?;
         let mut out = Vec::new(alloc);
-        let (outcome, disk) = apply_text(alloc, FailOnce::new(disk, call), &text, None, &mut out);
+        let (outcome, disk) = apply_text(
+            &rt,
+            alloc,
+            FailOnce::new(disk, call),
+            &text,
+            None,
+            &mut out,
+        );
         let version = version_on(alloc, disk.into_inner())?;
         let told = lines_of(&out);
         assert!(rt; told <= version && version <= 300, "call {call}");
         match outcome {
-            Ok(()) => {
+            Ok(_) => {
                 whole = true;
                 assert_eq!(rt; told, 300, "call {call}");
             }
@@ -201,7 +208,7 @@ fn faults_of_texts(rt: HostRuntime) -> Result<(), Refusal> {
     let (mut disk, _) = created(alloc, 64)?;
     let before = bytes_of(alloc, &mut disk)?;
     let mut out = Vec::new(alloc);
-    let (outcome, disk) = apply_text(alloc, disk, b"close 7\nclose x\n", None, &mut out);
+    let (outcome, disk) = apply_text(&rt, alloc, disk, b"close 7\nclose x\n", None, &mut out);
     assert!(rt;
         outcome
             == Err(Failed::Text {
@@ -209,7 +216,14 @@ fn faults_of_texts(rt: HostRuntime) -> Result<(), Refusal> {
                 fault: bad
             })
     );
-    let (outcome, mut disk) = ask_text(alloc, disk, b"p aux sp p2p 1\nq 1 7\n", None, &mut out);
+    let (outcome, mut disk) = ask_text(
+        &rt,
+        alloc,
+        disk,
+        b"p aux sp p2p 1\nq 1 7\n",
+        None,
+        &mut out,
+    );
     assert!(rt;
         outcome
             == Err(Failed::Text {
@@ -242,9 +256,9 @@ fn other_files_are_refused(rt: HostRuntime) -> Result<(), Refusal> {
         }
         let disk = with_bytes(alloc, &bytes)?;
         let mut out = Vec::new(alloc);
-        let (outcome, disk) = apply_text(alloc, disk, b"close 7\n", None, &mut out);
+        let (outcome, disk) = apply_text(&rt, alloc, disk, b"close 7\n", None, &mut out);
         assert!(rt; outcome == Err(Failed::Code(refusal)), "{refusal}");
-        let (outcome, _) = ask_text(alloc, disk, PAIR, None, &mut out);
+        let (outcome, _) = ask_text(&rt, alloc, disk, PAIR, None, &mut out);
         assert!(rt; outcome == Err(Failed::Code(refusal)), "{refusal}");
         assert!(rt; out.is_empty(), "{refusal}");
     }
@@ -286,11 +300,11 @@ fn lines_are_sent_page_by_page(rt: HostRuntime) -> Result<(), Refusal> {
     let mut out = sending_writer(alloc);
     let (outcome, disk) = create_text(alloc, MemDisk::new(alloc), SIX, LANDMARKS, 64, &mut out);
     assert!(rt; outcome == Ok(()));
-    let (outcome, disk) = ask_text(alloc, disk, PAIR, None, &mut out);
-    assert!(rt; outcome == Ok(()));
+    let (outcome, disk) = ask_text(&rt, alloc, disk, PAIR, None, &mut out);
+    assert!(rt; outcome == Ok(Done { delta: None }));
     let text = repeated(alloc, 300)?;
-    let (outcome, _) = apply_text(alloc, disk, &text, None, &mut out);
-    assert!(rt; outcome == Ok(()));
+    let (outcome, _) = apply_text(&rt, alloc, disk, &text, None, &mut out);
+    assert!(rt; outcome == Ok(Done { delta: None }));
     // Of 253 lines 9 have 5 bytes, 90 have 6 and 154 have 7; 47 of 7 bytes follow.
     assert!(rt; out.sent.as_slice() == [5, 13, 1663, 329].as_slice());
     assert_eq!(rt; out.waiting, 0);

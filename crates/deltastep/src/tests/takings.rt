@@ -46,11 +46,15 @@ impl<Q: BucketQueue> BucketQueue for Recorded<'_, Q> {
     }
 
     fn take_least(&mut self) -> Result<Option<(u64, Vec<u32>)>, AllocError> {
-        let taken = self.inner.take_least()?;
-        if let Some((bucket, nodes)) = &taken
+        self.inner.take_least()
+    }
+
+    fn take_least_into(&mut self, nodes: &mut Vec<u32>) -> Result<Option<u64>, AllocError> {
+        let taken = self.inner.take_least_into(nodes)?;
+        if let Some(bucket) = taken
             && let Ok(copy) = Vec::from_slice(self.alloc, nodes)
         {
-            let _kept = self.takings.push((*bucket, copy)).is_ok();
+            let _kept = self.takings.push((bucket, copy)).is_ok();
         }
         Ok(taken)
     }

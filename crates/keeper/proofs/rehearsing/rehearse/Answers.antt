@@ -43,6 +43,7 @@ loop-event-init g c =
             run = run_as first [] [] c.new-3.result.items [] c.new-2.result.items c.in-Ok.life.keeper.machine c.new-3.ensures.items c.new-2.ensures.items
                 (subst (λ (m : Machine). HasRun {P = Pick} first [] [] [] m) (sym begins) (run_none {P = Pick} first store.numbers.unchecked_to slot));
           };
+      delta = c.in-Ok.ensures.delta;
       counted = fails_as {P = Pick} [] [] c.new-3.result.items (g.D.Disk.failures store.disk) _ c.new-3.ensures.items (rw c.in-Ok.ensures.disk (fails_none {P = Pick} (g.D.Disk.failures store.disk)));
     }
 
@@ -63,6 +64,7 @@ loop-event-preserved g c =
           let now : IsGoing {P = Pick} g.D.Disk.honest g.D.Disk.content g.D.Disk.left first (take i events) c.grow.new.self.replies.items c.grow.new.self.history.items c.grow.new.self.life.keeper =
           rw (c.grow.ensures.life, c.grow.ensures.replies, c.grow.ensures.history) was in
           rw more (c.in-Ok-next.ensures.goes first (take i events) now);
+      delta = c.in-Ok-next.ensures.delta ∙ ap (λ l. l.delta) c.grow.ensures.life ∙ c.loop-event.invariant.delta;
       counted =
           rw more (c.in-Ok-next.ensures.counted (g.D.Disk.failures store.disk) (take i events) (rw (c.grow.ensures.life, c.grow.ensures.replies) c.loop-event.invariant.counted));
     }

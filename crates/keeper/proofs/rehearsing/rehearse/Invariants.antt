@@ -1,4 +1,4 @@
-use Rattle.std.proofs.Common.{◌+◌, ◌≤◌, length, take}
+use Rattle.std.proofs.Common.{◌≡◌, ◌+◌, ◌≤◌, length, take}
 use Rattle.std.specs.Prelude.{option_map}
 use Rattle.std.specs.Vec.{vec_len, vec_capacity}
 use Rattle.disk.specs.declared.stoppable.Pick.{Pick}
@@ -15,5 +15,6 @@ invariant-loop-event g l = record {
   room : vec_len l.run.history + length l.run.life.keeper.machine.accepted ≤ vec_capacity l.run.history;
   goes : g.D.Disk.honest l.fn.store.disk → StandsTidily (g.D.Disk.content l.fn.store.disk) (told_by l.fn.store)
       → IsGoing {P = Pick} g.D.Disk.honest g.D.Disk.content g.D.Disk.left (first_of l.fn.store) (take l.event-index l.events) l.run.replies.items l.run.history.items l.run.life.keeper;
+  delta : l.run.life.delta ≡ l.fn.delta;
   counted : FailsAsTold {P = Pick} (take l.event-index l.events) l.run.replies.items (g.D.Disk.failures l.fn.store.disk) (g.D.Disk.failures l.run.life.keeper.disk);
 }

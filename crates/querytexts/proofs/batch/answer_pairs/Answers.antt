@@ -1,11 +1,4 @@
-use Rattle.std.proofs.Common.{◌≡◌, length, rules}
-use Rattle.std.proofs.lemmas.Slice.Zip.{AllZip-long}
 use Rattle.querytexts.proofs.batch.answer_pairs.Goals as goal
 
-pub put_answers-requires : goal.put_answers-requires
-put_answers-requires g c =
-    let long : length c.in-Ok.replies.items ≡ length c.args.pairs.now = AllZip-long _ c.args.pairs.now c.in-Ok.replies.items c.in-Ok.ensures.right in
-    search (rules, long)
-
-pub reply_to_all-requires : goal.reply_to_all-requires
-reply_to_all-requires g c = c.new-searches.ensures.kept c.args.network.now
+pub answer_by-requires : goal.answer_by-requires
+answer_by-requires g c = c.new-searches.ensures.kept c.args.network.now

@@ -1,4 +1,4 @@
 use Rattle.querytexts.proofs.once.answer_one.Goals as goal
 
-pub answer-requires : goal.answer-requires
-answer-requires g c = c.new.ensures.kept c.args.network.now
+pub dist-requires : goal.dist-requires
+dist-requires g c = c.new-searches.ensures.kept c.args.network.now

@@ -1,4 +1,4 @@
-use Rattle.std.proofs.Common.{[]}
+use Rattle.std.proofs.Common.{[], Ok, Err}
 use Rattle.std.specs.Io.KnownBytes.{Appends}
 use Rattle.std.proofs.KnownBytes.{Appends-nil}
 use Rattle.roadnet.specs.declared.refusals.Refusal.TheVariants.{OutOfMemory}
@@ -14,18 +14,18 @@ returns-in-Err-clause-cut_off g c honest holds net version begun =
     (applies_some net version c.args.commands.now [] 0 c.args.keeper.machine c.args.keeper.standing (g.D.Disk.content c.args.keeper.disk) (g.D.Disk.left c.args.keeper.disk) _ _ (Code OutOfMemory)
     (record { taken = 0; come = begun }) c.requires.steady holds unwritten)
 
-pub returns-clause-applied : goal.returns-clause-applied
-returns-clause-applied g c honest holds net version begun =
+pub returns-in-Ok-ended-clause-applied : goal.returns-in-Ok-ended-clause-applied
+returns-in-Ok-ended-clause-applied g c honest holds net version begun =
     let disk = c.run-ended.new.self.keeper.disk in
-    rw c.close.ensures
+    rw c.close-left.ensures
     (ended_all net version c.args.keeper.machine c.run-ended.new.self.keeper.machine c.args.commands.now c.run-ended.new.self.outcomes.items c.run-ended.new.self.told c.run-ended.new.self.keeper.standing
     (g.D.Disk.content disk) (g.D.Disk.left disk) _ _ begun c.run-ended.ensures.steady (c.run-ended.ensures.holds honest holds)
-    c.run-ended.result c.run-ended.ensures.come c.run-ended.ensures.calm c.run-ended.ensures.all c.run-ended.ensures.lines (g.met.D.Disk.leaves_content disk (c.run-ended.ensures.honest.1 honest)))
+    (Ok tt) c.in-Ok-ended.ensures.come c.in-Ok-ended.ensures.calm c.in-Ok-ended.ensures.all c.in-Ok-ended.ensures.lines (g.met.D.Disk.leaves_content disk (c.run-ended.ensures.honest.1 honest)))
 
-pub returns-clause-cut_off : goal.returns-clause-cut_off
-returns-clause-cut_off g c honest holds net version begun =
+pub returns-in-Err-ended-clause-cut_off : goal.returns-in-Err-ended-clause-cut_off
+returns-in-Err-ended-clause-cut_off g c honest holds net version begun =
     let disk = c.run-ended.new.self.keeper.disk in
-    rw c.close.ensures
+    rw c.close-left.ensures
     (ended_some net version c.args.keeper.machine c.run-ended.new.self.keeper.machine c.args.commands.now c.run-ended.new.self.outcomes.items c.run-ended.new.self.told c.run-ended.new.self.keeper.standing
     (g.D.Disk.content disk) (g.D.Disk.left disk) _ _ begun c.run-ended.ensures.steady (c.run-ended.ensures.holds honest holds)
-    c.run-ended.result c.run-ended.ensures.some c.run-ended.ensures.lines)
+    (Err c.in-Err-ended.failed) c.run-ended.ensures.some c.in-Err-ended.ensures.lines)

@@ -1,4 +1,5 @@
 use Rattle.std.proofs.Common.{rules, ◌≡◌, inl, refl}
+use Rattle.printing.specs.declared.done.Done.{Done}
 use Rattle.storetexts.proofs.Judged.{opening_is_no_write, not_written}
 use Rattle.printing.specs.declared.failed.Failed.TheVariants.{Code}
 use Rattle.printing.specs.Counting.{writer_of}
@@ -10,7 +11,7 @@ pub returns-in-Err-clause-cut_off : goal.returns-in-Err-clause-cut_off
 returns-in-Err-clause-cut_off g c honest pages net version stands = if_known _ _ (λ text. inl (c.in-Err.ensures.handed_back honest, refl))
 
 pub returns-in-Err-clause-writes : goal.returns-in-Err-clause-writes
-returns-in-Err-clause-writes g c honest = not_written c.in-Err.refusal _ (opening_is_no_write (g.D.Disk.content c.args.disk) c.in-Err.refusal (c.in-Err.ensures.refused honest))
+returns-in-Err-clause-writes g c honest = not_written Done c.in-Err.refusal _ (opening_is_no_write (g.D.Disk.content c.args.disk) c.in-Err.refusal (c.in-Err.ensures.refused honest))
 
 pub returns-in-Err-read_commands_counted-clause-cut_off :
     goal.returns-in-Err-read_commands_counted-clause-cut_off

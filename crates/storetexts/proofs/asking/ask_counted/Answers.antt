@@ -1,11 +1,12 @@
 use Rattle.std.proofs.Common.{rules, ◌≡◌}
 use Rattle.dimacs.specs.Counts.{reader_of}
+use Rattle.printing.specs.declared.done.Done.{Done}
 use Rattle.storetexts.proofs.Judged.{opening_is_no_write, not_written, opening_refused}
 use Rattle.storetexts.proofs.Answered.{asked_of, fault_of, refused_so}
 use Rattle.storetexts.proofs.asking.ask_counted.Goals as goal
 
 pub returns-in-Err-clause-writes : goal.returns-in-Err-clause-writes
-returns-in-Err-clause-writes g c honest = not_written c.in-Err.refusal _ (opening_is_no_write (g.D.Disk.content c.args.disk) c.in-Err.refusal (c.in-Err.ensures.judged honest))
+returns-in-Err-clause-writes g c honest = not_written Done c.in-Err.refusal _ (opening_is_no_write (g.D.Disk.content c.args.disk) c.in-Err.refusal (c.in-Err.ensures.judged honest))
 
 pub returns-in-Err-clause-refused : goal.returns-in-Err-clause-refused
 returns-in-Err-clause-refused g c honest = opening_refused (g.D.Disk.content c.args.disk) (g.R.Read.remaining (reader_of c.args.p2p.now)) (g.R.Read.remaining (reader_of c.args.p2p.now)) c.in-Err.refusal (c.in-Err.ensures.judged honest)

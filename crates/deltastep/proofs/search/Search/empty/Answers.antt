@@ -1,4 +1,4 @@
-use Rattle.std.proofs.Common.{◌≡◌, ℕ, ◌<◌, List, ◌++◌, Contains, sym, subst, ap, ◌∙◌, arith, All, le_trans}
+use Rattle.std.proofs.Common.{◌≡◌, ℕ, ◌<◌, List, ◌++◌, sym, subst, ap, ◌∙◌, arith, All, le_trans}
 use Rattle.deltastep.specs.Search.{AreInBucket, IsRelaxedBut}
 use Rattle.snapshot.specs.declared.legs.Part.TheVariants.{Heavy}
 use Rattle.deltastep.specs.Remembered.{remember_all}
@@ -6,9 +6,6 @@ use Rattle.deltastep.proofs.Relaxing.{nodes_in_range}
 use Rattle.deltastep.proofs.Flags.{remember_all-both}
 use Rattle.deltastep.proofs.Phases.{IsRelaxedBut-more, AreInBucket-remembered}
 use Rattle.deltastep.proofs.search.Search.empty.Goals as goal
-
-pub phase-requires-clause-nodes : goal.phase-requires-clause-nodes
-phase-requires-clause-nodes g c u h = c.phases.invariant.nodes u (subst (λ xs. Contains xs u) c.deref-in-phases.ensures.value h)
 
 pub add_all-requires : goal.add_all-requires
 add_all-requires g c =
@@ -22,7 +19,7 @@ phases-preserved g c =
     let old = c.phases.remembered.nodes in
     let nodes = c.phases.nodes.items in
     let remembered : c.add_all.new.self.nodes ≡ remember_all c.phases.remembered.nodes c.phases.nodes.items = c.in_ok-add_all.ensures.added ∙ ap (λ (l : List ℕ). remember_all c.phases.remembered.nodes l) c.deref.ensures.value in
-    let ends = c.in_ok-nodes.ensures.phase in
+    let ends = c.in_ok-phase.ensures.phase in
     let owed : IsRelaxedBut c.args.snapshot.now Heavy c.phases.self.tentative (g.Q.BucketQueue.entries c.phases.self.buckets) (remember_all c.phases.remembered.nodes c.phases.nodes.items) = IsRelaxedBut-more c.args.snapshot.now Heavy c.phases.self.tentative (g.Q.BucketQueue.entries c.phases.self.buckets) (c.phases.remembered.nodes ++ c.phases.nodes.items) (remember_all c.phases.remembered.nodes c.phases.nodes.items) (remember_all-both c.phases.remembered.nodes c.phases.nodes.items) c.phases.invariant.heavy in
     let both : AreInBucket c.phases.self.tentative c.args.snapshot.now.delta c.args.bucket (remember_all c.phases.remembered.nodes c.phases.nodes.items) = AreInBucket-remembered c.phases.self.tentative c.args.snapshot.now.delta c.args.bucket c.phases.remembered.nodes c.phases.nodes.items c.phases.invariant.remembered c.phases.invariant.nodes in
     record {
@@ -32,10 +29,10 @@ phases-preserved g c =
       heavy = rw remembered (ends.heavy (remember_all c.phases.remembered.nodes c.phases.nodes.items) owed);
       nodes = ends.nodes;
       remembered = rw remembered (ends.stays (remember_all c.phases.remembered.nodes c.phases.nodes.items) both);
-      emptied = c.in_ok-nodes.ensures.emptied;
+      emptied = c.in_ok-phase.ensures.emptied;
       limit = c.in_ok-add_all.ensures.limit ∙ c.phases.invariant.limit;
-      live = c.in_ok-nodes.ensures.live;
-      window = c.in_ok-nodes.ensures.window;
-      suited = c.in_ok-nodes.ensures.suited;
-      weighs = le_trans c.in_ok-nodes.ensures.weight c.phases.invariant.weighs;
+      live = c.in_ok-phase.ensures.live;
+      window = c.in_ok-phase.ensures.window;
+      suited = c.in_ok-phase.ensures.suited;
+      weighs = le_trans c.in_ok-phase.ensures.weight c.phases.invariant.weighs;
     }

@@ -9,7 +9,7 @@ use Rattle.deltastep.proofs.search.Search.run.Given.{Over}
 use Rattle.deltastep.proofs.search.Search.run.Goals as goal
 use Rattle.deltastep.proofs.search.Search.run.Goals.{In-Some}
 
-takes : (g : Over) (c : In-Some g) → TakesLeast c.args.snapshot.now.delta (g.Q.BucketQueue.entries c.buckets.self.buckets) c.in-Some.bucket c.in-Some.taken.items (g.Q.BucketQueue.entries c.take_bucket.new.self.buckets)
+takes : (g : Over) (c : In-Some g) → TakesLeast c.args.snapshot.now.delta (g.Q.BucketQueue.entries c.buckets.self.buckets) c.in-Some.bucket c.take_bucket.new.taken.items (g.Q.BucketQueue.entries c.take_bucket.new.self.buckets)
 takes g c = rw c.in-Some.is at c.in_ok-bucket.ensures.taken
 
 -- what is known of the source with which the search began
@@ -19,27 +19,27 @@ state g c = (c.requires.state.0, rw c.take_bucket.ensures.tentative (c.buckets.i
 pub settle-requires-clause-search : goal.settle-requires-clause-search
 settle-requires-clause-search g c =
     let here = (goal.at.settle-requires-clause-search g c).In-Some in
-    IsSearch-taken c.args.snapshot.now c.take_bucket.new.self.tentative (g.Q.BucketQueue.entries c.buckets.self.buckets) c.in-Some.bucket c.in-Some.taken.items (g.Q.BucketQueue.entries c.take_bucket.new.self.buckets) (takes g here) 0 (state g here).1.search
+    IsSearch-taken c.args.snapshot.now c.take_bucket.new.self.tentative (g.Q.BucketQueue.entries c.buckets.self.buckets) c.in-Some.bucket c.take_bucket.new.taken.items (g.Q.BucketQueue.entries c.take_bucket.new.self.buckets) (takes g here) 0 (state g here).1.search
 
 pub settle-requires-clause-light : goal.settle-requires-clause-light
 settle-requires-clause-light g c =
     let here = (goal.at.settle-requires-clause-light g c).In-Some in
-    IsRelaxedBut-taken c.args.snapshot.now c.take_bucket.new.self.tentative (g.Q.BucketQueue.entries c.buckets.self.buckets) c.in-Some.bucket c.in-Some.taken.items (g.Q.BucketQueue.entries c.take_bucket.new.self.buckets) (takes g here) Light [] (state g here).1.light
+    IsRelaxedBut-taken c.args.snapshot.now c.take_bucket.new.self.tentative (g.Q.BucketQueue.entries c.buckets.self.buckets) c.in-Some.bucket c.take_bucket.new.taken.items (g.Q.BucketQueue.entries c.take_bucket.new.self.buckets) (takes g here) Light [] (state g here).1.light
 
 pub settle-requires-clause-heavy : goal.settle-requires-clause-heavy
 settle-requires-clause-heavy g c =
     let here = (goal.at.settle-requires-clause-heavy g c).In-Some in
-    IsRelaxedBut-taken c.args.snapshot.now c.take_bucket.new.self.tentative (g.Q.BucketQueue.entries c.buckets.self.buckets) c.in-Some.bucket c.in-Some.taken.items (g.Q.BucketQueue.entries c.take_bucket.new.self.buckets) (takes g here) Heavy [] (state g here).1.heavy
+    IsRelaxedBut-taken c.args.snapshot.now c.take_bucket.new.self.tentative (g.Q.BucketQueue.entries c.buckets.self.buckets) c.in-Some.bucket c.take_bucket.new.taken.items (g.Q.BucketQueue.entries c.take_bucket.new.self.buckets) (takes g here) Heavy [] (state g here).1.heavy
 
 pub settle-requires-clause-taken : goal.settle-requires-clause-taken
 settle-requires-clause-taken g c =
     let here = (goal.at.settle-requires-clause-taken g c).In-Some in
-    AreInBucket-taken c.args.snapshot.now c.take_bucket.new.self.tentative (g.Q.BucketQueue.entries c.buckets.self.buckets) c.in-Some.bucket c.in-Some.taken.items (g.Q.BucketQueue.entries c.take_bucket.new.self.buckets) (takes g here) 0 (state g here).1.search
+    AreInBucket-taken c.args.snapshot.now c.take_bucket.new.self.tentative (g.Q.BucketQueue.entries c.buckets.self.buckets) c.in-Some.bucket c.take_bucket.new.taken.items (g.Q.BucketQueue.entries c.take_bucket.new.self.buckets) (takes g here) 0 (state g here).1.search
 
 pub settle-requires-clause-live : goal.settle-requires-clause-live
 settle-requires-clause-live g c =
     let here = (goal.at.settle-requires-clause-live g c).In-Some in
-    AreLiveFrom-taken c.args.snapshot.now c.in-Some.bucket c.in-Some.bucket (g.Q.BucketQueue.entries c.buckets.self.buckets) c.in-Some.taken.items (g.Q.BucketQueue.entries c.take_bucket.new.self.buckets) (takes g here) (rw c.in-Some.is at c.in_ok-bucket.ensures.live)
+    AreLiveFrom-taken c.args.snapshot.now c.in-Some.bucket c.in-Some.bucket (g.Q.BucketQueue.entries c.buckets.self.buckets) c.take_bucket.new.taken.items (g.Q.BucketQueue.entries c.take_bucket.new.self.buckets) (takes g here) (rw c.in-Some.is at c.in_ok-bucket.ensures.live)
 
 pub settle-requires-clause-window : goal.settle-requires-clause-window
 settle-requires-clause-window g c = rw c.in-Some.is at c.in_ok-bucket.ensures.window
@@ -47,7 +47,7 @@ settle-requires-clause-window g c = rw c.in-Some.is at c.in_ok-bucket.ensures.wi
 pub settle-requires-clause-emptied : goal.settle-requires-clause-emptied
 settle-requires-clause-emptied g c =
     let here = (goal.at.settle-requires-clause-emptied g c).In-Some in
-    IsBucketEmpty-taken c.args.snapshot.now.delta c.in-Some.bucket (g.Q.BucketQueue.entries c.buckets.self.buckets) c.in-Some.taken.items (g.Q.BucketQueue.entries c.take_bucket.new.self.buckets) (takes g here)
+    IsBucketEmpty-taken c.args.snapshot.now.delta c.in-Some.bucket (g.Q.BucketQueue.entries c.buckets.self.buckets) c.take_bucket.new.taken.items (g.Q.BucketQueue.entries c.take_bucket.new.self.buckets) (takes g here)
 
 pub buckets-preserved : goal.buckets-preserved
 buckets-preserved g c = record {

@@ -1,4 +1,4 @@
-use Rattle.std.proofs.Common.{◌≡◌, inl, ⊎_elim, true, false, refl, sym, ◌∙◌, subst}
+use Rattle.std.proofs.Common.{rules, ◌≡◌, inl, ⊎_elim, true, false, refl, sym, ◌∙◌, subst}
 use Rattle.disk.specs.Contents.{Only}
 use Rattle.disk.proofs.Steps.{weaker}
 use Rattle.pages.specs.declared.header.Header.{Header}
@@ -60,3 +60,54 @@ returns-clause-holds g c =
             };
           })
     ])
+
+pub invariant_of-self : goal.invariant_of-self
+invariant_of-self g c = (
+  search rules,
+  search rules,
+  λ came.
+      let held = c.self.invariant.2 came in
+      let honest = held.0 in
+      let old = held.1 in (
+        c.checkpoint-written.ensures.honest.1 honest,
+        let calm : c.self.inside.broken ≡ false = c.if-self.false in
+            let works_then : c.self.inside.store.broken ≡ false = sym c.self.invariant.1 ∙ calm in
+            elim c.match-written.branch [
+              | in-Ok w ↦ record {
+                only = λ works. rw w.in-Ok.is at c.checkpoint-written.ensures.only honest;
+                stands = λ works. rw w.in-Ok.is at c.checkpoint-written.ensures.stands honest (old.stands calm);
+                each_left = λ d was. record {
+                  version = c.self.inside.store.version;
+                  left = inl (sym c.checkpoint-written.ensures.version);
+                  network = c.self.inside.store.network;
+                  network_is = c.self.invariant.0.durable_is;
+                  stands = subst (λ (h : Header). StandsTidyFor h.journal_pages d c.self.inside.store.network c.self.inside.store.version) (sym c.checkpoint-written.ensures.header) (c.checkpoint-written.ensures.left works_then honest (old.stands calm) d was);
+                };
+              }
+              | in-Err w ↦ (
+                  let flag = same_flag c.checkpoint-written.result c.has_failed-self-inside.result c.self.inside.store.broken c.checkpoint-written.new.self.broken c.has_failed-self-inside.ensures works_then c.checkpoint-written.ensures.works c.checkpoint-written.ensures.breaks (if_err_with _ _ c.checkpoint-written.result (λ refusal same not. let e = same not in cc) c.checkpoint-written.ensures.same) in
+                  let same = rw w.in-Err.is at c.checkpoint-written.ensures.same in
+                  let breaks = rw w.in-Err.is at c.checkpoint-written.ensures.breaks in
+                  let cause = why c.self.inside.store.broken w.in-Err.refusal works_then (rw w.in-Err.is at c.checkpoint-written.ensures.refused) in
+                  record {
+                    only = λ works.
+                        ⊎_elim
+                        (λ memory. subst (λ (s : Store g.row.D.Denot g.D.Disk). Only (g.D.Disk.content s.disk) (g.D.Disk.left s.disk)) (sym (same (not_memory w.in-Err.refusal memory))) (old.only calm))
+                        (λ device. absurd (let never : true ≡ false = sym (breaks device) ∙ (sym flag ∙ works) in cc))
+                        cause;
+                    stands = λ works.
+                        ⊎_elim
+                        (λ memory. subst (λ (s : Store g.row.D.Denot g.D.Disk). StandsTidily (g.D.Disk.content s.disk) (told_by s)) (sym (same (not_memory w.in-Err.refusal memory))) (old.stands calm))
+                        (λ device. absurd (let never : true ≡ false = sym (breaks device) ∙ (sym flag ∙ works) in cc))
+                        cause;
+                    each_left = λ d was. record {
+                      version = c.self.inside.store.version;
+                      left = inl (sym c.checkpoint-written.ensures.version);
+                      network = c.self.inside.store.network;
+                      network_is = c.self.invariant.0.durable_is;
+                      stands = subst (λ (h : Header). StandsTidyFor h.journal_pages d c.self.inside.store.network c.self.inside.store.version) (sym c.checkpoint-written.ensures.header) (c.checkpoint-written.ensures.left works_then honest (old.stands calm) d was);
+                    };
+                  })
+            ],
+      ),
+)

@@ -18,7 +18,7 @@ sizes_of h = record { journal_pages = h.journal_pages; slot_pages = word_pages h
 pub invariant_of-self : goal.invariant_of-self
 invariant_of-self g c =
     let commands = slice_of c.deref.result.now (c.version.result - c.self.inside.opened) c.min-count.result in
-    let f : Flushing _ c.self.inside.network c.self.inside.store.network c.self.inside.view.value.network _ commands c.of.result.value = record {
+    let f : Flushing _ c.self.inside.network c.self.inside.store.network c.self.inside.shown.network _ commands c.of.result.value = record {
       kept = c.self.invariant.0;
       clear = rw (← c.self.view_is) at c.in_default.ensures;
       none_going = refl;
@@ -38,15 +38,34 @@ invariant_of-self g c =
       version_kept = on_err_weaker c.commit-written.result (λ kept. kept.1) c.commit-written.ensures.kept;
       unchecked_kept = on_err_weaker c.commit-written.result (λ kept. kept.2) c.commit-written.ensures.kept;
     } in (
-      kept_by _ c.self.inside.network c.self.inside.store.network c.self.inside.view.value.network _ commands c.of.result.value f c.commit-written.new.self.network _ c.commit-written.new.self.version c.commit-written.new.self.unchecked c.has_failed-self-inside.result c.commit-written.result h,
-      same_flag c.commit-written.result c.has_failed-self-inside.result c.self.inside.store.broken c.commit-written.new.self.broken c.has_failed-self-inside.ensures (sym c.self.invariant.1 ∙ works _ c.self.inside.network c.self.inside.store.network c.self.inside.view.value.network _ commands c.of.result.value f) c.commit-written.ensures.works c.commit-written.ensures.breaks (if_err_with _ _ c.commit-written.result (λ refusal same not. let e = same not in cc) c.commit-written.ensures.same),
+      kept_by _ c.self.inside.network c.self.inside.store.network c.self.inside.shown.network _ commands c.of.result.value f c.commit-written.new.self.network _ c.commit-written.new.self.version c.commit-written.new.self.unchecked c.has_failed-self-inside.result c.commit-written.result h,
+      same_flag c.commit-written.result c.has_failed-self-inside.result c.self.inside.store.broken c.commit-written.new.self.broken c.has_failed-self-inside.ensures (sym c.self.invariant.1 ∙ works _ c.self.inside.network c.self.inside.store.network c.self.inside.shown.network _ commands c.of.result.value f) c.commit-written.ensures.works c.commit-written.ensures.breaks (if_err_with _ _ c.commit-written.result (λ refusal same not. let e = same not in cc) c.commit-written.ensures.same),
+      λ came.
+          let held = c.self.invariant.2 came in
+          let honest = held.0 in
+          let old = held.1 in
+          let calm = sym c.self.invariant.1 ∙ works _ c.self.inside.network c.self.inside.store.network c.self.inside.shown.network _ commands c.of.result.value f in
+          let stands = old.stands (c.self.invariant.1 ∙ calm) in
+          let w : Written _ c.self.inside.network c.self.inside.store.network c.self.inside.shown.network _ commands c.of.result.value f c.commit-written.new.self.network _ c.commit-written.new.self.version c.commit-written.new.self.unchecked c.has_failed-self-inside.result (g.D.Disk.content c.self.inside.store.disk) (g.D.Disk.content c.commit-written.new.self.disk) (g.D.Disk.left c.self.inside.store.disk) (g.D.Disk.left c.commit-written.new.self.disk) (told_by c.self.inside.store) (told_by c.commit-written.new.self) c.commit-written.result = record {
+            same = if_err_with _ _ c.commit-written.result (λ refusal same not.
+                let e = same not in (
+                  ap (λ (s : Store g.row.D.Denot g.D.Disk). g.D.Disk.content s.disk) e,
+                  λ d was. subst (λ (s : Store g.row.D.Denot g.D.Disk). g.D.Disk.left s.disk d) e was,
+                  ap (λ (s : Store g.row.D.Denot g.D.Disk). told_by s) e,
+                )) c.commit-written.ensures.same;
+            in_flight = c.commit-written.ensures.in_flight calm honest stands;
+            durably = c.commit-written.ensures.durable honest stands;
+            only = c.commit-written.ensures.only honest;
+            stands = c.commit-written.ensures.stands honest stands;
+          } in
+          (c.commit-written.ensures.honest.1 honest, holds_by _ c.self.inside.network c.self.inside.store.network c.self.inside.shown.network _ commands c.of.result.value f c.commit-written.new.self.network _ c.commit-written.new.self.version c.commit-written.new.self.unchecked c.has_failed-self-inside.result (g.D.Disk.content c.self.inside.store.disk) (g.D.Disk.content c.commit-written.new.self.disk) (g.D.Disk.left c.self.inside.store.disk) (g.D.Disk.left c.commit-written.new.self.disk) (told_by c.self.inside.store) (told_by c.commit-written.new.self) c.commit-written.result h w old),
     )
 
 pub returns-clause-step : goal.returns-clause-step
 returns-clause-step g c =
     rw (← c.self.view_is) (
     let commands = slice_of c.deref.result.now (c.version.result - c.self.inside.opened) c.min-count.result in
-    let f : Flushing _ c.self.inside.network c.self.inside.store.network c.self.inside.view.value.network _ commands c.of.result.value = record {
+    let f : Flushing _ c.self.inside.network c.self.inside.store.network c.self.inside.shown.network _ commands c.of.result.value = record {
       kept = c.self.invariant.0;
       clear = rw (← c.self.view_is) at c.in_default.ensures;
       none_going = refl;
@@ -66,13 +85,13 @@ returns-clause-step g c =
       version_kept = on_err_weaker c.commit-written.result (λ kept. kept.1) c.commit-written.ensures.kept;
       unchecked_kept = on_err_weaker c.commit-written.result (λ kept. kept.2) c.commit-written.ensures.kept;
     } in
-    flushes _ c.self.inside.network c.self.inside.store.network c.self.inside.view.value.network _ commands c.of.result.value f c.commit-written.new.self.network _ c.commit-written.new.self.version c.commit-written.new.self.unchecked c.has_failed-self-inside.result c.commit-written.result h)
+    flushes _ c.self.inside.network c.self.inside.store.network c.self.inside.shown.network _ commands c.of.result.value f c.commit-written.new.self.network _ c.commit-written.new.self.version c.commit-written.new.self.unchecked c.has_failed-self-inside.result c.commit-written.result h)
 
 pub returns-clause-holds : goal.returns-clause-holds
 returns-clause-holds g c =
     rw (← c.self.view_is) (λ honest old.
     let commands = slice_of c.deref.result.now (c.version.result - c.self.inside.opened) c.min-count.result in
-    let f : Flushing _ c.self.inside.network c.self.inside.store.network c.self.inside.view.value.network _ commands c.of.result.value = record {
+    let f : Flushing _ c.self.inside.network c.self.inside.store.network c.self.inside.shown.network _ commands c.of.result.value = record {
       kept = c.self.invariant.0;
       clear = rw (← c.self.view_is) at c.in_default.ensures;
       none_going = refl;
@@ -92,9 +111,9 @@ returns-clause-holds g c =
       version_kept = on_err_weaker c.commit-written.result (λ kept. kept.1) c.commit-written.ensures.kept;
       unchecked_kept = on_err_weaker c.commit-written.result (λ kept. kept.2) c.commit-written.ensures.kept;
     } in
-    let calm = sym c.self.invariant.1 ∙ works _ c.self.inside.network c.self.inside.store.network c.self.inside.view.value.network _ commands c.of.result.value f in
+    let calm = sym c.self.invariant.1 ∙ works _ c.self.inside.network c.self.inside.store.network c.self.inside.shown.network _ commands c.of.result.value f in
     let stands = old.stands (c.self.invariant.1 ∙ calm) in
-    let w : Written _ c.self.inside.network c.self.inside.store.network c.self.inside.view.value.network _ commands c.of.result.value f c.commit-written.new.self.network _ c.commit-written.new.self.version c.commit-written.new.self.unchecked c.has_failed-self-inside.result (g.D.Disk.content c.self.inside.store.disk) (g.D.Disk.content c.commit-written.new.self.disk) (g.D.Disk.left c.self.inside.store.disk) (g.D.Disk.left c.commit-written.new.self.disk) (told_by c.self.inside.store) (told_by c.commit-written.new.self) c.commit-written.result = record {
+    let w : Written _ c.self.inside.network c.self.inside.store.network c.self.inside.shown.network _ commands c.of.result.value f c.commit-written.new.self.network _ c.commit-written.new.self.version c.commit-written.new.self.unchecked c.has_failed-self-inside.result (g.D.Disk.content c.self.inside.store.disk) (g.D.Disk.content c.commit-written.new.self.disk) (g.D.Disk.left c.self.inside.store.disk) (g.D.Disk.left c.commit-written.new.self.disk) (told_by c.self.inside.store) (told_by c.commit-written.new.self) c.commit-written.result = record {
       same = if_err_with _ _ c.commit-written.result (λ refusal same not.
           let e = same not in (
             ap (λ (s : Store g.row.D.Denot g.D.Disk). g.D.Disk.content s.disk) e,
@@ -106,13 +125,13 @@ returns-clause-holds g c =
       only = c.commit-written.ensures.only honest;
       stands = c.commit-written.ensures.stands honest stands;
     } in
-    holds_by _ c.self.inside.network c.self.inside.store.network c.self.inside.view.value.network _ commands c.of.result.value f c.commit-written.new.self.network _ c.commit-written.new.self.version c.commit-written.new.self.unchecked c.has_failed-self-inside.result (g.D.Disk.content c.self.inside.store.disk) (g.D.Disk.content c.commit-written.new.self.disk) (g.D.Disk.left c.self.inside.store.disk) (g.D.Disk.left c.commit-written.new.self.disk) (told_by c.self.inside.store) (told_by c.commit-written.new.self) c.commit-written.result h w old)
+    holds_by _ c.self.inside.network c.self.inside.store.network c.self.inside.shown.network _ commands c.of.result.value f c.commit-written.new.self.network _ c.commit-written.new.self.version c.commit-written.new.self.unchecked c.has_failed-self-inside.result (g.D.Disk.content c.self.inside.store.disk) (g.D.Disk.content c.commit-written.new.self.disk) (g.D.Disk.left c.self.inside.store.disk) (g.D.Disk.left c.commit-written.new.self.disk) (told_by c.self.inside.store) (told_by c.commit-written.new.self) c.commit-written.result h w old)
 
 pub returns-clause-any_moment : goal.returns-clause-any_moment
 returns-clause-any_moment g c =
     rw (← c.self.view_is) (λ calm honest old.
     let commands = slice_of c.deref.result.now (c.version.result - c.self.inside.opened) c.min-count.result in
-    let f : Flushing _ c.self.inside.network c.self.inside.store.network c.self.inside.view.value.network _ commands c.of.result.value = record {
+    let f : Flushing _ c.self.inside.network c.self.inside.store.network c.self.inside.shown.network _ commands c.of.result.value = record {
       kept = c.self.invariant.0;
       clear = rw (← c.self.view_is) at c.in_default.ensures;
       none_going = refl;
@@ -121,7 +140,7 @@ returns-clause-any_moment g c =
     } in
     weaker g.D.Disk.moment g.D.Disk.left_since c.self.inside.store.disk c.commit-written.new.self.disk (IsBeforeOrAfter c.self.inside.store.header.journal_pages c.self.inside.store.network c.self.inside.store.version commands) _
     (c.commit-written.ensures.any_moment (sym c.self.invariant.1 ∙ calm) honest (old.stands calm))
-    (λ d way. held _ c.self.inside.network c.self.inside.store.network c.self.inside.view.value.network _ commands c.of.result.value f d way))
+    (λ d way. held _ c.self.inside.network c.self.inside.store.network c.self.inside.shown.network _ commands c.of.result.value f d way))
 
 pub returns-in-Err-clause-any_moment : goal.returns-in-Err-clause-any_moment
 returns-in-Err-clause-any_moment g c =

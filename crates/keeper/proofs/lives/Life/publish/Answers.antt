@@ -1,5 +1,5 @@
 use Rattle.std.proofs.Common.{◌≡◌, Some, inl, refl}
-use Rattle.keeper.proofs.LifeKept.{not_refused}
+use Rattle.keeper.proofs.LifeKept.{not_refused, width_behind}
 use Rattle.keeper.proofs.lives.Life.publish.Goals as goal
 use Rattle.keeper.proofs.lives.Life.publish.Goals.{in-Ok, in-Err}
 
@@ -12,3 +12,9 @@ returns-clause-does g c =
       | in-Ok w ↦ (let step = w.in-Ok.ensures.step in inl (view.version, view.network, (step.0, refl, step.2), cc (w.result-is, step.1)))
       | in-Err w ↦ absurd (not_refused _ _ (view.version, view.network) _ (rw aside at c.requires.life) w.in-Err.ensures.step.0)
     ]
+
+pub invariant_of-self-2-clause-shown : goal.invariant_of-self-2-clause-shown
+invariant_of-self-2-clause-shown g c w is =
+    let told = c.in-Some.ensures.value in
+    let aside : c.args.self.now.aside ≡ Some c.in-Some.view = cc in
+    width_behind c.publish.result c.publish.new.self.width c.args.self.now.keeper.width c.in-Some.view.value.delta w c.publish.ensures.width c.publish.ensures.same_width (c.args.self.now.shown w is) (c.args.self.now.built w is c.in-Some.view aside)

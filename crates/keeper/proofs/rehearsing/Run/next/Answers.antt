@@ -34,6 +34,7 @@ returns-in_default g c =
     record {
       life = c.reply-told.ensures.life;
       room = omega (arith, does_size {P = Pick} c.args.event.now m new told calm c.reply-told.ensures.does, c.requires.room);
+      delta = c.reply-told.ensures.delta;
       goes = λ first done going. record {
         is_honest = c.reply-told.ensures.honest going.is_honest;
         holds = c.reply-told.ensures.holds going.is_honest going.holds;

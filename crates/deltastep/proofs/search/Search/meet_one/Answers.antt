@@ -1,0 +1,47 @@
+use Rattle.std.proofs.Common.{◌≡◌, ◌/◌, ◌≤◌, true, false, sym, subst, ◌∙◌}
+use Rattle.deltastep.specs.Search.{HasQueued, IsBucketEmpty}
+use Rattle.deltastep.proofs.Phases.{on_true_of, on_false_of, IsBucketEmpty-more}
+use Rattle.deltastep.proofs.Lowering.{MeetsRequests-more, weight-more, HasQueued-more, HasQueued-put}
+use Rattle.deltastep.proofs.search.Search.meet_one.Goals as goal
+
+pub returns-clause-met : goal.returns-clause-met
+returns-clause-met g c requests first queue so_far =
+    let E = g.Q.BucketQueue.entries in
+    let after = c.lower.new.self in
+    let lowered = c.in_ok-lower.ensures in
+    MeetsRequests-more c.args.top requests first queue c.args.self.now.tentative (E c.args.self.now.buckets) so_far c.args.node c.args.value c.requires.node.1 c.in_ok-lower.field-0 after.tentative (E after.buckets) lowered.lowered lowered.tentative lowered.queued
+
+pub returns-clause-came_back : goal.returns-clause-came_back
+returns-clause-came_back g c =
+    let E = g.Q.BucketQueue.entries in
+    let width = g.Q.BucketQueue.width c.args.self.now.buckets in
+    let after = c.lower.new.self in
+    let e : c.from-delta.result ≡ g.Q.BucketQueue.width c.args.self.now.buckets = c.from-delta.ensures ∙ (c.delta.ensures.value ∙ c.lower.ensures.width) in
+    let late : c.args.bucket ≤ c.args.value / c.from-delta.result = subst (λ d. c.args.bucket ≤ c.args.value / d) (sym e) c.requires.above in
+    on_true_of c.is_near.result (HasQueued after.tentative (E after.buckets) width c.args.bucket)
+    (λ near. HasQueued-put c.args.self.now.tentative (E c.args.self.now.buckets) width c.args.bucket c.args.node c.args.value c.requires.node.1 (subst (λ d. c.args.value / d ≡ c.args.bucket) e ((c.is_near.ensures c.args.bucket c.saturating_mul-start.ensures late).0 near)) c.in_ok-lower.field-0 after.tentative (E after.buckets) c.if-not-branch.false c.in_ok-lower.ensures.tentative c.in_ok-lower.ensures.queued)
+
+pub returns-clause-stays : goal.returns-clause-stays
+returns-clause-stays g c =
+    let E = g.Q.BucketQueue.entries in
+    let after = c.lower.new.self in
+    let lowered = c.in_ok-lower.ensures in
+    HasQueued-more c.args.top c.args.self.now.tentative (E c.args.self.now.buckets) (g.Q.BucketQueue.width c.args.self.now.buckets) c.args.bucket c.args.node c.args.value (subst (λ w. 1 ≤ w) c.lower.ensures.width c.delta.ensures.positive) c.requires.node.1 c.requires.above c.in_ok-lower.field-0 after.tentative (E after.buckets) lowered.lowered lowered.tentative lowered.queued
+
+pub returns-clause-none_came : goal.returns-clause-none_came
+returns-clause-none_came g c =
+    let E = g.Q.BucketQueue.entries in
+    let width = g.Q.BucketQueue.width c.args.self.now.buckets in
+    let after = c.lower.new.self in
+    let e : c.from-delta.result ≡ g.Q.BucketQueue.width c.args.self.now.buckets = c.from-delta.ensures ∙ (c.delta.ensures.value ∙ c.lower.ensures.width) in
+    let late : c.args.bucket ≤ c.args.value / c.from-delta.result = subst (λ d. c.args.bucket ≤ c.args.value / d) (sym e) c.requires.above in
+    on_false_of c.is_near.result (IsBucketEmpty width c.args.bucket (E c.args.self.now.buckets) → IsBucketEmpty width c.args.bucket (E after.buckets))
+    (λ far. IsBucketEmpty-more width c.args.bucket c.args.node c.args.value (E c.args.self.now.buckets) (E after.buckets) c.in_ok-lower.field-0 c.in_ok-lower.ensures.queued
+    (λ _ within. let no : true ≡ false = sym ((c.is_near.ensures c.args.bucket c.saturating_mul-start.ensures late).1 (subst (λ d. c.args.value / d ≡ c.args.bucket) (sym e) within)) ∙ far in let absurdity : ⊥ = cc in absurdity))
+
+pub returns-clause-weight : goal.returns-clause-weight
+returns-clause-weight g c =
+    let E = g.Q.BucketQueue.entries in
+    let after = c.lower.new.self in
+    let lowered = c.in_ok-lower.ensures in
+    weight-more c.args.top c.args.self.now.tentative (E c.args.self.now.buckets) c.args.node c.args.value c.requires.node.1 c.in_ok-lower.field-0 after.tentative (E after.buckets) lowered.lowered lowered.tentative lowered.queued

@@ -1,0 +1,62 @@
+-- Which lists of entries a history may be.
+use Rattle.std.specs.Prelude.{◌≡◌, ℕ, Bool, true, false, List, [], ◌∷◌, ◌++◌, max}
+use Rattle.logbook.specs.Pages.{Book}
+use Rattle.roadnet.specs.declared.commands.Command.{Command}
+use Rattle.history.specs.declared.entries.Base.{Base}
+use Rattle.history.specs.declared.entries.Entry.{Entry}
+use Rattle.history.specs.declared.entries.Entry.TheVariants.{Opened, Accepted, Acknowledged, Closed}
+use Rattle.history.specs.Origins.{Origin, Beginning}
+
+-- the commands that were accepted
+abbrev pub accepted : List Entry → List Command
+accepted [] = []
+accepted (Opened base ∷ entries) = accepted entries
+accepted (Accepted command ∷ entries) = command ∷ accepted entries
+accepted (Acknowledged number ∷ entries) = accepted entries
+accepted (Closed ∷ entries) = accepted entries
+
+-- up to which number commands were acknowledged
+abbrev pub acknowledged : List Entry → ℕ
+acknowledged [] = 0
+acknowledged (Opened base ∷ entries) = acknowledged entries
+acknowledged (Accepted command ∷ entries) = acknowledged entries
+acknowledged (Acknowledged number ∷ entries) = max number (acknowledged entries)
+acknowledged (Closed ∷ entries) = acknowledged entries
+
+-- the end is not there
+abbrev pub is_endless : List Entry → Bool
+is_endless [] = true
+is_endless (Opened base ∷ entries) = is_endless entries
+is_endless (Accepted command ∷ entries) = is_endless entries
+is_endless (Acknowledged number ∷ entries) = is_endless entries
+is_endless (Closed ∷ entries) = false
+
+-- nothing stands behind the end
+abbrev pub is_legal : List Entry → Bool
+is_legal [] = true
+is_legal (Opened base ∷ entries) = is_legal entries
+is_legal (Accepted command ∷ entries) = is_legal entries
+is_legal (Acknowledged number ∷ entries) = is_legal entries
+is_legal (Closed ∷ []) = true
+is_legal (Closed ∷ entry ∷ entries) = false
+
+-- the desk's opening, and then no end
+pub record IsOpen (log : List Entry) : Type 0 where
+  pub base : Base
+  pub rest : List Entry
+  pub log_is : log ≡ Opened base ∷ rest
+  pub endless : is_endless rest ≡ true
+
+-- an open log, and then the end
+pub record IsClosed (log : List Entry) : Type 0 where
+  pub before : List Entry
+  pub unended : IsOpen before
+  pub log_is : log ≡ before ++ Closed ∷ []
+
+-- the desk that this book and its log are of: a log begins with the desk's opening
+abbrev pub origin_of : Book → List Entry → Origin
+origin_of book (Opened base ∷ entries) = record { base = base.network.value; version = base.version; history = book }
+origin_of book _ = record { base = record { nodes = 0; arcs = []; landmarks = [] }; version = 0; history = book }
+
+abbrev pub beginning : Book → List Entry → Beginning
+beginning book log = record { origin = origin_of book log; commands = accepted log; acknowledged = acknowledged log }

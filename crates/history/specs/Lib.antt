@@ -1,0 +1,5 @@
+pub mod Origins
+pub mod Entries
+pub mod Rules
+pub mod Written
+pub mod Claims

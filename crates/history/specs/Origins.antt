@@ -1,0 +1,17 @@
+-- Which desk a list of commands is of, and a beginning of it.
+use Rattle.std.specs.Prelude.{ℕ, List}
+use Rattle.logbook.specs.Pages.{Book}
+use Rattle.roadnet.specs.declared.commands.Command.{Command}
+use Rattle.roadnet.specs.Net.{Net}
+
+-- the network that a desk was opened with, its version, and its history
+pub record Origin : Type 0 where
+  pub base : Net
+  pub version : ℕ
+  pub history : Book
+
+-- so many commands, the first of a desk's history, and up to which number commands were acknowledged by then
+pub record Beginning : Type 0 where
+  pub origin : Origin
+  pub commands : List Command
+  pub acknowledged : ℕ

@@ -1,0 +1,15 @@
+-- A beginning with an entry more.
+use Rattle.std.specs.Prelude.{ℕ, max, [], ◌∷◌, ◌++◌}
+use Rattle.history.specs.declared.entries.Entry.{Entry}
+use Rattle.history.specs.declared.entries.Entry.TheVariants.{Accepted, Acknowledged}
+use Rattle.history.specs.Origins.{Beginning}
+
+abbrev pub with_entry : Beginning → Entry → Beginning
+with_entry b (Accepted command) = record b { commands = b.commands ++ command ∷ [] }
+with_entry b (Acknowledged number) = record b { acknowledged = max b.acknowledged number }
+with_entry b _ = b
+
+-- how many commands an entry adds
+abbrev pub counted : Entry → ℕ
+counted (Accepted command) = 1
+counted _ = 0

@@ -1,0 +1,68 @@
+ghost use Rattle.std.specs.Prelude.{◌≡◌};
+ghost use Rattle.history.specs.Claims.{EndsWith};
+
+use crate::fronts::Front;
+use machine::Ticket;
+use std::marker::Model;
+
+/// The token of a ticket: its command has its number in the history of its desk. Contracts see it as the ticket, with the desk.
+#[derive(Drop)]
+pub struct Claim {
+    pub(crate) ticket: Ticket,
+    pub(crate) front: Front,
+}
+
+impl Model for Claim {
+    ghost use Rattle.history.specs.Claims.{Claimed, EndsWith};
+
+    ghost Value = { Claimed };
+
+    ghost view = { λ c. record { origin = c.front.origin; ticket = c.ticket } };
+
+    ghost invariant = { λ c. EndsWith c.front c.ticket };
+}
+
+/// The token of a receipt: its command has its number in the history of its desk, and was acknowledged. Contracts see it as the ticket,
+/// with the desk.
+#[derive(Drop)]
+pub struct Settled {
+    pub(crate) claim: Claim,
+    pub(crate) front: Front,
+}
+
+impl Model for Settled {
+    ghost use Rattle.std.specs.Prelude.{◌≡◌, ◌≤◌};
+    ghost use Rattle.history.specs.Claims.{Claimed};
+
+    ghost Value = { Claimed };
+
+    ghost view = { λ s. s.claim };
+
+    ghost invariant = { λ s. (s.front.origin ≡ s.claim.origin) × (s.claim.ticket.number ≤ s.front.acknowledged) };
+}
+
+impl Claim {
+    /// The ticket.
+    pub fn ticket(&self) -> Ticket
+        ensures { result ≡ self.now.ticket }
+    {
+        self.ticket
+    }
+
+    /// The beginning of the history that ends with the ticket's command.
+    pub fn front(&self) -> &Front
+        ensures origin { result.now.origin ≡ self.now.origin }
+        ensures ends { EndsWith result.now self.now.ticket }
+    {
+        &self.front
+    }
+}
+
+impl Settled {
+    /// The claim that was acknowledged.
+    pub fn claim(&self) -> &Claim
+        ensures { result.now ≡ self.now }
+    {
+        &self.claim
+    }
+}

@@ -1,0 +1,22 @@
+use roadnet::{Command, Network};
+use std::snapshot::Snapshot;
+
+/// The network and version that a desk is opened with, as contracts see them.
+#[derive(Drop)]
+pub struct Base {
+    pub network: Snapshot<Network>,
+    pub version: u64,
+}
+
+/// What is written into a history.
+#[derive(Drop)]
+pub enum Entry {
+    /// The desk was opened.
+    Opened { base: Base },
+    /// The command was accepted.
+    Accepted { command: Command },
+    /// The commands up to this number are acknowledged.
+    Acknowledged { number: u64 },
+    /// No command is accepted any more.
+    Closed,
+}

@@ -1,0 +1,81 @@
+ghost use Rattle.std.specs.Prelude.{◌≡◌, ◌<◌, ◌≤◌, ◌⊎◌, length, take, MatchBool};
+ghost use mathlib.Core.List.{IsPrefix};
+
+use crate::entries::Entry;
+use crate::rules::Law;
+use logbook::Seen;
+use std::marker::Model;
+
+/// A beginning of a desk's history. Contracts see it as its commands, with the desk.
+#[derive(Drop)]
+pub struct Front {
+    pub(crate) count: u64,
+    pub(crate) seen: Seen<Entry, u64, Law>,
+}
+
+impl Model for Front {
+    ghost use Rattle.std.specs.Prelude.{◌≤◌, length, take};
+    ghost use Rattle.history.specs.Origins.{Beginning};
+
+    ghost Value = { Beginning };
+
+    ghost use Rattle.history.specs.Entries.{accepted, acknowledged, origin_of};
+
+    ghost view = { λ f. record { origin = origin_of f.seen.book f.seen.log; commands = take f.count (accepted f.seen.log); acknowledged = acknowledged f.seen.log } };
+
+    ghost invariant = { λ f. f.count ≤ length (accepted f.seen.log) };
+}
+
+impl Front {
+    /// How many commands it has.
+    pub fn len(&self) -> u64
+        ensures { result ≡ length self.now.commands }
+    {
+        self.count
+    }
+
+    /// A copy.
+    pub fn again(&self) -> Front
+        ensures { result ≡ self.now }
+    {
+        Front {
+            count: self.count,
+            seen: self.seen.again(),
+        }
+    }
+
+    /// The first of its commands, as many as are asked for.
+    pub fn first(&self, count: u64) -> Front
+        requires { count ≤ length self.now.commands }
+        ensures { result ≡ record self.now { commands = take count self.now.commands } }
+    {
+        Front {
+            count,
+            seen: self.seen.again(),
+        }
+    }
+
+    /// Whether the other, of the same desk, begins with these commands. Else it is shorter, and these begin with its own.
+    pub fn begins(&self, other: &Front) -> bool
+        requires { other.now.origin ≡ self.now.origin }
+        ensures { MatchBool result (IsPrefix self.now.commands other.now.commands) (IsPrefix other.now.commands self.now.commands × (length other.now.commands < length self.now.commands)) }
+    {
+        let mut both = self.seen.again();
+        both.learn(&other.seen);
+        self.count <= other.count
+    }
+
+    /// The longer of two beginnings of one history, which the other begins.
+    pub fn longer(&self, other: &Front) -> Front
+        requires { other.now.origin ≡ self.now.origin }
+        ensures one { (result ≡ self.now) ⊎ (result ≡ other.now) }
+        ensures this { IsPrefix self.now.commands result.commands }
+        ensures that { IsPrefix other.now.commands result.commands }
+    {
+        if self.begins(other) {
+            other.again()
+        } else {
+            self.again()
+        }
+    }
+}

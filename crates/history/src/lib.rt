@@ -1,0 +1,16 @@
+//! The history of a desk: the list of the commands that it accepted, which only grows and is closed once. The list stands in proofs
+//! alone; what threads carry is a beginning of it, which may be copied and compared.
+#![tactic(auto)]
+
+mod claims;
+mod entries;
+mod fronts;
+mod histories;
+mod rules;
+#[cfg(test)]
+mod tests;
+
+pub use claims::{Claim, Settled};
+pub use entries::{Base, Entry};
+pub use fronts::Front;
+pub use histories::{History, Whole};

@@ -1,0 +1,66 @@
+use crate::History;
+use machine::Ticket;
+use roadnet::{Command, Network, Refusal, RoadArc};
+use std::alloc::{AllocError, Global};
+use std::test::Fail;
+
+const CLOSE: Command = Command::Close { arc: 1 };
+
+const REOPEN: Command = Command::Reopen { arc: 1 };
+
+/// Two nodes and an arc.
+fn two(alloc: Global) -> Result<Network, Refusal> {
+    let mut arcs = Vec::new(alloc);
+    arcs.push(RoadArc {
+        tail: 1,
+        head: 2,
+        length: 5,
+        opened: true,
+    })
+    .map_err(AllocError::from)?;
+    Network::new(alloc, 2, arcs, &[])
+}
+
+#[test]
+fn a_receipt_is_confirmed(rt: HostRuntime) -> Result<(), Fail> {
+    let network = two(rt.alloc()).map_err(|_| Fail::from("a network"))?;
+    let mut history = History::new(&network, 7);
+    let none = history.front(0);
+    let first = history.write(CLOSE);
+    let one = history.front(history.len());
+    if !first || !history.write(REOPEN) {
+        return Err(Fail::from("nobody closed it"));
+    }
+    let two = history.front(2);
+    assert_eq!(rt;
+        (none.len(), one.len(), two.len(), history.len()),
+        (0, 1, 2, 2)
+    );
+    assert!(rt; none.begins(&two) && one.begins(&two) && !two.begins(&one));
+    assert_eq!(rt;
+        (
+            none.longer(&two).len(),
+            two.longer(&one).len(),
+            two.first(1).len()
+        ),
+        (2, 2, 1)
+    );
+    assert!(rt; history.begins(&two) && history.begins(&none));
+    let ticket = Ticket {
+        number: 9,
+        command: REOPEN,
+    };
+    let claim = history.claim(ticket);
+    assert!(rt; history.holds(&claim) && claim.ticket() == ticket && claim.front().len() == 2);
+    if !history.acknowledge(9) {
+        return Err(Fail::from("nobody closed it"));
+    }
+    let settled = history.settled(claim);
+    assert_eq!(rt; settled.claim().ticket(), ticket);
+    let Some(whole) = history.close() else {
+        return Err(Fail::from("nobody closed it"));
+    };
+    whole.holds(&one);
+    assert_eq!(rt; whole.confirm(&settled), REOPEN);
+    Ok(())
+}

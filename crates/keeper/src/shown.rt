@@ -1,0 +1,88 @@
+// The view that answers are given from.
+ghost use Rattle.std.specs.Prelude.{◌≡◌, ℕ, IfOk, IsOk};
+ghost use Rattle.rows.specs.Replies.{IsRight};
+ghost use Rattle.rows.specs.declared.queries.Query.TheVariants.{From, Lower};
+
+use machine::Answer;
+use roadnet::OutOfMemory;
+use rows::{Query, RowCache, View};
+use std::alloc::Global;
+use std::marker::Model;
+use std::sync::Arc;
+use std::thread::Threads;
+
+/// How many rows are kept.
+const ROWS: u32 = 16;
+
+/// The view that answers are given from, with rows that they made: up to 16, of 8 bytes a node.
+#[derive(Drop)]
+pub(crate) struct Shown {
+    view: Arc<View>,
+    cache: RowCache,
+}
+
+impl Model for Shown {
+    ghost use Rattle.rows.specs.Views.{Viewed};
+    ghost use Rattle.rows.specs.Cached.{HasRowsOf};
+
+    ghost Value = { Viewed };
+
+    ghost view = { λ s. s.view.value };
+
+    ghost invariant = { λ s. HasRowsOf s.view.value.version s.view.value.network s.cache };
+}
+
+impl Shown {
+    /// No row is kept yet. It takes no memory.
+    pub(crate) fn new(alloc: Global, view: Arc<View>) -> Shown
+        ensures { result ≡ view.value }
+    {
+        Shown {
+            view,
+            cache: RowCache::new(alloc, ROWS),
+        }
+    }
+
+    /// Its version.
+    pub(crate) fn version(&self) -> u64
+        ensures { result ≡ self.now.version }
+    {
+        self.view.version()
+    }
+
+    /// The view.
+    pub(crate) fn view(&self) -> &Arc<View>
+        ensures { result.now.value ≡ self.now }
+    {
+        &self.view
+    }
+
+    /// Answers are given from this view from now on. The rows of the view before are dropped, since nobody asks it again.
+    pub(crate) fn show(&mut self, view: Arc<View>)
+        ensures { self.new ≡ view.value }
+    {
+        self.cache.clear();
+        self.view = view;
+    }
+
+    /// The answer to a query. The one error is want of memory for a row.
+    pub(crate) fn answer<R: Threads>(
+        &mut self,
+        rt: &R,
+        alloc: Global,
+        query: &Query,
+    ) -> Result<Answer, OutOfMemory>
+        ensures version { IfOk result (λ answer. answer.version ≡ self.old.version) }
+        ensures right { IfOk result (λ answer. IsRight self.old.network query.now answer.reply) }
+        ensures landmark { (l t : ℕ) → query.now ≡ From l t → IsOk result }
+        ensures lower { (s t : ℕ) → query.now ≡ Lower s t → IsOk result }
+        ensures same { self.new ≡ self.old }
+    {
+        let version = self.view.version();
+        let mut pinned = self.view.pinned(&mut self.cache);
+        match pinned.answer(rt, alloc, query) {
+            Ok(reply) => Ok(Answer { version, reply }),
+            Err(error) => Err(error),
+        }
+    }
+}

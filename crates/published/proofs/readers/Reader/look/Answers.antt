@@ -1,0 +1,17 @@
+use Rattle.std.proofs.Common.{◌≡◌, sym, ap, ◌∙◌, subst, List, Option}
+use Rattle.std.specs.Prelude.{unwrap_or}
+use mathlib.Core.List.{IsPrefix}
+use Rattle.history.specs.Origins.{Beginning}
+use Rattle.published.specs.Showing.{Showing}
+use Rattle.published.proofs.readers.Reader.look.Goals as goal
+use Rattle.published.proofs.readers.Reader.look.Goals.{in-Some+else-not-begins, in_default}
+
+pub returns-clause-begins : goal.returns-clause-begins
+returns-clause-begins c =
+    let found = c.view.inside.commands.commands in
+    let begun : Option Beginning → Type 0 = λ learned. IsPrefix (unwrap_or learned c.self.inside.seen).commands found in
+    rw (← c.self.view_is)
+    (elim c.match-self.branch [
+      | in-Some+else-not-begins w ↦ subst begun (sym w.in-Some.is) w.if-not-begins.ensures
+      | in_default w ↦ subst begun (sym w.in_default.is) (subst (λ (x : Showing). IsPrefix c.self.inside.seen.commands x.shown.commands) (sym c.view.view_is) c.in_ok-view.ensures.shown.1.1)
+    ])

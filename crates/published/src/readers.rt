@@ -1,0 +1,116 @@
+ghost use Rattle.std.specs.Prelude.{◌≡◌, ◌⊎◌, ◌+◌, length, Some, IsSome, IfOk, IfErr};
+ghost use mathlib.Core.List.{IsPrefix};
+ghost use Rattle.left_right.specs.Sides.{view as seat_view};
+ghost use Rattle.history.specs.Origins.{Beginning};
+ghost use Rattle.roadnet.specs.Step.{after};
+ghost use Rattle.published.specs.Rules.{Follows};
+
+use crate::published::Published;
+use crate::rules::{Sees, Shows};
+use crate::shown::Shown;
+use core::mem::replace_with;
+use history::Front;
+use left_right::reader;
+use roadnet::Refusal;
+use rows::View;
+use std::marker::Model;
+use std::sync::Arc;
+
+pub(crate) type SeatedReader = reader::Reader<Published, Option<Front>, Shows>;
+
+/// A reader of what is shown. Contracts see it as the commands that it has seen or was told of, with the desk.
+#[derive(Drop)]
+pub struct Reader {
+    pub(crate) reader: SeatedReader,
+    /// What it has seen. By the rule of the copy this begins what is shown.
+    pub(crate) seen: Front,
+    /// What it has learned since, where that is longer.
+    pub(crate) learned: Option<Front>,
+}
+
+impl Model for Reader {
+    ghost use Rattle.std.specs.Prelude.{◌≡◌, Some, IfSome, unwrap_or};
+    ghost use Rattle.left_right.specs.Sides.{view as seat_view};
+    ghost use Rattle.history.specs.Origins.{Beginning};
+    ghost use Rattle.published.specs.Rules.{Follows};
+
+    ghost Value = { Beginning };
+
+    ghost view = { λ r. unwrap_or r.learned r.seen };
+
+    ghost invariant = { λ r. ((seat : Beginning) × (seat_view r.reader.place ≡ Some seat) × Follows (Some r.seen) seat) × IfSome r.learned (λ learned. Follows (Some r.seen) learned) };
+}
+
+/// Enters the published copy, and takes a share of the view.
+fn enter(reader: SeatedReader) -> (SeatedReader, Result<Published, Refusal>)
+    requires { IsSome (seat_view reader.place) }
+    ensures { (now : Beginning) × (seat_view result.0.place ≡ Some now) × Follows (seat_view reader.place) now × IfOk result.1 (λ taken. taken.shown ≡ now) }
+{
+    match reader.enter_as::<Sees>() {
+        Ok(reading) => {
+            let shown = reading.get();
+            let taken = match Arc::try_clone(&shown.view) {
+                Ok(view) => Ok(Published::new(view, shown.commands.again())),
+                Err(_) => Err(Refusal::OutOfMemory),
+            };
+            (reading.leave(), taken)
+        }
+        Err(reader) => (reader, Err(Refusal::Closed)),
+    }
+}
+
+/// Enters by the seat of a reader that has seen these commands: what is shown begins with them.
+fn enter_behind(reader: &mut SeatedReader, seen: &Front) -> Result<Published, Refusal>
+    requires { (seat : Beginning) × (seat_view reader.old.place ≡ Some seat) × Follows (Some seen.now) seat }
+    ensures seat { (seat : Beginning) × (seat_view reader.new.place ≡ Some seat) × Follows (Some seen.now) seat }
+    ensures shown { IfOk result (λ taken. (seat_view reader.new.place ≡ Some taken.shown) × Follows (Some seen.now) taken.shown) }
+{
+    replace_with(reader, (), |reader, ()| enter(reader))
+}
+
+impl Reader {
+    /// All that it has seen and was told of.
+    fn known(&self) -> &Front
+        ensures { result.now ≡ self.now }
+    {
+        match &self.learned {
+            Some(learned) => learned,
+            None => &self.seen,
+        }
+    }
+
+    /// The view that is shown. The commands after which it stands begin with all that the reader has seen and was told of, and the reader
+    /// has then seen them. It takes no lock and waits for nobody.
+    ///
+    /// Refused is a share of the view for which there is no room (11), and a copy that can't be entered, as after closing (61).
+    pub fn look(&mut self) -> Result<Arc<View>, Refusal>
+        ensures network { IfOk result (λ view. after self.old.origin.base self.new.commands ≡ Some view.value.network) }
+        ensures version { IfOk result (λ view. view.value.version ≡ self.old.origin.version + length self.new.commands) }
+        ensures begins { IsPrefix self.old.commands self.new.commands }
+        ensures origin { self.new.origin ≡ self.old.origin }
+        ensures refused { IfErr result (λ _. self.new ≡ self.old) }
+    {
+        let Published { view, commands } = enter_behind(&mut self.reader, &self.seen)?;
+        if let Some(learned) = &self.learned {
+            if !learned.begins(&commands) {
+                return Err(Refusal::Closed);
+            }
+        }
+        self.seen = commands;
+        self.learned = None;
+        Ok(view)
+    }
+
+    /// Takes in what was shown: the reader knows the longer of both lists of commands, which the other begins. It takes no lock and waits
+    /// for nobody.
+    pub fn learn(&mut self, shown: &Shown)
+        requires { shown.now.origin ≡ self.old.origin }
+        ensures one { (self.new ≡ self.old) ⊎ (self.new ≡ shown.now) }
+        ensures this { IsPrefix self.old.commands self.new.commands }
+        ensures that { IsPrefix shown.now.commands self.new.commands }
+    {
+        if self.known().begins(&shown.commands) {
+            self.learned = Some(shown.commands.again());
+        }
+    }
+}

@@ -139,3 +139,7 @@ none_between words summary from place is first marks k far below = elim (cases_e
   | inl same ↦ ap (λ q. bit_at (get_or words q 0) (k % 64)) same ∙ first (k % 64) (omega arith)
   | inr apart ↦ ap (λ w. bit_at w (k % 64)) (unmarked words summary (k / 64) is (marks (k / 64) (omega arith) below)) ∙ bit_at-zero (k % 64)
 ]
+
+-- no number is in the words before the first marked one
+pub none_before_mark : (words summary : List ℕ) (place : ℕ) → IsSummary words summary → IsLeastFrom summary 0 place → IsNoneBefore words 0 place
+none_before_mark words summary place is next k far below = ap (λ w. bit_at w (k % 64)) (unmarked words summary (k / 64) is (next.least (k / 64) (omega arith) below)) ∙ bit_at-zero (k % 64)

@@ -140,6 +140,19 @@ fn relist(
     Ok(())
 }
 
+/// Adds nodes at the end of a list; one alone is put there without a call that copies memory.
+#[inline(always)]
+fn append(nodes: &mut Vec<u32>, more: &[u32]) -> Result<(), AllocError>
+    ensures { OnOk result (nodes.new.items ≡ nodes.old.items ++ more.now) }
+{
+    if let [node] = more {
+        nodes.push(*node)?;
+        return Ok(());
+    }
+    nodes.extend_from_slice(more)?;
+    Ok(())
+}
+
 /// Takes all nodes of the list, into one that is empty: a list of few places keeps them, and its nodes are copied. After want of memory
 /// each list is as it was.
 #[inline(always)]
@@ -158,7 +171,7 @@ fn take_list(
     ensures len { length lists.new.items ≡ length lists.old.items }
 {
     if lists[list].capacity() <= FEW_PLACES {
-        nodes.extend_from_slice(&lists[list])?;
+        append(nodes, &lists[list])?;
         lists[list].clear();
     } else {
         *nodes = replace(&mut lists[list], Vec::new(alloc));
@@ -232,6 +245,7 @@ impl PlacedLists {
     }
 
     /// Takes all nodes of this list, into a list that is empty. After want of memory each node stands where it stood.
+    #[inline(always)]
     pub fn take(&mut self, list: usize, nodes: &mut Vec<u32>) -> Result<(), AllocError>
         requires list { list < length self.old.lists.items }
         requires none { nodes.old.items ≡ [] }

@@ -149,4 +149,14 @@ impl Places {
         let bit = next_bit(self.words[place], 0)?;
         Some(place * 64 + bit as usize)
     }
+
+    /// The least member, in O(l / 4096) for the limit l.
+    #[inline(always)]
+    pub fn first(&self) -> Option<usize>
+        ensures { IsNext self.now 0 result }
+    {
+        let place = next_in(&self.summary, 0)?;
+        let bit = next_bit(self.words[place], 0)?;
+        Some(place * 64 + bit as usize)
+    }
 }

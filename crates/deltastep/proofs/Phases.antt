@@ -123,6 +123,24 @@ IsRelaxedBut-more groups part t queue owed more within but u = elim (but u) as (
   | inr rest ↦ elim rest as (λ _. IsSome (get queue u) ⊎ (Contains more u ⊎ IsRelaxed groups part t u)) [ inl owes ↦ inr (inl (within u owes)) | inr relaxed ↦ inr (inr relaxed) ]
 ]
 
+-- nodes without legs of a part owe none
+pub IsRelaxedBut-without : (groups : Groups) (part : Part) (t : List (Option ℕ)) (queue : Entries) (owed : List ℕ) → ((u : ℕ) → Contains owed u → legs_of groups part u ≡ []) → IsRelaxedBut groups part t queue owed → IsRelaxedBut groups part t queue []
+IsRelaxedBut-without groups part t queue owed none but u = elim (but u) as (λ _. IsSome (get queue u) ⊎ (Contains [] u ⊎ IsRelaxed groups part t u)) [
+  | inl queued ↦ inl queued
+  | inr rest ↦ elim rest as (λ _. IsSome (get queue u) ⊎ (Contains [] u ⊎ IsRelaxed groups part t u)) [ inl owes ↦ inr (inr (λ leg c. absurd (Contains-nil leg (subst (λ legs. Contains legs leg) (none u owes) c)))) | inr relaxed ↦ inr (inr relaxed) ]
+]
+
+-- a bucket whose nodes have no light legs is emptied by the taking
+pub EmptiesBucket-taken : (groups : Groups) (b : ℕ) (nodes : List ℕ) (t : List (Option ℕ)) (queue : Entries) → ((u : ℕ) → Contains nodes u → legs_of groups Light u ≡ []) → IsSearch groups t queue b → IsRelaxedBut groups Light t queue nodes → IsRelaxedBut groups Heavy t queue nodes → AreInBucket t groups.delta b nodes → IsBucketEmpty groups.delta b queue → EmptiesBucket groups b t t queue nodes
+EmptiesBucket-taken groups b nodes t queue none search light heavy values emptied = record {
+  search = search;
+  reached = λ source h. h;
+  light = IsRelaxedBut-without groups Light t queue nodes none light;
+  heavy = heavy;
+  nodes = values;
+  emptied = emptied;
+}
+
 pub AreInBucket-remembered : (t : List (Option ℕ)) (width b : ℕ) (nodes more : List ℕ) → AreInBucket t width b nodes → AreInBucket t width b more → AreInBucket t width b (remember_all nodes more)
 AreInBucket-remembered t width b nodes more old new u h = elim (remember_all-of nodes more u h) as (λ _. IsInBucket t width b u) [ inl a ↦ old u a | inr c ↦ new u c ]
 

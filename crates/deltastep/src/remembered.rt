@@ -44,6 +44,7 @@ impl Remembered {
     }
 
     /// Adds a node, if it is not there.
+    #[inline(always)]
     pub(crate) fn add(&mut self, node: u32) -> Result<(), RowError>
         requires within { node < self.old.limit }
         ensures added { OnOk result (self.new.nodes ≡ remember self.old.nodes node) }
@@ -60,6 +61,7 @@ impl Remembered {
     }
 
     /// Adds nodes in their order.
+    #[inline(always)]
     pub(crate) fn add_all(&mut self, nodes: &[u32]) -> Result<(), RowError>
         requires within { All (λ u. u < self.old.limit) nodes.now }
         ensures added { OnOk result (self.new.nodes ≡ remember_all self.old.nodes nodes.now) }
@@ -72,6 +74,7 @@ impl Remembered {
     }
 
     /// Forgets the node that was added last. Tells whether there was one.
+    #[inline(always)]
     fn forget_last(&mut self) -> bool
         ensures fewer { MatchBool result (length self.new.nodes < length self.old.nodes) (self.new.nodes ≡ []) }
         ensures limit { self.new.limit ≡ self.old.limit }
@@ -84,6 +87,7 @@ impl Remembered {
     }
 
     /// Forgets all nodes, in time for those that are there.
+    #[inline(always)]
     pub(crate) fn clear(&mut self)
         ensures none { self.new.nodes ≡ [] }
         ensures limit { self.new.limit ≡ self.old.limit }

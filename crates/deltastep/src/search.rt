@@ -1,10 +1,10 @@
 //! A search by delta-stepping: bucket after bucket is settled, the least first.
 
-ghost use Rattle.std.specs.Prelude.{◌≡◌, ◌↔◌, ℕ, ◌≤◌, ◌<◌, ◌/◌, ◌*◌, ◌+◌, min, IsTrue, ◌==◌, ◌^◌, List, [], ◌∷◌, ◌++◌, Option, IfOk, OnOk, MatchBool, MatchOption, All, Some, slice_set, length, vec_len};
+ghost use Rattle.std.specs.Prelude.{◌≡◌, ◌↔◌, ℕ, ◌≤◌, ◌<◌, ◌/◌, ◌*◌, ◌+◌, min, IsTrue, ◌==◌, ◌^◌, List, [], ◌∷◌, ◌++◌, Contains, Option, IfOk, OnOk, MatchBool, MatchOption, All, Some, slice_set, length, vec_len};
 ghost use Rattle.std.specs.List.{IsDistinct};
 ghost use Rattle.std.specs.Bool.{OnTrue, OnFalse};
 ghost use Rattle.std.specs.FinMap as map;
-ghost use Rattle.snapshot.specs.Groups.{IsGrouped};
+ghost use Rattle.snapshot.specs.Groups.{IsGrouped, legs_of};
 ghost use Rattle.snapshot.specs.declared.legs.Part.TheVariants.{Light, Heavy};
 ghost use Rattle.buckets.specs.Queue.{Entries, TakesLeast};
 ghost use Rattle.relax.specs.Values.{value_or};
@@ -20,6 +20,7 @@ use snapshot::{Leg, Part, Snapshot};
 use std::alloc::Global;
 
 /// One above the length of every walk that visits no node twice: a longer way is dropped.
+#[inline(always)]
 #[tactic(auto, unfolding(crate::specs::Search::top_of))]
 fn top(snapshot: &Snapshot) -> u64
     ensures value { result ≡ top_of snapshot.now }
@@ -37,6 +38,18 @@ fn is_near(start: u64, value: u64, delta: u64) -> bool
     ensures { (b : ℕ) → start ≡ min (b * delta) u64.MAX → b ≤ value / delta → IsTrue result ↔ (value / delta ≡ b) }
 {
     value - start < delta
+}
+
+/// Whether the list has one node, and that node no light legs: nothing comes back into its bucket then, and no node has to be remembered.
+#[inline(always)]
+fn is_alone(snapshot: &Snapshot, nodes: &[u32]) -> bool
+    ensures once { OnTrue result (IsDistinct (λ a b. a == b) nodes.now) }
+    ensures light { OnTrue result ((u : ℕ) → Contains nodes.now u → legs_of snapshot.now Light u ≡ []) }
+{
+    match nodes {
+        [node] => snapshot.legs(*node, Part::Light).is_empty(),
+        _ => false,
+    }
 }
 
 /// A search under way: the least value found so far for each node, and the nodes whose legs are still to be relaxed, in buckets by
@@ -77,6 +90,7 @@ impl<Q: BucketQueue> Search<Q> {
     /// Takes the least bucket that is not empty: gives its number, or nothing where no node is queued, and puts its nodes, ascending, into
     /// the given list in place of what was there. All values that are queued lie in `ceil(L / delta) + 1` buckets in a row then, from the one
     /// that is taken on, with L the greatest length of a leg.
+    #[inline(always)]
     pub fn take_bucket(
         &mut self,
         _snapshot: &Snapshot,
@@ -116,6 +130,7 @@ impl<Q: BucketQueue> Search<Q> {
     /// Settles a bucket, given the nodes that were taken from it: relaxes light legs while nodes come back into it, and then once the
     /// heavy legs of all nodes that were taken. Nothing is left in the bucket.
     /// The list is used for the nodes that come back.
+    #[inline(always)]
     pub fn settle<T: Team>(
         &mut self,
         alloc: Global,
@@ -140,6 +155,10 @@ impl<Q: BucketQueue> Search<Q> {
         ensures live { OnOk result (AreLiveFrom snapshot.now bucket (Q.entries self.new.buckets)) }
         ensures suited { OnOk result (IsSuited snapshot.now (Q.width self.new.buckets) (Q.span self.new.buckets)) }
     {
+        if is_alone(snapshot, taken) {
+            self.relax(alloc, snapshot, team, bucket, taken, Part::Heavy)?;
+            return Ok(());
+        }
         self.empty(alloc, snapshot, team, bucket, taken, remembered)?;
         self.relax(
             alloc,
@@ -154,6 +173,7 @@ impl<Q: BucketQueue> Search<Q> {
     }
 
     /// Relaxes light legs while nodes come back into a bucket, and remembers all nodes that were taken from it, each once.
+    #[inline(always)]
     fn empty<T: Team>(
         &mut self,
         alloc: Global,
@@ -188,6 +208,7 @@ impl<Q: BucketQueue> Search<Q> {
 
     /// Relaxes the light legs of nodes that were taken from a bucket, and takes out the nodes that came back into it, if any,
     /// in place of those.
+    #[inline(always)]
     fn phase<T: Team>(
         &mut self,
         alloc: Global,
@@ -220,6 +241,7 @@ impl<Q: BucketQueue> Search<Q> {
     }
 
     /// Relaxes the legs of a part of the nodes, whose values are in the given bucket, and tells whether a node came into it.
+    #[inline(always)]
     fn relax<T: Team>(
         &mut self,
         alloc: Global,

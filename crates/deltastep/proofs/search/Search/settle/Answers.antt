@@ -1,23 +1,41 @@
-use Rattle.std.proofs.Common.{ℕ, List, Contains, subst, sym, ◌∙◌, eqb}
+use Rattle.std.proofs.Common.{◌≡◌, ℕ, List, [], Contains, subst, sym, ◌∙◌, eqb}
 use Rattle.std.specs.List.{IsDistinct}
 use Rattle.relax.specs.Requests.{requests_of}
 use Rattle.deltastep.specs.Search.{MeetsRequests, top_of}
-use Rattle.snapshot.specs.declared.legs.Part.TheVariants.{Heavy}
+use Rattle.snapshot.specs.Groups.{legs_of}
+use Rattle.snapshot.specs.declared.legs.Part.TheVariants.{Light, Heavy}
 use Rattle.deltastep.proofs.Flags.{memory_is}
-use Rattle.deltastep.proofs.Phases.{EmptiesBucket-relaxed}
+use Rattle.deltastep.proofs.Phases.{on_true, EmptiesBucket-relaxed, EmptiesBucket-taken}
 use Rattle.deltastep.proofs.search.Search.settle.Goals as goal
 
-pub relax-requires-clause-nodes : goal.relax-requires-clause-nodes
-relax-requires-clause-nodes g c u h = c.in_ok-empty.ensures.emptied.nodes u (subst (λ (l : List ℕ). Contains l u) c.nodes.ensures.value h)
+pub relax-requires-2-clause-nodes : goal.relax-requires-2-clause-nodes
+relax-requires-2-clause-nodes g c u h = c.in_ok-empty.ensures.emptied.nodes u (subst (λ (l : List ℕ). Contains l u) c.nodes.ensures.value h)
 
-pub relax-requires-clause-once : goal.relax-requires-clause-once
-relax-requires-clause-once g c _ = subst (λ (l : List ℕ). IsDistinct eqb l) (sym c.nodes.ensures.value) c.nodes.ensures.once
+pub relax-requires-2-clause-once : goal.relax-requires-2-clause-once
+relax-requires-2-clause-once g c _ = subst (λ (l : List ℕ). IsDistinct eqb l) (sym c.nodes.ensures.value) c.nodes.ensures.once
 
 pub returns-clause-settled : goal.returns-clause-settled
 returns-clause-settled g c =
-    let relaxed = c.in_ok-relax.ensures in
-    let met = subst (λ nodes. MeetsRequests (top_of c.args.snapshot.now) (requests_of c.args.snapshot.now nodes c.empty.new.self.tentative Heavy) c.empty.new.self.tentative (g.Q.BucketQueue.entries c.empty.new.self.buckets) c.relax.new.self.tentative (g.Q.BucketQueue.entries c.relax.new.self.buckets)) c.nodes.ensures.value relaxed.met in
-    EmptiesBucket-relaxed c.args.snapshot.now c.args.bucket c.empty.new.remembered.nodes c.args.self.now.tentative c.empty.new.self.tentative (g.Q.BucketQueue.entries c.empty.new.self.buckets) c.relax.new.self.tentative (g.Q.BucketQueue.entries c.relax.new.self.buckets) relaxed.grouped c.in_ok-empty.ensures.emptied met relaxed.search relaxed.reached
+    let relaxed = c.in_ok-relax-2.ensures in
+    let met = subst (λ nodes. MeetsRequests (top_of c.args.snapshot.now) (requests_of c.args.snapshot.now nodes c.empty.new.self.tentative Heavy) c.empty.new.self.tentative (g.Q.BucketQueue.entries c.empty.new.self.buckets) c.relax-2.new.self.tentative (g.Q.BucketQueue.entries c.relax-2.new.self.buckets)) c.nodes.ensures.value relaxed.met in
+    EmptiesBucket-relaxed c.args.snapshot.now c.args.bucket c.empty.new.remembered.nodes c.args.self.now.tentative c.empty.new.self.tentative (g.Q.BucketQueue.entries c.empty.new.self.buckets) c.relax-2.new.self.tentative (g.Q.BucketQueue.entries c.relax-2.new.self.buckets) relaxed.grouped c.in_ok-empty.ensures.emptied met relaxed.search relaxed.reached
 
 pub returns-clause-none : goal.returns-clause-none
 returns-clause-none g c = memory_is c.clear.new.self _ _ (c.clear.ensures.limit ∙ c.in_ok-empty.ensures.limit) c.clear.ensures.none
+
+-- a bucket of one node without light legs
+pub relax-requires-clause-nodes : goal.relax-requires-clause-nodes
+relax-requires-clause-nodes g c u h = c.requires.taken u (subst (λ (l : List ℕ). Contains l u) c.deref-then-is_alone.ensures.value h)
+
+pub relax-requires-clause-once : goal.relax-requires-clause-once
+relax-requires-clause-once g c _ = subst (λ (l : List ℕ). IsDistinct eqb l) (c.deref.ensures.value ∙ sym c.deref-then-is_alone.ensures.value) (on_true c.is_alone.result _ c.if-is_alone.true c.is_alone.ensures.once)
+
+pub returns-then-is_alone-clause-settled : goal.returns-then-is_alone-clause-settled
+returns-then-is_alone-clause-settled g c =
+    let groups = c.args.snapshot.now in
+    let relaxed = c.in_ok-relax.ensures in
+    let nodes = c.args.taken.now.items in
+    let met = subst (λ nodes. MeetsRequests (top_of groups) (requests_of groups nodes c.args.self.now.tentative Heavy) c.args.self.now.tentative (g.Q.BucketQueue.entries c.args.self.now.buckets) c.relax.new.self.tentative (g.Q.BucketQueue.entries c.relax.new.self.buckets)) c.deref-then-is_alone.ensures.value relaxed.met in
+    let none : (u : ℕ) → Contains nodes u → legs_of groups Light u ≡ [] = λ u h. on_true c.is_alone.result _ c.if-is_alone.true c.is_alone.ensures.light u (subst (λ (l : List ℕ). Contains l u) (sym c.deref.ensures.value) h) in
+    let emptied = EmptiesBucket-taken groups c.args.bucket nodes c.args.self.now.tentative (g.Q.BucketQueue.entries c.args.self.now.buckets) none c.requires.search c.requires.light c.requires.heavy c.requires.taken c.requires.emptied in
+    EmptiesBucket-relaxed groups c.args.bucket nodes c.args.self.now.tentative c.args.self.now.tentative (g.Q.BucketQueue.entries c.args.self.now.buckets) c.relax.new.self.tentative (g.Q.BucketQueue.entries c.relax.new.self.buckets) relaxed.grouped emptied met relaxed.search relaxed.reached

@@ -188,6 +188,13 @@ queued_flag vs qs m k h is some = elim (cases_Bool (get_or qs k false)) as (λ _
   | inr off ↦ absurd (let none : is_some (get m k) ≡ false = ap (λ (o : Option ℕ). is_some o) (sym (got_none vs qs m k h is off)) in let absurdity : ⊥ = cc in absurdity)
 ]
 
+-- a node that has none is not queued
+pub unqueued_flag : (vs : List ℕ) (qs : List Bool) (m : Entries) (k : ℕ) → length qs ≤ length vs → entries_of vs qs ≡ m → get m k ≡ None → get_or qs k false ≡ false
+unqueued_flag vs qs m k h is none = elim (cases_Bool (get_or qs k false)) as (λ _. get_or qs k false ≡ false) [
+  | inl on ↦ absurd (let some : Some (get_or vs k 0) ≡ None = got_some vs qs m k (get_or vs k 0) h is on refl ∙ none in let absurdity : ⊥ = cc in absurdity)
+  | inr off ↦ off
+]
+
 pub queued_within : (qs : List Bool) (k : ℕ) → get_or qs k false ≡ true → k < length qs
 queued_within qs k on = elim (cases_lt k (length qs)) as (λ _. k < length qs) [
   | inl lt ↦ lt

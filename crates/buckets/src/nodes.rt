@@ -1,6 +1,6 @@
 // The values of the nodes that are queued.
 
-ghost use Rattle.std.specs.Prelude.{◌≡◌, ℕ, ◌≤◌, ◌<◌, ◌/◌, ◌↔◌, true, false, IsTrue, IsSome, OnOk, OnErr, Some, length, slice_index_or};
+ghost use Rattle.std.specs.Prelude.{◌≡◌, ℕ, ◌≤◌, ◌<◌, ◌/◌, ◌↔◌, true, false, IsTrue, IsSome, OnOk, OnErr, None, Some, length, slice_index_or};
 ghost use Rattle.std.specs.FinMap as map;
 ghost use Rattle.buckets.specs.Lists.{has_node};
 ghost use Rattle.buckets.specs.Queue.{bucket, is_in_bucket};
@@ -126,6 +126,22 @@ impl NodeValues {
         if is_queued(&self.queued, place) {
             return Ok(());
         }
+        self.queued[place] = true;
+        self.count += 1;
+        Ok(())
+    }
+
+    /// Gives a node that has no value this one. It takes O(1), and O(n) where a table grows, which doubles. After want of memory the map is
+    /// as it was.
+    #[inline(always)]
+    pub fn add(&mut self, node: u32, value: u64) -> Result<(), AllocError>
+        requires { map.get self.old node ≡ None }
+        ensures ok { OnOk result (self.new ≡ map.insert self.old node value) }
+        ensures err { OnErr result (self.new ≡ self.old) }
+    {
+        let place = node as usize;
+        make_room(&mut self.values, &mut self.queued, place + 1)?;
+        self.values[place] = value;
         self.queued[place] = true;
         self.count += 1;
         Ok(())

@@ -1,8 +1,8 @@
 // Writing a checkpoint, part by part.
-ghost use Rattle.std.specs.Prelude.{◌≡◌, ◌+◌, ◌-◌, ◌*◌, ◌<◌, ◌≤◌, ◌^◌, ◌↔◌, min, length, IfOk, OnOk, OnErr};
+ghost use Rattle.std.specs.Prelude.{◌≡◌, ◌+◌, ◌-◌, ◌*◌, ◌<◌, ◌≤◌, ◌^◌, ◌↔◌, min, nat_lt, not, true, false, length, IfOk, OnOk, OnErr};
 ghost use Rattle.disk.specs.Contents.{Only, failures_after};
 ghost use Rattle.disk.specs.Moments.{LeavesOnly};
-ghost use Rattle.disk.specs.Gated.{IsShut, IsOldOrShut};
+ghost use Rattle.disk.specs.Gated.{IsOpen, IsShut, IsOldOrShut};
 ghost use Rattle.pages.specs.Spelling.{IsHeader};
 ghost use Rattle.pages.specs.Layout.{other, word_pages, page_count};
 ghost use Rattle.storefile.specs.StoreFile.{page};
@@ -192,6 +192,49 @@ impl NextCheckpoint {
         open_gate(disk, gate_at(header, self.slot))
     }
 
+    /// Writes a part of what is left: the next word pages of this network, at most `max_pages` (1 to 64) in one write, with a sync behind
+    /// them where some are left then; else the head and the gate too, as `finish`. Answers whether the slot is whole. After a failure it is
+    /// as far as it was.
+    ///
+    /// A sync stands before it: the content is all that a stop may leave.
+    pub fn go_on<D: Disk>(
+        &mut self,
+        disk: &mut D,
+        header: &Header,
+        network: &Network,
+        max_pages: u32,
+    ) -> Result<bool, DiskError>
+        requires header { IsHeader header.now }
+        requires some { 1 ≤ max_pages }
+        requires few { max_pages ≤ 64 }
+        requires within { self.old.written ≤ word_pages header.now }
+        requires whole { D.honest disk.old → length (D.content disk.old) ≡ 4096 * page_count header.now }
+        requires at_rest { D.honest disk.old → Only (D.content disk.old) (D.left disk.old) }
+        requires closed { D.honest disk.old → IsOpen (slot_gate header.now self.old.slot) (D.content disk.old) → ⊥ }
+        requires words { D.honest disk.old → HoldsWords (page (D.content disk.old)) header.now self.old.slot network.now self.old.written }
+        // The slot is whole where no more word pages were left than this part may write.
+        ensures answers { IfOk result (λ whole. nat_lt max_pages (word_pages header.now - self.old.written) ≡ not whole) }
+        ensures part { IfOk result (λ whole. whole ≡ false → self.new ≡ record self.old { written = self.old.written + max_pages }) }
+        ensures own { self.new ≡ record self.old { written = self.new.written } }
+        ensures same { OnErr result (self.new ≡ self.old) }
+        // While it goes on, the slot holds the word pages so far and its gate is closed.
+        ensures words { D.honest disk.old → IfOk result (λ whole. whole ≡ false → HoldsWords (page (D.content disk.new)) header.now self.old.slot network.now self.new.written) }
+        ensures shut { D.honest disk.old → IfOk result (λ whole. whole ≡ false → IsSlotShut header.now self.old.slot (D.content disk.old) (D.content disk.new)) }
+        ensures content { D.honest disk.old → IfOk result (λ whole. whole ≡ true → IsSlotWhole header.now self.old.slot (head_of self.old network.now) network.now (D.content disk.old) (D.content disk.new)) }
+        ensures at_rest { D.honest disk.old → OnOk result (Only (D.content disk.new) (D.left disk.new)) }
+        // A stop at any moment of the call leaves the slot with a closed gate, or whole, and the rest of the content as it was.
+        ensures any_moment { D.honest disk.old → LeavesOnly D.moment D.left_since disk.old disk.new (IsSlotShutOrWhole header.now self.old.slot (head_of self.old network.now) network.now (D.content disk.old)) }
+        ensures counted { D.failures disk.new ≡ failures_after result (D.failures disk.old) }
+        ensures honest { D.honest disk.new ↔ D.honest disk.old }
+    {
+        if self.pages_left(header) > u64::from(max_pages) {
+            self.write_part(disk, header, network, max_pages)?;
+            return Ok(false);
+        }
+        self.complete(disk, header, network, max_pages)?;
+        Ok(true)
+    }
+
     // Writes all word pages that are left.
     fn write_parts<D: Disk>(
         &mut self,
@@ -222,8 +265,8 @@ impl NextCheckpoint {
         Ok(())
     }
 
-    /// Writes all that is left: the word pages, at most `max_pages` (1 to 64) in a write, and then as `finish`.
-    pub fn complete<D: Disk>(
+    // The word pages that are left, and then as `finish`.
+    fn write_all<D: Disk>(
         &mut self,
         disk: &mut D,
         header: &Header,
@@ -247,5 +290,39 @@ impl NextCheckpoint {
     {
         self.write_parts(disk, header, network, max_pages)?;
         self.finish(disk, header, network)
+    }
+
+    /// Writes all that is left: the word pages, at most `max_pages` (1 to 64) in a write, and then as `finish`. After a failure it is as
+    /// far as it was.
+    pub fn complete<D: Disk>(
+        &mut self,
+        disk: &mut D,
+        header: &Header,
+        network: &Network,
+        max_pages: u32,
+    ) -> Result<(), DiskError>
+        requires header { IsHeader header.now }
+        requires some { 1 ≤ max_pages }
+        requires few { max_pages ≤ 64 }
+        requires within { self.old.written ≤ word_pages header.now }
+        requires whole { D.honest disk.old → length (D.content disk.old) ≡ 4096 * page_count header.now }
+        requires shut { D.honest disk.old → LeavesSlotShut header.now self.old.slot (D.content disk.old) (D.left disk.old) }
+        requires words { D.honest disk.old → HoldsWords (page (D.content disk.old)) header.now self.old.slot network.now self.old.written }
+        ensures same { self.new ≡ record self.old { written = self.new.written } }
+        // After a failure it is as far as it was.
+        ensures back { OnErr result (self.new ≡ self.old) }
+        ensures content { D.honest disk.old → OnOk result (IsSlotWhole header.now self.old.slot (head_of self.old network.now) network.now (D.content disk.old) (D.content disk.new)) }
+        ensures at_rest { D.honest disk.old → OnOk result (Only (D.content disk.new) (D.left disk.new)) }
+        // A stop at any moment of the call leaves the slot with a closed gate, or whole, and the rest of the content as it was.
+        ensures any_moment { D.honest disk.old → LeavesOnly D.moment D.left_since disk.old disk.new (IsSlotShutOrWhole header.now self.old.slot (head_of self.old network.now) network.now (D.content disk.old)) }
+        ensures counted { D.failures disk.new ≡ failures_after result (D.failures disk.old) }
+        ensures honest { D.honest disk.new ↔ D.honest disk.old }
+    {
+        let written = self.written;
+        let Ok(()) = self.write_all(disk, header, network, max_pages) else {
+            self.written = written;
+            return Err(DiskError);
+        };
+        Ok(())
     }
 }

@@ -6,10 +6,13 @@ use Rattle.pagereader.specs.Outcomes.{failures_told}
 use Rattle.roadnet.specs.declared.refusals.Refusal.{Refusal}
 use Rattle.roadnet.specs.declared.refusals.Refusal.TheVariants.{Device}
 use Rattle.machine.specs.declared.events.Event.{Event}
-use Rattle.machine.specs.declared.events.Event.TheVariants.{Submit, Flush, Checkpoint, Task, Publish, Ask, Stop, StopWithin}
+use Rattle.machine.specs.declared.events.Event.TheVariants.{Submit, Flush, Checkpoint, CheckpointStep, Task, Publish, Ask, Stop, StopWithin}
 use Rattle.machine.specs.declared.events.Replied.{Replied}
 use Rattle.machine.specs.declared.events.Writing.{Writing}
-use Rattle.machine.specs.Lives.{Turn, told_version}
+use Rattle.machine.specs.Lives.{Turn, told_version, told_part}
+use Rattle.store.specs.declared.parts.Part.{Part}
+use Rattle.store.specs.declared.parts.Part.TheVariants.{Going, Done}
+use Rattle.keeper.specs.Parts.{told_as}
 use Rattle.machine.proofs.Rehearsing.{events_more, replies_more}
 use Rattle.keeper.specs.Failures.{is_of_stop, IsAnswered, failures_of_write, failures_of_stop, failures_after, failures_in, failures_at_end, FailsAsTold, EndsAsTold}
 use Rattle.keeper.specs.Rehearsing.{is_stop, within_of}
@@ -24,7 +27,12 @@ pub told_by_write : (result : Result ℕ Refusal) (n : ℕ) → failures_told re
 told_by_write (Ok v) n = refl
 told_by_write (Err e) n = refl
 
-told_behind : (result : Result ℕ Refusal) (last : Replied) (n : ℕ) → failures_told result n ≡ failures_of_stop (told_version result ∷ last ∷ []) n
+pub told_by_part : (result : Result Part Refusal) (told : Replied) (n : ℕ) → told ≡ told_part (told_as result) → failures_told result n ≡ failures_of_write (told ∷ []) n
+told_by_part (Ok Going) told n is = rw is refl
+told_by_part (Ok (Done v)) told n is = rw is refl
+told_by_part (Err e) told n is = rw is refl
+
+pub told_behind : (result : Result ℕ Refusal) (last : Replied) (n : ℕ) → failures_told result n ≡ failures_of_stop (told_version result ∷ last ∷ []) n
 told_behind (Ok v) last n = refl
 told_behind (Err e) last n = refl
 
@@ -78,6 +86,7 @@ one_of_stop (StopWithin call picks w') w last is own = own
 one_of_stop (Submit c) w last is own = tt
 one_of_stop Flush w last is own = tt
 one_of_stop Checkpoint w last is own = tt
+one_of_stop (CheckpointStep pages) w last is own = tt
 one_of_stop Task w last is own = tt
 one_of_stop Publish w last is own = tt
 one_of_stop (Ask query) w last is own = tt
@@ -88,6 +97,7 @@ two_of_stop (StopWithin call picks w') w reply last is other own = (other, own)
 two_of_stop (Submit c) w reply last is other own = cc
 two_of_stop Flush w reply last is other own = cc
 two_of_stop Checkpoint w reply last is other own = cc
+two_of_stop (CheckpointStep pages) w reply last is other own = cc
 two_of_stop Task w reply last is other own = cc
 two_of_stop Publish w reply last is other own = cc
 two_of_stop (Ask query) w reply last is other own = cc
@@ -97,6 +107,7 @@ pub one_reply : {P : Type 0} (e : Event P) (reply : Replied) → is_stop e ≡ f
 one_reply (Submit c) reply calm = tt
 one_reply Flush reply calm = tt
 one_reply Checkpoint reply calm = tt
+one_reply (CheckpointStep pages) reply calm = tt
 one_reply Task reply calm = tt
 one_reply Publish reply calm = tt
 one_reply (Ask query) reply calm = tt
@@ -108,6 +119,7 @@ by_stop (StopWithin call picks w') w is replies n = refl
 by_stop (Submit c) w is replies n = cc
 by_stop Flush w is replies n = cc
 by_stop Checkpoint w is replies n = cc
+by_stop (CheckpointStep pages) w is replies n = cc
 by_stop Task w is replies n = cc
 by_stop Publish w is replies n = cc
 by_stop (Ask query) w is replies n = cc

@@ -11,7 +11,9 @@ use Rattle.roadnet.specs.Step.{after, first_refusal}
 use Rattle.storefile.specs.StoreFile.{StandsTidyFor}
 use Rattle.storefile.specs.Standing.{Standing, IsBeforeOrAfter}
 use Rattle.store.specs.Committing.{refusal_of_commit, MayRefuseCommit, StandsTidily}
-use Rattle.machine.specs.Machine.{Sizes, Machine, IsState, latest, batch, most_versions, network_at}
+use Rattle.store.specs.Going.{Progress, with_page_committed}
+use Rattle.keeper.specs.Keeping.{as_checkpoint}
+use Rattle.machine.specs.Machine.{Checkpoint, Sizes, Machine, IsState, latest, batch, most_versions, network_at}
 use Rattle.machine.specs.Calls.{Flushes, failed, refusal_of_flush, with_page_flushed, with_batch}
 use Rattle.machine.specs.Keeping.{IsKept, next_batch}
 use Rattle.machine.proofs.Keeping.{kept_failed, kept_flush, batch_size, batch_network, batch_admitted, batch_versions, alike}
@@ -42,6 +44,11 @@ pub if_err_with : {T E : Type 0} (P Q : E → Type 0) (r : Result T E) → ((e :
 if_err_with P Q (Ok x) f h = h
 if_err_with P Q (Err e) f h = f e h
 
+-- a checkpoint that is going counts the page
+pub counted : (going : Option Progress) → option_map as_checkpoint (option_map with_page_committed going) ≡ option_map with_page_flushed (option_map as_checkpoint going)
+counted None = refl
+counted (Some p) = refl
+
 -- ---- a machine that is going to flush
 
 -- so many items from this one on, as a body takes them
@@ -52,7 +59,6 @@ slice_of items first count = take (first + count - first) (drop first items)
 pub record Flushing (m : Machine) (accepted durable shown : Net) (task : Option (ℕ × Net)) (commands : List Command) (count : ℕ) : Type 0 where
   pub kept : IsKept m accepted durable shown task
   pub clear : refusal_of_flush m ≡ None
-  pub none_going : m.checkpoint ≡ None
   pub taken : commands ≡ next_batch m
   pub count_is : count ≡ batch m
 
@@ -104,9 +110,9 @@ module _ (m : Machine) (accepted durable shown : Net) (task : Option (ℕ × Net
 
   -- ---- after the commit, of which this is known
 
-  module _ (next : Net) (sizes : Sizes) (version unchecked : ℕ) (broken : Bool) where
+  module _ (next : Net) (sizes : Sizes) (version unchecked : ℕ) (broken : Bool) (going : Option Checkpoint) where
     abbrev pub flushed : Machine
-    flushed = record m { sizes = sizes; durable = version; unchecked = unchecked; in_flight = cond broken count 0; broken = broken }
+    flushed = record m { sizes = sizes; durable = version; unchecked = unchecked; in_flight = cond broken count 0; broken = broken; checkpoint = going }
 
     pub record Committed (result : Result ℕ Refusal) : Type 0 where
       pub sizes_are : sizes ≡ m.sizes
@@ -120,6 +126,8 @@ module _ (m : Machine) (accepted durable shown : Net) (task : Option (ℕ × Net
       pub network_kept : OnErr result (next ≡ durable)
       pub version_kept : OnErr result (version ≡ m.durable)
       pub unchecked_kept : OnErr result (unchecked ≡ m.unchecked)
+      pub going_is : OnOk result (going ≡ option_map with_page_flushed m.checkpoint)
+      pub going_kept : OnErr result (going ≡ m.checkpoint)
 
     idle : (b : Bool) → b ≡ false → cond b count 0 ≡ m.in_flight
     idle true h = cc
@@ -129,24 +137,21 @@ module _ (m : Machine) (accepted durable shown : Net) (task : Option (ℕ × Net
     busy true h = f.count_is
     busy false h = cc
 
-    going_on : option_map with_page_flushed m.checkpoint ≡ m.checkpoint
-    going_on = ap (option_map with_page_flushed) f.none_going ∙ sym f.none_going
-
     flushed_ok : (v : ℕ) → Committed (Ok v) → flushed ≡ with_batch m
     flushed_ok v h =
-        alike m sizes m.sizes version (m.durable + batch m) unchecked (m.unchecked + 1) (cond broken count 0) m.in_flight broken m.broken m.checkpoint (option_map with_page_flushed m.checkpoint)
-        h.sizes_are (sym h.version_is.0 ∙ (h.version_is.1 ∙ ap (λ (n : ℕ). m.durable + n) size)) h.unchecked_is (idle broken h.works_on) (h.works_on ∙ sym works) (sym going_on)
+        alike m sizes m.sizes version (m.durable + batch m) unchecked (m.unchecked + 1) (cond broken count 0) m.in_flight broken m.broken going (option_map with_page_flushed m.checkpoint)
+        h.sizes_are (sym h.version_is.0 ∙ (h.version_is.1 ∙ ap (λ (n : ℕ). m.durable + n) size)) h.unchecked_is (idle broken h.works_on) (h.works_on ∙ sym works) h.going_is
 
     flushed_same : (refusal : Refusal) → Committed (Err refusal) → refusal ≡ OutOfMemory → flushed ≡ m
     flushed_same refusal h is =
         let calm : broken ≡ false = h.still (not_memory refusal is) in
-        alike m sizes m.sizes version m.durable unchecked m.unchecked (cond broken count 0) m.in_flight broken m.broken m.checkpoint m.checkpoint
-        h.sizes_are h.version_kept h.unchecked_kept (idle broken calm) (calm ∙ sym works) refl
+        alike m sizes m.sizes version m.durable unchecked m.unchecked (cond broken count 0) m.in_flight broken m.broken going m.checkpoint
+        h.sizes_are h.version_kept h.unchecked_kept (idle broken calm) (calm ∙ sym works) h.going_kept
 
     flushed_failed : (refusal : Refusal) → Committed (Err refusal) → refusal ≡ Device → flushed ≡ failed m (batch m)
     flushed_failed refusal h is =
-        alike m sizes m.sizes version m.durable unchecked m.unchecked (cond broken count 0) (batch m) broken true m.checkpoint m.checkpoint
-        h.sizes_are h.version_kept h.unchecked_kept (busy broken (h.breaks is)) (h.breaks is) refl
+        alike m sizes m.sizes version m.durable unchecked m.unchecked (cond broken count 0) (batch m) broken true going m.checkpoint
+        h.sizes_are h.version_kept h.unchecked_kept (busy broken (h.breaks is)) (h.breaks is) h.going_kept
 
     why : (refusal : Refusal) → Committed (Err refusal) → (refusal ≡ OutOfMemory) ⊎ (refusal ≡ Device)
     why refusal h = cause_of (refusal_of_commit m.broken m.durable m.unchecked m.sizes.journal_pages durable commands) refusal not_refused h.refused

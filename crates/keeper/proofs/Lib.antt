@@ -7,4 +7,6 @@ pub mod LivesInRun
 pub mod Runs
 pub mod Answering
 pub mod Stopped
+pub mod RefusedByNetwork
 pub mod Ticketed
+pub mod Whole

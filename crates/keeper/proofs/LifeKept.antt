@@ -1,6 +1,6 @@
 -- What each call does to a life of a rehearsal.
 use Rattle.std.proofs.Common.{◌≡◌, ⊎_elim, ℕ, ◌-◌, ◌≤◌, Bool, true, false, cond, eqb, take, Option, Some, None, Result, Ok, Err, refl, sym, ◌∙◌, ap, subst, arith, eq-eqb}
-use Rattle.std.specs.Prelude.{IfSome, OnOk, OnErr, is_some, ◌||◌, ◌==◌, nat_lt}
+use Rattle.std.specs.Prelude.{IfSome, MatchResult, OnOk, OnErr, is_some, ◌||◌, ◌==◌, nat_lt}
 use Rattle.std.proofs.lemmas.List.{take-take}
 use Rattle.roadnet.specs.declared.commands.Command.{Command}
 use Rattle.roadnet.specs.declared.refusals.Refusal.{Refusal}
@@ -8,9 +8,14 @@ use Rattle.roadnet.specs.Net.{Net}
 use Rattle.roadnet.specs.Step.{after}
 use Rattle.machine.specs.declared.calls.Ticket.{Ticket}
 use Rattle.machine.specs.Machine.{Machine, IsState, network_at}
-use Rattle.machine.specs.Calls.{Submits, TakesTask, RefusesView, has_nothing_unchecked, checkpoint_of, with_part, with_pages_written, is_out, without_task}
-use Rattle.machine.specs.Runs.Happened.{Submitted}
+use Rattle.machine.specs.Calls.{Submits, StepsCheckpoint, TakesTask, RefusesView, has_nothing_unchecked, checkpoint_of, with_part, with_pages_written, is_out, without_task}
+use Rattle.machine.specs.declared.events.Writing.TheVariants.{Checkpoint as a_checkpoint}
+use Rattle.machine.specs.Lives.{Writes}
+use Rattle.machine.specs.Runs.Happened.{Submitted, Checkpointed}
+use Rattle.store.specs.declared.parts.Part.{Part}
+use Rattle.keeper.specs.Parts.{done_version, told_as}
 use Rattle.machine.specs.Laws.{IsLater}
+use Rattle.machine.proofs.Checkpoints.{IsBut, but_step, but_checkpoint, state_checkpoint}
 use Rattle.machine.proofs.Kept.{states_kept}
 use Rattle.machine.proofs.Later.{later_by_step, still}
 use Rattle.keeper.specs.Rehearsing.{IsLife}
@@ -26,26 +31,30 @@ network_still old new v le later =
     ∙ ap (λ (b : Net). after b (take n old.accepted)) later.base)
 
 -- the task stays out
-life_same : (old new : Machine) (opened : ℕ) (aside : Option (ℕ × Net)) → IsLife old opened aside → IsState new → IsLater old new → new.task ≡ old.task → new.checkpoint ≡ None → IsLife new opened aside
-life_same old new opened None k s later task none = record { state = s; opened_is = later.base_version ∙ k.opened_is; none_going = none; task_is = task ∙ k.task_is; task_network = tt }
-life_same old new opened (Some view) k s later task none =
+life_same : (old new : Machine) (opened : ℕ) (aside : Option (ℕ × Net)) → IsLife old opened aside → IsState new → IsLater old new → new.task ≡ old.task → IsLife new opened aside
+life_same old new opened None k s later task = record { state = s; opened_is = later.base_version ∙ k.opened_is; task_is = task ∙ k.task_is; task_network = tt }
+life_same old new opened (Some view) k s later task =
     let between : (old.shown ≤ view.0) × (view.0 ≤ old.durable) = subst (λ (o : Option ℕ). IfSome o (λ t. (old.shown ≤ t) × (t ≤ old.durable))) k.task_is k.state.task_between in
-    record { state = s; opened_is = later.base_version ∙ k.opened_is; none_going = none; task_is = task ∙ k.task_is; task_network = network_still old new view.0 between.1 later ∙ k.task_network }
+    record { state = s; opened_is = later.base_version ∙ k.opened_is; task_is = task ∙ k.task_is; task_network = network_still old new view.0 between.1 later ∙ k.task_network }
 
 module _ (old new : Machine) (opened : ℕ) (aside : Option (ℕ × Net)) (k : IsLife old opened aside) where
   pub life_submit : (c : Command) (result : Result Ticket Refusal) → Submits old c result new → IsLife new opened aside
   life_submit c result step =
-      life_same old new opened aside k (states_kept old new (Submitted c result) k.state step) (later_by_step old new (Submitted c result) k.state step) (task result step) (going result step ∙ k.none_going)
+      life_same old new opened aside k (states_kept old new (Submitted c result) k.state step) (later_by_step old new (Submitted c result) k.state step) (task result step)
     where
       task : (result : Result Ticket Refusal) → Submits old c result new → new.task ≡ old.task
       task (Ok t) step = ap (λ (m : Machine). m.task) step.2
       task (Err r) step = ap (λ (m : Machine). m.task) step.1
 
-      going : (result : Result Ticket Refusal) → Submits old c result new → new.checkpoint ≡ old.checkpoint
-      going (Ok t) step = ap (λ (m : Machine). m.checkpoint) step.2
-      going (Err r) step = ap (λ (m : Machine). m.checkpoint) step.1
+-- ---- a checkpoint
+-- a state in which nothing but the checkpoint, the unchecked pages and what a failure changes is another
+pub life_but : (old new : Machine) (opened : ℕ) (aside : Option (ℕ × Net)) → IsBut old new → IsState new → IsLife old opened aside → IsLife new opened aside
+life_but old new opened aside but s k =
+    let here : Machine = record old { unchecked = new.unchecked; in_flight = new.in_flight; broken = new.broken; checkpoint = new.checkpoint } in
+    let moved : IsState here = subst IsState but s in
+    subst (λ (m : Machine). IsLife m opened aside) (sym but)
+    (record { state = moved; opened_is = k.opened_is; task_is = k.task_is; task_network = k.task_network })
 
--- ---- a step of a checkpoint
 abbrev by_part : Machine → ℕ → Bool → Bool → Machine
 by_part m pages a b = cond a m (cond b (record m { checkpoint = Some (with_pages_written (checkpoint_of m) pages) }) (record m { checkpoint = None; unchecked = (checkpoint_of m).flushed }))
 
@@ -57,6 +66,18 @@ accepted_by_part m pages = go (has_nothing_unchecked m) (nat_lt pages (checkpoin
     go true b = refl
     go false true = refl
     go false false = refl
+
+-- what a step answered, as the machine has it
+pub step_told : (old new : Machine) (pages : ℕ) (r : Result Part Refusal) → MatchResult r (λ part. StepsCheckpoint old pages (Ok (done_version part)) new) (λ refusal. StepsCheckpoint old pages (Err refusal) new)
+    → StepsCheckpoint old pages (told_as r) new
+step_told old new pages (Ok part) step = step
+step_told old new pages (Err refusal) step = step
+
+pub life_step : (old new : Machine) (opened : ℕ) (aside : Option (ℕ × Net)) (pages : ℕ) (result : Result (Option ℕ) Refusal) → StepsCheckpoint old pages result new → IsLife old opened aside → IsLife new opened aside
+life_step old new opened aside pages result step k = life_but old new opened aside (but_step old new pages result step) (states_kept old new (Checkpointed pages result) k.state step) k
+
+pub life_checkpoint : (old new : Machine) (opened : ℕ) (aside : Option (ℕ × Net)) (result : Result ℕ Refusal) → Writes old a_checkpoint result new → IsLife old opened aside → IsLife new opened aside
+life_checkpoint old new opened aside result written k = life_but old new opened aside (but_checkpoint old new result written) (state_checkpoint old new result written k.state) k
 
 -- ---- tasks and views
 no_task_out : (o : Option ℕ) (b : Bool) → (is_some o || b) ≡ false → o ≡ None

@@ -8,12 +8,12 @@ use Rattle.machine.specs.declared.calls.Ticket.{Ticket}
 use Rattle.machine.specs.declared.calls.Answer.{Answer}
 use Rattle.rows.specs.declared.queries.Query.{Query}
 use Rattle.machine.specs.declared.events.Event.{Event}
-use Rattle.machine.specs.declared.events.Event.TheVariants.{Submit, Flush, Checkpoint, Task, Publish, Ask, Stop, StopWithin}
+use Rattle.machine.specs.declared.events.Event.TheVariants.{Submit, Flush, Checkpoint, CheckpointStep, Task, Publish, Ask, Stop, StopWithin}
 use Rattle.machine.specs.declared.events.Writing.{Writing}
 use Rattle.machine.specs.declared.events.Writing.TheVariants.{Flush as a_flush, Checkpoint as a_checkpoint}
 use Rattle.machine.specs.declared.events.Replied.{Replied}
 use Rattle.machine.specs.Machine.{Machine, IsState}
-use Rattle.machine.specs.Calls.{Submits, Flushes, TakesTask, Asks}
+use Rattle.machine.specs.Calls.{Submits, Flushes, StepsCheckpoint, TakesTask, Asks}
 use Rattle.machine.specs.Runs.{Happened, Step}
 use Rattle.machine.specs.Runs.Happened.{Submitted, Flushed, Checkpointed, TookTask, Published, Asked}
 use Rattle.machine.specs.Laws.{IsLater}
@@ -59,6 +59,7 @@ pub does_later : {P : Type 0} (e : Event P) (old new : Machine) (replies : List 
 does_later (Submit c) old new replies calm s d = later_one old new (Submitted c d.0) s d.1
 does_later Flush old new replies calm s d = writes_later a_flush d.0 old new s d.1
 does_later Checkpoint old new replies calm s d = writes_later a_checkpoint d.0 old new s d.1
+does_later (CheckpointStep pages) old new replies calm s d = later_one old new (Checkpointed pages.pages d.0) s d.1
 does_later Task old new replies calm s d = later_one old new (TookTask d.0) s d.1
 does_later Publish old new replies calm s d =
     ⊎_elim (λ p. later_one old new (Published p.0 p.1 (Ok p.0)) s p.2) (λ n. subst (λ (m : Machine). Later old m) (sym n.1) (record { state = s; later = later_same old })) d
@@ -97,6 +98,7 @@ module _ (base : Net) (version : ℕ) (before : List Command) where
     does_in (Submit c) replies calm d = (d.0, life_steps base version before old new (Submitted c d.0) there begun s d.1, d.2)
     does_in Flush replies calm d = (d.0, writes_in a_flush d.0 d.1, d.2)
     does_in Checkpoint replies calm d = (d.0, writes_in a_checkpoint d.0 d.1, d.2)
+    does_in (CheckpointStep pages) replies calm d = (d.0, life_steps base version before old new (Checkpointed pages.pages d.0) there begun s d.1, d.2)
     does_in Task replies calm d = (d.0, life_steps base version before old new (TookTask d.0) there begun s d.1, d.2)
     does_in Publish replies calm d =
         ⊎_elim (λ p. inl (p.0, p.1, life_steps base version before old new (Published p.0 p.1 (Ok p.0)) there begun s p.2, p.3)) (λ n. inr (n.0, ap (within base version before) n.1, n.2)) d
@@ -121,6 +123,10 @@ pub writes_same : (w : Writing) (result : Result ℕ Refusal) (old new : Machine
 writes_same a_flush result old new w = flush_same result old new w
 writes_same a_checkpoint result old new w = ends_same result w.1 new w.3 ∙ goes_same w.0 old w.1 w.2
 
+part_same : (pages : ℕ) (result : Result (Option ℕ) Refusal) (old new : Machine) → StepsCheckpoint old pages result new → new.accepted ≡ old.accepted
+part_same pages (Ok part) old new step = ap (λ (m : Machine). m.accepted) step.2 ∙ accepted_by_part old pages
+part_same pages (Err r) old new step = ⊎_elim (λ refused. ap (λ (m : Machine). m.accepted) refused.1) (λ broke. ap (λ (m : Machine). m.accepted) broke.3) step
+
 submit_size : (c : Command) (result : Result Ticket Refusal) (old new : Machine) → Submits old c result new → length new.accepted ≤ length old.accepted + 1
 submit_size c (Ok t) old new step = let more = ap (λ (m : Machine). length m.accepted) step.2 ∙ length-append old.accepted (c ∷ []) in omega (arith, more)
 submit_size c (Err r) old new step = let same = ap (λ (m : Machine). length m.accepted) step.1 in omega (arith, same)
@@ -141,6 +147,7 @@ pub does_size : {P : Type 0} (e : Event P) (old new : Machine) (replies : List R
 does_size (Submit c) old new replies calm d = submit_size c d.0 old new d.1
 does_size Flush old new replies calm d = one_size old new (writes_same a_flush d.0 old new d.1)
 does_size Checkpoint old new replies calm d = one_size old new (writes_same a_checkpoint d.0 old new d.1)
+does_size (CheckpointStep pages) old new replies calm d = one_size old new (part_same pages.pages d.0 old new d.1)
 does_size Task old new replies calm d = one_size old new (task_same d.0 old new d.1)
 does_size Publish old new replies calm d = ⊎_elim (λ p. one_size old new (ap (λ (m : Machine). m.accepted) p.2.2)) (λ n. one_size old new (ap (λ (m : Machine). m.accepted) n.1)) d
 does_size (Ask query) old new replies calm d = one_size old new (asks_same query d.0 old new d.1)

@@ -19,7 +19,7 @@ use Rattle.keeper.proofs.Held.{at_base}
 use Rattle.keeper.specs.Keeping.{IsDurableIn, sizes_of}
 use Rattle.machine.specs.declared.events.Writing.{Writing}
 use Rattle.machine.specs.declared.events.Event.{Event}
-use Rattle.machine.specs.declared.events.Event.TheVariants.{Submit, Flush, Checkpoint, Task, Publish, Ask, Stop, StopWithin}
+use Rattle.machine.specs.declared.events.Event.TheVariants.{Submit, Flush, Checkpoint, CheckpointStep, Task, Publish, Ask, Stop, StopWithin}
 use Rattle.machine.specs.declared.events.Replied.{Replied}
 use Rattle.machine.specs.declared.events.Replied.TheVariants.{Opened, Stopped}
 use Rattle.machine.specs.Machine.{Sizes, Machine, IsState, start, commands_to}
@@ -186,6 +186,7 @@ module _ {P : Type 0} (first : First) (events : List (Event P)) (replies : List 
         does (Submit c) is = cc
         does Flush is = cc
         does Checkpoint is = cc
+        does (CheckpointStep pages) is = cc
         does Task is = cc
         does Publish is = cc
         does (Ask query) is = cc
@@ -205,6 +206,7 @@ module _ {P : Type 0} (first : First) (events : List (Event P)) (replies : List 
         stops (Submit c) is = cc
         stops Flush is = cc
         stops Checkpoint is = cc
+        stops (CheckpointStep pages) is = cc
         stops Task is = cc
         stops Publish is = cc
         stops (Ask query) is = cc

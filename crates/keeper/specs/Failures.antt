@@ -5,7 +5,7 @@ use Rattle.disk.specs.Contents.{one_more}
 use Rattle.pagereader.specs.Outcomes.{failures_with}
 use Rattle.roadnet.specs.declared.refusals.Refusal.{Refusal}
 use Rattle.machine.specs.declared.events.Event.{Event}
-use Rattle.machine.specs.declared.events.Event.TheVariants.{Flush, Checkpoint, StopWithin}
+use Rattle.machine.specs.declared.events.Event.TheVariants.{Flush, Checkpoint, CheckpointStep, StopWithin}
 use Rattle.machine.specs.declared.events.Replied.{Replied}
 use Rattle.machine.specs.declared.events.Replied.TheVariants.{Refused, Opened, Stopped}
 use Rattle.machine.specs.Lives.{Turn}
@@ -43,6 +43,7 @@ failures_of_stop (reply ∷ _ ∷ _) n = failures_by reply n
 abbrev pub failures_after : {P : Type 0} → Event P → List Replied → ℕ → ℕ
 failures_after Flush replies n = failures_of_write replies n
 failures_after Checkpoint replies n = failures_of_write replies n
+failures_after (CheckpointStep pages) replies n = failures_of_write replies n
 failures_after (StopWithin call picks writing) replies n = failures_of_stop replies n
 failures_after _ replies n = n
 

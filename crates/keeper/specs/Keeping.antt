@@ -1,5 +1,5 @@
 -- What a keeper is to its callers, and what its disk holds.
-use Rattle.std.specs.Prelude.{◌≡◌, ℕ, Bool, false, List, Option, None, if◌then◌else◌}
+use Rattle.std.specs.Prelude.{◌≡◌, ℕ, Bool, false, List, Option, option_map, if◌then◌else◌}
 use Rattle.roadnet.specs.declared.commands.Command.{Command}
 use Rattle.roadnet.specs.Net.{Net}
 use Rattle.disk.specs.Contents.{Only}
@@ -10,13 +10,18 @@ use Rattle.storefile.specs.StoreFile.{StandsTidyFor}
 use Rattle.storefile.specs.Standing.{Standing}
 use Rattle.store.specs.declared.store.Store.{Store}
 use Rattle.store.specs.Committing.{StandsTidily}
-use Rattle.store.specs.Durable.{told_by}
-use Rattle.machine.specs.Machine.{Sizes, Machine}
+use Rattle.store.specs.Durable.{told_by, going_of}
+use Rattle.store.specs.Going.{Progress}
+use Rattle.machine.specs.Machine.{Sizes, Checkpoint, Machine}
 use Rattle.machine.specs.Lives.{HoldsDurable}
 
 -- the sizes of a store with this header
 abbrev pub sizes_of : Header → Sizes
 sizes_of header = record { journal_pages = header.journal_pages; slot_pages = word_pages header }
+
+-- a store's checkpoint that is going, as the machine has it
+abbrev pub as_checkpoint : Progress → Checkpoint
+as_checkpoint p = record { version = p.version; left = p.left; flushed = p.committed }
 
 -- The machine of a keeper of this store: its base network, the version that it was opened at, the commands accepted since, the version that
 -- is shown, whether a write failed, how many commands the last write had, and the version of the task that is out.
@@ -33,7 +38,7 @@ machine_of store base opened accepted shown broken written task = record {
   in_flight = if broken then written else 0;
   broken = broken;
   task = task;
-  checkpoint = None;
+  checkpoint = option_map as_checkpoint (going_of store);
 }
 
 -- what a keeper was given: its store's disk, and what the store said of the disk's content then

@@ -30,11 +30,10 @@ within_of (StopWithin call picks writing) = Some writing
 within_of _ = None
 
 -- A life that has this machine, was opened at this version, and keeps aside a view of this version and network: it is the view of the
--- task that is out. No checkpoint is going.
+-- task that is out.
 pub record IsLife (m : Machine) (opened : ℕ) (aside : Option (ℕ × Net)) : Type 0 where
   pub state : IsState m
   pub opened_is : m.base_version ≡ opened
-  pub none_going : m.checkpoint ≡ None
   pub task_is : m.task ≡ option_map (λ view. view.0) aside
   pub task_network : IfSome aside (λ view. network_at m view.0 ≡ Some view.1)
 

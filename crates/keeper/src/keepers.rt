@@ -58,7 +58,7 @@ impl<D: Disk> Model for Keeper<D> {
 }
 
 /// Whether the disk failed in a write that told this.
-pub(crate) fn has_failed(written: &Result<u64, Refusal>) -> bool
+pub(crate) fn has_failed<T>(written: &Result<T, Refusal>) -> bool
     ensures { Decides result (written.now ≡ Err device) }
 {
     matches!(written, Err(Refusal::Device))

@@ -1,5 +1,5 @@
 // One life of a keeper in a rehearsal: what each event of a script does in it.
-ghost use Rattle.std.specs.Prelude.{◌≡◌, ◌≤◌, ◌∷◌, [], false, None, Some, length, option_map, unwrap_or, ℕ, IfOk, IfErr, IfSome};
+ghost use Rattle.std.specs.Prelude.{◌≡◌, ◌≤◌, ◌∷◌, [], false, true, None, Some, length, option_map, unwrap_or, ℕ, IfOk, IfErr, IfSome};
 ghost use Rattle.std.specs.Option.{ForSome};
 ghost use Rattle.disk.specs.Stop.{armed_at};
 ghost use Rattle.disk.specs.declared.stoppable.Pick.{Pick as StopPick};
@@ -7,19 +7,20 @@ ghost use Rattle.pagereader.specs.Outcomes.{failures_told};
 ghost use Rattle.rows.specs.Kept.{IsWidth};
 ghost use Rattle.snapshot.specs.Groups.{default_width};
 ghost use Rattle.store.specs.Committing.{StandsTidily};
-ghost use Rattle.store.specs.Durable.{told_by};
-ghost use Rattle.machine.specs.declared.events.Event.TheVariants.{Submit, Task as TaskEvent, Publish, Ask};
+ghost use Rattle.store.specs.Durable.{told_by, is_calm};
+ghost use Rattle.machine.specs.declared.events.Event.TheVariants.{Submit, CheckpointStep, Task as TaskEvent, Publish, Ask};
 ghost use Rattle.machine.specs.declared.events.Replied.TheVariants.{Task as TaskOf};
 ghost use Rattle.machine.specs.Machine.{start};
-ghost use Rattle.machine.specs.Lives.{told_version, EndsCheckpoint, Writes, Does};
-ghost use Rattle.keeper.specs.Failures.{failures_after};
+ghost use Rattle.machine.specs.Lives.{told_version, told_part, Writes, Does};
+ghost use Rattle.keeper.specs.Failures.{failures_of_write, failures_after};
 ghost use Rattle.keeper.specs.Keeping.{Holds, sizes_of};
+ghost use Rattle.keeper.specs.Parts.{told_as};
 ghost use Rattle.keeper.specs.Rehearsing.{is_stop, IsLife};
 
 use crate::keepers::Keeper;
 use crate::tasks::Task;
 use disk::{Pick, Stoppable};
-use machine::{Event, PAGES_OF_STEP, Replied, Writing};
+use machine::{Event, Replied, StepPages, Writing};
 use relax::{CHUNK, Crew};
 use roadnet::{Command, OutOfMemory, Refusal};
 use rows::{Query, View};
@@ -49,6 +50,17 @@ pub(crate) fn told_version(written: &Result<u64, Refusal>) -> Replied
 {
     match written {
         Ok(version) => Replied::Durable { version: *version },
+        Err(refusal) => Replied::Refused { refusal: *refusal },
+    }
+}
+
+/// The reply to a step of a checkpoint.
+fn told_part(stepped: &Result<Part, Refusal>) -> Replied
+    ensures { result ≡ told_part (told_as stepped.now) }
+{
+    match stepped {
+        Ok(Part::Going) => Replied::Stepped,
+        Ok(Part::Done(version)) => Replied::Durable { version: *version },
         Err(refusal) => Replied::Refused { refusal: *refusal },
     }
 }
@@ -85,7 +97,7 @@ impl<D: Stoppable> Life<D> {
         store: Store<D>,
         delta: Option<u32>,
     ) -> Result<Life<D>, Store<D>>
-        requires calm { store.broken ≡ false }
+        requires calm { is_calm store ≡ true }
         requires width { ForSome delta IsWidth }
         ensures begins { IfOk result (λ life. life.keeper.machine ≡ start (sizes_of store.header) store.network store.version store.unchecked) }
         ensures life { IfOk result (λ life. IsLife life.keeper.machine life.opened (option_map (λ view. (view.value.version, view.value.network)) life.aside)) }
@@ -144,25 +156,21 @@ impl<D: Stoppable> Life<D> {
     {
         match writing {
             Writing::Flush => self.keeper.flush(),
-            Writing::Checkpoint => self.checkpoint(),
+            Writing::Checkpoint => self.keeper.checkpoint(),
         }
     }
 
-    /// Steps of a checkpoint until it is done. So far the first step writes the whole checkpoint.
-    fn checkpoint(&mut self) -> Result<u64, Refusal>
+    /// A step of a checkpoint.
+    fn step(&mut self, pages: StepPages) -> Replied
         requires life { IsLife self.old.keeper.machine self.old.opened (option_map (λ view. (view.value.version, view.value.network)) self.old.aside) }
-        ensures does { EndsCheckpoint self.old.keeper.machine self.old.keeper.machine.sizes.slot_pages result self.new.keeper.machine }
+        ensures does { Does {P = StopPick} self.old.keeper.machine (CheckpointStep pages) (result ∷ []) self.new.keeper.machine }
         ensures life { IsLife self.new.keeper.machine self.new.opened (option_map (λ view. (view.value.version, view.value.network)) self.new.aside) }
         ensures delta { self.new.delta ≡ self.old.delta }
         ensures holds { D.honest self.old.keeper.disk → Holds (D.content self.old.keeper.disk) (D.left self.old.keeper.disk) self.old.keeper.machine self.old.keeper.standing → Holds (D.content self.new.keeper.disk) (D.left self.new.keeper.disk) self.new.keeper.machine self.new.keeper.standing }
         ensures honest { D.honest self.old.keeper.disk → D.honest self.new.keeper.disk }
-        ensures counted { D.failures self.new.keeper.disk ≡ failures_told result (D.failures self.old.keeper.disk) }
+        ensures counted { D.failures self.new.keeper.disk ≡ failures_of_write (result ∷ []) (D.failures self.old.keeper.disk) }
     {
-        match self.keeper.checkpoint_step(PAGES_OF_STEP) {
-            Ok(Part::Done(version)) => Ok(version),
-            Ok(Part::Going) => unreachable!(),
-            Err(refusal) => Err(refusal),
-        }
+        told_part(&self.keeper.checkpoint_step(pages.number()))
     }
 
     /// A task is taken, and its view is built and kept aside. A task whose view finds no memory is given up.
@@ -279,6 +287,7 @@ impl<D: Stoppable> Life<D> {
             Event::Submit { command } => self.submit(*command),
             Event::Flush => told_version(&self.write(Writing::Flush)),
             Event::Checkpoint => told_version(&self.write(Writing::Checkpoint)),
+            Event::CheckpointStep { pages } => self.step(*pages),
             Event::Task => self.task(rt, alloc),
             Event::Publish => self.publish(),
             Event::Ask { query } => self.ask(rt, *query),

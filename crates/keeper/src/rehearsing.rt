@@ -11,7 +11,7 @@ ghost use Rattle.rows.specs.Kept.{IsWidth};
 ghost use Rattle.roadnet.specs.declared.refusals.Refusal.TheVariants.{OutOfMemory as out_of_memory, Device as device};
 ghost use Rattle.storefile.specs.StoreFile.{StandsTidyFor};
 ghost use Rattle.store.specs.Committing.{StandsTidily};
-ghost use Rattle.store.specs.Durable.{told_by};
+ghost use Rattle.store.specs.Durable.{told_by, is_calm};
 ghost use Rattle.store.specs.Opening.{IsPassing, StandsForSome};
 ghost use Rattle.machine.specs.declared.events.Event.{Event as ScriptEvent};
 ghost use Rattle.machine.specs.declared.events.Event.TheVariants.{Stop};
@@ -393,7 +393,7 @@ pub fn rehearse<R: Threads, D: Stoppable>(
     delta: Option<u32>,
     events: &[Event<Pick>],
 ) -> Rehearsal<D>
-    requires calm { store.broken ≡ false }
+    requires calm { is_calm store ≡ true }
     requires width { ForSome delta IsWidth }
     // The run is one of the lives of the store's network and version, and a stop now leaves of the disk what its last state says.
     ensures lives { D.honest store.disk → StandsTidily (D.content store.disk) (told_by store) → LivesOn (StandsTidyFor store.header.journal_pages) (D.left result.disk) (sizes_of store.header) store.network store.version store.unchecked events.now result.replies.items result.ended result.history.items }

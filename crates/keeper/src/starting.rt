@@ -1,11 +1,11 @@
 // A keeper begun, armed and ended.
-ghost use Rattle.std.specs.Prelude.{◌≡◌, ◌≤◌, ◌↔◌, List, ℕ, false, unwrap_or, IfOk, IfErr};
+ghost use Rattle.std.specs.Prelude.{◌≡◌, ◌≤◌, ◌↔◌, List, ℕ, true, unwrap_or, IfOk, IfErr};
 ghost use Rattle.std.specs.Option.{ForSome};
 ghost use Rattle.disk.specs.Stop.{armed_at};
 ghost use Rattle.rows.specs.Kept.{IsWidth};
 ghost use Rattle.snapshot.specs.Groups.{default_width};
 ghost use Rattle.store.specs.Committing.{StandsTidily};
-ghost use Rattle.store.specs.Durable.{told_by};
+ghost use Rattle.store.specs.Durable.{told_by, is_calm};
 ghost use Rattle.machine.specs.Machine.{start};
 ghost use Rattle.keeper.specs.Keeping.{Holds, given_of, sizes_of};
 
@@ -58,7 +58,7 @@ impl<D: Disk> Keeper<D> {
         store: Store<D>,
         delta: Option<u32>,
     ) -> Result<Keeper<D>, (OutOfMemory, Store<D>)>
-        requires calm { store.broken ≡ false }
+        requires calm { is_calm store ≡ true }
         requires width { ForSome delta IsWidth }
         ensures begins { IfOk result (λ keeper. keeper.machine ≡ start (sizes_of store.header) store.network store.version store.unchecked) }
         ensures disk { IfOk result (λ keeper. keeper.disk ≡ store.disk) }

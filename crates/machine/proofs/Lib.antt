@@ -1,5 +1,5 @@
 pub mod Acknowledged
-pub mod AtOnce
+pub mod Checkpoints
 pub mod Examples
 pub mod InRun
 pub mod Keeping

@@ -11,7 +11,7 @@ use Rattle.rows.specs.declared.queries.Query.{Query}
 use Rattle.machine.specs.declared.calls.Ticket.{Ticket}
 use Rattle.machine.specs.declared.calls.Answer.{Answer}
 use Rattle.machine.specs.declared.events.Event.{Event}
-use Rattle.machine.specs.declared.events.Event.TheVariants.{Submit, Flush, Checkpoint, Task, Publish, Ask, Stop, StopWithin}
+use Rattle.machine.specs.declared.events.Event.TheVariants.{Submit, Flush, Checkpoint, CheckpointStep, Task, Publish, Ask, Stop, StopWithin}
 use Rattle.machine.specs.declared.events.Writing.{Writing}
 use Rattle.machine.specs.declared.events.Writing.TheVariants.{Flush as a_flush, Checkpoint as a_checkpoint}
 use Rattle.machine.specs.declared.events.Replied.{Replied}
@@ -20,7 +20,7 @@ use Rattle.machine.specs.Machine.{Machine, IsState, start, latest, commands_to}
 use Rattle.machine.specs.Calls.{Submits, Flushes, Asks, IsTicketOf, with_command}
 use Rattle.machine.specs.Runs.{Happened, Step, Run, up_to}
 use Rattle.machine.specs.Runs.Happened.{Submitted, Flushed, Checkpointed, TookTask, Published, Asked, Stopped}
-use Rattle.machine.specs.Lives.{told_ticket, told_version, told_task, told_answer, pages_of_step, EndsCheckpoint, GoesOn, Writes, StopComes, Does, StopsFor, Turn, Passes, Ends}
+use Rattle.machine.specs.Lives.{told_ticket, told_version, told_part, told_task, told_answer, pages_of_step, EndsCheckpoint, GoesOn, Writes, StopComes, Does, StopsFor, Turn, Passes, Ends}
 use Rattle.machine.specs.Lives.Ends.{Whole, NoMemory, NotOpened}
 use Rattle.machine.specs.Laws.{IsLater, IsAt, IsRightAfter}
 use Rattle.machine.specs.Headline.{left_by, held_behind, durable_by, acknowledged_with, acknowledged_in, IsRightReply, ScriptsAreRuns, AcknowledgedAreInHistory, StopsLeaveAcknowledged, AnswersAreRight}
@@ -77,6 +77,7 @@ calm_event : {P : Type 0} (e : Event P) (a b : Machine) (replies : List Replied)
 calm_event (Submit c) a b replies calm d = calm_one a b (Submitted c d.0) refl d.1
 calm_event Flush a b replies calm d = writes_run a_flush a b d.0 d.1
 calm_event Checkpoint a b replies calm d = writes_run a_checkpoint a b d.0 d.1
+calm_event (CheckpointStep pages) a b replies calm d = calm_one a b (Checkpointed pages.pages d.0) refl d.1
 calm_event Task a b replies calm d = calm_one a b (TookTask d.0) refl d.1
 calm_event Publish a b replies calm d = ⊎_elim (λ p. calm_one a b (Published p.0 p.1 (Ok p.0)) refl p.2) (λ n. ([], n.1, tt)) d
 calm_event (Ask query) a b replies calm d = calm_one a b (Asked query d.0) refl d.1
@@ -91,6 +92,7 @@ event_run (StopWithin call picks writing) a b replies d =
 event_run (Submit c) a b replies d = (Submitted c d.0 ∷ [], run_one a b (Submitted c d.0) d.1)
 event_run Flush a b replies d = let r = writes_run a_flush a b d.0 d.1 in (r.0, r.1)
 event_run Checkpoint a b replies d = let r = writes_run a_checkpoint a b d.0 d.1 in (r.0, r.1)
+event_run (CheckpointStep pages) a b replies d = (Checkpointed pages.pages d.0 ∷ [], run_one a b (Checkpointed pages.pages d.0) d.1)
 event_run Task a b replies d = (TookTask d.0 ∷ [], run_one a b (TookTask d.0) d.1)
 event_run Publish a b replies d = ⊎_elim (λ p. (Published p.0 p.1 (Ok p.0) ∷ [], run_one a b (Published p.0 p.1 (Ok p.0)) p.2)) (λ n. ([], n.1)) d
 event_run (Ask query) a b replies d = (Asked query d.0 ∷ [], run_one a b (Asked query d.0) d.1)
@@ -127,6 +129,7 @@ held_by_turn P (Submit c) a b replies held d all =
     go (Err refusal) step same = same
 held_by_turn P Flush a b replies held d all = held_calmly a b held (writes_run a_flush a b d.0 d.1) all
 held_by_turn P Checkpoint a b replies held d all = held_calmly a b held (writes_run a_checkpoint a b d.0 d.1) all
+held_by_turn P (CheckpointStep pages) a b replies held d all = held_calmly a b held (calm_one a b (Checkpointed pages.pages d.0) refl d.1) all
 held_by_turn P Task a b replies held d all = held_calmly a b held (calm_one a b (TookTask d.0) refl d.1) all
 held_by_turn P Publish a b replies held d all = held_calmly a b held (calm_event {P = P} Publish a b replies refl d) all
 held_by_turn P (Ask query) a b replies held d all = held_calmly a b held (calm_one a b (Asked query d.0) refl d.1) all
@@ -158,6 +161,7 @@ acked_by_turn (StopWithin call picks a_flush) a b replies held s d all =
 acked_by_turn (StopWithin call picks a_checkpoint) a b replies held s d all = tt
 acked_by_turn (Submit c) a b replies held s d all = tt
 acked_by_turn Checkpoint a b replies held s d all = tt
+acked_by_turn (CheckpointStep pages) a b replies held s d all = tt
 acked_by_turn Task a b replies held s d all = tt
 acked_by_turn Publish a b replies held s d all = tt
 acked_by_turn (Ask query) a b replies held s d all = tt
@@ -170,6 +174,7 @@ acked_by_end Stop a last replies held s stops all = tt
 acked_by_end (Submit c) a last replies held s stops all = absurd stops
 acked_by_end Flush a last replies held s stops all = absurd stops
 acked_by_end Checkpoint a last replies held s stops all = absurd stops
+acked_by_end (CheckpointStep pages) a last replies held s stops all = absurd stops
 acked_by_end Task a last replies held s stops all = absurd stops
 acked_by_end Publish a last replies held s stops all = absurd stops
 acked_by_end (Ask query) a last replies held s stops all = absurd stops
@@ -192,6 +197,11 @@ version_right m (Err refusal) = tt
 ticket_right : (m : Machine) (result : Result Ticket Refusal) → RightAt m (told_ticket result)
 ticket_right m (Ok t) = tt
 ticket_right m (Err refusal) = tt
+
+part_right : (m : Machine) (result : Result (Option ℕ) Refusal) → RightAt m (told_part result)
+part_right m (Ok None) = tt
+part_right m (Ok (Some version)) = tt
+part_right m (Err refusal) = tt
 
 task_right : (m : Machine) (result : Result (Option (ℕ × Net)) Refusal) → RightAt m (told_task result)
 task_right m (Ok None) = tt
@@ -217,6 +227,7 @@ turn_right : {P : Type 0} (e : Event P) (a b : Machine) (replies : List Replied)
 turn_right (Submit c) a b replies s d = one_right a (told_ticket d.0) replies d.2 (ticket_right a d.0)
 turn_right Flush a b replies s d = one_right a (told_version d.0) replies d.2 (version_right a d.0)
 turn_right Checkpoint a b replies s d = one_right a (told_version d.0) replies d.2 (version_right a d.0)
+turn_right (CheckpointStep pages) a b replies s d = one_right a (told_part d.0) replies d.2 (part_right a d.0)
 turn_right Task a b replies s d = one_right a (told_task d.0) replies d.2 (task_right a d.0)
 turn_right Publish a b replies s d = ⊎_elim (λ p. one_right a (Shown p.0) replies p.3 tt) (λ n. one_right a (Refused NoTask) replies n.2 tt) d
 turn_right (Ask query) a b replies s d = one_right a (told_answer query d.0) replies d.2 (answer_right a b query d.0 s d.1)
@@ -229,6 +240,7 @@ end_right (StopWithin call picks writing) a last replies stops = stop_right last
 end_right (Submit c) a last replies stops = absurd stops
 end_right Flush a last replies stops = absurd stops
 end_right Checkpoint a last replies stops = absurd stops
+end_right (CheckpointStep pages) a last replies stops = absurd stops
 end_right Task a last replies stops = absurd stops
 end_right Publish a last replies stops = absurd stops
 end_right (Ask query) a last replies stops = absurd stops
@@ -239,6 +251,7 @@ end_run (StopWithin call picks writing) a last replies stops = let run = stop_ru
 end_run (Submit c) a last replies stops = absurd stops
 end_run Flush a last replies stops = absurd stops
 end_run Checkpoint a last replies stops = absurd stops
+end_run (CheckpointStep pages) a last replies stops = absurd stops
 end_run Task a last replies stops = absurd stops
 end_run Publish a last replies stops = absurd stops
 end_run (Ask query) a last replies stops = absurd stops

@@ -1,4 +1,3 @@
-pub mod AtOnce
 pub mod Calls
 pub mod Headline
 pub mod Keeping

@@ -9,11 +9,11 @@ use Rattle.rows.specs.declared.queries.Query.{Query}
 use Rattle.machine.specs.declared.calls.Ticket.{Ticket}
 use Rattle.machine.specs.declared.calls.Answer.{Answer}
 use Rattle.machine.specs.declared.events.Event.{Event}
-use Rattle.machine.specs.declared.events.Event.TheVariants.{Submit, Flush, Checkpoint, Task, Publish, Ask, Stop, StopWithin}
+use Rattle.machine.specs.declared.events.Event.TheVariants.{Submit, Flush, Checkpoint, CheckpointStep, Task, Publish, Ask, Stop, StopWithin}
 use Rattle.machine.specs.declared.events.Writing.{Writing}
 use Rattle.machine.specs.declared.events.Writing.TheVariants.{Flush as a_flush, Checkpoint as a_checkpoint}
 use Rattle.machine.specs.declared.events.Replied.{Replied}
-use Rattle.machine.specs.declared.events.Replied.TheVariants.{Accepted, Durable, Task as TaskOf, Shown, Answered, Refused, Opened, Stopped}
+use Rattle.machine.specs.declared.events.Replied.TheVariants.{Accepted, Durable, Stepped, Task as TaskOf, Shown, Answered, Refused, Opened, Stopped}
 use Rattle.machine.specs.Machine.{Sizes, Machine, start, commands_to, network_at}
 use Rattle.machine.specs.Calls.{Submits, Flushes, StepsCheckpoint, TakesTask, Publishes, Asks, IsLeft, StopsAndOpens}
 
@@ -26,6 +26,12 @@ told_ticket (Err refusal) = Refused refusal
 abbrev pub told_version : Result ℕ Refusal → Replied
 told_version (Ok version) = Durable version
 told_version (Err refusal) = Refused refusal
+
+-- a step of a checkpoint answers the version that is done, or nothing while it is going
+abbrev pub told_part : Result (Option ℕ) Refusal → Replied
+told_part (Ok None) = Stepped
+told_part (Ok (Some version)) = Durable version
+told_part (Err refusal) = Refused refusal
 
 abbrev pub told_task : Result (Option (ℕ × Net)) Refusal → Replied
 told_task (Ok None) = Refused NoTask
@@ -72,6 +78,7 @@ abbrev pub Does : {P : Type 0} → Machine → Event P → List Replied → Mach
 Does old (Submit command) replies new = (result : Result Ticket Refusal) × Submits old command result new × (replies ≡ told_ticket result ∷ [])
 Does old Flush replies new = WritesAndTells old a_flush replies new
 Does old Checkpoint replies new = WritesAndTells old a_checkpoint replies new
+Does old (CheckpointStep pages) replies new = (result : Result (Option ℕ) Refusal) × StepsCheckpoint old pages.pages result new × (replies ≡ told_part result ∷ [])
 -- a task whose view finds no memory is given up, so that nothing has changed
 Does old Task replies new = (result : Result (Option (ℕ × Net)) Refusal) × TakesTask old result new × (replies ≡ told_task result ∷ [])
 -- the view that is kept aside is that of the task that is out

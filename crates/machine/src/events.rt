@@ -1,4 +1,5 @@
 use crate::calls::Answer;
+use crate::pages::StepPages;
 use roadnet::{Command, Refusal};
 use rows::Query;
 
@@ -24,6 +25,10 @@ pub enum Event<P> {
     Flush,
     /// Steps of 64 pages, until the checkpoint is done.
     Checkpoint,
+    /// A step of a checkpoint.
+    CheckpointStep {
+        pages: StepPages,
+    },
     /// A task is taken, and its view built and kept aside.
     Task,
     /// The view that is kept aside is shown.
@@ -50,6 +55,8 @@ pub enum Replied {
     Accepted { number: u64 },
     /// After a flush: the versions up to this one are durable. After a checkpoint: the version that it holds.
     Durable { version: u64 },
+    /// After a step of a checkpoint: some of its pages are still to be written.
+    Stepped,
     /// A task of this version was taken.
     Task { version: u64 },
     /// This version is shown.

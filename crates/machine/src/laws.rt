@@ -1,4 +1,3 @@
-ghost use Rattle.machine.specs.AtOnce.{OneStepIsACheckpoint};
 ghost use Rattle.machine.specs.Headline.{AcknowledgedAreInHistory, AnswersAreRight, ScriptsAreRuns, StopsLeaveAcknowledged};
 ghost use Rattle.machine.specs.Laws.{StepsKeepStates, StartsAreStates, StepsTakeNothingBack, VersionsAreNetworks, AcknowledgedStay, AnswersStayRight};
 ghost use Rattle.machine.specs.LifeInRun.{LifeStepsAreRunSteps, StopsBeginLives};
@@ -9,7 +8,6 @@ pub fn laws_of_steps()
     ensures states { StepsKeepStates }
     ensures durable { StepsTakeNothingBack }
     ensures versions { VersionsAreNetworks }
-    ensures at_once { OneStepIsACheckpoint }
 {}
 
 /// What holds of each run, whatever is called and wherever it is stopped.

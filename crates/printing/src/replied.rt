@@ -49,6 +49,7 @@ pub fn put_reply<W: Write>(out: &mut CountedWriter<'_, W>, reply: &Replied) -> R
     match *reply {
         Replied::Accepted { number } => put_numbered(out, b"t ", number),
         Replied::Durable { version } => put_numbered(out, b"ok ", version),
+        Replied::Stepped => out.write_all(b"step\n"),
         Replied::Task { version } => put_numbered(out, b"task ", version),
         Replied::Shown { version } => put_numbered(out, b"shown ", version),
         Replied::Answered { query, answer } => {

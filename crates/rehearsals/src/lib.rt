@@ -10,4 +10,6 @@ pub use joint::{joint_counted, joint_text};
 pub use rehearsing::{rehearse_counted, rehearse_text};
 
 #[cfg(test)]
+mod step_tests;
+#[cfg(test)]
 mod tests;

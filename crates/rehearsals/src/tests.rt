@@ -466,3 +466,50 @@ fn replies_are_sent_out(rt: HostRuntime) {
     assert!(rt; joint_text(&rt, rt.alloc(), &mut text, None, &mut out) == Ok(Done { delta: None }));
     assert!(rt; out.sent.as_slice() == [9, 12].as_slice() && out.waiting == 0);
 }
+
+/// A network of two nodes and 2,047 arcs from 1 to 2, of length 5: three word pages.
+fn three_word_pages(rt: &(impl Abort + AllocGlobal)) -> Result<Vec<u8>, Fail> {
+    let mut text = Vec::new(rt.alloc());
+    text.extend_from_slice(b"p sp 2 2047\n")?;
+    for _ in 0..2047 {
+        text.extend_from_slice(b"a 1 2 5\n")?;
+    }
+    Ok(text)
+}
+
+#[test]
+fn steps_of_a_checkpoint(rt: HostRuntime) -> Result<(), Fail> {
+    let gr = three_word_pages(&rt)?;
+    let table: [(&str, &[u8], &[u8]); 6] = [
+        (
+            "flushes between steps",
+            b"close 1\nflush\nstep 1\nclose 2\nflush\nclose 3\nflush\nstep 64\nflush\nstop\ndist 1 2\n",
+            b"t 1\nok 1\nstep\nt 2\nok 2\nt 3\nno 44\nok 1\nok 3\nstopped\nv 3\nv 3\nd 1 2 5\n",
+        ),
+        (
+            "a stop forgets a checkpoint",
+            b"close 1\nflush\nstep 2\nstop\nstep 1\nstep 1\nstep 1\nstep 1\n",
+            b"t 1\nok 1\nstep\nstopped\nv 1\nstep\nstep\nok 1\nok 1\n",
+        ),
+        (
+            "checkpoint goes on",
+            b"close 1\nflush\nstep 1\nclose 2\nflush\ncheckpoint\nclose 3\nflush\nstep 3\nstep 1\n",
+            b"t 1\nok 1\nstep\nt 2\nok 2\nok 1\nt 3\nok 3\nok 3\nok 3\n",
+        ),
+        (
+            "a cut within a step of a going checkpoint",
+            b"close 1\nflush\nstep 1\nstop 1 165 checkpoint\nstep 64\nstop\n",
+            b"t 1\nok 1\nstep\nstopped\nv 1\nok 1\nstopped\nv 1\n",
+        ),
+        ("nothing unchecked", b"step 1\nstep 64\n", b"ok 0\nok 0\n"),
+        (
+            "as many pages as a slot has",
+            b"close 1\nflush\nstep 3\nstep 3\n",
+            b"t 1\nok 1\nok 1\nok 1\n",
+        ),
+    ];
+    for (name, script, want) in table {
+        is_rehearsed(&rt, name, &gr, 2, script, want);
+    }
+    Ok(())
+}

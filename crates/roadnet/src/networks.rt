@@ -233,7 +233,8 @@ impl Network {
 
     /// A network equal to this one, from the same allocator.
     pub fn copy(&self) -> Result<Network, OutOfMemory>
-        ensures { IfOk result (λ copy. copy ≡ self.now) }
+        ensures same { IfOk result (λ copy. copy ≡ self.now) }
+        ensures network { IfOk result IsNetwork }
     {
         let alloc = *self.landmarks.allocator();
         Ok(Network {

@@ -1,3 +1,4 @@
 pub mod ScriptEnds
 pub mod ScriptLines
+pub mod ScriptSteps
 pub mod ScriptStops

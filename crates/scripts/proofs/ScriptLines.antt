@@ -30,7 +30,7 @@ use Rattle.scripts.specs.declared.script_words.TwoNumbers.TheVariants.{Set, Dist
 use Rattle.scripts.specs.declared.script_words.Word.{Word}
 use Rattle.scripts.specs.declared.script_words.Word.TheVariants.{WithNone, WithOne, WithTwo}
 use Rattle.scripts.specs.declared.script_texts.EventLines.{EventLines}
-use Rattle.scripts.specs.ScriptTexts.{ScriptLine, as_line, line_of, lines_in, numbered, is_stop, script_line_code}
+use Rattle.scripts.specs.ScriptTexts.{ScriptLine, as_line, line_of, lines_in, numbered, is_stop, is_step, script_line_code}
 use Rattle.scripts.specs.ScriptReading.{spelling, words, word_from, bare_line, one_line, two_line, ReadsEvent, ReadsLine, HasEvents}
 
 -- ---- lines that say nothing
@@ -57,9 +57,9 @@ ignored earlier ((b ∷ bs) ∷ others) e =
 pub ignored_row : (row : Row) → (is_empty row || is_remark 35 row) ≡ true → ReadsLine row (Ok None)
 ignored_row row e = ((λ earlier. (ignored earlier row e).0), (ignored [] row e).1)
 
-pub unknown_row : (row : Row) → (is_empty row || is_remark 35 row) ≡ false → is_stop row ≡ false → form_of numbered row ≡ None → ReadsLine row (Err BadLine)
+pub unknown_row : (row : Row) → (is_empty row || is_remark 35 row) ≡ false → is_stop row ≡ false → is_step row ≡ false → form_of numbered row ≡ None → ReadsLine row (Err BadLine)
 unfolding script_line_code command_code
-unknown_row row e s f = λ earlier. rw (s, e, f) refl
+unknown_row row e s p f = λ earlier. rw (s, p, e, f) refl
 
 -- ---- the word of a field
 found_passes : {X : Type 0} (test : X → Bool) (xs : List X) (x : X) → find test xs ≡ Some x → test x ≡ true
@@ -77,7 +77,7 @@ none_first : {X : Type 0} (b : Bool) (x : X) (o : Option X) → cond b (Some x) 
 none_first true x o e = absurd (let absurdity : ⊥ = cc in absurdity)
 none_first false x o e = (refl, e)
 
-pub unspelled : (field : List ℕ) (others : Row) → word_from field ≡ None → (is_stop (field ∷ others) ≡ false) × (form_of numbered (field ∷ others) ≡ None)
+pub unspelled : (field : List ℕ) (others : Row) → word_from field ≡ None → (is_stop (field ∷ others) ≡ false) × (is_step (field ∷ others) ≡ false) × (form_of numbered (field ∷ others) ≡ None)
 unspelled field others e =
     let n1 = none_first (bytes_eq field (codes "flush")) _ _ e in
     let n2 = none_first (bytes_eq field (codes "checkpoint")) _ _ n1.1 in
@@ -92,31 +92,33 @@ unspelled field others e =
     let n11 = none_first (bytes_eq field (codes "from")) _ _ n10.1 in
     let n12 = none_first (bytes_eq field (codes "lower")) _ _ n11.1 in
     let n13 = none_first (bytes_eq field (codes "stop")) _ _ n12.1 in
-    (n13.0, rw (n1.0, n2.0, n3.0, n4.0, n5.0, n6.0, n7.0, n8.0, n9.0, n10.0, n11.0, n12.0) refl)
+    let n14 = none_first (bytes_eq field (codes "step")) _ _ n13.1 in
+    (n13.0, n14.0, rw (n1.0, n2.0, n3.0, n4.0, n5.0, n6.0, n7.0, n8.0, n9.0, n10.0, n11.0, n12.0) refl)
 
 -- ---- words with so many numbers behind them
 record IsForm (word : List ℕ) (n : ℕ) : Type 0 where
   plain : (numbers : Row) → (is_empty (word ∷ numbers) || is_remark 35 (word ∷ numbers)) ≡ false
   no_stop : (numbers : Row) → is_stop (word ∷ numbers) ≡ false
+  no_step : (numbers : Row) → is_step (word ∷ numbers) ≡ false
   formed : (numbers : Row) → form_of numbered (word ∷ numbers) ≡ Some (form word n)
 
 bare_form : (word : Bare) → IsForm (spelling (WithNone word)) 0
-bare_form Flush = record { plain = λ numbers. refl; no_stop = λ numbers. refl; formed = λ numbers. refl }
-bare_form Checkpoint = record { plain = λ numbers. refl; no_stop = λ numbers. refl; formed = λ numbers. refl }
-bare_form Task = record { plain = λ numbers. refl; no_stop = λ numbers. refl; formed = λ numbers. refl }
-bare_form Publish = record { plain = λ numbers. refl; no_stop = λ numbers. refl; formed = λ numbers. refl }
+bare_form Flush = record { plain = λ numbers. refl; no_stop = λ numbers. refl; no_step = λ numbers. refl; formed = λ numbers. refl }
+bare_form Checkpoint = record { plain = λ numbers. refl; no_stop = λ numbers. refl; no_step = λ numbers. refl; formed = λ numbers. refl }
+bare_form Task = record { plain = λ numbers. refl; no_stop = λ numbers. refl; no_step = λ numbers. refl; formed = λ numbers. refl }
+bare_form Publish = record { plain = λ numbers. refl; no_stop = λ numbers. refl; no_step = λ numbers. refl; formed = λ numbers. refl }
 
 one_form : (word : OneNumber) → IsForm (spelling (WithOne word)) 1
-one_form Close = record { plain = λ numbers. refl; no_stop = λ numbers. refl; formed = λ numbers. refl }
-one_form Reopen = record { plain = λ numbers. refl; no_stop = λ numbers. refl; formed = λ numbers. refl }
-one_form Mark = record { plain = λ numbers. refl; no_stop = λ numbers. refl; formed = λ numbers. refl }
-one_form Unmark = record { plain = λ numbers. refl; no_stop = λ numbers. refl; formed = λ numbers. refl }
+one_form Close = record { plain = λ numbers. refl; no_stop = λ numbers. refl; no_step = λ numbers. refl; formed = λ numbers. refl }
+one_form Reopen = record { plain = λ numbers. refl; no_stop = λ numbers. refl; no_step = λ numbers. refl; formed = λ numbers. refl }
+one_form Mark = record { plain = λ numbers. refl; no_stop = λ numbers. refl; no_step = λ numbers. refl; formed = λ numbers. refl }
+one_form Unmark = record { plain = λ numbers. refl; no_stop = λ numbers. refl; no_step = λ numbers. refl; formed = λ numbers. refl }
 
 two_form : (word : TwoNumbers) → IsForm (spelling (WithTwo word)) 2
-two_form Set = record { plain = λ numbers. refl; no_stop = λ numbers. refl; formed = λ numbers. refl }
-two_form Dist = record { plain = λ numbers. refl; no_stop = λ numbers. refl; formed = λ numbers. refl }
-two_form From = record { plain = λ numbers. refl; no_stop = λ numbers. refl; formed = λ numbers. refl }
-two_form Lower = record { plain = λ numbers. refl; no_stop = λ numbers. refl; formed = λ numbers. refl }
+two_form Set = record { plain = λ numbers. refl; no_stop = λ numbers. refl; no_step = λ numbers. refl; formed = λ numbers. refl }
+two_form Dist = record { plain = λ numbers. refl; no_stop = λ numbers. refl; no_step = λ numbers. refl; formed = λ numbers. refl }
+two_form From = record { plain = λ numbers. refl; no_stop = λ numbers. refl; no_step = λ numbers. refl; formed = λ numbers. refl }
+two_form Lower = record { plain = λ numbers. refl; no_stop = λ numbers. refl; no_step = λ numbers. refl; formed = λ numbers. refl }
 
 bare_made : (word : Bare) (numbers : Row) → line_of (spelling (WithNone word) ∷ numbers) ≡ Some (bare_line word)
 bare_made Flush numbers = refl
@@ -139,21 +141,21 @@ two_made Lower numbers = refl
 module _ (word : List ℕ) where
   malformed : (n : ℕ) (earlier : List Row) (numbers : Row) → IsForm word n → is_malformed n numbers ≡ true → script_line_code earlier (word ∷ numbers) ≡ Some BadLine
   unfolding script_line_code command_code
-  malformed n earlier numbers f e = rw (f.no_stop numbers, f.plain numbers, f.formed numbers, e) refl
+  malformed n earlier numbers f e = rw (f.no_stop numbers, f.no_step numbers, f.plain numbers, f.formed numbers, e) refl
 
   code_alone : (earlier : List Row) → IsForm word 0 → script_line_code earlier (word ∷ []) ≡ None
   unfolding script_line_code command_code
-  code_alone earlier f = rw (f.no_stop [], f.plain [], f.formed []) refl
+  code_alone earlier f = rw (f.no_stop [], f.no_step [], f.plain [], f.formed []) refl
 
   code_of_one : (earlier : List Row) (u : List ℕ) (a : Numeral) → IsForm word 1 → numeral u ≡ Some a
       → script_line_code earlier (word ∷ u ∷ []) ≡ cond (is_refused a) (Some NumberRange) None
   unfolding script_line_code command_code
-  code_of_one earlier u a f e = rw (f.no_stop (u ∷ []), f.plain (u ∷ []), f.formed (u ∷ []), e) (simp or-false)
+  code_of_one earlier u a f e = rw (f.no_stop (u ∷ []), f.no_step (u ∷ []), f.plain (u ∷ []), f.formed (u ∷ []), e) (simp or-false)
 
   code_of_two : (earlier : List Row) (u v : List ℕ) (a b : Numeral) → IsForm word 2 → numeral u ≡ Some a → numeral v ≡ Some b
       → script_line_code earlier (word ∷ u ∷ v ∷ []) ≡ cond (is_refused a || is_refused b) (Some NumberRange) None
   unfolding script_line_code command_code
-  code_of_two earlier u v a b f d e = rw (f.no_stop (u ∷ v ∷ []), f.plain (u ∷ v ∷ []), f.formed (u ∷ v ∷ []), d, e) (simp or-false)
+  code_of_two earlier u v a b f d e = rw (f.no_stop (u ∷ v ∷ []), f.no_step (u ∷ v ∷ []), f.plain (u ∷ v ∷ []), f.formed (u ∷ v ∷ []), d, e) (simp or-false)
 
 -- ---- a word alone
 pub bare_says : (word : Bare) (rest : Row) (event : Event Pick) → rest ≡ [] → as_line event ≡ bare_line word → ReadsEvent (spelling (WithNone word) ∷ rest) (Ok event)

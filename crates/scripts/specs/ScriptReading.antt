@@ -25,12 +25,12 @@ use Rattle.scripts.specs.declared.script_words.OneNumber.TheVariants.{Close, Reo
 use Rattle.scripts.specs.declared.script_words.TwoNumbers.{TwoNumbers}
 use Rattle.scripts.specs.declared.script_words.TwoNumbers.TheVariants.{Set, Dist, From, Lower}
 use Rattle.scripts.specs.declared.script_words.Word.{Word}
-use Rattle.scripts.specs.declared.script_words.Word.TheVariants.{WithNone, WithOne, WithTwo, Stop}
+use Rattle.scripts.specs.declared.script_words.Word.TheVariants.{WithNone, WithOne, WithTwo, Stop, Step}
 use Rattle.scripts.specs.declared.script_stops.Cut.{Cut}
 use Rattle.scripts.specs.declared.script_texts.Kind.{Kind}
 use Rattle.scripts.specs.declared.script_texts.Kind.TheVariants.{Ignored, Known, Unknown}
 use Rattle.scripts.specs.declared.script_texts.EventLines.{EventLines}
-use Rattle.scripts.specs.ScriptTexts.{ScriptLine, CommandLine, FlushLine, CheckpointLine, TaskLine, PublishLine, QueryLine, as_line, line_of, lines_in, numbered, is_stop, is_no_call, is_no_byte, script_line_code}
+use Rattle.scripts.specs.ScriptTexts.{ScriptLine, CommandLine, FlushLine, CheckpointLine, TaskLine, PublishLine, QueryLine, as_line, line_of, lines_in, numbered, is_stop, is_step, is_no_call, is_no_byte, script_line_code}
 
 -- WORDS
 
@@ -48,9 +48,10 @@ spelling (WithTwo Dist) = codes "dist"
 spelling (WithTwo From) = codes "from"
 spelling (WithTwo Lower) = codes "lower"
 spelling Stop = codes "stop"
+spelling Step = codes "step"
 
 abbrev pub words : List Word
-words = WithNone Flush ∷ WithNone Checkpoint ∷ WithNone Task ∷ WithNone Publish ∷ WithOne Close ∷ WithOne Reopen ∷ WithOne Mark ∷ WithOne Unmark ∷ WithTwo Set ∷ WithTwo Dist ∷ WithTwo From ∷ WithTwo Lower ∷ Stop ∷ []
+words = WithNone Flush ∷ WithNone Checkpoint ∷ WithNone Task ∷ WithNone Publish ∷ WithOne Close ∷ WithOne Reopen ∷ WithOne Mark ∷ WithOne Unmark ∷ WithTwo Set ∷ WithTwo Dist ∷ WithTwo From ∷ WithTwo Lower ∷ Stop ∷ Step ∷ []
 
 -- the word that a field spells
 abbrev pub word_from : List ℕ → Option Word
@@ -59,7 +60,7 @@ word_from field = find (λ word. bytes_eq field (spelling word)) words
 abbrev pub IsKind : Row → Kind → Type 0
 IsKind row Ignored = (is_empty row || is_remark 35 row) ≡ true
 IsKind row (Known word rest) = row ≡ spelling word ∷ fields rest.now
-IsKind row Unknown = ((is_empty row || is_remark 35 row) ≡ false) × (is_stop row ≡ false) × (form_of numbered row ≡ None)
+IsKind row Unknown = ((is_empty row || is_remark 35 row) ≡ false) × (is_stop row ≡ false) × (is_step row ≡ false) × (form_of numbered row ≡ None)
 
 -- what a word says with its numbers
 abbrev pub bare_line : Bare → ScriptLine

@@ -10,7 +10,7 @@ use Rattle.dimacs.specs.declared.fault.Code.TheVariants.{BadLine, NumberRange}
 use Rattle.dimacs.specs.Commands.{Form, form, commands, is_refused, command_code}
 use Rattle.dimacs.specs.Commanded.{command_from}
 use Rattle.dimacs.specs.Content.{size_at}
-use Rattle.dimacs.specs.Faults.{Row, Judge, has_first, item_fields, size_of, some_at}
+use Rattle.dimacs.specs.Faults.{Row, Judge, has_first, is_malformed, item_fields, size_of, some_at}
 use Rattle.dimacs.specs.Numerals.{numeral}
 use Rattle.dimacs.specs.Texts.{TextKind}
 use Rattle.disk.specs.declared.stoppable.Pick.{Pick}
@@ -18,7 +18,7 @@ use Rattle.disk.specs.declared.stoppable.Pick.TheVariants.{Old, New, Byte}
 use Rattle.rows.specs.declared.queries.Query.{Query}
 use Rattle.rows.specs.declared.queries.Query.TheVariants.{Dist, From, Lower}
 use Rattle.machine.specs.declared.events.Event.{Event}
-use Rattle.machine.specs.declared.events.Event.TheVariants.{Submit, Flush, Checkpoint, Task, Publish, Ask, Stop, StopWithin}
+use Rattle.machine.specs.declared.events.Event.TheVariants.{Submit, Flush, Checkpoint, CheckpointStep, Task, Publish, Ask, Stop, StopWithin}
 use Rattle.machine.specs.declared.events.Writing.{Writing}
 use Rattle.machine.specs.declared.events.Writing.TheVariants.{Flush as a_flush, Checkpoint as a_checkpoint}
 
@@ -29,6 +29,7 @@ pub data ScriptLine : Type 0 where
   CommandLine : (command : Command) → ScriptLine
   FlushLine : ScriptLine
   CheckpointLine : ScriptLine
+  StepLine : (pages : ℕ) → ScriptLine
   TaskLine : ScriptLine
   PublishLine : ScriptLine
   QueryLine : (query : Query) → ScriptLine
@@ -40,6 +41,7 @@ abbrev pub as_line : Event Pick → ScriptLine
 as_line (Submit command) = CommandLine command
 as_line Flush = FlushLine
 as_line Checkpoint = CheckpointLine
+as_line (CheckpointStep pages) = StepLine pages.pages
 as_line Task = TaskLine
 as_line Publish = PublishLine
 as_line (Ask query) = QueryLine query
@@ -69,7 +71,8 @@ line_from word others = if bytes_eq word (codes "flush") then Some FlushLine
     else (if bytes_eq word (codes "from") then Some (QueryLine (From (size_at others 0) (size_at others 1)))
     else (if bytes_eq word (codes "lower") then Some (QueryLine (Lower (size_at others 0) (size_at others 1)))
     else (if bytes_eq word (codes "stop") then Some (stop_from others)
-    else option_map CommandLine (command_from word others))))))))
+    else (if bytes_eq word (codes "step") then Some (StepLine (size_at others 0))
+    else option_map CommandLine (command_from word others)))))))))
 
 -- the event of a line, if it has one
 abbrev pub line_of : Row → Option ScriptLine
@@ -88,6 +91,9 @@ numbered = commands ++ form (codes "flush") 0 ∷ form (codes "checkpoint") 0 �
 
 abbrev pub is_stop : Row → Bool
 is_stop row = has_first (λ first. bytes_eq first (codes "stop")) row
+
+abbrev pub is_step : Row → Bool
+is_step row = has_first (λ first. bytes_eq first (codes "step")) row
 
 -- `old`, `new` or a numeral
 abbrev pub is_pick : List ℕ → Bool
@@ -115,9 +121,20 @@ stop_applies others BadLine = not (are_of_stop others)
 stop_applies others NumberRange = some_at (λ is_none_such. is_none_such) (is_no_call ∷ is_no_byte ∷ []) others
 stop_applies others code = false
 
--- the code of a line: of `stop` lines by their table, of the others by that of command texts
+-- a step has 1 to 64 pages
+abbrev pub is_no_step : Numeral → Bool
+is_no_step n = is_refused n || ((n.size == 0) || nat_lt 64 n.size)
+
+-- The table of faults of a `step` line, by the fields behind `step`.
+abbrev pub step_applies : Row → Code → Bool
+step_applies others BadLine = is_malformed 1 others
+step_applies others NumberRange = some_at (λ is_none_such. is_none_such) (is_no_step ∷ []) others
+step_applies others code = false
+
+-- the code of a line: of `stop` and `step` lines by their tables, of the others by that of command texts
 unfoldable pub script_line_code : Judge
-script_line_code earlier row = if is_stop row then find (stop_applies (item_fields row)) (BadLine ∷ NumberRange ∷ []) else command_code numbered earlier row
+script_line_code earlier row = if is_stop row then find (stop_applies (item_fields row)) (BadLine ∷ NumberRange ∷ [])
+    else (if is_step row then find (step_applies (item_fields row)) (BadLine ∷ NumberRange ∷ []) else command_code numbered earlier row)
 
 -- nothing at the end of a script is a fault
 abbrev pub script_text : TextKind (List ScriptLine)

@@ -1,6 +1,7 @@
 //! The texts of scripts: command texts with the lines of further events.
 #![tactic(auto)]
 
+mod script_steps;
 mod script_stops;
 mod script_texts;
 mod script_words;

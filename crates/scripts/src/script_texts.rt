@@ -8,6 +8,7 @@ ghost use Rattle.dimacs.specs.Counts.{CountsFailures, IsSameReader, failed_calls
 ghost use Rattle.scripts.specs.ScriptTexts.{as_line, script_text};
 ghost use Rattle.scripts.specs.ScriptReading.{IsKind, spelling, ReadsEvent, ReadsLine};
 
+use crate::script_steps::step_event;
 use crate::script_stops::{is_refused, stop_event};
 use crate::script_words::{
     Bare, OneNumber, TwoNumbers, Word, bare_event, one_event, two_event, word_of,
@@ -117,6 +118,7 @@ fn read_event(alloc: Global, word: Word, rest: &[u8]) -> Result<Event<Pick>, Cod
         Word::WithOne(word) => read_one(word, rest),
         Word::WithTwo(word) => read_two(word, rest),
         Word::Stop => stop_event(alloc, rest),
+        Word::Step => step_event(rest),
     }
 }
 

@@ -42,6 +42,7 @@ pub(crate) enum Word {
     WithOne(OneNumber),
     WithTwo(TwoNumbers),
     Stop,
+    Step,
 }
 
 /// The word that a field spells.
@@ -86,6 +87,9 @@ pub(crate) fn word_of(field: &[u8]) -> Option<Word>
     }
     if field == b"stop".as_slice() {
         return Some(Word::Stop);
+    }
+    if field == b"step".as_slice() {
+        return Some(Word::Step);
     }
     None
 }

@@ -1,5 +1,5 @@
 -- What a commit leaves, and why it is refused.
-use Rattle.std.proofs.Common.{◌≡◌, ◌⊎◌, inl, inr, ⊎_elim, ℕ, ◌+◌, ◌*◌, ◌^◌, ◌<◌, ◌≤◌, Bool, true, false, cond, List, [], ◌∷◌, ◌++◌, length, Option, Some, None, refl, sym, ◌∙◌, ap, subst, arith, lit≤, length-append}
+use Rattle.std.proofs.Common.{◌≡◌, ◌⊎◌, inl, inr, ⊎_elim, ℕ, ◌+◌, ◌*◌, ◌^◌, ◌<◌, ◌≤◌, Bool, true, false, cond, List, [], ◌∷◌, ◌++◌, length, Option, Some, None, sym, ◌∙◌, ap, subst, arith, lit≤, length-append, refl}
 use Rattle.std.specs.Prelude.{is_none}
 use Rattle.std.specs.List.{All}
 use Rattle.std.proofs.lemmas.List.Elements.{All-weaker, recursion_from_All}
@@ -36,7 +36,7 @@ record_fits (Reopen k) fits = fits
 record_fits (Mark x) fits = fits
 record_fits (Unmark x) fits = fits
 
-records_fit : (commands : List Command) → All Fits commands → All IsRecord commands
+pub records_fit : (commands : List Command) → All Fits commands → All IsRecord commands
 records_fit commands fit = All-weaker Fits IsRecord record_fits commands fit
 
 -- ---- no command is refused as a disk is

@@ -1,13 +1,14 @@
 pub mod Afterwards
 pub mod Appended
 pub mod Applied
+pub mod Calm
 pub mod Checkpointed
 pub mod Committed
+pub mod GoingOn
 pub mod Growing
 pub mod LaidOut
 pub mod NewStore
 pub mod Refused
 pub mod Replayed
 pub mod Resting
-pub mod SlotWritten
 pub mod Steps

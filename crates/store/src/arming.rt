@@ -1,5 +1,6 @@
 // A store over a disk that a test can stop.
 ghost use Rattle.std.specs.Prelude.{◌≡◌, ◌↔◌, ◌≤◌, List, ℕ};
+ghost use Rattle.store.specs.Durable.{going_of};
 ghost use Rattle.disk.specs.Stop.{armed_at};
 
 use crate::store::Store;
@@ -26,6 +27,7 @@ impl<D: Stoppable> Store<D> {
         ensures epoch { self.new.epoch ≡ self.old.epoch }
         ensures next { self.new.next_sequence ≡ self.old.next_sequence }
         ensures unchecked { self.new.unchecked ≡ self.old.unchecked }
+        ensures going { going_of self.new ≡ going_of self.old }
         ensures broken { self.new.broken ≡ self.old.broken }
     {
         self.disk.arm(k);

@@ -1,5 +1,5 @@
 // Commands made durable, all of them or none.
-ghost use Rattle.std.specs.Prelude.{◌≡◌, ◌≢◌, ◌+◌, ◌≤◌, ◌↔◌, true, false, List, [], ℕ, length, Some, None, IfOk, OnOk, OnErr, IfErr, MatchResult};
+ghost use Rattle.std.specs.Prelude.{◌≡◌, ◌≢◌, ◌+◌, ◌≤◌, ◌↔◌, true, false, List, [], ℕ, length, Some, None, IfOk, OnOk, OnErr, IfErr, MatchResult, option_map};
 ghost use Rattle.disk.specs.Contents.{Only, Rose};
 ghost use Rattle.disk.specs.Moments.{LeavesOnly, AddsNothing};
 ghost use Rattle.roadnet.specs.Step.{after};
@@ -10,9 +10,11 @@ ghost use Rattle.storefile.specs.StoreFile.{StandsTidyFor};
 ghost use Rattle.storefile.specs.Standing.{IsBeforeOrAfter};
 ghost use Rattle.store.specs.Durable.{told_by};
 ghost use Rattle.store.specs.Committing.{refusal_of_commit, MayRefuseCommit, StandsTidily};
-ghost use Rattle.store.specs.Durable.{Leaves};
+ghost use Rattle.store.specs.Durable.{Leaves, going_of};
 ghost use Rattle.pages.specs.Limits.{most_commands};
+ghost use Rattle.store.specs.Going.{with_page_committed};
 
+use crate::going::count_page;
 use crate::store::Store;
 use disk::Disk;
 use journal::append_page;
@@ -38,6 +40,9 @@ impl<D: Disk> Store<D> {
         ensures unchecked { OnOk result (self.new.unchecked ≡ self.old.unchecked + 1) }
         ensures next { OnOk result (self.new.next_sequence ≡ self.old.next_sequence + 1) }
         ensures works { OnOk result (self.new.broken ≡ false) }
+        // A checkpoint that is going goes on, and counts the page.
+        ensures going { OnOk result (going_of self.new ≡ option_map with_page_committed (going_of self.old)) }
+        ensures same_going { OnErr result (going_of self.new ≡ going_of self.old) }
         ensures header { self.new.header ≡ self.old.header }
         ensures slot { self.new.slot ≡ self.old.slot }
         ensures epoch { self.new.epoch ≡ self.old.epoch }
@@ -90,6 +95,7 @@ impl<D: Disk> Store<D> {
         self.version += count;
         self.next_sequence += 1;
         self.unchecked += 1;
+        count_page(&mut self.going);
         Ok(self.version)
     }
 }

@@ -9,7 +9,7 @@ ghost use Rattle.pages.specs.Layout.{HeadOf, arc_pages, word_pages, page_number,
 ghost use Rattle.pagereader.specs.Outcomes.{failures_with};
 ghost use Rattle.storefile.specs.StoreFile.{part, StandsTidyFor};
 ghost use Rattle.storefile.specs.Standing.{IsTidyAt, standing_of};
-ghost use Rattle.store.specs.Durable.{told_by};
+ghost use Rattle.store.specs.Durable.{told_by, going_of};
 ghost use Rattle.store.specs.Created.{header_of, blank_page, page_of_arcs, page_of_words, new_page, IsLaidOut, first_pages, with_gate, so_far, IsInStep};
 
 use crate::batch::Batch;
@@ -138,6 +138,7 @@ pub fn create<D: Disk>(
     ensures journal_pages { IfOk result (λ store. store.header.journal_pages ≡ journal_pages) }
     ensures unchecked { IfOk result (λ store. store.unchecked ≡ 0) }
     ensures works { IfOk result (λ store. store.broken ≡ false) }
+    ensures none_going { IfOk result (λ store. going_of store ≡ None) }
     // The content stands for the network at version 0, is tidy, has so many journal pages, and is all that a stop may leave.
     ensures stands { D.honest disk → IfOk result (λ store. StandsTidyFor journal_pages (D.content store.disk) network.now 0) }
     ensures only { D.honest disk → IfOk result (λ store. Only (D.content store.disk) (D.left store.disk)) }
@@ -188,5 +189,6 @@ pub fn create<D: Disk>(
         next_sequence: 0,
         unchecked: 0,
         broken: false,
+        going: None,
     })
 }

@@ -3,9 +3,11 @@
 
 mod arming;
 mod batch;
+mod checkpoint_parts;
 mod checkpointing;
 mod commit;
 mod creation;
+mod going;
 mod header;
 mod opening;
 mod parts;
@@ -31,6 +33,8 @@ mod judge_tests;
 mod limit_tests;
 #[cfg(test)]
 mod opening_tests;
+#[cfg(test)]
+mod part_tests;
 #[cfg(test)]
 mod reuse_tests;
 #[cfg(test)]

@@ -9,7 +9,7 @@ ghost use Rattle.storefile.specs.Judging.{journal_from, opened};
 ghost use Rattle.storefile.specs.Standing.{HasFitNumbers, standing_of};
 ghost use Rattle.pagereader.specs.Outcomes.{failures_told, MayRefuse, MayEndOpening, failures_with};
 ghost use Rattle.checkpoint.specs.Loading.{head_of};
-ghost use Rattle.store.specs.Durable.{told_by};
+ghost use Rattle.store.specs.Durable.{told_by, going_of};
 ghost use Rattle.store.specs.Opening.{header_from, current_from, AreCarriedOut, IsPassing, MayRefuseToOpen, StandsForSome};
 
 use crate::header::read_header;
@@ -200,6 +200,7 @@ pub fn open<D: Disk>(alloc: Global, disk: D) -> Result<Store<D>, (Refusal, D)>
     ensures standing { D.honest disk → IfOk result (λ store. standing_of (D.content disk) ≡ Some (told_by store)) }
     ensures at_rest { D.honest disk → IfOk result (λ store. Only (D.content store.disk) (D.left store.disk)) }
     ensures works { IfOk result (λ store. store.broken ≡ false) }
+    ensures none_going { IfOk result (λ store. going_of store ≡ None) }
     // Nothing is written, and what a stop may leave is no more than it was.
     ensures same { D.honest disk → IfOk result (λ store. StaysSame D.content D.left D.moment D.left_since disk store.disk) }
     ensures handed_back { D.honest disk → IfErr result (λ refused. StaysSame D.content D.left D.moment D.left_since disk refused.1) }
@@ -237,5 +238,6 @@ pub fn open<D: Disk>(alloc: Global, disk: D) -> Result<Store<D>, (Refusal, D)>
         next_sequence,
         unchecked,
         broken: false,
+        going: None,
     })
 }

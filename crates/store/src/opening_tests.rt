@@ -7,7 +7,7 @@ use crate::judge_tests::{
 };
 use crate::{create, open};
 use disk::{Disk, DiskError, FailOnce, MemDisk};
-use roadnet::Refusal;
+use roadnet::{OutOfMemory, Refusal};
 use std::alloc::Global;
 
 const PAGE: usize = 4096;
@@ -93,10 +93,21 @@ fn failed_opening_is_opened(rt: HostRuntime) -> Result<(), Refusal> {
 
 // A disk in memory that takes none: it has a place for so many bytes, and fails past them.
 #[derive(Drop)]
-struct FixedDisk {
+pub struct FixedDisk {
     places: Vec<u8>,
     length: usize,
     failures: u64,
+}
+
+impl FixedDisk {
+    /// An empty disk with a place for so many bytes.
+    pub fn new(alloc: Global, size: usize) -> Result<FixedDisk, OutOfMemory> {
+        Ok(FixedDisk {
+            places: vec![in alloc; 0; size]?,
+            length: 0,
+            failures: 0,
+        })
+    }
 }
 
 fn fail(failures: &mut u64) -> DiskError
@@ -161,11 +172,7 @@ impl Disk for FixedDisk {
 fn allocations_fail_in_turn(rt: HostRuntime) -> Result<(), Refusal> {
     let alloc = rt.alloc();
     let network = six(alloc)?;
-    let empty = FixedDisk {
-        places: vec![in alloc; 0; 8 * PAGE]?,
-        length: 0,
-        failures: 0,
-    };
+    let empty = FixedDisk::new(alloc, 8 * PAGE)?;
     let disk = match create(alloc, empty, &network, 2) {
         Ok(store) => {
             assert!(rt; store.version() == 0 && store.network().arcs() == network.arcs());

@@ -1,7 +1,10 @@
-ghost use Rattle.std.specs.Prelude.{◌≡◌, false, not};
+ghost use Rattle.std.specs.Prelude.{◌≡◌, false, IfSome};
+ghost use Rattle.std.proofs.Props.{props};
 ghost use Rattle.storefile.specs.Standing.{HasFitNumbers};
 ghost use Rattle.store.specs.Resting.{IsAtRest};
+ghost use Rattle.store.specs.Going.{FitsStore, GoesOn};
 
+use crate::going::GoingCheckpoint;
 use disk::Disk;
 use pages::{Header, Slot};
 use roadnet::Network;
@@ -26,8 +29,12 @@ pub struct Store<D: Disk> {
     pub(crate) unchecked: u32,
     /// The disk failed in a write.
     pub(crate) broken: bool,
+    /// The checkpoint that is going.
+    pub(crate) going: Option<GoingCheckpoint>,
     ghost numbers: { HasFitNumbers header epoch version next_sequence unchecked },
     ghost rests: { broken ≡ false → D.honest disk → IsAtRest (D.content disk) (D.left disk) header },
+    ghost fits: { IfSome going (λ g. FitsStore header slot epoch version next_sequence unchecked g.next g.committed) } by { Prim.hlevel props },
+    ghost goes_on: { broken ≡ false → D.honest disk → ∥ IfSome going (λ g. GoesOn (D.content disk) header g.next g.frozen g.committed network version next_sequence) ∥₁ },
 }
 
 impl<D: Disk> Store<D> {
@@ -57,13 +64,6 @@ impl<D: Disk> Store<D> {
         ensures { result ≡ self.now.header.journal_pages }
     {
         self.header.journal_pages
-    }
-
-    /// Whether the store is not broken.
-    pub fn calm(&self) -> bool
-        ensures { result ≡ not self.now.broken }
-    {
-        !self.broken
     }
 
     /// The disk, of which no call is made.

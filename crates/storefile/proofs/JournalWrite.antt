@@ -1,5 +1,5 @@
 -- What a file stands for, where the page of the next sequence is written.
-use Rattle.std.proofs.Common.{◌≡◌, ⊎_elim, ℕ, ◌+◌, ◌≤◌, Bool, true, false, List, [], ◌∷◌, ◌++◌, length, Option, Some, refl, sym, ◌∙◌, ap, subst, arith, length-append, append_assoc}
+use Rattle.std.proofs.Common.{◌≡◌, ⊎_elim, ℕ, ◌+◌, ◌<◌, ◌≤◌, Bool, true, false, List, [], ◌∷◌, ◌++◌, length, Option, Some, refl, sym, ◌∙◌, ap, subst, arith, length-append, append_assoc}
 use Rattle.std.specs.Prelude.{◌==◌, ◌&&◌, option_and_then}
 use Rattle.std.specs.List.{flat_map}
 use Rattle.std.proofs.lemmas.Bool.{cases_eq}
@@ -13,10 +13,10 @@ use Rattle.pages.specs.declared.header.Header.{Header}
 use Rattle.pages.specs.Spelling.{SpelledEntry}
 use Rattle.pages.proofs.Entries.{entry_read}
 use Rattle.storefile.specs.StoreFile.{page, is_open, journal_page_at, Stored, Stores, Gives, first_field, is_standing, HasNoLaterPage, commands_of, next_sequence}
-use Rattle.storefile.specs.Standing.{with_commands}
+use Rattle.storefile.specs.Standing.{with_commands, LeadsTo}
 use Rattle.storefile.specs.Laws.{SameBut, ClosedPageMeansNothing, OpenPageIsOneMore}
 use Rattle.storefile.proofs.PageBytes.{same_but}
-use Rattle.storefile.proofs.Torn.{stores_same, stores_more}
+use Rattle.storefile.proofs.Torn.{stores_same, stores_more, journal_same, journal_more}
 
 -- no later page stands, where the page of the next sequence is closed
 pub later_closed : (pages pages' : ℕ → List ℕ) (h : Header) (next : ℕ) → SameBut (journal_page_at h next) pages pages' → is_open (pages' (journal_page_at h next)) ≡ false → HasNoLaterPage pages h next → HasNoLaterPage pages' h next
@@ -36,7 +36,7 @@ later_written pages pages' h next same first later = λ q le. ⊎_elim
     (λ there. subst (λ (p : List ℕ). (is_open p && (first_field p == q)) ≡ false) (sym (same (journal_page_at h q) there)) (later q (omega arith)))
     (cases_eq (journal_page_at h q) (journal_page_at h next))
 
-this_one : (f q : ℕ) → f ≡ q → (f == q) ≡ true
+pub this_one : (f q : ℕ) → f ≡ q → (f == q) ≡ true
 this_one f q is = grind (arith, nat_tests)
 
 -- ---- the commands of one page more
@@ -49,6 +49,18 @@ pub gives_more : (s : Stored) (net net' : Net) (version : ℕ) (commands : List 
 gives_more s net net' version commands gives goes = record {
   network = ap (after s.network) (flat-end s.unchecked commands) ∙ after_both s.network (commands_of s) commands ∙ ap (λ (o : Option Net). option_and_then (λ next. after next commands) o) gives.network ∙ goes;
   version_is = omega (arith, gives.version_is, ap length (flat-end s.unchecked commands), length-append (commands_of s) commands);
+}
+
+-- what journal pages lead to, with one page more
+pub leads_more : (pages pages' : ℕ → List ℕ) (h : Header) (from to to' : Net) (w r v q : ℕ) (behind : List (List Command)) (commands : List Command) → LeadsTo pages h from w r behind to v q
+    → SameBut (journal_page_at h q) pages pages' → q < r + h.journal_pages → is_standing pages' h q ≡ true
+    → SpelledEntry (pages' (journal_page_at h q)) (record { sequence = q; first_number = v + 1; commands = commands }) → after to commands ≡ Some to'
+    → LeadsTo pages' h from w r (behind ++ commands ∷ []) to' (v + length commands) (q + 1)
+leads_more pages pages' h from to to' w r v q behind commands leads same near stands spells goes = record {
+  held = journal_more pages' h r w q (v + 1) behind commands (journal_same pages pages' h r w q behind same (omega (arith, leads.next_is)) near leads.held) (omega (arith, leads.next_is)) (omega (arith, leads.version_is)) stands spells;
+  network = ap (after from) (flat-end behind commands) ∙ after_both from (flat_map (λ xs. xs) behind) commands ∙ ap (λ (o : Option Net). option_and_then (λ next. after next commands) o) leads.network ∙ goes;
+  version_is = omega (arith, leads.version_is, ap length (flat-end behind commands), length-append (flat_map (λ xs. xs) behind) commands);
+  next_is = omega (arith, leads.next_is, length-append behind (commands ∷ []));
 }
 
 -- ---- the laws

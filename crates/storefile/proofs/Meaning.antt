@@ -1,5 +1,6 @@
 -- What a file stands for, before and after a page of its journal is written.
-use Rattle.std.proofs.Common.{◌≡◌, inl, inr, ⊎_elim, ℕ, ◌+◌, ◌-◌, ◌*◌, ◌%◌, ◌^◌, ◌<◌, ◌≤◌, List, [], ◌∷◌, ◌++◌, length, Some, refl, sym, ◌∙◌, ap, subst, arith, length-append, length-take}
+use Rattle.std.proofs.Common.{◌≡◌, inl, inr, ⊎_elim, ℕ, ◌+◌, ◌-◌, ◌*◌, ◌%◌, ◌^◌, ◌<◌, ◌≤◌, true, List, [], ◌∷◌, ◌++◌, length, Some, refl, sym, ◌∙◌, ap, subst, arith, length-append, length-take}
+use Rattle.std.specs.Prelude.{◌&&◌, ◌==◌}
 use Rattle.std.specs.List.{AllByRecursion}
 use Rattle.std.proofs.Math.Nat.{mod-lt}
 use Rattle.disk.specs.Contents.{Only}
@@ -13,11 +14,11 @@ use Rattle.pages.specs.Contents.{Entry}
 use Rattle.pages.specs.Spelling.{body, zeros, page_of, entry_fields, entry_page, IsRecord, IsEntry, SpelledEntry, IsHeader}
 use Rattle.pages.specs.Layout.{page_count}
 use Rattle.pages.proofs.Padding.{length-zeros}
-use Rattle.pages.proofs.Entries.{length-fields}
-use Rattle.storefile.specs.StoreFile.{page, is_open, journal_page_at, StandsTidyBy}
+use Rattle.pages.proofs.Entries.{length-fields, entry_read}
+use Rattle.storefile.specs.StoreFile.{page, is_open, first_field, is_standing, journal_page_at, StandsTidyBy}
 use Rattle.storefile.specs.Standing.{IsStoredAs, IsTidyAt, IsBeforeOrAfter, with_commands}
 use Rattle.storefile.proofs.PageBytes.{shut_gate, body_front, gate_behind, written_outside, written_page}
-use Rattle.storefile.proofs.JournalWrite.{closed_page, open_page}
+use Rattle.storefile.proofs.JournalWrite.{closed_page, open_page, this_one}
 
 -- a page of few fields
 pub length-page_of : (fields : List ℕ) → length fields ≤ 4096 → length (page_of fields) ≡ 4096
@@ -32,6 +33,9 @@ pub page_within : (h : Header) (q size : ℕ) → IsHeader h → size ≡ 4096 *
 page_within h q size fits is =
     let lt : q % h.journal_pages < h.journal_pages = mod-lt q (omega (arith, fits.some_page)) in
     omega (arith, lt, is)
+
+stands_at : (p : List ℕ) (q : ℕ) → is_open p ≡ true → first_field p ≡ q → (is_open p && (first_field p == q)) ≡ true
+stands_at p q opened first = rw opened (this_one (first_field p) q first)
 
 -- a journal page that is written at the place of this sequence, by its body
 pub record IsPage (version next : ℕ) (commands : List Command) (b : List ℕ) : Type 0 where
@@ -49,6 +53,27 @@ pub is_page : (version next : ℕ) (commands : List Command) → version + lengt
     → IsPage version next commands (body (entry_page (record { sequence = next; first_number = version + 1; commands = commands })))
 is_page version next commands versions le some few each =
     record { fits = record { sequence_fits = omega arith; number_fits = omega arith; some_command = some; commands_to = few; each = each }; is = refl; versions = versions }
+
+-- the page that is written, whatever stands beside it
+module _ (old : List ℕ) (h : Header) (version next : ℕ) (commands : List Command) (b : List ℕ) (header : IsHeader h) (size : length old ≡ 4096 * page_count h) (wrote : IsPage version next commands b) where
+  fits_in : 4096 * journal_page_at h next + 4096 ≤ length old
+  fits_in = page_within h next (length old) header size
+
+  fills : length (b ++ 165 ∷ []) ≡ 4096
+  fills = omega (arith, length-append b (165 ∷ []), page_size version next commands b wrote)
+
+  pub page_outside : SameOutside (4096 * journal_page_at h next) 4096 old (with_page old (4096 * journal_page_at h next) b)
+  page_outside = written_outside (journal_page_at h next) old (b ++ 165 ∷ []) fits_in fills
+
+  the_page : page (with_page old (4096 * journal_page_at h next) b) (journal_page_at h next) ≡ b ++ 165 ∷ []
+  the_page = written_page (journal_page_at h next) old (b ++ 165 ∷ []) fits_in fills
+
+  pub page_spells : SpelledEntry (page (with_page old (4096 * journal_page_at h next) b) (journal_page_at h next)) (record { sequence = next; first_number = version + 1; commands = commands })
+  page_spells = record { fits = wrote.fits; spelled = ap body the_page ∙ body_front b 165 (page_size version next commands b wrote) ∙ wrote.is }
+
+  pub page_stands : is_standing (page (with_page old (4096 * journal_page_at h next) b)) h next ≡ true
+  page_stands = stands_at (page (with_page old (4096 * journal_page_at h next) b) (journal_page_at h next)) next (ap is_open the_page ∙ gate_behind b (page_size version next commands b wrote))
+      (entry_read (page (with_page old (4096 * journal_page_at h next) b) (journal_page_at h next)) (record { sequence = next; first_number = version + 1; commands = commands }) page_spells).sequence
 
 module _ (old : List ℕ) (h : Header) (slot : Slot) (epoch : ℕ) (net net' : Net) (version next unchecked : ℕ) (commands : List Command) (b : List ℕ)
     (held : IsStoredAs old h slot epoch net version next unchecked) (tidy : IsTidyAt old h next) (room : unchecked < h.journal_pages) (wrote : IsPage version next commands b) (goes : after net commands ≡ Some net') where

@@ -1,5 +1,5 @@
 -- What a file stands for, where the slot that is not current is written.
-use Rattle.std.proofs.Common.{◌≡◌, ◌⊎◌, inl, inr, ℕ, zero, suc, ◌+◌, ◌*◌, ◌^◌, ◌<◌, ◌≤◌, Bool, true, false, cond, List, [], ◌∷◌, ◌++◌, length, take, drop, map, Option, Some, None, refl, sym, ◌∙◌, ap, subst, arith, length-append, append_assoc}
+use Rattle.std.proofs.Common.{◌≡◌, ◌⊎◌, inl, inr, ℕ, zero, suc, ◌+◌, ◌*◌, ◌^◌, ◌<◌, ◌≤◌, Bool, true, false, cond, List, [], ◌∷◌, length, take, drop, map, Option, Some, None, refl, sym, ◌∙◌, ap, subst, arith}
 use Rattle.std.specs.Prelude.{◌==◌, ◌&&◌, is_none, option_and_then}
 use Rattle.std.specs.List.{flat_map}
 use Rattle.std.proofs.lemmas.List.{length-map}
@@ -8,7 +8,6 @@ use Rattle.roadnet.specs.declared.commands.Command.{Command}
 use Rattle.roadnet.specs.declared.commands.Command.TheVariants.{Set, Close, Reopen, Mark, Unmark}
 use Rattle.roadnet.specs.Net.{Net, update_nth}
 use Rattle.roadnet.specs.Step.{refusal_of, changed, step, after}
-use Rattle.roadnet.proofs.Stepped.{after_both}
 use Rattle.pages.specs.declared.header.Header.{Header}
 use Rattle.pages.specs.declared.content.Ends.{Ends}
 use Rattle.pages.specs.declared.content.Slot.{Slot}
@@ -17,8 +16,8 @@ use Rattle.pages.specs.Contents.{Head}
 use Rattle.pages.specs.Spelling.{SpelledHeader, SpelledArcs, SpelledWords, SpelledHead, SpelledEntry, ends_of, word_of}
 use Rattle.pages.specs.Layout.{places_in_use, arc_pages, word_pages, other, head_page_at, journal_start}
 use Rattle.pages.proofs.Heads.{head_read}
-use Rattle.storefile.specs.StoreFile.{page, part, is_open, journal_page_at, Stored, Stores, HoldsArcs, HoldsSlot, IsCurrent, HoldsJournal, Gives, first_field, is_standing, HasNoLaterPage, commands_of, next_sequence, head_of}
-use Rattle.storefile.specs.Standing.{with_checkpoint}
+use Rattle.storefile.specs.StoreFile.{page, part, is_open, journal_page_at, Stored, Stores, HoldsArcs, HoldsSlot, IsCurrent, HoldsJournal, first_field, is_standing, HasNoLaterPage, commands_of, next_sequence, head_of}
+use Rattle.storefile.specs.Standing.{with_other_slot, LeadsTo}
 use Rattle.storefile.specs.Laws.{ClosedSlotMeansNothing, OpenSlotIsCurrent}
 use Rattle.storefile.proofs.Names.{arc_page_at, word_page_at}
 use Rattle.storefile.proofs.Opening.{part-map}
@@ -170,91 +169,59 @@ arcs_of_frozen pages h net frozen same holds = record {
       (part-map ends_of (511 * i) 511 net.arcs ∙ ap (λ (es : List Ends). take 511 (drop (511 * i) es)) (sym same.ends) ∙ sym (part-map ends_of (511 * i) 511 frozen.arcs)) (holds.each i lt);
 }
 
--- ---- the journal behind the new slot
-
-flat-append : (xs ys : List (List Command)) → flat_map (λ cs. cs) (xs ++ ys) ≡ flat_map (λ cs. cs) xs ++ flat_map (λ cs. cs) ys
-flat-append [] ys = refl
-flat-append (cs ∷ xs) ys = ap (λ (l : List Command). cs ++ l) (flat-append xs ys) ∙ sym (append_assoc cs (flat_map (λ cs. cs) xs) (flat_map (λ cs. cs) ys))
-
-journal_behind : (pages : ℕ → List ℕ) (h : Header) (q v r n : ℕ) (xs ys : List (List Command)) → HoldsJournal pages h q v (xs ++ ys) → r ≡ q + length xs → n ≡ v + length (flat_map (λ cs. cs) xs) → HoldsJournal pages h r n ys
-journal_behind pages h q v r n [] ys holds e f =
-    let d : q ≡ r = omega arith in
-    let g : v ≡ n = omega arith in
-    subst (λ (k : ℕ). HoldsJournal pages h k n ys) d (subst (λ (k : ℕ). HoldsJournal pages h q k ys) g holds)
-journal_behind pages h q v r n (cs ∷ xs) ys holds e f =
-    journal_behind pages h (q + 1) (v + length cs) r n xs ys holds.2 (omega arith) (omega (arith, f, length-append cs (flat_map (λ cs. cs) xs)))
-
 -- ---- the new slot is current
 
 twice : (slot : Slot) → other (other slot) ≡ slot
 twice A = refl
 twice B = refl
 
-module _ (size : ℕ) (pages pages' : ℕ → List ℕ) (s : Stored) (frozen : Net) (epoch : ℕ) (checked rest : List (List Command)) (is : Stores size pages s) (same : SameBeside s.header (other s.slot) pages pages')
-    (opened : is_open (pages' (head_page_at s.header (other s.slot))) ≡ true) (split : s.unchecked ≡ checked ++ rest) (goes : after s.network (flat_map (λ cs. cs) checked) ≡ Some frozen) (later : s.epoch < epoch)
-    (holds : HoldsSlot pages' s.header (other s.slot) (record { epoch = epoch; version = s.version + length (flat_map (λ cs. cs) checked); next_sequence = s.sequence + length checked; landmarks = frozen.landmarks }) frozen) where
-  abbrev new : Stored
-  new = record { header = s.header; slot = other s.slot; epoch = epoch; version = s.version + length (flat_map (λ cs. cs) checked); sequence = s.sequence + length checked; network = frozen; unchecked = rest }
+-- The ends of the arcs are those of each network that leads to the same.
+same_ends : (net from to : Net) (cs ds : List Command) → after net cs ≡ Some to → after from ds ≡ Some to → SameEnds net from
+same_ends net from to cs ds goes leads =
+    let a = after_ends net to cs goes in
+    let b = after_ends from to ds leads in
+    record { nodes = sym b.nodes ∙ a.nodes; ends = sym b.ends ∙ a.ends }
 
-  small : s.header.nodes < 2 ^ 32
-  small = omega (arith, is.header.fits.nodes_to)
+pub leads_beside : (pages pages' : ℕ → List ℕ) (h : Header) (slot : Slot) (from net : Net) (w r v q : ℕ) (behind : List (List Command)) → SameBeside h (other slot) pages pages'
+    → LeadsTo pages h from w r behind net v q → LeadsTo pages' h from w r behind net v q
+leads_beside pages pages' h slot from net w r v q behind same leads = record {
+  held = journal_kept pages pages' h slot same r w behind leads.held;
+  network = leads.network;
+  version_is = leads.version_is;
+  next_is = leads.next_is;
+}
 
-  new_epoch : first_field (pages' (head_page_at s.header (other s.slot))) ≡ epoch
-  new_epoch = (head_read s.header.nodes (pages' (head_page_at s.header (other s.slot))) (record { epoch = epoch; version = s.version + length (flat_map (λ cs. cs) checked); next_sequence = s.sequence + length checked; landmarks = frozen.landmarks }) small holds.head_is).epoch
-
-  old_epoch : first_field (pages' (head_page_at s.header s.slot)) ≡ s.epoch
-  old_epoch = ap first_field (same_head_page pages pages' s.header s.slot same) ∙ (head_read s.header.nodes (pages (head_page_at s.header s.slot)) (head_of s) small is.held.head_is).epoch
-
-  greater : first_field (pages' (head_page_at s.header s.slot)) < first_field (pages' (head_page_at s.header (other s.slot)))
-  greater = omega (arith, new_epoch, old_epoch, later)
-
-  counts : length s.unchecked ≡ length checked + length rest
-  counts = ap length split ∙ length-append checked rest
-
-  all_commands : commands_of s ≡ flat_map (λ cs. cs) checked ++ flat_map (λ cs. cs) rest
-  all_commands = ap (flat_map (λ cs. cs)) split ∙ flat-append checked rest
-
-  total : length (commands_of s) ≡ length (flat_map (λ cs. cs) checked) + length (flat_map (λ cs. cs) rest)
-  total = ap length all_commands ∙ length-append (flat_map (λ cs. cs) checked) (flat_map (λ cs. cs) rest)
-
-  pub stores_new : HasNoLaterPage pages s.header (next_sequence s) → Stores size pages' new
-  stores_new tidy = record {
-    header = subst (λ (p : List ℕ). SpelledHeader p s.header) (sym (same_front pages pages' s.header s.slot same)) is.header;
-    opened = subst (λ (p : List ℕ). is_open p ≡ true) (sym (same_front pages pages' s.header s.slot same)) is.opened;
-    size_is = is.size_is;
-    arcs = arcs_of_frozen pages' s.header s.network frozen (after_ends s.network frozen (flat_map (λ cs. cs) checked) goes) (arcs_kept pages pages' s.header s.slot same s.network is.arcs);
-    current = record {
-      opened = opened;
-      above = λ o. subst (λ (t : Slot). first_field (pages' (head_page_at s.header t)) < first_field (pages' (head_page_at s.header (other s.slot)))) (sym (twice s.slot)) greater;
-    };
-    held = holds;
-    journal = journal_behind pages' s.header s.sequence s.version (s.sequence + length checked) (s.version + length (flat_map (λ cs. cs) checked)) checked rest
-        (subst (λ (css : List (List Command)). HoldsJournal pages' s.header s.sequence s.version css) split (journal_kept pages pages' s.header s.slot same s.sequence s.version s.unchecked is.journal)) refl refl;
-    few = omega (arith, is.few, counts);
-    longest = λ lt.
-        let e : next_sequence s ≡ s.sequence + length checked + length rest = omega (arith, counts) in
-        subst (λ (k : ℕ). is_standing pages' s.header k ≡ false) e (same_standing pages pages' s.header s.slot same (next_sequence s) ∙ tidy (next_sequence s) (omega arith));
-    versions_to = omega (arith, is.versions_to, total);
-  }
-
-  pub gives_new : (net : Net) (v : ℕ) → Gives s net v → Gives new net v
-  gives_new net v gives = record {
-    network = sym (ap (λ (o : Option Net). option_and_then (λ next. after next (flat_map (λ cs. cs) rest)) o) goes) ∙ sym (after_both s.network (flat_map (λ cs. cs) checked) (flat_map (λ cs. cs) rest)) ∙ ap (after s.network) (sym all_commands) ∙ gives.network;
-    version_is = omega (arith, gives.version_is, total);
-  }
-
-  pub next_new : next_sequence s ≡ s.sequence + length checked + length rest
-  next_new = omega (arith, counts)
-
-pub open_slot : OpenSlotIsCurrent
-open_slot file file' s net frozen v q epoch checked rest old outside opened split goes later holds =
+pub slot_leads_on : OpenSlotIsCurrent
+slot_leads_on file file' s net from v q epoch w r behind old outside opened later leads few holds =
     let same : SameBeside s.header (other s.slot) (page file) (page file') = outside_pages (head_page_at s.header (other s.slot)) (word_pages s.header + 1) file file' outside in
-    let tidy : HasNoLaterPage (page file) s.header (next_sequence s) = subst (λ (k : ℕ). HasNoLaterPage (page file) s.header k) old.stands.next_is old.tidy in
+    let is = old.stands.is in
+    let gives = old.stands.gives in
+    let small : s.header.nodes < 2 ^ 32 = omega (arith, is.header.fits.nodes_to) in
+    let new_epoch : first_field (page file' (head_page_at s.header (other s.slot))) ≡ epoch =
+    (head_read s.header.nodes (page file' (head_page_at s.header (other s.slot))) (head_of (with_other_slot s epoch from w r behind)) small holds.head_is).epoch in
+    let old_epoch : first_field (page file' (head_page_at s.header s.slot)) ≡ s.epoch =
+    ap first_field (same_head_page (page file) (page file') s.header s.slot same) ∙ (head_read s.header.nodes (page file (head_page_at s.header s.slot)) (head_of s) small is.held.head_is).epoch in
+    let greater : first_field (page file' (head_page_at s.header s.slot)) < first_field (page file' (head_page_at s.header (other s.slot))) = omega (arith, new_epoch, old_epoch, later) in
+    let stores : Stores (length file) (page file') (with_other_slot s epoch from w r behind) = record {
+      header = subst (λ (p : List ℕ). SpelledHeader p s.header) (sym (same_front (page file) (page file') s.header s.slot same)) is.header;
+      opened = subst (λ (p : List ℕ). is_open p ≡ true) (sym (same_front (page file) (page file') s.header s.slot same)) is.opened;
+      size_is = is.size_is;
+      arcs = arcs_of_frozen (page file') s.header s.network from (same_ends s.network from net (commands_of s) (flat_map (λ cs. cs) behind) gives.network leads.network) (arcs_kept (page file) (page file') s.header s.slot same s.network is.arcs);
+      current = record {
+        opened = opened;
+        above = λ o. subst (λ (t : Slot). first_field (page file' (head_page_at s.header t)) < first_field (page file' (head_page_at s.header (other s.slot)))) (sym (twice s.slot)) greater;
+      };
+      held = holds;
+      journal = journal_kept (page file) (page file') s.header s.slot same r w behind leads.held;
+      few = few;
+      longest = λ lt. subst (λ (k : ℕ). is_standing (page file') s.header k ≡ false) leads.next_is (same_standing (page file) (page file') s.header s.slot same q ∙ old.tidy q (omega arith));
+      versions_to = omega (arith, is.versions_to, gives.version_is, leads.version_is);
+    } in
     record {
       stands = record {
-        is = subst (λ (n : ℕ). Stores n (page file') (with_checkpoint s epoch frozen checked rest)) (sym outside.same_length) (stores_new (length file) (page file) (page file') s frozen epoch checked rest old.stands.is same opened split goes later holds tidy);
-        gives = gives_new (length file) (page file) (page file') s frozen epoch checked rest old.stands.is same opened split goes later holds net v old.stands.gives;
-        next_is = old.stands.next_is ∙ next_new (length file) (page file) (page file') s frozen epoch checked rest old.stands.is same opened split goes later holds;
+        is = subst (λ (n : ℕ). Stores n (page file') (with_other_slot s epoch from w r behind)) (sym outside.same_length) stores;
+        gives = record { network = leads.network; version_is = leads.version_is };
+        next_is = leads.next_is;
       };
       tidy = tidy_beside (page file) (page file') s.header s.slot q same old.tidy;
     }

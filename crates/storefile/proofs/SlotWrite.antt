@@ -1,15 +1,14 @@
 -- What a file stands for, while the slot that is not current is written, by what its store says of it.
-use Rattle.std.proofs.Common.{◌≡◌, ℕ, ◌+◌, ◌*◌, ◌<◌, true, List, [], ◌∷◌, ◌++◌, length, sym, ◌∙◌, ap, subst, arith, append-nil, append_assoc}
-use Rattle.disk.specs.Gated.{SameOutside, IsShut}
-use Rattle.roadnet.specs.declared.commands.Command.{Command}
+use Rattle.std.proofs.Common.{ℕ, ◌+◌, ◌*◌, List, sym, subst}
+use Rattle.disk.specs.Gated.{IsShut}
 use Rattle.roadnet.specs.Net.{Net}
 use Rattle.pages.specs.declared.header.Header.{Header}
 use Rattle.pages.specs.declared.content.Slot.{Slot}
 use Rattle.pages.specs.Layout.{HeadOf, other, word_pages, page_number}
-use Rattle.storefile.specs.StoreFile.{page, is_open, Stored, HoldsSlot, StandsBy, StandsTidyBy}
-use Rattle.storefile.specs.Standing.{IsStoredAs, IsTidyAt, IsFrozen, with_commands, with_checkpoint}
+use Rattle.storefile.specs.StoreFile.{StandsTidyBy}
+use Rattle.storefile.specs.Standing.{IsStoredAs, IsTidyAt}
 use Rattle.storefile.proofs.PageBytes.{shut_gate}
-use Rattle.storefile.proofs.OtherSlot.{closed_slot, open_slot}
+use Rattle.storefile.proofs.OtherSlot.{closed_slot}
 
 -- the pages of a slot: where they begin, and how many bytes they have
 abbrev pub slot_at : Header → Slot → ℕ
@@ -33,37 +32,3 @@ slot_stays old c h slot epoch net version next unchecked held tidy shut =
       record { stored = held.stored; stands = still.stands; header_is = held.header_is; slot_is = held.slot_is; epoch_is = held.epoch_is; unchecked_is = held.unchecked_is },
       subst (λ (x : Header). IsTidyAt c x next) held.header_is still.tidy,
     )
-
--- What the file stands for is frozen now.
-pub frozen_now : (file : List ℕ) (s : Stored) (net : Net) (version next : ℕ) → StandsBy file s net version next → IsFrozen s net version next
-frozen_now file s net version next stands = record {
-  checked = s.unchecked;
-  rest = [];
-  split = sym (append-nil s.unchecked);
-  goes = stands.gives.network;
-  version_is = stands.gives.version_is;
-  next_is = stands.next_is;
-}
-
--- What was frozen stays so, when a page more is written.
-pub frozen_stays : (s : Stored) (frozen : Net) (version next : ℕ) (commands : List Command) → IsFrozen s frozen version next → IsFrozen (with_commands s commands) frozen version next
-frozen_stays s frozen version next commands is = record {
-  checked = is.checked;
-  rest = is.rest ++ commands ∷ [];
-  split = ap (λ (xs : List (List Command)). xs ++ commands ∷ []) is.split ∙ append_assoc is.checked is.rest (commands ∷ []);
-  goes = is.goes;
-  version_is = is.version_is;
-  next_is = is.next_is;
-}
-
--- Once the other slot is open with a greater epoch and holds what was frozen, it is current, and the file stands for the same. The pages
--- unchecked are those from the frozen next sequence on.
-pub slot_taken : (old c : List ℕ) (s : Stored) (net frozen : Net) (version next epoch w q : ℕ) → StandsTidyBy old s net version next → (is : IsFrozen s frozen w q) → s.epoch < epoch
-    → SameOutside (slot_at s.header (other s.slot)) (slot_size s.header) old c → is_open (page c (page_number s.header (HeadOf (other s.slot)))) ≡ true
-    → HoldsSlot (page c) s.header (other s.slot) (record { epoch = epoch; version = w; next_sequence = q; landmarks = frozen.landmarks }) frozen
-    → StandsTidyBy c (with_checkpoint s epoch frozen is.checked is.rest) net version next × (next ≡ q + length is.rest)
-slot_taken old c s net frozen version next epoch w q by is later outside opened holds =
-    let head = subst (λ (n : ℕ). HoldsSlot (page c) s.header (other s.slot) (record { epoch = epoch; version = n; next_sequence = s.sequence + length is.checked; landmarks = frozen.landmarks }) frozen) is.version_is
-    (subst (λ (n : ℕ). HoldsSlot (page c) s.header (other s.slot) (record { epoch = epoch; version = w; next_sequence = n; landmarks = frozen.landmarks }) frozen) is.next_is holds) in
-    let taken = open_slot old c s net frozen version next epoch is.checked is.rest by outside opened is.split is.goes later head in
-    (taken, omega (arith, taken.stands.next_is, is.next_is))

@@ -41,7 +41,7 @@ journal_same pages pages' h q v next (cs ∷ css) same le near holds =
       journal_same pages pages' h (q + 1) (v + length cs) next css same (omega arith) (omega arith) holds.2,
     )
 
-head_below : (h : Header) (slot : Slot) → head_page_at h slot + word_pages h < journal_start h
+pub head_below : (h : Header) (slot : Slot) → head_page_at h slot + word_pages h < journal_start h
 head_below h A = omega arith
 head_below h B = omega arith
 
@@ -84,7 +84,7 @@ stores_same size pages pages' s is room same closed =
     stores_with size pages pages' s s.unchecked is same (journal_same pages pages' s.header s.sequence s.version (next_sequence s) s.unchecked same (omega arith) (omega arith) is.journal) is.few (λ lt. closed) is.versions_to
 
 -- one page more
-journal_more : (pages : ℕ → List ℕ) (h : Header) (q v r n : ℕ) (css : List (List Command)) (cs : List Command) → HoldsJournal pages h q v css → q + length css ≡ r → v + length (flat_map (λ xs. xs) css) + 1 ≡ n
+pub journal_more : (pages : ℕ → List ℕ) (h : Header) (q v r n : ℕ) (css : List (List Command)) (cs : List Command) → HoldsJournal pages h q v css → q + length css ≡ r → v + length (flat_map (λ xs. xs) css) + 1 ≡ n
     → is_standing pages h r ≡ true → SpelledEntry (pages (journal_page_at h r)) (record { sequence = r; first_number = n; commands = cs }) → HoldsJournal pages h q v (css ++ cs ∷ [])
 journal_more pages h q v r n [] cs holds e f stands spells =
     let d : r ≡ q = omega arith in

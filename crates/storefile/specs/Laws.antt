@@ -1,13 +1,13 @@
 -- What the definitions of a store file say together.
-use Rattle.std.specs.Prelude.{◌≡◌, ◌≢◌, ℕ, ◌+◌, ◌*◌, ◌^◌, ◌<◌, ◌≤◌, ◌↔◌, true, false, List, ◌++◌, length, Some, None}
+use Rattle.std.specs.Prelude.{◌≡◌, ◌≢◌, ℕ, ◌+◌, ◌*◌, ◌^◌, ◌<◌, ◌≤◌, ◌↔◌, true, false, List, length, Some, None}
 use Rattle.disk.specs.Gated.{SameOutside}
 use Rattle.roadnet.specs.declared.commands.Command.{Command}
 use Rattle.roadnet.specs.Net.{Net, IsNetwork}
 use Rattle.roadnet.specs.Step.{after}
 use Rattle.pages.specs.Spelling.{SpelledEntry}
 use Rattle.pages.specs.Layout.{HeadOf, other, word_pages, page_number}
-use Rattle.storefile.specs.StoreFile.{page, is_open, joined, head_of, Stored, Stores, HoldsSlot, StandsFor, StandsTidyBy, journal_page_at}
-use Rattle.storefile.specs.Standing.{IsStoredAs, Standing, standing_of, with_commands, with_checkpoint}
+use Rattle.storefile.specs.StoreFile.{page, is_open, head_of, Stored, Stores, HoldsSlot, StandsFor, StandsTidyBy, journal_page_at}
+use Rattle.storefile.specs.Standing.{IsStoredAs, Standing, standing_of, with_commands, with_other_slot, LeadsTo}
 use Rattle.storefile.specs.Judging.{judged}
 use Rattle.pages.specs.Limits.{most_versions}
 
@@ -66,13 +66,13 @@ ClosedSlotMeansNothing =
     → is_open (page file' (page_number s.header (HeadOf (other s.slot)))) ≡ false
     → StandsTidyBy file' s net v q
 
--- Once that slot is open, with a greater epoch, and holds the network after the first journal pages, it is current, and the file stands for
--- the same by the pages that are left.
+-- Once that slot is open, with a greater epoch, and holds a network from which journal pages lead to what the file stands for, it is current,
+-- and the file stands for the same by those pages.
 abbrev pub OpenSlotIsCurrent : Type 0
 OpenSlotIsCurrent =
-    (file file' : List ℕ) (s : Stored) (net frozen : Net) (v q epoch : ℕ) (checked rest : List (List Command)) → StandsTidyBy file s net v q
+    (file file' : List ℕ) (s : Stored) (net from : Net) (v q epoch from_version from_next : ℕ) (behind : List (List Command)) → StandsTidyBy file s net v q
     → SameOutside (4096 * page_number s.header (HeadOf (other s.slot))) (4096 * (word_pages s.header + 1)) file file'
     → is_open (page file' (page_number s.header (HeadOf (other s.slot)))) ≡ true
-    → s.unchecked ≡ checked ++ rest → after s.network (joined checked) ≡ Some frozen → s.epoch < epoch
-    → HoldsSlot (page file') s.header (other s.slot) (head_of (with_checkpoint s epoch frozen checked rest)) frozen
-    → StandsTidyBy file' (with_checkpoint s epoch frozen checked rest) net v q
+    → s.epoch < epoch → LeadsTo (page file) s.header from from_version from_next behind net v q → length behind ≤ s.header.journal_pages
+    → HoldsSlot (page file') s.header (other s.slot) (head_of (with_other_slot s epoch from from_version from_next behind)) from
+    → StandsTidyBy file' (with_other_slot s epoch from from_version from_next behind) net v q

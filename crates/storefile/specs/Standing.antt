@@ -9,7 +9,7 @@ use Rattle.pages.specs.declared.content.Slot.{Slot}
 use Rattle.pages.specs.Contents.{Entry}
 use Rattle.pages.specs.Spelling.{IsHeader}
 use Rattle.pages.specs.Layout.{other}
-use Rattle.storefile.specs.StoreFile.{page, joined, Stored, StandsBy, StandsTidyFor, HasNoLaterPage, commands_of, next_sequence}
+use Rattle.storefile.specs.StoreFile.{page, joined, Stored, HoldsJournal, StandsBy, StandsTidyFor, HasNoLaterPage, commands_of, next_sequence}
 use Rattle.storefile.specs.Judging.{opened}
 use Rattle.pages.specs.Limits.{most_versions}
 
@@ -65,20 +65,19 @@ pub record HasFitNumbers (h : Header) (epoch version next unchecked : ℕ) : Typ
 abbrev pub with_commands : Stored → List Command → Stored
 with_commands s commands = record s { unchecked = s.unchecked ++ commands ∷ [] }
 
--- what is stored once the other slot holds this network, that after the first unchecked pages, at this epoch; the rest stays unchecked
-abbrev pub with_checkpoint : Stored → ℕ → Net → List (List Command) → List (List Command) → Stored
-with_checkpoint s epoch frozen checked rest =
-    record { header = s.header; slot = other s.slot; epoch = epoch; version = s.version + length (joined checked); sequence = s.sequence + length checked; network = frozen; unchecked = rest }
+-- what is stored once the other slot holds this network, at this epoch, version and next sequence, and the journal holds these pages
+-- behind it
+abbrev pub with_other_slot : Stored → ℕ → Net → ℕ → ℕ → List (List Command) → Stored
+with_other_slot s epoch network version sequence behind =
+    record { header = s.header; slot = other s.slot; epoch = epoch; version = version; sequence = sequence; network = network; unchecked = behind }
 
--- This network at this version, and this next sequence, are those of the slot with the first of the unchecked pages carried out: as the
--- file stood for them when a checkpoint began.
-pub record IsFrozen (s : Stored) (frozen : Net) (version next : ℕ) : Type 0 where
-  pub checked : List (List Command)
-  pub rest : List (List Command)
-  pub split : s.unchecked ≡ checked ++ rest
-  pub goes : after s.network (joined checked) ≡ Some frozen
-  pub version_is : version ≡ s.version + length (joined checked)
-  pub next_is : next ≡ s.sequence + length checked
+-- The journal holds these pages from one sequence on, and they lead from one network and version to another; the page that follows them has
+-- the last sequence.
+pub record LeadsTo (pages : ℕ → List ℕ) (h : Header) (from : Net) (from_version from_next : ℕ) (commands : List (List Command)) (to : Net) (version next : ℕ) : Type 0 where
+  pub held : HoldsJournal pages h from_next from_version commands
+  pub network : after from (joined commands) ≡ Some to
+  pub version_is : version ≡ from_version + length (joined commands)
+  pub next_is : next ≡ from_next + length commands
 
 -- the journal page that holds these commands behind what is stored
 abbrev pub entry_behind : Stored → List Command → Entry

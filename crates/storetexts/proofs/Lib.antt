@@ -7,4 +7,5 @@ pub mod Stepping
 pub mod Telling
 pub mod Remaining
 pub mod Beginning
+pub mod Checkpointed
 pub mod Unbegun

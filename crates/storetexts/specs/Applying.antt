@@ -1,5 +1,5 @@
 -- The commands of a text while they are applied: how the keeper's machine stands to what they came to.
-use Rattle.std.specs.Prelude.{◌≡◌, ◌⊎◌, ℕ, ◌≤◌, List, Option, None, All, length, take, Result, Ok, Err, ⊤}
+use Rattle.std.specs.Prelude.{◌≡◌, ◌⊎◌, ℕ, ◌≤◌, false, List, Option, None, All, length, take, Result, Ok, Err, ⊤}
 use Rattle.std.specs.Io.KnownBytes.{Appends}
 use Rattle.roadnet.specs.declared.commands.Command.{Command}
 use Rattle.roadnet.specs.declared.refusals.Refusal.{Refusal}
@@ -13,11 +13,11 @@ use Rattle.printing.specs.declared.failed.Failed.TheVariants.{Text, Code}
 use Rattle.storetexts.specs.Applied.{IfNotWrite}
 use Rattle.storetexts.specs.Outcomes.{ComesTo, accepted_in, outcome_lines}
 
--- a machine between two calls of one life, in which no checkpoint is going and whose journal has some page
+-- a machine between two calls of one life, in which no checkpoint is going while it is not broken, and whose journal has some page
 pub record IsSteady (m : Machine) : Type 0 where
   pub state : IsState m
   pub opened_is : m.opened ≡ m.base_version
-  pub none_going : m.checkpoint ≡ None
+  pub none_going : m.broken ≡ false → m.checkpoint ≡ None
   pub some_page : 1 ≤ m.sizes.journal_pages
 
 -- the command is durable at this version, or was refused

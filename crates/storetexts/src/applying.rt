@@ -20,14 +20,13 @@ use crate::outcomes::{Outcome, reply_of};
 use dimacs::{Counted, parse_commands, read_commands_counted};
 use disk::Disk;
 use keeper::Keeper;
-use machine::PAGES_OF_STEP;
 use pages::MOST_COMMANDS;
 use printing::{CountedWriter, Done, Failed, put_reply};
 use roadnet::{Command, Refusal};
 use std::alloc::Global;
 use std::io::{BufRead, Write};
 use std::thread::Threads;
-use store::{Part, open};
+use store::open;
 
 const COMMANDS: u8 = 0;
 
@@ -85,9 +84,8 @@ impl<D: Disk> Applying<D> {
         ensures holds { D.honest self.old.keeper.disk → Holds (D.content self.old.keeper.disk) (D.left self.old.keeper.disk) self.old.keeper.machine self.old.keeper.standing → Holds (D.content self.new.keeper.disk) (D.left self.new.keeper.disk) self.new.keeper.machine self.new.keeper.standing }
         ensures honest { D.honest self.new.keeper.disk ↔ D.honest self.old.keeper.disk }
     {
-        match self.keeper.checkpoint_step(PAGES_OF_STEP) {
-            Ok(Part::Done(_)) => Ok(()),
-            Ok(Part::Going) => unreachable!(),
+        match self.keeper.checkpoint() {
+            Ok(_) => Ok(()),
             Err(refusal) => Err(refusal),
         }
     }

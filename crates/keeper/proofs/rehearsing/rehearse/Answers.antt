@@ -8,6 +8,7 @@ use Rattle.machine.specs.declared.events.Event.{Event}
 use Rattle.machine.specs.Machine.{Machine, start}
 use Rattle.machine.proofs.Kept.{started}
 use Rattle.keeper.specs.Rehearsing.{First, IsGoing, HasRun}
+use Rattle.store.proofs.Calm.{works_if_calm}
 use Rattle.keeper.proofs.Failing.{fails_none, fails_as, ends_told, ends_as}
 use Rattle.keeper.proofs.Stopped.{arcs_of_header}
 use Rattle.keeper.proofs.Runs.{first_of, run_as, lives_of, held_at_start, run_none, run_no_memory, run_whole}
@@ -23,7 +24,7 @@ returns-in-Err-clause-lives g c honest stands =
     rw (there, c.new-in-Err.ensures.items, c.new.ensures.items)
     (run_no_memory first [] [] [] m (run_none {P = Pick} first store.numbers.unchecked_to slot) (g.D.Disk.left store.disk)
     (started first.sizes first.network first.version first.unchecked store.numbers.version_to store.numbers.unchecked_to)
-    (held_at_start (g.D.Disk.content store.disk) (g.D.Disk.left store.disk) (told_by store) first.unchecked (store.rests c.requires.calm honest).0 stands)
+    (held_at_start (g.D.Disk.content store.disk) (g.D.Disk.left store.disk) (told_by store) first.unchecked (store.rests (works_if_calm store c.requires.calm) honest).0 stands)
     c.args.events.now)
 
 pub loop-event-init : goal.loop-event-init

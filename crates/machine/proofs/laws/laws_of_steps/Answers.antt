@@ -1,7 +1,6 @@
-use Rattle.machine.proofs.AtOnce.{one_step}
 use Rattle.machine.proofs.Kept.{started, states_kept, admitted_versions}
 use Rattle.machine.proofs.Later.{later_by_step}
 use Rattle.machine.proofs.laws.laws_of_steps.Goals as goal
 
 pub returns : goal.returns
-returns c = record { starts = started; states = states_kept; durable = later_by_step; versions = admitted_versions; at_once = one_step }
+returns c = record { starts = started; states = states_kept; durable = later_by_step; versions = admitted_versions }

@@ -6,4 +6,4 @@ pub returns-in-Ignored : goal.returns-in-Ignored
 returns-in-Ignored c = ignored_row (fields c.args.line.now) c.in-Ignored.ensures
 
 pub returns-in-Unknown : goal.returns-in-Unknown
-returns-in-Unknown c = unknown_row (fields c.args.line.now) c.in-Unknown.ensures.0 c.in-Unknown.ensures.1 c.in-Unknown.ensures.2
+returns-in-Unknown c = unknown_row (fields c.args.line.now) c.in-Unknown.ensures.0 c.in-Unknown.ensures.1 c.in-Unknown.ensures.2 c.in-Unknown.ensures.3

@@ -20,6 +20,8 @@ invariant_of-result g c =
           let made = created (g.D.Disk.content c.open_gates.new.disk) (g.D.Disk.content c.lay_out.new.disk) (record { nodes = c.nodes.result; arcs = length c.arcs.result.now; journal_pages = c.args.journal_pages }) net c.args.journal_pages
           c.nodes.ensures.network fits is (c.in-Ok-lay_out.ensures.laid_out begun) (c.in-Ok-open_gates.ensures.opened laid) in
           (c.in-Ok-open_gates.ensures.at_rest laid, size_told (g.D.Disk.content c.open_gates.new.disk) _ made.standing_is);
+      fits = tt;
+      goes_on = λ works honest. ∣ tt ∣₁;
     }
 
 pub returns-clause-stands : goal.returns-clause-stands
@@ -31,7 +33,7 @@ returns-clause-stands g c = λ h.
     let laid = c.lay_out.ensures.honest.1 begun in
     let made = created (g.D.Disk.content c.open_gates.new.disk) (g.D.Disk.content c.lay_out.new.disk) (record { nodes = c.nodes.result; arcs = length c.arcs.result.now; journal_pages = c.args.journal_pages }) net c.args.journal_pages
     c.nodes.ensures.network fits is (c.in-Ok-lay_out.ensures.laid_out begun) (c.in-Ok-open_gates.ensures.opened laid) in
-    subst (λ (n : Net). StandsTidyFor c.args.journal_pages (g.D.Disk.content c.open_gates.new.disk) n 0) c.in-Ok-copy.ensures made.stands
+    subst (λ (n : Net). StandsTidyFor c.args.journal_pages (g.D.Disk.content c.open_gates.new.disk) n 0) c.in-Ok-copy.ensures.same made.stands
 
 pub returns-clause-only : goal.returns-clause-only
 returns-clause-only g c = λ h. c.in-Ok-open_gates.ensures.at_rest (c.lay_out.ensures.honest.1 (c.length_of.ensures.honest.1 h))

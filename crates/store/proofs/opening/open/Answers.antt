@@ -10,6 +10,8 @@ invariant_of-result g c = record {
   rests = λ works now.
       let h = c.find.ensures.honest.0 now in
       (c.in-Ok.ensures.at_rest h, ap length (c.find.ensures.same h).same_content ∙ size_told (g.D.Disk.content c.args.disk) _ (c.in-Ok.ensures.standing h));
+  fits = tt;
+  goes_on = λ works honest. ∣ tt ∣₁;
 }
 
 pub returns-in-Err-clause-opens : goal.returns-in-Err-clause-opens

@@ -1,8 +1,8 @@
-use Rattle.storefile.proofs.OtherSlot.{closed_slot, open_slot}
+use Rattle.storefile.proofs.OtherSlot.{closed_slot, slot_leads_on}
 use Rattle.storefile.proofs.laws.slot_that_is_written.Goals as goal
 
 pub returns-clause-closed : goal.returns-clause-closed
 returns-clause-closed c = closed_slot
 
 pub returns-clause-opened : goal.returns-clause-opened
-returns-clause-opened c = open_slot
+returns-clause-opened c = slot_leads_on

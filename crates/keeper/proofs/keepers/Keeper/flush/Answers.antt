@@ -1,5 +1,6 @@
-use Rattle.std.proofs.Common.{◌-◌, refl, sym, ◌∙◌, ap, subst, arith}
-use Rattle.std.proofs.lemmas.Result.{on_err_weaker}
+use Rattle.std.specs.Prelude.{option_map}
+use Rattle.std.proofs.Common.{◌-◌, sym, ◌∙◌, ap, subst, arith}
+use Rattle.std.proofs.lemmas.Result.{on_err_weaker, on_ok_weaker}
 use Rattle.pages.specs.declared.header.Header.{Header}
 use Rattle.pages.specs.Layout.{word_pages}
 use Rattle.machine.specs.Machine.{Sizes}
@@ -7,9 +8,10 @@ use Rattle.machine.proofs.Keeping.{slice_is}
 use Rattle.disk.proofs.Steps.{weaker}
 use Rattle.storefile.specs.Standing.{IsBeforeOrAfter}
 use Rattle.store.specs.declared.store.Store.{Store}
-use Rattle.store.specs.Durable.{told_by}
+use Rattle.store.specs.Durable.{told_by, going_of}
+use Rattle.keeper.specs.Keeping.{as_checkpoint}
 use Rattle.keeper.proofs.Held.{held_too, no_call, works_at_ok, works_at_err, breaks_at_err, same_flag}
-use Rattle.keeper.proofs.Flushed.{slice_of, Flushing, Committed, Written, if_err_with, flushes, kept_by, holds_by, held, works}
+use Rattle.keeper.proofs.Flushed.{counted, slice_of, Flushing, Committed, Written, if_err_with, flushes, kept_by, holds_by, held, works}
 use Rattle.keeper.proofs.keepers.Keeper.flush.Goals as goal
 
 abbrev sizes_of : Header → Sizes
@@ -21,11 +23,10 @@ invariant_of-self g c =
     let f : Flushing _ c.self.inside.network c.self.inside.store.network c.self.inside.shown.network _ commands c.of.result.value = record {
       kept = c.self.invariant.0;
       clear = rw (← c.self.view_is) at c.in_default.ensures;
-      none_going = refl;
       taken = slice_is c.deref.result.now c.self.inside.history.items c.version.result c.self.inside.opened c.min-count.result _ _ c.deref.ensures.value c.version.ensures (omega (arith, c.min-count.ensures));
       count_is = omega (arith, c.of.ensures, c.min-count.ensures, c.len.ensures, c.version.ensures);
     } in
-    let h : Committed _ _ _ _ _ commands c.of.result.value f c.commit-written.new.self.network (record { journal_pages = c.commit-written.new.self.header.journal_pages; slot_pages = word_pages c.commit-written.new.self.header }) c.commit-written.new.self.version c.commit-written.new.self.unchecked c.has_failed-self-inside.result c.commit-written.result = record {
+    let h : Committed _ _ _ _ _ commands c.of.result.value f c.commit-written.new.self.network (record { journal_pages = c.commit-written.new.self.header.journal_pages; slot_pages = word_pages c.commit-written.new.self.header }) c.commit-written.new.self.version c.commit-written.new.self.unchecked c.has_failed-self-inside.result (option_map as_checkpoint (going_of c.commit-written.new.self)) c.commit-written.result = record {
       sizes_are = ap sizes_of c.commit-written.ensures.header;
       version_is = c.commit-written.ensures.version;
       network_is = c.commit-written.ensures.network;
@@ -37,8 +38,10 @@ invariant_of-self g c =
       network_kept = on_err_weaker c.commit-written.result (λ kept. kept.0) c.commit-written.ensures.kept;
       version_kept = on_err_weaker c.commit-written.result (λ kept. kept.1) c.commit-written.ensures.kept;
       unchecked_kept = on_err_weaker c.commit-written.result (λ kept. kept.2) c.commit-written.ensures.kept;
+      going_is = on_ok_weaker c.commit-written.result (λ same. ap (option_map as_checkpoint) same ∙ counted (going_of c.self.inside.store)) c.commit-written.ensures.going;
+      going_kept = on_err_weaker c.commit-written.result (λ same. ap (option_map as_checkpoint) same) c.commit-written.ensures.same_going;
     } in (
-      kept_by _ c.self.inside.network c.self.inside.store.network c.self.inside.shown.network _ commands c.of.result.value f c.commit-written.new.self.network _ c.commit-written.new.self.version c.commit-written.new.self.unchecked c.has_failed-self-inside.result c.commit-written.result h,
+      kept_by _ c.self.inside.network c.self.inside.store.network c.self.inside.shown.network _ commands c.of.result.value f c.commit-written.new.self.network _ c.commit-written.new.self.version c.commit-written.new.self.unchecked c.has_failed-self-inside.result (option_map as_checkpoint (going_of c.commit-written.new.self)) c.commit-written.result h,
       same_flag c.commit-written.result c.has_failed-self-inside.result c.self.inside.store.broken c.commit-written.new.self.broken c.has_failed-self-inside.ensures (sym c.self.invariant.1 ∙ works _ c.self.inside.network c.self.inside.store.network c.self.inside.shown.network _ commands c.of.result.value f) c.commit-written.ensures.works c.commit-written.ensures.breaks (if_err_with _ _ c.commit-written.result (λ refusal same not. let e = same not in cc) c.commit-written.ensures.same),
       λ came.
           let held = c.self.invariant.2 came in
@@ -46,7 +49,7 @@ invariant_of-self g c =
           let old = held.1 in
           let calm = sym c.self.invariant.1 ∙ works _ c.self.inside.network c.self.inside.store.network c.self.inside.shown.network _ commands c.of.result.value f in
           let stands = old.stands (c.self.invariant.1 ∙ calm) in
-          let w : Written _ c.self.inside.network c.self.inside.store.network c.self.inside.shown.network _ commands c.of.result.value f c.commit-written.new.self.network _ c.commit-written.new.self.version c.commit-written.new.self.unchecked c.has_failed-self-inside.result (g.D.Disk.content c.self.inside.store.disk) (g.D.Disk.content c.commit-written.new.self.disk) (g.D.Disk.left c.self.inside.store.disk) (g.D.Disk.left c.commit-written.new.self.disk) (told_by c.self.inside.store) (told_by c.commit-written.new.self) c.commit-written.result = record {
+          let w : Written _ c.self.inside.network c.self.inside.store.network c.self.inside.shown.network _ commands c.of.result.value f c.commit-written.new.self.network _ c.commit-written.new.self.version c.commit-written.new.self.unchecked c.has_failed-self-inside.result (option_map as_checkpoint (going_of c.commit-written.new.self)) (g.D.Disk.content c.self.inside.store.disk) (g.D.Disk.content c.commit-written.new.self.disk) (g.D.Disk.left c.self.inside.store.disk) (g.D.Disk.left c.commit-written.new.self.disk) (told_by c.self.inside.store) (told_by c.commit-written.new.self) c.commit-written.result = record {
             same = if_err_with _ _ c.commit-written.result (λ refusal same not.
                 let e = same not in (
                   ap (λ (s : Store g.row.D.Denot g.D.Disk). g.D.Disk.content s.disk) e,
@@ -58,7 +61,7 @@ invariant_of-self g c =
             only = c.commit-written.ensures.only honest;
             stands = c.commit-written.ensures.stands honest stands;
           } in
-          (c.commit-written.ensures.honest.1 honest, holds_by _ c.self.inside.network c.self.inside.store.network c.self.inside.shown.network _ commands c.of.result.value f c.commit-written.new.self.network _ c.commit-written.new.self.version c.commit-written.new.self.unchecked c.has_failed-self-inside.result (g.D.Disk.content c.self.inside.store.disk) (g.D.Disk.content c.commit-written.new.self.disk) (g.D.Disk.left c.self.inside.store.disk) (g.D.Disk.left c.commit-written.new.self.disk) (told_by c.self.inside.store) (told_by c.commit-written.new.self) c.commit-written.result h w old),
+          (c.commit-written.ensures.honest.1 honest, holds_by _ c.self.inside.network c.self.inside.store.network c.self.inside.shown.network _ commands c.of.result.value f c.commit-written.new.self.network _ c.commit-written.new.self.version c.commit-written.new.self.unchecked c.has_failed-self-inside.result (option_map as_checkpoint (going_of c.commit-written.new.self)) (g.D.Disk.content c.self.inside.store.disk) (g.D.Disk.content c.commit-written.new.self.disk) (g.D.Disk.left c.self.inside.store.disk) (g.D.Disk.left c.commit-written.new.self.disk) (told_by c.self.inside.store) (told_by c.commit-written.new.self) c.commit-written.result h w old),
     )
 
 pub returns-clause-step : goal.returns-clause-step
@@ -68,11 +71,10 @@ returns-clause-step g c =
     let f : Flushing _ c.self.inside.network c.self.inside.store.network c.self.inside.shown.network _ commands c.of.result.value = record {
       kept = c.self.invariant.0;
       clear = rw (← c.self.view_is) at c.in_default.ensures;
-      none_going = refl;
       taken = slice_is c.deref.result.now c.self.inside.history.items c.version.result c.self.inside.opened c.min-count.result _ _ c.deref.ensures.value c.version.ensures (omega (arith, c.min-count.ensures));
       count_is = omega (arith, c.of.ensures, c.min-count.ensures, c.len.ensures, c.version.ensures);
     } in
-    let h : Committed _ _ _ _ _ commands c.of.result.value f c.commit-written.new.self.network (record { journal_pages = c.commit-written.new.self.header.journal_pages; slot_pages = word_pages c.commit-written.new.self.header }) c.commit-written.new.self.version c.commit-written.new.self.unchecked c.has_failed-self-inside.result c.commit-written.result = record {
+    let h : Committed _ _ _ _ _ commands c.of.result.value f c.commit-written.new.self.network (record { journal_pages = c.commit-written.new.self.header.journal_pages; slot_pages = word_pages c.commit-written.new.self.header }) c.commit-written.new.self.version c.commit-written.new.self.unchecked c.has_failed-self-inside.result (option_map as_checkpoint (going_of c.commit-written.new.self)) c.commit-written.result = record {
       sizes_are = ap sizes_of c.commit-written.ensures.header;
       version_is = c.commit-written.ensures.version;
       network_is = c.commit-written.ensures.network;
@@ -84,8 +86,10 @@ returns-clause-step g c =
       network_kept = on_err_weaker c.commit-written.result (λ kept. kept.0) c.commit-written.ensures.kept;
       version_kept = on_err_weaker c.commit-written.result (λ kept. kept.1) c.commit-written.ensures.kept;
       unchecked_kept = on_err_weaker c.commit-written.result (λ kept. kept.2) c.commit-written.ensures.kept;
+      going_is = on_ok_weaker c.commit-written.result (λ same. ap (option_map as_checkpoint) same ∙ counted (going_of c.self.inside.store)) c.commit-written.ensures.going;
+      going_kept = on_err_weaker c.commit-written.result (λ same. ap (option_map as_checkpoint) same) c.commit-written.ensures.same_going;
     } in
-    flushes _ c.self.inside.network c.self.inside.store.network c.self.inside.shown.network _ commands c.of.result.value f c.commit-written.new.self.network _ c.commit-written.new.self.version c.commit-written.new.self.unchecked c.has_failed-self-inside.result c.commit-written.result h)
+    flushes _ c.self.inside.network c.self.inside.store.network c.self.inside.shown.network _ commands c.of.result.value f c.commit-written.new.self.network _ c.commit-written.new.self.version c.commit-written.new.self.unchecked c.has_failed-self-inside.result (option_map as_checkpoint (going_of c.commit-written.new.self)) c.commit-written.result h)
 
 pub returns-clause-holds : goal.returns-clause-holds
 returns-clause-holds g c =
@@ -94,11 +98,10 @@ returns-clause-holds g c =
     let f : Flushing _ c.self.inside.network c.self.inside.store.network c.self.inside.shown.network _ commands c.of.result.value = record {
       kept = c.self.invariant.0;
       clear = rw (← c.self.view_is) at c.in_default.ensures;
-      none_going = refl;
       taken = slice_is c.deref.result.now c.self.inside.history.items c.version.result c.self.inside.opened c.min-count.result _ _ c.deref.ensures.value c.version.ensures (omega (arith, c.min-count.ensures));
       count_is = omega (arith, c.of.ensures, c.min-count.ensures, c.len.ensures, c.version.ensures);
     } in
-    let h : Committed _ _ _ _ _ commands c.of.result.value f c.commit-written.new.self.network (record { journal_pages = c.commit-written.new.self.header.journal_pages; slot_pages = word_pages c.commit-written.new.self.header }) c.commit-written.new.self.version c.commit-written.new.self.unchecked c.has_failed-self-inside.result c.commit-written.result = record {
+    let h : Committed _ _ _ _ _ commands c.of.result.value f c.commit-written.new.self.network (record { journal_pages = c.commit-written.new.self.header.journal_pages; slot_pages = word_pages c.commit-written.new.self.header }) c.commit-written.new.self.version c.commit-written.new.self.unchecked c.has_failed-self-inside.result (option_map as_checkpoint (going_of c.commit-written.new.self)) c.commit-written.result = record {
       sizes_are = ap sizes_of c.commit-written.ensures.header;
       version_is = c.commit-written.ensures.version;
       network_is = c.commit-written.ensures.network;
@@ -110,10 +113,12 @@ returns-clause-holds g c =
       network_kept = on_err_weaker c.commit-written.result (λ kept. kept.0) c.commit-written.ensures.kept;
       version_kept = on_err_weaker c.commit-written.result (λ kept. kept.1) c.commit-written.ensures.kept;
       unchecked_kept = on_err_weaker c.commit-written.result (λ kept. kept.2) c.commit-written.ensures.kept;
+      going_is = on_ok_weaker c.commit-written.result (λ same. ap (option_map as_checkpoint) same ∙ counted (going_of c.self.inside.store)) c.commit-written.ensures.going;
+      going_kept = on_err_weaker c.commit-written.result (λ same. ap (option_map as_checkpoint) same) c.commit-written.ensures.same_going;
     } in
     let calm = sym c.self.invariant.1 ∙ works _ c.self.inside.network c.self.inside.store.network c.self.inside.shown.network _ commands c.of.result.value f in
     let stands = old.stands (c.self.invariant.1 ∙ calm) in
-    let w : Written _ c.self.inside.network c.self.inside.store.network c.self.inside.shown.network _ commands c.of.result.value f c.commit-written.new.self.network _ c.commit-written.new.self.version c.commit-written.new.self.unchecked c.has_failed-self-inside.result (g.D.Disk.content c.self.inside.store.disk) (g.D.Disk.content c.commit-written.new.self.disk) (g.D.Disk.left c.self.inside.store.disk) (g.D.Disk.left c.commit-written.new.self.disk) (told_by c.self.inside.store) (told_by c.commit-written.new.self) c.commit-written.result = record {
+    let w : Written _ c.self.inside.network c.self.inside.store.network c.self.inside.shown.network _ commands c.of.result.value f c.commit-written.new.self.network _ c.commit-written.new.self.version c.commit-written.new.self.unchecked c.has_failed-self-inside.result (option_map as_checkpoint (going_of c.commit-written.new.self)) (g.D.Disk.content c.self.inside.store.disk) (g.D.Disk.content c.commit-written.new.self.disk) (g.D.Disk.left c.self.inside.store.disk) (g.D.Disk.left c.commit-written.new.self.disk) (told_by c.self.inside.store) (told_by c.commit-written.new.self) c.commit-written.result = record {
       same = if_err_with _ _ c.commit-written.result (λ refusal same not.
           let e = same not in (
             ap (λ (s : Store g.row.D.Denot g.D.Disk). g.D.Disk.content s.disk) e,
@@ -125,7 +130,7 @@ returns-clause-holds g c =
       only = c.commit-written.ensures.only honest;
       stands = c.commit-written.ensures.stands honest stands;
     } in
-    holds_by _ c.self.inside.network c.self.inside.store.network c.self.inside.shown.network _ commands c.of.result.value f c.commit-written.new.self.network _ c.commit-written.new.self.version c.commit-written.new.self.unchecked c.has_failed-self-inside.result (g.D.Disk.content c.self.inside.store.disk) (g.D.Disk.content c.commit-written.new.self.disk) (g.D.Disk.left c.self.inside.store.disk) (g.D.Disk.left c.commit-written.new.self.disk) (told_by c.self.inside.store) (told_by c.commit-written.new.self) c.commit-written.result h w old)
+    holds_by _ c.self.inside.network c.self.inside.store.network c.self.inside.shown.network _ commands c.of.result.value f c.commit-written.new.self.network _ c.commit-written.new.self.version c.commit-written.new.self.unchecked c.has_failed-self-inside.result (option_map as_checkpoint (going_of c.commit-written.new.self)) (g.D.Disk.content c.self.inside.store.disk) (g.D.Disk.content c.commit-written.new.self.disk) (g.D.Disk.left c.self.inside.store.disk) (g.D.Disk.left c.commit-written.new.self.disk) (told_by c.self.inside.store) (told_by c.commit-written.new.self) c.commit-written.result h w old)
 
 pub returns-clause-any_moment : goal.returns-clause-any_moment
 returns-clause-any_moment g c =
@@ -134,7 +139,6 @@ returns-clause-any_moment g c =
     let f : Flushing _ c.self.inside.network c.self.inside.store.network c.self.inside.shown.network _ commands c.of.result.value = record {
       kept = c.self.invariant.0;
       clear = rw (← c.self.view_is) at c.in_default.ensures;
-      none_going = refl;
       taken = slice_is c.deref.result.now c.self.inside.history.items c.version.result c.self.inside.opened c.min-count.result _ _ c.deref.ensures.value c.version.ensures (omega (arith, c.min-count.ensures));
       count_is = omega (arith, c.of.ensures, c.min-count.ensures, c.len.ensures, c.version.ensures);
     } in

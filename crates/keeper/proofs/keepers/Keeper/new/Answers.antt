@@ -2,13 +2,14 @@ use Rattle.std.proofs.Common.{rules, inl, refl, ◌∙◌, subst}
 use Rattle.store.specs.declared.store.Store.{Store}
 use Rattle.store.specs.Durable.{told_by}
 use Rattle.store.proofs.Committed.{left_stands}
+use Rattle.store.proofs.Calm.{works_if_calm}
 use Rattle.keeper.specs.Keeping.{CameTidy, given_of}
 use Rattle.keeper.proofs.Held.{at_base}
 use Rattle.keeper.proofs.keepers.Keeper.new.Goals as goal
 
 pub returns-clause-holds : goal.returns-clause-holds
 returns-clause-holds g c honest stands =
-    let only = (c.args.store.rests c.requires.calm honest).0 in
+    let only = (c.args.store.rests (works_if_calm c.args.store c.requires.calm) honest).0 in
     record {
       only = λ works. only;
       stands = λ works. stands;
@@ -30,7 +31,7 @@ invariant_of-result g c = (
       let honest = came.0 in
       let stands = came.1 in (
         honest,
-        let only = (c.args.store.rests c.requires.calm honest).0 in
+        let only = (c.args.store.rests (works_if_calm c.args.store c.requires.calm) honest).0 in
             record {
               only = λ works. only;
               stands = λ works. stands;

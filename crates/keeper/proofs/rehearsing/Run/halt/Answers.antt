@@ -1,5 +1,4 @@
 use Rattle.std.proofs.Common.{sym, subst}
-use Rattle.disk.specs.Contents.{Only}
 use Rattle.keeper.proofs.rehearsing.Run.halt.Goals as goal
 
 pub returns-clause-halted : goal.returns-clause-halted

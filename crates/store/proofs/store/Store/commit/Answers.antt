@@ -5,6 +5,7 @@ use Rattle.disk.proofs.Steps.{weaker}
 use Rattle.storefile.specs.StoreFile.{journal_page_at}
 use Rattle.storefile.specs.Standing.{Standing, IsBeforeOrAfter}
 use Rattle.store.proofs.Committed.{not_device, not_told, before, no_call, page_body, more, Follow, numbers_more, size_kept, meanwhile, stands_more_tidily, left_stands}
+use Rattle.store.proofs.GoingOn.{fits_committed, going_committed}
 use Rattle.store.proofs.Afterwards.{at_rest, broken}
 use Rattle.store.proofs.store.Store.commit.Goals as goal
 
@@ -85,6 +86,10 @@ invariant_of-self-2 g c =
       rests = λ works now.
           let h = c.append_page.ensures.honest.0 now in
           (c.in-Ok-append_page.ensures.at_rest h, size_kept (g.D.Disk.content s.disk) x c.carry_out.new.self c.args.commands.now follow (g.D.Disk.content c.append_page.new.disk) (s.rests c.if-self.false h).1 (c.in-Ok-append_page.ensures.written h));
+      fits = rw c.count_page.ensures (fits_committed (g.D.Disk.content s.disk) (g.D.Disk.content c.append_page.new.disk) x c.carry_out.new.self c.args.commands.now follow s.going s.fits);
+      goes_on = λ works now.
+          let h = c.append_page.ensures.honest.0 now in
+          rw c.count_page.ensures (going_committed (g.D.Disk.content s.disk) (g.D.Disk.content c.append_page.new.disk) x c.carry_out.new.self c.args.commands.now follow (s.rests c.if-self.false h).1 (c.in-Ok-append_page.ensures.written h) s.going s.fits (s.goes_on c.if-self.false h));
     }
 
 pub returns-clause-stands : goal.returns-clause-stands

@@ -3,7 +3,7 @@ use Rattle.std.proofs.lemmas.Result.{on_ok_weaker}
 use Rattle.disk.specs.Moments.{LeavesOnly}
 use Rattle.checkpoint.specs.Writing.{Draft, head_of, IsSlotWhole, IsSlotShutOrWhole}
 use Rattle.checkpoint.proofs.SlotPages.{then_whole, then_finished}
-use Rattle.checkpoint.proofs.writing.NextCheckpoint.complete.Goals as goal
+use Rattle.checkpoint.proofs.writing.NextCheckpoint.write_all.Goals as goal
 
 pub returns-clause-content : goal.returns-clause-content
 returns-clause-content g c h =

@@ -1,0 +1,26 @@
+use Rattle.std.proofs.Common.{◌∙◌, ◌∷◌, [], ℕ, List, ap, subst}
+use Rattle.std.specs.Prelude.{option_map}
+use Rattle.machine.specs.declared.events.Replied.{Replied}
+use Rattle.machine.specs.Calls.{StepsCheckpoint}
+use Rattle.keeper.specs.Parts.{told_as}
+use Rattle.keeper.proofs.Failing.{told_by_part}
+use Rattle.keeper.proofs.LifeKept.{step_told, life_step}
+use Rattle.keeper.proofs.lives.Life.step.Goals as goal
+
+pub returns-clause-does : goal.returns-clause-does
+returns-clause-does g c =
+    let old = c.args.self.now.keeper.machine in
+    let new = c.checkpoint_step.new.self.machine in
+    let alone : Replied → List Replied = λ r. r ∷ [] in
+    let step = step_told old new c.number.result c.checkpoint_step.result c.checkpoint_step.ensures.step in
+    (told_as c.checkpoint_step.result, subst (λ (n : ℕ). StepsCheckpoint old n (told_as c.checkpoint_step.result) new) c.number.ensures.is step, ap alone c.told_part.ensures)
+
+pub returns-clause-life : goal.returns-clause-life
+returns-clause-life g c =
+    let old = c.args.self.now.keeper.machine in
+    let new = c.checkpoint_step.new.self.machine in
+    life_step old new c.args.self.now.opened (option_map (λ view. (view.value.version, view.value.network)) c.args.self.now.aside) c.number.result (told_as c.checkpoint_step.result)
+    (step_told old new c.number.result c.checkpoint_step.result c.checkpoint_step.ensures.step) c.requires.life
+
+pub returns-clause-counted : goal.returns-clause-counted
+returns-clause-counted g c = c.checkpoint_step.ensures.counted ∙ told_by_part c.checkpoint_step.result c.told_part.result (g.D.Disk.failures c.args.self.now.keeper.disk) c.told_part.ensures

@@ -1,0 +1,36 @@
+use Rattle.std.proofs.Common.{ap}
+use Rattle.storefile.specs.Standing.{Standing}
+use Rattle.checkpoint.specs.Writing.{Draft}
+use Rattle.store.proofs.Checkpointed.{no_call}
+use Rattle.store.proofs.GoingOn.{moments_of_beginning, begun_tidily}
+use Rattle.store.proofs.store.Store.begin_checkpoint.Goals as goal
+
+pub returns-in_default-clause-any_moment : goal.returns-in_default-clause-any_moment
+returns-in_default-clause-any_moment g c h stands =
+    let s = c.args.self.now in
+    let x : Standing = record { header = s.header; slot = s.slot; epoch = s.epoch; network = s.network; version = s.version; next = s.next_sequence; unchecked = s.unchecked } in
+    no_call g.D.Disk.content g.D.Disk.left g.D.Disk.moment g.D.Disk.left_since s.disk x (s.rests c.requires.works h).0 (λ d since. g.met.D.Disk.only_now s.disk d h since) stands
+
+pub returns-in_default-new-clause-any_moment : goal.returns-in_default-new-clause-any_moment
+returns-in_default-new-clause-any_moment g c h stands =
+    let s = c.args.self.now in
+    let x : Standing = record { header = s.header; slot = s.slot; epoch = s.epoch; network = s.network; version = s.version; next = s.next_sequence; unchecked = s.unchecked } in
+    no_call g.D.Disk.content g.D.Disk.left g.D.Disk.moment g.D.Disk.left_since s.disk x (s.rests c.requires.works h).0 (λ d since. g.met.D.Disk.only_now s.disk d h since) stands
+
+pub returns-in_default-begin-clause-any_moment : goal.returns-in_default-begin-clause-any_moment
+returns-in_default-begin-clause-any_moment g c h stands =
+    let s = c.args.self.now in
+    let x : Standing = record { header = s.header; slot = s.slot; epoch = s.epoch; network = s.network; version = s.version; next = s.next_sequence; unchecked = s.unchecked } in
+    moments_of_beginning g.D.Disk.content g.D.Disk.moment g.D.Disk.left_since s.disk c.begin.new.disk x c.in-Ok-new.next.slot (ap (λ (d : Draft). d.slot) c.in-Ok-new.ensures) stands (c.begin.ensures.any_moment h)
+
+pub returns-clause-any_moment : goal.returns-clause-any_moment
+returns-clause-any_moment g c h stands =
+    let s = c.args.self.now in
+    let x : Standing = record { header = s.header; slot = s.slot; epoch = s.epoch; network = s.network; version = s.version; next = s.next_sequence; unchecked = s.unchecked } in
+    moments_of_beginning g.D.Disk.content g.D.Disk.moment g.D.Disk.left_since s.disk c.begin.new.disk x c.in-Ok-new.next.slot (ap (λ (d : Draft). d.slot) c.in-Ok-new.ensures) stands (c.begin.ensures.any_moment h)
+
+pub returns-clause-stands : goal.returns-clause-stands
+returns-clause-stands g c h stands =
+    let s = c.args.self.now in
+    let x : Standing = record { header = s.header; slot = s.slot; epoch = s.epoch; network = s.network; version = s.version; next = s.next_sequence; unchecked = s.unchecked } in
+    begun_tidily (g.D.Disk.content s.disk) (g.D.Disk.content c.begin.new.disk) x c.in-Ok-new.next.slot (ap (λ (d : Draft). d.slot) c.in-Ok-new.ensures) stands (c.in-Ok-begin.ensures.shut h)

@@ -1,0 +1,191 @@
+// A checkpoint that goes part by part, with commits between the parts.
+ghost use Rattle.std.specs.Prelude.{◌≡◌, ◌≢◌, ◌≤◌, ◌↔◌, true, false, List, [], ℕ, None, Some, Ok, IfOk, OnOk, OnErr, IfErr, MatchResult, IsSome};
+ghost use Rattle.disk.specs.Contents.{Only, Rose};
+ghost use Rattle.disk.specs.Moments.{LeavesOnly, AddsNothing};
+ghost use Rattle.roadnet.specs.declared.commands.Command.{Command as Change};
+ghost use Rattle.roadnet.specs.declared.refusals.Refusal.TheVariants.{Device as device, OutOfMemory as out_of_memory};
+ghost use Rattle.pagereader.specs.Outcomes.{failures_told};
+ghost use Rattle.storefile.specs.StoreFile.{StandsTidyFor};
+ghost use Rattle.store.specs.Committing.{StandsTidily};
+ghost use Rattle.store.specs.Checkpointing.{refusal_of_checkpoint, MayRefuseCheckpoint};
+ghost use Rattle.store.specs.Durable.{told_by, Leaves, going_of, begun_by, parts_of, has_all_checked, is_calm};
+ghost use Rattle.store.specs.Going.{part_by, progress_by, unchecked_by, slot_by, epoch_by};
+
+use crate::going::GoingCheckpoint;
+use crate::parts::Part;
+use crate::store::Store;
+use checkpoint::NextCheckpoint;
+use disk::Disk;
+use roadnet::Refusal;
+
+impl<D: Disk> Store<D> {
+    /// Whether the store is neither broken nor has a checkpoint going.
+    pub fn calm(&self) -> bool
+        ensures { result ≡ is_calm self.now }
+    {
+        !self.broken && self.going.is_none()
+    }
+
+    // Begins a checkpoint: freezes the network, and closes the gate of the slot that is not current.
+    pub(crate) fn begin_checkpoint(&mut self) -> Result<(), Refusal>
+        requires works { self.old.broken ≡ false }
+        requires none { self.old.going ≡ None }
+        requires some { self.old.unchecked ≢ 0 }
+        ensures told { told_by self.new ≡ told_by self.old }
+        ensures going { OnOk result (going_of self.new ≡ Some (begun_by self.old)) }
+        ensures works { OnOk result (self.new.broken ≡ false) }
+        ensures refused { IfErr result (λ refusal. MayRefuseCheckpoint None refusal) }
+        ensures same { IfErr result (λ refusal. refusal ≢ device → self.new ≡ self.old) }
+        ensures failed { IfErr result (λ refusal. refusal ≡ device → Rose (D.failures self.old.disk) (D.failures self.new.disk)) }
+        ensures counted { D.failures self.new.disk ≡ failures_told result (D.failures self.old.disk) }
+        ensures breaks { IfErr result (λ refusal. refusal ≡ device → self.new.broken ≡ true) }
+        ensures kept { OnErr result (going_of self.new ≡ None) }
+        ensures any_moment { D.honest self.old.disk → StandsTidily (D.content self.old.disk) (told_by self.old) → LeavesOnly D.moment D.left_since self.old.disk self.new.disk (λ c. StandsTidyFor self.old.header.journal_pages c self.old.network self.old.version) }
+        ensures stands { D.honest self.old.disk → StandsTidily (D.content self.old.disk) (told_by self.old) → OnOk result (StandsTidily (D.content self.new.disk) (told_by self.new)) }
+        ensures honest { D.honest self.new.disk ↔ D.honest self.old.disk }
+    {
+        let Ok(frozen) = self.network.copy() else {
+            return Err(Refusal::OutOfMemory);
+        };
+        let Ok(next) = NextCheckpoint::new(
+            self.alloc,
+            self.slot,
+            self.epoch,
+            self.version,
+            self.next_sequence,
+        ) else {
+            return Err(Refusal::OutOfMemory);
+        };
+        let Ok(()) = next.begin(&mut self.disk, &self.header) else {
+            self.broken = true;
+            return Err(Refusal::Device);
+        };
+        self.going = Some(GoingCheckpoint {
+            next,
+            frozen,
+            committed: 0,
+        });
+        Ok(())
+    }
+
+    // A part of the checkpoint that is going.
+    fn go_on(&mut self, pages: u32) -> Result<Part, Refusal>
+        requires works { self.old.broken ≡ false }
+        requires going { IsSome self.old.going }
+        requires some { 1 ≤ pages }
+        requires few { pages ≤ 64 }
+        ensures network { self.new.network ≡ self.old.network }
+        ensures version { self.new.version ≡ self.old.version }
+        ensures header { self.new.header ≡ self.old.header }
+        ensures next { self.new.next_sequence ≡ self.old.next_sequence }
+        ensures answers { IfOk result (λ part. part ≡ part_by (parts_of self.old) pages) }
+        ensures going { OnOk result (going_of self.new ≡ progress_by (parts_of self.old) pages) }
+        ensures unchecked { OnOk result (self.new.unchecked ≡ unchecked_by (parts_of self.old) self.old.unchecked pages) }
+        ensures works { OnOk result (self.new.broken ≡ false) }
+        ensures slot { OnOk result (self.new.slot ≡ slot_by (parts_of self.old) self.old.slot pages) }
+        ensures epoch { OnOk result (self.new.epoch ≡ epoch_by (parts_of self.old) self.old.epoch pages) }
+        ensures refused { IfErr result (λ refusal. refusal ≡ device) }
+        ensures counted { D.failures self.new.disk ≡ failures_told result (D.failures self.old.disk) }
+        ensures failed { OnErr result (Rose (D.failures self.old.disk) (D.failures self.new.disk)) }
+        ensures breaks { OnErr result (self.new.broken ≡ true) }
+        ensures kept { OnErr result ((told_by self.new ≡ told_by self.old) × (going_of self.new ≡ going_of self.old)) }
+        ensures any_moment { D.honest self.old.disk → StandsTidily (D.content self.old.disk) (told_by self.old) → LeavesOnly D.moment D.left_since self.old.disk self.new.disk (λ c. StandsTidyFor self.old.header.journal_pages c self.old.network self.old.version) }
+        ensures stands { D.honest self.old.disk → StandsTidily (D.content self.old.disk) (told_by self.old) → OnOk result (StandsTidily (D.content self.new.disk) (told_by self.new)) }
+        ensures honest { D.honest self.new.disk ↔ D.honest self.old.disk }
+    {
+        let Some(going) = self.going.take() else {
+            return Err(Refusal::Device);
+        };
+        let mut going = going;
+        let Ok(whole) = going
+            .next
+            .go_on(&mut self.disk, &self.header, &going.frozen, pages)
+        else {
+            self.broken = true;
+            self.going = Some(going);
+            return Err(Refusal::Device);
+        };
+        if !whole {
+            self.going = Some(going);
+            return Ok(Part::Going);
+        }
+        self.slot = going.next.slot();
+        self.epoch = going.next.epoch();
+        self.unchecked = going.committed;
+        Ok(Part::Done(going.next.version()))
+    }
+
+    /// Writes a part of a checkpoint: of the one that is going, or else of one that begins. A checkpoint holds the network as it was when it
+    /// began, and goes to the slot that is not current. At most so many word pages, 1 to 64, are written. Answers `Going` where some are
+    /// left then. Else the slot is current, only the pages of the journal committed since the checkpoint began are unchecked, and it
+    /// answers `Done` with the version that the checkpoint holds. Where none is going and no page is unchecked, nothing is done.
+    ///
+    /// Network and version of the store stay, whatever a stop does at any moment; a stop loses a checkpoint that is going, and nothing else.
+    ///
+    /// Refused is a broken store (45); then want of memory (11), where a checkpoint would begin, before any call of the disk; then a disk that
+    /// failed (43), after which the store is broken and writes nothing more. After each other refusal nothing is changed.
+    pub fn checkpoint_part(&mut self, pages: u32) -> Result<Part, Refusal>
+        requires some { 1 ≤ pages }
+        requires few { pages ≤ 64 }
+        // Network and version stay, also after a refusal.
+        ensures network { self.new.network ≡ self.old.network }
+        ensures version { self.new.version ≡ self.old.version }
+        ensures header { self.new.header ≡ self.old.header }
+        ensures next { self.new.next_sequence ≡ self.old.next_sequence }
+        // Where none is going and no page is unchecked, nothing is changed, the disk neither.
+        ensures nothing { self.old.broken ≡ false → has_all_checked self.old ≡ true → (result ≡ Ok (Part.Done self.old.version)) × (self.new ≡ self.old) }
+        // Else so many pages more are written, or all are, and only what was committed since is unchecked.
+        ensures answers { has_all_checked self.old ≡ false → IfOk result (λ part. part ≡ part_by (parts_of self.old) pages) }
+        ensures going { has_all_checked self.old ≡ false → OnOk result (going_of self.new ≡ progress_by (parts_of self.old) pages) }
+        ensures unchecked { has_all_checked self.old ≡ false → OnOk result (self.new.unchecked ≡ unchecked_by (parts_of self.old) self.old.unchecked pages) }
+        // Once it is done the other slot is current, with the epoch that follows.
+        ensures slot { has_all_checked self.old ≡ false → OnOk result (self.new.slot ≡ slot_by (parts_of self.old) self.old.slot pages) }
+        ensures epoch { has_all_checked self.old ≡ false → OnOk result (self.new.epoch ≡ epoch_by (parts_of self.old) self.old.epoch pages) }
+        ensures works { OnOk result (self.new.broken ≡ false) }
+        // It refuses where the store is broken; and where it is not, for want of memory where a checkpoint would begin, or where the disk failed in this call.
+        ensures refused { MatchResult result (λ part. refusal_of_checkpoint self.old.broken ≡ None) (MayRefuseCheckpoint (refusal_of_checkpoint self.old.broken)) }
+        ensures memory { IfErr result (λ refusal. refusal ≡ out_of_memory → going_of self.old ≡ None) }
+        ensures same { IfErr result (λ refusal. refusal ≢ device → self.new ≡ self.old) }
+        // The count of failures rises by one where a failure of the disk is told, and else not at all: none is passed over.
+        ensures counted { D.failures self.new.disk ≡ failures_told result (D.failures self.old.disk) }
+        ensures failed { IfErr result (λ refusal. refusal ≡ device → Rose (D.failures self.old.disk) (D.failures self.new.disk)) }
+        ensures breaks { IfErr result (λ refusal. refusal ≡ device → self.new.broken ≡ true) }
+        // After a refusal the checkpoint that went is as far as it was.
+        ensures kept { OnErr result ((told_by self.new ≡ told_by self.old) × (going_of self.new ≡ going_of self.old)) }
+        ensures adds_nothing { self.old.broken ≡ true → AddsNothing D.moment D.left_since self.old.disk self.new.disk }
+        // A stop at any moment of the call, or after it, leaves what stands for this network and version.
+        ensures any_moment { self.old.broken ≡ false → D.honest self.old.disk → StandsTidily (D.content self.old.disk) (told_by self.old) → LeavesOnly D.moment D.left_since self.old.disk self.new.disk (λ c. StandsTidyFor self.old.header.journal_pages c self.old.network self.old.version) }
+        ensures left { self.old.broken ≡ false → D.honest self.old.disk → StandsTidily (D.content self.old.disk) (told_by self.old) → (c : List ℕ) → D.left self.new.disk c → StandsTidyFor self.old.header.journal_pages c self.old.network self.old.version }
+        // After Ok it leaves the content alone, which stands for it, by the fields as they are now.
+        ensures only { D.honest self.old.disk → OnOk result (Only (D.content self.new.disk) (D.left self.new.disk)) }
+        ensures stands { D.honest self.old.disk → StandsTidily (D.content self.old.disk) (told_by self.old) → OnOk result (StandsTidily (D.content self.new.disk) (told_by self.new)) }
+        // What a stop between two calls may leave, from this call to the next: nothing is in flight then.
+        ensures rests { D.honest self.old.disk → (in_flight : List Change) → Leaves self.old in_flight → OnOk result (Leaves self.new []) }
+        ensures left_in_flight { D.honest self.old.disk → (in_flight : List Change) → Leaves self.old in_flight → IfErr result (λ refusal. refusal ≡ device → Leaves self.new []) }
+        ensures honest { D.honest self.new.disk ↔ D.honest self.old.disk }
+    {
+        if self.broken {
+            return Err(Refusal::Broken);
+        }
+        if self.going.is_some() {
+            return match self.go_on(pages) {
+                Ok(part) => Ok(part),
+                Err(refusal) => Err(refusal),
+            };
+        }
+        if self.unchecked == 0 {
+            return Ok(Part::Done(self.version));
+        }
+        match self.begin_checkpoint() {
+            Ok(()) => {}
+            Err(refusal) => return Err(refusal),
+        }
+        match self.go_on(pages) {
+            Ok(part) => Ok(part),
+            Err(refusal) => {
+                self.going = None;
+                Err(refusal)
+            }
+        }
+    }
+}

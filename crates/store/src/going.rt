@@ -1,0 +1,27 @@
+// A checkpoint that goes part by part.
+ghost use Rattle.std.specs.Prelude.{◌≡◌, ◌+◌, ◌<◌, ◌^◌, IfSome, option_map};
+ghost use Rattle.store.specs.Going.{with_one_more};
+
+use checkpoint::NextCheckpoint;
+use roadnet::Network;
+
+/// A checkpoint that is going.
+#[derive(Drop)]
+pub struct GoingCheckpoint {
+    /// What of it is written.
+    pub next: NextCheckpoint,
+    /// The durable network, as it was when the checkpoint began.
+    pub frozen: Network,
+    /// How many pages of the journal were committed since.
+    pub committed: u32,
+}
+
+// One page of the journal more was committed.
+pub fn count_page(going: &mut Option<GoingCheckpoint>)
+    requires { IfSome going.old (λ g. g.committed + 1 < 2 ^ 32) }
+    ensures { going.new ≡ option_map with_one_more going.old }
+{
+    if let Some(going) = going {
+        going.committed += 1;
+    }
+}

@@ -7,6 +7,8 @@ mod publishers;
 mod readers;
 mod rules;
 mod shown;
+#[cfg(test)]
+mod tests;
 
 pub use published::Published;
 pub use publishers::Publisher;

@@ -2,7 +2,8 @@
 use Rattle.std.proofs.Common.{◌≡◌, ◌∙◌, ℕ, Bool, true, false, ◌&&◌, ◌⊎◌, inl, inr, List, [], ◌∷◌, Option, None, Some, Result, Ok, Err, refl, sym, ap, subst, arith, ⊎_elim, nat_eq, Contains}
 use Rattle.std.proofs.lemmas.Bool.Decides.{nat_tests}
 use Rattle.std.specs.Prelude.{OnOk, OnErr, option_map}
-use Rattle.std.specs.Option.{option_map_or}
+use Rattle.std.specs.Option.{option_map_or, ForSome}
+use Rattle.std.specs.NonZero.{non_zero_usize_get}
 use Rattle.std.specs.Map.{lookup, lookup_entry, remove_entry}
 use Rattle.roadnet.specs.Net.{Net}
 use Rattle.roadnet.specs.Walks.{RowOf}
@@ -10,11 +11,7 @@ use Rattle.lru.proofs.Pairs.{lookup-lookup_entry}
 use Rattle.lru.specs.LruCache.{LruCache, lru_cache, promoted, put_entries}
 use Rattle.lru.proofs.CallerLemmas.{Contains-lookup, Contains-promoted, Contains-put_entries, IsPut}
 use Rattle.rows.specs.declared.caches.RowCache.{RowCache}
-use Rattle.rows.specs.Cached.{KeptRow, key, kept_row, rows_of, HasRowsOf, HasNoNewRow, HasOneNewRow, KeepsOthers}
-
--- two keys are the same
-abbrev pub key_eq : ℕ × ℕ → ℕ × ℕ → Bool
-key_eq a b = nat_eq a.0 b.0 && nat_eq a.1 b.1
+use Rattle.rows.specs.Cached.{KeptRow, key, key_eq, kept_row, row_kept, rows_of, rows_used, rows_put, capacity_of, HasRowsOf, HasNoNewRow, HasOneNewRow, HasUsed, KeepsOthers}
 
 abbrev row_at : ℕ × ℕ → List (Option ℕ) → KeptRow
 row_at k row = (k, row)
@@ -111,3 +108,36 @@ module _ (version source : ℕ) (row : List (Option ℕ)) (old new : RowCache) w
       ⊎_elim (λ (was : Contains (rows_of old) (kept_row other s r)). was)
       (λ (same : kept_row other s r ≡ kept_row version source row). absurd (ne (ap (λ (k : KeptRow). k.0.0) same)))
       (one (kept_row other s r) there)
+
+-- the map of a cache
+abbrev Rows : Type 0
+Rows = LruCache (ℕ × ℕ) (List (Option ℕ))
+
+same_map : (rows : Rows) (entries : List KeptRow) (cap : ℕ) → rows.entries ≡ entries → rows.cap ≡ cap → rows ≡ lru_cache entries cap
+same_map rows entries cap first second =
+    subst (λ (es : List KeptRow). rows ≡ lru_cache es cap) first (subst (λ (n : ℕ). rows ≡ lru_cache rows.entries n) second refl)
+
+sized_as : (cache : RowCache) (rows : Rows) → cache.rows ≡ Some rows → rows.cap ≡ capacity_of cache
+sized_as cache rows is = (subst (λ (o : Option Rows). ForSome o (λ r. r.cap ≡ non_zero_usize_get cache.capacity)) is cache.sized) rows refl
+
+module _ (version source : ℕ) where
+  -- what a put leaves, in order
+  pub put_by : {X E : Type 0} (old cache : RowCache) (rows left : Rows) (row : List (Option ℕ)) (result : Result X E)
+      → rows_of cache ≡ rows_of old → capacity_of cache ≡ capacity_of old → cache.rows ≡ Some rows
+      → OnOk result (left ≡ lru_cache (put_entries key_eq rows (key version source) row) rows.cap) → OnErr result (left ≡ rows)
+      → (left.entries ≡ rows_of old) ⊎ (left.entries ≡ rows_put version source row old)
+  put_by old cache rows left row (Ok x) same size is ok err =
+      let map_is : rows ≡ lru_cache (rows_of old) (capacity_of old) =
+      same_map rows (rows_of old) (capacity_of old) (sym (all_in_cache cache rows is) ∙ same) (sized_as cache rows is ∙ size) in
+      inr (ap (λ (l : Rows). l.entries) ok ∙ ap (λ (r : Rows). put_entries key_eq r (key version source) row) map_is)
+  put_by old cache rows left row (Err e) same size is ok err = inl (ap (λ (l : Rows). l.entries) err ∙ sym (all_in_cache cache rows is) ∙ same)
+
+  -- a row that was not kept and was put, or found no room
+  pub used_by_put : (old found new : RowCache) (row : List (Option ℕ)) → row_kept version source old ≡ None
+      → rows_of found ≡ rows_of old → capacity_of found ≡ capacity_of old → rows_of found ≡ rows_used version source old
+      → (rows_of new ≡ rows_of found) ⊎ (rows_of new ≡ rows_put version source row found) → HasUsed version source old new
+  used_by_put old found new row none same size used put =
+      ⊎_elim (λ (stays : rows_of new ≡ rows_of found). inl (stays ∙ used))
+      (λ (first : rows_of new ≡ rows_put version source row found).
+      inr (none, (row, first ∙ ap (λ (r : Rows). put_entries key_eq r (key version source) row) (same_map (lru_cache (rows_of found) (capacity_of found)) (rows_of old) (capacity_of old) same size))))
+      put

@@ -1,9 +1,9 @@
 -- What a value that answers queries of a network keeps.
-use Rattle.std.specs.Prelude.{◌≡◌, ◌≤◌, ℕ, Option, Some, MatchOption, unwrap_or, ⊤}
+use Rattle.std.specs.Prelude.{◌≡◌, ◌≤◌, ℕ, Option, Some, IsSome, MatchOption, unwrap_or, ⊤}
 use Rattle.std.specs.Option.{ForSome}
 use Rattle.roadnet.specs.Net.{Net}
 use Rattle.snapshot.specs.Groups.{Groups, IsSnapshotOf, default_width}
-use Rattle.rows.specs.Cached.{HasRowsOf}
+use Rattle.rows.specs.Cached.{HasRowsOf, row_kept}
 use Rattle.rows.specs.declared.searches.Searches.{Searches}
 
 -- a width of a search's buckets
@@ -29,3 +29,7 @@ pub record AreOf (net : Net) (s : Searches) : Type 0 where
 -- the groups were made
 abbrev pub HasGroupsOf : Net → Searches → Type 0
 HasGroupsOf net s = (groups : Groups) × (s.snapshot ≡ Some groups) × AreGroupsOf net s.delta groups
+
+-- the groups were made, and the row of this source is kept
+abbrev pub IsHeld : ℕ → Searches → Type 0
+IsHeld source s = IsSome s.snapshot × IsSome (row_kept 0 source s.rows)

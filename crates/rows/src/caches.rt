@@ -24,11 +24,11 @@ pub struct RowCache {
 }
 
 impl RowCache {
-    ghost use Rattle.std.specs.Prelude.{◌≡◌, ◌≤◌, ℕ, [], None, length, Contains, IfSome, IfOk, OnErr};
+    ghost use Rattle.std.specs.Prelude.{◌≡◌, ◌≤◌, ◌⊎◌, ℕ, [], None, length, Contains, IsSome, IfSome, IsOk, IfOk, OnErr, MatchOption};
     ghost use Rattle.roadnet.specs.Net.{Net, IsNode};
     ghost use Rattle.snapshot.specs.Groups.{IsSnapshotOf};
     ghost use Rattle.rows.specs.Replies.{IsDistance};
-    ghost use Rattle.rows.specs.Cached.{capacity_of, rows_of, HasRowsOf, HasNoNewRow, HasOneNewRow, KeepsOthers};
+    ghost use Rattle.rows.specs.Cached.{capacity_of, rows_of, HasRowsOf, HasNoNewRow, HasOneNewRow, HasUsed, KeepsOthers, row_kept, rows_used, rows_put};
 
     /// An empty cache for so many rows, 1 to 64. It takes no memory before the first row is kept.
     pub fn new(alloc: Global, capacity: u32) -> RowCache
@@ -77,6 +77,8 @@ impl RowCache {
         ensures found { IfSome result (λ reply. (net : Net) → HasRowsOf version net self.old → IsNode net target → IsDistance net source target reply) }
         ensures rows { HasNoNewRow self.old self.new }
         ensures missed { result ≡ None → rows_of self.new ≡ rows_of self.old }
+        ensures held { MatchOption result (row_kept version source self.old ≡ None) (λ _. IsSome (row_kept version source self.old)) }
+        ensures used { rows_of self.new ≡ rows_used version source self.old }
         ensures capacity { capacity_of self.new ≡ capacity_of self.old }
     {
         let Some(rows) = &mut self.rows else {
@@ -104,6 +106,7 @@ impl RowCache {
     /// Keeps a row. Where no memory is there for it, it is dropped, and what was kept still is.
     fn keep(&mut self, version: u64, source: u32, distances: Distances)
         ensures rows { HasOneNewRow self.old self.new version source distances }
+        ensures put { (rows_of self.new ≡ rows_of self.old) ⊎ (rows_of self.new ≡ rows_put version source distances self.old) }
         ensures capacity { capacity_of self.new ≡ capacity_of self.old }
     {
         self.make_map();
@@ -130,6 +133,8 @@ impl RowCache {
         ensures distance { IfOk result (λ reply. (net : Net) → IsSnapshotOf net snapshot.now → HasRowsOf version net self.old → IsNode net target → IsDistance net source target reply) }
         ensures kept { (net : Net) → IsSnapshotOf net snapshot.now → HasRowsOf version net self.old → HasRowsOf version net self.new }
         ensures others { KeepsOthers version self.old self.new }
+        ensures held { IsSome (row_kept version source self.old) → IsOk result }
+        ensures used { HasUsed version source self.old self.new }
         ensures cut { OnErr result (rows_of self.new ≡ rows_of self.old) }
         ensures capacity { capacity_of self.new ≡ capacity_of self.old }
     {

@@ -1,5 +1,5 @@
-ghost use Rattle.std.specs.Prelude.{◌≡◌, ℕ, IfOk, IsOk, IsSome, OnErr};
-ghost use Rattle.rows.specs.Cached.{KeepsOthers, HasRowsOf, capacity_of, rows_of};
+ghost use Rattle.std.specs.Prelude.{◌≡◌, ℕ, None, IfOk, IsOk, IsSome, OnErr};
+ghost use Rattle.rows.specs.Cached.{KeepsOthers, HasRowsOf, HasUsed, capacity_of, row_kept, rows_of};
 ghost use Rattle.rows.specs.Replies.{IsRight, refusal_of};
 ghost use Rattle.rows.specs.Views.{AreRight};
 ghost use Rattle.rows.specs.Pins.{viewed, cached, HasOwnRows, IsSamePin};
@@ -35,6 +35,9 @@ fn dist_by<R: Threads>(
     ensures refused { IsSome (refusal_of view.now.network (Dist source target)) → IsOk result }
     ensures kept { HasRowsOf view.now.version view.now.network cache.new }
     ensures others { KeepsOthers view.now.version cache.old cache.new }
+    ensures held { IsSome (row_kept view.now.version source cache.old) → IsOk result }
+    ensures used { refusal_of view.now.network (Dist source target) ≡ None → HasUsed view.now.version source cache.old cache.new }
+    ensures unused { IsSome (refusal_of view.now.network (Dist source target)) → rows_of cache.new ≡ rows_of cache.old }
     ensures cut { OnErr result (rows_of cache.new ≡ rows_of cache.old) }
     ensures capacity { capacity_of cache.new ≡ capacity_of cache.old }
 {
@@ -132,6 +135,9 @@ impl<'a> Pinned<'a> {
         ensures refused { IsSome (refusal_of (viewed self.old).network (Dist source target)) → IsOk result }
         ensures kept { HasOwnRows self.new }
         ensures others { KeepsOthers (viewed self.old).version (cached self.old) (cached self.new) }
+        ensures held { IsSome (row_kept (viewed self.old).version source (cached self.old)) → IsOk result }
+        ensures used { refusal_of (viewed self.old).network (Dist source target) ≡ None → HasUsed (viewed self.old).version source (cached self.old) (cached self.new) }
+        ensures unused { IsSome (refusal_of (viewed self.old).network (Dist source target)) → rows_of (cached self.new) ≡ rows_of (cached self.old) }
         ensures cut { OnErr result (rows_of (cached self.new) ≡ rows_of (cached self.old)) }
         ensures same { IsSamePin self.old self.new }
     {

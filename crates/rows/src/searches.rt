@@ -1,9 +1,10 @@
-ghost use Rattle.std.specs.Prelude.{◌≡◌, ◌≤◌, IfOk, IsOk, IsSome, OnOk};
+ghost use Rattle.std.specs.Prelude.{◌≡◌, ◌≤◌, None, IfOk, IsOk, IsSome, OnOk, OnErr};
 ghost use Rattle.std.specs.Option.{ForSome};
 ghost use Rattle.roadnet.specs.Net.{Net};
 ghost use Rattle.rows.specs.Replies.{IsRight, refusal_of};
 ghost use Rattle.rows.specs.declared.queries.Query.TheVariants.{Dist};
-ghost use Rattle.rows.specs.Kept.{IsWidth, given_width, AreOf, HasGroupsOf};
+ghost use Rattle.rows.specs.Cached.{HasUsed, rows_of};
+ghost use Rattle.rows.specs.Kept.{IsWidth, IsHeld, given_width, AreOf, HasGroupsOf};
 
 use crate::answers::refusal_of;
 use crate::caches::RowCache;
@@ -56,6 +57,8 @@ impl Searches {
         ensures grouped { OnOk result (HasGroupsOf network.now self.new) }
         ensures kept { AreOf network.now self.new }
         ensures delta { given_width self.new ≡ given_width self.old }
+        ensures made { IsSome self.old.snapshot → IsOk result }
+        ensures rows { self.new.rows ≡ self.old.rows }
     {
         if self.snapshot.is_some() {
             return Ok(());
@@ -89,6 +92,10 @@ impl Searches {
         ensures refused { IsSome (refusal_of network.now (Dist source target)) → IsOk result }
         ensures kept { AreOf network.now self.new }
         ensures delta { given_width self.new ≡ given_width self.old }
+        ensures held { IsHeld source self.old → IsOk result }
+        ensures used { refusal_of network.now (Dist source target) ≡ None → OnOk result (HasUsed 0 source self.old.rows self.new.rows) }
+        ensures unused { IsSome (refusal_of network.now (Dist source target)) → self.new ≡ self.old }
+        ensures cut { OnErr result (rows_of self.new.rows ≡ rows_of self.old.rows) }
     {
         let query = Query::Dist { source, target };
         if let Some(refusal) = refusal_of(network, &query) {

@@ -291,3 +291,48 @@ fn row_of_a_node(rt: HostRuntime) -> Result<(), Refusal> {
     assert!(rt; row.distances.get(1).is_none());
     Ok(())
 }
+
+/// The reply to `Dist` for node 6, none where memory was wanting for a row, and how many rows the cache keeps then.
+fn ask_and_count<R: Threads>(
+    rt: &R,
+    alloc: Global,
+    view: &View,
+    cache: &mut RowCache,
+    source: u64,
+) -> (Option<Reply>, usize)
+    requires { HasRowsOf view.now.version view.now.network cache.old }
+    ensures kept { HasRowsOf view.now.version view.now.network cache.new }
+{
+    let reply = ask(rt, alloc, view, cache, source, 6).ok();
+    (reply, cache.len())
+}
+
+/// Where memory is wanting for a row that is answered, and what the cache keeps stays. A row that is kept answers without memory, and so do
+/// bounds. To be run with each allocation failing in turn.
+#[test]
+fn allocations_fail_in_turn(rt: HostRuntime) {
+    let Ok(network) = six(rt.alloc(), &[3]) else {
+        return;
+    };
+    let Ok(view) = View::build(rt.alloc(), 1, network, None, &Solo) else {
+        return;
+    };
+    let mut cache = RowCache::new(rt.alloc(), 16);
+    let told = [
+        ask_and_count(&rt, rt.alloc(), &view, &mut cache, 1),
+        ask_and_count(&rt, rt.alloc(), &view, &mut cache, 2),
+        ask_and_count(&rt, rt.alloc(), &view, &mut cache, 1),
+    ];
+    let one = Some(Reply::Length(15));
+    let two = Some(Reply::Length(5));
+    let wanted = [
+        [(one, 1), (two, 2), (one, 2)],
+        [(one, 1), (two, 1), (one, 1)],
+        [(one, 1), (None, 1), (one, 1)],
+        [(one, 0), (two, 1), (one, 2)],
+        [(None, 0), (two, 1), (one, 2)],
+    ];
+    assert!(rt; wanted.contains(&told), "{told:?}");
+    let pinned = view.pinned(&mut cache);
+    assert!(rt; pinned.lower(5, 6) == Reply::AtLeast(5));
+}

@@ -1,4 +1,4 @@
-use Rattle.rows.proofs.CacheRows.{still_rows, rows_with_one, others_with_one}
+use Rattle.rows.proofs.CacheRows.{still_rows, rows_with_one, others_with_one, used_by_put}
 use Rattle.rows.proofs.caches.RowCache.distance.Goals as goal
 
 pub returns-in-Some-clause-kept : goal.returns-in-Some-clause-kept
@@ -18,3 +18,8 @@ returns-in-Ok-clause-others g c other source row ne there =
 
 pub returns-in-Ok-clause-distance : goal.returns-in-Ok-clause-distance
 returns-in-Ok-clause-distance g c net of has node = c.distance_in-reply.ensures net c.args.source node (c.in-Ok.ensures.row net of)
+
+pub returns-in-Ok-clause-used : goal.returns-in-Ok-clause-used
+returns-in-Ok-clause-used g c =
+    used_by_put c.args.version c.args.source c.args.self.now c.find.new.self c.keep.new.self c.in-Ok.distances c.in_default.ensures.held (c.find.ensures.missed c.in_default.is)
+    c.find.ensures.capacity c.find.ensures.used c.keep.ensures.put

@@ -1,4 +1,5 @@
-ghost use Rattle.std.specs.Prelude.{◌≡◌, ◌≤◌, false, IfOk};
+ghost use Rattle.std.specs.Prelude.{◌≡◌, ◌≤◌, true, IfOk};
+ghost use Rattle.store.specs.Durable.{is_calm};
 
 use crate::{Rehearsal, rehearse};
 use disk::{Disk, MemDisk, Pick};
@@ -23,7 +24,7 @@ fn arc(tail: u32, head: u32, length: u32) -> RoadArc {
 fn six(alloc: Global, journal_pages: u32) -> Result<Store<MemDisk>, Refusal>
     requires some { 1 ≤ journal_pages }
     requires few { journal_pages ≤ 65536 }
-    ensures { IfOk result (λ store. store.broken ≡ false) }
+    ensures { IfOk result (λ store. is_calm store ≡ true) }
 {
     let arcs = [
         arc(1, 2, 17),

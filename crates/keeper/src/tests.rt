@@ -1,4 +1,5 @@
-ghost use Rattle.std.specs.Prelude.{◌≡◌, ◌≤◌, false, IfOk};
+ghost use Rattle.std.specs.Prelude.{◌≡◌, ◌≤◌, true, IfOk};
+ghost use Rattle.store.specs.Durable.{is_calm};
 ghost use Rattle.machine.specs.Calls.{IsTicketOf};
 
 use crate::Keeper;
@@ -99,7 +100,7 @@ fn keeper_of<R: Threads, D: Disk + Drop>(
     alloc: Global,
     store: Store<D>,
 ) -> Result<Keeper<D>, Refusal>
-    requires { store.broken ≡ false }
+    requires { is_calm store ≡ true }
 {
     match Keeper::new(rt, alloc, store, None) {
         Ok(keeper) => Ok(keeper),

@@ -19,11 +19,7 @@ fn three_pages(alloc: Global, journal_pages: u32) -> Result<MemDisk, Refusal>
 }
 
 // The same on this empty disk.
-fn three_pages_on<D: Disk + Drop>(
-    alloc: Global,
-    disk: D,
-    journal_pages: u32,
-) -> Result<D, Refusal>
+fn three_pages_on<D: Disk + Drop>(alloc: Global, disk: D, journal_pages: u32) -> Result<D, Refusal>
     requires some { 1 ≤ journal_pages }
     requires few { journal_pages ≤ 65536 }
 {

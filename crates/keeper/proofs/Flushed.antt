@@ -10,7 +10,7 @@ use Rattle.roadnet.specs.Net.{Net}
 use Rattle.roadnet.specs.Step.{after, first_refusal}
 use Rattle.storefile.specs.StoreFile.{StandsTidyFor}
 use Rattle.storefile.specs.Standing.{Standing, IsBeforeOrAfter}
-use Rattle.store.specs.Committing.{refusal_of_commit, MayRefuseCommit, StandsTidily}
+use Rattle.store.specs.Committing.{refusal_of_commit, MayRefuseCommit}
 use Rattle.store.specs.Going.{Progress, with_page_committed}
 use Rattle.keeper.specs.Keeping.{as_checkpoint}
 use Rattle.machine.specs.Machine.{Checkpoint, Sizes, Machine, IsState, latest, batch, most_versions, network_at}
@@ -176,35 +176,31 @@ module _ (m : Machine) (accepted durable shown : Net) (task : Option (ℕ × Net
         (why refusal h))
 
     -- what the disk holds then
-    module _ (content content' : List ℕ) (left left' : List ℕ → Type 0) (standing standing' : Standing) where
+    module _ (content content' : List ℕ) (left left' : List ℕ → Type 0) where
       pub record Written (result : Result ℕ Refusal) : Type 0 where
-        pub same : IfErr result (λ refusal. (refusal ≡ Device → ⊥) → (content' ≡ content) × ((c : List ℕ) → left' c → left c) × (standing' ≡ standing))
+        pub same : IfErr result (λ refusal. (refusal ≡ Device → ⊥) → (content' ≡ content) × ((c : List ℕ) → left' c → left c))
         pub in_flight : (c : List ℕ) → left' c → IsBeforeOrAfter m.sizes.journal_pages durable m.durable commands c
         pub durably : OnOk result ((c : List ℕ) → left' c → StandsTidyFor sizes.journal_pages c next version)
         pub only : OnOk result (Only content' left')
-        pub stands : OnOk result (StandsTidily content' standing')
 
-      pub holds_by : (result : Result ℕ Refusal) → Committed result → Written result → Holds content left m standing → Holds content' left' flushed standing'
+      pub holds_by : (result : Result ℕ Refusal) → Committed result → Written result → Holds content left m → Holds content' left' flushed
       holds_by (Ok v) h w old = record {
         only = λ calm. w.only;
-        stands = λ calm. w.stands;
         each_left = λ c was. record { version = version; left = inl refl; network = next; network_is = let k : IsKept flushed accepted next shown task = kept_by (Ok v) h in k.durable_is; stands = w.durably c was };
       }
       holds_by (Err refusal) h w old =
           ⊎_elim
           (λ memory.
           let e = w.same (not_memory refusal memory) in
-          subst (λ (x : Machine). Holds content' left' x standing') (sym (flushed_same refusal h memory))
+          subst (λ (x : Machine). Holds content' left' x) (sym (flushed_same refusal h memory))
           (record {
             only = λ calm c was. old.only calm c (e.1 c was) ∙ sym e.0;
-            stands = λ calm. subst (λ (x : List ℕ). StandsTidily x standing') (sym e.0) (subst (λ (x : Standing). StandsTidily content x) (sym e.2) (old.stands calm));
             each_left = λ c was. old.each_left c (e.1 c was);
           }))
           (λ device.
-          subst (λ (x : Machine). Holds content' left' x standing') (sym (flushed_failed refusal h device))
+          subst (λ (x : Machine). Holds content' left' x) (sym (flushed_failed refusal h device))
           (record {
             only = λ calm. let never : true ≡ false = calm in absurd cc;
-            stands = λ calm. let never : true ≡ false = calm in absurd cc;
             each_left = λ c was. held c (w.in_flight c was);
           }))
           (why refusal h)

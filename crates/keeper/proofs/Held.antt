@@ -12,8 +12,6 @@ use Rattle.roadnet.specs.declared.refusals.Refusal.TheVariants.{OutOfMemory, Dev
 use Rattle.roadnet.specs.Net.{Net}
 use Rattle.roadnet.specs.Step.{after}
 use Rattle.storefile.specs.StoreFile.{StandsTidyFor}
-use Rattle.storefile.specs.Standing.{Standing}
-use Rattle.store.specs.Committing.{StandsTidily}
 use Rattle.store.specs.Checkpointing.{refusal_of_checkpoint, MayRefuseCheckpoint}
 use Rattle.machine.specs.Machine.{Sizes, Machine, IsState, latest, network_at}
 use Rattle.machine.specs.Calls.{failed, IsLeft}
@@ -37,16 +35,15 @@ pub no_call : {D : Type 0} (left : D → List ℕ → Type 0) (moment : D → �
     → ((c : List ℕ) → left_since disk (moment disk) c → left disk c) → ((c : List ℕ) → left disk c → P c) → LeavesOnly moment left_since disk disk P
 no_call left moment left_since disk P now each = started moment left_since disk P (λ c since. each c (now c since))
 
-module _ (content : List ℕ) (left : List ℕ → Type 0) (standing : Standing) where
+module _ (content : List ℕ) (left : List ℕ → Type 0) where
   -- a machine whose durable commands stay, and what is in flight
   pub holds_on : (old new : Machine) → new.sizes ≡ old.sizes → new.durable ≡ old.durable → new.in_flight ≡ old.in_flight → new.broken ≡ old.broken
-      → ((v : ℕ) → v ≤ latest old → network_at new v ≡ network_at old v) → IsState old → Holds content left old standing → Holds content left new standing
+      → ((v : ℕ) → v ≤ latest old → network_at new v ≡ network_at old v) → IsState old → Holds content left old → Holds content left new
   holds_on old new sizes durable in_flight broken networks s h =
       let left_too : (v : ℕ) → IsLeft old v → IsLeft new v =
       λ v is. ⊎_elim (λ e. inl (e ∙ sym durable)) (λ e. inr (omega arith)) is in
       record {
         only = λ works. h.only (sym broken ∙ works);
-        stands = λ works. h.stands (sym broken ∙ works);
         each_left = λ c was.
             let held : IsDurableIn old c = h.each_left c was in
             let between : (old.durable ≤ held.version) × (held.version ≤ latest old) = left_between old s held.version held.left in
@@ -60,19 +57,17 @@ module _ (content : List ℕ) (left : List ℕ → Type 0) (standing : Standing)
       }
 
   -- a disk that is alike
-  pub holds_alike : (content' : List ℕ) (left' : List ℕ → Type 0) (m : Machine) → content' ≡ content → ((c : List ℕ) → left' c → left c) → Holds content left m standing → Holds content' left' m standing
+  pub holds_alike : (content' : List ℕ) (left' : List ℕ → Type 0) (m : Machine) → content' ≡ content → ((c : List ℕ) → left' c → left c) → Holds content left m → Holds content' left' m
   holds_alike content' left' m same among h = record {
     only = λ works c was. h.only works c (among c was) ∙ sym same;
-    stands = λ works. subst (λ (x : List ℕ). StandsTidily x standing) (sym same) (h.stands works);
     each_left = λ c was. h.each_left c (among c was);
   }
 
--- a disk that is alike, of a store that tells the same, and a machine whose durable commands stay
-pub holds_armed : (content content' : List ℕ) (left left' : List ℕ → Type 0) (standing standing' : Standing) (old new : Machine) → content' ≡ content → ((c : List ℕ) → left' c → left c) → standing' ≡ standing
-    → new.sizes ≡ old.sizes → new.durable ≡ old.durable → new.in_flight ≡ old.in_flight → new.broken ≡ old.broken → ((v : ℕ) → v ≤ latest old → network_at new v ≡ network_at old v) → IsState old → Holds content left old standing → Holds content' left' new standing'
-holds_armed content content' left left' standing standing' old new same among told sizes durable in_flight broken networks s h =
-    subst (λ (x : Standing). Holds content' left' new x) (sym told)
-    (holds_on content' left' standing old new sizes durable in_flight broken networks s (holds_alike content left standing content' left' old same among h))
+-- a disk that is alike, and a machine whose durable commands stay
+pub holds_armed : (content content' : List ℕ) (left left' : List ℕ → Type 0) (old new : Machine) → content' ≡ content → ((c : List ℕ) → left' c → left c)
+    → new.sizes ≡ old.sizes → new.durable ≡ old.durable → new.in_flight ≡ old.in_flight → new.broken ≡ old.broken → ((v : ℕ) → v ≤ latest old → network_at new v ≡ network_at old v) → IsState old → Holds content left old → Holds content' left' new
+holds_armed content content' left left' old new same among sizes durable in_flight broken networks s h =
+    holds_on content' left' old new sizes durable in_flight broken networks s (holds_alike content left content' left' old same among h)
 
 pub same_commands : (base : Net) (n : ℕ) (items items' : List Command) → items' ≡ items → after base (take n items') ≡ after base (take n items)
 same_commands base n items items' is = ap (λ (xs : List Command). after base (take n xs)) is

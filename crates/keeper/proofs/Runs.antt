@@ -9,12 +9,9 @@ use Rattle.roadnet.specs.Net.{Net}
 use Rattle.roadnet.specs.Step.{after}
 use Rattle.pages.specs.Layout.{pages_for}
 use Rattle.storefile.specs.StoreFile.{StandsTidyFor}
-use Rattle.storefile.specs.Standing.{Standing}
 use Rattle.disk.specs.Contents.{Only}
-use Rattle.disk.specs.declared.disk.Disk.{Ghosts}
-use Rattle.store.specs.declared.store.Store.{Store}
-use Rattle.store.specs.Committing.{StandsTidily}
-use Rattle.store.proofs.Committed.{left_stands}
+use Rattle.store.specs.State.{StoreState, IsDurable}
+use Rattle.store.proofs.StateKept.{left_durable}
 use Rattle.keeper.proofs.Held.{at_base}
 use Rattle.keeper.specs.Keeping.{IsDurableIn, sizes_of}
 use Rattle.machine.specs.declared.events.Writing.{Writing}
@@ -33,8 +30,8 @@ use Rattle.keeper.proofs.LivesInRun.{Later, later_none, does_later, does_in, wri
 use Rattle.keeper.proofs.Stopped.{opens_in, there_after, begun_after, sizes_after, slot_after}
 
 -- the store that a run begins with
-abbrev pub first_of : {D : Type 0} {disk : Ghosts D} → Store D disk → First
-first_of store = record { sizes = sizes_of store.header; network = store.network; version = store.version; unchecked = store.unchecked }
+abbrev pub first_of : {D : Type 0} → StoreState D → First
+first_of store = record { sizes = sizes_of store; network = store.network; version = store.version; unchecked = store.unchecked }
 
 -- what was told of a write before the stop's own reply
 pub record Told (old mid : Machine) (w : Writing) (replies replies' : List Replied) : Type 0 where
@@ -68,13 +65,13 @@ lives_of left first events events' replies ended history e r =
     subst (λ (es : List (Event _)). HasLived left first es replies ended history) e r
 
 -- what a stop leaves of a store that was just opened
-pub held_at_start : (content : List ℕ) (left : List ℕ → Type 0) (x : Standing) (unchecked : ℕ) → Only content left → StandsTidily content x → (c : List ℕ) → left c → IsDurableIn (start (sizes_of x.header) x.network x.version unchecked) c
-held_at_start content left x unchecked only stands c was = record {
-  version = x.version;
+pub held_at_start : {D : Type 0} (s : StoreState D) (content : List ℕ) (left : List ℕ → Type 0) → Only content left → IsDurable s content → (c : List ℕ) → left c → IsDurableIn (start (sizes_of s) s.network s.version s.unchecked) c
+held_at_start s content left only stands c was = record {
+  version = s.version;
   left = inl refl;
-  network = x.network;
-  network_is = at_base x.network x.network (x.version - x.version) [] refl refl;
-  stands = left_stands content left x only stands c was;
+  network = s.network;
+  network_is = at_base s.network s.network (s.version - s.version) [] refl refl;
+  stands = left_durable s content left only stands c was;
 }
 
 -- what was durable of a life that has halted

@@ -5,7 +5,6 @@ use Rattle.roadnet.specs.declared.commands.Command.{Command}
 use Rattle.roadnet.specs.declared.refusals.Refusal.{Refusal}
 use Rattle.roadnet.specs.Net.{Net}
 use Rattle.roadnet.specs.Step.{after, changed, refusal_of}
-use Rattle.roadnet.proofs.InTurn.{arcs_all, length-changed_arcs}
 use Rattle.roadnet.proofs.Stepped.{after_both}
 use Rattle.pages.specs.declared.header.Header.{Header}
 use Rattle.pages.specs.Layout.{pages_for, word_pages}
@@ -19,27 +18,10 @@ use Rattle.machine.specs.LifeInRun.{within}
 use Rattle.machine.proofs.InRun.{stops_begin_lives}
 use Rattle.machine.proofs.Kept.{left_between}
 use Rattle.store.proofs.Afterwards.{reopened}
-use Rattle.keeper.specs.Keeping.{IsDurableIn, sizes_of}
+use Rattle.store.proofs.ArcsKept.{same_arcs, arcs_of_header}
+use Rattle.store.specs.State.{Told, told_of}
+use Rattle.keeper.specs.Keeping.{IsDurableIn}
 use Rattle.keeper.specs.Rehearsing.{HasSlotOfNetwork, BeginsAfter}
-
--- ---- commands keep the number of arcs
-arcs_of_one : (net : Net) (c : Command) → length (changed net c).arcs ≡ length net.arcs
-arcs_of_one net c = ap length (arcs_all net (c ∷ [])) ∙ length-changed_arcs net.arcs c
-
-pub same_arcs : (net next : Net) (commands : List Command) → after net commands ≡ Some next → length next.arcs ≡ length net.arcs
-same_arcs net next [] e = let same : next ≡ net = cc in ap (λ (n : Net). length n.arcs) same
-same_arcs net next (c ∷ cs) e = go (refusal_of net c) (λ rest. same_arcs (changed net c) next cs rest) e
-  where
-    go : (o : Option Refusal) → (after (changed net c) cs ≡ Some next → length next.arcs ≡ length (changed net c).arcs) → option_and_then (λ n. after n cs) (cond (is_none o) (Some (changed net c)) None) ≡ Some next → length next.arcs ≡ length net.arcs
-    go None f e = f e ∙ arcs_of_one net c
-    go (Some r) f e = cc
-
--- a file's header tells how many arcs its network has
-pub arcs_of_header : (content : List ℕ) (x : Standing) → standing_of content ≡ Some x → x.header.arcs ≡ length x.network.arcs
-arcs_of_header content x told =
-    let held = stored_as content x told in
-    let kept : length x.network.arcs ≡ length held.stored.network.arcs = same_arcs held.stored.network x.network (commands_of held.stored) held.stands.gives.network in
-    sym (kept ∙ (held.stands.is.arcs.count_is ∙ ap (λ (h : Header). h.arcs) held.header_is))
 
 -- ---- what opening tells of a content that stands for a network at a version
 pub record IsOpened (journal_pages : ℕ) (content : List ℕ) (net : Net) (version : ℕ) (x : Standing) : Type 0 where
@@ -54,11 +36,24 @@ is_opened journal_pages content net version x stands told =
     record { network_is = is.0; version_is = is.1; pages_are = is.3; stands = is.2 }
 
 -- ---- the life that begins
+abbrev sizes_told : Told → Sizes
+sizes_told t = record { journal_pages = t.journal_pages; slot_pages = t.slot_pages }
+
+-- the state in which a life begins, whose store tells this
+abbrev pub start_of : Told → Machine
+start_of t = start (sizes_told t) t.network t.version t.unchecked
+
+few_unchecked : (content : List ℕ) (x : Standing) → standing_of content ≡ Some x → x.unchecked ≤ x.header.journal_pages
+few_unchecked content x told =
+    let held = stored_as content x told in
+    let pages : held.stored.header.journal_pages ≡ x.header.journal_pages = ap (λ (h : Header). h.journal_pages) held.header_is in
+    omega (arith, held.stands.is.few, held.unchecked_is, pages)
+
 module _ (m : Machine) (content : List ℕ) (x : Standing) (s : IsState m) (held : IsDurableIn m content) (told : standing_of content ≡ Some x) (slot : HasSlotOfNetwork m) where
   o : IsOpened m.sizes.journal_pages content held.network held.version x
   o = is_opened m.sizes.journal_pages content held.network held.version x held.stands told
 
-  same_sizes : sizes_of x.header ≡ m.sizes
+  same_sizes : sizes_told (told_of x) ≡ m.sizes
   same_sizes =
       let arcs : x.header.arcs ≡ length m.base.arcs = arcs_of_header content x told ∙ (ap (λ (n : Net). length n.arcs) o.network_is ∙ same_arcs m.base held.network (commands_to m held.version) held.network_is) in
       let words : word_pages x.header ≡ m.sizes.slot_pages = ap (pages_for 1023) arcs ∙ sym slot in
@@ -67,13 +62,16 @@ module _ (m : Machine) (content : List ℕ) (x : Standing) (s : IsState m) (held
       both : (j w : ℕ) (z : Sizes) → j ≡ z.journal_pages → w ≡ z.slot_pages → ◌≡◌ {A = Sizes} (record { journal_pages = j; slot_pages = w }) z
       both j w z a b = rw (a, b) refl
 
-  pub begins_after : (next : Machine) → x.unchecked ≤ x.header.journal_pages → next ≡ start (sizes_of x.header) x.network x.version x.unchecked → BeginsAfter m next
-  begins_after next few is = subst (BeginsAfter m) (sym is) (record {
-    left = ⊎_elim (λ e. inl (o.version_is ∙ e)) (λ e. inr (o.version_is ∙ e)) held.left;
-    network_is = subst (λ (v : ℕ). network_at m v ≡ Some x.network) (sym o.version_is) (held.network_is ∙ ap Some (sym o.network_is));
-    begins = ap (λ (z : Sizes). start z x.network x.version x.unchecked) same_sizes;
-    unchecked_to = omega (arith, o.pages_are, few);
-  })
+  pub begins_after : (next : Machine) (t : Told) → told_of x ≡ t → next ≡ start_of t → BeginsAfter m next
+  begins_after next t same begins =
+      let is : next ≡ start_of (told_of x) = begins ∙ ap start_of (sym same) in
+      let few = few_unchecked content x told in
+      subst (BeginsAfter m) (sym is) (record {
+        left = ⊎_elim (λ e. inl (o.version_is ∙ e)) (λ e. inr (o.version_is ∙ e)) held.left;
+        network_is = subst (λ (v : ℕ). network_at m v ≡ Some x.network) (sym o.version_is) (held.network_is ∙ ap Some (sym o.network_is));
+        begins = ap (λ (z : Sizes). start z x.network x.version x.unchecked) same_sizes;
+        unchecked_to = omega (arith, o.pages_are, few);
+      })
 
   pub stands_after : StandsTidily content x
   stands_after = o.stands

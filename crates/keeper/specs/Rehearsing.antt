@@ -16,7 +16,8 @@ use Rattle.machine.specs.Machine.{Sizes, Machine, IsState, start, network_at}
 use Rattle.machine.specs.Calls.{IsLeft}
 use Rattle.machine.specs.LifeInRun.{within}
 use Rattle.machine.specs.Lives.{Turn, Passes, LivesOn}
-use Rattle.keeper.specs.Keeping.{Keeping, Holds, IsDurableIn}
+use Rattle.store.specs.State.{CameTidy}
+use Rattle.keeper.specs.Keeping.{Keeping, IsDurableIn}
 
 -- an event with a stop
 abbrev pub is_stop : {P : Type 0} → Event P → Bool
@@ -60,11 +61,10 @@ pub record HasRun {P : Type 0} (first : First) (events : List (Event P)) (replie
   pub sizes_are : m.sizes ≡ first.sizes
   pub slot : HasSlotOfNetwork m
 
--- A run so far, over an honest disk: these events were replied to so, the lives before left these commands, and the keeper of the life now
--- holds what its machine says.
-pub record IsGoing {D : Type 0} {P : Type 0} (honest : D → Type 0) (content : D → List ℕ) (left : D → List ℕ → Type 0) (first : First) (events : List (Event P)) (replies : List Replied) (history : List Command) (keeper : Keeping D) : Type 0 where
-  pub is_honest : honest keeper.disk
-  pub holds : Holds (content keeper.disk) (left keeper.disk) keeper.machine keeper.standing
+-- A run so far, of a store that came tidy: these events were replied to so, the lives before left these commands, and the keeper of the life
+-- now came tidy too.
+pub record IsGoing {D : Type 0} {P : Type 0} (honest : D → Type 0) (content : D → List ℕ) (first : First) (events : List (Event P)) (replies : List Replied) (history : List Command) (keeper : Keeping D) : Type 0 where
+  pub came : CameTidy honest content keeper.given
   pub run : HasRun first events replies history keeper.machine
 
 -- The run of these events has come to this, and a stop now leaves of the disk what its last state says.

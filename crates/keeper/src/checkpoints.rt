@@ -4,6 +4,7 @@ ghost use Rattle.disk.specs.Contents.{Rose};
 ghost use Rattle.pagereader.specs.Outcomes.{failures_told};
 ghost use Rattle.disk.specs.Moments.{LeavesOnly, AddsNothing};
 ghost use Rattle.roadnet.specs.declared.refusals.Refusal.TheVariants.{Device as device, OutOfMemory as out_of_memory};
+ghost use Rattle.store.specs.State.{CameTidy};
 ghost use Rattle.machine.specs.declared.events.Writing.TheVariants.{Checkpoint as a_checkpoint};
 ghost use Rattle.machine.specs.Machine.{IsState};
 ghost use Rattle.machine.specs.Calls.{StepsCheckpoint};
@@ -41,8 +42,7 @@ impl<D: Disk> Keeper<D> {
         ensures given { self.new.given ≡ self.old.given }
         ensures adds_nothing { self.old.machine.broken ≡ true → AddsNothing D.moment D.left_since self.old.disk self.new.disk }
         // A stop at any moment of the call leaves what stands for what is durable.
-        ensures any_moment { self.old.machine.broken ≡ false → D.honest self.old.disk → Holds (D.content self.old.disk) (D.left self.old.disk) self.old.machine self.old.standing → LeavesOnly D.moment D.left_since self.old.disk self.new.disk (IsDurableIn self.old.machine) }
-        ensures holds { D.honest self.old.disk → Holds (D.content self.old.disk) (D.left self.old.disk) self.old.machine self.old.standing → Holds (D.content self.new.disk) (D.left self.new.disk) self.new.machine self.new.standing }
+        ensures any_moment { CameTidy D.honest D.content self.old.given → self.old.machine.broken ≡ false → LeavesOnly D.moment D.left_since self.old.disk self.new.disk (IsDurableIn self.old.machine) }
         ensures honest { D.honest self.new.disk ↔ D.honest self.old.disk }
     {
         if self.broken {
@@ -68,8 +68,7 @@ impl<D: Disk> Keeper<D> {
         ensures given { self.new.given ≡ self.old.given }
         ensures adds_nothing { self.old.machine.broken ≡ true → AddsNothing D.moment D.left_since self.old.disk self.new.disk }
         // A stop at any moment of the call leaves what stands for what is durable.
-        ensures any_moment { self.old.machine.broken ≡ false → D.honest self.old.disk → Holds (D.content self.old.disk) (D.left self.old.disk) self.old.machine self.old.standing → LeavesOnly D.moment D.left_since self.old.disk self.new.disk (IsDurableIn self.old.machine) }
-        ensures holds { D.honest self.old.disk → Holds (D.content self.old.disk) (D.left self.old.disk) self.old.machine self.old.standing → Holds (D.content self.new.disk) (D.left self.new.disk) self.new.machine self.new.standing }
+        ensures any_moment { CameTidy D.honest D.content self.old.given → self.old.machine.broken ≡ false → LeavesOnly D.moment D.left_since self.old.disk self.new.disk (IsDurableIn self.old.machine) }
         ensures honest { D.honest self.new.disk ↔ D.honest self.old.disk }
     {
         for _ in 0..self.most_steps() {
@@ -86,8 +85,9 @@ impl<D: Disk> Keeper<D> {
     fn most_steps(&self) -> u32
         ensures enough { self.now.machine.sizes.slot_pages < 64 * result }
         ensures state { IsState self.now.machine }
+        ensures held { CameTidy D.honest D.content self.now.given → D.honest self.now.disk × Holds (D.content self.now.disk) (D.left self.now.disk) self.now.machine }
     {
-        let _ = &self.opened;
+        let _ = self.store.version();
         MOST_STEPS
     }
 }

@@ -4,9 +4,10 @@ ghost use Rattle.disk.specs.Contents.{Rose};
 ghost use Rattle.pagereader.specs.Outcomes.{failures_told};
 ghost use Rattle.disk.specs.Moments.{LeavesOnly, AddsNothing};
 ghost use Rattle.roadnet.specs.declared.refusals.Refusal.TheVariants.{Device as device};
+ghost use Rattle.store.specs.State.{CameTidy};
 ghost use Rattle.machine.specs.Machine.{batch};
 ghost use Rattle.machine.specs.Calls.{Flushes, refusal_of_flush, failed};
-ghost use Rattle.keeper.specs.Keeping.{Holds, IsDurableIn};
+ghost use Rattle.keeper.specs.Keeping.{IsDurableIn};
 
 use crate::keepers::{Keeper, has_failed};
 use disk::Disk;
@@ -47,8 +48,7 @@ impl<D: Disk> Keeper<D> {
         ensures given { self.new.given ≡ self.old.given }
         ensures adds_nothing { self.old.machine.broken ≡ true → AddsNothing D.moment D.left_since self.old.disk self.new.disk }
         // A stop at any moment of the call leaves what a flush that failed leaves.
-        ensures any_moment { self.old.machine.broken ≡ false → D.honest self.old.disk → Holds (D.content self.old.disk) (D.left self.old.disk) self.old.machine self.old.standing → LeavesOnly D.moment D.left_since self.old.disk self.new.disk (IsDurableIn (failed self.old.machine (batch self.old.machine))) }
-        ensures holds { D.honest self.old.disk → Holds (D.content self.old.disk) (D.left self.old.disk) self.old.machine self.old.standing → Holds (D.content self.new.disk) (D.left self.new.disk) self.new.machine self.new.standing }
+        ensures any_moment { CameTidy D.honest D.content self.old.given → self.old.machine.broken ≡ false → LeavesOnly D.moment D.left_since self.old.disk self.new.disk (IsDurableIn (failed self.old.machine (batch self.old.machine))) }
         ensures honest { D.honest self.new.disk ↔ D.honest self.old.disk }
     {
         if let Err(refusal) = self.may_flush() {

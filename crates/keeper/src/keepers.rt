@@ -32,29 +32,26 @@ pub struct Keeper<D: Disk> {
     pub(crate) broken: bool,
     /// How many commands the last write had: where it failed, they are in flight.
     pub(crate) written: Snapshot<usize>,
-    /// The store that the keeper was made of: where it came tidy, the disk holds what is durable from then on.
-    pub(crate) given: Snapshot<Store<D>>,
 }
 
 impl<D: Disk> Model for Keeper<D> {
     ghost use Rattle.std.specs.Prelude.{◌≡◌, option_map};
-    ghost use Rattle.store.specs.Durable.{told_by};
+    ghost use Rattle.store.specs.State.{CameTidy};
     ghost use Rattle.machine.specs.Keeping.{IsKept};
-    ghost use Rattle.keeper.specs.Keeping.{Keeping, CameTidy, Holds, given_of, machine_of};
+    ghost use Rattle.keeper.specs.Keeping.{Keeping, Holds, machine_of};
 
     ghost Value = { Keeping D };
 
     ghost view = { λ k. record {
       machine = machine_of k.store k.base.value k.opened k.history.items k.shown.version k.broken k.written.value (option_map (λ t. t.version) k.task);
       disk = k.store.disk;
-      standing = told_by k.store;
       width = k.shown.delta;
-      given = given_of k.given.value;
+      given = k.store.given;
     } };
 
     ghost invariant = { λ k. IsKept (machine_of k.store k.base.value k.opened k.history.items k.shown.version k.broken k.written.value (option_map (λ t. t.version) k.task)) k.network k.store.network k.shown.network (option_map (λ t. (t.version, t.network.value)) k.task)
         × (k.broken ≡ k.store.broken)
-        × (CameTidy D.honest D.content (given_of k.given.value) → D.honest k.store.disk × Holds (D.content k.store.disk) (D.left k.store.disk) (machine_of k.store k.base.value k.opened k.history.items k.shown.version k.broken k.written.value (option_map (λ t. t.version) k.task)) (told_by k.store)) };
+        × (CameTidy D.honest D.content k.store.given → D.honest k.store.disk × Holds (D.content k.store.disk) (D.left k.store.disk) (machine_of k.store k.base.value k.opened k.history.items k.shown.version k.broken k.written.value (option_map (λ t. t.version) k.task))) };
 }
 
 /// Whether the disk failed in a write that told this.

@@ -1,19 +1,20 @@
 // One life of a keeper in a rehearsal: what each event of a script does in it.
 ghost use Rattle.std.specs.Prelude.{◌≡◌, ◌≤◌, ◌∷◌, [], false, true, None, Some, length, option_map, unwrap_or, ℕ, IfOk, IfErr, IfSome};
 ghost use Rattle.std.specs.Option.{ForSome};
+ghost use Rattle.std.proofs.Props.{props};
 ghost use Rattle.disk.specs.Stop.{armed_at};
 ghost use Rattle.disk.specs.declared.stoppable.Pick.{Pick as StopPick};
 ghost use Rattle.pagereader.specs.Outcomes.{failures_told};
 ghost use Rattle.rows.specs.Kept.{IsWidth};
 ghost use Rattle.snapshot.specs.Groups.{default_width};
-ghost use Rattle.store.specs.Committing.{StandsTidily};
-ghost use Rattle.store.specs.Durable.{told_by, is_calm};
+ghost use Rattle.disk.specs.Contents.{Only};
+ghost use Rattle.store.specs.State.{CameTidy, HasRoom, HasSlotPages, IsDurable, is_calm};
 ghost use Rattle.machine.specs.declared.events.Event.TheVariants.{Submit, CheckpointStep, Task as TaskEvent, Publish, Ask};
 ghost use Rattle.machine.specs.declared.events.Replied.TheVariants.{Task as TaskOf};
 ghost use Rattle.machine.specs.Machine.{start};
 ghost use Rattle.machine.specs.Lives.{told_version, told_part, Writes, Does};
 ghost use Rattle.keeper.specs.Failures.{failures_of_write, failures_after};
-ghost use Rattle.keeper.specs.Keeping.{Holds, sizes_of};
+ghost use Rattle.keeper.specs.Keeping.{sizes_of};
 ghost use Rattle.keeper.specs.Parts.{told_as};
 ghost use Rattle.keeper.specs.Rehearsing.{is_stop, IsLife};
 
@@ -39,6 +40,7 @@ pub(crate) struct Life<D: Stoppable> {
     pub(crate) aside: Option<Arc<View>>,
     /// The width of the buckets that was given, if one was: it is that of each view.
     pub(crate) delta: Option<u32>,
+    ghost living: { IsLife keeper.machine opened (option_map (λ view. (view.value.version, view.value.network)) aside) } by { Prim.hlevel props },
     ghost width: { ForSome delta IsWidth },
     ghost shown: { (w : ℕ) → delta ≡ Some w → keeper.width ≡ w },
     ghost built: { (w : ℕ) → delta ≡ Some w → ForSome aside (λ view. view.value.delta ≡ w) },
@@ -99,12 +101,16 @@ impl<D: Stoppable> Life<D> {
     ) -> Result<Life<D>, Store<D>>
         requires calm { is_calm store ≡ true }
         requires width { ForSome delta IsWidth }
-        ensures begins { IfOk result (λ life. life.keeper.machine ≡ start (sizes_of store.header) store.network store.version store.unchecked) }
-        ensures life { IfOk result (λ life. IsLife life.keeper.machine life.opened (option_map (λ view. (view.value.version, view.value.network)) life.aside)) }
+        ensures begins { IfOk result (λ life. life.keeper.machine ≡ start (sizes_of store) store.network store.version store.unchecked) }
         ensures disk { IfOk result (λ life. life.keeper.disk ≡ store.disk) }
-        ensures holds { D.honest store.disk → StandsTidily (D.content store.disk) (told_by store) → IfOk result (λ life. Holds (D.content life.keeper.disk) (D.left life.keeper.disk) life.keeper.machine life.keeper.standing) }
+        ensures given { IfOk result (λ life. life.keeper.given ≡ store.given) }
         ensures delta { IfOk result (λ life. life.delta ≡ delta) }
         ensures handed_back { IfErr result (λ refused. refused ≡ store) }
+        // What the store told.
+        ensures room { HasRoom store }
+        ensures only { CameTidy D.honest D.content store.given → Only (D.content store.disk) (D.left store.disk) }
+        ensures stands { CameTidy D.honest D.content store.given → IsDurable store (D.content store.disk) }
+        ensures slot { CameTidy D.honest D.content store.given → HasSlotPages store }
     {
         let opened = store.version();
         match Keeper::new(rt, alloc, store, delta) {
@@ -120,7 +126,6 @@ impl<D: Stoppable> Life<D> {
 
     /// How many commands were accepted in this life.
     pub(crate) fn accepted(&self) -> usize
-        requires { IsLife self.now.keeper.machine self.now.opened (option_map (λ view. (view.value.version, view.value.network)) self.now.aside) }
         ensures { result ≡ length self.now.keeper.machine.accepted }
     {
         (self.keeper.durable() + self.keeper.pending() - self.opened) as usize
@@ -128,12 +133,9 @@ impl<D: Stoppable> Life<D> {
 
     /// A command is submitted.
     pub(crate) fn submit(&mut self, command: Command) -> Replied
-        requires life { IsLife self.old.keeper.machine self.old.opened (option_map (λ view. (view.value.version, view.value.network)) self.old.aside) }
         ensures does { Does {P = StopPick} self.old.keeper.machine (Submit command) (result ∷ []) self.new.keeper.machine }
-        ensures life { IsLife self.new.keeper.machine self.new.opened (option_map (λ view. (view.value.version, view.value.network)) self.new.aside) }
         ensures delta { self.new.delta ≡ self.old.delta }
-        ensures holds { D.honest self.old.keeper.disk → Holds (D.content self.old.keeper.disk) (D.left self.old.keeper.disk) self.old.keeper.machine self.old.keeper.standing → Holds (D.content self.new.keeper.disk) (D.left self.new.keeper.disk) self.new.keeper.machine self.new.keeper.standing }
-        ensures honest { D.honest self.old.keeper.disk → D.honest self.new.keeper.disk }
+        ensures given { self.new.keeper.given ≡ self.old.keeper.given }
         ensures failures { D.failures self.new.keeper.disk ≡ D.failures self.old.keeper.disk }
     {
         match self.keeper.submit(command) {
@@ -146,12 +148,9 @@ impl<D: Stoppable> Life<D> {
 
     /// A flush, or a whole checkpoint.
     pub(crate) fn write(&mut self, writing: Writing) -> Result<u64, Refusal>
-        requires life { IsLife self.old.keeper.machine self.old.opened (option_map (λ view. (view.value.version, view.value.network)) self.old.aside) }
         ensures does { Writes self.old.keeper.machine writing result self.new.keeper.machine }
-        ensures life { IsLife self.new.keeper.machine self.new.opened (option_map (λ view. (view.value.version, view.value.network)) self.new.aside) }
         ensures delta { self.new.delta ≡ self.old.delta }
-        ensures holds { D.honest self.old.keeper.disk → Holds (D.content self.old.keeper.disk) (D.left self.old.keeper.disk) self.old.keeper.machine self.old.keeper.standing → Holds (D.content self.new.keeper.disk) (D.left self.new.keeper.disk) self.new.keeper.machine self.new.keeper.standing }
-        ensures honest { D.honest self.old.keeper.disk → D.honest self.new.keeper.disk }
+        ensures given { self.new.keeper.given ≡ self.old.keeper.given }
         ensures counted { D.failures self.new.keeper.disk ≡ failures_told result (D.failures self.old.keeper.disk) }
     {
         match writing {
@@ -162,12 +161,9 @@ impl<D: Stoppable> Life<D> {
 
     /// A step of a checkpoint.
     fn step(&mut self, pages: StepPages) -> Replied
-        requires life { IsLife self.old.keeper.machine self.old.opened (option_map (λ view. (view.value.version, view.value.network)) self.old.aside) }
         ensures does { Does {P = StopPick} self.old.keeper.machine (CheckpointStep pages) (result ∷ []) self.new.keeper.machine }
-        ensures life { IsLife self.new.keeper.machine self.new.opened (option_map (λ view. (view.value.version, view.value.network)) self.new.aside) }
         ensures delta { self.new.delta ≡ self.old.delta }
-        ensures holds { D.honest self.old.keeper.disk → Holds (D.content self.old.keeper.disk) (D.left self.old.keeper.disk) self.old.keeper.machine self.old.keeper.standing → Holds (D.content self.new.keeper.disk) (D.left self.new.keeper.disk) self.new.keeper.machine self.new.keeper.standing }
-        ensures honest { D.honest self.old.keeper.disk → D.honest self.new.keeper.disk }
+        ensures given { self.new.keeper.given ≡ self.old.keeper.given }
         ensures counted { D.failures self.new.keeper.disk ≡ failures_of_write (result ∷ []) (D.failures self.old.keeper.disk) }
     {
         told_part(&self.keeper.checkpoint_step(pages.number()))
@@ -175,12 +171,9 @@ impl<D: Stoppable> Life<D> {
 
     /// A task is taken, and its view is built and kept aside. A task whose view finds no memory is given up.
     pub(crate) fn task<R: Threads>(&mut self, rt: &R, alloc: Global) -> Replied
-        requires life { IsLife self.old.keeper.machine self.old.opened (option_map (λ view. (view.value.version, view.value.network)) self.old.aside) }
         ensures does { Does {P = StopPick} self.old.keeper.machine TaskEvent (result ∷ []) self.new.keeper.machine }
-        ensures life { IsLife self.new.keeper.machine self.new.opened (option_map (λ view. (view.value.version, view.value.network)) self.new.aside) }
         ensures delta { self.new.delta ≡ self.old.delta }
-        ensures holds { D.honest self.old.keeper.disk → Holds (D.content self.old.keeper.disk) (D.left self.old.keeper.disk) self.old.keeper.machine self.old.keeper.standing → Holds (D.content self.new.keeper.disk) (D.left self.new.keeper.disk) self.new.keeper.machine self.new.keeper.standing }
-        ensures honest { D.honest self.old.keeper.disk → D.honest self.new.keeper.disk }
+        ensures given { self.new.keeper.given ≡ self.old.keeper.given }
         ensures failures { D.failures self.new.keeper.disk ≡ D.failures self.old.keeper.disk }
     {
         let task = match self.keeper.take_task() {
@@ -213,12 +206,9 @@ impl<D: Stoppable> Life<D> {
 
     /// The view that is kept aside is shown.
     pub(crate) fn publish(&mut self) -> Replied
-        requires life { IsLife self.old.keeper.machine self.old.opened (option_map (λ view. (view.value.version, view.value.network)) self.old.aside) }
         ensures does { Does {P = StopPick} self.old.keeper.machine Publish (result ∷ []) self.new.keeper.machine }
-        ensures life { IsLife self.new.keeper.machine self.new.opened (option_map (λ view. (view.value.version, view.value.network)) self.new.aside) }
         ensures delta { self.new.delta ≡ self.old.delta }
-        ensures holds { D.honest self.old.keeper.disk → Holds (D.content self.old.keeper.disk) (D.left self.old.keeper.disk) self.old.keeper.machine self.old.keeper.standing → Holds (D.content self.new.keeper.disk) (D.left self.new.keeper.disk) self.new.keeper.machine self.new.keeper.standing }
-        ensures honest { D.honest self.old.keeper.disk → D.honest self.new.keeper.disk }
+        ensures given { self.new.keeper.given ≡ self.old.keeper.given }
         ensures failures { D.failures self.new.keeper.disk ≡ D.failures self.old.keeper.disk }
     {
         let Some(view) = self.aside.take() else {
@@ -234,12 +224,9 @@ impl<D: Stoppable> Life<D> {
 
     /// A query is answered from the view that is shown.
     pub(crate) fn ask<R: Threads>(&mut self, rt: &R, query: Query) -> Replied
-        requires life { IsLife self.old.keeper.machine self.old.opened (option_map (λ view. (view.value.version, view.value.network)) self.old.aside) }
         ensures does { Does {P = StopPick} self.old.keeper.machine (Ask query) (result ∷ []) self.new.keeper.machine }
-        ensures life { IsLife self.new.keeper.machine self.new.opened (option_map (λ view. (view.value.version, view.value.network)) self.new.aside) }
         ensures delta { self.new.delta ≡ self.old.delta }
-        ensures holds { D.honest self.old.keeper.disk → Holds (D.content self.old.keeper.disk) (D.left self.old.keeper.disk) self.old.keeper.machine self.old.keeper.standing → Holds (D.content self.new.keeper.disk) (D.left self.new.keeper.disk) self.new.keeper.machine self.new.keeper.standing }
-        ensures honest { D.honest self.old.keeper.disk → D.honest self.new.keeper.disk }
+        ensures given { self.new.keeper.given ≡ self.old.keeper.given }
         ensures failures { D.failures self.new.keeper.disk ≡ D.failures self.old.keeper.disk }
     {
         match self.keeper.ask(rt, query) {
@@ -258,8 +245,7 @@ impl<D: Stoppable> Life<D> {
         ensures opened { self.new.opened ≡ self.old.opened }
         ensures aside { self.new.aside ≡ self.old.aside }
         ensures delta { self.new.delta ≡ self.old.delta }
-        ensures holds { Holds (D.content self.old.keeper.disk) (D.left self.old.keeper.disk) self.old.keeper.machine self.old.keeper.standing → Holds (D.content self.new.keeper.disk) (D.left self.new.keeper.disk) self.new.keeper.machine self.new.keeper.standing }
-        ensures honest { D.honest self.old.keeper.disk → D.honest self.new.keeper.disk }
+        ensures given { self.new.keeper.given ≡ self.old.keeper.given }
         ensures failures { D.failures self.new.keeper.disk ≡ D.failures self.old.keeper.disk }
     {
         if call > 0 {
@@ -274,13 +260,10 @@ impl<D: Stoppable> Life<D> {
         alloc: Global,
         event: &Event<Pick>,
     ) -> Replied
-        requires life { IsLife self.old.keeper.machine self.old.opened (option_map (λ view. (view.value.version, view.value.network)) self.old.aside) }
         requires no_stop { is_stop event.now ≡ false }
         ensures does { Does self.old.keeper.machine event.now (result ∷ []) self.new.keeper.machine }
-        ensures life { IsLife self.new.keeper.machine self.new.opened (option_map (λ view. (view.value.version, view.value.network)) self.new.aside) }
         ensures delta { self.new.delta ≡ self.old.delta }
-        ensures holds { D.honest self.old.keeper.disk → Holds (D.content self.old.keeper.disk) (D.left self.old.keeper.disk) self.old.keeper.machine self.old.keeper.standing → Holds (D.content self.new.keeper.disk) (D.left self.new.keeper.disk) self.new.keeper.machine self.new.keeper.standing }
-        ensures honest { D.honest self.old.keeper.disk → D.honest self.new.keeper.disk }
+        ensures given { self.new.keeper.given ≡ self.old.keeper.given }
         ensures counted { D.failures self.new.keeper.disk ≡ failures_after event.now (result ∷ []) (D.failures self.old.keeper.disk) }
     {
         match event {

@@ -2,7 +2,8 @@
 ghost use Rattle.std.specs.Prelude.{◌≡◌, Some};
 ghost use Rattle.machine.specs.Machine.{network_at, pending};
 ghost use Rattle.machine.specs.Calls.{IsTicketOf, receipt_for};
-ghost use Rattle.keeper.specs.Keeping.{CameTidy, Holds};
+ghost use Rattle.store.specs.State.{CameTidy};
+ghost use Rattle.keeper.specs.Keeping.{Holds};
 
 use crate::keepers::Keeper;
 use disk::Disk;
@@ -24,7 +25,7 @@ impl<D: Disk> Keeper<D> {
     pub fn durable(&self) -> u64
         ensures version { result ≡ self.now.machine.durable }
         ensures honest { CameTidy D.honest D.content self.now.given → D.honest self.now.disk }
-        ensures holds { CameTidy D.honest D.content self.now.given → Holds (D.content self.now.disk) (D.left self.now.disk) self.now.machine self.now.standing }
+        ensures holds { CameTidy D.honest D.content self.now.given → Holds (D.content self.now.disk) (D.left self.now.disk) self.now.machine }
     {
         self.store.version()
     }

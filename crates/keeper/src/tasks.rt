@@ -2,7 +2,6 @@
 ghost use Rattle.std.specs.Prelude.{◌≡◌, Ok, Err, None, IfOk, IfErr, OnOk, OnErr, MatchResult, option_map};
 ghost use Rattle.roadnet.specs.declared.refusals.Refusal.TheVariants.{OutOfMemory as out_of_memory};
 ghost use Rattle.machine.specs.Calls.{TakesTask, without_task, IsTask, RefusesView, Publishes};
-ghost use Rattle.keeper.specs.Keeping.{Holds};
 
 use crate::keepers::Keeper;
 use crate::same::is_same;
@@ -51,10 +50,8 @@ impl<D: Disk> Keeper<D> {
     pub fn take_task(&mut self) -> Result<Option<Task>, OutOfMemory>
         ensures step { MatchResult result (λ task. TakesTask self.old.machine (Ok (option_map (λ t. (t.version, t.network.value)) task)) self.new.machine) (λ _. TakesTask self.old.machine (Err out_of_memory) self.new.machine) }
         ensures disk { self.new.disk ≡ self.old.disk }
-        ensures standing { self.new.standing ≡ self.old.standing }
         ensures given { self.new.given ≡ self.old.given }
         ensures width { self.new.width ≡ self.old.width }
-        ensures holds { Holds (D.content self.old.disk) (D.left self.old.disk) self.old.machine self.old.standing → Holds (D.content self.new.disk) (D.left self.new.disk) self.new.machine self.new.standing }
     {
         if self.task.is_some() || self.shown.version() == self.store.version() {
             return Ok(None);
@@ -75,10 +72,8 @@ impl<D: Disk> Keeper<D> {
     pub fn give_up(&mut self, version: u64)
         ensures step { self.new.machine ≡ without_task self.old.machine version }
         ensures disk { self.new.disk ≡ self.old.disk }
-        ensures standing { self.new.standing ≡ self.old.standing }
         ensures given { self.new.given ≡ self.old.given }
         ensures width { self.new.width ≡ self.old.width }
-        ensures holds { Holds (D.content self.old.disk) (D.left self.old.disk) self.old.machine self.old.standing → Holds (D.content self.new.disk) (D.left self.new.disk) self.new.machine self.new.standing }
     {
         if let Some(task) = &self.task
             && task.version == version
@@ -108,11 +103,9 @@ impl<D: Disk> Keeper<D> {
         ensures step { MatchResult result (λ shown. Publishes self.old.machine view.value.version view.value.network (Ok shown) self.new.machine) (λ refused. Publishes self.old.machine view.value.version view.value.network (Err refused.0) self.new.machine) }
         ensures handed_back { IfErr result (λ refused. refused.1 ≡ view) }
         ensures disk { self.new.disk ≡ self.old.disk }
-        ensures standing { self.new.standing ≡ self.old.standing }
         ensures given { self.new.given ≡ self.old.given }
         ensures width { OnOk result (self.new.width ≡ view.value.delta) }
         ensures same_width { OnErr result (self.new.width ≡ self.old.width) }
-        ensures holds { Holds (D.content self.old.disk) (D.left self.old.disk) self.old.machine self.old.standing → Holds (D.content self.new.disk) (D.left self.new.disk) self.new.machine self.new.standing }
     {
         if let Err(refusal) = self.may_publish(&view) {
             return Err((refusal, view));

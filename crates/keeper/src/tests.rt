@@ -1,5 +1,5 @@
 ghost use Rattle.std.specs.Prelude.{◌≡◌, ◌≤◌, true, IfOk};
-ghost use Rattle.store.specs.Durable.{is_calm};
+ghost use Rattle.store.specs.State.{is_calm};
 ghost use Rattle.machine.specs.Calls.{IsTicketOf};
 
 use crate::Keeper;

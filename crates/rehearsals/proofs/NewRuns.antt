@@ -5,34 +5,32 @@ use Rattle.roadnet.specs.declared.refusals.Refusal.{Refusal}
 use Rattle.roadnet.specs.declared.refusals.Refusal.TheVariants.{OutOfMemory, Device}
 use Rattle.roadnet.specs.Net.{Net}
 use Rattle.disk.specs.declared.stoppable.Pick.{Pick}
-use Rattle.pages.specs.Layout.{pages_for, word_pages}
-use Rattle.storefile.specs.Standing.{Standing, standing_of}
+use Rattle.pages.specs.Layout.{pages_for}
 use Rattle.store.specs.Opening.{IsPassing}
+use Rattle.store.specs.State.{StoreState, HasSlotPages}
 use Rattle.machine.specs.declared.events.Event.{Event}
 use Rattle.machine.specs.declared.events.Replied.{Replied}
 use Rattle.machine.specs.Machine.{Sizes, Machine}
 use Rattle.machine.specs.Lives.{Turn, Ends, Whole, NoMemory, NotOpened, LivesOn}
-use Rattle.keeper.proofs.Stopped.{arcs_of_header}
+use Rattle.keeper.specs.Keeping.{sizes_of as sizes_of_store}
 use Rattle.rehearsals.specs.Rehearsed.{sizes_of, RepliesTo}
 
 same_sizes : (j w j' w' : ℕ) → j ≡ j' → w ≡ w' → ◌≡◌ {A = Sizes} (record { journal_pages = j; slot_pages = w }) (record { journal_pages = j'; slot_pages = w' })
 same_sizes j w j' w' same_j same_w = cc
 
--- the content of a new store stands for this network at version 0 with no page unchecked, and its header tells the sizes
-pub replies_to : (stands_for : List ℕ → Net → ℕ → Type 0) (net : Net) (journal_pages : ℕ) (content : List ℕ) (x : Standing) (left : List ℕ → Type 0) (events : List (Event Pick)) (replies : List Replied) (ended : Option Refusal) (history : List Command)
-    → standing_of content ≡ Some x → x.network ≡ net → x.version ≡ 0 → x.unchecked ≡ 0 → x.header.journal_pages ≡ journal_pages
-    → LivesOn stands_for left (record { journal_pages = x.header.journal_pages; slot_pages = word_pages x.header }) x.network x.version x.unchecked events replies ended history
+-- a new store is of this network at version 0 with no page unchecked, and has so many journal pages
+pub replies_to : {D : Type 0} (s : StoreState D) (stands_for : List ℕ → Net → ℕ → Type 0) (net : Net) (journal_pages : ℕ) (left : List ℕ → Type 0) (events : List (Event Pick)) (replies : List Replied) (ended : Option Refusal) (history : List Command)
+    → HasSlotPages s → s.network ≡ net → s.version ≡ 0 → s.unchecked ≡ 0 → s.journal_pages ≡ journal_pages
+    → LivesOn stands_for left (sizes_of_store s) s.network s.version s.unchecked events replies ended history
     → RepliesTo net journal_pages events replies ended
-replies_to stands_for net journal_pages content x left events replies ended history told network_is version_is unchecked_is pages_are run =
-    let arcs : x.header.arcs ≡ length x.network.arcs = arcs_of_header content x told in
-    let sizes : ◌≡◌ {A = Sizes} (record { journal_pages = x.header.journal_pages; slot_pages = word_pages x.header }) (sizes_of x.network journal_pages) =
-    same_sizes x.header.journal_pages (word_pages x.header) journal_pages (pages_for 1023 (length x.network.arcs)) pages_are (ap (pages_for 1023) arcs) in
-    let sized : LivesOn stands_for left (sizes_of x.network journal_pages) x.network x.version x.unchecked events replies ended history =
-    subst (λ (z : Sizes). LivesOn stands_for left z x.network x.version x.unchecked events replies ended history) sizes run in
-    let of_net : LivesOn stands_for left (sizes_of net journal_pages) net x.version x.unchecked events replies ended history =
-    subst (λ (n : Net). LivesOn stands_for left (sizes_of n journal_pages) n x.version x.unchecked events replies ended history) network_is sized in
-    let of_version : LivesOn stands_for left (sizes_of net journal_pages) net 0 x.unchecked events replies ended history =
-    subst (λ (v : ℕ). LivesOn stands_for left (sizes_of net journal_pages) net v x.unchecked events replies ended history) version_is of_net in
+replies_to s stands_for net journal_pages left events replies ended history slot network_is version_is unchecked_is pages_are run =
+    let sizes : sizes_of_store s ≡ sizes_of s.network journal_pages = same_sizes s.journal_pages s.slot_pages journal_pages (pages_for 1023 (length s.network.arcs)) pages_are slot in
+    let sized : LivesOn stands_for left (sizes_of s.network journal_pages) s.network s.version s.unchecked events replies ended history =
+    subst (λ (z : Sizes). LivesOn stands_for left z s.network s.version s.unchecked events replies ended history) sizes run in
+    let of_net : LivesOn stands_for left (sizes_of net journal_pages) net s.version s.unchecked events replies ended history =
+    subst (λ (n : Net). LivesOn stands_for left (sizes_of n journal_pages) n s.version s.unchecked events replies ended history) network_is sized in
+    let of_version : LivesOn stands_for left (sizes_of net journal_pages) net 0 s.unchecked events replies ended history =
+    subst (λ (v : ℕ). LivesOn stands_for left (sizes_of net journal_pages) net v s.unchecked events replies ended history) version_is of_net in
     let new : LivesOn stands_for left (sizes_of net journal_pages) net 0 0 events replies ended history =
     subst (λ (u : ℕ). LivesOn stands_for left (sizes_of net journal_pages) net 0 u events replies ended history) unchecked_is of_version in
     record { history = history; last = new.last; lives = new.lives }

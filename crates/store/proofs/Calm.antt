@@ -2,7 +2,7 @@
 use Rattle.std.proofs.Common.{◌≡◌, Bool, true, false, Option, Some, None, refl, ap, sym, ◌∙◌}
 use Rattle.std.specs.Prelude.{not, is_none, ◌&&◌, option_map}
 use Rattle.disk.specs.declared.disk.Disk.{Ghosts}
-use Rattle.store.specs.declared.store.Store.{Store}
+use Rattle.store.specs.declared.paged.Paged.{Paged}
 use Rattle.store.specs.Durable.{going_of, is_calm}
 use Rattle.store.specs.Going.{Progress}
 
@@ -16,7 +16,7 @@ both true o works none = cc
 both false None works none = refl
 both false (Some p) works none = cc
 
-module _ {D : Type 0} {disk : Ghosts D} (store : Store D disk) where
+module _ {D : Type 0} {disk : Ghosts D} (store : Paged D disk) where
   pub works_if_calm : is_calm store ≡ true → store.broken ≡ false
   works_if_calm calm = (parts store.broken (going_of store) calm).0
 

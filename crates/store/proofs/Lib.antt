@@ -1,6 +1,7 @@
 pub mod Afterwards
 pub mod Appended
 pub mod Applied
+pub mod ArcsKept
 pub mod Calm
 pub mod Checkpointed
 pub mod Committed
@@ -11,4 +12,5 @@ pub mod NewStore
 pub mod Refused
 pub mod Replayed
 pub mod Resting
+pub mod StateKept
 pub mod Steps

@@ -5,37 +5,30 @@ use Rattle.disk.specs.declared.disk.Disk.{Ghosts}
 use Rattle.roadnet.specs.declared.commands.Command.{Command}
 use Rattle.pages.specs.Layout.{word_pages}
 use Rattle.storefile.specs.Standing.{Standing, IsBeforeOrAfter}
-use Rattle.store.specs.declared.store.Store.{Store}
+use Rattle.store.specs.declared.paged.Paged.{Paged}
 use Rattle.store.specs.Committing.{StandsTidily}
 use Rattle.store.specs.Going.{Progress, progress_of}
 
 -- what the fields of a store say that its content stands for
-abbrev pub told_by : {D : Type 0} {disk : Ghosts D} → Store D disk → Standing
+abbrev pub told_by : {D : Type 0} {disk : Ghosts D} → Paged D disk → Standing
 told_by store = record { header = store.header; slot = store.slot; epoch = store.epoch; network = store.network; version = store.version; next = store.next_sequence; unchecked = store.unchecked }
 
 -- the checkpoint that is going
-abbrev pub going_of : {D : Type 0} {disk : Ghosts D} → Store D disk → Option Progress
+abbrev pub going_of : {D : Type 0} {disk : Ghosts D} → Paged D disk → Option Progress
 going_of store = progress_of store.header store.going
 
 -- it is neither broken nor has a checkpoint going
-abbrev pub is_calm : {D : Type 0} {disk : Ghosts D} → Store D disk → Bool
+abbrev pub is_calm : {D : Type 0} {disk : Ghosts D} → Paged D disk → Bool
 is_calm store = not store.broken && is_none (going_of store)
 
 -- the checkpoint that would begin now
-abbrev pub begun_by : {D : Type 0} {disk : Ghosts D} → Store D disk → Progress
+abbrev pub begun_by : {D : Type 0} {disk : Ghosts D} → Paged D disk → Progress
 begun_by store = record { version = store.version; left = word_pages store.header; committed = 0 }
 
 -- the checkpoint that a part is of: the one that is going, or else one that begins
-abbrev pub parts_of : {D : Type 0} {disk : Ghosts D} → Store D disk → Progress
+abbrev pub parts_of : {D : Type 0} {disk : Ghosts D} → Paged D disk → Progress
 parts_of store = unwrap_or (going_of store) (begun_by store)
 
 -- none is going, and no page of the journal is unchecked
-abbrev pub has_all_checked : {D : Type 0} {disk : Ghosts D} → Store D disk → Bool
+abbrev pub has_all_checked : {D : Type 0} {disk : Ghosts D} → Paged D disk → Bool
 has_all_checked store = is_none (going_of store) && (store.unchecked == 0)
-
--- While the store is not broken, a stop leaves the content as it is read and nothing else, and it stands for what the store says. Broken or
--- not, each content that a stop may leave has the store's journal pages and stands for the network and version of the store, or for those
--- after the commands in flight: those of the commit that failed.
-pub record Leaves {D : Type 0} {disk : Ghosts D} (store : Store D disk) (in_flight : List Command) : Type 0 where
-  pub works : store.broken ≡ false → Only (disk.content store.disk) (disk.left store.disk) × StandsTidily (disk.content store.disk) (told_by store)
-  pub each : (c : List ℕ) → disk.left store.disk c → IsBeforeOrAfter store.header.journal_pages store.network store.version in_flight c

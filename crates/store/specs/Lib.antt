@@ -5,3 +5,4 @@ pub mod Durable
 pub mod Going
 pub mod Opening
 pub mod Resting
+pub mod State

@@ -1,25 +1,24 @@
 // A checkpoint that goes part by part, with commits between the parts.
-ghost use Rattle.std.specs.Prelude.{◌≡◌, ◌≢◌, ◌≤◌, ◌↔◌, true, false, List, [], ℕ, None, Some, Ok, IfOk, OnOk, OnErr, IfErr, MatchResult, IsSome};
+ghost use Rattle.std.specs.Prelude.{◌≡◌, ◌≢◌, ◌≤◌, ◌↔◌, true, false, List, ℕ, None, Some, Ok, IfOk, OnOk, OnErr, IfErr, MatchResult, IsSome};
 ghost use Rattle.disk.specs.Contents.{Only, Rose};
 ghost use Rattle.disk.specs.Moments.{LeavesOnly, AddsNothing};
-ghost use Rattle.roadnet.specs.declared.commands.Command.{Command as Change};
 ghost use Rattle.roadnet.specs.declared.refusals.Refusal.TheVariants.{Device as device, OutOfMemory as out_of_memory};
 ghost use Rattle.pagereader.specs.Outcomes.{failures_told};
 ghost use Rattle.storefile.specs.StoreFile.{StandsTidyFor};
 ghost use Rattle.store.specs.Committing.{StandsTidily};
 ghost use Rattle.store.specs.Checkpointing.{refusal_of_checkpoint, MayRefuseCheckpoint};
-ghost use Rattle.store.specs.Durable.{told_by, Leaves, going_of, begun_by, parts_of, has_all_checked, is_calm};
+ghost use Rattle.store.specs.Durable.{told_by, going_of, begun_by, parts_of, has_all_checked, is_calm};
 ghost use Rattle.store.specs.Going.{part_by, progress_by, unchecked_by, slot_by, epoch_by};
 
 use crate::going::GoingCheckpoint;
+use crate::paged::Paged;
 use crate::parts::Part;
-use crate::store::Store;
 use checkpoint::NextCheckpoint;
 use disk::Disk;
 use roadnet::Refusal;
 
-impl<D: Disk> Store<D> {
-    /// Whether the store is neither broken nor has a checkpoint going.
+impl<D: Disk> Paged<D> {
+    // Whether the store is neither broken nor has a checkpoint going.
     pub fn calm(&self) -> bool
         ensures { result ≡ is_calm self.now }
     {
@@ -115,15 +114,7 @@ impl<D: Disk> Store<D> {
         Ok(Part::Done(going.next.version()))
     }
 
-    /// Writes a part of a checkpoint: of the one that is going, or else of one that begins. A checkpoint holds the network as it was when it
-    /// began, and goes to the slot that is not current. At most so many word pages, 1 to 64, are written. Answers `Going` where some are
-    /// left then. Else the slot is current, only the pages of the journal committed since the checkpoint began are unchecked, and it
-    /// answers `Done` with the version that the checkpoint holds. Where none is going and no page is unchecked, nothing is done.
-    ///
-    /// Network and version of the store stay, whatever a stop does at any moment; a stop loses a checkpoint that is going, and nothing else.
-    ///
-    /// Refused is a broken store (45); then want of memory (11), where a checkpoint would begin, before any call of the disk; then a disk that
-    /// failed (43), after which the store is broken and writes nothing more. After each other refusal nothing is changed.
+    // `Store::checkpoint_part`, by its pages.
     pub fn checkpoint_part(&mut self, pages: u32) -> Result<Part, Refusal>
         requires some { 1 ≤ pages }
         requires few { pages ≤ 64 }
@@ -159,9 +150,6 @@ impl<D: Disk> Store<D> {
         // After Ok it leaves the content alone, which stands for it, by the fields as they are now.
         ensures only { D.honest self.old.disk → OnOk result (Only (D.content self.new.disk) (D.left self.new.disk)) }
         ensures stands { D.honest self.old.disk → StandsTidily (D.content self.old.disk) (told_by self.old) → OnOk result (StandsTidily (D.content self.new.disk) (told_by self.new)) }
-        // What a stop between two calls may leave, from this call to the next: nothing is in flight then.
-        ensures rests { D.honest self.old.disk → (in_flight : List Change) → Leaves self.old in_flight → OnOk result (Leaves self.new []) }
-        ensures left_in_flight { D.honest self.old.disk → (in_flight : List Change) → Leaves self.old in_flight → IfErr result (λ refusal. refusal ≡ device → Leaves self.new []) }
         ensures honest { D.honest self.new.disk ↔ D.honest self.old.disk }
     {
         if self.broken {

@@ -1,22 +1,21 @@
 // All of a checkpoint, or all that is left of the one that is going.
-ghost use Rattle.std.specs.Prelude.{◌≡◌, ◌≢◌, ◌+◌, ◌↔◌, true, false, List, [], ℕ, None, Some, Ok, IfOk, OnOk, OnErr, IfErr, MatchResult, IsSome};
+ghost use Rattle.std.specs.Prelude.{◌≡◌, ◌≢◌, ◌+◌, ◌↔◌, true, false, List, ℕ, None, Some, Ok, IfOk, OnOk, OnErr, IfErr, MatchResult, IsSome};
 ghost use Rattle.disk.specs.Contents.{Only, Rose};
 ghost use Rattle.disk.specs.Moments.{LeavesOnly, AddsNothing};
-ghost use Rattle.roadnet.specs.declared.commands.Command.{Command as Change};
 ghost use Rattle.roadnet.specs.declared.refusals.Refusal.TheVariants.{Device as device, OutOfMemory as out_of_memory};
 ghost use Rattle.pages.specs.Layout.{other};
 ghost use Rattle.pagereader.specs.Outcomes.{failures_told};
 ghost use Rattle.storefile.specs.StoreFile.{StandsTidyFor};
 ghost use Rattle.store.specs.Committing.{StandsTidily};
 ghost use Rattle.store.specs.Checkpointing.{refusal_of_checkpoint, MayRefuseCheckpoint};
-ghost use Rattle.store.specs.Durable.{told_by, Leaves, going_of, parts_of, has_all_checked};
+ghost use Rattle.store.specs.Durable.{told_by, going_of, parts_of, has_all_checked};
 
-use crate::store::Store;
+use crate::paged::Paged;
 use disk::Disk;
 use pages::PAGES_AT_ONCE;
 use roadnet::Refusal;
 
-impl<D: Disk> Store<D> {
+impl<D: Disk> Paged<D> {
     // All that is left of the checkpoint that is going.
     fn complete_checkpoint(&mut self) -> Result<u64, Refusal>
         requires works { self.old.broken ≡ false }
@@ -61,14 +60,7 @@ impl<D: Disk> Store<D> {
         Ok(going.next.version())
     }
 
-    /// Writes all that is left of the checkpoint that is going, or else of one that begins. Network and version stay, whatever a stop does at
-    /// any moment. Answers the version that the checkpoint holds; only the pages of the journal committed since it began are unchecked then.
-    /// Where none is going and no page is unchecked, nothing is done.
-    ///
-    /// Refused is a broken store (45); then want of memory (11), where a checkpoint would begin, before any call of the disk; then a disk that
-    /// failed (43), after which the store is broken and writes nothing more. After each other refusal nothing is changed.
-    ///
-    /// It takes memory for 64 pages and a copy of the network.
+    // `Store::checkpoint`, by its pages.
     pub fn checkpoint(&mut self) -> Result<u64, Refusal>
         // Network and version stay, also after a refusal.
         ensures network { self.new.network ≡ self.old.network }
@@ -100,9 +92,6 @@ impl<D: Disk> Store<D> {
         // After Ok it leaves the content alone, which stands for it, by the fields as they are now.
         ensures only { D.honest self.old.disk → OnOk result (Only (D.content self.new.disk) (D.left self.new.disk)) }
         ensures stands { D.honest self.old.disk → StandsTidily (D.content self.old.disk) (told_by self.old) → OnOk result (StandsTidily (D.content self.new.disk) (told_by self.new)) }
-        // What a stop between two calls may leave, from this call to the next: nothing is in flight then.
-        ensures rests { D.honest self.old.disk → (in_flight : List Change) → Leaves self.old in_flight → OnOk result (Leaves self.new []) }
-        ensures left_in_flight { D.honest self.old.disk → (in_flight : List Change) → Leaves self.old in_flight → IfErr result (λ refusal. refusal ≡ device → Leaves self.new []) }
         ensures honest { D.honest self.new.disk ↔ D.honest self.old.disk }
     {
         if self.broken {

@@ -1,36 +1,27 @@
 // Commands made durable, all of them or none.
-ghost use Rattle.std.specs.Prelude.{◌≡◌, ◌≢◌, ◌+◌, ◌≤◌, ◌↔◌, true, false, List, [], ℕ, length, Some, None, IfOk, OnOk, OnErr, IfErr, MatchResult, option_map};
+ghost use Rattle.std.specs.Prelude.{◌≡◌, ◌≢◌, ◌+◌, ◌≤◌, ◌↔◌, true, false, List, ℕ, length, Some, None, IfOk, OnOk, OnErr, IfErr, MatchResult, option_map};
 ghost use Rattle.disk.specs.Contents.{Only, Rose};
 ghost use Rattle.disk.specs.Moments.{LeavesOnly, AddsNothing};
 ghost use Rattle.roadnet.specs.Step.{after};
-ghost use Rattle.roadnet.specs.declared.commands.Command.{Command as Change};
 ghost use Rattle.roadnet.specs.declared.refusals.Refusal.TheVariants.{Device as device};
 ghost use Rattle.pagereader.specs.Outcomes.{failures_told};
 ghost use Rattle.storefile.specs.StoreFile.{StandsTidyFor};
 ghost use Rattle.storefile.specs.Standing.{IsBeforeOrAfter};
 ghost use Rattle.store.specs.Durable.{told_by};
 ghost use Rattle.store.specs.Committing.{refusal_of_commit, MayRefuseCommit, StandsTidily};
-ghost use Rattle.store.specs.Durable.{Leaves, going_of};
+ghost use Rattle.store.specs.Durable.{going_of};
 ghost use Rattle.pages.specs.Limits.{most_commands};
 ghost use Rattle.store.specs.Going.{with_page_committed};
 
 use crate::going::count_page;
-use crate::store::Store;
+use crate::paged::Paged;
 use disk::Disk;
 use journal::append_page;
 use pages::MOST_VERSIONS;
 use roadnet::{Command, Refusal};
 
-impl<D: Disk> Store<D> {
-    /// Makes these commands, 1 to 253, durable as one page of the journal, and carries them out. Answers the new version: each command
-    /// counts one. All of them take place or none, whatever a stop does at any moment; at `Ok` they are there for good.
-    ///
-    /// Refused, the first that holds, is a broken store (45), a version that would pass 2^48 (28), a journal without a free page (44), and
-    /// the first command that isn't admitted after those before it (20 to 27); then want of memory (11), all before any call of the disk;
-    /// then a disk that failed (43), after which the store is broken and writes nothing more. After each other refusal nothing is changed.
-    ///
-    /// It makes four writes and syncs, or six where the page at that place is open. It takes 4 bytes a landmark, and never a copy of the
-    /// arcs: n commands cost O(n^2) comparisons.
+impl<D: Disk> Paged<D> {
+    // `Store::commit`, by its pages.
     pub fn commit(&mut self, commands: &[Command]) -> Result<u64, Refusal>
         requires some { 1 ≤ length commands.now }
         requires few { length commands.now ≤ most_commands }
@@ -62,9 +53,6 @@ impl<D: Disk> Store<D> {
         ensures durable { D.honest self.old.disk → StandsTidily (D.content self.old.disk) (told_by self.old) → OnOk result ((c : List ℕ) → D.left self.new.disk c → StandsTidyFor self.new.header.journal_pages c self.new.network self.new.version) }
         ensures only { D.honest self.old.disk → OnOk result (Only (D.content self.new.disk) (D.left self.new.disk)) }
         ensures stands { D.honest self.old.disk → StandsTidily (D.content self.old.disk) (told_by self.old) → OnOk result (StandsTidily (D.content self.new.disk) (told_by self.new)) }
-        // What a stop between two calls may leave, from this call to the next: at Ok nothing is in flight, and where the disk failed the commands are.
-        ensures rests { D.honest self.old.disk → (in_flight : List Change) → Leaves self.old in_flight → OnOk result (Leaves self.new []) }
-        ensures left_in_flight { D.honest self.old.disk → (in_flight : List Change) → Leaves self.old in_flight → IfErr result (λ refusal. refusal ≡ device → Leaves self.new commands.now) }
         ensures honest { D.honest self.new.disk ↔ D.honest self.old.disk }
     {
         if self.broken {

@@ -13,7 +13,7 @@ ghost use Rattle.store.specs.Durable.{told_by, going_of};
 ghost use Rattle.store.specs.Created.{header_of, blank_page, page_of_arcs, page_of_words, new_page, IsLaidOut, first_pages, with_gate, so_far, IsInStep};
 
 use crate::batch::Batch;
-use crate::store::Store;
+use crate::paged::Paged;
 use checkpoint::part_of;
 use disk::{Disk, DiskError, length_of, open_gate, settle};
 use pages::{
@@ -121,16 +121,13 @@ fn open_gates<D: Disk>(disk: &mut D, header: &Header) -> Result<(), DiskError>
     open_gate(disk, GATE_AT as u64)
 }
 
-/// Makes a store of the network with so many journal pages, 1 to 65,536, at version 0.
-///
-/// It answers 46 where the disk is not empty, 43 where it fails, and 11. The disk is handed back then, at 46 and 11 with its content as it
-/// was. It takes linear time, and memory for a copy of the network and 64 pages.
-pub fn create<D: Disk>(
+/// The pages of a new store, as `create` makes it.
+pub fn create_paged<D: Disk>(
     alloc: Global,
     disk: D,
     network: &Network,
     journal_pages: u32,
-) -> Result<Store<D>, (Refusal, D)>
+) -> Result<Paged<D>, (Refusal, D)>
     requires some { 1 ≤ journal_pages }
     requires few { journal_pages ≤ 65536 }
     ensures network { IfOk result (λ store. store.network ≡ network.now) }
@@ -178,7 +175,7 @@ pub fn create<D: Disk>(
     let Ok(()) = open_gates(&mut disk, &header) else {
         return Err((Refusal::Device, disk));
     };
-    Ok(Store {
+    Ok(Paged {
         alloc,
         disk,
         header,

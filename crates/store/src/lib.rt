@@ -9,13 +9,14 @@ mod commit;
 mod creation;
 mod going;
 mod header;
+mod making;
 mod opening;
+mod paged;
 mod parts;
 mod replay;
 mod store;
 
-pub use creation::create;
-pub use opening::open;
+pub use making::{create, open};
 pub use parts::Part;
 pub use store::Store;
 

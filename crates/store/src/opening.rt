@@ -13,8 +13,8 @@ ghost use Rattle.store.specs.Durable.{told_by, going_of};
 ghost use Rattle.store.specs.Opening.{header_from, current_from, AreCarriedOut, IsPassing, MayRefuseToOpen, StandsForSome};
 
 use crate::header::read_header;
+use crate::paged::Paged;
 use crate::replay::replay;
-use crate::store::Store;
 use checkpoint::{Checkpoint, choose, load, read_arcs};
 use disk::{Disk, settle};
 use journal::Ring;
@@ -189,12 +189,8 @@ pub fn find<D: Disk>(alloc: Global, disk: &mut D) -> Result<Found, Refusal>
     }
 }
 
-/// Opens the store on a disk. It syncs, and then judges and reads the whole file in the order of the format; nothing is written. The first
-/// refusal ends it, and hands the disk back: no store (40), another format (41), a page that is damaged (42), and at each step that the
-/// disk failed (43) or that no memory was given (11).
-///
-/// It takes a pass over the arc pages and the current slot, the network, and 256 KiB for pages.
-pub fn open<D: Disk>(alloc: Global, disk: D) -> Result<Store<D>, (Refusal, D)>
+/// The pages of the store on a disk, as `open` finds them.
+pub fn open_paged<D: Disk>(alloc: Global, disk: D) -> Result<Paged<D>, (Refusal, D)>
     // The content stands for what the store tells, and is all that a stop may leave.
     ensures stands { D.honest disk → IfOk result (λ store. StandsFor (D.content disk) store.network store.version store.next_sequence) }
     ensures standing { D.honest disk → IfOk result (λ store. standing_of (D.content disk) ≡ Some (told_by store)) }
@@ -227,7 +223,7 @@ pub fn open<D: Disk>(alloc: Global, disk: D) -> Result<Store<D>, (Refusal, D)>
         next_sequence,
         unchecked,
     } = found;
-    Ok(Store {
+    Ok(Paged {
         alloc,
         disk,
         header,

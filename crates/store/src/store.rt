@@ -1,40 +1,46 @@
-ghost use Rattle.std.specs.Prelude.{◌≡◌, false, IfSome};
-ghost use Rattle.std.proofs.Props.{props};
-ghost use Rattle.storefile.specs.Standing.{HasFitNumbers};
-ghost use Rattle.store.specs.Resting.{IsAtRest};
-ghost use Rattle.store.specs.Going.{FitsStore, GoesOn};
+// A store, as its callers see it.
+ghost use Rattle.std.specs.Prelude.{◌≡◌, ◌≢◌, ◌+◌, ◌≤◌, ◌↔◌, true, false, List, ℕ, None, Some, Ok, length, IfOk, OnOk, OnErr, IfErr, MatchResult, option_map};
+ghost use Rattle.disk.specs.Contents.{Only, Rose};
+ghost use Rattle.disk.specs.Moments.{LeavesOnly, AddsNothing};
+ghost use Rattle.roadnet.specs.Step.{after};
+ghost use Rattle.roadnet.specs.declared.refusals.Refusal.TheVariants.{Device as device, OutOfMemory as out_of_memory};
+ghost use Rattle.pages.specs.Limits.{most_commands};
+ghost use Rattle.pagereader.specs.Outcomes.{failures_told};
+ghost use Rattle.store.specs.Committing.{MayRefuseCommit};
+ghost use Rattle.store.specs.Checkpointing.{refusal_of_checkpoint, MayRefuseCheckpoint};
+ghost use Rattle.store.specs.Going.{part_by, progress_by, unchecked_by, with_page_committed};
+ghost use Rattle.store.specs.State.{CameTidy, HasRoom, HasSlotPages, IsDurable, IsDurableOrAfter, commit_refusal, is_calm, checkpoint_of, has_all_checked};
 
-use crate::going::GoingCheckpoint;
+use crate::paged::Paged;
+use crate::parts::Part;
 use disk::Disk;
-use pages::{Header, Slot};
-use roadnet::Network;
-use std::alloc::Global;
+use roadnet::{Command, Network, Refusal};
+use std::marker::Model;
+use std::snapshot::Snapshot;
 
 /// A network that is kept on a disk.
 ///
-/// It takes the network, and a few numbers.
+/// It takes the network, and a few numbers; while a checkpoint goes a copy of the network more, and a buffer of 64 pages.
 #[derive(Drop)]
 pub struct Store<D: Disk> {
-    pub(crate) alloc: Global,
-    pub(crate) disk: D,
-    pub(crate) header: Header,
-    pub(crate) network: Network,
-    pub(crate) version: u64,
-    /// The slot that is current, and its epoch.
-    pub(crate) slot: Slot,
-    pub(crate) epoch: u64,
-    /// The sequence of the journal page that is written next.
-    pub(crate) next_sequence: u64,
-    /// How many journal pages stand behind the current slot.
-    pub(crate) unchecked: u32,
-    /// The disk failed in a write.
-    pub(crate) broken: bool,
-    /// The checkpoint that is going.
-    pub(crate) going: Option<GoingCheckpoint>,
-    ghost numbers: { HasFitNumbers header epoch version next_sequence unchecked },
-    ghost rests: { broken ≡ false → D.honest disk → IsAtRest (D.content disk) (D.left disk) header },
-    ghost fits: { IfSome going (λ g. FitsStore header slot epoch version next_sequence unchecked g.next g.committed) } by { Prim.hlevel props },
-    ghost goes_on: { broken ≡ false → D.honest disk → ∥ IfSome going (λ g. GoesOn (D.content disk) header g.next g.frozen g.committed network version next_sequence) ∥₁ },
+    pub(crate) pages: Paged<D>,
+    /// The disk as it was when the store was made or opened.
+    pub(crate) given: Snapshot<D>,
+}
+
+impl<D: Disk> Model for Store<D> {
+    ghost use Rattle.std.specs.Prelude.{◌≡◌, false};
+    ghost use Rattle.disk.specs.Contents.{Only};
+    ghost use Rattle.store.specs.Committing.{StandsTidily};
+    ghost use Rattle.store.specs.Durable.{told_by};
+    ghost use Rattle.store.specs.State.{StoreState, CameTidy, state_of};
+
+    ghost Value = { StoreState D };
+
+    ghost view = { λ s. state_of s.pages s.given.value };
+
+    ghost invariant = { λ s. CameTidy D.honest D.content s.given.value
+        → D.honest s.pages.disk × (s.pages.broken ≡ false → Only (D.content s.pages.disk) (D.left s.pages.disk) × StandsTidily (D.content s.pages.disk) (told_by s.pages)) };
 }
 
 impl<D: Disk> Store<D> {
@@ -42,34 +48,171 @@ impl<D: Disk> Store<D> {
     pub fn network(&self) -> &Network
         ensures { result.now ≡ self.now.network }
     {
-        &self.network
+        self.pages.network()
     }
 
-    /// The version of the durable network: how many commands were ever made durable.
+    /// The version of the durable network: how many commands were ever made durable. Where the store came tidy, over a disk that keeps the disk
+    /// model, and is not broken, a stop leaves the content alone, and it stands for this network and version: a fact of the store,
+    /// whatever was called since.
     pub fn version(&self) -> u64
-        ensures { result ≡ self.now.version }
+        ensures version { result ≡ self.now.version }
+        ensures honest { CameTidy D.honest D.content self.now.given → D.honest self.now.disk }
+        ensures room { HasRoom self.now }
+        ensures only { D.honest self.now.disk → self.now.broken ≡ false → Only (D.content self.now.disk) (D.left self.now.disk) }
+        ensures stands { CameTidy D.honest D.content self.now.given → self.now.broken ≡ false → IsDurable self.now (D.content self.now.disk) }
+        ensures slot { CameTidy D.honest D.content self.now.given → self.now.broken ≡ false → HasSlotPages self.now }
     {
-        self.version
+        self.pages.version()
     }
 
     /// How many pages of the journal stand behind the current checkpoint.
     pub fn unchecked(&self) -> u32
         ensures { result ≡ self.now.unchecked }
     {
-        self.unchecked
+        self.pages.unchecked()
     }
 
     /// How many pages the journal has.
     pub fn journal_pages(&self) -> u32
-        ensures { result ≡ self.now.header.journal_pages }
+        ensures { result ≡ self.now.journal_pages }
     {
-        self.header.journal_pages
+        self.pages.journal_pages()
+    }
+
+    /// Whether the store is neither broken nor has a checkpoint going.
+    pub fn calm(&self) -> bool
+        ensures { result ≡ is_calm self.now }
+    {
+        self.pages.calm()
     }
 
     /// The disk, of which no call is made.
     pub fn close(self) -> D
-        ensures { result ≡ self.disk }
+        ensures disk { result ≡ self.disk }
+        ensures honest { CameTidy D.honest D.content self.given → D.honest result }
     {
-        self.disk
+        self.pages.close()
+    }
+
+    /// Makes these commands, 1 to 253, durable as one page of the journal, and carries them out. Answers the new version: each command
+    /// counts one. All of them take place or none, whatever a stop does at any moment; at `Ok` they are there for good.
+    ///
+    /// Refused, the first that holds, is a broken store (45), a version that would pass 2^48 (28), a journal without a free page (44), and
+    /// the first command that isn't admitted after those before it (20 to 27); then want of memory (11), all before any call of the disk;
+    /// then a disk that failed (43), after which the store is broken and writes nothing more. After each other refusal nothing is changed.
+    ///
+    /// It makes four writes and syncs, or six where the page at that place is open. It takes 4 bytes a landmark, and never a copy of the
+    /// arcs: n commands cost O(n^2) comparisons.
+    pub fn commit(&mut self, commands: &[Command]) -> Result<u64, Refusal>
+        requires some { 1 ≤ length commands.now }
+        requires few { length commands.now ≤ most_commands }
+        // At Ok the commands are carried out, each counted, and one page more is unchecked.
+        ensures version { IfOk result (λ version. (version ≡ self.new.version) × (version ≡ self.old.version + length commands.now)) }
+        ensures network { OnOk result (after self.old.network commands.now ≡ Some self.new.network) }
+        ensures unchecked { OnOk result (self.new.unchecked ≡ self.old.unchecked + 1) }
+        ensures works { OnOk result (self.new.broken ≡ false) }
+        // A checkpoint that is going goes on, and counts the page.
+        ensures going { OnOk result (self.new.going ≡ option_map with_page_committed self.old.going) }
+        ensures given { self.new.given ≡ self.old.given }
+        ensures sizes { (self.new.journal_pages ≡ self.old.journal_pages) × (self.new.slot_pages ≡ self.old.slot_pages) }
+        // It refuses exactly where there is a cause; and where there is none, for want of memory, or where the disk failed in this call.
+        ensures refused { MatchResult result (λ _. commit_refusal self.old commands.now ≡ None) (MayRefuseCommit (commit_refusal self.old commands.now)) }
+        ensures same { IfErr result (λ refusal. refusal ≢ device → self.new ≡ self.old) }
+        ensures failed { IfErr result (λ refusal. refusal ≡ device → Rose (D.failures self.old.disk) (D.failures self.new.disk)) }
+        // The count rises by one where that is told, and else not at all: no failure is passed over.
+        ensures counted { D.failures self.new.disk ≡ failures_told result (D.failures self.old.disk) }
+        ensures breaks { IfErr result (λ refusal. refusal ≡ device → self.new.broken ≡ true) }
+        ensures kept { OnErr result ((self.new.network ≡ self.old.network) × (self.new.version ≡ self.old.version)) }
+        ensures kept_pages { OnErr result ((self.new.unchecked ≡ self.old.unchecked) × (self.new.going ≡ self.old.going)) }
+        ensures adds_nothing { self.old.broken ≡ true → AddsNothing D.moment D.left_since self.old.disk self.new.disk }
+        // A stop at any moment of the call, or after it, leaves what stands for the network before the commands, or after them.
+        ensures any_moment { CameTidy D.honest D.content self.old.given → self.old.broken ≡ false → LeavesOnly D.moment D.left_since self.old.disk self.new.disk (IsDurableOrAfter self.old commands.now) }
+        ensures in_flight { CameTidy D.honest D.content self.old.given → self.old.broken ≡ false → (c : List ℕ) → D.left self.new.disk c → IsDurableOrAfter self.old commands.now c }
+        // After Ok it leaves the content alone, which stands for the network after them.
+        ensures only { D.honest self.old.disk → OnOk result (Only (D.content self.new.disk) (D.left self.new.disk)) }
+        ensures durable { CameTidy D.honest D.content self.old.given → OnOk result ((c : List ℕ) → D.left self.new.disk c → IsDurable self.new c) }
+        ensures honest { D.honest self.new.disk ↔ D.honest self.old.disk }
+    {
+        self.pages.commit(commands)
+    }
+
+    /// Writes a part of a checkpoint: of the one that is going, or else of one that begins. A checkpoint holds the network as it was when it
+    /// began, and goes to the slot that is not current. At most so many word pages, 1 to 64, are written. Answers `Going` where some are
+    /// left then. Else the slot is current, only the pages of the journal committed since the checkpoint began are unchecked, and it
+    /// answers `Done` with the version that the checkpoint holds. Where none is going and no page is unchecked, nothing is done.
+    ///
+    /// Network and version of the store stay, whatever a stop does at any moment; a stop loses a checkpoint that is going, and nothing else.
+    ///
+    /// Refused is a broken store (45); then want of memory (11), where a checkpoint would begin, before any call of the disk; then a disk that
+    /// failed (43), after which the store is broken and writes nothing more. After each other refusal nothing is changed.
+    pub fn checkpoint_part(&mut self, pages: u32) -> Result<Part, Refusal>
+        requires some { 1 ≤ pages }
+        requires few { pages ≤ 64 }
+        // Network and version stay, also after a refusal.
+        ensures network { self.new.network ≡ self.old.network }
+        ensures version { self.new.version ≡ self.old.version }
+        ensures given { self.new.given ≡ self.old.given }
+        ensures sizes { (self.new.journal_pages ≡ self.old.journal_pages) × (self.new.slot_pages ≡ self.old.slot_pages) }
+        // Where none is going and no page is unchecked, nothing is changed, the disk neither.
+        ensures nothing { self.old.broken ≡ false → has_all_checked self.old ≡ true → (result ≡ Ok (Part.Done self.old.version)) × (self.new ≡ self.old) }
+        // Else so many pages more are written, or all are, and only what was committed since is unchecked.
+        ensures answers { has_all_checked self.old ≡ false → IfOk result (λ part. part ≡ part_by (checkpoint_of self.old) pages) }
+        ensures going { has_all_checked self.old ≡ false → OnOk result (self.new.going ≡ progress_by (checkpoint_of self.old) pages) }
+        ensures unchecked { has_all_checked self.old ≡ false → OnOk result (self.new.unchecked ≡ unchecked_by (checkpoint_of self.old) self.old.unchecked pages) }
+        ensures works { OnOk result (self.new.broken ≡ false) }
+        // It refuses where the store is broken; and where it is not, for want of memory where a checkpoint would begin, or where the disk failed in this call.
+        ensures refused { MatchResult result (λ _. refusal_of_checkpoint self.old.broken ≡ None) (MayRefuseCheckpoint (refusal_of_checkpoint self.old.broken)) }
+        ensures memory { IfErr result (λ refusal. refusal ≡ out_of_memory → self.old.going ≡ None) }
+        ensures same { IfErr result (λ refusal. refusal ≢ device → self.new ≡ self.old) }
+        // The count of failures rises by one where a failure of the disk is told, and else not at all: none is passed over.
+        ensures counted { D.failures self.new.disk ≡ failures_told result (D.failures self.old.disk) }
+        ensures failed { IfErr result (λ refusal. refusal ≡ device → Rose (D.failures self.old.disk) (D.failures self.new.disk)) }
+        ensures breaks { IfErr result (λ refusal. refusal ≡ device → self.new.broken ≡ true) }
+        // After a refusal the checkpoint that went is as far as it was.
+        ensures kept { OnErr result ((self.new.unchecked ≡ self.old.unchecked) × (self.new.going ≡ self.old.going)) }
+        ensures adds_nothing { self.old.broken ≡ true → AddsNothing D.moment D.left_since self.old.disk self.new.disk }
+        // A stop at any moment of the call, or after it, leaves what stands for this network and version.
+        ensures any_moment { CameTidy D.honest D.content self.old.given → self.old.broken ≡ false → LeavesOnly D.moment D.left_since self.old.disk self.new.disk (IsDurable self.old) }
+        ensures left { CameTidy D.honest D.content self.old.given → self.old.broken ≡ false → (c : List ℕ) → D.left self.new.disk c → IsDurable self.old c }
+        ensures only { D.honest self.old.disk → OnOk result (Only (D.content self.new.disk) (D.left self.new.disk)) }
+        ensures honest { D.honest self.new.disk ↔ D.honest self.old.disk }
+    {
+        self.pages.checkpoint_part(pages)
+    }
+
+    /// Writes all that is left of the checkpoint that is going, or else of one that begins. Network and version stay, whatever a stop does at
+    /// any moment. Answers the version that the checkpoint holds; only the pages of the journal committed since it began are unchecked then.
+    /// Where none is going and no page is unchecked, nothing is done.
+    ///
+    /// Refused as a part is.
+    pub fn checkpoint(&mut self) -> Result<u64, Refusal>
+        // Network and version stay, also after a refusal.
+        ensures network { self.new.network ≡ self.old.network }
+        ensures version { self.new.version ≡ self.old.version }
+        ensures given { self.new.given ≡ self.old.given }
+        ensures sizes { (self.new.journal_pages ≡ self.old.journal_pages) × (self.new.slot_pages ≡ self.old.slot_pages) }
+        // Where none is going and no page is unchecked, nothing is changed, the disk neither.
+        ensures nothing { self.old.broken ≡ false → has_all_checked self.old ≡ true → (result ≡ Ok self.old.version) × (self.new ≡ self.old) }
+        ensures answers { IfOk result (λ version. version ≡ (checkpoint_of self.old).version) }
+        ensures going { OnOk result (self.new.going ≡ None) }
+        ensures unchecked { OnOk result (self.new.unchecked ≡ (checkpoint_of self.old).committed) }
+        ensures works { OnOk result (self.new.broken ≡ false) }
+        // It refuses where the store is broken; and where it is not, for want of memory where a checkpoint would begin, or where the disk failed in this call.
+        ensures refused { MatchResult result (λ _. refusal_of_checkpoint self.old.broken ≡ None) (MayRefuseCheckpoint (refusal_of_checkpoint self.old.broken)) }
+        ensures memory { IfErr result (λ refusal. refusal ≡ out_of_memory → self.old.going ≡ None) }
+        ensures same { IfErr result (λ refusal. refusal ≢ device → self.new ≡ self.old) }
+        // The count of failures rises by one where a failure of the disk is told, and else not at all: none is passed over.
+        ensures counted { D.failures self.new.disk ≡ failures_told result (D.failures self.old.disk) }
+        ensures failed { IfErr result (λ refusal. refusal ≡ device → Rose (D.failures self.old.disk) (D.failures self.new.disk)) }
+        ensures breaks { IfErr result (λ refusal. refusal ≡ device → self.new.broken ≡ true) }
+        ensures kept { OnErr result ((self.new.unchecked ≡ self.old.unchecked) × (self.new.going ≡ self.old.going)) }
+        ensures adds_nothing { self.old.broken ≡ true → AddsNothing D.moment D.left_since self.old.disk self.new.disk }
+        // A stop at any moment of the call, or after it, leaves what stands for this network and version.
+        ensures any_moment { CameTidy D.honest D.content self.old.given → self.old.broken ≡ false → LeavesOnly D.moment D.left_since self.old.disk self.new.disk (IsDurable self.old) }
+        ensures left { CameTidy D.honest D.content self.old.given → self.old.broken ≡ false → (c : List ℕ) → D.left self.new.disk c → IsDurable self.old c }
+        ensures only { D.honest self.old.disk → OnOk result (Only (D.content self.new.disk) (D.left self.new.disk)) }
+        ensures honest { D.honest self.new.disk ↔ D.honest self.old.disk }
+    {
+        self.pages.checkpoint()
     }
 }

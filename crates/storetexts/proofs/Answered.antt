@@ -8,19 +8,18 @@ use Rattle.dimacs.specs.declared.pairs.Pair.{Pair}
 use Rattle.dimacs.specs.Lines.{rows}
 use Rattle.dimacs.specs.Pairs.{p2p_text}
 use Rattle.dimacs.specs.Texts.{content_by, Reads}
-use Rattle.storefile.specs.StoreFile.{StandsFor}
+use Rattle.store.specs.State.{StandsAt}
 use Rattle.printing.specs.declared.failed.Failed.{Failed}
 use Rattle.printing.specs.declared.failed.Failed.TheVariants.{Text, Code}
 use Rattle.querytexts.specs.Batch.{AnswersAll}
 use Rattle.querytexts.specs.Once.{IsUnanswered}
 use Rattle.storetexts.specs.Asked.{IsAsked, IsRefusedAsk}
 
-module _ (file : List ℕ) (net : Net) (version next nodes : ℕ) (stands : StandsFor file net version next) (is : nodes ≡ net.nodes) where
+module _ (file : List ℕ) (net : Net) (version nodes : ℕ) (stands : StandsAt file net version) (is : nodes ≡ net.nodes) where
   asked_one : (text : List ℕ) (list : List Pair) (old new : Option (List ℕ)) → content_by (p2p_text nodes) (rows text) ≡ Ok list → AnswersAll net version list old new → IsAsked text file old new
   asked_one text list old new said answers = record {
     net = net;
     version = version;
-    next = next;
     stands = stands;
     holds = record { list = list; pairs_are = subst (λ (n : ℕ). content_by (p2p_text n) (rows text) ≡ Ok list) is said; answers = answers };
   }
@@ -39,7 +38,7 @@ module _ (file : List ℕ) (net : Net) (version next nodes : ℕ) (stands : Stan
   fault_of None left fault said = tt
   fault_of (Some text) left fault said =
       let here : Reads (p2p_text net.nodes) text left (Err fault) = subst (λ (n : ℕ). Reads (p2p_text n) text left (Err fault)) is said in
-      record { net = net; version = version; next = next; stands = stands; holds = here }
+      record { net = net; version = version; stands = stands; holds = here }
 
 unanswered : (file text : List ℕ) (left : Option (List ℕ)) (failed : Failed) → IsUnanswered failed → IsRefusedAsk file text left failed
 unanswered file text left (Code Write) h = tt

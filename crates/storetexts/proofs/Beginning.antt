@@ -3,15 +3,8 @@ use Rattle.std.proofs.Common.{◌≡◌, ℕ, List, [], refl, sym, subst, arith,
 use Rattle.std.proofs.lemmas.List.Elements.{All-nil}
 use Rattle.roadnet.specs.Net.{Net}
 use Rattle.machine.specs.Machine.{Machine, Sizes, start}
-use Rattle.keeper.proofs.Stopped.{is_opened}
-use Rattle.storefile.specs.StoreFile.{StandsTidyFor}
-use Rattle.storefile.specs.Standing.{Standing, standing_of}
-use Rattle.store.specs.Committing.{StandsTidily}
 use Rattle.storetexts.specs.Applying.{IsSettled, HaveCome}
 
 pub none_come : (net there : Net) (version at unchecked : ℕ) (sizes : Sizes) (m : Machine) → m ≡ start sizes there at unchecked → there ≡ net → at ≡ version → HaveCome net version [] [] 0 m
 none_come net there version at unchecked sizes m is same counted =
     subst (HaveCome net version [] [] 0) (sym is) (record { base_is = same; version_is = counted; come = tt; accepted_is = refl; told_to = omega arith; settled = All-nil (IsSettled at) })
-
-pub stands_so : (pages : ℕ) (file content : List ℕ) (net : Net) (version : ℕ) (x : Standing) → content ≡ file → StandsTidyFor pages file net version → standing_of file ≡ Some x → StandsTidily content x
-stands_so pages file content net version x same stands told = subst (λ (c : List ℕ). StandsTidily c x) (sym same) (is_opened pages file net version x stands told).stands

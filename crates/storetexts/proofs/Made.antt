@@ -5,7 +5,6 @@ use Rattle.roadnet.specs.declared.refusals.Refusal.TheVariants.{Write, Device, N
 use Rattle.roadnet.specs.Net.{Net}
 use Rattle.disk.specs.Contents.{Only}
 use Rattle.storefile.specs.StoreFile.{StandsTidyFor}
-use Rattle.storefile.specs.Standing.{Standing, standing_of}
 use Rattle.printing.specs.declared.failed.Failed.{Failed}
 use Rattle.printing.specs.declared.failed.Failed.TheVariants.{Code}
 use Rattle.printing.specs.Failing.{CountsWrites}
@@ -22,8 +21,8 @@ done_any (Ok done) P p = p
 done_any (Err (Code Write)) P p = p
 done_any (Err failed) P p = tt
 
-pub made_so : (net : Net) (pages : ℕ) (content : List ℕ) (left : List ℕ → Type 0) (x : Standing) → StandsTidyFor pages content net 0 → Only content left → standing_of content ≡ Some x → x.header.journal_pages ≡ pages → IsNewStore net pages content left
-made_so net pages content left x stands only told count = record { stands = stands; journal = record { standing = x; standing_is = told; pages_are = count }; only = only }
+pub made_so : (net : Net) (pages : ℕ) (content : List ℕ) (left : List ℕ → Type 0) → StandsTidyFor pages content net 0 → Only content left → IsNewStore net pages content left
+made_so net pages content left stands only = record { stands = stands; only = only }
 
 both_known : (a b : Option (List ℕ)) (net : Net) (pages : ℕ) (content : List ℕ) (left : List ℕ → Type 0)
     → IfSome a (λ n. IfSome b (λ l. IsPlanned n l net)) → IsNewStore net pages content left → IfSome a (λ n. IfSome b (λ l. IsNewStoreOf n l pages content left))

@@ -9,7 +9,6 @@ use Rattle.roadnet.specs.Step.{after}
 use Rattle.dimacs.specs.Commanded.{command_text}
 use Rattle.dimacs.specs.Texts.{Reads}
 use Rattle.storefile.specs.StoreFile.{StandsTidyFor}
-use Rattle.storefile.specs.Standing.{Standing}
 use Rattle.machine.specs.Machine.{Machine, latest, pending, network_at}
 use Rattle.machine.specs.Lives.{HoldsDurable}
 use Rattle.machine.proofs.Kept.{left_between}
@@ -64,10 +63,10 @@ kept_all net version cs os content come k =
     let same_os : take k.kept os ≡ os = take_all k.kept os k.told_kept in
     subst (λ (l : List Outcome). StandsAfter net version cs l content) same_os (subst (λ (l : List Command). StandsAfter net version l (take k.kept os) content) same_cs k.stands)
 
-pub applies_all : (net : Net) (version : ℕ) (cs : List Command) (os : List Outcome) (told : ℕ) (m : Machine) (standing : Standing) (content : List ℕ) (left : List ℕ → Type 0) (old new : Option (List ℕ))
-    → HaveCome net version cs os (length os) m → IsSteady m → m.broken ≡ false → Holds content left m standing → left content → told ≡ length os → AreTold old new os told
+pub applies_all : (net : Net) (version : ℕ) (cs : List Command) (os : List Outcome) (told : ℕ) (m : Machine) (content : List ℕ) (left : List ℕ → Type 0) (old new : Option (List ℕ))
+    → HaveCome net version cs os (length os) m → IsSteady m → m.broken ≡ false → Holds content left m → left content → told ≡ length os → AreTold old new os told
     → AppliesAll net version cs content left old new
-applies_all net version cs os told m standing content left old new h s calm holds now all lines = record {
+applies_all net version cs os told m content left old new h s calm holds now all lines = record {
   outcomes = os;
   come = h.come;
   stands = kept_all net version cs os content h.come (kept_told net version (length os) cs os m h s content (holds.each_left content now));
@@ -77,10 +76,10 @@ applies_all net version cs os told m standing content left old new h s calm hold
       rw same at lines;
 }
 
-pub applies_some : (net : Net) (version : ℕ) (cs : List Command) (os : List Outcome) (told : ℕ) (m : Machine) (standing : Standing) (content : List ℕ) (left : List ℕ → Type 0) (old new : Option (List ℕ)) (failed : Failed)
-    → HaveComeSome net version cs os told m → IsSteady m → Holds content left m standing → IfNotWrite failed (AreTold old new os told)
+pub applies_some : (net : Net) (version : ℕ) (cs : List Command) (os : List Outcome) (told : ℕ) (m : Machine) (content : List ℕ) (left : List ℕ → Type 0) (old new : Option (List ℕ)) (failed : Failed)
+    → HaveComeSome net version cs os told m → IsSteady m → Holds content left m → IfNotWrite failed (AreTold old new os told)
     → AppliesSome net version cs left old new failed
-applies_some net version cs os told m standing content left old new failed h s holds lines = record {
+applies_some net version cs os told m content left old new failed h s holds lines = record {
   taken = h.taken;
   outcomes = os;
   come = h.come.come;
@@ -120,15 +119,15 @@ on_ok_too (Ok x) P Q p f = f p
 on_ok_too (Err e) P Q p f = tt
 
 -- ---- how it ends
-module _ (net : Net) (version : ℕ) (first m : Machine) (cs : List Command) (os : List Outcome) (told : ℕ) (standing : Standing) (content : List ℕ) (left : List ℕ → Type 0) (old new : Option (List ℕ)) (begun : HaveCome net version [] [] 0 first) (s : IsSteady m) (holds : Holds content left m standing) where
+module _ (net : Net) (version : ℕ) (first m : Machine) (cs : List Command) (os : List Outcome) (told : ℕ) (content : List ℕ) (left : List ℕ → Type 0) (old new : Option (List ℕ)) (begun : HaveCome net version [] [] 0 first) (s : IsSteady m) (holds : Holds content left m) where
   pub ended_all : (r : Result (Unit {0}) Failed) → OnOk r ((n : Net) (v : ℕ) → HaveCome n v [] [] 0 first → HaveCome n v cs os (length os) m) → OnOk r (m.broken ≡ false)
       → OnOk r ((n : Net) (v : ℕ) → HaveCome n v [] [] 0 first → told ≡ length os) → IfTold r (AreTold old new os told) → left content → OnOk r (AppliesAll net version cs content left old new)
-  ended_all (Ok done) come calm all lines now = applies_all net version cs os told m standing content left old new (come net version begun) s calm holds now (all net version begun) lines
+  ended_all (Ok done) come calm all lines now = applies_all net version cs os told m content left old new (come net version begun) s calm holds now (all net version begun) lines
   ended_all (Err failed) come calm all lines now = tt
 
   pub ended_some : (r : Result (Unit {0}) Failed) → ((n : Net) (v : ℕ) → HaveCome n v [] [] 0 first → HaveComeSome n v cs os told m) → IfTold r (AreTold old new os told) → IfErr r (AppliesSome net version cs left old new)
   ended_some (Ok done) some lines = tt
-  ended_some (Err failed) some lines = applies_some net version cs os told m standing content left old new failed (some net version begun) s holds lines
+  ended_some (Err failed) some lines = applies_some net version cs os told m content left old new failed (some net version begun) s holds lines
 
 -- ---- the same of a text
 pub if_known : (known : Option (List ℕ)) (P : List ℕ → Type 0) → ((text : List ℕ) → P text) → IfSome known P

@@ -8,7 +8,7 @@ use Rattle.dimacs.specs.Faults.{code_of}
 use Rattle.dimacs.specs.Format.{p2p}
 use Rattle.dimacs.specs.Lines.{rows}
 use Rattle.dimacs.specs.Taking.{ByCode, ByMemory}
-use Rattle.storefile.specs.StoreFile.{StandsFor}
+use Rattle.store.specs.State.{StandsAt}
 use Rattle.store.specs.Opening.{MayRefuseToOpen}
 use Rattle.printing.specs.declared.failed.Failed.{Failed}
 use Rattle.printing.specs.declared.failed.Failed.TheVariants.{Text, Code}
@@ -18,8 +18,7 @@ use Rattle.querytexts.specs.Batch.{pairs_in, AnswersAll}
 pub record StandsForOne (file : List ℕ) (Holds : Net → ℕ → Type 0) : Type 0 where
   pub net : Net
   pub version : ℕ
-  pub next : ℕ
-  pub stands : StandsFor file net version next
+  pub stands : StandsAt file net version
   pub holds : Holds net version
 
 -- what is written are the lines of right answers to the pairs of the text, in this network at this version, and nothing else

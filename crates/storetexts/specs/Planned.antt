@@ -14,7 +14,6 @@ use Rattle.dimacs.specs.Taking.{ByCode, ByMemory}
 use Rattle.dimacs.specs.Texts.{content_by}
 use Rattle.disk.specs.Contents.{Only}
 use Rattle.storefile.specs.StoreFile.{StandsTidyFor}
-use Rattle.storefile.specs.Standing.{Standing, standing_of}
 use Rattle.printing.specs.declared.failed.Failed.{Failed}
 use Rattle.printing.specs.declared.failed.Failed.TheVariants.{Text, Code}
 use Rattle.querytexts.specs.Batch.{AfterNetwork}
@@ -71,16 +70,9 @@ IsUnmade (Code OutOfMemory) = ⊤
 IsUnmade (Code Write) = ⊤
 IsUnmade failed = ⊥
 
--- the journal of the file has so many pages
-pub record HasJournal (file : List ℕ) (pages : ℕ) : Type 0 where
-  pub standing : Standing
-  pub standing_is : standing_of file ≡ Some standing
-  pub pages_are : standing.header.journal_pages ≡ pages
-
 -- The content stands for the network at version 0, with so many journal pages, is tidy, and is all that a stop may leave.
 pub record IsNewStore (net : Net) (journal_pages : ℕ) (content : List ℕ) (left : List ℕ → Type 0) : Type 0 where
   pub stands : StandsTidyFor journal_pages content net 0
-  pub journal : HasJournal content journal_pages
   pub only : Only content left
 
 -- the same for the network of two texts

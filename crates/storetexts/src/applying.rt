@@ -11,6 +11,7 @@ ghost use Rattle.roadnet.specs.Net.{Net};
 ghost use Rattle.rows.specs.Kept.{IsWidth};
 ghost use Rattle.storefile.specs.StoreFile.{StandsTidyFor};
 ghost use Rattle.store.specs.Opening.{MayRefuseToOpen};
+ghost use Rattle.store.specs.State.{CameTidy};
 ghost use Rattle.printing.specs.Counting.{failed_writes, writer_of, IsSameWriter, CountsFailure};
 ghost use Rattle.printing.specs.Failing.{CountsReads, CountsWrites};
 ghost use Rattle.storetexts.specs.Applied.{AppliesAll, IsApplied, AppliesSome, IsCutOff, IsRefusedApply, IsTextRefusedApply, IfUnbegun};
@@ -58,7 +59,7 @@ impl<D: Disk> Applying<D> {
         ensures told { self.new.told ≡ self.old.told }
         ensures first { self.old.told ≤ length self.old.outcomes.items → take self.old.told self.new.outcomes.items ≡ take self.old.told self.old.outcomes.items }
         ensures disk { self.new.keeper.disk ≡ self.old.keeper.disk }
-        ensures holds { Holds (D.content self.old.keeper.disk) (D.left self.old.keeper.disk) self.old.keeper.machine self.old.keeper.standing → Holds (D.content self.new.keeper.disk) (D.left self.new.keeper.disk) self.new.keeper.machine self.new.keeper.standing }
+        ensures given { self.new.keeper.given ≡ self.old.keeper.given }
     {
         let outcome = match self.keeper.submit(command) {
             Ok(ticket) => Outcome::Accepted {
@@ -81,7 +82,7 @@ impl<D: Disk> Applying<D> {
         ensures refused { IfErr result IsOfDevice }
         ensures outcomes { self.new.outcomes ≡ self.old.outcomes }
         ensures told { self.new.told ≡ self.old.told }
-        ensures holds { D.honest self.old.keeper.disk → Holds (D.content self.old.keeper.disk) (D.left self.old.keeper.disk) self.old.keeper.machine self.old.keeper.standing → Holds (D.content self.new.keeper.disk) (D.left self.new.keeper.disk) self.new.keeper.machine self.new.keeper.standing }
+        ensures given { self.new.keeper.given ≡ self.old.keeper.given }
         ensures honest { D.honest self.new.keeper.disk ↔ D.honest self.old.keeper.disk }
     {
         match self.keeper.checkpoint() {
@@ -103,7 +104,7 @@ impl<D: Disk> Applying<D> {
         ensures refused { IfErr result IsOfDevice }
         ensures outcomes { self.new.outcomes ≡ self.old.outcomes }
         ensures told { self.new.told ≡ self.old.told }
-        ensures holds { D.honest self.old.keeper.disk → Holds (D.content self.old.keeper.disk) (D.left self.old.keeper.disk) self.old.keeper.machine self.old.keeper.standing → Holds (D.content self.new.keeper.disk) (D.left self.new.keeper.disk) self.new.keeper.machine self.new.keeper.standing }
+        ensures given { self.new.keeper.given ≡ self.old.keeper.given }
         ensures honest { D.honest self.new.keeper.disk ↔ D.honest self.old.keeper.disk }
     {
         if let Err(refusal) = self.checkpoint() {
@@ -127,7 +128,7 @@ impl<D: Disk> Applying<D> {
         ensures refused { IfErr result IsOfDevice }
         ensures outcomes { self.new.outcomes ≡ self.old.outcomes }
         ensures told { self.new.told ≡ self.old.told }
-        ensures holds { D.honest self.old.keeper.disk → Holds (D.content self.old.keeper.disk) (D.left self.old.keeper.disk) self.old.keeper.machine self.old.keeper.standing → Holds (D.content self.new.keeper.disk) (D.left self.new.keeper.disk) self.new.keeper.machine self.new.keeper.standing }
+        ensures given { self.new.keeper.given ≡ self.old.keeper.given }
         ensures honest { D.honest self.new.keeper.disk ↔ D.honest self.old.keeper.disk }
     {
         if self.keeper.pending() == 0 {
@@ -193,7 +194,7 @@ impl<D: Disk> Applying<D> {
         ensures refused { IfErr result IsCutOffBy }
         ensures writes { CountsWrites (failed_writes out.old) (failed_writes out.new) result }
         ensures same { IsSameWriter out.old out.new }
-        ensures holds { D.honest self.old.keeper.disk → Holds (D.content self.old.keeper.disk) (D.left self.old.keeper.disk) self.old.keeper.machine self.old.keeper.standing → Holds (D.content self.new.keeper.disk) (D.left self.new.keeper.disk) self.new.keeper.machine self.new.keeper.standing }
+        ensures given { self.new.keeper.given ≡ self.old.keeper.given }
         ensures honest { D.honest self.new.keeper.disk ↔ D.honest self.old.keeper.disk }
     {
         let flushed = self.flush();
@@ -231,7 +232,7 @@ impl<D: Disk> Applying<D> {
         ensures refused { IfErr result IsCutOffBy }
         ensures writes { CountsWrites (failed_writes out.old) (failed_writes out.new) result }
         ensures same { IsSameWriter out.old out.new }
-        ensures holds { D.honest self.old.keeper.disk → Holds (D.content self.old.keeper.disk) (D.left self.old.keeper.disk) self.old.keeper.machine self.old.keeper.standing → Holds (D.content self.new.keeper.disk) (D.left self.new.keeper.disk) self.new.keeper.machine self.new.keeper.standing }
+        ensures given { self.new.keeper.given ≡ self.old.keeper.given }
         ensures honest { D.honest self.new.keeper.disk ↔ D.honest self.old.keeper.disk }
     {
         self.take(command);
@@ -263,7 +264,7 @@ impl<D: Disk> Applying<D> {
         ensures refused { IfErr result IsCutOffBy }
         ensures writes { CountsWrites (failed_writes out.old) (failed_writes out.new) result }
         ensures same { IsSameWriter out.old out.new }
-        ensures holds { D.honest self.old.keeper.disk → Holds (D.content self.old.keeper.disk) (D.left self.old.keeper.disk) self.old.keeper.machine self.old.keeper.standing → Holds (D.content self.new.keeper.disk) (D.left self.new.keeper.disk) self.new.keeper.machine self.new.keeper.standing }
+        ensures given { self.new.keeper.given ≡ self.old.keeper.given }
         ensures honest { D.honest self.new.keeper.disk ↔ D.honest self.old.keeper.disk }
     {
         for index in 0..commands.len() {
@@ -296,7 +297,7 @@ impl<D: Disk> Applying<D> {
         ensures refused { IfErr result IsCutOffBy }
         ensures writes { CountsWrites (failed_writes out.old) (failed_writes out.new) result }
         ensures same { IsSameWriter out.old out.new }
-        ensures holds { D.honest self.old.keeper.disk → Holds (D.content self.old.keeper.disk) (D.left self.old.keeper.disk) self.old.keeper.machine self.old.keeper.standing → Holds (D.content self.new.keeper.disk) (D.left self.new.keeper.disk) self.new.keeper.machine self.new.keeper.standing }
+        ensures given { self.new.keeper.given ≡ self.old.keeper.given }
         ensures honest { D.honest self.new.keeper.disk ↔ D.honest self.old.keeper.disk }
     {
         match self.take_all(commands, out) {
@@ -307,7 +308,9 @@ impl<D: Disk> Applying<D> {
 
     /// The disk, of which no call is made.
     fn close(self) -> D
-        ensures { result ≡ self.keeper.disk }
+        ensures disk { result ≡ self.keeper.disk }
+        ensures honest { CameTidy D.honest D.content self.keeper.given → D.honest self.keeper.disk }
+        ensures holds { CameTidy D.honest D.content self.keeper.given → Holds (D.content self.keeper.disk) (D.left self.keeper.disk) self.keeper.machine }
     {
         let Applying {
             keeper,
@@ -332,7 +335,7 @@ fn keeper_on<T: Threads, D: Disk>(
     ensures none { IfOk result (λ keeper. pending keeper.machine ≡ 0) }
     ensures width { (width : ℕ) → delta ≡ Some width → IfOk result (λ keeper. keeper.width ≡ width) }
     ensures begins { D.honest disk → (journal_pages : ℕ) (net : Net) (version : ℕ) → StandsTidyFor journal_pages (D.content disk) net version → IfOk result (λ keeper. HaveCome net version [] [] 0 keeper.machine) }
-    ensures holds { D.honest disk → (journal_pages : ℕ) (net : Net) (version : ℕ) → StandsTidyFor journal_pages (D.content disk) net version → IfOk result (λ keeper. Holds (D.content keeper.disk) (D.left keeper.disk) keeper.machine keeper.standing) }
+    ensures came { D.honest disk → (journal_pages : ℕ) (net : Net) (version : ℕ) → StandsTidyFor journal_pages (D.content disk) net version → IfOk result (λ keeper. CameTidy D.honest D.content keeper.given) }
     ensures same { D.honest disk → IfOk result (λ keeper. StaysSame D.content D.left D.moment D.left_since disk keeper.disk) }
     ensures handed_back { D.honest disk → IfErr result (λ refused. StaysSame D.content D.left D.moment D.left_since disk refused.1) }
     ensures refused { D.honest disk → IfErr result (λ refused. MayRefuseToOpen (D.content disk) refused.0) }
@@ -368,8 +371,8 @@ fn apply_commands<D: Disk, W: Write>(
     requires calm { keeper.machine.broken ≡ false }
     requires none { pending keeper.machine ≡ 0 }
     ensures done { IfOk result.0 (λ told. told ≡ done) }
-    ensures applied { D.honest keeper.disk → Holds (D.content keeper.disk) (D.left keeper.disk) keeper.machine keeper.standing → (net : Net) (version : ℕ) → HaveCome net version [] [] 0 keeper.machine → OnOk result.0 (AppliesAll net version commands.now (D.content result.1) (D.left result.1) (W.contents (writer_of out.old)) (W.contents (writer_of out.new))) }
-    ensures cut_off { D.honest keeper.disk → Holds (D.content keeper.disk) (D.left keeper.disk) keeper.machine keeper.standing → (net : Net) (version : ℕ) → HaveCome net version [] [] 0 keeper.machine → IfErr result.0 (AppliesSome net version commands.now (D.left result.1) (W.contents (writer_of out.old)) (W.contents (writer_of out.new))) }
+    ensures applied { CameTidy D.honest D.content keeper.given → (net : Net) (version : ℕ) → HaveCome net version [] [] 0 keeper.machine → OnOk result.0 (AppliesAll net version commands.now (D.content result.1) (D.left result.1) (W.contents (writer_of out.old)) (W.contents (writer_of out.new))) }
+    ensures cut_off { CameTidy D.honest D.content keeper.given → (net : Net) (version : ℕ) → HaveCome net version [] [] 0 keeper.machine → IfErr result.0 (AppliesSome net version commands.now (D.left result.1) (W.contents (writer_of out.old)) (W.contents (writer_of out.new))) }
     ensures refused { IfErr result.0 IsCutOffBy }
     ensures writes { CountsWrites (failed_writes out.old) (failed_writes out.new) result.0 }
     ensures same { IsSameWriter out.old out.new }
@@ -407,8 +410,8 @@ fn apply_to_writer<D: Disk, W: Write>(
     requires calm { keeper.machine.broken ≡ false }
     requires none { pending keeper.machine ≡ 0 }
     ensures done { IfOk result.0 (λ told. told ≡ done) }
-    ensures applied { D.honest keeper.disk → Holds (D.content keeper.disk) (D.left keeper.disk) keeper.machine keeper.standing → (net : Net) (version : ℕ) → HaveCome net version [] [] 0 keeper.machine → OnOk result.0 (AppliesAll net version commands.now (D.content result.1) (D.left result.1) (W.contents out.old) (W.contents out.new)) }
-    ensures cut_off { D.honest keeper.disk → Holds (D.content keeper.disk) (D.left keeper.disk) keeper.machine keeper.standing → (net : Net) (version : ℕ) → HaveCome net version [] [] 0 keeper.machine → IfErr result.0 (AppliesSome net version commands.now (D.left result.1) (W.contents out.old) (W.contents out.new)) }
+    ensures applied { CameTidy D.honest D.content keeper.given → (net : Net) (version : ℕ) → HaveCome net version [] [] 0 keeper.machine → OnOk result.0 (AppliesAll net version commands.now (D.content result.1) (D.left result.1) (W.contents out.old) (W.contents out.new)) }
+    ensures cut_off { CameTidy D.honest D.content keeper.given → (net : Net) (version : ℕ) → HaveCome net version [] [] 0 keeper.machine → IfErr result.0 (AppliesSome net version commands.now (D.left result.1) (W.contents out.old) (W.contents out.new)) }
     ensures refused { IfErr result.0 IsCutOffBy }
     ensures honest { D.honest result.1 ↔ D.honest keeper.disk }
 {

@@ -1,30 +1,30 @@
-use Rattle.std.proofs.Common.{◌≡◌, ◌+◌, ◌<◌, ◌≤◌, ◌++◌, ◌∷◌, [], List, length, take, drop, Some, None, refl, sym, ◌∙◌, ap, subst, arith}
+use Rattle.std.proofs.Common.{◌≡◌, ◌+◌, ◌<◌, ◌≤◌, ◌++◌, ◌∷◌, [], ℕ, List, length, take, drop, Some, None, refl, sym, ◌∙◌, ap, subst, arith}
 use Rattle.std.proofs.lemmas.List.{append-nil, take_more, take_all, take-append-drop}
 use Rattle.disk.specs.declared.stoppable.Pick.{Pick}
 use Rattle.roadnet.specs.declared.refusals.Refusal.TheVariants.{OutOfMemory}
-use Rattle.pages.specs.Layout.{pages_for}
-use Rattle.store.specs.Durable.{told_by}
+use Rattle.store.specs.State.{CameTidy}
 use Rattle.machine.specs.declared.events.Event.{Event}
 use Rattle.machine.specs.Machine.{Machine, start}
 use Rattle.machine.proofs.Kept.{started}
+use Rattle.keeper.specs.declared.lives.Life.{Life}
+use Rattle.keeper.specs.Keeping.{IsDurableIn}
 use Rattle.keeper.specs.Rehearsing.{First, IsGoing, HasRun}
-use Rattle.store.proofs.Calm.{works_if_calm}
 use Rattle.keeper.proofs.Failing.{fails_none, fails_as, ends_told, ends_as}
-use Rattle.keeper.proofs.Stopped.{arcs_of_header}
 use Rattle.keeper.proofs.Runs.{first_of, run_as, lives_of, held_at_start, run_none, run_no_memory, run_whole}
 use Rattle.keeper.proofs.rehearsing.rehearse.Goals as goal
 
 pub returns-in-Err-clause-lives : goal.returns-in-Err-clause-lives
-returns-in-Err-clause-lives g c honest stands =
+returns-in-Err-clause-lives g c came =
     let store = c.args.store in
     let first : First = first_of store in
     let m : Machine = start first.sizes first.network first.version first.unchecked in
-    let slot = ap (pages_for 1023) (arcs_of_header (g.D.Disk.content store.disk) (told_by store) stands.0) in
+    let tells = c.in-Err.ensures in
+    let slot = tells.slot came in
     let there : c.close.result ≡ store.disk = (let back = c.in-Err.ensures.handed_back in let shut = c.close.ensures in cc) in
     rw (there, c.new-in-Err.ensures.items, c.new.ensures.items)
-    (run_no_memory first [] [] [] m (run_none {P = Pick} first store.numbers.unchecked_to slot) (g.D.Disk.left store.disk)
-    (started first.sizes first.network first.version first.unchecked store.numbers.version_to store.numbers.unchecked_to)
-    (held_at_start (g.D.Disk.content store.disk) (g.D.Disk.left store.disk) (told_by store) first.unchecked (store.rests (works_if_calm store c.requires.calm) honest).0 stands)
+    (run_no_memory first [] [] [] m (run_none {P = Pick} first tells.room.unchecked_to slot) (g.D.Disk.left store.disk)
+    (started first.sizes first.network first.version first.unchecked tells.room.version_to tells.room.unchecked_to)
+    (held_at_start store (g.D.Disk.content store.disk) (g.D.Disk.left store.disk) (tells.only came) (tells.stands came))
     c.args.events.now)
 
 pub loop-event-init : goal.loop-event-init
@@ -34,15 +34,13 @@ loop-event-init g c =
     let begins = c.in-Ok.ensures.begins in
     let none : length c.in-Ok.life.keeper.machine.accepted ≡ 0 = ap (λ (m : Machine). length m.accepted) begins in
     record {
-      life = c.in-Ok.ensures.life;
       room = omega (arith, none, c.new-2.ensures.len);
-      goes = λ honest stands.
-          let slot = ap (pages_for 1023) (arcs_of_header (g.D.Disk.content store.disk) (told_by store) stands.0) in
+      goes = λ came.
+          let slot = c.in-Ok.ensures.slot came in
           record {
-            is_honest = rw c.in-Ok.ensures.disk honest;
-            holds = c.in-Ok.ensures.holds honest stands;
+            came = subst (λ (d : g.row.D.Denot). CameTidy g.D.Disk.honest g.D.Disk.content d) (sym c.in-Ok.ensures.given) came;
             run = run_as first [] [] c.new-3.result.items [] c.new-2.result.items c.in-Ok.life.keeper.machine c.new-3.ensures.items c.new-2.ensures.items
-                (subst (λ (m : Machine). HasRun {P = Pick} first [] [] [] m) (sym begins) (run_none {P = Pick} first store.numbers.unchecked_to slot));
+                (subst (λ (m : Machine). HasRun {P = Pick} first [] [] [] m) (sym begins) (run_none {P = Pick} first c.in-Ok.ensures.room.unchecked_to slot));
           };
       delta = c.in-Ok.ensures.delta;
       counted = fails_as {P = Pick} [] [] c.new-3.result.items (g.D.Disk.failures store.disk) _ c.new-3.ensures.items (rw c.in-Ok.ensures.disk (fails_none {P = Pick} (g.D.Disk.failures store.disk)));
@@ -58,11 +56,10 @@ loop-event-preserved g c =
     let within : i < length events = c.loop-event-test.true in
     let more : take (i + 1) events ≡ take i events ++ item ∷ [] = take_more events i item within ∙ ap (λ (x : Event Pick). take i events ++ x ∷ []) (sym c.event-item.is) in
     record {
-      life = c.in-Ok-next.ensures.life;
       room = c.in-Ok-next.ensures.room;
-      goes = λ honest stands.
-          let was = c.loop-event.invariant.goes honest stands in
-          let now : IsGoing {P = Pick} g.D.Disk.honest g.D.Disk.content g.D.Disk.left first (take i events) c.grow.new.self.replies.items c.grow.new.self.history.items c.grow.new.self.life.keeper =
+      goes = λ came.
+          let was = c.loop-event.invariant.goes came in
+          let now : IsGoing {P = Pick} g.D.Disk.honest g.D.Disk.content first (take i events) c.grow.new.self.replies.items c.grow.new.self.history.items c.grow.new.self.life.keeper =
           rw (c.grow.ensures.life, c.grow.ensures.replies, c.grow.ensures.history) was in
           rw more (c.in-Ok-next.ensures.goes first (take i events) now);
       delta = c.in-Ok-next.ensures.delta ∙ ap (λ l. l.delta) c.grow.ensures.life ∙ c.loop-event.invariant.delta;
@@ -71,19 +68,20 @@ loop-event-preserved g c =
     }
 
 pub returns-then-is_err-clause-lives : goal.returns-then-is_err-clause-lives
-returns-then-is_err-clause-lives g c honest stands =
+returns-then-is_err-clause-lives g c came =
     let store = c.args.store in
     let first : First = first_of store in
     let events = c.args.events.now in
     let i = c.loop-event.event-index in
     let run = c.loop-event.run in
-    let was = c.loop-event.invariant.goes honest stands in
+    let was = c.loop-event.invariant.goes came in
+    let each = subst (λ (l : Life g.row.D.Denot g.D.Stoppable g.D.Disk). CameTidy g.D.Disk.honest g.D.Disk.content l.keeper.given → (d : List ℕ) → g.D.Disk.left l.keeper.disk d → IsDurableIn l.keeper.machine d) c.grow.ensures.life c.end.ensures.left was.came in
     rw (c.end.ensures.disk, c.end.ensures.replies, c.end.ensures.ended, c.end.ensures.history, c.grow.ensures.life, c.grow.ensures.replies, c.grow.ensures.history)
     (lives_of {P = Pick} (g.D.Disk.left run.life.keeper.disk) first (take i events ++ drop i events) events run.replies.items _ _ (take-append-drop i events)
-    (run_no_memory first (take i events) run.replies.items run.history.items run.life.keeper.machine was.run (g.D.Disk.left run.life.keeper.disk) c.loop-event.invariant.life.state was.holds.each_left (drop i events)))
+    (run_no_memory first (take i events) run.replies.items run.history.items run.life.keeper.machine was.run (g.D.Disk.left run.life.keeper.disk) run.life.living.state each (drop i events)))
 
 pub returns-in-Err-next-clause-lives : goal.returns-in-Err-next-clause-lives
-returns-in-Err-next-clause-lives g c honest stands =
+returns-in-Err-next-clause-lives g c came =
     let store = c.args.store in
     let first : First = first_of store in
     let events = c.args.events.now in
@@ -91,25 +89,25 @@ returns-in-Err-next-clause-lives g c honest stands =
     let item = c.event-item.result in
     let within : i < length events = c.loop-event-test.true in
     let more : take (i + 1) events ≡ take i events ++ item ∷ [] = take_more events i item within ∙ ap (λ (x : Event Pick). take i events ++ x ∷ []) (sym c.event-item.is) in
-    let was = c.loop-event.invariant.goes honest stands in
-    let now : IsGoing {P = Pick} g.D.Disk.honest g.D.Disk.content g.D.Disk.left first (take i events) c.grow.new.self.replies.items c.grow.new.self.history.items c.grow.new.self.life.keeper =
+    let was = c.loop-event.invariant.goes came in
+    let now : IsGoing {P = Pick} g.D.Disk.honest g.D.Disk.content first (take i events) c.grow.new.self.replies.items c.grow.new.self.history.items c.grow.new.self.life.keeper =
     rw (c.grow.ensures.life, c.grow.ensures.replies, c.grow.ensures.history) was in
     let all : (take i events ++ item ∷ []) ++ drop (i + 1) events ≡ events = ap (λ (es : List (Event Pick)). es ++ drop (i + 1) events) (sym more) ∙ take-append-drop (i + 1) events in
     lives_of {P = Pick} (g.D.Disk.left c.in-Err-next.rehearsal.disk) first ((take i events ++ item ∷ []) ++ drop (i + 1) events) events _ _ _ all
     (c.in-Err-next.ensures.ends first (take i events) now (drop (i + 1) events))
 
 pub returns-clause-lives : goal.returns-clause-lives
-returns-clause-lives g c honest stands =
+returns-clause-lives g c came =
     let store = c.args.store in
     let first : First = first_of store in
     let events = c.args.events.now in
     let i = c.loop-event.event-index in
     let run = c.loop-event.run in
     let past : length events ≤ i = c.loop-event-test.false in
-    let was = c.loop-event.invariant.goes honest stands in
+    let was = c.loop-event.invariant.goes came in
     rw (c.end-2.ensures.disk, c.end-2.ensures.replies, c.end-2.ensures.ended, c.end-2.ensures.history)
     (lives_of {P = Pick} (g.D.Disk.left run.life.keeper.disk) first (take i events) events run.replies.items _ _ (take_all i events past)
-    (run_whole first (take i events) run.replies.items run.history.items run.life.keeper.machine was.run (g.D.Disk.left run.life.keeper.disk) c.loop-event.invariant.life.state was.holds.each_left))
+    (run_whole first (take i events) run.replies.items run.history.items run.life.keeper.machine was.run (g.D.Disk.left run.life.keeper.disk) run.life.living.state (c.end-2.ensures.left was.came)))
 
 -- ---- the count of the disk's failures
 pub returns-in-Err-clause-failed : goal.returns-in-Err-clause-failed

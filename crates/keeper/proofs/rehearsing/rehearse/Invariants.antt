@@ -2,19 +2,17 @@ use Rattle.std.proofs.Common.{◌≡◌, ◌+◌, ◌≤◌, length, take}
 use Rattle.std.specs.Prelude.{option_map}
 use Rattle.std.specs.Vec.{vec_len, vec_capacity}
 use Rattle.disk.specs.declared.stoppable.Pick.{Pick}
-use Rattle.store.specs.Committing.{StandsTidily}
-use Rattle.store.specs.Durable.{told_by}
+use Rattle.store.specs.State.{CameTidy}
 use Rattle.keeper.specs.Failures.{FailsAsTold}
-use Rattle.keeper.specs.Rehearsing.{IsLife, IsGoing}
+use Rattle.keeper.specs.Rehearsing.{IsGoing}
 use Rattle.keeper.proofs.Runs.{first_of}
 use Rattle.keeper.proofs.rehearsing.rehearse.Given as goal
 
 abbrev pub invariant-loop-event : goal.invariant-loop-event
 invariant-loop-event g l = record {
-  life : IsLife l.run.life.keeper.machine l.run.life.opened (option_map (λ view. (view.value.version, view.value.network)) l.run.life.aside);
   room : vec_len l.run.history + length l.run.life.keeper.machine.accepted ≤ vec_capacity l.run.history;
-  goes : g.D.Disk.honest l.fn.store.disk → StandsTidily (g.D.Disk.content l.fn.store.disk) (told_by l.fn.store)
-      → IsGoing {P = Pick} g.D.Disk.honest g.D.Disk.content g.D.Disk.left (first_of l.fn.store) (take l.event-index l.events) l.run.replies.items l.run.history.items l.run.life.keeper;
+  goes : CameTidy g.D.Disk.honest g.D.Disk.content l.fn.store.given
+      → IsGoing {P = Pick} g.D.Disk.honest g.D.Disk.content (first_of l.fn.store) (take l.event-index l.events) l.run.replies.items l.run.history.items l.run.life.keeper;
   delta : l.run.life.delta ≡ l.fn.delta;
   counted : FailsAsTold {P = Pick} (take l.event-index l.events) l.run.replies.items (g.D.Disk.failures l.fn.store.disk) (g.D.Disk.failures l.run.life.keeper.disk);
 }

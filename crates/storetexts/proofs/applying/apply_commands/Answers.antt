@@ -1,31 +1,34 @@
-use Rattle.std.proofs.Common.{[], Ok, Err}
+use Rattle.std.proofs.Common.{[], Ok, Err, sym, subst}
 use Rattle.std.specs.Io.KnownBytes.{Appends}
 use Rattle.std.proofs.KnownBytes.{Appends-nil}
 use Rattle.roadnet.specs.declared.refusals.Refusal.TheVariants.{OutOfMemory}
 use Rattle.printing.specs.Counting.{writer_of}
 use Rattle.printing.specs.declared.failed.Failed.TheVariants.{Code}
+use Rattle.store.specs.State.{CameTidy}
 use Rattle.storetexts.proofs.Remaining.{applies_some, ended_all, ended_some}
 use Rattle.storetexts.proofs.applying.apply_commands.Goals as goal
 
 pub returns-in-Err-clause-cut_off : goal.returns-in-Err-clause-cut_off
-returns-in-Err-clause-cut_off g c honest holds net version begun =
+returns-in-Err-clause-cut_off g c came net version begun =
     let unwritten : Appends (g.W.Write.contents (writer_of c.args.out.now)) (g.W.Write.contents (writer_of c.args.out.now)) [] = Appends-nil _ in
     rw c.close-disk.ensures.disk
-    (applies_some net version c.args.commands.now [] 0 c.args.keeper.machine c.args.keeper.standing (g.D.Disk.content c.args.keeper.disk) (g.D.Disk.left c.args.keeper.disk) _ _ (Code OutOfMemory)
-    (record { taken = 0; come = begun }) c.requires.steady holds unwritten)
+    (applies_some net version c.args.commands.now [] 0 c.args.keeper.machine (g.D.Disk.content c.args.keeper.disk) (g.D.Disk.left c.args.keeper.disk) _ _ (Code OutOfMemory)
+    (record { taken = 0; come = begun }) c.requires.steady (c.close-disk.ensures.holds came) unwritten)
 
 pub returns-in-Ok-ended-clause-applied : goal.returns-in-Ok-ended-clause-applied
-returns-in-Ok-ended-clause-applied g c honest holds net version begun =
+returns-in-Ok-ended-clause-applied g c was net version begun =
     let disk = c.run-ended.new.self.keeper.disk in
-    rw c.close-left.ensures
-    (ended_all net version c.args.keeper.machine c.run-ended.new.self.keeper.machine c.args.commands.now c.run-ended.new.self.outcomes.items c.run-ended.new.self.told c.run-ended.new.self.keeper.standing
-    (g.D.Disk.content disk) (g.D.Disk.left disk) _ _ begun c.run-ended.ensures.steady (c.run-ended.ensures.holds honest holds)
-    (Ok tt) c.in-Ok-ended.ensures.come c.in-Ok-ended.ensures.calm c.in-Ok-ended.ensures.all c.in-Ok-ended.ensures.lines (g.met.D.Disk.leaves_content disk (c.run-ended.ensures.honest.1 honest)))
+    let came = subst (λ (d : g.row.D.Denot). CameTidy g.D.Disk.honest g.D.Disk.content d) (sym c.run-ended.ensures.given) was in
+    rw c.close-left.ensures.disk
+    (ended_all net version c.args.keeper.machine c.run-ended.new.self.keeper.machine c.args.commands.now c.run-ended.new.self.outcomes.items c.run-ended.new.self.told
+    (g.D.Disk.content disk) (g.D.Disk.left disk) _ _ begun c.run-ended.ensures.steady (c.close-left.ensures.holds came)
+    (Ok tt) c.in-Ok-ended.ensures.come c.in-Ok-ended.ensures.calm c.in-Ok-ended.ensures.all c.in-Ok-ended.ensures.lines (g.met.D.Disk.leaves_content disk (c.close-left.ensures.honest came)))
 
 pub returns-in-Err-ended-clause-cut_off : goal.returns-in-Err-ended-clause-cut_off
-returns-in-Err-ended-clause-cut_off g c honest holds net version begun =
+returns-in-Err-ended-clause-cut_off g c was net version begun =
     let disk = c.run-ended.new.self.keeper.disk in
-    rw c.close-left.ensures
-    (ended_some net version c.args.keeper.machine c.run-ended.new.self.keeper.machine c.args.commands.now c.run-ended.new.self.outcomes.items c.run-ended.new.self.told c.run-ended.new.self.keeper.standing
-    (g.D.Disk.content disk) (g.D.Disk.left disk) _ _ begun c.run-ended.ensures.steady (c.run-ended.ensures.holds honest holds)
+    let came = subst (λ (d : g.row.D.Denot). CameTidy g.D.Disk.honest g.D.Disk.content d) (sym c.run-ended.ensures.given) was in
+    rw c.close-left.ensures.disk
+    (ended_some net version c.args.keeper.machine c.run-ended.new.self.keeper.machine c.args.commands.now c.run-ended.new.self.outcomes.items c.run-ended.new.self.told
+    (g.D.Disk.content disk) (g.D.Disk.left disk) _ _ begun c.run-ended.ensures.steady (c.close-left.ensures.holds came)
     (Err c.in-Err-ended.failed) c.run-ended.ensures.some c.in-Err-ended.ensures.lines)

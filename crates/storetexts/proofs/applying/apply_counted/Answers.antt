@@ -20,13 +20,13 @@ returns-in-Err-read_commands_counted-clause-cut_off g c honest pages net version
 pub returns-clause-applied : goal.returns-clause-applied
 returns-clause-applied g c honest pages net version stands =
     let list : c.deref.result.now ≡ c.in-Ok-read_commands_counted.commands.items = search rules in
-    let applies = c.apply_commands.ensures.applied (c.in-Ok.ensures.honest.0.1 honest) (c.in-Ok.ensures.holds honest pages net version stands) net version (c.in-Ok.ensures.begins honest pages net version stands) in
+    let applies = c.apply_commands.ensures.applied (c.in-Ok.ensures.came honest pages net version stands) net version (c.in-Ok.ensures.begins honest pages net version stands) in
     applied_known net version c.in-Ok-read_commands_counted.commands.items _ c.apply_commands.result.0 _ _ _ _ _ (rw list at applies) c.in-Ok-read_commands_counted.ensures.read
 
 pub returns-clause-cut_off : goal.returns-clause-cut_off
 returns-clause-cut_off g c honest pages net version stands =
     let list : c.deref.result.now ≡ c.in-Ok-read_commands_counted.commands.items = search rules in
-    let applies = c.apply_commands.ensures.cut_off (c.in-Ok.ensures.honest.0.1 honest) (c.in-Ok.ensures.holds honest pages net version stands) net version (c.in-Ok.ensures.begins honest pages net version stands) in
+    let applies = c.apply_commands.ensures.cut_off (c.in-Ok.ensures.came honest pages net version stands) net version (c.in-Ok.ensures.begins honest pages net version stands) in
     cut_off_known net version c.in-Ok-read_commands_counted.commands.items _ c.apply_commands.result.0 _ _ _ _ _ (rw list at applies) c.in-Ok-read_commands_counted.ensures.read
 
 pub returns-in-Err-clause-untouched : goal.returns-in-Err-clause-untouched

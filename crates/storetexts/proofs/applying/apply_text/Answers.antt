@@ -7,13 +7,13 @@ use Rattle.storetexts.proofs.applying.apply_text.Goals as goal
 pub returns-clause-applied : goal.returns-clause-applied
 returns-clause-applied g c honest pages net version stands =
     let list : c.deref.result.now ≡ c.in-Ok-parse_commands.commands.items = search rules in
-    let applies = c.apply_to_writer.ensures.applied (c.in-Ok.ensures.honest.0.1 honest) (c.in-Ok.ensures.holds honest pages net version stands) net version (c.in-Ok.ensures.begins honest pages net version stands) in
+    let applies = c.apply_to_writer.ensures.applied (c.in-Ok.ensures.came honest pages net version stands) net version (c.in-Ok.ensures.begins honest pages net version stands) in
     applied_text net version c.in-Ok-parse_commands.commands.items _ c.apply_to_writer.result.0 _ c.args.commands.now _ _ _ _ refl refl (rw list at applies) c.in-Ok-parse_commands.ensures
 
 pub returns-clause-cut_off : goal.returns-clause-cut_off
 returns-clause-cut_off g c honest pages net version stands =
     let list : c.deref.result.now ≡ c.in-Ok-parse_commands.commands.items = search rules in
-    let applies = c.apply_to_writer.ensures.cut_off (c.in-Ok.ensures.honest.0.1 honest) (c.in-Ok.ensures.holds honest pages net version stands) net version (c.in-Ok.ensures.begins honest pages net version stands) in
+    let applies = c.apply_to_writer.ensures.cut_off (c.in-Ok.ensures.came honest pages net version stands) net version (c.in-Ok.ensures.begins honest pages net version stands) in
     cut_off_text net version c.in-Ok-parse_commands.commands.items _ c.apply_to_writer.result.0 _ c.args.commands.now _ _ _ _ refl refl (rw list at applies) c.in-Ok-parse_commands.ensures
 
 pub returns-in-Err-clause-untouched : goal.returns-in-Err-clause-untouched

@@ -1,14 +1,22 @@
-use Rattle.store.specs.Durable.{told_by}
+use Rattle.std.proofs.Common.{◌≡◌, ℕ, List, sym, ◌∙◌, ap, subst}
+use Rattle.roadnet.specs.Net.{Net}
+use Rattle.store.specs.Committing.{StandsTidily}
+use Rattle.store.specs.State.{CameTidy, Told}
 use Rattle.keeper.proofs.Stopped.{IsOpened, is_opened}
-use Rattle.storetexts.proofs.Beginning.{none_come, stands_so}
+use Rattle.storetexts.proofs.Beginning.{none_come}
 use Rattle.storetexts.proofs.applying.keeper_on.Goals as goal
 
 pub returns-in-Ok-new-clause-begins : goal.returns-in-Ok-new-clause-begins
 returns-in-Ok-new-clause-begins g c honest pages net version stands =
-    let o : IsOpened pages (g.D.Disk.content c.args.disk) net version (told_by c.in-Ok.store) = is_opened pages (g.D.Disk.content c.args.disk) net version (told_by c.in-Ok.store) stands (c.in-Ok.ensures.standing honest) in
-    none_come net c.in-Ok.store.network version c.in-Ok.store.version c.in-Ok.store.unchecked _ c.in-Ok-new.keeper.machine c.in-Ok-new.ensures.begins o.network_is o.version_is
+    let tells = c.in-Ok.ensures.told honest in
+    let o : IsOpened pages (g.D.Disk.content c.args.disk) net version tells.standing = is_opened pages (g.D.Disk.content c.args.disk) net version tells.standing stands tells.is in
+    let network : c.in-Ok.store.network ≡ net = sym (ap (λ (t : Told). t.network) tells.told_is) ∙ o.network_is in
+    let at : c.in-Ok.store.version ≡ version = sym (ap (λ (t : Told). t.version) tells.told_is) ∙ o.version_is in
+    none_come net c.in-Ok.store.network version c.in-Ok.store.version c.in-Ok.store.unchecked _ c.in-Ok-new.keeper.machine c.in-Ok-new.ensures.begins network at
 
-pub returns-in-Ok-new-clause-holds : goal.returns-in-Ok-new-clause-holds
-returns-in-Ok-new-clause-holds g c honest pages net version stands =
-    c.in-Ok-new.ensures.holds (c.in-Ok.ensures.honest.0.1 honest)
-    (stands_so pages (g.D.Disk.content c.args.disk) (g.D.Disk.content c.in-Ok.store.disk) net version (told_by c.in-Ok.store) (c.in-Ok.ensures.same honest).same_content stands (c.in-Ok.ensures.standing honest))
+pub returns-in-Ok-new-clause-came : goal.returns-in-Ok-new-clause-came
+returns-in-Ok-new-clause-came g c honest pages net version stands =
+    let tells = c.in-Ok.ensures.told honest in
+    let o : IsOpened pages (g.D.Disk.content c.args.disk) net version tells.standing = is_opened pages (g.D.Disk.content c.args.disk) net version tells.standing stands tells.is in
+    let there : CameTidy g.D.Disk.honest g.D.Disk.content c.in-Ok.store.disk = (c.in-Ok.ensures.honest.0.1 honest, (tells.standing, subst (λ (d : List ℕ). StandsTidily d tells.standing) (sym (c.in-Ok.ensures.same honest).same_content) o.stands)) in
+    subst (λ (d : g.row.D.Denot). CameTidy g.D.Disk.honest g.D.Disk.content d) (sym (c.in-Ok-new.ensures.given ∙ c.in-Ok.ensures.given)) there

@@ -15,14 +15,14 @@ pub returns-in-Err-read_p2p_counted-clause-refused :
     goal.returns-in-Err-read_p2p_counted-clause-refused
 returns-in-Err-read_p2p_counted-clause-refused g c honest =
     let nodes : c.nodes.result ≡ c.in-Ok.store.network.nodes = search rules in
-    fault_of _ c.in-Ok.store.network c.in-Ok.store.version c.in-Ok.store.next_sequence c.nodes.result (c.in-Ok.ensures.stands honest) nodes _ _ c.in-Err-read_p2p_counted.fault c.in-Err-read_p2p_counted.ensures.read
+    fault_of _ c.in-Ok.store.network c.in-Ok.store.version c.nodes.result (c.in-Ok.ensures.stands honest) nodes _ _ c.in-Err-read_p2p_counted.fault c.in-Err-read_p2p_counted.ensures.read
 
 pub returns-clause-answered : goal.returns-clause-answered
 returns-clause-answered g c honest =
     let nodes : c.nodes.result ≡ c.in-Ok.store.network.nodes = search rules in
     let list : c.deref.result.now ≡ c.in-Ok-read_p2p_counted.pairs.items = search rules in
     let answers = c.ask_opened.ensures.answered in
-    asked_of _ c.in-Ok.store.network c.in-Ok.store.version c.in-Ok.store.next_sequence c.nodes.result (c.in-Ok.ensures.stands honest) nodes c.ask_opened.result.0 _ _ c.in-Ok-read_p2p_counted.pairs.items _ _ c.in-Ok-read_p2p_counted.ensures.read (rw list at answers)
+    asked_of _ c.in-Ok.store.network c.in-Ok.store.version c.nodes.result (c.in-Ok.ensures.stands honest) nodes c.ask_opened.result.0 _ _ c.in-Ok-read_p2p_counted.pairs.items _ _ c.in-Ok-read_p2p_counted.ensures.read (rw list at answers)
 
 pub returns-clause-refused : goal.returns-clause-refused
 returns-clause-refused g c honest = refused_so c.ask_opened.result.0 _ _ _ c.ask_opened.ensures.refused

@@ -1,12 +1,20 @@
-use Rattle.std.proofs.Common.{◌≡◌, refl, ap}
-use Rattle.store.specs.Durable.{told_by}
-use Rattle.keeper.specs.Keeping.{sizes_of}
+use Rattle.std.proofs.Common.{rules, refl, ap, subst}
+use Rattle.store.specs.State.{CameTidy, Told}
+use Rattle.machine.specs.Machine.{Sizes}
 use Rattle.keeper.proofs.Held.{holds_armed}
 use Rattle.keeper.proofs.keepers.Keeper.arm.Goals as goal
 
-pub returns-clause-holds : goal.returns-clause-holds
-returns-clause-holds g c =
-    let told : told_by c.arm.new.self ≡ told_by c.self.inside.store = cc (c.arm.ensures.header, c.arm.ensures.slot, c.arm.ensures.epoch, c.arm.ensures.network, c.arm.ensures.version, c.arm.ensures.next, c.arm.ensures.unchecked) in
-    rw (← c.self.view_is) (λ old.
-    holds_armed (g.D.Disk.content c.self.inside.store.disk) (g.D.Disk.content c.arm.new.self.disk) (g.D.Disk.left c.self.inside.store.disk) (g.D.Disk.left c.arm.new.self.disk) (told_by c.self.inside.store) (told_by c.arm.new.self) _ _ c.arm.ensures.content (λ d was. (c.arm.ensures.left d).0 was)
-    told (ap sizes_of c.arm.ensures.header) c.arm.ensures.version refl refl (λ v le. refl) c.self.invariant.0.state old)
+abbrev sizes_told : Told → Sizes
+sizes_told t = record { journal_pages = t.journal_pages; slot_pages = t.slot_pages }
+
+pub invariant_of-self : goal.invariant_of-self
+invariant_of-self g c = (
+  search rules,
+  search rules,
+  λ came.
+      let held = c.self.invariant.2 (subst (λ (d : g.row.D.Denot). CameTidy g.D.Disk.honest g.D.Disk.content d) c.arm.ensures.given came) in (
+        (c.arm.ensures.honest).1 held.0,
+        holds_armed (g.D.Disk.content c.self.inside.store.disk) (g.D.Disk.content c.arm.new.self.disk) (g.D.Disk.left c.self.inside.store.disk) (g.D.Disk.left c.arm.new.self.disk) _ _ c.arm.ensures.content (λ d was. (c.arm.ensures.left d).0 was)
+            (ap sizes_told c.arm.ensures.told) (ap (λ (t : Told). t.version) c.arm.ensures.told) refl refl (λ v le. refl) c.self.invariant.0.state held.1,
+      ),
+)

@@ -1,5 +1,6 @@
 use Rattle.std.proofs.Common.{◌≡◌, ℕ, suc, ◌+◌, false, Some, None, refl, sym, ◌∙◌, ap, subst, arith}
 use Rattle.disk.proofs.Steps.{and_then}
+use Rattle.store.specs.State.{CameTidy}
 use Rattle.machine.specs.Machine.{Machine}
 use Rattle.machine.specs.Lives.{GoesOn}
 use Rattle.machine.proofs.Checkpoints.{goes_on_more, calm_before, calm_behind, calm_goes, calm_at_first, going_behind, left_at_first, left_more, stepped_is}
@@ -20,8 +21,9 @@ loop-init g c =
       counted = refl;
       width = refl;
       given = refl;
-      run = λ calm honest old. no_call g.D.Disk.left g.D.Disk.moment g.D.Disk.left_since s.disk (IsDurableIn s.machine) (λ d since. g.met.D.Disk.only_now s.disk d honest since) old.each_left;
-      holds = λ honest old. old;
+      run = λ came calm.
+          let held = c.most_steps-end.ensures.held came in
+          no_call g.D.Disk.left g.D.Disk.moment g.D.Disk.left_since s.disk (IsDurableIn s.machine) (λ d since. g.met.D.Disk.only_now s.disk d held.0 since) held.1.each_left;
       honest = (λ h. h, λ h. h);
     }
 
@@ -44,30 +46,29 @@ loop-preserved g c =
       counted = c.in-Ok-Going.ensures.counted ∙ i.counted;
       width = c.checkpoint_step.ensures.width ∙ i.width;
       given = c.checkpoint_step.ensures.given ∙ i.given;
-      run = λ calm honest was.
-          and_then g.D.Disk.moment g.D.Disk.left_since old.disk mid.disk new.disk (IsDurableIn old.machine) (IsDurableIn mid.machine) (i.run calm honest was)
-          (c.checkpoint_step.ensures.any_moment (calm_goes c.loop.counter old.machine mid.machine i.goes calm) (i.honest.1 honest) (i.holds honest was))
+      run = λ came calm.
+          and_then g.D.Disk.moment g.D.Disk.left_since old.disk mid.disk new.disk (IsDurableIn old.machine) (IsDurableIn mid.machine) (i.run came calm)
+          (c.checkpoint_step.ensures.any_moment (subst (λ (d : g.row.D.Denot). CameTidy g.D.Disk.honest g.D.Disk.content d) (sym i.given) came) (calm_goes c.loop.counter old.machine mid.machine i.goes calm))
           (durable_before c.loop.counter old.machine mid.machine i.goes);
-      holds = λ honest was. c.checkpoint_step.ensures.holds (i.honest.1 honest) (i.holds honest was);
       honest = (λ h. i.honest.0 (c.checkpoint_step.ensures.honest.0 h), λ h. c.checkpoint_step.ensures.honest.1 (i.honest.1 h));
     }
 
 pub returns-in-Ok-Done-clause-any_moment : goal.returns-in-Ok-Done-clause-any_moment
-returns-in-Ok-Done-clause-any_moment g c calm honest was =
+returns-in-Ok-Done-clause-any_moment g c came calm =
     let old = c.args.self.now in
     let mid = c.loop.self in
     let new = c.checkpoint_step.new.self in
     let i = c.loop.invariant in
-    and_then g.D.Disk.moment g.D.Disk.left_since old.disk mid.disk new.disk (IsDurableIn old.machine) (IsDurableIn mid.machine) (i.run calm honest was)
-    (c.checkpoint_step.ensures.any_moment (calm_goes c.loop.counter old.machine mid.machine i.goes calm) (i.honest.1 honest) (i.holds honest was))
+    and_then g.D.Disk.moment g.D.Disk.left_since old.disk mid.disk new.disk (IsDurableIn old.machine) (IsDurableIn mid.machine) (i.run came calm)
+    (c.checkpoint_step.ensures.any_moment (subst (λ (d : g.row.D.Denot). CameTidy g.D.Disk.honest g.D.Disk.content d) (sym i.given) came) (calm_goes c.loop.counter old.machine mid.machine i.goes calm))
     (durable_before c.loop.counter old.machine mid.machine i.goes)
 
 pub returns-in-Err-clause-any_moment : goal.returns-in-Err-clause-any_moment
-returns-in-Err-clause-any_moment g c calm honest was =
+returns-in-Err-clause-any_moment g c came calm =
     let old = c.args.self.now in
     let mid = c.loop.self in
     let new = c.checkpoint_step.new.self in
     let i = c.loop.invariant in
-    and_then g.D.Disk.moment g.D.Disk.left_since old.disk mid.disk new.disk (IsDurableIn old.machine) (IsDurableIn mid.machine) (i.run calm honest was)
-    (c.checkpoint_step.ensures.any_moment (calm_goes c.loop.counter old.machine mid.machine i.goes calm) (i.honest.1 honest) (i.holds honest was))
+    and_then g.D.Disk.moment g.D.Disk.left_since old.disk mid.disk new.disk (IsDurableIn old.machine) (IsDurableIn mid.machine) (i.run came calm)
+    (c.checkpoint_step.ensures.any_moment (subst (λ (d : g.row.D.Denot). CameTidy g.D.Disk.honest g.D.Disk.content d) (sym i.given) came) (calm_goes c.loop.counter old.machine mid.machine i.goes calm))
     (durable_before c.loop.counter old.machine mid.machine i.goes)

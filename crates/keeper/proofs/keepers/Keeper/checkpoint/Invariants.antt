@@ -1,9 +1,10 @@
 use Rattle.std.proofs.Common.{◌≡◌, ◌≤◌, false, None}
 use Rattle.std.specs.Prelude.{◌↔◌}
 use Rattle.disk.specs.Moments.{LeavesOnly}
+use Rattle.store.specs.State.{CameTidy}
 use Rattle.machine.specs.Lives.{GoesOn}
 use Rattle.machine.proofs.Checkpoints.{IsLeftAfter}
-use Rattle.keeper.specs.Keeping.{Holds, IsDurableIn}
+use Rattle.keeper.specs.Keeping.{IsDurableIn}
 use Rattle.keeper.proofs.keepers.Keeper.checkpoint.Given as goal
 
 abbrev pub invariant-loop : goal.invariant-loop
@@ -16,11 +17,7 @@ invariant-loop g l = record {
   counted : g.D.Disk.failures l.self.disk ≡ g.D.Disk.failures l.initial.self.disk;
   width : l.self.width ≡ l.initial.self.width;
   given : l.self.given ≡ l.initial.self.given;
-  run : l.initial.self.machine.broken ≡ false → g.D.Disk.honest l.initial.self.disk
-      → Holds (g.D.Disk.content l.initial.self.disk) (g.D.Disk.left l.initial.self.disk) l.initial.self.machine l.initial.self.standing
+  run : CameTidy g.D.Disk.honest g.D.Disk.content l.initial.self.given → l.initial.self.machine.broken ≡ false
       → LeavesOnly g.D.Disk.moment g.D.Disk.left_since l.initial.self.disk l.self.disk (IsDurableIn l.initial.self.machine);
-  holds : g.D.Disk.honest l.initial.self.disk
-      → Holds (g.D.Disk.content l.initial.self.disk) (g.D.Disk.left l.initial.self.disk) l.initial.self.machine l.initial.self.standing
-      → Holds (g.D.Disk.content l.self.disk) (g.D.Disk.left l.self.disk) l.self.machine l.self.standing;
   honest : g.D.Disk.honest l.self.disk ↔ g.D.Disk.honest l.initial.self.disk;
 }

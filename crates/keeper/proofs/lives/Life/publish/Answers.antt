@@ -10,7 +10,7 @@ returns-clause-does g c =
     let aside : c.args.self.now.aside ≡ Some c.in-Some.view = cc in
     elim c.match-publish.branch [
       | in-Ok w ↦ (let step = w.in-Ok.ensures.step in inl (view.version, view.network, (step.0, refl, step.2), cc (w.result-is, step.1)))
-      | in-Err w ↦ absurd (not_refused _ _ (view.version, view.network) _ (rw aside at c.requires.life) w.in-Err.ensures.step.0)
+      | in-Err w ↦ absurd (not_refused _ _ (view.version, view.network) _ (rw aside at c.args.self.now.living) w.in-Err.ensures.step.0)
     ]
 
 pub invariant_of-self-2-clause-shown : goal.invariant_of-self-2-clause-shown

@@ -15,12 +15,12 @@ returns-clause-does g c =
     let step = step_told old new c.number.result c.checkpoint_step.result c.checkpoint_step.ensures.step in
     (told_as c.checkpoint_step.result, subst (λ (n : ℕ). StepsCheckpoint old n (told_as c.checkpoint_step.result) new) c.number.ensures.is step, ap alone c.told_part.ensures)
 
-pub returns-clause-life : goal.returns-clause-life
-returns-clause-life g c =
+pub invariant_of-self-clause-living : goal.invariant_of-self-clause-living
+invariant_of-self-clause-living g c =
     let old = c.args.self.now.keeper.machine in
     let new = c.checkpoint_step.new.self.machine in
     life_step old new c.args.self.now.opened (option_map (λ view. (view.value.version, view.value.network)) c.args.self.now.aside) c.number.result (told_as c.checkpoint_step.result)
-    (step_told old new c.number.result c.checkpoint_step.result c.checkpoint_step.ensures.step) c.requires.life
+    (step_told old new c.number.result c.checkpoint_step.result c.checkpoint_step.ensures.step) c.args.self.now.living
 
 pub returns-clause-counted : goal.returns-clause-counted
 returns-clause-counted g c = c.checkpoint_step.ensures.counted ∙ told_by_part c.checkpoint_step.result c.told_part.result (g.D.Disk.failures c.args.self.now.keeper.disk) c.told_part.ensures

@@ -13,7 +13,7 @@ returns-in-Ok-clause-history g c m slot honest halted =
     let between = left_between m halted.state next.base_version b.left in
     let many : length c.args.self.commands.items ≡ length m.accepted = ap length halted.commands_are in
     let kept : c.min-kept.result ≡ next.base_version - m.base_version =
-    omega (arith, many, between.0, between.1, c.in-Ok.ensures.life.opened_is, halted.opened_is, c.saturating_sub.ensures, c.len.ensures, c.min-kept.ensures, c.args.self.commands.ok.0) in
+    omega (arith, many, between.0, between.1, c.in-Ok.life.living.opened_is, halted.opened_is, c.saturating_sub.ensures, c.len.ensures, c.min-kept.ensures, c.args.self.commands.ok.0) in
     let front : take c.min-kept.result c.deref.result.now ≡ take (next.base_version - m.base_version) m.accepted =
     ap (λ (n : ℕ). take n c.deref.result.now) kept ∙ ap (take (next.base_version - m.base_version)) (c.deref.ensures.value ∙ halted.commands_are) in
     c.put_behind.ensures ∙ ap (λ (xs : List Command). c.args.self.history.items ++ xs) front

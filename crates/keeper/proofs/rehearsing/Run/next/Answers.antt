@@ -1,5 +1,6 @@
-use Rattle.std.proofs.Common.{◌≡◌, ◌++◌, ◌∷◌, [], false, refl, ap, arith, rules}
+use Rattle.std.proofs.Common.{◌≡◌, ◌++◌, ◌∷◌, [], false, refl, sym, ap, subst, arith, rules}
 use Rattle.disk.specs.declared.stoppable.Pick.{Pick}
+use Rattle.store.specs.State.{CameTidy}
 use Rattle.keeper.specs.Rehearsing.{is_stop, within_of}
 use Rattle.keeper.proofs.Failing.{fails_more, fails_as, one_reply}
 use Rattle.keeper.proofs.LivesInRun.{does_size}
@@ -32,14 +33,12 @@ returns-in_default g c =
     let told = c.reply-told.result ∷ [] in
     let calm : is_stop {P = Pick} c.args.event.now ≡ false = search rules in
     record {
-      life = c.reply-told.ensures.life;
       room = omega (arith, does_size {P = Pick} c.args.event.now m new told calm c.reply-told.ensures.does, c.requires.room);
       delta = c.reply-told.ensures.delta;
       goes = λ first done going. record {
-        is_honest = c.reply-told.ensures.honest going.is_honest;
-        holds = c.reply-told.ensures.holds going.is_honest going.holds;
+        came = subst (λ (d : g.row.D.Denot). CameTidy g.D.Disk.honest g.D.Disk.content d) (sym c.reply-told.ensures.given) going.came;
         run = run_as first (done ++ c.args.event.now ∷ []) (self.replies.items ++ told) c.push_reserved.new.self.items self.history.items self.history.items new c.push_reserved.ensures.items refl
-            (run_more first done self.replies.items self.history.items m going.run c.args.event.now told new calm c.requires.life.state c.reply-told.ensures.does);
+            (run_more first done self.replies.items self.history.items m going.run c.args.event.now told new calm c.args.self.life.living.state c.reply-told.ensures.does);
       };
       ends = λ first done going rest. tt;
       counted = λ before done f.

@@ -17,9 +17,8 @@ returns-clause-goes g c first done going =
     let m = self.life.keeper.machine in
     let halted = c.halt-halted.result.0 in
     let run = going.run in
-    let honest = going.is_honest in
-    let is = c.halt-halted.ensures.halted honest going.holds in
-    let there = c.halt-halted.ensures.honest honest in
+    let is = c.halt-halted.ensures.halted going.came in
+    let there = c.halt-halted.ensures.honest going.came in
     let replies : halted.replies.items ≡ self.replies.items = (let e = c.halt-halted.ensures.replies in cc) in
     let history : halted.history.items ≡ self.history.items = (let e = c.halt-halted.ensures.history in cc) in
     let runs : IfOk c.resume.result (λ x. HasRun first (done ++ Stop ∷ []) x.replies.items x.history.items x.life.keeper.machine) =
@@ -27,9 +26,9 @@ returns-clause-goes g c first done going =
     (λ x b h t. run_as first _ _ x.replies.items _ x.history.items x.life.keeper.machine
     (t ∙ ap (λ (rs : List Replied). rs ++ Opened x.life.keeper.machine.base_version ∷ []) replies)
     (h ∙ ap (λ (cs : List Command). cs ++ commands_to m x.life.keeper.machine.base_version) history)
-    (opened_by_stop first done self.replies.items self.history.items m run x.life.keeper.machine c.requires.life.state b))
+    (opened_by_stop first done self.replies.items self.history.items m run x.life.keeper.machine c.args.self.life.living.state b))
     (c.resume.ensures.begins m run.slot there is) (c.resume.ensures.history m run.slot there is) c.resume.ensures.told in
-    if_ok_both c.resume.result _ _ _ _ (λ x ran h o. record { is_honest = o; holds = h; run = ran }) runs (c.resume.ensures.holds m run.slot there is) (c.resume.ensures.honest there)
+    if_ok_both c.resume.result _ _ _ _ (λ x ran came _. record { came = came; run = ran }) runs (c.resume.ensures.came m run.slot there is) runs
 
 pub returns-clause-ends : goal.returns-clause-ends
 returns-clause-ends g c first done going rest =
@@ -37,16 +36,15 @@ returns-clause-ends g c first done going rest =
     let m = self.life.keeper.machine in
     let halted = c.halt-halted.result.0 in
     let run = going.run in
-    let honest = going.is_honest in
-    let is = c.halt-halted.ensures.halted honest going.holds in
-    let there = c.halt-halted.ensures.honest honest in
+    let is = c.halt-halted.ensures.halted going.came in
+    let there = c.halt-halted.ensures.honest going.came in
     let replies : halted.replies.items ≡ self.replies.items = (let e = c.halt-halted.ensures.replies in cc) in
     let history : halted.history.items ≡ self.history.items = (let e = c.halt-halted.ensures.history in cc) in
     if_err_both c.resume.result _ _ _ _ _
     (λ x why each t h. lives_as (g.D.Disk.left x.disk) first _ _ x.replies.items x.ended _ x.history.items
     (t ∙ ap (λ (rs : List Replied). rs ++ Stopped ∷ []) replies)
     (h ∙ (ap (λ (cs : List Command). cs ++ take (halted.durable - halted.opened) halted.commands.items) history ∙ ap (λ (cs : List Command). self.history.items ++ cs) (durable_front halted.opened halted.durable m halted.commands.items is.opened_is is.durable_is is.commands_are)))
-    (not_opened_by_stop first done self.replies.items self.history.items m run (g.D.Disk.left x.disk) rest x.ended c.requires.life.state why each))
+    (not_opened_by_stop first done self.replies.items self.history.items m run (g.D.Disk.left x.disk) rest x.ended c.args.self.life.living.state why each))
     (c.resume.ensures.ended m there is) (c.resume.ensures.left m there is) c.resume.ensures.stopped c.resume.ensures.durable
 
 pub returns-clause-counted : goal.returns-clause-counted

@@ -1,7 +1,8 @@
-use Rattle.std.proofs.Common.{◌≡◌, ℕ, ◌-◌, take, ◌++◌, ◌∷◌, [], List, length, refl, ◌∙◌, ap, subst, arith}
+use Rattle.std.proofs.Common.{◌≡◌, ℕ, ◌-◌, take, ◌++◌, ◌∷◌, [], List, length, refl, sym, ◌∙◌, ap, subst, arith}
 use Rattle.std.specs.Prelude.{IfOk}
 use Rattle.pagereader.specs.Outcomes.{failures_told}
 use Rattle.machine.specs.declared.events.Replied.TheVariants.{Opened, Stopped}
+use Rattle.store.specs.State.{CameTidy}
 use Rattle.roadnet.specs.declared.commands.Command.{Command}
 use Rattle.machine.specs.Machine.{Machine, commands_to}
 use Rattle.machine.specs.Lives.{Writes}
@@ -27,17 +28,15 @@ returns-clause-goes g c first done going event within =
     let m = self.life.keeper.machine in
     let mid = c.write-written.new.self.keeper.machine in
     let wrote = subst (λ (x : Machine). Writes x c.args.writing c.write-written.result mid) c.arm.ensures.machine c.write-written.ensures.does in
-    let later = writes_later c.args.writing c.write-written.result m mid c.requires.life.state wrote in
+    let later = writes_later c.args.writing c.write-written.result m mid c.args.self.life.living.state wrote in
     let run = going.run in
-    let honest = going.is_honest in
-    let honest_then = c.write-written.ensures.honest (c.arm.ensures.honest honest) in
-    let holds_then = c.write-written.ensures.holds (c.arm.ensures.honest honest) (c.arm.ensures.holds going.holds) in
+    let came = subst (λ (d : g.row.D.Denot). CameTidy g.D.Disk.honest g.D.Disk.content d) (sym (c.write-written.ensures.given ∙ c.arm.ensures.given)) going.came in
     let halted = c.halt-halted.result.0 in
-    let is = c.halt-halted.ensures.halted honest_then holds_then in
-    let there = c.halt-halted.ensures.honest honest_then in
+    let is = c.halt-halted.ensures.halted came in
+    let there = c.halt-halted.ensures.honest came in
     let replies : halted.replies.items ≡ self.replies.items = (let e = c.halt-halted.ensures.replies in cc) in
     let history : halted.history.items ≡ self.history.items = (let e = c.halt-halted.ensures.history in cc) in
-    let told = told_of first done self.replies.items self.history.items m run mid later c.args.writing c.write-written.result c.tell_write.new.replies.items c.requires.life.state wrote (rw replies at c.tell_write.ensures.told) in
+    let told = told_of first done self.replies.items self.history.items m run mid later c.args.writing c.write-written.result c.tell_write.new.replies.items c.args.self.life.living.state wrote (rw replies at c.tell_write.ensures.told) in
     let slot = slot_then first done self.replies.items self.history.items m run mid later in
     let runs : IfOk c.resume.result (λ x. HasRun first (done ++ event ∷ []) x.replies.items x.history.items x.life.keeper.machine) =
     if_ok_both c.resume.result _ _ _ _
@@ -45,7 +44,7 @@ returns-clause-goes g c first done going event within =
     (h ∙ ap (λ (cs : List Command). cs ++ commands_to mid x.life.keeper.machine.base_version) history)
     (opened_told first done self.replies.items self.history.items m run mid later event c.args.writing c.tell_write.new.replies.items x.life.keeper.machine within told b))
     (c.resume.ensures.begins mid slot there is) (c.resume.ensures.history mid slot there is) c.resume.ensures.told in
-    if_ok_both c.resume.result _ _ _ _ (λ x ran h o. record { is_honest = o; holds = h; run = ran }) runs (c.resume.ensures.holds mid slot there is) (c.resume.ensures.honest there)
+    if_ok_both c.resume.result _ _ _ _ (λ x ran came _. record { came = came; run = ran }) runs (c.resume.ensures.came mid slot there is) runs
 
 pub returns-clause-ends : goal.returns-clause-ends
 returns-clause-ends g c first done going event within rest =
@@ -53,17 +52,15 @@ returns-clause-ends g c first done going event within rest =
     let m = self.life.keeper.machine in
     let mid = c.write-written.new.self.keeper.machine in
     let wrote = subst (λ (x : Machine). Writes x c.args.writing c.write-written.result mid) c.arm.ensures.machine c.write-written.ensures.does in
-    let later = writes_later c.args.writing c.write-written.result m mid c.requires.life.state wrote in
+    let later = writes_later c.args.writing c.write-written.result m mid c.args.self.life.living.state wrote in
     let run = going.run in
-    let honest = going.is_honest in
-    let honest_then = c.write-written.ensures.honest (c.arm.ensures.honest honest) in
-    let holds_then = c.write-written.ensures.holds (c.arm.ensures.honest honest) (c.arm.ensures.holds going.holds) in
+    let came = subst (λ (d : g.row.D.Denot). CameTidy g.D.Disk.honest g.D.Disk.content d) (sym (c.write-written.ensures.given ∙ c.arm.ensures.given)) going.came in
     let halted = c.halt-halted.result.0 in
-    let is = c.halt-halted.ensures.halted honest_then holds_then in
-    let there = c.halt-halted.ensures.honest honest_then in
+    let is = c.halt-halted.ensures.halted came in
+    let there = c.halt-halted.ensures.honest came in
     let replies : halted.replies.items ≡ self.replies.items = (let e = c.halt-halted.ensures.replies in cc) in
     let history : halted.history.items ≡ self.history.items = (let e = c.halt-halted.ensures.history in cc) in
-    let told = told_of first done self.replies.items self.history.items m run mid later c.args.writing c.write-written.result c.tell_write.new.replies.items c.requires.life.state wrote (rw replies at c.tell_write.ensures.told) in
+    let told = told_of first done self.replies.items self.history.items m run mid later c.args.writing c.write-written.result c.tell_write.new.replies.items c.args.self.life.living.state wrote (rw replies at c.tell_write.ensures.told) in
     if_err_both c.resume.result _ _ _ _ _
     (λ x why each t h. lives_as (g.D.Disk.left x.disk) first _ _ x.replies.items x.ended _ x.history.items t
     (h ∙ (ap (λ (cs : List Command). cs ++ take (halted.durable - halted.opened) halted.commands.items) history ∙ ap (λ (cs : List Command). self.history.items ++ cs) (durable_front halted.opened halted.durable mid halted.commands.items is.opened_is is.durable_is is.commands_are)))

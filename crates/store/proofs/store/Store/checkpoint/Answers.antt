@@ -1,93 +1,19 @@
-use Rattle.std.proofs.Common.{[], inl, ap, ◌∙◌}
-use Rattle.storefile.specs.Standing.{Standing}
-use Rattle.store.specs.Durable.{told_by}
-use Rattle.store.proofs.Afterwards.{at_rest, broken}
-use Rattle.store.proofs.Checkpointed.{no_call, only_stands}
-use Rattle.store.proofs.GoingOn.{run_twice}
+use Rattle.store.proofs.StateKept.{works_at_checkpoint, at_ok, rests_after}
 use Rattle.store.proofs.store.Store.checkpoint.Goals as goal
 
--- ---- nothing is unchecked
+pub invariant_of-self : goal.invariant_of-self
+invariant_of-self g c = λ came.
+    let held = c.self.invariant came in
+    let p = c.self.inside.pages in
+    let worked = at_ok _ c.checkpoint.result c.checkpoint.ensures.refused (works_at_checkpoint p.broken) in (
+      c.checkpoint.ensures.honest.1 held.0,
+      rests_after c.checkpoint.result p c.checkpoint.new.self c.checkpoint.ensures.same c.checkpoint.ensures.breaks worked (c.checkpoint.ensures.only held.0) (c.checkpoint.ensures.stands held.0) held.1,
+    )
 
-pub returns-then-self-eq0-clause-any_moment : goal.returns-then-self-eq0-clause-any_moment
-returns-then-self-eq0-clause-any_moment g c works h stands =
-    let s = c.args.self.now in
-    let x : Standing = record { header = s.header; slot = s.slot; epoch = s.epoch; network = s.network; version = s.version; next = s.next_sequence; unchecked = s.unchecked } in
-    no_call g.D.Disk.content g.D.Disk.left g.D.Disk.moment g.D.Disk.left_since s.disk x (s.rests works h).0 (λ d since. g.met.D.Disk.only_now s.disk d h since) stands
+pub returns-clause-any_moment : goal.returns-clause-any_moment
+returns-clause-any_moment g c = rw (← c.self.view_is) (λ came works.
+    let held = c.self.invariant came in c.checkpoint.ensures.any_moment works held.0 (held.1 works).1)
 
-pub returns-then-self-eq0-clause-left : goal.returns-then-self-eq0-clause-left
-returns-then-self-eq0-clause-left g c works h stands =
-    let s = c.args.self.now in
-    let x : Standing = record { header = s.header; slot = s.slot; epoch = s.epoch; network = s.network; version = s.version; next = s.next_sequence; unchecked = s.unchecked } in
-    only_stands (g.D.Disk.content s.disk) (g.D.Disk.left s.disk) x (s.rests works h).0 stands
-
-pub returns-then-self-eq0-clause-rests : goal.returns-then-self-eq0-clause-rests
-returns-then-self-eq0-clause-rests g c h in_flight leaves = at_rest c.args.self.now (leaves.works c.if-self.false).0 (leaves.works c.if-self.false).1
-
--- ---- a checkpoint is going
-
-pub returns-in-Ok-clause-left : goal.returns-in-Ok-clause-left
-returns-in-Ok-clause-left g c works h stands d was =
-    let run = c.complete_checkpoint.ensures.any_moment h stands in
-    run.each d (g.met.D.Disk.counts_now c.complete_checkpoint.new.self.disk (g.D.Disk.moment c.args.self.now.disk) d (c.complete_checkpoint.ensures.honest.1 h) run.later was)
-
-pub returns-in-Err-clause-left : goal.returns-in-Err-clause-left
-returns-in-Err-clause-left g c works h stands d was =
-    let run = c.complete_checkpoint.ensures.any_moment h stands in
-    run.each d (g.met.D.Disk.counts_now c.complete_checkpoint.new.self.disk (g.D.Disk.moment c.args.self.now.disk) d (c.complete_checkpoint.ensures.honest.1 h) run.later was)
-
-pub returns-in-Ok-clause-rests : goal.returns-in-Ok-clause-rests
-returns-in-Ok-clause-rests g c h in_flight leaves =
-    at_rest c.complete_checkpoint.new.self (c.complete_checkpoint.new.self.rests c.in-Ok.ensures.works (c.complete_checkpoint.ensures.honest.1 h)).0 (c.in-Ok.ensures.stands h (leaves.works c.if-self.false).1)
-
-pub returns-in-Err-clause-left_in_flight : goal.returns-in-Err-clause-left_in_flight
-returns-in-Err-clause-left_in_flight g c h in_flight leaves is =
-    broken c.args.self.now c.complete_checkpoint.new.self [] c.in-Err.ensures.breaks c.complete_checkpoint.ensures.header c.complete_checkpoint.ensures.network c.complete_checkpoint.ensures.version
-    (λ d was. inl (returns-in-Err-clause-left g c c.if-self.false h (leaves.works c.if-self.false).1 d was))
-
--- ---- one begins
-
-pub returns-in-Err-begin_checkpoint-clause-left : goal.returns-in-Err-begin_checkpoint-clause-left
-returns-in-Err-begin_checkpoint-clause-left g c works h stands d was =
-    let run = c.begin_checkpoint.ensures.any_moment h stands in
-    run.each d (g.met.D.Disk.counts_now c.begin_checkpoint.new.self.disk (g.D.Disk.moment c.args.self.now.disk) d (c.begin_checkpoint.ensures.honest.1 h) run.later was)
-
-pub returns-in-Err-begin_checkpoint-clause-left_in_flight : goal.returns-in-Err-begin_checkpoint-clause-left_in_flight
-returns-in-Err-begin_checkpoint-clause-left_in_flight g c h in_flight leaves is =
-    broken c.args.self.now c.begin_checkpoint.new.self [] (c.in-Err-begin_checkpoint.ensures.breaks is) (ap (λ (x : Standing). x.header) c.begin_checkpoint.ensures.told)
-    (ap (λ (x : Standing). x.network) c.begin_checkpoint.ensures.told) (ap (λ (x : Standing). x.version) c.begin_checkpoint.ensures.told)
-    (λ d was. inl (returns-in-Err-begin_checkpoint-clause-left g c c.if-self.false h (leaves.works c.if-self.false).1 d was))
-
-pub returns-in-Ok-complete_checkpoint-clause-any_moment : goal.returns-in-Ok-complete_checkpoint-clause-any_moment
-returns-in-Ok-complete_checkpoint-clause-any_moment g c works h stands =
-    run_twice g.D.Disk.moment g.D.Disk.left_since c.args.self.now.disk c.begin_checkpoint.new.self.disk c.complete_checkpoint-2.new.self.disk (told_by c.args.self.now) (told_by c.begin_checkpoint.new.self) c.begin_checkpoint.ensures.told
-    (c.begin_checkpoint.ensures.any_moment h stands)
-    (c.complete_checkpoint-2.ensures.any_moment (c.begin_checkpoint.ensures.honest.1 h) (c.in-Ok-begin_checkpoint.ensures.stands h stands))
-
-pub returns-in-Ok-complete_checkpoint-clause-left : goal.returns-in-Ok-complete_checkpoint-clause-left
-returns-in-Ok-complete_checkpoint-clause-left g c works h stands d was =
-    let run = returns-in-Ok-complete_checkpoint-clause-any_moment g c works h stands in
-    run.each d (g.met.D.Disk.counts_now c.complete_checkpoint-2.new.self.disk (g.D.Disk.moment c.args.self.now.disk) d (c.complete_checkpoint-2.ensures.honest.1 (c.begin_checkpoint.ensures.honest.1 h)) run.later was)
-
-pub returns-in-Ok-complete_checkpoint-clause-rests : goal.returns-in-Ok-complete_checkpoint-clause-rests
-returns-in-Ok-complete_checkpoint-clause-rests g c h in_flight leaves =
-    let mid = c.begin_checkpoint.ensures.honest.1 h in
-    at_rest c.complete_checkpoint-2.new.self (c.complete_checkpoint-2.new.self.rests c.in-Ok-complete_checkpoint.ensures.works (c.complete_checkpoint-2.ensures.honest.1 mid)).0
-    (c.in-Ok-complete_checkpoint.ensures.stands mid (c.in-Ok-begin_checkpoint.ensures.stands h (leaves.works c.if-self.false).1))
-
-pub returns-in-Err-complete_checkpoint-clause-any_moment : goal.returns-in-Err-complete_checkpoint-clause-any_moment
-returns-in-Err-complete_checkpoint-clause-any_moment g c works h stands =
-    run_twice g.D.Disk.moment g.D.Disk.left_since c.args.self.now.disk c.begin_checkpoint.new.self.disk c.complete_checkpoint-2.new.self.disk (told_by c.args.self.now) (told_by c.begin_checkpoint.new.self) c.begin_checkpoint.ensures.told
-    (c.begin_checkpoint.ensures.any_moment h stands)
-    (c.complete_checkpoint-2.ensures.any_moment (c.begin_checkpoint.ensures.honest.1 h) (c.in-Ok-begin_checkpoint.ensures.stands h stands))
-
-pub returns-in-Err-complete_checkpoint-clause-left : goal.returns-in-Err-complete_checkpoint-clause-left
-returns-in-Err-complete_checkpoint-clause-left g c works h stands d was =
-    let run = returns-in-Err-complete_checkpoint-clause-any_moment g c works h stands in
-    run.each d (g.met.D.Disk.counts_now c.complete_checkpoint-2.new.self.disk (g.D.Disk.moment c.args.self.now.disk) d (c.complete_checkpoint-2.ensures.honest.1 (c.begin_checkpoint.ensures.honest.1 h)) run.later was)
-
-pub returns-in-Err-complete_checkpoint-clause-left_in_flight : goal.returns-in-Err-complete_checkpoint-clause-left_in_flight
-returns-in-Err-complete_checkpoint-clause-left_in_flight g c h in_flight leaves is =
-    broken c.args.self.now _ [] c.in-Err-complete_checkpoint.ensures.breaks
-    (c.complete_checkpoint-2.ensures.header ∙ ap (λ (x : Standing). x.header) c.begin_checkpoint.ensures.told)
-    (c.complete_checkpoint-2.ensures.network ∙ ap (λ (x : Standing). x.network) c.begin_checkpoint.ensures.told) (c.complete_checkpoint-2.ensures.version ∙ ap (λ (x : Standing). x.version) c.begin_checkpoint.ensures.told)
-    (λ d was. inl (returns-in-Err-complete_checkpoint-clause-left g c c.if-self.false h (leaves.works c.if-self.false).1 d was))
+pub returns-clause-left : goal.returns-clause-left
+returns-clause-left g c = rw (← c.self.view_is) (λ came works.
+    let held = c.self.invariant came in c.checkpoint.ensures.left works held.0 (held.1 works).1)

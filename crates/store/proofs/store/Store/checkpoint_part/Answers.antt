@@ -1,93 +1,19 @@
-use Rattle.std.proofs.Common.{[], inl, ap, ◌∙◌}
-use Rattle.storefile.specs.Standing.{Standing}
-use Rattle.store.specs.Durable.{told_by}
-use Rattle.store.proofs.Afterwards.{at_rest, broken}
-use Rattle.store.proofs.Checkpointed.{no_call, only_stands}
-use Rattle.store.proofs.GoingOn.{run_twice}
+use Rattle.store.proofs.StateKept.{works_at_checkpoint, at_ok, rests_after}
 use Rattle.store.proofs.store.Store.checkpoint_part.Goals as goal
 
--- ---- nothing is unchecked
+pub invariant_of-self : goal.invariant_of-self
+invariant_of-self g c = λ came.
+    let held = c.self.invariant came in
+    let p = c.self.inside.pages in
+    let worked = at_ok _ c.checkpoint_part.result c.checkpoint_part.ensures.refused (works_at_checkpoint p.broken) in (
+      c.checkpoint_part.ensures.honest.1 held.0,
+      rests_after c.checkpoint_part.result p c.checkpoint_part.new.self c.checkpoint_part.ensures.same c.checkpoint_part.ensures.breaks worked (c.checkpoint_part.ensures.only held.0) (c.checkpoint_part.ensures.stands held.0) held.1,
+    )
 
-pub returns-then-self-eq0-clause-any_moment : goal.returns-then-self-eq0-clause-any_moment
-returns-then-self-eq0-clause-any_moment g c works h stands =
-    let s = c.args.self.now in
-    let x : Standing = record { header = s.header; slot = s.slot; epoch = s.epoch; network = s.network; version = s.version; next = s.next_sequence; unchecked = s.unchecked } in
-    no_call g.D.Disk.content g.D.Disk.left g.D.Disk.moment g.D.Disk.left_since s.disk x (s.rests works h).0 (λ d since. g.met.D.Disk.only_now s.disk d h since) stands
+pub returns-clause-any_moment : goal.returns-clause-any_moment
+returns-clause-any_moment g c = rw (← c.self.view_is) (λ came works.
+    let held = c.self.invariant came in c.checkpoint_part.ensures.any_moment works held.0 (held.1 works).1)
 
-pub returns-then-self-eq0-clause-left : goal.returns-then-self-eq0-clause-left
-returns-then-self-eq0-clause-left g c works h stands =
-    let s = c.args.self.now in
-    let x : Standing = record { header = s.header; slot = s.slot; epoch = s.epoch; network = s.network; version = s.version; next = s.next_sequence; unchecked = s.unchecked } in
-    only_stands (g.D.Disk.content s.disk) (g.D.Disk.left s.disk) x (s.rests works h).0 stands
-
-pub returns-then-self-eq0-clause-rests : goal.returns-then-self-eq0-clause-rests
-returns-then-self-eq0-clause-rests g c h in_flight leaves = at_rest c.args.self.now (leaves.works c.if-self.false).0 (leaves.works c.if-self.false).1
-
--- ---- a checkpoint is going
-
-pub returns-in-Ok-clause-left : goal.returns-in-Ok-clause-left
-returns-in-Ok-clause-left g c works h stands d was =
-    let run = c.go_on.ensures.any_moment h stands in
-    run.each d (g.met.D.Disk.counts_now c.go_on.new.self.disk (g.D.Disk.moment c.args.self.now.disk) d (c.go_on.ensures.honest.1 h) run.later was)
-
-pub returns-in-Err-clause-left : goal.returns-in-Err-clause-left
-returns-in-Err-clause-left g c works h stands d was =
-    let run = c.go_on.ensures.any_moment h stands in
-    run.each d (g.met.D.Disk.counts_now c.go_on.new.self.disk (g.D.Disk.moment c.args.self.now.disk) d (c.go_on.ensures.honest.1 h) run.later was)
-
-pub returns-in-Ok-clause-rests : goal.returns-in-Ok-clause-rests
-returns-in-Ok-clause-rests g c h in_flight leaves =
-    at_rest c.go_on.new.self (c.go_on.new.self.rests c.in-Ok.ensures.works (c.go_on.ensures.honest.1 h)).0 (c.in-Ok.ensures.stands h (leaves.works c.if-self.false).1)
-
-pub returns-in-Err-clause-left_in_flight : goal.returns-in-Err-clause-left_in_flight
-returns-in-Err-clause-left_in_flight g c h in_flight leaves is =
-    broken c.args.self.now c.go_on.new.self [] c.in-Err.ensures.breaks c.go_on.ensures.header c.go_on.ensures.network c.go_on.ensures.version
-    (λ d was. inl (returns-in-Err-clause-left g c c.if-self.false h (leaves.works c.if-self.false).1 d was))
-
--- ---- one begins
-
-pub returns-in-Err-begin_checkpoint-clause-left : goal.returns-in-Err-begin_checkpoint-clause-left
-returns-in-Err-begin_checkpoint-clause-left g c works h stands d was =
-    let run = c.begin_checkpoint.ensures.any_moment h stands in
-    run.each d (g.met.D.Disk.counts_now c.begin_checkpoint.new.self.disk (g.D.Disk.moment c.args.self.now.disk) d (c.begin_checkpoint.ensures.honest.1 h) run.later was)
-
-pub returns-in-Err-begin_checkpoint-clause-left_in_flight : goal.returns-in-Err-begin_checkpoint-clause-left_in_flight
-returns-in-Err-begin_checkpoint-clause-left_in_flight g c h in_flight leaves is =
-    broken c.args.self.now c.begin_checkpoint.new.self [] (c.in-Err-begin_checkpoint.ensures.breaks is) (ap (λ (x : Standing). x.header) c.begin_checkpoint.ensures.told)
-    (ap (λ (x : Standing). x.network) c.begin_checkpoint.ensures.told) (ap (λ (x : Standing). x.version) c.begin_checkpoint.ensures.told)
-    (λ d was. inl (returns-in-Err-begin_checkpoint-clause-left g c c.if-self.false h (leaves.works c.if-self.false).1 d was))
-
-pub returns-in-Ok-go_on-clause-any_moment : goal.returns-in-Ok-go_on-clause-any_moment
-returns-in-Ok-go_on-clause-any_moment g c works h stands =
-    run_twice g.D.Disk.moment g.D.Disk.left_since c.args.self.now.disk c.begin_checkpoint.new.self.disk c.go_on-2.new.self.disk (told_by c.args.self.now) (told_by c.begin_checkpoint.new.self) c.begin_checkpoint.ensures.told
-    (c.begin_checkpoint.ensures.any_moment h stands)
-    (c.go_on-2.ensures.any_moment (c.begin_checkpoint.ensures.honest.1 h) (c.in-Ok-begin_checkpoint.ensures.stands h stands))
-
-pub returns-in-Ok-go_on-clause-left : goal.returns-in-Ok-go_on-clause-left
-returns-in-Ok-go_on-clause-left g c works h stands d was =
-    let run = returns-in-Ok-go_on-clause-any_moment g c works h stands in
-    run.each d (g.met.D.Disk.counts_now c.go_on-2.new.self.disk (g.D.Disk.moment c.args.self.now.disk) d (c.go_on-2.ensures.honest.1 (c.begin_checkpoint.ensures.honest.1 h)) run.later was)
-
-pub returns-in-Ok-go_on-clause-rests : goal.returns-in-Ok-go_on-clause-rests
-returns-in-Ok-go_on-clause-rests g c h in_flight leaves =
-    let mid = c.begin_checkpoint.ensures.honest.1 h in
-    at_rest c.go_on-2.new.self (c.go_on-2.new.self.rests c.in-Ok-go_on.ensures.works (c.go_on-2.ensures.honest.1 mid)).0
-    (c.in-Ok-go_on.ensures.stands mid (c.in-Ok-begin_checkpoint.ensures.stands h (leaves.works c.if-self.false).1))
-
-pub returns-in-Err-go_on-clause-any_moment : goal.returns-in-Err-go_on-clause-any_moment
-returns-in-Err-go_on-clause-any_moment g c works h stands =
-    run_twice g.D.Disk.moment g.D.Disk.left_since c.args.self.now.disk c.begin_checkpoint.new.self.disk c.go_on-2.new.self.disk (told_by c.args.self.now) (told_by c.begin_checkpoint.new.self) c.begin_checkpoint.ensures.told
-    (c.begin_checkpoint.ensures.any_moment h stands)
-    (c.go_on-2.ensures.any_moment (c.begin_checkpoint.ensures.honest.1 h) (c.in-Ok-begin_checkpoint.ensures.stands h stands))
-
-pub returns-in-Err-go_on-clause-left : goal.returns-in-Err-go_on-clause-left
-returns-in-Err-go_on-clause-left g c works h stands d was =
-    let run = returns-in-Err-go_on-clause-any_moment g c works h stands in
-    run.each d (g.met.D.Disk.counts_now c.go_on-2.new.self.disk (g.D.Disk.moment c.args.self.now.disk) d (c.go_on-2.ensures.honest.1 (c.begin_checkpoint.ensures.honest.1 h)) run.later was)
-
-pub returns-in-Err-go_on-clause-left_in_flight : goal.returns-in-Err-go_on-clause-left_in_flight
-returns-in-Err-go_on-clause-left_in_flight g c h in_flight leaves is =
-    broken c.args.self.now _ [] c.in-Err-go_on.ensures.breaks
-    (c.go_on-2.ensures.header ∙ ap (λ (x : Standing). x.header) c.begin_checkpoint.ensures.told)
-    (c.go_on-2.ensures.network ∙ ap (λ (x : Standing). x.network) c.begin_checkpoint.ensures.told) (c.go_on-2.ensures.version ∙ ap (λ (x : Standing). x.version) c.begin_checkpoint.ensures.told)
-    (λ d was. inl (returns-in-Err-go_on-clause-left g c c.if-self.false h (leaves.works c.if-self.false).1 d was))
+pub returns-clause-left : goal.returns-clause-left
+returns-clause-left g c = rw (← c.self.view_is) (λ came works.
+    let held = c.self.invariant came in c.checkpoint_part.ensures.left works held.0 (held.1 works).1)

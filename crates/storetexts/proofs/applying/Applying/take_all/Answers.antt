@@ -24,7 +24,7 @@ loop-index-preserved g c =
       lines = c.in_default.ensures.lines _ before.lines;
       counts = c.in_default.ensures.writes ∙ before.counts;
       same = c.in_default.ensures.same ∙ before.same;
-      holds = λ honest old. c.in_default.ensures.holds (before.back honest) (before.holds honest old);
+      given = c.in_default.ensures.given ∙ before.given;
       forth = λ honest. before.forth (c.in_default.ensures.honest.0 honest);
       back = λ honest. c.in_default.ensures.honest.1 (before.back honest);
     }

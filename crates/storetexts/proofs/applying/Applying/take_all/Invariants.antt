@@ -2,7 +2,6 @@ use Rattle.std.proofs.Common.{◌≡◌, ◌<◌, ◌≤◌, ℕ, [], length, ta
 use Rattle.std.specs.Prelude.{vec_capacity}
 use Rattle.roadnet.specs.Net.{Net}
 use Rattle.printing.specs.Counting.{failed_writes, writer_of, IsSameWriter}
-use Rattle.keeper.specs.Keeping.{Holds}
 use Rattle.machine.specs.Machine.{pending}
 use Rattle.storetexts.specs.Applying.{IsSteady, HaveCome, AreTold}
 use Rattle.storetexts.proofs.applying.Applying.take_all.Given as goal
@@ -19,7 +18,7 @@ invariant-loop-index g l = record {
   lines : AreTold (g.W.Write.contents (writer_of l.initial.out)) (g.W.Write.contents (writer_of l.out)) l.self.outcomes.items l.self.told;
   counts : failed_writes l.out ≡ failed_writes l.initial.out;
   same : IsSameWriter l.initial.out l.out;
-  holds : g.D.Disk.honest l.initial.self.keeper.disk → Holds (g.D.Disk.content l.initial.self.keeper.disk) (g.D.Disk.left l.initial.self.keeper.disk) l.initial.self.keeper.machine l.initial.self.keeper.standing → Holds (g.D.Disk.content l.self.keeper.disk) (g.D.Disk.left l.self.keeper.disk) l.self.keeper.machine l.self.keeper.standing;
+  given : l.self.keeper.given ≡ l.initial.self.keeper.given;
   forth : g.D.Disk.honest l.self.keeper.disk → g.D.Disk.honest l.initial.self.keeper.disk;
   back : g.D.Disk.honest l.initial.self.keeper.disk → g.D.Disk.honest l.self.keeper.disk;
 }

@@ -6,7 +6,7 @@ use Rattle.checkpoint.specs.Writing.{Draft, IsSlotShut}
 use Rattle.store.specs.declared.going.GoingCheckpoint.{GoingCheckpoint}
 use Rattle.store.specs.Going.{FitsStore, GoesOn}
 use Rattle.store.proofs.GoingOn.{from_some, some_goes, words_held, fits_part, goes_part, shut_tidily, stands_as, moments_of_part, stands_by_parts}
-use Rattle.store.proofs.store.Store.go_on.Goals as goal
+use Rattle.store.proofs.paged.Paged.go_on.Goals as goal
 
 pub go_on-requires-clause-words : goal.go_on-requires-clause-words
 go_on-requires-clause-words g c h =

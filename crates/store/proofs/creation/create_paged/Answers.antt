@@ -5,7 +5,7 @@ use Rattle.pages.specs.Spelling.{IsHeader}
 use Rattle.storefile.specs.StoreFile.{StandsTidyFor}
 use Rattle.store.proofs.NewStore.{created, same_header, sizes_fit, new_numbers}
 use Rattle.store.proofs.Resting.{size_told}
-use Rattle.store.proofs.creation.create.Goals as goal
+use Rattle.store.proofs.creation.create_paged.Goals as goal
 
 pub invariant_of-result : goal.invariant_of-result
 invariant_of-result g c =

@@ -3,7 +3,7 @@ use Rattle.storefile.specs.Standing.{Standing}
 use Rattle.checkpoint.specs.Writing.{Draft}
 use Rattle.store.proofs.Checkpointed.{no_call}
 use Rattle.store.proofs.GoingOn.{moments_of_beginning, begun_tidily}
-use Rattle.store.proofs.store.Store.begin_checkpoint.Goals as goal
+use Rattle.store.proofs.paged.Paged.begin_checkpoint.Goals as goal
 
 pub returns-in_default-clause-any_moment : goal.returns-in_default-clause-any_moment
 returns-in_default-clause-any_moment g c h stands =

@@ -2,7 +2,7 @@ use Rattle.std.proofs.Common.{◌∙◌, ap, length}
 use Rattle.storefile.proofs.Rests.{stored_as}
 use Rattle.store.proofs.Refused.{passes}
 use Rattle.store.proofs.Resting.{size_told}
-use Rattle.store.proofs.opening.open.Goals as goal
+use Rattle.store.proofs.opening.open_paged.Goals as goal
 
 pub invariant_of-result : goal.invariant_of-result
 invariant_of-result g c = record {

@@ -4,7 +4,7 @@ use Rattle.checkpoint.specs.Writing.{Draft}
 use Rattle.store.specs.declared.going.GoingCheckpoint.{GoingCheckpoint}
 use Rattle.store.specs.Going.{FitsStore, GoesOn}
 use Rattle.store.proofs.GoingOn.{from_some, some_goes, words_held, stands_as, moments_of_part, stands_by_parts}
-use Rattle.store.proofs.store.Store.complete_checkpoint.Goals as goal
+use Rattle.store.proofs.paged.Paged.complete_checkpoint.Goals as goal
 
 pub complete-requires-clause-words : goal.complete-requires-clause-words
 complete-requires-clause-words g c h =

@@ -1,0 +1,24 @@
+use Rattle.std.proofs.Common.{ap}
+use Rattle.pages.specs.Layout.{pages_for}
+use Rattle.store.specs.Durable.{told_by}
+use Rattle.store.proofs.ArcsKept.{arcs_of_header}
+use Rattle.store.proofs.StateKept.{few_pages, durable_of}
+use Rattle.store.proofs.store.Store.version.Goals as goal
+
+pub returns-clause-honest : goal.returns-clause-honest
+returns-clause-honest g c = rw (← c.self.view_is) (λ came. (c.self.invariant came).0)
+
+pub returns-clause-room : goal.returns-clause-room
+returns-clause-room g c =
+    let n = c.self.inside.pages.numbers in
+    rw (← c.self.view_is) (record { version_to = n.version_to; unchecked_to = n.unchecked_to; slot_pages_to = few_pages c.self.inside.pages.header n.header.arcs_to })
+
+pub returns-clause-only : goal.returns-clause-only
+returns-clause-only g c = rw (← c.self.view_is) (λ honest works. (c.self.inside.pages.rests works honest).0)
+
+pub returns-clause-stands : goal.returns-clause-stands
+returns-clause-stands g c = rw (← c.self.view_is) (λ came works. durable_of c.self.inside.pages (g.D.Disk.content c.self.inside.pages.disk) ((c.self.invariant came).1 works).1)
+
+pub returns-clause-slot : goal.returns-clause-slot
+returns-clause-slot g c =
+    rw (← c.self.view_is) (λ came works. ap (pages_for 1023) (arcs_of_header (g.D.Disk.content c.self.inside.pages.disk) (told_by c.self.inside.pages) ((c.self.invariant came).1 works).1.0))

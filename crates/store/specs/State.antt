@@ -1,0 +1,115 @@
+-- What a store is to those who call it: numbers and a network, and nothing of its pages but how many are unchecked and how many there are.
+use Rattle.std.specs.Prelude.{◌≡◌, ℕ, Bool, not, ◌&&◌, ◌==◌, ◌≤◌, is_none, unwrap_or, List, length, Option, Some}
+use Rattle.disk.specs.declared.disk.Disk.{Ghosts}
+use Rattle.roadnet.specs.declared.commands.Command.{Command}
+use Rattle.roadnet.specs.declared.refusals.Refusal.{Refusal}
+use Rattle.roadnet.specs.Net.{Net}
+use Rattle.pages.specs.Layout.{word_pages, pages_for}
+use Rattle.pages.specs.Limits.{most_versions}
+use Rattle.storefile.specs.StoreFile.{StandsFor, StandsTidyFor}
+use Rattle.storefile.specs.Standing.{Standing, standing_of, IsBeforeOrAfter}
+use Rattle.store.specs.declared.paged.Paged.{Paged}
+use Rattle.store.specs.Committing.{StandsTidily, refusal_of_commit}
+use Rattle.store.specs.Durable.{going_of}
+use Rattle.store.specs.Going.{Progress}
+
+pub record StoreState (D : Type 0) : Type 0 where
+  pub disk : D
+  -- the disk as it was when the store was made or opened
+  pub given : D
+  -- the durable network, and its version
+  pub network : Net
+  pub version : ℕ
+  -- how many pages of the journal no checkpoint has made needless, and how many it has
+  pub unchecked : ℕ
+  pub journal_pages : ℕ
+  -- how many pages a checkpoint has to write
+  pub slot_pages : ℕ
+  -- a write failed
+  pub broken : Bool
+  -- the checkpoint that is going
+  pub going : Option Progress
+
+-- none of its numbers is past what a store has room for
+pub record HasRoom {D : Type 0} (s : StoreState D) : Type 0 where
+  pub version_to : s.version ≤ most_versions
+  pub unchecked_to : s.unchecked ≤ s.journal_pages
+  pub slot_pages_to : s.slot_pages ≤ 65602
+
+-- a checkpoint has as many pages to write as the network's arcs need
+abbrev pub HasSlotPages : {D : Type 0} → StoreState D → Type 0
+HasSlotPages s = s.slot_pages ≡ pages_for 1023 (length s.network.arcs)
+
+-- the state of a store with these pages, that was given this disk
+abbrev pub state_of : {D : Type 0} {disk : Ghosts D} → Paged D disk → D → StoreState D
+state_of pages given = record {
+  disk = pages.disk;
+  given = given;
+  network = pages.network;
+  version = pages.version;
+  unchecked = pages.unchecked;
+  journal_pages = pages.header.journal_pages;
+  slot_pages = word_pages pages.header;
+  broken = pages.broken;
+  going = going_of pages;
+}
+
+-- ---- what the disk holds
+
+-- the content stands for something, tidily
+abbrev pub IsTidy : List ℕ → Type 0
+IsTidy content = (x : Standing) × StandsTidily content x
+
+-- The store came tidy: the disk that it was given keeps the disk model, and its content stood for something, tidily.
+abbrev pub CameTidy : {D : Type 0} → (D → Type 0) → (D → List ℕ) → D → Type 0
+CameTidy honest content given = honest given × IsTidy (content given)
+
+-- what a store tells of its content
+pub record Told : Type 0 where
+  pub network : Net
+  pub version : ℕ
+  pub unchecked : ℕ
+  pub journal_pages : ℕ
+  pub slot_pages : ℕ
+
+abbrev pub told : {D : Type 0} → StoreState D → Told
+told s = record { network = s.network; version = s.version; unchecked = s.unchecked; journal_pages = s.journal_pages; slot_pages = s.slot_pages }
+
+abbrev pub told_of : Standing → Told
+told_of x = record { network = x.network; version = x.version; unchecked = x.unchecked; journal_pages = x.header.journal_pages; slot_pages = word_pages x.header }
+
+-- the content stands for this network at this version
+abbrev pub StandsAt : List ℕ → Net → ℕ → Type 0
+StandsAt content net version = (next : ℕ) × StandsFor content net version next
+
+-- The content stands for what is told.
+pub record StandsAs (content : List ℕ) (t : Told) : Type 0 where
+  pub standing : Standing
+  pub is : standing_of content ≡ Some standing
+  pub told_is : told_of standing ≡ t
+
+-- the content stands, tidy, for the network and version of the store
+abbrev pub IsDurable : {D : Type 0} → StoreState D → List ℕ → Type 0
+IsDurable s content = StandsTidyFor s.journal_pages content s.network s.version
+
+-- the same, or for those after these commands
+abbrev pub IsDurableOrAfter : {D : Type 0} → StoreState D → List Command → List ℕ → Type 0
+IsDurableOrAfter s commands content = IsBeforeOrAfter s.journal_pages s.network s.version commands content
+
+-- ---- what calls refuse and do
+
+-- why a commit of these commands is refused whatever memory and the disk give
+abbrev pub commit_refusal : {D : Type 0} → StoreState D → List Command → Option Refusal
+commit_refusal s commands = refusal_of_commit s.broken s.version s.unchecked s.journal_pages s.network commands
+
+-- it is neither broken nor has a checkpoint going
+abbrev pub is_calm : {D : Type 0} → StoreState D → Bool
+is_calm s = not s.broken && is_none s.going
+
+-- the checkpoint that a part is of: the one that is going, or else one that begins
+abbrev pub checkpoint_of : {D : Type 0} → StoreState D → Progress
+checkpoint_of s = unwrap_or s.going (record { version = s.version; left = s.slot_pages; committed = 0 })
+
+-- none is going, and no page of the journal is unchecked
+abbrev pub has_all_checked : {D : Type 0} → StoreState D → Bool
+has_all_checked s = is_none s.going && (s.unchecked == 0)

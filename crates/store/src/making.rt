@@ -1,0 +1,95 @@
+// A store made on an empty disk, and one that is opened.
+ghost use Rattle.std.specs.Prelude.{◌≡◌, ◌≢◌, ◌⊎◌, ◌≤◌, ◌↔◌, List, ℕ, [], false, None, IfOk, IfErr, MatchResult};
+ghost use Rattle.roadnet.specs.declared.refusals.Refusal.TheVariants.{OutOfMemory as out_of_memory, Device as device, NotEmpty as not_empty};
+ghost use Rattle.disk.specs.Contents.{Only, Rose};
+ghost use Rattle.disk.specs.Moments.{StaysSame};
+ghost use Rattle.pagereader.specs.Outcomes.{failures_with, MayEndOpening};
+ghost use Rattle.storefile.specs.StoreFile.{StandsTidyFor};
+ghost use Rattle.store.specs.Opening.{IsPassing, MayRefuseToOpen, StandsForSome};
+ghost use Rattle.store.specs.State.{HasSlotPages, IsTidy, StandsAs, StandsAt, told};
+
+use crate::creation::create_paged;
+use crate::opening::open_paged;
+use crate::store::Store;
+use disk::Disk;
+use roadnet::{Network, Refusal};
+use std::alloc::Global;
+use std::snapshot::Snapshot;
+
+/// Makes a store of the network with so many journal pages, 1 to 65,536, at version 0.
+///
+/// It answers 46 where the disk is not empty, 43 where it fails, and 11. The disk is handed back then, at 46 and 11 with its content as it
+/// was. It takes linear time, and memory for a copy of the network and 64 pages.
+pub fn create<D: Disk>(
+    alloc: Global,
+    disk: D,
+    network: &Network,
+    journal_pages: u32,
+) -> Result<Store<D>, (Refusal, D)>
+    requires some { 1 ≤ journal_pages }
+    requires few { journal_pages ≤ 65536 }
+    ensures network { IfOk result (λ store. store.network ≡ network.now) }
+    ensures version { IfOk result (λ store. store.version ≡ 0) }
+    ensures journal_pages { IfOk result (λ store. store.journal_pages ≡ journal_pages) }
+    ensures unchecked { IfOk result (λ store. store.unchecked ≡ 0) }
+    ensures works { IfOk result (λ store. store.broken ≡ false) }
+    ensures none_going { IfOk result (λ store. store.going ≡ None) }
+    ensures given { IfOk result (λ store. store.given ≡ store.disk) }
+    // The content stands for the network at version 0, is tidy, has so many journal pages, and is all that a stop may leave.
+    ensures stands { D.honest disk → IfOk result (λ store. StandsTidyFor journal_pages (D.content store.disk) network.now 0) }
+    ensures only { D.honest disk → IfOk result (λ store. Only (D.content store.disk) (D.left store.disk)) }
+    ensures tidy { D.honest disk → IfOk result (λ store. IsTidy (D.content store.disk)) }
+    ensures told { D.honest disk → IfOk result (λ store. StandsAs (D.content store.disk) (told store)) }
+    ensures slot { D.honest disk → IfOk result HasSlotPages }
+    ensures empty { D.honest disk → IfOk result (λ store. D.content disk ≡ []) }
+    ensures refused { IfErr result (λ refused. (refused.0 ≡ not_empty) ⊎ ((refused.0 ≡ device) ⊎ (refused.0 ≡ out_of_memory))) }
+    ensures not_empty { D.honest disk → IfErr result (λ refused. refused.0 ≡ not_empty → D.content disk ≢ []) }
+    ensures order { D.honest disk → IfErr result (λ refused. refused.0 ≡ out_of_memory → D.content disk ≡ []) }
+    // The count of failures rises by one where 43 is told, and else not at all.
+    ensures counted { MatchResult result (λ store. D.failures store.disk ≡ D.failures disk) (λ refused. D.failures refused.1 ≡ failures_with refused.0 (D.failures disk)) }
+    ensures failed { IfErr result (λ refused. refused.0 ≡ device → Rose (D.failures disk) (D.failures refused.1)) }
+    ensures same { D.honest disk → IfErr result (λ refused. refused.0 ≢ device → StaysSame D.content D.left D.moment D.left_since disk refused.1) }
+    ensures honest { (IfOk result (λ store. D.honest store.disk ↔ D.honest disk)) × (IfErr result (λ refused. D.honest refused.1 ↔ D.honest disk)) }
+{
+    match create_paged(alloc, disk, network, journal_pages) {
+        Ok(pages) => {
+            let given = Snapshot::of(&pages.disk);
+            Ok(Store { pages, given })
+        }
+        Err(refused) => Err(refused),
+    }
+}
+
+/// Opens the store on a disk. It syncs, and then judges and reads the whole file in the order of the format; nothing is written. The first
+/// refusal ends it, and hands the disk back: no store (40), another format (41), a page that is damaged (42), and at each step that the
+/// disk failed (43) or that no memory was given (11).
+///
+/// It takes a pass over the arc pages and the current slot, the network, and 256 KiB for pages.
+pub fn open<D: Disk>(alloc: Global, disk: D) -> Result<Store<D>, (Refusal, D)>
+    // The content stands for what the store tells, and is all that a stop may leave.
+    ensures stands { D.honest disk → IfOk result (λ store. StandsAt (D.content disk) store.network store.version) }
+    ensures told { D.honest disk → IfOk result (λ store. StandsAs (D.content disk) (told store)) }
+    ensures at_rest { D.honest disk → IfOk result (λ store. Only (D.content store.disk) (D.left store.disk)) }
+    ensures works { IfOk result (λ store. store.broken ≡ false) }
+    ensures none_going { IfOk result (λ store. store.going ≡ None) }
+    ensures given { IfOk result (λ store. store.given ≡ store.disk) }
+    // Nothing is written, and what a stop may leave is no more than it was.
+    ensures same { D.honest disk → IfOk result (λ store. StaysSame D.content D.left D.moment D.left_since disk store.disk) }
+    ensures handed_back { D.honest disk → IfErr result (λ refused. StaysSame D.content D.left D.moment D.left_since disk refused.1) }
+    // It refuses what the format refuses. Other refusals come for want of memory, or where the disk failed in this call.
+    ensures judged { D.honest disk → IfErr result (λ refused. MayRefuseToOpen (D.content disk) refused.0) }
+    // Whatever the disk, it refuses with 11 or 40 to 43. Its count of failures rises by one where 43 is told, and else not at all.
+    ensures causes { IfErr result (λ refused. MayEndOpening refused.0) }
+    ensures counted { MatchResult result (λ store. D.failures store.disk ≡ D.failures disk) (λ refused. D.failures refused.1 ≡ failures_with refused.0 (D.failures disk)) }
+    ensures failed { IfErr result (λ refused. refused.0 ≡ device → Rose (D.failures disk) (D.failures refused.1)) }
+    ensures opens { D.honest disk → ((c : List ℕ) → D.left disk c → StandsForSome c) → IfErr result (λ refused. IsPassing refused.0) }
+    ensures honest { (IfOk result (λ store. D.honest store.disk ↔ D.honest disk)) × (IfErr result (λ refused. D.honest refused.1 ↔ D.honest disk)) }
+{
+    match open_paged(alloc, disk) {
+        Ok(pages) => {
+            let given = Snapshot::of(&pages.disk);
+            Ok(Store { pages, given })
+        }
+        Err(refused) => Err(refused),
+    }
+}

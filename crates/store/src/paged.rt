@@ -1,0 +1,68 @@
+ghost use Rattle.std.specs.Prelude.{◌≡◌, false, IfSome};
+ghost use Rattle.std.proofs.Props.{props};
+ghost use Rattle.storefile.specs.Standing.{HasFitNumbers};
+ghost use Rattle.store.specs.Resting.{IsAtRest};
+ghost use Rattle.store.specs.Going.{FitsStore, GoesOn};
+
+use crate::going::GoingCheckpoint;
+use disk::Disk;
+use pages::{Header, Slot};
+use roadnet::Network;
+use std::alloc::Global;
+
+/// The pages of a store: its disk, and what is known of them.
+#[derive(Drop)]
+pub struct Paged<D: Disk> {
+    pub(crate) alloc: Global,
+    pub(crate) disk: D,
+    pub(crate) header: Header,
+    pub(crate) network: Network,
+    pub(crate) version: u64,
+    /// The slot that is current, and its epoch.
+    pub(crate) slot: Slot,
+    pub(crate) epoch: u64,
+    /// The sequence of the journal page that is written next.
+    pub(crate) next_sequence: u64,
+    /// How many journal pages stand behind the current slot.
+    pub(crate) unchecked: u32,
+    /// The disk failed in a write.
+    pub(crate) broken: bool,
+    /// The checkpoint that is going.
+    pub(crate) going: Option<GoingCheckpoint>,
+    ghost numbers: { HasFitNumbers header epoch version next_sequence unchecked },
+    ghost rests: { broken ≡ false → D.honest disk → IsAtRest (D.content disk) (D.left disk) header },
+    ghost fits: { IfSome going (λ g. FitsStore header slot epoch version next_sequence unchecked g.next g.committed) } by { Prim.hlevel props },
+    ghost goes_on: { broken ≡ false → D.honest disk → ∥ IfSome going (λ g. GoesOn (D.content disk) header g.next g.frozen g.committed network version next_sequence) ∥₁ },
+}
+
+impl<D: Disk> Paged<D> {
+    pub fn network(&self) -> &Network
+        ensures { result.now ≡ self.now.network }
+    {
+        &self.network
+    }
+
+    pub fn version(&self) -> u64
+        ensures { result ≡ self.now.version }
+    {
+        self.version
+    }
+
+    pub fn unchecked(&self) -> u32
+        ensures { result ≡ self.now.unchecked }
+    {
+        self.unchecked
+    }
+
+    pub fn journal_pages(&self) -> u32
+        ensures { result ≡ self.now.header.journal_pages }
+    {
+        self.header.journal_pages
+    }
+
+    pub fn close(self) -> D
+        ensures { result ≡ self.disk }
+    {
+        self.disk
+    }
+}

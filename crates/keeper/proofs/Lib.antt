@@ -2,6 +2,8 @@ pub mod Accepted
 pub mod Failing
 pub mod Flushed
 pub mod Held
+pub mod Lifted
+pub mod Viewed
 pub mod LifeKept
 pub mod LivesInRun
 pub mod Runs

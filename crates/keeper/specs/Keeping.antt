@@ -1,12 +1,12 @@
 -- What a keeper is to its callers, and what its disk holds.
-use Rattle.std.specs.Prelude.{◌≡◌, ℕ, Bool, false, List, Option, option_map, if◌then◌else◌}
+use Rattle.std.specs.Prelude.{◌≡◌, ℕ, Bool, false, List, Option, Some, IfSome, option_map, if◌then◌else◌}
 use Rattle.roadnet.specs.declared.commands.Command.{Command}
 use Rattle.roadnet.specs.Net.{Net}
 use Rattle.disk.specs.Contents.{Only}
 use Rattle.storefile.specs.StoreFile.{StandsTidyFor}
 use Rattle.store.specs.State.{StoreState, CameTidy}
 use Rattle.store.specs.Going.{Progress}
-use Rattle.machine.specs.Machine.{Sizes, Checkpoint, Machine, batch}
+use Rattle.machine.specs.Machine.{Sizes, Checkpoint, Machine, IsState, batch, network_at}
 use Rattle.machine.specs.Calls.{failed}
 use Rattle.machine.specs.Lives.{HoldsDurable}
 
@@ -18,7 +18,7 @@ sizes_of store = record { journal_pages = store.journal_pages; slot_pages = stor
 abbrev pub as_checkpoint : Progress → Checkpoint
 as_checkpoint p = record { version = p.version; left = p.left; flushed = p.committed }
 
--- The machine of a keeper of this store: its base network, the version that it was opened at, the commands accepted since, the version that
+-- The machine of a ledger of this store, or of a keeper of it: its base network, the version that it was opened at, the commands accepted since, the version that
 -- is shown, whether a write failed, how many commands the last write had, and the version of the task that is out.
 abbrev pub machine_of : {D : Type 0} → StoreState D → Net → ℕ → List Command → ℕ → Bool → ℕ → Option ℕ → Machine
 machine_of store base opened accepted shown broken written task = record {
@@ -35,6 +35,24 @@ machine_of store base opened accepted shown broken written task = record {
   task = task;
   checkpoint = option_map as_checkpoint store.going;
 }
+
+-- a ledger's machine, in which no task is out and the version is shown that it was opened at; the disk, and the disk as it was when its
+-- store was made or opened
+pub record LedgerState (D : Type 0) : Type 0 where
+  pub machine : Machine
+  pub disk : D
+  pub given : D
+
+-- the machine of a keeper of this ledger: a view of this version is shown, and this task is out
+abbrev pub with_views : Machine → ℕ → Option ℕ → Machine
+with_views m shown task = record m { shown = shown; task = task }
+
+-- The networks of the view and of the task are those of the machine's versions.
+pub record IsViewed (m : Machine) (shown : Net) (task : Option (ℕ × Net)) : Type 0 where
+  pub state : IsState m
+  pub shown_is : network_at m m.shown ≡ Some shown
+  pub task_is : m.task ≡ option_map (λ t. t.0) task
+  pub task_network : IfSome task (λ t. network_at m t.0 ≡ Some t.1)
 
 -- the machine, the disk, how the shown view searches, and the disk as it was when the keeper's store was made or opened
 pub record Keeping (D : Type 0) : Type 0 where
@@ -58,6 +76,10 @@ pub record Holds (content : List ℕ) (left : List ℕ → Type 0) (m : Machine)
 abbrev pub WhenSound : {D : Type 0} → (D → Type 0) → (D → List ℕ) → Keeping D → Type 0 → Type 0
 WhenSound honest content k P = CameTidy honest content k.given → k.machine.broken ≡ false → P
 
--- the same of a content that a flush may leave: a flush that failed may have its commands in flight
+-- the same of a ledger
+abbrev pub WhenLedgerSound : {D : Type 0} → (D → Type 0) → (D → List ℕ) → LedgerState D → Type 0 → Type 0
+WhenLedgerSound honest content k P = CameTidy honest content k.given → k.machine.broken ≡ false → P
+
+-- a content that a flush may leave: a flush that failed may have its commands in flight
 abbrev pub IsLeftByFlush : Machine → List ℕ → Type 0
 IsLeftByFlush m content = IsDurableIn (failed m (batch m)) content

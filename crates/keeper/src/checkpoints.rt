@@ -9,10 +9,10 @@ ghost use Rattle.machine.specs.declared.events.Writing.TheVariants.{Checkpoint a
 ghost use Rattle.machine.specs.Machine.{IsState};
 ghost use Rattle.machine.specs.Calls.{StepsCheckpoint};
 ghost use Rattle.machine.specs.Lives.{Writes};
-ghost use Rattle.keeper.specs.Keeping.{Holds, IsDurableIn, WhenSound};
+ghost use Rattle.keeper.specs.Keeping.{Holds, IsDurableIn, WhenLedgerSound};
 ghost use Rattle.keeper.specs.Parts.{told_as};
 
-use crate::keepers::{Keeper, has_failed};
+use crate::ledgers::{Ledger, has_failed};
 use disk::Disk;
 use machine::PAGES_OF_STEP;
 use roadnet::Refusal;
@@ -22,7 +22,7 @@ use store::Part;
 /// A slot has at most 65,601 word pages: so many steps of 64 end each checkpoint.
 const MOST_STEPS: u32 = 1026;
 
-impl<D: Disk> Keeper<D> {
+impl<D: Disk> Ledger<D> {
     /// A step of a checkpoint of the durable network, of so many pages, 1 to 64. Answers `Done` with the version that the checkpoint holds,
     /// or `Going` where some of its pages are left. Where none is going one begins, of the network that is durable then; where no page is
     /// unchecked, nothing is done.
@@ -38,11 +38,10 @@ impl<D: Disk> Keeper<D> {
         // The count of failures rises by one where 43 is told, and else not at all: none is passed over.
         ensures counted { D.failures self.new.disk ≡ failures_told result (D.failures self.old.disk) }
         ensures failed { IfErr result (λ refusal. refusal ≡ device → Rose (D.failures self.old.disk) (D.failures self.new.disk)) }
-        ensures width { self.new.width ≡ self.old.width }
         ensures given { self.new.given ≡ self.old.given }
         ensures adds_nothing { self.old.machine.broken ≡ true → AddsNothing D.moment D.left_since self.old.disk self.new.disk }
         // A stop at any moment of the call leaves what stands for what is durable.
-        ensures any_moment { WhenSound D.honest D.content self.old (LeavesOnly D.moment D.left_since self.old.disk self.new.disk (IsDurableIn self.old.machine)) }
+        ensures any_moment { WhenLedgerSound D.honest D.content self.old (LeavesOnly D.moment D.left_since self.old.disk self.new.disk (IsDurableIn self.old.machine)) }
         ensures honest { D.honest self.new.disk ↔ D.honest self.old.disk }
     {
         if self.broken {
@@ -64,11 +63,10 @@ impl<D: Disk> Keeper<D> {
         ensures does { Writes self.old.machine a_checkpoint result self.new.machine }
         ensures same { IfErr result (λ refusal. refusal ≢ device → self.new ≡ self.old) }
         ensures counted { D.failures self.new.disk ≡ failures_told result (D.failures self.old.disk) }
-        ensures width { self.new.width ≡ self.old.width }
         ensures given { self.new.given ≡ self.old.given }
         ensures adds_nothing { self.old.machine.broken ≡ true → AddsNothing D.moment D.left_since self.old.disk self.new.disk }
         // A stop at any moment of the call leaves what stands for what is durable.
-        ensures any_moment { WhenSound D.honest D.content self.old (LeavesOnly D.moment D.left_since self.old.disk self.new.disk (IsDurableIn self.old.machine)) }
+        ensures any_moment { WhenLedgerSound D.honest D.content self.old (LeavesOnly D.moment D.left_since self.old.disk self.new.disk (IsDurableIn self.old.machine)) }
         ensures honest { D.honest self.new.disk ↔ D.honest self.old.disk }
     {
         for _ in 0..self.most_steps() {

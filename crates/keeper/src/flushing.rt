@@ -5,15 +5,15 @@ ghost use Rattle.pagereader.specs.Outcomes.{failures_told};
 ghost use Rattle.disk.specs.Moments.{LeavesOnly, AddsNothing};
 ghost use Rattle.roadnet.specs.declared.refusals.Refusal.TheVariants.{Device as device};
 ghost use Rattle.machine.specs.Calls.{Flushes, refusal_of_flush};
-ghost use Rattle.keeper.specs.Keeping.{IsLeftByFlush, WhenSound};
+ghost use Rattle.keeper.specs.Keeping.{IsLeftByFlush, WhenLedgerSound};
 
-use crate::keepers::{Keeper, has_failed};
+use crate::ledgers::{Ledger, has_failed};
 use disk::Disk;
 use pages::MOST_COMMANDS;
 use roadnet::Refusal;
 use std::snapshot::Snapshot;
 
-impl<D: Disk> Keeper<D> {
+impl<D: Disk> Ledger<D> {
     /// For what a flush would be refused, memory and the disk apart.
     fn may_flush(&self) -> Result<(), Refusal>
         ensures { MatchResult result (λ _. refusal_of_flush self.now.machine ≡ None) (λ refusal. refusal_of_flush self.now.machine ≡ Some refusal) }
@@ -42,11 +42,10 @@ impl<D: Disk> Keeper<D> {
         // The count of failures rises by one where 43 is told, and else not at all: none is passed over.
         ensures counted { D.failures self.new.disk ≡ failures_told result (D.failures self.old.disk) }
         ensures failed { IfErr result (λ refusal. refusal ≡ device → Rose (D.failures self.old.disk) (D.failures self.new.disk)) }
-        ensures width { self.new.width ≡ self.old.width }
         ensures given { self.new.given ≡ self.old.given }
         ensures adds_nothing { self.old.machine.broken ≡ true → AddsNothing D.moment D.left_since self.old.disk self.new.disk }
         // A stop at any moment of the call leaves what a flush that failed leaves.
-        ensures any_moment { WhenSound D.honest D.content self.old (LeavesOnly D.moment D.left_since self.old.disk self.new.disk (IsLeftByFlush self.old.machine)) }
+        ensures any_moment { WhenLedgerSound D.honest D.content self.old (LeavesOnly D.moment D.left_since self.old.disk self.new.disk (IsLeftByFlush self.old.machine)) }
         ensures honest { D.honest self.new.disk ↔ D.honest self.old.disk }
     {
         if let Err(refusal) = self.may_flush() {

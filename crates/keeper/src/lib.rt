@@ -3,10 +3,13 @@
 #![tactic(auto)]
 
 mod asking;
+mod beginning;
 mod checkpoints;
+mod entries;
 mod flushing;
 mod halted;
 mod keepers;
+mod ledgers;
 mod lives;
 mod numbers;
 mod rehearsing;
@@ -15,8 +18,10 @@ mod shown;
 mod starting;
 mod submitting;
 mod tasks;
+mod writing;
 
 pub use keepers::Keeper;
+pub use ledgers::Ledger;
 pub use machine::{Answer, Event, Receipt, Replied, Ticket, Writing};
 pub use rehearsing::{Rehearsal, rehearse};
 pub use tasks::Task;

@@ -17,7 +17,7 @@ impl<D: Disk> Keeper<D> {
     pub fn pending(&self) -> u64
         ensures { result ≡ pending self.now.machine }
     {
-        self.opened + self.history.len() as u64 - self.store.version()
+        self.ledger.pending()
     }
 
     /// The versions up to this one are durable. Where the keeper's store came tidy, over a disk that keeps the disk model, the disk holds
@@ -27,7 +27,7 @@ impl<D: Disk> Keeper<D> {
         ensures honest { CameTidy D.honest D.content self.now.given → D.honest self.now.disk }
         ensures holds { CameTidy D.honest D.content self.now.given → Holds (D.content self.now.disk) (D.left self.now.disk) self.now.machine }
     {
-        self.store.version()
+        self.ledger.durable()
     }
 
     /// The version that answers are given from.
@@ -41,7 +41,7 @@ impl<D: Disk> Keeper<D> {
     pub fn broken(&self) -> bool
         ensures { result ≡ self.now.machine.broken }
     {
-        self.broken
+        self.ledger.broken()
     }
 
     /// The view that answers are given from: it is of the shown version and of the network at it.
@@ -57,21 +57,21 @@ impl<D: Disk> Keeper<D> {
     pub fn commands(&self) -> &[Command]
         ensures { result.now ≡ self.now.machine.accepted }
     {
-        &self.history
+        self.ledger.commands()
     }
 
     /// How many pages of the journal no checkpoint has made needless.
     pub fn unchecked(&self) -> u32
         ensures { result ≡ self.now.machine.unchecked }
     {
-        self.store.unchecked()
+        self.ledger.unchecked()
     }
 
     /// How many pages the journal has.
     pub fn journal_pages(&self) -> u32
         ensures { result ≡ self.now.machine.sizes.journal_pages }
     {
-        self.store.journal_pages()
+        self.ledger.journal_pages()
     }
 
     /// A receipt, where the ticket's command is durable: no stop takes it back. The ticket is one of this life.
@@ -81,15 +81,6 @@ impl<D: Disk> Keeper<D> {
         requires { IsTicketOf self.now.machine ticket.now }
         ensures { result ≡ receipt_for self.now.machine ticket.now }
     {
-        if ticket.number <= self.store.version() {
-            return Ok(Receipt {
-                number: ticket.number,
-                command: ticket.command,
-            });
-        }
-        if self.broken {
-            return Err(Refusal::Broken);
-        }
-        Err(Refusal::NotYet)
+        self.ledger.receipt(ticket)
     }
 }

@@ -9,13 +9,13 @@ ghost use Rattle.machine.specs.Machine.{start};
 ghost use Rattle.keeper.specs.Keeping.{Holds, sizes_of};
 
 use crate::keepers::Keeper;
+use crate::ledgers::Ledger;
 use crate::shown::Shown;
 use disk::{Disk, Stoppable};
 use relax::{CHUNK, Crew};
 use roadnet::{Command, Network, OutOfMemory};
 use rows::View;
 use std::alloc::Global;
-use std::snapshot::Snapshot;
 use std::sync::Arc;
 use std::thread::Threads;
 use store::Store;
@@ -65,26 +65,19 @@ impl<D: Disk> Keeper<D> {
         ensures given { IfOk result (λ keeper. keeper.given ≡ store.given) }
         ensures handed_back { IfErr result (λ refused. refused.1 ≡ store) }
     {
-        let opened = store.version();
-        let Ok(network) = store.network().copy() else {
-            return Err((OutOfMemory, store));
+        let view = match first_view(rt, alloc, store.version(), store.network(), delta) {
+            Ok(view) => view,
+            Err(error) => return Err((error, store)),
         };
-        let Ok(view) = first_view(rt, alloc, opened, store.network(), delta) else {
-            return Err((OutOfMemory, store));
-        };
-        let base = Snapshot::of(store.network());
-        Ok(Keeper {
-            alloc,
-            store,
-            base,
-            opened,
-            history: Vec::new(alloc),
-            network,
-            shown: Shown::new(alloc, view),
-            task: None,
-            broken: false,
-            written: Snapshot::of(&0),
-        })
+        match Ledger::new(alloc, store) {
+            Ok(ledger) => Ok(Keeper {
+                alloc,
+                ledger,
+                shown: Shown::new(alloc, view),
+                task: None,
+            }),
+            Err(refused) => Err(refused),
+        }
     }
 
     /// The commands accepted in this life, in order, and the disk, of which no call is made. It takes no memory.
@@ -94,7 +87,7 @@ impl<D: Disk> Keeper<D> {
         ensures honest { CameTidy D.honest D.content self.given → D.honest self.disk }
         ensures holds { CameTidy D.honest D.content self.given → Holds (D.content self.disk) (D.left self.disk) self.machine }
     {
-        (self.history, self.store.close())
+        self.ledger.close()
     }
 }
 
@@ -116,6 +109,6 @@ impl<D: Stoppable> Keeper<D> {
         ensures failures { D.failures self.new.disk ≡ D.failures self.old.disk }
         ensures honest { D.honest self.new.disk ↔ D.honest self.old.disk }
     {
-        self.store.arm(k);
+        self.ledger.arm(k);
     }
 }

@@ -3,7 +3,7 @@ ghost use Rattle.std.specs.Prelude.{◌≡◌, ◌++◌, ◌∷◌, [], None, So
 ghost use Rattle.roadnet.specs.Step.{refusal_of, step};
 ghost use Rattle.machine.specs.Calls.{Submits, refusal_of_submit};
 
-use crate::keepers::Keeper;
+use crate::ledgers::Ledger;
 use disk::Disk;
 use machine::{MOST_OF_LIFE, MOST_PENDING, Ticket};
 use pages::MOST_VERSIONS;
@@ -33,7 +33,7 @@ fn accept(
     }
 }
 
-impl<D: Disk> Keeper<D> {
+impl<D: Disk> Ledger<D> {
     /// For what the command would be refused, memory apart.
     fn may_submit(&self, command: &Command) -> Result<(), Refusal>
         ensures { MatchResult result (λ _. refusal_of_submit self.now.machine command.now ≡ None) (λ refusal. refusal_of_submit self.now.machine command.now ≡ Some refusal) }
@@ -64,7 +64,6 @@ impl<D: Disk> Keeper<D> {
         ensures step { Submits self.old.machine command result self.new.machine }
         ensures disk { self.new.disk ≡ self.old.disk }
         ensures given { self.new.given ≡ self.old.given }
-        ensures width { self.new.width ≡ self.old.width }
     {
         if let Err(refusal) = self.may_submit(&command) {
             return Err(refusal);

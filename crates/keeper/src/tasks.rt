@@ -53,13 +53,13 @@ impl<D: Disk> Keeper<D> {
         ensures given { self.new.given ≡ self.old.given }
         ensures width { self.new.width ≡ self.old.width }
     {
-        if self.task.is_some() || self.shown.version() == self.store.version() {
+        if self.task.is_some() || self.shown.version() == self.ledger.durable() {
             return Ok(None);
         }
         let (kept, given) = match shared_task(
             self.alloc,
-            self.store.version(),
-            self.store.network(),
+            self.ledger.durable(),
+            self.ledger.network(),
         ) {
             Ok(tasks) => tasks,
             Err(error) => return Err(error),

@@ -1,74 +1,18 @@
-use Rattle.std.proofs.Common.{◌≡◌, ℕ, suc, ◌+◌, false, Some, None, refl, sym, ◌∙◌, ap, subst, arith}
-use Rattle.disk.proofs.Steps.{and_then}
-use Rattle.store.specs.State.{CameTidy}
-use Rattle.machine.specs.Machine.{Machine}
-use Rattle.machine.specs.Lives.{GoesOn}
-use Rattle.machine.proofs.Checkpoints.{goes_on_more, calm_before, calm_behind, calm_goes, calm_at_first, going_behind, left_at_first, left_more, stepped_is}
+use Rattle.disk.proofs.Steps.{weaker}
 use Rattle.keeper.specs.Keeping.{IsDurableIn}
-use Rattle.keeper.proofs.Held.{no_call}
-use Rattle.keeper.proofs.Whole.{durable_before}
+use Rattle.keeper.proofs.Lifted.{lift_checkpoint, lift_durable}
+use Rattle.keeper.proofs.Viewed.{viewed_checkpoint}
 use Rattle.keeper.proofs.keepers.Keeper.checkpoint.Goals as goal
 
-pub loop-init : goal.loop-init
-loop-init g c =
-    let s = c.args.self.now in
-    record {
-      goes = refl;
-      left = left_at_first s.machine c.most_steps-end.ensures.state;
-      sizes = refl;
-      first = λ none. refl;
-      later = λ some. absurd (omega (arith, some));
-      counted = refl;
-      width = refl;
-      given = refl;
-      run = λ came calm.
-          let held = c.most_steps-end.ensures.held came in
-          no_call g.D.Disk.left g.D.Disk.moment g.D.Disk.left_since s.disk (IsDurableIn s.machine) (λ d since. g.met.D.Disk.only_now s.disk d held.0 since) held.1.each_left;
-      honest = (λ h. h, λ h. h);
-    }
+pub returns-clause-does : goal.returns-clause-does
+returns-clause-does g c = rw (← c.self.view_is) (lift_checkpoint c.self.inside.shown.version _ c.self.inside.ledger.machine c.checkpoint.new.self.machine c.checkpoint.result c.checkpoint.ensures.does)
 
-pub loop-preserved : goal.loop-preserved
-loop-preserved g c =
-    let old = c.args.self.now in
-    let mid = c.loop.self in
-    let new = c.checkpoint_step.new.self in
-    let i = c.loop.invariant in
-    let step = rw c.in-Ok-Going.field-0-is at c.in-Ok-Going.ensures.step in
-    let goes : GoesOn (suc c.loop.counter) old.machine new.machine = goes_on_more c.loop.counter old.machine mid.machine new.machine i.goes step in
-    let next : suc c.loop.counter ≡ c.loop.counter + 1 = omega arith in
-    let calm_old : old.machine.broken ≡ false = calm_at_first c.loop.counter old.machine mid.machine i.goes (calm_before mid.machine new.machine 64 step) in
-    record {
-      goes = subst (λ (n : ℕ). GoesOn n old.machine new.machine) next goes;
-      left = left_more c.loop.counter mid.machine new.machine step i.left;
-      sizes = ap (λ (m : Machine). m.sizes) (stepped_is mid.machine new.machine 64 step) ∙ i.sizes;
-      first = λ none. absurd (omega (arith, none));
-      later = λ some. (calm_old, calm_behind mid.machine new.machine 64 step, λ none. let never : Some _ ≡ None = sym (going_behind mid.machine new.machine 64 step) ∙ none in cc);
-      counted = c.in-Ok-Going.ensures.counted ∙ i.counted;
-      width = c.checkpoint_step.ensures.width ∙ i.width;
-      given = c.checkpoint_step.ensures.given ∙ i.given;
-      run = λ came calm.
-          and_then g.D.Disk.moment g.D.Disk.left_since old.disk mid.disk new.disk (IsDurableIn old.machine) (IsDurableIn mid.machine) (i.run came calm)
-          (c.checkpoint_step.ensures.any_moment (subst (λ (d : g.row.D.Denot). CameTidy g.D.Disk.honest g.D.Disk.content d) (sym i.given) came) (calm_goes c.loop.counter old.machine mid.machine i.goes calm))
-          (durable_before c.loop.counter old.machine mid.machine i.goes);
-      honest = (λ h. i.honest.0 (c.checkpoint_step.ensures.honest.0 h), λ h. c.checkpoint_step.ensures.honest.1 (i.honest.1 h));
-    }
+pub returns-clause-any_moment : goal.returns-clause-any_moment
+returns-clause-any_moment g c =
+    rw (← c.self.view_is) (λ came calm.
+    weaker g.D.Disk.moment g.D.Disk.left_since c.self.inside.ledger.disk c.checkpoint.new.self.disk (IsDurableIn c.self.inside.ledger.machine) _
+    (c.checkpoint.ensures.any_moment came calm)
+    (λ d way. lift_durable c.self.inside.shown.version _ c.self.inside.ledger.machine d way))
 
-pub returns-in-Ok-Done-clause-any_moment : goal.returns-in-Ok-Done-clause-any_moment
-returns-in-Ok-Done-clause-any_moment g c came calm =
-    let old = c.args.self.now in
-    let mid = c.loop.self in
-    let new = c.checkpoint_step.new.self in
-    let i = c.loop.invariant in
-    and_then g.D.Disk.moment g.D.Disk.left_since old.disk mid.disk new.disk (IsDurableIn old.machine) (IsDurableIn mid.machine) (i.run came calm)
-    (c.checkpoint_step.ensures.any_moment (subst (λ (d : g.row.D.Denot). CameTidy g.D.Disk.honest g.D.Disk.content d) (sym i.given) came) (calm_goes c.loop.counter old.machine mid.machine i.goes calm))
-    (durable_before c.loop.counter old.machine mid.machine i.goes)
-
-pub returns-in-Err-clause-any_moment : goal.returns-in-Err-clause-any_moment
-returns-in-Err-clause-any_moment g c came calm =
-    let old = c.args.self.now in
-    let mid = c.loop.self in
-    let new = c.checkpoint_step.new.self in
-    let i = c.loop.invariant in
-    and_then g.D.Disk.moment g.D.Disk.left_since old.disk mid.disk new.disk (IsDurableIn old.machine) (IsDurableIn mid.machine) (i.run came calm)
-    (c.checkpoint_step.ensures.any_moment (subst (λ (d : g.row.D.Denot). CameTidy g.D.Disk.honest g.D.Disk.content d) (sym i.given) came) (calm_goes c.loop.counter old.machine mid.machine i.goes calm))
-    (durable_before c.loop.counter old.machine mid.machine i.goes)
+pub invariant_of-self : goal.invariant_of-self
+invariant_of-self g c = viewed_checkpoint c.self.inside.shown.version _ c.self.inside.ledger.machine c.checkpoint.new.self.machine c.self.inside.shown.network _ c.self.invariant c.checkpoint.result c.checkpoint.ensures.does

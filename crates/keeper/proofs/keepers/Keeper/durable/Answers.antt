@@ -1,7 +1,5 @@
+use Rattle.keeper.proofs.Lifted.{lift_holds}
 use Rattle.keeper.proofs.keepers.Keeper.durable.Goals as goal
 
-pub returns-clause-honest : goal.returns-clause-honest
-returns-clause-honest g c = rw (← c.self.view_is) (λ came. (c.self.invariant.2 came).0)
-
 pub returns-clause-holds : goal.returns-clause-holds
-returns-clause-holds g c = rw (← c.self.view_is) (λ came. (c.self.invariant.2 came).1)
+returns-clause-holds g c = rw (← c.self.view_is) (λ came. lift_holds c.self.inside.shown.version _ (g.D.Disk.content c.self.inside.ledger.disk) (g.D.Disk.left c.self.inside.ledger.disk) c.self.inside.ledger.machine (c.durable.ensures.holds came))

@@ -5,7 +5,7 @@ use Rattle.store.specs.State.{CameTidy}
 use Rattle.machine.specs.Lives.{GoesOn}
 use Rattle.machine.proofs.Checkpoints.{IsLeftAfter}
 use Rattle.keeper.specs.Keeping.{IsDurableIn}
-use Rattle.keeper.proofs.keepers.Keeper.checkpoint.Given as goal
+use Rattle.keeper.proofs.ledgers.Ledger.checkpoint.Given as goal
 
 abbrev pub invariant-loop : goal.invariant-loop
 invariant-loop g l = record {
@@ -15,7 +15,6 @@ invariant-loop g l = record {
   first : l.counter ≡ 0 → l.self ≡ l.initial.self;
   later : 1 ≤ l.counter → (l.initial.self.machine.broken ≡ false) × (l.self.machine.broken ≡ false) × (l.self.machine.checkpoint ≡ None → ⊥);
   counted : g.D.Disk.failures l.self.disk ≡ g.D.Disk.failures l.initial.self.disk;
-  width : l.self.width ≡ l.initial.self.width;
   given : l.self.given ≡ l.initial.self.given;
   run : CameTidy g.D.Disk.honest g.D.Disk.content l.initial.self.given → l.initial.self.machine.broken ≡ false
       → LeavesOnly g.D.Disk.moment g.D.Disk.left_since l.initial.self.disk l.self.disk (IsDurableIn l.initial.self.machine);

@@ -2,7 +2,7 @@ use Rattle.std.proofs.Common.{rules, refl, ap, subst}
 use Rattle.store.specs.State.{CameTidy, Told}
 use Rattle.machine.specs.Machine.{Sizes}
 use Rattle.keeper.proofs.Held.{holds_armed}
-use Rattle.keeper.proofs.keepers.Keeper.arm.Goals as goal
+use Rattle.keeper.proofs.ledgers.Ledger.arm.Goals as goal
 
 abbrev sizes_told : Told → Sizes
 sizes_told t = record { journal_pages = t.journal_pages; slot_pages = t.slot_pages }

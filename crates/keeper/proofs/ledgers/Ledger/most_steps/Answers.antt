@@ -1,5 +1,5 @@
 use Rattle.std.proofs.Common.{arith}
-use Rattle.keeper.proofs.keepers.Keeper.most_steps.Goals as goal
+use Rattle.keeper.proofs.ledgers.Ledger.most_steps.Goals as goal
 
 pub returns-clause-enough : goal.returns-clause-enough
 returns-clause-enough g c = rw (← c.self.view_is) (omega (arith, c.version.ensures.room.slot_pages_to))

@@ -1,7 +1,7 @@
 use Rattle.std.proofs.Common.{rules, inl, refl, ◌∙◌}
 use Rattle.store.proofs.StateKept.{works_if_calm, left_durable}
 use Rattle.keeper.proofs.Held.{at_base}
-use Rattle.keeper.proofs.keepers.Keeper.new.Goals as goal
+use Rattle.keeper.proofs.ledgers.Ledger.new.Goals as goal
 
 pub invariant_of-result : goal.invariant_of-result
 invariant_of-result g c = (
@@ -19,7 +19,7 @@ invariant_of-result g c = (
             version = s.version;
             left = inl refl;
             network = s.network;
-            network_is = at_base c.of-base.result.value s.network _ c.new.result.items (c.of-base.ensures ∙ c.network-4.ensures) c.new.ensures.items;
+            network_is = at_base c.of-base.result.value s.network _ c.new.result.items (c.of-base.ensures ∙ c.network-2.ensures) c.new.ensures.items;
             stands = left_durable s (g.D.Disk.content s.disk) (g.D.Disk.left s.disk) only (c.version-opened.ensures.stands came works) d was;
           };
         },

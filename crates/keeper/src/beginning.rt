@@ -1,0 +1,73 @@
+// A ledger begun, armed and ended.
+ghost use Rattle.std.specs.Prelude.{◌≡◌, ◌≤◌, ◌↔◌, List, ℕ, true, IfOk, IfErr};
+ghost use Rattle.disk.specs.Stop.{armed_at};
+ghost use Rattle.store.specs.State.{CameTidy, is_calm};
+ghost use Rattle.machine.specs.Machine.{start};
+ghost use Rattle.keeper.specs.Keeping.{Holds, sizes_of};
+
+use crate::ledgers::Ledger;
+use disk::{Disk, Stoppable};
+use roadnet::{Command, Network, OutOfMemory};
+use std::alloc::Global;
+use std::snapshot::Snapshot;
+use store::Store;
+
+impl<D: Disk> Ledger<D> {
+    /// A ledger of a store that is not broken, in the beginning state of its network and version: nothing is pending. The network is copied
+    /// once.
+    ///
+    /// The one error is want of memory, and then the store is handed back.
+    pub fn new(alloc: Global, store: Store<D>) -> Result<Ledger<D>, (OutOfMemory, Store<D>)>
+        requires calm { is_calm store ≡ true }
+        ensures begins { IfOk result (λ ledger. ledger.machine ≡ start (sizes_of store) store.network store.version store.unchecked) }
+        ensures disk { IfOk result (λ ledger. ledger.disk ≡ store.disk) }
+        ensures given { IfOk result (λ ledger. ledger.given ≡ store.given) }
+        ensures handed_back { IfErr result (λ refused. refused.1 ≡ store) }
+    {
+        let opened = store.version();
+        let Ok(network) = store.network().copy() else {
+            return Err((OutOfMemory, store));
+        };
+        let base = Snapshot::of(store.network());
+        Ok(Ledger {
+            store,
+            base,
+            opened,
+            history: Vec::new(alloc),
+            network,
+            broken: false,
+            written: Snapshot::of(&0),
+        })
+    }
+
+    /// The commands accepted in this life, in order, and the disk, of which no call is made. It takes no memory.
+    pub fn close(self) -> (Vec<Command>, D)
+        ensures history { result.0.items ≡ self.machine.accepted }
+        ensures disk { result.1 ≡ self.disk }
+        ensures honest { CameTidy D.honest D.content self.given → D.honest self.disk }
+        ensures holds { CameTidy D.honest D.content self.given → Holds (D.content self.disk) (D.left self.disk) self.machine }
+    {
+        (self.history, self.store.close())
+    }
+}
+
+impl<D: Stoppable> Ledger<D> {
+    /// Arms the disk: its k-th write or sync from now on is cut, and it and each later call fail until the disk is stopped. Nothing else
+    /// is changed.
+    pub fn arm(&mut self, k: u64)
+        requires { 1 ≤ k }
+        ensures machine { self.new.machine ≡ self.old.machine }
+        ensures given { self.new.given ≡ self.old.given }
+        ensures armed { D.armed self.new.disk ≡ armed_at k (D.armed self.old.disk) }
+        ensures content { D.content self.new.disk ≡ D.content self.old.disk }
+        ensures synced { D.synced self.new.disk ≡ D.synced self.old.disk }
+        ensures unsynced { (i : ℕ) → D.is_unsynced self.new.disk i ≡ D.is_unsynced self.old.disk i }
+        ensures left { (c : List ℕ) → D.left self.new.disk c ↔ D.left self.old.disk c }
+        ensures moment { D.moment self.new.disk ≡ D.moment self.old.disk }
+        ensures left_since { (t : ℕ) (c : List ℕ) → D.left_since self.new.disk t c ↔ D.left_since self.old.disk t c }
+        ensures failures { D.failures self.new.disk ≡ D.failures self.old.disk }
+        ensures honest { D.honest self.new.disk ↔ D.honest self.old.disk }
+    {
+        self.store.arm(k);
+    }
+}

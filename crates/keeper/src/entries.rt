@@ -1,0 +1,85 @@
+// What a ledger tells of itself: numbers of its machine, its commands and network, and receipts. None of these takes memory.
+ghost use Rattle.std.specs.Prelude.{◌≡◌, Some};
+ghost use Rattle.machine.specs.Machine.{IsState, network_at, pending};
+ghost use Rattle.machine.specs.Calls.{IsTicketOf, receipt_for};
+ghost use Rattle.store.specs.State.{CameTidy};
+ghost use Rattle.keeper.specs.Keeping.{Holds};
+
+use crate::ledgers::Ledger;
+use disk::Disk;
+use machine::{Receipt, Ticket};
+use roadnet::{Command, Network, Refusal};
+
+impl<D: Disk> Ledger<D> {
+    /// How many accepted commands are not durable: at most 4,096.
+    pub fn pending(&self) -> u64
+        ensures { result ≡ pending self.now.machine }
+    {
+        self.opened + self.history.len() as u64 - self.store.version()
+    }
+
+    /// The versions up to this one are durable. Where the ledger's store came tidy, over a disk that keeps the disk model, the disk holds
+    /// them, whatever was called since: that is a fact of the ledger, so no caller has a premise for it.
+    pub fn durable(&self) -> u64
+        ensures version { result ≡ self.now.machine.durable }
+        ensures state { IsState self.now.machine }
+        ensures honest { CameTidy D.honest D.content self.now.given → D.honest self.now.disk }
+        ensures holds { CameTidy D.honest D.content self.now.given → Holds (D.content self.now.disk) (D.left self.now.disk) self.now.machine }
+    {
+        self.store.version()
+    }
+
+    /// The network at the durable version.
+    pub fn network(&self) -> &Network
+        ensures { network_at self.now.machine self.now.machine.durable ≡ Some result.now }
+    {
+        self.store.network()
+    }
+
+    /// Whether a write failed: nothing is written before the store is opened again.
+    pub fn broken(&self) -> bool
+        ensures { result ≡ self.now.machine.broken }
+    {
+        self.broken
+    }
+
+    /// The commands accepted in this life, in order.
+    pub fn commands(&self) -> &[Command]
+        ensures { result.now ≡ self.now.machine.accepted }
+    {
+        &self.history
+    }
+
+    /// How many pages of the journal no checkpoint has made needless.
+    pub fn unchecked(&self) -> u32
+        ensures { result ≡ self.now.machine.unchecked }
+    {
+        self.store.unchecked()
+    }
+
+    /// How many pages the journal has.
+    pub fn journal_pages(&self) -> u32
+        ensures { result ≡ self.now.machine.sizes.journal_pages }
+    {
+        self.store.journal_pages()
+    }
+
+    /// A receipt, where the ticket's command is durable: no stop takes it back. The ticket is one of this life.
+    ///
+    /// Refused is a number that is not durable: with 45 where the store is broken, else with 54.
+    pub fn receipt(&self, ticket: &Ticket) -> Result<Receipt, Refusal>
+        requires { IsTicketOf self.now.machine ticket.now }
+        ensures { result ≡ receipt_for self.now.machine ticket.now }
+    {
+        if ticket.number <= self.store.version() {
+            return Ok(Receipt {
+                number: ticket.number,
+                command: ticket.command,
+            });
+        }
+        if self.broken {
+            return Err(Refusal::Broken);
+        }
+        Err(Refusal::NotYet)
+    }
+}

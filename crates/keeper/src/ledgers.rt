@@ -1,0 +1,55 @@
+ghost use Rattle.std.specs.Prelude.{◌≡◌, Err};
+ghost use Rattle.std.specs.Bool.{Decides};
+ghost use Rattle.roadnet.specs.declared.refusals.Refusal.TheVariants.{Device as device};
+
+use disk::Disk;
+use roadnet::{Command, Network, Refusal};
+use std::marker::Model;
+use std::snapshot::Snapshot;
+use store::Store;
+
+/// The ledger of a store: the commands accepted since it was opened, of which the first are durable. It computes no row and shows nothing.
+///
+/// It takes the network of the store, that of the accepted commands, and 24 bytes a command of this life.
+#[derive(Drop)]
+pub struct Ledger<D: Disk> {
+    pub(crate) store: Store<D>,
+    /// The network and version that the store was opened with.
+    pub(crate) base: Snapshot<Network>,
+    pub(crate) opened: u64,
+    /// The commands accepted since, in order, and the network after them.
+    pub(crate) history: Vec<Command>,
+    pub(crate) network: Network,
+    /// A write failed: the store takes no more of them before it is opened again.
+    pub(crate) broken: bool,
+    /// How many commands the last write had: where it failed, they are in flight.
+    pub(crate) written: Snapshot<usize>,
+}
+
+impl<D: Disk> Model for Ledger<D> {
+    ghost use Rattle.std.specs.Prelude.{◌≡◌, None};
+    ghost use Rattle.store.specs.State.{CameTidy};
+    ghost use Rattle.machine.specs.Keeping.{IsKept};
+    ghost use Rattle.keeper.specs.Keeping.{LedgerState, Holds, machine_of};
+
+    ghost Value = { LedgerState D };
+
+    ghost view = { λ k. record {
+      machine = machine_of k.store k.base.value k.opened k.history.items k.opened k.broken k.written.value None;
+      disk = k.store.disk;
+      given = k.store.given;
+    } };
+
+    ghost invariant = { λ k.
+        let m = machine_of k.store k.base.value k.opened k.history.items k.opened k.broken k.written.value None in
+        IsKept m k.network k.store.network k.base.value None
+        × (k.broken ≡ k.store.broken)
+        × (CameTidy D.honest D.content k.store.given → D.honest k.store.disk × Holds (D.content k.store.disk) (D.left k.store.disk) m) };
+}
+
+/// Whether the disk failed in a write that told this.
+pub(crate) fn has_failed<T>(written: &Result<T, Refusal>) -> bool
+    ensures { Decides result (written.now ≡ Err device) }
+{
+    matches!(written, Err(Refusal::Device))
+}

@@ -1,0 +1,98 @@
+// Commands accepted and made durable, and checkpoints: the ledger's calls, which leave the view and the task as they are.
+ghost use Rattle.std.specs.Prelude.{◌≡◌, ◌≢◌, ◌≤◌, ◌↔◌, true, None, IfErr};
+ghost use Rattle.disk.specs.Contents.{Rose};
+ghost use Rattle.pagereader.specs.Outcomes.{failures_told};
+ghost use Rattle.disk.specs.Moments.{LeavesOnly, AddsNothing};
+ghost use Rattle.roadnet.specs.declared.refusals.Refusal.TheVariants.{Device as device, OutOfMemory as out_of_memory};
+ghost use Rattle.machine.specs.declared.events.Writing.TheVariants.{Checkpoint as a_checkpoint};
+ghost use Rattle.machine.specs.Calls.{Submits, Flushes, StepsCheckpoint};
+ghost use Rattle.machine.specs.Lives.{Writes};
+ghost use Rattle.keeper.specs.Keeping.{IsDurableIn, IsLeftByFlush, WhenSound};
+ghost use Rattle.keeper.specs.Parts.{told_as};
+
+use crate::keepers::Keeper;
+use disk::Disk;
+use machine::Ticket;
+use roadnet::{Command, Refusal};
+use store::Part;
+
+impl<D: Disk> Keeper<D> {
+    /// Accepts the command as the next number. It is pending then, and a stop may take it back until a flush has made it durable.
+    ///
+    /// Refused, the first that holds, is a broken store (45), a life of 16,777,216 commands (62), a version that would pass 2^48 (28),
+    /// 4,096 pending commands (50), and what the network after the accepted commands doesn't admit (20 to 27); then want of memory (11).
+    ///
+    /// The accepted network is changed in place: beyond the command itself this takes O(1), and for a landmark a shift of the others.
+    pub fn submit(&mut self, command: Command) -> Result<Ticket, Refusal>
+        ensures step { Submits self.old.machine command result self.new.machine }
+        ensures disk { self.new.disk ≡ self.old.disk }
+        ensures given { self.new.given ≡ self.old.given }
+        ensures width { self.new.width ≡ self.old.width }
+    {
+        self.ledger.submit(command)
+    }
+
+    /// Makes the first pending commands durable, at most 253, as one page of the journal: all of them or none, whatever a stop does at any
+    /// moment. Answers the durable version.
+    ///
+    /// Refused, the first that holds, is a broken store (45), that nothing is pending (53), and a journal without a free page (44); then want of
+    /// memory (11), before any call of the disk; then a disk that failed (43), after which the store is broken. After each other refusal
+    /// nothing is changed.
+    pub fn flush(&mut self) -> Result<u64, Refusal>
+        ensures step { Flushes self.old.machine result self.new.machine }
+        ensures same { IfErr result (λ refusal. refusal ≢ device → self.new ≡ self.old) }
+        // The count of failures rises by one where 43 is told, and else not at all: none is passed over.
+        ensures counted { D.failures self.new.disk ≡ failures_told result (D.failures self.old.disk) }
+        ensures failed { IfErr result (λ refusal. refusal ≡ device → Rose (D.failures self.old.disk) (D.failures self.new.disk)) }
+        ensures given { self.new.given ≡ self.old.given }
+        ensures width { self.new.width ≡ self.old.width }
+        ensures adds_nothing { self.old.machine.broken ≡ true → AddsNothing D.moment D.left_since self.old.disk self.new.disk }
+        // A stop at any moment of the call leaves what a flush that failed leaves.
+        ensures any_moment { WhenSound D.honest D.content self.old (LeavesOnly D.moment D.left_since self.old.disk self.new.disk (IsLeftByFlush self.old.machine)) }
+        ensures honest { D.honest self.new.disk ↔ D.honest self.old.disk }
+    {
+        self.ledger.flush()
+    }
+
+    /// A step of a checkpoint of the durable network, of so many pages, 1 to 64. Answers `Done` with the version that the checkpoint holds,
+    /// or `Going` where some of its pages are left. Where none is going one begins, of the network that is durable then; where no page is
+    /// unchecked, nothing is done.
+    ///
+    /// Refused is a broken store (45); then want of memory (11), where one would begin, before any call of the disk; then a disk that failed
+    /// (43), after which the store is broken. After each other refusal nothing is changed.
+    pub fn checkpoint_step(&mut self, pages: u32) -> Result<Part, Refusal>
+        requires some { 1 ≤ pages }
+        requires few { pages ≤ 64 }
+        ensures step { StepsCheckpoint self.old.machine pages (told_as result) self.new.machine }
+        ensures same { IfErr result (λ refusal. refusal ≢ device → self.new ≡ self.old) }
+        ensures memory { IfErr result (λ refusal. refusal ≡ out_of_memory → self.old.machine.checkpoint ≡ None) }
+        // The count of failures rises by one where 43 is told, and else not at all: none is passed over.
+        ensures counted { D.failures self.new.disk ≡ failures_told result (D.failures self.old.disk) }
+        ensures failed { IfErr result (λ refusal. refusal ≡ device → Rose (D.failures self.old.disk) (D.failures self.new.disk)) }
+        ensures given { self.new.given ≡ self.old.given }
+        ensures width { self.new.width ≡ self.old.width }
+        ensures adds_nothing { self.old.machine.broken ≡ true → AddsNothing D.moment D.left_since self.old.disk self.new.disk }
+        // A stop at any moment of the call leaves what stands for what is durable.
+        ensures any_moment { WhenSound D.honest D.content self.old (LeavesOnly D.moment D.left_since self.old.disk self.new.disk (IsDurableIn self.old.machine)) }
+        ensures honest { D.honest self.new.disk ↔ D.honest self.old.disk }
+    {
+        self.ledger.checkpoint_step(pages)
+    }
+
+    /// Steps of 64 pages until the checkpoint is done: the one that is going, or else one that begins. Answers the version that it holds.
+    ///
+    /// Refused as a step is. After 45 and 11 nothing is changed.
+    pub fn checkpoint(&mut self) -> Result<u64, Refusal>
+        ensures does { Writes self.old.machine a_checkpoint result self.new.machine }
+        ensures same { IfErr result (λ refusal. refusal ≢ device → self.new ≡ self.old) }
+        ensures counted { D.failures self.new.disk ≡ failures_told result (D.failures self.old.disk) }
+        ensures given { self.new.given ≡ self.old.given }
+        ensures width { self.new.width ≡ self.old.width }
+        ensures adds_nothing { self.old.machine.broken ≡ true → AddsNothing D.moment D.left_since self.old.disk self.new.disk }
+        // A stop at any moment of the call leaves what stands for what is durable.
+        ensures any_moment { WhenSound D.honest D.content self.old (LeavesOnly D.moment D.left_since self.old.disk self.new.disk (IsDurableIn self.old.machine)) }
+        ensures honest { D.honest self.new.disk ↔ D.honest self.old.disk }
+    {
+        self.ledger.checkpoint()
+    }
+}

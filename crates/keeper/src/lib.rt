@@ -8,6 +8,7 @@ mod flushing;
 mod keepers;
 mod lives;
 mod numbers;
+mod offices;
 mod rehearsing;
 mod same;
 mod shown;

@@ -59,8 +59,8 @@ impl Claim {
 }
 
 impl Settled {
-    /// The claim that was acknowledged.
-    pub fn claim(&self) -> &Claim
+    /// The token of the ticket that was acknowledged.
+    pub fn ticket(&self) -> &Claim
         ensures { result.now ≡ self.now }
     {
         &self.claim

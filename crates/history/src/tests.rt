@@ -56,7 +56,7 @@ fn a_receipt_is_confirmed(rt: HostRuntime) -> Result<(), Fail> {
         return Err(Fail::from("nobody closed it"));
     }
     let settled = history.settled(claim);
-    assert_eq!(rt; settled.claim().ticket(), ticket);
+    assert_eq!(rt; settled.ticket().ticket(), ticket);
     let Some(whole) = history.close() else {
         return Err(Fail::from("nobody closed it"));
     };

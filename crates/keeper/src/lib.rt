@@ -12,6 +12,7 @@ mod keepers;
 mod ledgers;
 mod lives;
 mod numbers;
+mod offices;
 mod rehearsing;
 mod same;
 mod shown;

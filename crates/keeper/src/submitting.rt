@@ -35,7 +35,7 @@ fn accept(
 
 impl<D: Disk> Ledger<D> {
     /// For what the command would be refused, memory apart.
-    fn may_submit(&self, command: &Command) -> Result<(), Refusal>
+    pub(crate) fn may_submit(&self, command: &Command) -> Result<(), Refusal>
         ensures { MatchResult result (λ _. refusal_of_submit self.now.machine command.now ≡ None) (λ refusal. refusal_of_submit self.now.machine command.now ≡ Some refusal) }
     {
         if self.broken {

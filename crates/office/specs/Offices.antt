@@ -1,0 +1,25 @@
+-- What holds of an office each time its lock is got.
+use Rattle.std.specs.Prelude.{◌≡◌, ℕ, ◌≤◌, Some}
+use Rattle.history.specs.Origins.{Origin, Beginning}
+use Rattle.machine.specs.Machine.{Machine, IsState, commands_to, network_at}
+use Rattle.published.specs.Showing.{Showing}
+
+-- The machine runs from the desk's network and version, and the history has the commands that it accepted. Readers see the view of the shown
+-- version, which searches by this width, after the commands up to that version. What was acknowledged is durable.
+pub record IsOffice (origin : Origin) (m : Machine) (width : ℕ) (history : Beginning) (published : Showing) : Type 0 where
+  pub base : m.base ≡ origin.base
+  pub base_version : m.base_version ≡ origin.version
+  pub history_origin : history.origin ≡ origin
+  pub history_commands : history.commands ≡ m.accepted
+  pub acknowledged : history.acknowledged ≤ m.durable
+  pub shown_origin : published.shown.origin ≡ origin
+  pub shown_commands : published.shown.commands ≡ commands_to m m.shown
+  pub view_version : published.view.version ≡ m.shown
+  pub view_network : network_at m m.shown ≡ Some published.view.network
+  pub view_width : published.view.delta ≡ width
+
+-- a state of the machine, in a run from the network and version that the desk was opened with
+pub record RunsFrom (origin : Origin) (m : Machine) : Type 0 where
+  pub state : IsState m
+  pub base : m.base ≡ origin.base
+  pub base_version : m.base_version ≡ origin.version

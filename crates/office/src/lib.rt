@@ -1,0 +1,17 @@
+//! What lies under the lock of a desk: the keeper, the history of its commands and the readers' copy, which agree each time the lock is
+//! got; and what callers carry away from it.
+#![tactic(auto)]
+
+mod checkpoints;
+mod closed;
+mod naming;
+mod numbers;
+mod offices;
+mod publishing;
+mod settling;
+mod submitting;
+
+pub use closed::Closed;
+pub use history::{Claim as Ticket, Settled as Receipt};
+pub use naming::Naming;
+pub use offices::Office;

@@ -1,0 +1,25 @@
+use std::marker::Brand;
+
+/// Which desk an office is of, by its type: so whoever gets a lock round one knows its desk. It lies in proofs alone; a caller picks it for
+/// the history and the store at hand.
+pub trait Naming {
+    ghost use Rattle.history.specs.Origins.{Origin};
+
+    /// The network that the desk was opened with, its version, and its history.
+    ghost origin: { Origin };
+
+    /// The desk's store came tidy, over a disk that keeps the disk model.
+    ghost came_tidy: { Type 0 };
+}
+
+impl Naming for Brand {
+    ghost use Rattle.std.specs.Prelude.{[]};
+
+    ghost origin = { record {
+      base = record { nodes = 1; arcs = []; landmarks = [] };
+      version = 0;
+      history = record { number = 0; log_name = 0; cells_name = 0 };
+    } };
+
+    ghost came_tidy = { Unit {0} };
+}

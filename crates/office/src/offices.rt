@@ -1,0 +1,82 @@
+// An office begun.
+ghost use Rattle.std.specs.Prelude.{◌≡◌, [], true, unwrap_or, IfOk};
+ghost use Rattle.std.specs.Option.{ForSome};
+ghost use Rattle.rows.specs.Kept.{IsWidth};
+ghost use Rattle.snapshot.specs.Groups.{default_width};
+ghost use Rattle.store.specs.State.{CameTidy, is_calm};
+ghost use Rattle.machine.specs.Machine.{start};
+ghost use Rattle.keeper.specs.Keeping.{sizes_of};
+
+use crate::naming::Naming;
+use disk::Disk;
+use history::History;
+use keeper::Keeper;
+use published::{Published, Publisher};
+use roadnet::OutOfMemory;
+use std::alloc::Global;
+use std::marker::{Model, PhantomData};
+use std::sync::{Arc, Wait};
+use std::thread::Threads;
+use store::Store;
+
+/// The state under a desk's lock. Contracts see it as its keeper: what the history has, and what readers see, follows from that.
+#[derive(Drop)]
+pub struct Office<N: Naming, D: Disk> {
+    pub(crate) keeper: Keeper<D>,
+    pub(crate) history: History,
+    pub(crate) publisher: Publisher,
+    pub(crate) of: PhantomData<N>,
+}
+
+impl<N: Naming, D: Disk> Model for Office<N, D> {
+    ghost use Rattle.store.specs.State.{CameTidy};
+    ghost use Rattle.keeper.specs.Keeping.{Keeping};
+    ghost use Rattle.office.specs.Offices.{IsOffice};
+
+    ghost Value = { Keeping D };
+
+    ghost view = { λ o. o.keeper };
+
+    ghost invariant = { λ o. IsOffice N.origin o.keeper.machine o.keeper.width o.history o.publisher × (N.came_tidy → CameTidy D.honest D.content o.keeper.given) };
+}
+
+impl<N: Naming, D: Disk> Office<N, D> {
+    /// An office over a store that is not broken, with the history of a new desk: nothing is pending, and the view of the store's version is
+    /// built and shown. `delta`, 1 to 2147483647, is the width of the buckets of its searches; where none is given it is the network's default.
+    ///
+    /// The one error is want of memory, and then the store is dropped.
+    pub fn new<R: Threads + Wait>(
+        rt: &R,
+        alloc: Global,
+        history: History,
+        store: Store<D>,
+        delta: Option<u32>,
+    ) -> Result<Office<N, D>, OutOfMemory>
+    where
+        D: Drop,
+        requires calm { is_calm store ≡ true }
+        requires width { ForSome delta IsWidth }
+        requires origin { (N.origin.base ≡ store.network) × (N.origin.version ≡ store.version) }
+        requires history { (history.origin ≡ N.origin) × (history.commands ≡ []) × (history.acknowledged ≡ 0) }
+        requires came_tidy { N.came_tidy → CameTidy D.honest D.content store.given }
+        ensures begins { IfOk result (λ office. office.machine ≡ start (sizes_of store) store.network store.version store.unchecked) }
+        ensures disk { IfOk result (λ office. office.disk ≡ store.disk) }
+        ensures width { IfOk result (λ office. office.width ≡ unwrap_or delta (default_width store.network)) }
+        ensures given { IfOk result (λ office. office.given ≡ store.given) }
+    {
+        let Ok(keeper) = Keeper::new(rt, alloc, store, delta) else {
+            return Err(OutOfMemory);
+        };
+        let Ok(view) = Arc::try_clone(keeper.view()) else {
+            return Err(OutOfMemory);
+        };
+        let first = Published::new(view, history.front(0));
+        let publisher = Publisher::new(rt, alloc, first)?;
+        Ok(Office {
+            keeper,
+            history,
+            publisher,
+            of: PhantomData,
+        })
+    }
+}

@@ -1,0 +1,89 @@
+// Tasks, and their views shown.
+ghost use Rattle.std.specs.Prelude.{◌≡◌, ◌≢◌, Ok, Err, IfOk, IfErr, OnOk, OnErr, MatchResult, option_map, []};
+ghost use Rattle.roadnet.specs.declared.refusals.Refusal.TheVariants.{OutOfMemory as out_of_memory};
+ghost use Rattle.machine.specs.Machine.{commands_to};
+ghost use Rattle.machine.specs.Calls.{TakesTask, without_task, RefusesView, Publishes};
+
+use crate::naming::Naming;
+use crate::offices::Office;
+use disk::Disk;
+use keeper::Task;
+use published::{Published, Reader, Shown};
+use roadnet::{OutOfMemory, Refusal};
+use rows::View;
+use std::sync::{Arc, Wait};
+
+impl<N: Naming, D: Disk> Office<N, D> {
+    /// A task, as the keeper's: the durable version with a copy of its network. There is none while a task is out, and where the durable version is
+    /// shown.
+    ///
+    /// The one error is want of memory, and then nothing has changed.
+    pub fn take_task(&mut self) -> Result<Option<Task>, OutOfMemory>
+        ensures step { MatchResult result (λ task. TakesTask self.old.machine (Ok (option_map (λ t. (t.version, t.network.value)) task)) self.new.machine) (λ _. TakesTask self.old.machine (Err out_of_memory) self.new.machine) }
+        ensures disk { self.new.disk ≡ self.old.disk }
+        ensures given { self.new.given ≡ self.old.given }
+        ensures width { self.new.width ≡ self.old.width }
+    {
+        self.keeper.take_task()
+    }
+
+    /// The task of this version, if it is out, is out no more. It takes no memory.
+    pub fn give_up(&mut self, version: u64)
+        ensures step { self.new.machine ≡ without_task self.old.machine version }
+        ensures disk { self.new.disk ≡ self.old.disk }
+        ensures given { self.new.given ≡ self.old.given }
+        ensures width { self.new.width ≡ self.old.width }
+    {
+        self.keeper.give_up(version)
+    }
+
+    /// Shows the view of the task that is out to readers, and answers the version that is shown. It waits for those readers that are still
+    /// taking a share of the view before the one that they see now.
+    ///
+    /// Refused is what the keeper refuses (51, 52), and then want of memory in the readers' copy (11). The view is handed back and nothing has
+    /// changed: the task is out, and readers see what they saw.
+    pub fn publish<R: Wait>(
+        &mut self,
+        rt: &R,
+        view: Arc<View>,
+    ) -> Result<u64, (Refusal, Arc<View>)>
+        ensures step { IfOk result (λ shown. Publishes self.old.machine view.value.version view.value.network (Ok shown) self.new.machine) }
+        ensures refused { IfErr result (λ refused. refused.0 ≢ out_of_memory → RefusesView self.old.machine view.value.version view.value.network refused.0) }
+        ensures handed_back { IfErr result (λ refused. refused.1 ≡ view) }
+        ensures same { OnErr result (self.new ≡ self.old) }
+        ensures disk { self.new.disk ≡ self.old.disk }
+        ensures given { self.new.given ≡ self.old.given }
+        ensures width { OnOk result (self.new.width ≡ view.value.delta) }
+    {
+        if let Err(refusal) = self.keeper.may_publish(&view) {
+            return Err((refusal, view));
+        }
+        let Ok(shared) = Arc::try_clone(&view) else {
+            return Err((Refusal::OutOfMemory, view));
+        };
+        let count = view.version() - self.keeper.opened();
+        let next = Published::new(shared, self.history.front(count));
+        if self.publisher.switch(rt, next).is_err() {
+            return Err((Refusal::OutOfMemory, view));
+        }
+        self.keeper.publish(view)
+    }
+
+    /// Tells what is shown: the accepted commands up to the shown version. It takes no memory.
+    pub fn tell(&self) -> Shown
+        ensures origin { result.origin ≡ N.origin }
+        ensures commands { result.commands ≡ commands_to self.now.machine self.now.machine.shown }
+    {
+        self.publisher.tell()
+    }
+
+    /// A reader of this desk, which has seen no command.
+    ///
+    /// Refused is a place for it that is not found (60): there are 64, and while readers come and go a free one may be missed.
+    pub fn reader(&mut self) -> Result<Reader, Refusal>
+        ensures reader { IfOk result (λ reader. (reader.origin ≡ N.origin) × (reader.commands ≡ [])) }
+        ensures same { self.new ≡ self.old }
+    {
+        self.publisher.reader()
+    }
+}

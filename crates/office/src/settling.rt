@@ -1,0 +1,58 @@
+// Receipts, and what was shown since a ticket.
+ghost use Rattle.std.specs.Prelude.{◌≡◌, ◌≢◌, ◌<◌, Ok, Err, IfSome, IfNone, IfOk, IfErr, OnOk};
+ghost use Rattle.roadnet.specs.declared.refusals.Refusal.TheVariants.{Closed as closed};
+ghost use Rattle.machine.specs.Machine.{commands_to};
+ghost use Rattle.machine.specs.Calls.{IsTicketOf, receipt_for};
+ghost use Rattle.machine.specs.Laws.{IsAt};
+
+use crate::naming::Naming;
+use crate::offices::Office;
+use disk::Disk;
+use history::{Claim, Settled};
+use published::Shown;
+use roadnet::Refusal;
+
+impl<N: Naming, D: Disk> Office<N, D> {
+    /// A receipt for the ticket, which is of this desk, where its command is durable, as the keeper's: no stop takes it back.
+    ///
+    /// Refused is a number that is not durable: with 45 where the store is broken, else with 54; and a history that was closed (61). The ticket
+    /// is handed back then.
+    pub fn receipt(&mut self, ticket: Claim) -> Result<Settled, (Refusal, Claim)>
+        requires { ticket.origin ≡ N.origin }
+        ensures step { IfOk result (λ _. receipt_for self.old.machine ticket.ticket ≡ Ok (record { number = ticket.ticket.number; command = ticket.ticket.command })) }
+        ensures there { OnOk result (IsTicketOf self.old.machine ticket.ticket) }
+        ensures receipt { IfOk result (λ receipt. receipt ≡ ticket) }
+        ensures refused { IfErr result (λ refused. refused.0 ≢ closed → receipt_for self.old.machine ticket.ticket ≡ Err refused.0) }
+        ensures handed_back { IfErr result (λ refused. refused.1 ≡ ticket) }
+        ensures same { self.new ≡ self.old }
+    {
+        if !self.history.holds(&ticket) {
+            return Err((Refusal::Closed, ticket));
+        }
+        if let Err(refusal) = self.keeper.receipt(&ticket.ticket()) {
+            return Err((refusal, ticket));
+        }
+        if !self.history.acknowledge(ticket.ticket().number) {
+            return Err((Refusal::Closed, ticket));
+        }
+        Ok(self.history.settled(ticket))
+    }
+
+    /// What is shown, where that is the command of the ticket, which is of this desk, or behind it. It takes no memory.
+    pub fn shown_since(&self, ticket: &Claim) -> Option<Shown>
+        requires { ticket.now.origin ≡ N.origin }
+        ensures origin { IfSome result (λ shown. shown.origin ≡ N.origin) }
+        ensures commands { IfSome result (λ shown. shown.commands ≡ commands_to self.now.machine self.now.machine.shown) }
+        ensures there { IfSome result (λ shown. IsAt N.origin.version shown.commands ticket.now.ticket) }
+        ensures none { IfNone result (self.now.machine.shown < ticket.now.ticket.number) }
+    {
+        let _ = self.keeper.opened();
+        if self.keeper.shown() < ticket.ticket().number {
+            return None;
+        }
+        if !self.history.holds(ticket) {
+            unreachable!();
+        }
+        Some(self.publisher.tell())
+    }
+}

@@ -1,0 +1,57 @@
+// Commands accepted and made durable.
+ghost use Rattle.std.specs.Prelude.{◌≡◌, ◌≢◌, ◌↔◌, true, false, Ok, Err, IfOk, IfErr, OnErr};
+ghost use Rattle.disk.specs.Contents.{Rose};
+ghost use Rattle.disk.specs.Moments.{AddsNothing, LeavesOnly};
+ghost use Rattle.pagereader.specs.Outcomes.{failures_told};
+ghost use Rattle.roadnet.specs.declared.refusals.Refusal.TheVariants.{Closed as closed, Device as device};
+ghost use Rattle.machine.specs.Machine.{batch};
+ghost use Rattle.machine.specs.Calls.{Submits, Flushes, failed};
+ghost use Rattle.keeper.specs.Keeping.{IsDurableIn};
+
+use crate::naming::Naming;
+use crate::offices::Office;
+use disk::Disk;
+use history::Claim;
+use roadnet::{Command, Refusal};
+
+impl<N: Naming, D: Disk> Office<N, D> {
+    /// Accepts the command as the next number, as the keeper does, and writes it into the history. The ticket is for this command, of this
+    /// desk.
+    ///
+    /// Refused as the keeper's `submit` is; and, after these, where the history was closed (61). Then nothing has changed.
+    pub fn submit(&mut self, command: Command) -> Result<Claim, Refusal>
+        ensures accepted { IfOk result (λ ticket. Submits self.old.machine command (Ok ticket.ticket) self.new.machine) }
+        ensures origin { IfOk result (λ ticket. ticket.origin ≡ N.origin) }
+        ensures refused { IfErr result (λ refusal. refusal ≢ closed → Submits self.old.machine command (Err refusal) self.new.machine) }
+        ensures same { OnErr result (self.new ≡ self.old) }
+        ensures disk { self.new.disk ≡ self.old.disk }
+        ensures given { self.new.given ≡ self.old.given }
+        ensures width { self.new.width ≡ self.old.width }
+    {
+        let _ = self.keeper.opened();
+        match self.keeper.submit_into(&mut self.history, command) {
+            Ok(ticket) => Ok(self.history.claim(ticket)),
+            Err(refusal) => Err(refusal),
+        }
+    }
+
+    /// Makes the first pending commands durable, at most 253, as the keeper's `flush` does: all of them or none, whatever a stop does at any
+    /// moment. Answers the durable version.
+    ///
+    /// Refused, the first that holds, is a broken store (45), that nothing is pending (53), and a journal without a free page (44); then want
+    /// of memory (11); then a disk that failed (43), after which the store is broken. After each other refusal nothing is changed.
+    pub fn flush(&mut self) -> Result<u64, Refusal>
+        ensures step { Flushes self.old.machine result self.new.machine }
+        ensures same { IfErr result (λ refusal. refusal ≢ device → self.new ≡ self.old) }
+        ensures counted { D.failures self.new.disk ≡ failures_told result (D.failures self.old.disk) }
+        ensures failed { IfErr result (λ refusal. refusal ≡ device → Rose (D.failures self.old.disk) (D.failures self.new.disk)) }
+        ensures width { self.new.width ≡ self.old.width }
+        ensures given { self.new.given ≡ self.old.given }
+        ensures adds_nothing { self.old.machine.broken ≡ true → AddsNothing D.moment D.left_since self.old.disk self.new.disk }
+        // A stop at any moment of the call leaves what a flush that failed leaves.
+        ensures any_moment { N.came_tidy → self.old.machine.broken ≡ false → LeavesOnly D.moment D.left_since self.old.disk self.new.disk (IsDurableIn (failed self.old.machine (batch self.old.machine))) }
+        ensures honest { D.honest self.new.disk ↔ D.honest self.old.disk }
+    {
+        self.keeper.flush()
+    }
+}

@@ -1,6 +1,6 @@
 -- The networks of the view and of the task stay those of the machine's versions.
-use Rattle.std.proofs.Common.{◌≡◌, ⊎_elim, ℕ, ◌-◌, ◌≤◌, List, [], Option, Some, None, Result, refl, sym, ◌∙◌, ap, subst, arith}
-use Rattle.std.specs.Prelude.{IfSome, option_map}
+use Rattle.std.proofs.Common.{◌≡◌, ⊎_elim, ℕ, ◌-◌, ◌≤◌, List, [], Option, Some, None, Result, Ok, Err, refl, sym, ◌∙◌, ap, subst, arith}
+use Rattle.std.specs.Prelude.{IfSome, IfOk, OnErr, option_map}
 use Rattle.roadnet.specs.declared.commands.Command.{Command}
 use Rattle.roadnet.specs.declared.refusals.Refusal.{Refusal}
 use Rattle.roadnet.specs.Net.{Net}
@@ -15,7 +15,7 @@ use Rattle.machine.proofs.Checkpoints.{IsBut, but_step, but_checkpoint, state_ch
 use Rattle.machine.proofs.Kept.{states_kept, with_task, published}
 use Rattle.machine.proofs.Keeping.{kept_start}
 use Rattle.machine.proofs.Later.{later_by_step}
-use Rattle.keeper.specs.Keeping.{with_views, IsViewed}
+use Rattle.keeper.specs.Keeping.{LedgerState, with_views, IsViewed}
 use Rattle.keeper.proofs.LifeKept.{network_still}
 use Rattle.keeper.proofs.Lifted.{lift_submit, lift_flush, lift_step, lift_checkpoint}
 
@@ -53,6 +53,10 @@ module _ (shown : ℕ) (out : Option ℕ) (old new : Machine) (net : Net) (task 
   viewed_submit c r h =
       let step = lift_submit shown out old new c r h in
       viewed_later was is net task (states_kept was is (Submitted c r) k.state step) (later_by_step was is (Submitted c r) k.state step) refl refl k
+
+  pub viewed_accepted : (c : Command) (r : Result Ticket Refusal) → IfOk r (λ ticket. Submits old c (Ok ticket) new) → OnErr r (new ≡ old) → IsViewed is net task
+  viewed_accepted c (Ok ticket) h same = viewed_submit c (Ok ticket) h
+  viewed_accepted c (Err refusal) h same = subst (λ (m : Machine). IsViewed (with_views m shown out) net task) (sym same) k
 
   pub viewed_flush : (r : Result ℕ Refusal) → Flushes old r new → IsViewed is net task
   viewed_flush r h =
@@ -101,3 +105,8 @@ viewed_published m net version network k = record {
   task_is = refl;
   task_network = tt;
 }
+
+-- a ledger that is as it was has the machine that it had
+pub on_err_machine : {D T E : Type 0} (r : Result T E) (old new : LedgerState D) → OnErr r (new ≡ old) → OnErr r (new.machine ≡ old.machine)
+on_err_machine (Ok x) old new h = tt
+on_err_machine (Err e) old new h = ap (λ l. l.machine) h

@@ -8,6 +8,7 @@ ghost use Rattle.machine.specs.Machine.{IsState};
 ghost use Rattle.machine.specs.Calls.{Submits};
 
 use crate::keepers::Keeper;
+use crate::ledgers::Ledger;
 use disk::Disk;
 use history::History;
 use machine::Ticket;
@@ -75,8 +76,8 @@ fn accept_into(
     Ok(())
 }
 
-impl<D: Disk> Keeper<D> {
-    /// The version that the keeper's store was opened at: its first command leads from there to the next.
+impl<D: Disk> Ledger<D> {
+    /// The version that the ledger's store was opened at: its first command leads from there to the next.
     pub fn opened(&self) -> u64
         ensures version { result ≡ self.now.machine.base_version }
         ensures state { IsState self.now.machine }
@@ -99,7 +100,6 @@ impl<D: Disk> Keeper<D> {
         ensures unwritten { OnErr result (log.new ≡ log.old) }
         ensures disk { self.new.disk ≡ self.old.disk }
         ensures given { self.new.given ≡ self.old.given }
-        ensures width { self.new.width ≡ self.old.width }
     {
         if let Err(refusal) = self.may_submit(&command) {
             return Err(refusal);
@@ -114,5 +114,35 @@ impl<D: Disk> Keeper<D> {
             Ok(()) => Ok(Ticket { number, command }),
             Err(refusal) => Err(refusal),
         }
+    }
+}
+
+impl<D: Disk> Keeper<D> {
+    /// The version that the keeper's store was opened at: its first command leads from there to the next.
+    pub fn opened(&self) -> u64
+        ensures version { result ≡ self.now.machine.base_version }
+        ensures state { IsState self.now.machine }
+    {
+        self.ledger.opened()
+    }
+
+    /// Accepts the command as `submit` does, once it is written into the desk's history: both get it, or neither.
+    ///
+    /// Refused as `submit` is; and, after these, where the history was closed (61).
+    pub fn submit_into(
+        &mut self,
+        log: &mut History,
+        command: Command,
+    ) -> Result<Ticket, Refusal>
+        ensures accepted { IfOk result (λ ticket. Submits self.old.machine command (Ok ticket) self.new.machine) }
+        ensures refused { IfErr result (λ refusal. refusal ≢ closed → Submits self.old.machine command (Err refusal) self.new.machine) }
+        ensures same { OnErr result (self.new ≡ self.old) }
+        ensures written { OnOk result (log.new ≡ record log.old { commands = log.old.commands ++ command ∷ [] }) }
+        ensures unwritten { OnErr result (log.new ≡ log.old) }
+        ensures disk { self.new.disk ≡ self.old.disk }
+        ensures given { self.new.given ≡ self.old.given }
+        ensures width { self.new.width ≡ self.old.width }
+    {
+        self.ledger.submit_into(log, command)
     }
 }

@@ -83,4 +83,4 @@ abbrev pub FailsWith : {D : Type 0} {s : StoppableGhosts D} {d : Ghosts D} → (
 FailsWith failures event run result =
     (before : ℕ) (done : List (Event Pick)) → FailsAsTold done run.replies.items before (failures run.life.keeper.disk)
     → MatchResult result (λ next. FailsAsTold (done ++ event ∷ []) next.replies.items before (failures next.life.keeper.disk))
-        (λ ended. (rest : List (Event Pick)) → EndsAsTold ((done ++ event ∷ []) ++ rest) ended.replies.items ended.ended before (failures ended.disk))
+    (λ ended. (rest : List (Event Pick)) → EndsAsTold ((done ++ event ∷ []) ++ rest) ended.replies.items ended.ended before (failures ended.disk))

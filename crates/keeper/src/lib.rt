@@ -28,6 +28,8 @@ pub use rehearsing::{Rehearsal, rehearse};
 pub use tasks::Task;
 
 #[cfg(test)]
+mod ledger_tests;
+#[cfg(test)]
 mod rehearsing_tests;
 #[cfg(test)]
 mod tests;

@@ -14,9 +14,9 @@ use std::test::Fail;
 use std::thread::Threads;
 use store::{Part, Store, create, open};
 
-const CLOSE: Command = Command::Close { arc: 7 };
+pub(crate) const CLOSE: Command = Command::Close { arc: 7 };
 
-const OPEN: Command = Command::Reopen { arc: 7 };
+pub(crate) const OPEN: Command = Command::Reopen { arc: 7 };
 
 // It leaves the network as it is.
 const SAME: Command = Command::Set { arc: 1, length: 17 };
@@ -80,7 +80,7 @@ fn network(alloc: Global, nodes: u32, table: &[(u32, u32, u32)]) -> Result<Netwo
 }
 
 // The network of the worked rows: six nodes and eight arcs.
-fn six(alloc: Global) -> Result<Network, Refusal> {
+pub(crate) fn six(alloc: Global) -> Result<Network, Refusal> {
     let table = [
         (1, 2, 17),
         (1, 3, 10),

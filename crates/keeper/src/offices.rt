@@ -87,11 +87,7 @@ impl<D: Disk> Keeper<D> {
     /// Accepts the command as `submit` does, once it is written into the desk's history: both get it, or neither.
     ///
     /// Refused as `submit` is; and, after these, where the history was closed (61).
-    pub fn submit_into(
-        &mut self,
-        log: &mut History,
-        command: Command,
-    ) -> Result<Ticket, Refusal>
+    pub fn submit_into(&mut self, log: &mut History, command: Command) -> Result<Ticket, Refusal>
         ensures accepted { IfOk result (λ ticket. Submits self.old.machine command (Ok ticket) self.new.machine) }
         ensures refused { IfErr result (λ refusal. refusal ≢ closed → Submits self.old.machine command (Err refusal) self.new.machine) }
         ensures same { OnErr result (self.new ≡ self.old) }
@@ -105,12 +101,7 @@ impl<D: Disk> Keeper<D> {
             return Err(refusal);
         }
         let number = self.opened + self.history.len() as u64 + 1;
-        match accept_into(
-            log,
-            &mut self.history,
-            &mut self.network,
-            command,
-        ) {
+        match accept_into(log, &mut self.history, &mut self.network, command) {
             Ok(()) => Ok(Ticket { number, command }),
             Err(refusal) => Err(refusal),
         }

@@ -1,37 +1,18 @@
 -- Beginnings of a closed history that have all that was acknowledged and shown.
-use Rattle.std.proofs.Common.{◌≡◌, ◌⊎◌, ⊎_elim, ℕ, zero, suc, ◌+◌, ◌-◌, ◌<◌, ◌≤◌, List, [], ◌∷◌, ◌++◌, length, take, Some, refl, ap, sym, ◌∙◌, subst, arith}
+use Rattle.std.proofs.Common.{◌≡◌, ◌⊎◌, ⊎_elim, ℕ, zero, suc, ◌+◌, ◌-◌, ◌≤◌, List, [], ◌∷◌, length, take, refl, ap, sym, ◌∙◌, subst, arith}
 use Rattle.std.proofs.lemmas.List.{length-take-le}
-use Rattle.std.specs.Prelude.{slice_get}
 use mathlib.Core.List.{IsPrefix}
 use Rattle.roadnet.specs.declared.commands.Command.{Command}
-use Rattle.roadnet.specs.Net.{Net, nth}
+use Rattle.roadnet.specs.Net.{Net}
 use Rattle.roadnet.specs.Step.{after}
 use Rattle.storefile.specs.StoreFile.{StandsTidyFor}
 use Rattle.history.specs.Origins.{Origin, Beginning}
 use Rattle.history.proofs.Beginnings.{take_prefix, prefix_whole}
-use Rattle.machine.specs.declared.calls.Ticket.{Ticket}
-use Rattle.machine.specs.Machine.{Machine, IsState, latest, commands_to}
-use Rattle.machine.specs.Laws.{IsAt}
+use Rattle.machine.specs.Machine.{Machine, IsState, latest}
 use Rattle.published.specs.Showing.{Showing}
 use Rattle.keeper.specs.Keeping.{IsDurableIn}
 use Rattle.office.specs.Offices.{IsOffice}
-use Rattle.office.specs.Left.{KeepsSeen, KeepsDesk}
-
-got_left : {X : Type 0} (xs ys : List X) (j : ℕ) → j < length xs → slice_get (xs ++ ys) j ≡ slice_get xs j
-got_left [] ys j lt = absurd (omega arith)
-got_left (x ∷ xs) ys zero lt = refl
-got_left (x ∷ xs) ys (suc j) lt = got_left xs ys j (omega arith)
-
-nth_left : {X : Type 0} (xs ys : List X) (j : ℕ) → j ≤ length xs → nth (xs ++ ys) j ≡ nth xs j
-nth_left xs ys zero le = refl
-nth_left xs ys (suc j) le = got_left xs ys j (omega arith)
-
--- a number within a beginning has the same command there
-pub at_fewer : (version : ℕ) (xs ys : List Command) (ticket : Ticket) → IsPrefix xs ys → ticket.number ≤ version + length xs → IsAt version ys ticket → IsAt version xs ticket
-at_fewer version xs ys ticket p le h =
-    let j = ticket.number - version in
-    let there : nth (xs ++ p.0) j ≡ Some ticket.command = ap (λ (l : List Command). nth l j) p.1 ∙ h.1 in
-    (h.0, sym (nth_left xs p.0 j (omega (arith, le, h.0))) ∙ there)
+use Rattle.office.specs.Left.{KeepsDesk}
 
 -- of two beginnings by number the shorter begins the longer
 pub take_longer : {A : Type 0} (i j : ℕ) (xs : List A) → i ≤ j → IsPrefix (take i xs) (take j xs)

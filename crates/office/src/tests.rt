@@ -48,10 +48,7 @@ fn view_of(alloc: Global, task: &Task) -> Result<Arc<View>, Refusal> {
 }
 
 /// A receipt for a ticket whose command a flush makes durable.
-fn settle<N: Naming>(
-    office: &mut Office<N, MemDisk>,
-    ticket: Claim,
-) -> Result<Settled, Refusal>
+fn settle<N: Naming>(office: &mut Office<N, MemDisk>, ticket: Claim) -> Result<Settled, Refusal>
     requires { ticket.origin ≡ N.origin }
     ensures { IfOk result (λ receipt. receipt ≡ ticket) }
 {

@@ -1,6 +1,5 @@
 use Rattle.std.proofs.Common.{rules, ◌≡◌, [], ap, sym, ◌∙◌}
 use Rattle.machine.specs.Machine.{Machine}
-use Rattle.published.specs.Showing.{Showing}
 use Rattle.office.proofs.Agreed.{office_begins}
 use Rattle.office.proofs.offices.Office.new.Goals as goal
 

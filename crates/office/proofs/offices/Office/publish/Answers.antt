@@ -15,6 +15,6 @@ switch-requires-clause-begins g c =
     let same : c.version.result ≡ viewed.version = c.version.ensures ∙ ap (λ (x : Viewed). x.version) (c.deref-2.ensures ∙ sym c.deref.ensures) in
     let next : c.new-next.result.shown.commands ≡ take (viewed.version - m.base_version) commands =
     ap (λ (x : Showing). x.shown.commands) c.new-next.ensures ∙ (ap (λ (b : Beginning). b.commands) c.front.ensures
-        ∙ (ap (λ (v : ℕ). take (v - c.opened.result) commands) same ∙ ap (λ (v : ℕ). take (viewed.version - v) commands) c.opened.ensures.version)) in
+    ∙ (ap (λ (v : ℕ). take (v - c.opened.result) commands) same ∙ ap (λ (v : ℕ). take (viewed.version - v) commands) c.opened.ensures.version)) in
     subst (λ (l : List Command). IsPrefix c.self.inside.publisher.shown.commands l) (sym next)
     (task_begins _ _ _ _ _ c.self.invariant.0 c.opened.ensures.state viewed.version viewed.network c.in_default.ensures)

@@ -3,11 +3,10 @@ use Rattle.std.specs.Prelude.{◌≡◌, ℕ, ◌+◌, ◌<◌, ◌≤◌, ◌^�
 use Rattle.pages.specs.declared.header.Header.{Header}
 use Rattle.storefile.specs.StoreFile.{is_standing}
 
--- how many pages the journal has and the number of the first, the sequence from which on its pages are unchecked, and that of the
+-- how many pages the journal has, the sequence from which on its pages are unchecked, and that of the
 -- page that is written next
 pub record Places : Type 0 where
   pub journal_pages : ℕ
-  pub start : ℕ
   pub first_unchecked : ℕ
   pub next_sequence : ℕ
 

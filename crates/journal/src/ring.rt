@@ -1,9 +1,9 @@
-ghost use Rattle.std.specs.Prelude.{◌≡◌, ◌+◌, ◌-◌, ◌*◌, ◌<◌, ◌≤◌, ◌^◌, ◌↔◌, ℕ, length, IfOk, OnOk};
+ghost use Rattle.std.specs.Prelude.{◌≡◌, ◌+◌, ◌-◌, ◌*◌, ◌<◌, ◌≤◌, ◌↔◌, length, IfOk};
 ghost use Rattle.disk.specs.Contents.{failures_after};
 ghost use Rattle.disk.specs.Moments.{StaysSame};
 ghost use Rattle.pages.specs.Spelling.{IsHeader};
-ghost use Rattle.pages.specs.Layout.{journal_start, page_count, place_of};
-ghost use Rattle.storefile.specs.StoreFile.{page, is_standing, journal_page_at};
+ghost use Rattle.pages.specs.Layout.{page_count};
+ghost use Rattle.storefile.specs.StoreFile.{page, is_standing};
 ghost use Rattle.journal.specs.Places.{IsLongest};
 ghost use Rattle.pages.specs.Limits.{most_versions};
 
@@ -16,7 +16,6 @@ use std::marker::Model;
 #[derive(Debug, Drop)]
 pub struct Ring {
     journal_pages: u32,
-    start: u64,
     first_unchecked: u64,
     next_sequence: u64,
 }
@@ -26,9 +25,9 @@ impl Model for Ring {
 
     ghost Value = { Places };
 
-    ghost view = { λ r. record { journal_pages = r.journal_pages; start = r.start; first_unchecked = r.first_unchecked; next_sequence = r.next_sequence } };
+    ghost view = { λ r. record { journal_pages = r.journal_pages; first_unchecked = r.first_unchecked; next_sequence = r.next_sequence } };
 
-    ghost invariant = { λ r. ArePlaces (record { journal_pages = r.journal_pages; start = r.start; first_unchecked = r.first_unchecked; next_sequence = r.next_sequence }) };
+    ghost invariant = { λ r. ArePlaces (record { journal_pages = r.journal_pages; first_unchecked = r.first_unchecked; next_sequence = r.next_sequence }) };
 }
 
 // Whether the page at the place of this sequence is open and has it.
@@ -57,7 +56,6 @@ impl Ring {
         ensures first { IfOk result (λ ring. ring.first_unchecked ≡ from) }
         ensures order { IfOk result (λ ring. from ≤ ring.next_sequence) }
         ensures journal_pages { IfOk result (λ ring. ring.journal_pages ≡ header.now.journal_pages) }
-        ensures start { IfOk result (λ ring. ring.start ≡ journal_start header.now) }
         ensures same { D.honest disk.old → StaysSame D.content D.left D.moment D.left_since disk.old disk.new }
         ensures counted { D.failures disk.new ≡ failures_after result (D.failures disk.old) }
         ensures honest { D.honest disk.new ↔ D.honest disk.old }
@@ -75,11 +73,10 @@ impl Ring {
         requires header { IsHeader header.now }
         requires from { from ≤ most_versions }
         requires few { count ≤ header.now.journal_pages }
-        ensures { result ≡ record { journal_pages = header.now.journal_pages; start = journal_start header.now; first_unchecked = from; next_sequence = from + count } }
+        ensures { result ≡ record { journal_pages = header.now.journal_pages; first_unchecked = from; next_sequence = from + count } }
     {
         Ring {
             journal_pages: header.journal_pages,
-            start: header.journal_start(),
             first_unchecked: from,
             next_sequence: from + u64::from(count),
         }

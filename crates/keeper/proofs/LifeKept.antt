@@ -1,6 +1,6 @@
 -- What each call does to a life of a rehearsal.
 use Rattle.std.proofs.Common.{◌≡◌, ⊎_elim, ℕ, ◌-◌, ◌≤◌, Bool, true, false, cond, eqb, take, Option, Some, None, Result, Ok, Err, refl, sym, ◌∙◌, ap, subst, arith, eq-eqb}
-use Rattle.std.specs.Prelude.{IfSome, MatchResult, OnOk, OnErr, is_some, ◌||◌, ◌==◌, nat_lt}
+use Rattle.std.specs.Prelude.{IfSome, OnOk, OnErr, is_some, ◌||◌, ◌==◌, nat_lt}
 use Rattle.std.proofs.lemmas.List.{take-take}
 use Rattle.roadnet.specs.declared.commands.Command.{Command}
 use Rattle.roadnet.specs.declared.refusals.Refusal.{Refusal}
@@ -12,8 +12,6 @@ use Rattle.machine.specs.Calls.{Submits, StepsCheckpoint, TakesTask, RefusesView
 use Rattle.machine.specs.declared.events.Writing.TheVariants.{Checkpoint as a_checkpoint}
 use Rattle.machine.specs.Lives.{Writes}
 use Rattle.machine.specs.Runs.Happened.{Submitted, Checkpointed}
-use Rattle.store.specs.declared.parts.Part.{Part}
-use Rattle.keeper.specs.Parts.{done_version, told_as}
 use Rattle.machine.specs.Laws.{IsLater}
 use Rattle.machine.proofs.Checkpoints.{IsBut, but_step, but_checkpoint, state_checkpoint}
 use Rattle.machine.proofs.Kept.{states_kept}
@@ -66,12 +64,6 @@ accepted_by_part m pages = go (has_nothing_unchecked m) (nat_lt pages (checkpoin
     go true b = refl
     go false true = refl
     go false false = refl
-
--- what a step answered, as the machine has it
-pub step_told : (old new : Machine) (pages : ℕ) (r : Result Part Refusal) → MatchResult r (λ part. StepsCheckpoint old pages (Ok (done_version part)) new) (λ refusal. StepsCheckpoint old pages (Err refusal) new)
-    → StepsCheckpoint old pages (told_as r) new
-step_told old new pages (Ok part) step = step
-step_told old new pages (Err refusal) step = step
 
 pub life_step : (old new : Machine) (opened : ℕ) (aside : Option (ℕ × Net)) (pages : ℕ) (result : Result (Option ℕ) Refusal) → StepsCheckpoint old pages result new → IsLife old opened aside → IsLife new opened aside
 life_step old new opened aside pages result step k = life_but old new opened aside (but_step old new pages result step) (states_kept old new (Checkpointed pages result) k.state step) k

@@ -29,10 +29,6 @@ use Rattle.keeper.specs.Rehearsing.{is_stop, within_of, First, HasRun, HasLived,
 use Rattle.keeper.proofs.LivesInRun.{Later, later_none, does_later, does_in, writes_in}
 use Rattle.keeper.proofs.Stopped.{opens_in, there_after, begun_after, sizes_after, slot_after}
 
--- the store that a run begins with
-abbrev pub first_of : {D : Type 0} → StoreState D → First
-first_of store = record { sizes = sizes_of store; network = store.network; version = store.version; unchecked = store.unchecked }
-
 -- what was told of a write before the stop's own reply
 pub record Told (old mid : Machine) (w : Writing) (replies replies' : List Replied) : Type 0 where
   pub told : List Replied

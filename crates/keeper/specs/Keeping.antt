@@ -4,9 +4,10 @@ use Rattle.roadnet.specs.declared.commands.Command.{Command}
 use Rattle.roadnet.specs.Net.{Net}
 use Rattle.disk.specs.Contents.{Only}
 use Rattle.storefile.specs.StoreFile.{StandsTidyFor}
-use Rattle.store.specs.State.{StoreState}
+use Rattle.store.specs.State.{StoreState, CameTidy}
 use Rattle.store.specs.Going.{Progress}
-use Rattle.machine.specs.Machine.{Sizes, Checkpoint, Machine}
+use Rattle.machine.specs.Machine.{Sizes, Checkpoint, Machine, batch}
+use Rattle.machine.specs.Calls.{failed}
 use Rattle.machine.specs.Lives.{HoldsDurable}
 
 -- the sizes of a store
@@ -52,3 +53,11 @@ IsDurableIn m content = HoldsDurable (StandsTidyFor m.sizes.journal_pages) m con
 pub record Holds (content : List ℕ) (left : List ℕ → Type 0) (m : Machine) : Type 0 where
   pub only : m.broken ≡ false → Only content left
   pub each_left : (c : List ℕ) → left c → IsDurableIn m c
+
+-- Where the keeper's store came tidy, and no write had failed before, P.
+abbrev pub WhenSound : {D : Type 0} → (D → Type 0) → (D → List ℕ) → Keeping D → Type 0 → Type 0
+WhenSound honest content k P = CameTidy honest content k.given → k.machine.broken ≡ false → P
+
+-- the same of a content that a flush may leave: a flush that failed may have its commands in flight
+abbrev pub IsLeftByFlush : Machine → List ℕ → Type 0
+IsLeftByFlush m content = IsDurableIn (failed m (batch m)) content

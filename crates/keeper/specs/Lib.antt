@@ -2,3 +2,4 @@ pub mod Failures
 pub mod Keeping
 pub mod Parts
 pub mod Rehearsing
+pub mod Running

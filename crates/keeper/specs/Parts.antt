@@ -1,6 +1,8 @@
--- How far a checkpoint has come.
+-- What calls answered, as the machine has it.
 use Rattle.std.specs.Prelude.{ℕ, Option, None, Some, Result, Ok, Err}
+use Rattle.std.specs.Result.{result_map_both}
 use Rattle.roadnet.specs.declared.refusals.Refusal.{Refusal}
+use Rattle.roadnet.specs.declared.refusals.Refusal.TheVariants.{OutOfMemory}
 use Rattle.store.specs.declared.parts.Part.{Part}
 use Rattle.store.specs.declared.parts.Part.TheVariants.{Going, Done}
 
@@ -13,3 +15,15 @@ done_version (Done version) = Some version
 abbrev pub told_as : Result Part Refusal → Result (Option ℕ) Refusal
 told_as (Ok part) = Ok (done_version part)
 told_as (Err refusal) = Err refusal
+
+-- the answer of a call, taken so
+abbrev pub result_map : {T U E : Type 0} → (T → U) → Result T E → Result U E
+result_map f = result_map_both f (λ e. e)
+
+-- want of memory is a refusal
+abbrev pub or_out_of_memory : {T E : Type 0} → Result T E → Result T Refusal
+or_out_of_memory = result_map_both (λ x. x) (λ _. OutOfMemory)
+
+-- a refusal, without what is handed back
+abbrev pub refusal_alone : {T E : Type 0} → Result T (Refusal × E) → Result T Refusal
+refusal_alone = result_map_both (λ x. x) (λ refused. refused.0)

@@ -16,8 +16,8 @@ use Rattle.machine.specs.Machine.{Sizes, Machine, IsState, start, network_at}
 use Rattle.machine.specs.Calls.{IsLeft}
 use Rattle.machine.specs.LifeInRun.{within}
 use Rattle.machine.specs.Lives.{Turn, Passes, LivesOn}
-use Rattle.store.specs.State.{CameTidy}
-use Rattle.keeper.specs.Keeping.{Keeping, IsDurableIn}
+use Rattle.store.specs.State.{StoreState, CameTidy}
+use Rattle.keeper.specs.Keeping.{Keeping, IsDurableIn, sizes_of}
 
 -- an event with a stop
 abbrev pub is_stop : {P : Type 0} → Event P → Bool
@@ -48,6 +48,10 @@ pub record First : Type 0 where
   pub network : Net
   pub version : ℕ
   pub unchecked : ℕ
+
+-- what a run of this store begins with
+abbrev pub first_of : {D : Type 0} → StoreState D → First
+first_of store = record { sizes = sizes_of store; network = store.network; version = store.version; unchecked = store.unchecked }
 
 -- These events were replied to so. The lives before left these commands, and the life now has this machine.
 pub record HasRun {P : Type 0} (first : First) (events : List (Event P)) (replies : List Replied) (history : List Command) (m : Machine) : Type 0 where

@@ -1,8 +1,8 @@
 // Queries answered.
-ghost use Rattle.std.specs.Prelude.{◌≡◌, ℕ, Ok, Err, IsOk, MatchResult};
-ghost use Rattle.roadnet.specs.declared.refusals.Refusal.TheVariants.{OutOfMemory as out_of_memory};
+ghost use Rattle.std.specs.Prelude.{◌≡◌, ℕ, IsOk};
 ghost use Rattle.rows.specs.declared.queries.Query.TheVariants.{From, Lower};
 ghost use Rattle.machine.specs.Calls.{Asks};
+ghost use Rattle.keeper.specs.Parts.{or_out_of_memory};
 
 use crate::keepers::Keeper;
 use disk::Disk;
@@ -17,7 +17,7 @@ impl<D: Disk> Keeper<D> {
     ///
     /// The one error is want of memory for a row. A query from a landmark and one for a bound take none.
     pub fn ask<R: Threads>(&mut self, rt: &R, query: Query) -> Result<Answer, OutOfMemory>
-        ensures step { MatchResult result (λ answer. Asks self.old.machine query (Ok answer) self.new.machine) (λ _. Asks self.old.machine query (Err out_of_memory) self.new.machine) }
+        ensures step { Asks self.old.machine query (or_out_of_memory result) self.new.machine }
         ensures same { self.new ≡ self.old }
         ensures landmark { (l t : ℕ) → query ≡ From l t → IsOk result }
         ensures lower { (s t : ℕ) → query ≡ Lower s t → IsOk result }

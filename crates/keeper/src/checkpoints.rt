@@ -1,5 +1,5 @@
 // Checkpoints.
-ghost use Rattle.std.specs.Prelude.{◌≡◌, ◌≢◌, ◌*◌, ◌<◌, ◌≤◌, ◌↔◌, true, false, None, Ok, Err, IfErr, MatchResult};
+ghost use Rattle.std.specs.Prelude.{◌≡◌, ◌≢◌, ◌*◌, ◌<◌, ◌≤◌, ◌↔◌, true, None, IfErr};
 ghost use Rattle.disk.specs.Contents.{Rose};
 ghost use Rattle.pagereader.specs.Outcomes.{failures_told};
 ghost use Rattle.disk.specs.Moments.{LeavesOnly, AddsNothing};
@@ -9,8 +9,8 @@ ghost use Rattle.machine.specs.declared.events.Writing.TheVariants.{Checkpoint a
 ghost use Rattle.machine.specs.Machine.{IsState};
 ghost use Rattle.machine.specs.Calls.{StepsCheckpoint};
 ghost use Rattle.machine.specs.Lives.{Writes};
-ghost use Rattle.keeper.specs.Keeping.{Holds, IsDurableIn};
-ghost use Rattle.keeper.specs.Parts.{done_version};
+ghost use Rattle.keeper.specs.Keeping.{Holds, IsDurableIn, WhenSound};
+ghost use Rattle.keeper.specs.Parts.{told_as};
 
 use crate::keepers::{Keeper, has_failed};
 use disk::Disk;
@@ -32,7 +32,7 @@ impl<D: Disk> Keeper<D> {
     pub fn checkpoint_step(&mut self, pages: u32) -> Result<Part, Refusal>
         requires some { 1 ≤ pages }
         requires few { pages ≤ 64 }
-        ensures step { MatchResult result (λ part. StepsCheckpoint self.old.machine pages (Ok (done_version part)) self.new.machine) (λ refusal. StepsCheckpoint self.old.machine pages (Err refusal) self.new.machine) }
+        ensures step { StepsCheckpoint self.old.machine pages (told_as result) self.new.machine }
         ensures same { IfErr result (λ refusal. refusal ≢ device → self.new ≡ self.old) }
         ensures memory { IfErr result (λ refusal. refusal ≡ out_of_memory → self.old.machine.checkpoint ≡ None) }
         // The count of failures rises by one where 43 is told, and else not at all: none is passed over.
@@ -42,7 +42,7 @@ impl<D: Disk> Keeper<D> {
         ensures given { self.new.given ≡ self.old.given }
         ensures adds_nothing { self.old.machine.broken ≡ true → AddsNothing D.moment D.left_since self.old.disk self.new.disk }
         // A stop at any moment of the call leaves what stands for what is durable.
-        ensures any_moment { CameTidy D.honest D.content self.old.given → self.old.machine.broken ≡ false → LeavesOnly D.moment D.left_since self.old.disk self.new.disk (IsDurableIn self.old.machine) }
+        ensures any_moment { WhenSound D.honest D.content self.old (LeavesOnly D.moment D.left_since self.old.disk self.new.disk (IsDurableIn self.old.machine)) }
         ensures honest { D.honest self.new.disk ↔ D.honest self.old.disk }
     {
         if self.broken {
@@ -68,7 +68,7 @@ impl<D: Disk> Keeper<D> {
         ensures given { self.new.given ≡ self.old.given }
         ensures adds_nothing { self.old.machine.broken ≡ true → AddsNothing D.moment D.left_since self.old.disk self.new.disk }
         // A stop at any moment of the call leaves what stands for what is durable.
-        ensures any_moment { CameTidy D.honest D.content self.old.given → self.old.machine.broken ≡ false → LeavesOnly D.moment D.left_since self.old.disk self.new.disk (IsDurableIn self.old.machine) }
+        ensures any_moment { WhenSound D.honest D.content self.old (LeavesOnly D.moment D.left_since self.old.disk self.new.disk (IsDurableIn self.old.machine)) }
         ensures honest { D.honest self.new.disk ↔ D.honest self.old.disk }
     {
         for _ in 0..self.most_steps() {

@@ -1,13 +1,11 @@
 // Pending commands made durable.
-ghost use Rattle.std.specs.Prelude.{◌≡◌, ◌≢◌, ◌↔◌, true, false, None, Some, IfErr, MatchResult};
+ghost use Rattle.std.specs.Prelude.{◌≡◌, ◌≢◌, ◌↔◌, true, None, Some, IfErr, MatchResult};
 ghost use Rattle.disk.specs.Contents.{Rose};
 ghost use Rattle.pagereader.specs.Outcomes.{failures_told};
 ghost use Rattle.disk.specs.Moments.{LeavesOnly, AddsNothing};
 ghost use Rattle.roadnet.specs.declared.refusals.Refusal.TheVariants.{Device as device};
-ghost use Rattle.store.specs.State.{CameTidy};
-ghost use Rattle.machine.specs.Machine.{batch};
-ghost use Rattle.machine.specs.Calls.{Flushes, refusal_of_flush, failed};
-ghost use Rattle.keeper.specs.Keeping.{IsDurableIn};
+ghost use Rattle.machine.specs.Calls.{Flushes, refusal_of_flush};
+ghost use Rattle.keeper.specs.Keeping.{IsLeftByFlush, WhenSound};
 
 use crate::keepers::{Keeper, has_failed};
 use disk::Disk;
@@ -48,7 +46,7 @@ impl<D: Disk> Keeper<D> {
         ensures given { self.new.given ≡ self.old.given }
         ensures adds_nothing { self.old.machine.broken ≡ true → AddsNothing D.moment D.left_since self.old.disk self.new.disk }
         // A stop at any moment of the call leaves what a flush that failed leaves.
-        ensures any_moment { CameTidy D.honest D.content self.old.given → self.old.machine.broken ≡ false → LeavesOnly D.moment D.left_since self.old.disk self.new.disk (IsDurableIn (failed self.old.machine (batch self.old.machine))) }
+        ensures any_moment { WhenSound D.honest D.content self.old (LeavesOnly D.moment D.left_since self.old.disk self.new.disk (IsLeftByFlush self.old.machine)) }
         ensures honest { D.honest self.new.disk ↔ D.honest self.old.disk }
     {
         if let Err(refusal) = self.may_flush() {

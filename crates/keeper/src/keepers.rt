@@ -49,9 +49,11 @@ impl<D: Disk> Model for Keeper<D> {
       given = k.store.given;
     } };
 
-    ghost invariant = { λ k. IsKept (machine_of k.store k.base.value k.opened k.history.items k.shown.version k.broken k.written.value (option_map (λ t. t.version) k.task)) k.network k.store.network k.shown.network (option_map (λ t. (t.version, t.network.value)) k.task)
+    ghost invariant = { λ k.
+        let m = machine_of k.store k.base.value k.opened k.history.items k.shown.version k.broken k.written.value (option_map (λ t. t.version) k.task) in
+        IsKept m k.network k.store.network k.shown.network (option_map (λ t. (t.version, t.network.value)) k.task)
         × (k.broken ≡ k.store.broken)
-        × (CameTidy D.honest D.content k.store.given → D.honest k.store.disk × Holds (D.content k.store.disk) (D.left k.store.disk) (machine_of k.store k.base.value k.opened k.history.items k.shown.version k.broken k.written.value (option_map (λ t. t.version) k.task))) };
+        × (CameTidy D.honest D.content k.store.given → D.honest k.store.disk × Holds (D.content k.store.disk) (D.left k.store.disk) m) };
 }
 
 /// Whether the disk failed in a write that told this.

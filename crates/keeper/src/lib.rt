@@ -5,6 +5,7 @@
 mod asking;
 mod checkpoints;
 mod flushing;
+mod halted;
 mod keepers;
 mod lives;
 mod numbers;

@@ -1,5 +1,5 @@
 // One life of a keeper in a rehearsal: what each event of a script does in it.
-ghost use Rattle.std.specs.Prelude.{◌≡◌, ◌≤◌, ◌∷◌, [], false, true, None, Some, length, option_map, unwrap_or, ℕ, IfOk, IfErr, IfSome};
+ghost use Rattle.std.specs.Prelude.{◌≡◌, ◌≤◌, ◌∷◌, [], false, true, None, Some, length, option_map, unwrap_or, ℕ, IfOk, IfErr};
 ghost use Rattle.std.specs.Option.{ForSome};
 ghost use Rattle.std.proofs.Props.{props};
 ghost use Rattle.disk.specs.Stop.{armed_at};
@@ -10,7 +10,6 @@ ghost use Rattle.snapshot.specs.Groups.{default_width};
 ghost use Rattle.disk.specs.Contents.{Only};
 ghost use Rattle.store.specs.State.{CameTidy, HasRoom, HasSlotPages, IsDurable, is_calm};
 ghost use Rattle.machine.specs.declared.events.Event.TheVariants.{Submit, CheckpointStep, Task as TaskEvent, Publish, Ask};
-ghost use Rattle.machine.specs.declared.events.Replied.TheVariants.{Task as TaskOf};
 ghost use Rattle.machine.specs.Machine.{start};
 ghost use Rattle.machine.specs.Lives.{told_version, told_part, Writes, Does};
 ghost use Rattle.keeper.specs.Failures.{failures_of_write, failures_after};

@@ -1,26 +1,25 @@
 // A script's events over lives with stops.
-ghost use Rattle.std.specs.Prelude.{◌≡◌, ◌+◌, ◌<◌, ◌≤◌, ◌∷◌, ◌++◌, [], ℕ, true, false, List, Option, None, Some, Result, Err, length, take, option_map, ◌-◌, ◌⊎◌, ◌↔◌, IsTrue, IfOk, IfErr, OnOk, MatchResult};
+ghost use Rattle.std.specs.Prelude.{◌≡◌, ◌+◌, ◌<◌, ◌≤◌, ◌∷◌, ◌++◌, [], ℕ, true, false, List, Option, None, Some, Result, Err, length, take, ◌-◌, ◌↔◌, IsTrue, IfOk, IfErr, OnOk, MatchResult};
 ghost use Rattle.std.specs.Option.{ForSome};
 ghost use Rattle.std.specs.Vec.{vec_len, vec_capacity};
 ghost use Rattle.disk.specs.Contents.{Only, AreAmong};
-ghost use Rattle.disk.specs.Stop.{TakesPicks};
 ghost use Rattle.disk.specs.declared.stoppable.Pick.{Pick as StopPick};
 ghost use Rattle.disk.specs.declared.stoppable.Pick.TheVariants.{Old};
 ghost use Rattle.pagereader.specs.Outcomes.{failures_with};
 ghost use Rattle.rows.specs.Kept.{IsWidth};
 ghost use Rattle.roadnet.specs.declared.refusals.Refusal.TheVariants.{OutOfMemory as out_of_memory, Device as device};
-ghost use Rattle.storefile.specs.StoreFile.{StandsTidyFor};
 ghost use Rattle.store.specs.State.{CameTidy, is_calm};
 ghost use Rattle.store.specs.Opening.{IsPassing, StandsForSome};
 ghost use Rattle.machine.specs.declared.events.Event.{Event as ScriptEvent};
 ghost use Rattle.machine.specs.declared.events.Event.TheVariants.{Stop};
 ghost use Rattle.machine.specs.declared.events.Replied.TheVariants.{Opened, Stopped};
-ghost use Rattle.machine.specs.Machine.{Machine, IsState, commands_to};
-ghost use Rattle.machine.specs.Lives.{told_version, LivesOn};
-ghost use Rattle.keeper.specs.Failures.{failures_at_end, FailsAsTold, EndsAsTold};
-ghost use Rattle.keeper.specs.Keeping.{IsDurableIn, sizes_of};
-ghost use Rattle.keeper.specs.Rehearsing.{within_of, IsLife, HasSlotOfNetwork, First, IsGoing, HasLived, HasHalted, BeginsAfter};
+ghost use Rattle.machine.specs.Machine.{Machine};
+ghost use Rattle.machine.specs.Lives.{told_version};
+ghost use Rattle.keeper.specs.Failures.{EndsAsTold};
+ghost use Rattle.keeper.specs.Rehearsing.{within_of, BeginsAfter, first_of};
+ghost use Rattle.keeper.specs.Running.{Continues, LeavesDurable, HasLivedTo, IsCut, IsToldOrFailed, IsPassingEnd, OfEachLeft, OfEachHalted, HasHaltedSo, FailsAtEnd, GoesOnWith, EndsWith, FailsWith};
 
+use crate::halted::Halted;
 use crate::lives::{Life, told_version};
 use disk::{Disk, Pick, Stoppable};
 use machine::{Event, Replied, Writing};
@@ -59,22 +58,6 @@ struct Run<D: Stoppable> {
     life: Life<D>,
 }
 
-/// A run whose disk is stopped.
-#[derive(Drop)]
-struct Halted<D: Stoppable> {
-    history: Vec<Command>,
-    replies: Vec<Replied>,
-    /// The commands of the life that ended.
-    commands: Vec<Command>,
-    /// The version that it was opened at, and the one that was durable.
-    opened: u64,
-    durable: u64,
-    disk: D,
-    /// The width that was given, for the lives that follow.
-    delta: Option<u32>,
-    ghost width: { ForSome delta IsWidth },
-}
-
 /// Puts commands behind a history that has room for them.
 fn put_behind(history: &mut Vec<Command>, commands: &[Command])
     requires { vec_len history.old + length commands.now ≤ vec_capacity history.old }
@@ -90,8 +73,8 @@ fn stop_disk<D: Stoppable>(disk: &mut D, picks: &[Pick]) -> bool
     ensures honest { D.honest disk.old → D.honest disk.new }
     ensures failures { D.failures disk.new ≡ D.failures disk.old }
     ensures came { IsTrue result ↔ (D.armed disk.old ≡ Some 0) }
-    ensures picks { D.honest disk.old → 1 ≤ length picks.now → TakesPicks picks.now (D.synced disk.old) (D.is_unsynced disk.old) (D.content disk.old) (D.content disk.new) }
-    ensures no_picks { D.honest disk.old → picks.now ≡ [] → TakesPicks (Old ∷ []) (D.synced disk.old) (D.is_unsynced disk.old) (D.content disk.old) (D.content disk.new) }
+    ensures picks { D.honest disk.old → 1 ≤ length picks.now → IsCut D.synced D.is_unsynced D.content picks.now disk.old disk.new }
+    ensures no_picks { D.honest disk.old → picks.now ≡ [] → IsCut D.synced D.is_unsynced D.content (Old ∷ []) disk.old disk.new }
 {
     if picks.is_empty() {
         disk.stop(&[Pick::Old])
@@ -103,7 +86,7 @@ fn stop_disk<D: Stoppable>(disk: &mut D, picks: &[Pick]) -> bool
 /// Tells what a flush or a checkpoint answered, unless the stop came within it.
 fn tell_write(replies: &mut Vec<Replied>, came: bool, written: &Result<u64, Refusal>)
     requires { vec_len replies.old < vec_capacity replies.old }
-    ensures told { (replies.new.items ≡ replies.old.items ++ told_version written.now ∷ []) ⊎ ((written.now ≡ Err device) × (replies.new.items ≡ replies.old.items)) }
+    ensures told { IsToldOrFailed replies.old.items written.now replies.new.items }
     ensures behind { came ≡ false → replies.new.items ≡ replies.old.items ++ told_version written.now ∷ [] }
     ensures within { came ≡ true → written.now ≡ Err device → replies.new.items ≡ replies.old.items }
     ensures room { vec_len replies.new ≤ vec_len replies.old + 1 }
@@ -124,14 +107,14 @@ fn reopen<R: Threads, D: Stoppable>(
     delta: Option<u32>,
 ) -> Result<Life<D>, (Refusal, D)>
     requires width { ForSome delta IsWidth }
-    ensures begins { (m : Machine) → IsState m → HasSlotOfNetwork m → D.honest disk → IsDurableIn m (D.content disk) → IfOk result (λ life. BeginsAfter m life.keeper.machine) }
-    ensures came { (m : Machine) → IsState m → HasSlotOfNetwork m → D.honest disk → IsDurableIn m (D.content disk) → IfOk result (λ life. CameTidy D.honest D.content life.keeper.given) }
+    ensures begins { OfEachLeft D.honest D.content disk (λ m. IfOk result (λ life. BeginsAfter m life.keeper.machine)) }
+    ensures came { OfEachLeft D.honest D.content disk (λ _. IfOk result (λ life. CameTidy D.honest D.content life.keeper.given)) }
     ensures empty { IfOk result (λ life. life.keeper.machine.accepted ≡ []) }
     ensures delta { IfOk result (λ life. life.delta ≡ delta) }
     ensures passing { D.honest disk → ((c : List ℕ) → D.left disk c → StandsForSome c) → IfErr result (λ refused. IsPassing refused.0) }
     ensures among { D.honest disk → IfErr result (λ refused. AreAmong (D.left refused.1) (D.left disk)) }
     // The count of failures rises by one where 43 is told, and else not at all.
-    ensures counted { MatchResult result (λ life. D.failures life.keeper.disk ≡ D.failures disk) (λ refused. D.failures refused.1 ≡ failures_with refused.0 (D.failures disk)) }
+    ensures counted { MatchResult result (λ life. D.failures life.keeper.disk ≡ D.failures disk) (λ why. D.failures why.1 ≡ failures_with why.0 (D.failures disk)) }
 {
     let store = match open(alloc, disk) {
         Ok(store) => store,
@@ -150,14 +133,14 @@ impl<D: Stoppable> Halted<D> {
         requires durable { self.durable ≤ self.opened + vec_len self.commands }
         requires room { vec_len self.history + vec_len self.commands ≤ vec_capacity self.history }
         requires reply { vec_len self.replies < vec_capacity self.replies }
-        ensures begins { (m : Machine) → HasSlotOfNetwork m → D.honest self.disk → HasHalted m self.commands.items self.opened self.durable (D.content self.disk) (D.left self.disk) → IfOk result (λ run. BeginsAfter m run.life.keeper.machine) }
-        ensures history { (m : Machine) → HasSlotOfNetwork m → D.honest self.disk → HasHalted m self.commands.items self.opened self.durable (D.content self.disk) (D.left self.disk) → IfOk result (λ run. run.history.items ≡ self.history.items ++ commands_to m run.life.keeper.machine.base_version) }
-        ensures came { (m : Machine) → HasSlotOfNetwork m → D.honest self.disk → HasHalted m self.commands.items self.opened self.durable (D.content self.disk) (D.left self.disk) → IfOk result (λ run. CameTidy D.honest D.content run.life.keeper.given) }
+        ensures begins { OfEachHalted D.honest D.content D.left self (λ m. IfOk result (λ run. BeginsAfter m run.life.keeper.machine)) }
+        ensures history { OfEachHalted D.honest D.content D.left self (λ m. IfOk result (Continues m self.history.items)) }
+        ensures came { OfEachHalted D.honest D.content D.left self (λ _. IfOk result (λ run. CameTidy D.honest D.content run.life.keeper.given)) }
         ensures told { IfOk result (λ run. run.replies.items ≡ self.replies.items ++ Opened run.life.keeper.machine.base_version ∷ []) }
         ensures room { IfOk result (λ run. vec_len run.history + length run.life.keeper.machine.accepted ≤ vec_capacity run.history) }
-        ensures ended { (m : Machine) → D.honest self.disk → HasHalted m self.commands.items self.opened self.durable (D.content self.disk) (D.left self.disk) → IfErr result (λ ended. (ended.ended ≡ Some out_of_memory) ⊎ (ended.ended ≡ Some device)) }
-        ensures left { (m : Machine) → D.honest self.disk → HasHalted m self.commands.items self.opened self.durable (D.content self.disk) (D.left self.disk) → IfErr result (λ ended. (c : List ℕ) → D.left ended.disk c → IsDurableIn m c) }
-        ensures counted { MatchResult result (λ run. D.failures run.life.keeper.disk ≡ D.failures self.disk) (λ ended. D.failures ended.disk ≡ failures_at_end ended.ended (D.failures self.disk)) }
+        ensures ended { (m : Machine) → D.honest self.disk → HasHaltedSo D.content D.left m self → IfErr result (λ ended. IsPassingEnd ended.ended) }
+        ensures left { (m : Machine) → D.honest self.disk → HasHaltedSo D.content D.left m self → IfErr result (λ ended. LeavesDurable D.left ended.disk m) }
+        ensures counted { FailsAtEnd D.failures self.disk result }
         ensures delta { MatchResult result (λ run. run.life.delta ≡ self.delta) (λ ended. ended.delta ≡ self.delta) }
         ensures stopped { IfErr result (λ ended. ended.replies.items ≡ self.replies.items ++ Stopped ∷ []) }
         ensures durable { IfErr result (λ ended. ended.history.items ≡ self.history.items ++ take (self.durable - self.opened) self.commands.items) }
@@ -228,11 +211,11 @@ impl<D: Stoppable> Run<D> {
         ensures opened { result.0.opened ≡ self.life.keeper.machine.base_version }
         ensures durable { result.0.durable ≡ self.life.keeper.machine.durable }
         ensures delta { result.0.delta ≡ self.life.delta }
-        ensures halted { CameTidy D.honest D.content self.life.keeper.given → HasHalted self.life.keeper.machine result.0.commands.items result.0.opened result.0.durable (D.content result.0.disk) (D.left result.0.disk) }
+        ensures halted { CameTidy D.honest D.content self.life.keeper.given → HasHaltedSo D.content D.left self.life.keeper.machine result.0 }
         ensures honest { CameTidy D.honest D.content self.life.keeper.given → D.honest result.0.disk }
         ensures failures { D.failures result.0.disk ≡ D.failures self.life.keeper.disk }
         ensures came { IsTrue result.1 ↔ (D.armed self.life.keeper.disk ≡ Some 0) }
-        ensures picks { D.honest self.life.keeper.disk → 1 ≤ length picks.now → TakesPicks picks.now (D.synced self.life.keeper.disk) (D.is_unsynced self.life.keeper.disk) (D.content self.life.keeper.disk) (D.content result.0.disk) }
+        ensures picks { D.honest self.life.keeper.disk → 1 ≤ length picks.now → IsCut D.synced D.is_unsynced D.content picks.now self.life.keeper.disk result.0.disk }
     {
         let Run {
             history,
@@ -267,11 +250,11 @@ impl<D: Stoppable> Run<D> {
         ensures room { IfOk result (λ run. vec_len run.history + length run.life.keeper.machine.accepted ≤ vec_capacity run.history) }
         ensures delta { MatchResult result (λ run. run.life.delta ≡ self.life.delta) (λ ended. ended.delta ≡ self.life.delta) }
         // It has run this event too.
-        ensures goes { (first : First) (done : List (ScriptEvent StopPick)) → IsGoing D.honest D.content first done self.replies.items self.history.items self.life.keeper → IfOk result (λ run. IsGoing D.honest D.content first (done ++ Stop ∷ []) run.replies.items run.history.items run.life.keeper) }
+        ensures goes { GoesOnWith D.honest D.content Stop self result }
         // It has ended with the event.
-        ensures ends { (first : First) (done : List (ScriptEvent StopPick)) → IsGoing D.honest D.content first done self.replies.items self.history.items self.life.keeper → (rest : List (ScriptEvent StopPick)) → IfErr result (λ ended. HasLived (D.left ended.disk) first ((done ++ Stop ∷ []) ++ rest) ended.replies.items ended.ended ended.history.items) }
+        ensures ends { EndsWith D.honest D.content D.left Stop self result }
         // The disk failed as the replies tell.
-        ensures counted { (before : ℕ) (done : List (ScriptEvent StopPick)) → FailsAsTold done self.replies.items before (D.failures self.life.keeper.disk) → MatchResult result (λ run. FailsAsTold (done ++ Stop ∷ []) run.replies.items before (D.failures run.life.keeper.disk)) (λ ended. (rest : List (ScriptEvent StopPick)) → EndsAsTold ((done ++ Stop ∷ []) ++ rest) ended.replies.items ended.ended before (D.failures ended.disk)) }
+        ensures counted { FailsWith D.failures Stop self result }
     {
         let (halted, _) = self.halt(&[Pick::Old]);
         halted.resume(rt, alloc)
@@ -291,11 +274,11 @@ impl<D: Stoppable> Run<D> {
         ensures room { IfOk result (λ run. vec_len run.history + length run.life.keeper.machine.accepted ≤ vec_capacity run.history) }
         ensures delta { MatchResult result (λ run. run.life.delta ≡ self.life.delta) (λ ended. ended.delta ≡ self.life.delta) }
         // It has run this event too.
-        ensures goes { (first : First) (done : List (ScriptEvent StopPick)) → IsGoing D.honest D.content first done self.replies.items self.history.items self.life.keeper → (event : ScriptEvent StopPick) → within_of event ≡ Some writing → IfOk result (λ run. IsGoing D.honest D.content first (done ++ event ∷ []) run.replies.items run.history.items run.life.keeper) }
+        ensures goes { (event : ScriptEvent StopPick) → within_of event ≡ Some writing → GoesOnWith D.honest D.content event self result }
         // It has ended with the event.
-        ensures ends { (first : First) (done : List (ScriptEvent StopPick)) → IsGoing D.honest D.content first done self.replies.items self.history.items self.life.keeper → (event : ScriptEvent StopPick) → within_of event ≡ Some writing → (rest : List (ScriptEvent StopPick)) → IfErr result (λ ended. HasLived (D.left ended.disk) first ((done ++ event ∷ []) ++ rest) ended.replies.items ended.ended ended.history.items) }
+        ensures ends { (event : ScriptEvent StopPick) → within_of event ≡ Some writing → EndsWith D.honest D.content D.left event self result }
         // The disk failed as the replies tell.
-        ensures counted { (before : ℕ) (done : List (ScriptEvent StopPick)) → (event : ScriptEvent StopPick) → within_of event ≡ Some writing → FailsAsTold done self.replies.items before (D.failures self.life.keeper.disk) → MatchResult result (λ run. FailsAsTold (done ++ event ∷ []) run.replies.items before (D.failures run.life.keeper.disk)) (λ ended. (rest : List (ScriptEvent StopPick)) → EndsAsTold ((done ++ event ∷ []) ++ rest) ended.replies.items ended.ended before (D.failures ended.disk)) }
+        ensures counted { (event : ScriptEvent StopPick) → within_of event ≡ Some writing → FailsWith D.failures event self result }
     {
         let mut run = self;
         run.life.arm(call);
@@ -317,11 +300,11 @@ impl<D: Stoppable> Run<D> {
         ensures room { IfOk result (λ run. vec_len run.history + length run.life.keeper.machine.accepted ≤ vec_capacity run.history) }
         ensures delta { MatchResult result (λ run. run.life.delta ≡ self.life.delta) (λ ended. ended.delta ≡ self.life.delta) }
         // It has run this event too.
-        ensures goes { (first : First) (done : List (ScriptEvent StopPick)) → IsGoing D.honest D.content first done self.replies.items self.history.items self.life.keeper → IfOk result (λ run. IsGoing D.honest D.content first (done ++ event.now ∷ []) run.replies.items run.history.items run.life.keeper) }
+        ensures goes { GoesOnWith D.honest D.content event.now self result }
         // It has ended with the event.
-        ensures ends { (first : First) (done : List (ScriptEvent StopPick)) → IsGoing D.honest D.content first done self.replies.items self.history.items self.life.keeper → (rest : List (ScriptEvent StopPick)) → IfErr result (λ ended. HasLived (D.left ended.disk) first ((done ++ event.now ∷ []) ++ rest) ended.replies.items ended.ended ended.history.items) }
+        ensures ends { EndsWith D.honest D.content D.left event.now self result }
         // The disk failed as the replies tell.
-        ensures counted { (before : ℕ) (done : List (ScriptEvent StopPick)) → FailsAsTold done self.replies.items before (D.failures self.life.keeper.disk) → MatchResult result (λ run. FailsAsTold (done ++ event.now ∷ []) run.replies.items before (D.failures run.life.keeper.disk)) (λ ended. (rest : List (ScriptEvent StopPick)) → EndsAsTold ((done ++ event.now ∷ []) ++ rest) ended.replies.items ended.ended before (D.failures ended.disk)) }
+        ensures counted { FailsWith D.failures event.now self result }
     {
         match event {
             Event::Stop => self.stop(rt, alloc),
@@ -346,7 +329,7 @@ impl<D: Stoppable> Run<D> {
         ensures replies { result.replies ≡ self.replies }
         ensures ended { result.ended ≡ ended }
         ensures disk { result.disk ≡ self.life.keeper.disk }
-        ensures left { CameTidy D.honest D.content self.life.keeper.given → (c : List ℕ) → D.left self.life.keeper.disk c → IsDurableIn self.life.keeper.machine c }
+        ensures left { CameTidy D.honest D.content self.life.keeper.given → LeavesDurable D.left self.life.keeper.disk self.life.keeper.machine }
         ensures delta { result.delta ≡ self.life.delta }
     {
         let Run {
@@ -384,7 +367,7 @@ pub fn rehearse<R: Threads, D: Stoppable>(
     requires calm { is_calm store ≡ true }
     requires width { ForSome delta IsWidth }
     // The run is one of the lives of the store's network and version, and a stop now leaves of the disk what its last state says.
-    ensures lives { CameTidy D.honest D.content store.given → LivesOn (StandsTidyFor store.journal_pages) (D.left result.disk) (sizes_of store) store.network store.version store.unchecked events.now result.replies.items result.ended result.history.items }
+    ensures lives { CameTidy D.honest D.content store.given → HasLivedTo D.left (first_of store) events.now result }
     // A given width is that of each view.
     ensures width { result.delta ≡ delta }
     // Over any disk its count of failures rises by one for each failure that the replies tell, with 43 or by a stop that came within an event,

@@ -1,6 +1,6 @@
 // Views that are wanted: tasks handed out and given up, and the views of them shown.
-ghost use Rattle.std.specs.Prelude.{◌≡◌, Ok, Err, None, IfOk, IfErr, OnOk, OnErr, MatchResult, option_map};
-ghost use Rattle.roadnet.specs.declared.refusals.Refusal.TheVariants.{OutOfMemory as out_of_memory};
+ghost use Rattle.std.specs.Prelude.{◌≡◌, None, IfOk, IfErr, OnOk, OnErr, MatchResult, option_map};
+ghost use Rattle.keeper.specs.Parts.{or_out_of_memory, refusal_alone, result_map};
 ghost use Rattle.machine.specs.Calls.{TakesTask, without_task, IsTask, RefusesView, Publishes};
 
 use crate::keepers::Keeper;
@@ -48,7 +48,7 @@ impl<D: Disk> Keeper<D> {
     ///
     /// The one error is want of memory, and then nothing has changed. The network is copied once.
     pub fn take_task(&mut self) -> Result<Option<Task>, OutOfMemory>
-        ensures step { MatchResult result (λ task. TakesTask self.old.machine (Ok (option_map (λ t. (t.version, t.network.value)) task)) self.new.machine) (λ _. TakesTask self.old.machine (Err out_of_memory) self.new.machine) }
+        ensures step { TakesTask self.old.machine (or_out_of_memory (result_map (option_map (λ t. (t.version, t.network.value))) result)) self.new.machine }
         ensures disk { self.new.disk ≡ self.old.disk }
         ensures given { self.new.given ≡ self.old.given }
         ensures width { self.new.width ≡ self.old.width }
@@ -100,7 +100,7 @@ impl<D: Disk> Keeper<D> {
     ///
     /// Refused, as `may_publish` tells, the view is handed back and nothing has changed. It takes no memory.
     pub fn publish(&mut self, view: Arc<View>) -> Result<u64, (Refusal, Arc<View>)>
-        ensures step { MatchResult result (λ shown. Publishes self.old.machine view.value.version view.value.network (Ok shown) self.new.machine) (λ refused. Publishes self.old.machine view.value.version view.value.network (Err refused.0) self.new.machine) }
+        ensures step { Publishes self.old.machine view.value.version view.value.network (refusal_alone result) self.new.machine }
         ensures handed_back { IfErr result (λ refused. refused.1 ≡ view) }
         ensures disk { self.new.disk ≡ self.old.disk }
         ensures given { self.new.given ≡ self.old.given }

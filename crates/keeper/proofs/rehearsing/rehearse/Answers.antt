@@ -8,9 +8,9 @@ use Rattle.machine.specs.Machine.{Machine, start}
 use Rattle.machine.proofs.Kept.{started}
 use Rattle.keeper.specs.declared.lives.Life.{Life}
 use Rattle.keeper.specs.Keeping.{IsDurableIn}
-use Rattle.keeper.specs.Rehearsing.{First, IsGoing, HasRun}
+use Rattle.keeper.specs.Rehearsing.{First, first_of, IsGoing, HasRun}
 use Rattle.keeper.proofs.Failing.{fails_none, fails_as, ends_told, ends_as}
-use Rattle.keeper.proofs.Runs.{first_of, run_as, lives_of, held_at_start, run_none, run_no_memory, run_whole}
+use Rattle.keeper.proofs.Runs.{run_as, lives_of, held_at_start, run_none, run_no_memory, run_whole}
 use Rattle.keeper.proofs.rehearsing.rehearse.Goals as goal
 
 pub returns-in-Err-clause-lives : goal.returns-in-Err-clause-lives

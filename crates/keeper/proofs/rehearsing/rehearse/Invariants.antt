@@ -4,8 +4,7 @@ use Rattle.std.specs.Vec.{vec_len, vec_capacity}
 use Rattle.disk.specs.declared.stoppable.Pick.{Pick}
 use Rattle.store.specs.State.{CameTidy}
 use Rattle.keeper.specs.Failures.{FailsAsTold}
-use Rattle.keeper.specs.Rehearsing.{IsGoing}
-use Rattle.keeper.proofs.Runs.{first_of}
+use Rattle.keeper.specs.Rehearsing.{first_of, IsGoing}
 use Rattle.keeper.proofs.rehearsing.rehearse.Given as goal
 
 abbrev pub invariant-loop-event : goal.invariant-loop-event

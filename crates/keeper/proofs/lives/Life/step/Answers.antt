@@ -4,7 +4,7 @@ use Rattle.machine.specs.declared.events.Replied.{Replied}
 use Rattle.machine.specs.Calls.{StepsCheckpoint}
 use Rattle.keeper.specs.Parts.{told_as}
 use Rattle.keeper.proofs.Failing.{told_by_part}
-use Rattle.keeper.proofs.LifeKept.{step_told, life_step}
+use Rattle.keeper.proofs.LifeKept.{life_step}
 use Rattle.keeper.proofs.lives.Life.step.Goals as goal
 
 pub returns-clause-does : goal.returns-clause-does
@@ -12,7 +12,7 @@ returns-clause-does g c =
     let old = c.args.self.now.keeper.machine in
     let new = c.checkpoint_step.new.self.machine in
     let alone : Replied → List Replied = λ r. r ∷ [] in
-    let step = step_told old new c.number.result c.checkpoint_step.result c.checkpoint_step.ensures.step in
+    let step = c.checkpoint_step.ensures.step in
     (told_as c.checkpoint_step.result, subst (λ (n : ℕ). StepsCheckpoint old n (told_as c.checkpoint_step.result) new) c.number.ensures.is step, ap alone c.told_part.ensures)
 
 pub invariant_of-self-clause-living : goal.invariant_of-self-clause-living
@@ -20,7 +20,7 @@ invariant_of-self-clause-living g c =
     let old = c.args.self.now.keeper.machine in
     let new = c.checkpoint_step.new.self.machine in
     life_step old new c.args.self.now.opened (option_map (λ view. (view.value.version, view.value.network)) c.args.self.now.aside) c.number.result (told_as c.checkpoint_step.result)
-    (step_told old new c.number.result c.checkpoint_step.result c.checkpoint_step.ensures.step) c.args.self.now.living
+    c.checkpoint_step.ensures.step c.args.self.now.living
 
 pub returns-clause-counted : goal.returns-clause-counted
 returns-clause-counted g c = c.checkpoint_step.ensures.counted ∙ told_by_part c.checkpoint_step.result c.told_part.result (g.D.Disk.failures c.args.self.now.keeper.disk) c.told_part.ensures

@@ -17,13 +17,13 @@ pub returns-in-Stop-clause-counted : goal.returns-in-Stop-clause-counted
 returns-in-Stop-clause-counted g c before done f = rw c.in-Stop.is (c.stop.ensures.counted before done f)
 
 pub returns-in-StopWithin-clause-goes : goal.returns-in-StopWithin-clause-goes
-returns-in-StopWithin-clause-goes g c first done going = c.stop_within.ensures.goes first done going c.args.event.now (ap (within_of {P = Pick}) c.in-StopWithin.is)
+returns-in-StopWithin-clause-goes g c first done going = c.stop_within.ensures.goes c.args.event.now (ap (within_of {P = Pick}) c.in-StopWithin.is) first done going
 
 pub returns-in-StopWithin-clause-ends : goal.returns-in-StopWithin-clause-ends
-returns-in-StopWithin-clause-ends g c first done going rest = c.stop_within.ensures.ends first done going c.args.event.now (ap (within_of {P = Pick}) c.in-StopWithin.is) rest
+returns-in-StopWithin-clause-ends g c first done going rest = c.stop_within.ensures.ends c.args.event.now (ap (within_of {P = Pick}) c.in-StopWithin.is) first done going rest
 
 pub returns-in-StopWithin-clause-counted : goal.returns-in-StopWithin-clause-counted
-returns-in-StopWithin-clause-counted g c before done f = c.stop_within.ensures.counted before done c.args.event.now (ap (within_of {P = Pick}) c.in-StopWithin.is) f
+returns-in-StopWithin-clause-counted g c before done f = c.stop_within.ensures.counted c.args.event.now (ap (within_of {P = Pick}) c.in-StopWithin.is) before done f
 
 pub returns-in_default : goal.returns-in_default
 returns-in_default g c =

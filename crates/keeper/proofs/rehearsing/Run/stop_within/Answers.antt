@@ -23,7 +23,7 @@ resume-requires-clause-room g c =
     rw history (omega (arith, many, c.requires.room, c.halt-halted.result.0.commands.ok.0))
 
 pub returns-clause-goes : goal.returns-clause-goes
-returns-clause-goes g c first done going event within =
+returns-clause-goes g c event within first done going =
     let self = c.args.self in
     let m = self.life.keeper.machine in
     let mid = c.write-written.new.self.keeper.machine in
@@ -47,7 +47,7 @@ returns-clause-goes g c first done going event within =
     if_ok_both c.resume.result _ _ _ _ (λ x ran came _. record { came = came; run = ran }) runs (c.resume.ensures.came mid slot there is) runs
 
 pub returns-clause-ends : goal.returns-clause-ends
-returns-clause-ends g c first done going event within rest =
+returns-clause-ends g c event within first done going rest =
     let self = c.args.self in
     let m = self.life.keeper.machine in
     let mid = c.write-written.new.self.keeper.machine in
@@ -68,7 +68,7 @@ returns-clause-ends g c first done going event within rest =
     (c.resume.ensures.ended mid there is) (c.resume.ensures.left mid there is) c.resume.ensures.stopped c.resume.ensures.durable
 
 pub returns-clause-counted : goal.returns-clause-counted
-returns-clause-counted g c before done event within f =
+returns-clause-counted g c event within before done f =
     let self = c.args.self in
     let n = g.D.Disk.failures self.life.keeper.disk in
     let then : ℕ = g.D.Disk.failures c.halt-halted.result.0.disk in

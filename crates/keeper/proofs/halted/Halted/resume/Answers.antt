@@ -1,7 +1,7 @@
 use Rattle.std.proofs.Common.{◌≡◌, ℕ, ◌-◌, ◌++◌, List, length, take, ◌∙◌, ap, arith}
 use Rattle.roadnet.specs.declared.commands.Command.{Command}
 use Rattle.machine.proofs.Kept.{left_between}
-use Rattle.keeper.proofs.rehearsing.Halted.resume.Goals as goal
+use Rattle.keeper.proofs.halted.Halted.resume.Goals as goal
 
 pub returns-in-Ok-clause-begins : goal.returns-in-Ok-clause-begins
 returns-in-Ok-clause-begins g c m slot honest halted = c.in-Ok.ensures.begins m halted.state slot honest halted.held

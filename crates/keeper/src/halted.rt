@@ -1,0 +1,23 @@
+// A run between two lives.
+ghost use Rattle.std.specs.Option.{ForSome};
+ghost use Rattle.rows.specs.Kept.{IsWidth};
+
+use disk::{Disk, Stoppable};
+use machine::Replied;
+use roadnet::Command;
+
+/// A run whose disk is stopped.
+#[derive(Drop)]
+pub(crate) struct Halted<D: Stoppable> {
+    pub(crate) history: Vec<Command>,
+    pub(crate) replies: Vec<Replied>,
+    /// The commands of the life that ended.
+    pub(crate) commands: Vec<Command>,
+    /// The version that it was opened at, and the one that was durable.
+    pub(crate) opened: u64,
+    pub(crate) durable: u64,
+    pub(crate) disk: D,
+    /// The width that was given, for the lives that follow.
+    pub(crate) delta: Option<u32>,
+    ghost width: { ForSome delta IsWidth },
+}

@@ -42,11 +42,7 @@ impl<N: Naming, D: Disk> Office<N, D> {
     ///
     /// Refused is what the keeper refuses (51, 52), and then want of memory in the readers' copy (11). The view is handed back and nothing has
     /// changed: the task is out, and readers see what they saw.
-    pub fn publish<R: Wait>(
-        &mut self,
-        rt: &R,
-        view: Arc<View>,
-    ) -> Result<u64, (Refusal, Arc<View>)>
+    pub fn publish<R: Wait>(&mut self, rt: &R, view: Arc<View>) -> Result<u64, (Refusal, Arc<View>)>
         ensures step { IfOk result (λ shown. Publishes self.old.machine view.value.version view.value.network (Ok shown) self.new.machine) }
         ensures refused { IfErr result (λ refused. refused.0 ≢ out_of_memory → RefusesView self.old.machine view.value.version view.value.network refused.0) }
         ensures handed_back { IfErr result (λ refused. refused.1 ≡ view) }

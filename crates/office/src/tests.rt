@@ -1,0 +1,132 @@
+ghost use Rattle.std.specs.Prelude.{◌≡◌, [], true, IfOk};
+ghost use Rattle.store.specs.State.{CameTidy, is_calm};
+
+use crate::naming::Naming;
+use crate::offices::Office;
+use disk::MemDisk;
+use history::{Claim, History, Settled};
+use keeper::Task;
+use relax::Solo;
+use roadnet::{Command, Network, Refusal, RoadArc};
+use rows::View;
+use std::alloc::{AllocError, Global};
+use std::marker::Brand;
+use std::sync::{Arc, Wait};
+use std::test::Fail;
+use std::thread::Threads;
+use store::{Store, create};
+
+const CLOSE: Command = Command::Close { arc: 1 };
+
+const MARK: Command = Command::Mark { node: 2 };
+
+/// Two nodes and an arc.
+fn two(alloc: Global) -> Result<Network, Refusal> {
+    let mut arcs = Vec::new(alloc);
+    arcs.push(RoadArc {
+        tail: 1,
+        head: 2,
+        length: 5,
+        opened: true,
+    })
+    .map_err(AllocError::from)?;
+    Network::new(alloc, 2, arcs, &[])
+}
+
+/// A view of the task's network.
+fn view_of(alloc: Global, task: &Task) -> Result<Arc<View>, Refusal> {
+    let Ok(network) = task.network.copy() else {
+        return Err(Refusal::OutOfMemory);
+    };
+    let Ok(view) = View::build(alloc, task.version, network, None, &Solo) else {
+        return Err(Refusal::OutOfMemory);
+    };
+    match Arc::new(alloc, view) {
+        Ok(view) => Ok(view),
+        Err(_) => Err(Refusal::OutOfMemory),
+    }
+}
+
+/// A receipt for a ticket whose command a flush makes durable.
+fn settle<N: Naming>(office: &mut Office<N, MemDisk>, ticket: Claim) -> Result<Settled, Refusal>
+    requires { ticket.origin ≡ N.origin }
+    ensures { IfOk result (λ receipt. receipt ≡ ticket) }
+{
+    office.flush()?;
+    match office.receipt(ticket) {
+        Ok(receipt) => Ok(receipt),
+        Err((refusal, _)) => Err(refusal),
+    }
+}
+
+/// Shows the durable version. Where the readers' copy has no room, the view is offered once more.
+fn show<N: Naming, R: Wait>(
+    rt: &R,
+    alloc: Global,
+    office: &mut Office<N, MemDisk>,
+) -> Result<u64, Refusal> {
+    let task = match office.take_task() {
+        Ok(Some(task)) => task,
+        Ok(None) => return Err(Refusal::NoTask),
+        Err(_) => return Err(Refusal::OutOfMemory),
+    };
+    let view = view_of(alloc, &task)?;
+    match office.publish(rt, view) {
+        Ok(shown) => Ok(shown),
+        Err((Refusal::OutOfMemory, view)) => match office.publish(rt, view) {
+            Ok(shown) => Ok(shown),
+            Err((refusal, _)) => Err(refusal),
+        },
+        Err((refusal, _)) => Err(refusal),
+    }
+}
+
+/// Two commands are accepted, settled and shown. Of two readers one learns of the second. Told are the versions that they see, and what is
+/// confirmed of both receipts.
+fn round<N: Naming, R: Threads + Wait>(
+    rt: &R,
+    alloc: Global,
+    history: History,
+    store: Store<MemDisk>,
+) -> Result<([u64; 4], [Command; 2]), Refusal>
+    requires calm { is_calm store ≡ true }
+    requires origin { (N.origin.base ≡ store.network) × (N.origin.version ≡ store.version) }
+    requires history { (history.origin ≡ N.origin) × (history.commands ≡ []) × (history.acknowledged ≡ 0) }
+    requires came_tidy { N.came_tidy → CameTidy MemDisk.honest MemDisk.content store.given }
+{
+    let mut office = Office::<N, MemDisk>::new(rt, alloc, history, store, None)?;
+    let (mut told, mut other) = (office.reader()?, office.reader()?);
+    let first = office.submit(CLOSE)?;
+    let first = settle(&mut office, first)?;
+    show(rt, alloc, &mut office)?;
+    let before = told.look()?.version();
+    let second = office.submit(MARK)?;
+    let second = settle(&mut office, second)?;
+    let behind = other.look()?.version();
+    show(rt, alloc, &mut office)?;
+    let Some(shown) = office.shown_since(second.ticket()) else {
+        return Err(Refusal::NotYet);
+    };
+    told.learn(&shown);
+    let seen = [
+        before,
+        behind,
+        told.look()?.version(),
+        other.look()?.version(),
+    ];
+    let closed = office.close(rt)?;
+    Ok((seen, [closed.confirm(&first), closed.confirm(&second)]))
+}
+
+#[test]
+fn commands_are_read_back(rt: HostRuntime) -> Result<(), Fail> {
+    let alloc = rt.alloc();
+    let network = two(alloc).map_err(|_| Fail::from("a network"))?;
+    let Ok(store) = create(alloc, MemDisk::new(alloc), &network, 4) else {
+        return Err(Fail::from("a store"));
+    };
+    let history = History::new(store.network(), store.version());
+    let told = round::<Brand, _>(&rt, alloc, history, store);
+    assert_eq!(rt; told, Ok(([1, 1, 2, 2], [CLOSE, MARK])));
+    Ok(())
+}

@@ -25,7 +25,7 @@ use Rattle.machine.specs.LifeInRun.{within}
 use Rattle.machine.specs.Lives.{told_version, Writes, StopComes, Does, StopsFor, Lives, HoldsDurable}
 use Rattle.machine.proofs.InRun.{holds_in, commands_in}
 use Rattle.machine.proofs.Rehearsing.{Ran, ran_more, lives_whole, lives_no_memory, lives_not_opened}
-use Rattle.keeper.specs.Rehearsing.{is_stop, within_of, First, HasRun, HasLived, HasSlotOfNetwork, BeginsAfter}
+use Rattle.keeper.specs.Rehearsing.{is_stop, within_of, First, HasRun, HasLived, HasPagesOfNetwork, BeginsAfter}
 use Rattle.keeper.proofs.LivesInRun.{Later, later_none, does_later, does_in, writes_in}
 use Rattle.keeper.proofs.Stopped.{opens_in, there_after, begun_after, sizes_after, slot_after}
 
@@ -98,7 +98,7 @@ module _ {P : Type 0} (first : First) (events : List (Event P)) (replies : List 
         there = r.there ∙ ap Some (sym later.later.base);
         begun = later.later.base_version ∙ r.begun;
         sizes_are = later.later.sizes ∙ r.sizes_are;
-        slot = ap (λ (z : Sizes). z.slot_pages) later.later.sizes ∙ (r.slot ∙ ap (λ (n : Net). pages_for 1023 (length n.arcs)) (sym later.later.base));
+        pages = ap (λ (z : Sizes). z.checkpoint_pages) later.later.sizes ∙ (r.pages ∙ ap (λ (n : Net). pages_for 1023 (length n.arcs)) (sym later.later.base));
       }
 
   -- ---- a stop, of which the machine in the life was mid
@@ -109,8 +109,8 @@ module _ {P : Type 0} (first : First) (events : List (Event P)) (replies : List 
     there_then : after first.network history ≡ Some mid.base
     there_then = r.there ∙ ap Some (sym l.later.base)
 
-    pub slot_then : HasSlotOfNetwork mid
-    slot_then = ap (λ (z : Sizes). z.slot_pages) l.later.sizes ∙ (r.slot ∙ ap (λ (n : Net). pages_for 1023 (length n.arcs)) (sym l.later.base))
+    pub slot_then : HasPagesOfNetwork mid
+    slot_then = ap (λ (z : Sizes). z.checkpoint_pages) l.later.sizes ∙ (r.pages ∙ ap (λ (n : Net). pages_for 1023 (length n.arcs)) (sym l.later.base))
 
     abbrev pub history_with : Machine → List Command
     history_with next = history ++ commands_to mid next.base_version
@@ -130,7 +130,7 @@ module _ {P : Type 0} (first : First) (events : List (Event P)) (replies : List 
           there = there_after first.network first.version history mid next begun_then l.state b there_then;
           begun = begun_after first.network first.version history mid next begun_then l.state b;
           sizes_are = sizes_after first.network first.version history mid next begun_then l.state b ∙ (l.later.sizes ∙ r.sizes_are);
-          slot = slot_after first.network first.version history mid next begun_then l.state b slot_then;
+          pages = slot_after first.network first.version history mid next begun_then l.state b slot_then;
         }
 
     sizes_then : mid.sizes ≡ first.sizes
@@ -252,7 +252,7 @@ module _ {P : Type 0} (first : First) (events : List (Event P)) (replies : List 
     }
 
 -- a run that begins
-pub run_none : {P : Type 0} (first : First) → first.unchecked ≤ first.sizes.journal_pages → HasSlotOfNetwork (start first.sizes first.network first.version first.unchecked)
+pub run_none : {P : Type 0} (first : First) → first.unchecked ≤ first.sizes.journal_pages → HasPagesOfNetwork (start first.sizes first.network first.version first.unchecked)
     → HasRun {P = P} first [] [] [] (start first.sizes first.network first.version first.unchecked)
 run_none first few slot = record {
   turns = [];
@@ -263,5 +263,5 @@ run_none first few slot = record {
   there = refl;
   begun = omega arith;
   sizes_are = refl;
-  slot = slot;
+  pages = slot;
 }

@@ -21,7 +21,7 @@ use Rattle.store.proofs.Afterwards.{reopened}
 use Rattle.store.proofs.ArcsKept.{same_arcs, arcs_of_header}
 use Rattle.store.specs.State.{Told, told_of}
 use Rattle.keeper.specs.Keeping.{IsDurableIn}
-use Rattle.keeper.specs.Rehearsing.{HasSlotOfNetwork, BeginsAfter}
+use Rattle.keeper.specs.Rehearsing.{HasPagesOfNetwork, BeginsAfter}
 
 -- ---- what opening tells of a content that stands for a network at a version
 pub record IsOpened (journal_pages : ℕ) (content : List ℕ) (net : Net) (version : ℕ) (x : Standing) : Type 0 where
@@ -37,7 +37,7 @@ is_opened journal_pages content net version x stands told =
 
 -- ---- the life that begins
 abbrev sizes_told : Told → Sizes
-sizes_told t = record { journal_pages = t.journal_pages; slot_pages = t.slot_pages }
+sizes_told t = record { journal_pages = t.journal_pages; checkpoint_pages = t.checkpoint_pages }
 
 -- the state in which a life begins, whose store tells this
 abbrev pub start_of : Told → Machine
@@ -49,17 +49,17 @@ few_unchecked content x told =
     let pages : held.stored.header.journal_pages ≡ x.header.journal_pages = ap (λ (h : Header). h.journal_pages) held.header_is in
     omega (arith, held.stands.is.few, held.unchecked_is, pages)
 
-module _ (m : Machine) (content : List ℕ) (x : Standing) (s : IsState m) (held : IsDurableIn m content) (told : standing_of content ≡ Some x) (slot : HasSlotOfNetwork m) where
+module _ (m : Machine) (content : List ℕ) (x : Standing) (s : IsState m) (held : IsDurableIn m content) (told : standing_of content ≡ Some x) (slot : HasPagesOfNetwork m) where
   o : IsOpened m.sizes.journal_pages content held.network held.version x
   o = is_opened m.sizes.journal_pages content held.network held.version x held.stands told
 
   same_sizes : sizes_told (told_of x) ≡ m.sizes
   same_sizes =
       let arcs : x.header.arcs ≡ length m.base.arcs = arcs_of_header content x told ∙ (ap (λ (n : Net). length n.arcs) o.network_is ∙ same_arcs m.base held.network (commands_to m held.version) held.network_is) in
-      let words : word_pages x.header ≡ m.sizes.slot_pages = ap (pages_for 1023) arcs ∙ sym slot in
+      let words : word_pages x.header ≡ m.sizes.checkpoint_pages = ap (pages_for 1023) arcs ∙ sym slot in
       both x.header.journal_pages (word_pages x.header) m.sizes o.pages_are words
     where
-      both : (j w : ℕ) (z : Sizes) → j ≡ z.journal_pages → w ≡ z.slot_pages → ◌≡◌ {A = Sizes} (record { journal_pages = j; slot_pages = w }) z
+      both : (j w : ℕ) (z : Sizes) → j ≡ z.journal_pages → w ≡ z.checkpoint_pages → ◌≡◌ {A = Sizes} (record { journal_pages = j; checkpoint_pages = w }) z
       both j w z a b = rw (a, b) refl
 
   pub begins_after : (next : Machine) (t : Told) → told_of x ≡ t → next ≡ start_of t → BeginsAfter m next
@@ -108,6 +108,6 @@ module _ (base : Net) (version : ℕ) (before : List Command) (m next : Machine)
   pub sizes_after : next.sizes ≡ m.sizes
   sizes_after = ap (λ (z : Machine). z.sizes) b.begins
 
-  pub slot_after : HasSlotOfNetwork m → HasSlotOfNetwork next
+  pub slot_after : HasPagesOfNetwork m → HasPagesOfNetwork next
   slot_after slot =
-      ap (λ (z : Sizes). z.slot_pages) sizes_after ∙ (slot ∙ ap (pages_for 1023) (sym (same_arcs m.base next.base left_commands b.network_is)))
+      ap (λ (z : Sizes). z.checkpoint_pages) sizes_after ∙ (slot ∙ ap (pages_for 1023) (sym (same_arcs m.base next.base left_commands b.network_is)))

@@ -12,7 +12,7 @@ use Rattle.machine.specs.Lives.{HoldsDurable}
 
 -- the sizes of a store
 abbrev pub sizes_of : {D : Type 0} → StoreState D → Sizes
-sizes_of store = record { journal_pages = store.journal_pages; slot_pages = store.slot_pages }
+sizes_of store = record { journal_pages = store.journal_pages; checkpoint_pages = store.checkpoint_pages }
 
 -- a store's checkpoint that is going, as the machine has it
 abbrev pub as_checkpoint : Progress → Checkpoint

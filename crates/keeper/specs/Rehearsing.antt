@@ -39,8 +39,8 @@ pub record IsLife (m : Machine) (opened : ℕ) (aside : Option (ℕ × Net)) : T
   pub task_network : IfSome aside (λ view. network_at m view.0 ≡ Some view.1)
 
 -- the checkpoint of this machine's store writes as many pages as its network's arcs need
-abbrev pub HasSlotOfNetwork : Machine → Type 0
-HasSlotOfNetwork m = m.sizes.slot_pages ≡ pages_for 1023 (length m.base.arcs)
+abbrev pub HasPagesOfNetwork : Machine → Type 0
+HasPagesOfNetwork m = m.sizes.checkpoint_pages ≡ pages_for 1023 (length m.base.arcs)
 
 -- the store that a run began with
 pub record First : Type 0 where
@@ -63,7 +63,7 @@ pub record HasRun {P : Type 0} (first : First) (events : List (Event P)) (replie
   pub there : after first.network history ≡ Some m.base
   pub begun : m.base_version ≡ first.version + length history
   pub sizes_are : m.sizes ≡ first.sizes
-  pub slot : HasSlotOfNetwork m
+  pub pages : HasPagesOfNetwork m
 
 -- A run so far, of a store that came tidy: these events were replied to so, the lives before left these commands, and the keeper of the life
 -- now came tidy too.

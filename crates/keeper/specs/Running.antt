@@ -16,7 +16,7 @@ use Rattle.keeper.specs.declared.rehearsing.Run.{Run}
 use Rattle.keeper.specs.declared.halted.Halted.{Halted}
 use Rattle.keeper.specs.Failures.{failures_at_end, FailsAsTold, EndsAsTold}
 use Rattle.keeper.specs.Keeping.{IsDurableIn}
-use Rattle.keeper.specs.Rehearsing.{First, HasSlotOfNetwork, IsGoing, HasLived, HasHalted}
+use Rattle.keeper.specs.Rehearsing.{First, HasPagesOfNetwork, IsGoing, HasLived, HasHalted}
 
 -- ---- a stop
 
@@ -34,7 +34,7 @@ IsPassingEnd ended = (ended ≡ Some OutOfMemory) ⊎ (ended ≡ Some Device)
 
 -- P of each machine whose life left what is durable on this disk
 abbrev pub OfEachLeft : {D : Type 0} → (D → Type 0) → (D → List ℕ) → D → (Machine → Type 0) → Type 0
-OfEachLeft honest content disk P = (m : Machine) → IsState m → HasSlotOfNetwork m → honest disk → IsDurableIn m (content disk) → P m
+OfEachLeft honest content disk P = (m : Machine) → IsState m → HasPagesOfNetwork m → honest disk → IsDurableIn m (content disk) → P m
 
 -- a life of this machine was halted so
 abbrev pub HasHaltedSo : {D : Type 0} {s : StoppableGhosts D} {d : Ghosts D} → (D → List ℕ) → (D → List ℕ → Type 0) → Machine → Halted D s d → Type 0
@@ -42,7 +42,7 @@ HasHaltedSo content left m h = HasHalted m h.commands.items h.opened h.durable (
 
 -- P of each machine whose life was halted so
 abbrev pub OfEachHalted : {D : Type 0} {s : StoppableGhosts D} {d : Ghosts D} → (D → Type 0) → (D → List ℕ) → (D → List ℕ → Type 0) → Halted D s d → (Machine → Type 0) → Type 0
-OfEachHalted honest content left h P = (m : Machine) → HasSlotOfNetwork m → honest h.disk → HasHaltedSo content left m h → P m
+OfEachHalted honest content left h P = (m : Machine) → HasPagesOfNetwork m → honest h.disk → HasHaltedSo content left m h → P m
 
 -- the run goes on behind a life of this machine: the history has that life's commands up to where the next one begins
 abbrev pub Continues : {D : Type 0} {s : StoppableGhosts D} {d : Ghosts D} → Machine → List Command → Run D s d → Type 0

@@ -19,7 +19,7 @@ use roadnet::Refusal;
 use std::snapshot::Snapshot;
 use store::Part;
 
-/// A slot has at most 65,601 word pages: so many steps of 64 end each checkpoint.
+/// A checkpoint has at most 65,602 pages to write: so many steps of 64 end each.
 const MOST_STEPS: u32 = 1026;
 
 impl<D: Disk> Ledger<D> {
@@ -81,7 +81,7 @@ impl<D: Disk> Ledger<D> {
 
     // How many steps of 64 pages end each checkpoint of this store.
     fn most_steps(&self) -> u32
-        ensures enough { self.now.machine.sizes.slot_pages < 64 * result }
+        ensures enough { self.now.machine.sizes.checkpoint_pages < 64 * result }
         ensures state { IsState self.now.machine }
         ensures held { CameTidy D.honest D.content self.now.given → D.honest self.now.disk × Holds (D.content self.now.disk) (D.left self.now.disk) self.now.machine }
     {

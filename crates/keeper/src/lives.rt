@@ -8,7 +8,7 @@ ghost use Rattle.pagereader.specs.Outcomes.{failures_told};
 ghost use Rattle.rows.specs.Kept.{IsWidth};
 ghost use Rattle.snapshot.specs.Groups.{default_width};
 ghost use Rattle.disk.specs.Contents.{Only};
-ghost use Rattle.store.specs.State.{CameTidy, HasRoom, HasSlotPages, IsDurable, is_calm};
+ghost use Rattle.store.specs.State.{CameTidy, HasRoom, HasCheckpointPages, IsDurable, is_calm};
 ghost use Rattle.machine.specs.declared.events.Event.TheVariants.{Submit, CheckpointStep, Task as TaskEvent, Publish, Ask};
 ghost use Rattle.machine.specs.Machine.{start};
 ghost use Rattle.machine.specs.Lives.{told_version, told_part, Writes, Does};
@@ -109,7 +109,7 @@ impl<D: Stoppable> Life<D> {
         ensures room { HasRoom store }
         ensures only { CameTidy D.honest D.content store.given → Only (D.content store.disk) (D.left store.disk) }
         ensures stands { CameTidy D.honest D.content store.given → IsDurable store (D.content store.disk) }
-        ensures slot { CameTidy D.honest D.content store.given → HasSlotPages store }
+        ensures checkpoint_pages { CameTidy D.honest D.content store.given → HasCheckpointPages store }
     {
         let opened = store.version();
         match Keeper::new(rt, alloc, store, delta) {

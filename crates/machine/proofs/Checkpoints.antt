@@ -78,13 +78,13 @@ no_refusal mid new pages refusal step calm going memory other = ⊎_elim
 -- ---- how many pages are left
 -- after so many steps of 64 pages
 abbrev pub IsLeftAfter : ℕ → Machine → Type 0
-IsLeftAfter n m = (checkpoint_of m).left + 64 * n ≤ m.sizes.slot_pages
+IsLeftAfter n m = (checkpoint_of m).left + 64 * n ≤ m.sizes.checkpoint_pages
 
 pub left_at_first : (m : Machine) → IsState m → IsLeftAfter 0 m
 left_at_first m s = go m.checkpoint s.checkpoint_durable
   where
-    go : (o : Option Checkpoint) → IfSome o (λ c. (c.version ≤ m.durable) × (c.flushed ≤ m.unchecked) × (c.left ≤ m.sizes.slot_pages))
-        → (unwrap_or o (record { version = m.durable; left = m.sizes.slot_pages; flushed = 0 })).left + 64 * 0 ≤ m.sizes.slot_pages
+    go : (o : Option Checkpoint) → IfSome o (λ c. (c.version ≤ m.durable) × (c.flushed ≤ m.unchecked) × (c.left ≤ m.sizes.checkpoint_pages))
+        → (unwrap_or o (record { version = m.durable; left = m.sizes.checkpoint_pages; flushed = 0 })).left + 64 * 0 ≤ m.sizes.checkpoint_pages
     go None h = omega arith
     go (Some c) h = omega (arith, h.2)
 
@@ -158,7 +158,7 @@ done_is m pages version false false nothing told fresh = (refl, fresh)
 
 pub done_behind : (old new : Machine) (version : ℕ) → Writes old a_checkpoint (Ok version) new → old.checkpoint ≡ None → (new.checkpoint ≡ None) × (new.unchecked ≡ 0)
 done_behind old new version w none =
-    let fresh : (checkpoint_of w.1).flushed ≡ 0 = fresh_goes w.0 old w.1 w.2 (ap (λ (o : Option Checkpoint). (unwrap_or o (record { version = old.durable; left = old.sizes.slot_pages; flushed = 0 })).flushed) none) in
+    let fresh : (checkpoint_of w.1).flushed ≡ 0 = fresh_goes w.0 old w.1 w.2 (ap (λ (o : Option Checkpoint). (unwrap_or o (record { version = old.durable; left = old.sizes.checkpoint_pages; flushed = 0 })).flushed) none) in
     let end = done_is w.1 pages_of_step version (has_nothing_unchecked w.1) (nat_lt pages_of_step (checkpoint_of w.1).left) refl w.3.1 fresh in
     (ap (λ (m : Machine). m.checkpoint) w.3.2 ∙ end.0, ap (λ (m : Machine). m.unchecked) w.3.2 ∙ end.1)
 

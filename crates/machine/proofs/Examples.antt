@@ -142,7 +142,7 @@ six_set = six_with (open_arc 1 2 2) (open_arc 5 2 0) (open_arc 5 6 20)
 
 -- a new store of it
 abbrev store : ℕ → Machine
-store journal_pages = start (record { journal_pages = journal_pages; slot_pages = 1 }) six 0 0
+store journal_pages = start (record { journal_pages = journal_pages; checkpoint_pages = 1 }) six 0 0
 
 abbrev told : ℕ → ℕ → ℕ → ℕ → Replied
 told v s t d = Answered (Dist s t) (record { version = v; reply = Length d })

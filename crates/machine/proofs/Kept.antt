@@ -108,7 +108,7 @@ module _ (m : Machine) (s : IsState m) where
         admitted = s.admitted;
         unchecked_to = omega arith;
         task_between = if_some m.task _ _ (λ v h. (h.0, omega arith)) s.task_between;
-        checkpoint_durable = if_some_mapped with_page_flushed m.checkpoint (λ c. (c.version ≤ m.durable) × (c.flushed ≤ m.unchecked) × (c.left ≤ m.sizes.slot_pages)) _ (λ c h. (omega arith, omega arith, h.2)) s.checkpoint_durable;
+        checkpoint_durable = if_some_mapped with_page_flushed m.checkpoint (λ c. (c.version ≤ m.durable) × (c.flushed ≤ m.unchecked) × (c.left ≤ m.sizes.checkpoint_pages)) _ (λ c h. (omega arith, omega arith, h.2)) s.checkpoint_durable;
         versions_to = s.versions_to;
         pending_to = omega arith;
         life_to = s.life_to;
@@ -130,12 +130,12 @@ module _ (m : Machine) (s : IsState m) where
     life_to = s.life_to;
   }
 
-  going_durable : ((checkpoint_of m).version ≤ m.durable) × ((checkpoint_of m).flushed ≤ m.unchecked) × ((checkpoint_of m).left ≤ m.sizes.slot_pages)
+  going_durable : ((checkpoint_of m).version ≤ m.durable) × ((checkpoint_of m).flushed ≤ m.unchecked) × ((checkpoint_of m).left ≤ m.sizes.checkpoint_pages)
   going_durable =
-      if_some_or m.checkpoint (record { version = m.durable; left = m.sizes.slot_pages; flushed = 0 })
-      (λ c. (c.version ≤ m.durable) × (c.flushed ≤ m.unchecked) × (c.left ≤ m.sizes.slot_pages)) (omega arith, omega arith, omega arith) s.checkpoint_durable
+      if_some_or m.checkpoint (record { version = m.durable; left = m.sizes.checkpoint_pages; flushed = 0 })
+      (λ c. (c.version ≤ m.durable) × (c.flushed ≤ m.unchecked) × (c.left ≤ m.sizes.checkpoint_pages)) (omega arith, omega arith, omega arith) s.checkpoint_durable
 
-  with_checkpoint : (o : Option Checkpoint) (n : ℕ) → n ≤ m.sizes.journal_pages → IfSome o (λ c. (c.version ≤ m.durable) × (c.flushed ≤ n) × (c.left ≤ m.sizes.slot_pages)) → IsState (record m { checkpoint = o; unchecked = n })
+  with_checkpoint : (o : Option Checkpoint) (n : ℕ) → n ≤ m.sizes.journal_pages → IfSome o (λ c. (c.version ≤ m.durable) × (c.flushed ≤ n) × (c.left ≤ m.sizes.checkpoint_pages)) → IsState (record m { checkpoint = o; unchecked = n })
   with_checkpoint o n fits h = record {
     base_opened = s.base_opened;
     opened_shown = s.opened_shown;

@@ -73,7 +73,7 @@ has_nothing_unchecked m = is_none m.checkpoint && (m.unchecked == 0)
 
 -- the checkpoint that is going, or else one that begins now
 abbrev pub checkpoint_of : Machine → Checkpoint
-checkpoint_of m = unwrap_or m.checkpoint (record { version = m.durable; left = m.sizes.slot_pages; flushed = 0 })
+checkpoint_of m = unwrap_or m.checkpoint (record { version = m.durable; left = m.sizes.checkpoint_pages; flushed = 0 })
 
 abbrev pub done_by : Machine → ℕ → Option ℕ
 done_by m pages =

@@ -9,7 +9,7 @@ pub record Sizes : Type 0 where
   -- how many pages the journal has
   pub journal_pages : ℕ
   -- how many pages a checkpoint has to write before it can end
-  pub slot_pages : ℕ
+  pub checkpoint_pages : ℕ
 
 -- a checkpoint that was begun and isn't done
 pub record Checkpoint : Type 0 where
@@ -112,7 +112,7 @@ pub record IsState (m : Machine) : Type 0 where
   pub admitted : IsSome (accepted_network m)
   pub unchecked_to : m.unchecked ≤ m.sizes.journal_pages
   pub task_between : IfSome m.task (λ v. (m.shown ≤ v) × (v ≤ m.durable))
-  pub checkpoint_durable : IfSome m.checkpoint (λ c. (c.version ≤ m.durable) × (c.flushed ≤ m.unchecked) × (c.left ≤ m.sizes.slot_pages))
+  pub checkpoint_durable : IfSome m.checkpoint (λ c. (c.version ≤ m.durable) × (c.flushed ≤ m.unchecked) × (c.left ≤ m.sizes.checkpoint_pages))
   pub versions_to : latest m ≤ most_versions
   pub pending_to : latest m ≤ m.durable + most_pending
   pub life_to : latest m ≤ m.opened + most_of_life

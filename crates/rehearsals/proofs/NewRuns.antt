@@ -7,7 +7,7 @@ use Rattle.roadnet.specs.Net.{Net}
 use Rattle.disk.specs.declared.stoppable.Pick.{Pick}
 use Rattle.pages.specs.Layout.{pages_for}
 use Rattle.store.specs.Opening.{IsPassing}
-use Rattle.store.specs.State.{StoreState, HasSlotPages}
+use Rattle.store.specs.State.{StoreState, HasCheckpointPages}
 use Rattle.machine.specs.declared.events.Event.{Event}
 use Rattle.machine.specs.declared.events.Replied.{Replied}
 use Rattle.machine.specs.Machine.{Sizes, Machine}
@@ -15,16 +15,16 @@ use Rattle.machine.specs.Lives.{Turn, Ends, Whole, NoMemory, NotOpened, LivesOn}
 use Rattle.keeper.specs.Keeping.{sizes_of as sizes_of_store}
 use Rattle.rehearsals.specs.Rehearsed.{sizes_of, RepliesTo}
 
-same_sizes : (j w j' w' : ℕ) → j ≡ j' → w ≡ w' → ◌≡◌ {A = Sizes} (record { journal_pages = j; slot_pages = w }) (record { journal_pages = j'; slot_pages = w' })
+same_sizes : (j w j' w' : ℕ) → j ≡ j' → w ≡ w' → ◌≡◌ {A = Sizes} (record { journal_pages = j; checkpoint_pages = w }) (record { journal_pages = j'; checkpoint_pages = w' })
 same_sizes j w j' w' same_j same_w = cc
 
 -- a new store is of this network at version 0 with no page unchecked, and has so many journal pages
 pub replies_to : {D : Type 0} (s : StoreState D) (stands_for : List ℕ → Net → ℕ → Type 0) (net : Net) (journal_pages : ℕ) (left : List ℕ → Type 0) (events : List (Event Pick)) (replies : List Replied) (ended : Option Refusal) (history : List Command)
-    → HasSlotPages s → s.network ≡ net → s.version ≡ 0 → s.unchecked ≡ 0 → s.journal_pages ≡ journal_pages
+    → HasCheckpointPages s → s.network ≡ net → s.version ≡ 0 → s.unchecked ≡ 0 → s.journal_pages ≡ journal_pages
     → LivesOn stands_for left (sizes_of_store s) s.network s.version s.unchecked events replies ended history
     → RepliesTo net journal_pages events replies ended
 replies_to s stands_for net journal_pages left events replies ended history slot network_is version_is unchecked_is pages_are run =
-    let sizes : sizes_of_store s ≡ sizes_of s.network journal_pages = same_sizes s.journal_pages s.slot_pages journal_pages (pages_for 1023 (length s.network.arcs)) pages_are slot in
+    let sizes : sizes_of_store s ≡ sizes_of s.network journal_pages = same_sizes s.journal_pages s.checkpoint_pages journal_pages (pages_for 1023 (length s.network.arcs)) pages_are slot in
     let sized : LivesOn stands_for left (sizes_of s.network journal_pages) s.network s.version s.unchecked events replies ended history =
     subst (λ (z : Sizes). LivesOn stands_for left z s.network s.version s.unchecked events replies ended history) sizes run in
     let of_net : LivesOn stands_for left (sizes_of net journal_pages) net s.version s.unchecked events replies ended history =

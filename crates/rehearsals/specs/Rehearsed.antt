@@ -18,7 +18,7 @@ use Rattle.printing.specs.declared.failed.Failed.TheVariants.{Text, Code}
 
 -- the sizes of a new store of this network: a checkpoint writes a page for each 1,023 arcs
 abbrev pub sizes_of : Net → ℕ → Sizes
-sizes_of net journal_pages = record { journal_pages = journal_pages; slot_pages = pages_for 1023 (length net.arcs) }
+sizes_of net journal_pages = record { journal_pages = journal_pages; checkpoint_pages = pages_for 1023 (length net.arcs) }
 
 -- The events may be replied to so over lives with stops, of which the first begins with a new store of this network. Where the run ends
 -- early, it ends for this refusal.

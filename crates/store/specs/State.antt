@@ -24,7 +24,7 @@ pub record StoreState (D : Type 0) : Type 0 where
   pub unchecked : ℕ
   pub journal_pages : ℕ
   -- how many pages a checkpoint has to write
-  pub slot_pages : ℕ
+  pub checkpoint_pages : ℕ
   -- a write failed
   pub broken : Bool
   -- the checkpoint that is going
@@ -34,11 +34,11 @@ pub record StoreState (D : Type 0) : Type 0 where
 pub record HasRoom {D : Type 0} (s : StoreState D) : Type 0 where
   pub version_to : s.version ≤ most_versions
   pub unchecked_to : s.unchecked ≤ s.journal_pages
-  pub slot_pages_to : s.slot_pages ≤ 65602
+  pub checkpoint_pages_to : s.checkpoint_pages ≤ 65602
 
 -- a checkpoint has as many pages to write as the network's arcs need
-abbrev pub HasSlotPages : {D : Type 0} → StoreState D → Type 0
-HasSlotPages s = s.slot_pages ≡ pages_for 1023 (length s.network.arcs)
+abbrev pub HasCheckpointPages : {D : Type 0} → StoreState D → Type 0
+HasCheckpointPages s = s.checkpoint_pages ≡ pages_for 1023 (length s.network.arcs)
 
 -- the state of a store with these pages, that was given this disk
 abbrev pub state_of : {D : Type 0} {disk : Ghosts D} → Paged D disk → D → StoreState D
@@ -49,7 +49,7 @@ state_of pages given = record {
   version = pages.version;
   unchecked = pages.unchecked;
   journal_pages = pages.header.journal_pages;
-  slot_pages = word_pages pages.header;
+  checkpoint_pages = word_pages pages.header;
   broken = pages.broken;
   going = going_of pages;
 }
@@ -70,13 +70,13 @@ pub record Told : Type 0 where
   pub version : ℕ
   pub unchecked : ℕ
   pub journal_pages : ℕ
-  pub slot_pages : ℕ
+  pub checkpoint_pages : ℕ
 
 abbrev pub told : {D : Type 0} → StoreState D → Told
-told s = record { network = s.network; version = s.version; unchecked = s.unchecked; journal_pages = s.journal_pages; slot_pages = s.slot_pages }
+told s = record { network = s.network; version = s.version; unchecked = s.unchecked; journal_pages = s.journal_pages; checkpoint_pages = s.checkpoint_pages }
 
 abbrev pub told_of : Standing → Told
-told_of x = record { network = x.network; version = x.version; unchecked = x.unchecked; journal_pages = x.header.journal_pages; slot_pages = word_pages x.header }
+told_of x = record { network = x.network; version = x.version; unchecked = x.unchecked; journal_pages = x.header.journal_pages; checkpoint_pages = word_pages x.header }
 
 -- the content stands for this network at this version
 abbrev pub StandsAt : List ℕ → Net → ℕ → Type 0
@@ -108,7 +108,7 @@ is_calm s = not s.broken && is_none s.going
 
 -- the checkpoint that a part is of: the one that is going, or else one that begins
 abbrev pub checkpoint_of : {D : Type 0} → StoreState D → Progress
-checkpoint_of s = unwrap_or s.going (record { version = s.version; left = s.slot_pages; committed = 0 })
+checkpoint_of s = unwrap_or s.going (record { version = s.version; left = s.checkpoint_pages; committed = 0 })
 
 -- none is going, and no page of the journal is unchecked
 abbrev pub has_all_checked : {D : Type 0} → StoreState D → Bool

@@ -6,7 +6,7 @@ ghost use Rattle.disk.specs.Moments.{StaysSame};
 ghost use Rattle.pagereader.specs.Outcomes.{failures_with, MayEndOpening};
 ghost use Rattle.storefile.specs.StoreFile.{StandsTidyFor};
 ghost use Rattle.store.specs.Opening.{IsPassing, MayRefuseToOpen, StandsForSome};
-ghost use Rattle.store.specs.State.{HasSlotPages, IsTidy, StandsAs, StandsAt, told};
+ghost use Rattle.store.specs.State.{HasCheckpointPages, IsTidy, StandsAs, StandsAt, told};
 
 use crate::creation::create_paged;
 use crate::opening::open_paged;
@@ -40,7 +40,7 @@ pub fn create<D: Disk>(
     ensures only { D.honest disk → IfOk result (λ store. Only (D.content store.disk) (D.left store.disk)) }
     ensures tidy { D.honest disk → IfOk result (λ store. IsTidy (D.content store.disk)) }
     ensures told { D.honest disk → IfOk result (λ store. StandsAs (D.content store.disk) (told store)) }
-    ensures slot { D.honest disk → IfOk result HasSlotPages }
+    ensures checkpoint_pages { D.honest disk → IfOk result HasCheckpointPages }
     ensures empty { D.honest disk → IfOk result (λ store. D.content disk ≡ []) }
     ensures refused { IfErr result (λ refused. (refused.0 ≡ not_empty) ⊎ ((refused.0 ≡ device) ⊎ (refused.0 ≡ out_of_memory))) }
     ensures not_empty { D.honest disk → IfErr result (λ refused. refused.0 ≡ not_empty → D.content disk ≢ []) }

@@ -9,7 +9,7 @@ ghost use Rattle.pagereader.specs.Outcomes.{failures_told};
 ghost use Rattle.store.specs.Committing.{MayRefuseCommit};
 ghost use Rattle.store.specs.Checkpointing.{refusal_of_checkpoint, MayRefuseCheckpoint};
 ghost use Rattle.store.specs.Going.{part_by, progress_by, unchecked_by, with_page_committed};
-ghost use Rattle.store.specs.State.{CameTidy, HasRoom, HasSlotPages, IsDurable, IsDurableOrAfter, commit_refusal, is_calm, checkpoint_of, has_all_checked};
+ghost use Rattle.store.specs.State.{CameTidy, HasRoom, HasCheckpointPages, IsDurable, IsDurableOrAfter, commit_refusal, is_calm, checkpoint_of, has_all_checked};
 
 use crate::paged::Paged;
 use crate::parts::Part;
@@ -60,7 +60,7 @@ impl<D: Disk> Store<D> {
         ensures room { HasRoom self.now }
         ensures only { D.honest self.now.disk → self.now.broken ≡ false → Only (D.content self.now.disk) (D.left self.now.disk) }
         ensures stands { CameTidy D.honest D.content self.now.given → self.now.broken ≡ false → IsDurable self.now (D.content self.now.disk) }
-        ensures slot { CameTidy D.honest D.content self.now.given → self.now.broken ≡ false → HasSlotPages self.now }
+        ensures checkpoint_pages { CameTidy D.honest D.content self.now.given → self.now.broken ≡ false → HasCheckpointPages self.now }
     {
         self.pages.version()
     }
@@ -114,7 +114,7 @@ impl<D: Disk> Store<D> {
         // A checkpoint that is going goes on, and counts the page.
         ensures going { OnOk result (self.new.going ≡ option_map with_page_committed self.old.going) }
         ensures given { self.new.given ≡ self.old.given }
-        ensures sizes { (self.new.journal_pages ≡ self.old.journal_pages) × (self.new.slot_pages ≡ self.old.slot_pages) }
+        ensures sizes { (self.new.journal_pages ≡ self.old.journal_pages) × (self.new.checkpoint_pages ≡ self.old.checkpoint_pages) }
         // It refuses exactly where there is a cause; and where there is none, for want of memory, or where the disk failed in this call.
         ensures refused { MatchResult result (λ _. commit_refusal self.old commands.now ≡ None) (MayRefuseCommit (commit_refusal self.old commands.now)) }
         ensures same { IfErr result (λ refusal. refusal ≢ device → self.new ≡ self.old) }
@@ -152,7 +152,7 @@ impl<D: Disk> Store<D> {
         ensures network { self.new.network ≡ self.old.network }
         ensures version { self.new.version ≡ self.old.version }
         ensures given { self.new.given ≡ self.old.given }
-        ensures sizes { (self.new.journal_pages ≡ self.old.journal_pages) × (self.new.slot_pages ≡ self.old.slot_pages) }
+        ensures sizes { (self.new.journal_pages ≡ self.old.journal_pages) × (self.new.checkpoint_pages ≡ self.old.checkpoint_pages) }
         // Where none is going and no page is unchecked, nothing is changed, the disk neither.
         ensures nothing { self.old.broken ≡ false → has_all_checked self.old ≡ true → (result ≡ Ok (Part.Done self.old.version)) × (self.new ≡ self.old) }
         // Else so many pages more are written, or all are, and only what was committed since is unchecked.
@@ -190,7 +190,7 @@ impl<D: Disk> Store<D> {
         ensures network { self.new.network ≡ self.old.network }
         ensures version { self.new.version ≡ self.old.version }
         ensures given { self.new.given ≡ self.old.given }
-        ensures sizes { (self.new.journal_pages ≡ self.old.journal_pages) × (self.new.slot_pages ≡ self.old.slot_pages) }
+        ensures sizes { (self.new.journal_pages ≡ self.old.journal_pages) × (self.new.checkpoint_pages ≡ self.old.checkpoint_pages) }
         // Where none is going and no page is unchecked, nothing is changed, the disk neither.
         ensures nothing { self.old.broken ≡ false → has_all_checked self.old ≡ true → (result ≡ Ok self.old.version) × (self.new ≡ self.old) }
         ensures answers { IfOk result (λ version. version ≡ (checkpoint_of self.old).version) }

@@ -19,7 +19,7 @@ returns-in-Err-clause-lives g c came =
     let first : First = first_of store in
     let m : Machine = start first.sizes first.network first.version first.unchecked in
     let tells = c.in-Err.ensures in
-    let slot = tells.slot came in
+    let slot = tells.checkpoint_pages came in
     let there : c.close.result ≡ store.disk = (let back = c.in-Err.ensures.handed_back in let shut = c.close.ensures in cc) in
     rw (there, c.new-in-Err.ensures.items, c.new.ensures.items)
     (run_no_memory first [] [] [] m (run_none {P = Pick} first tells.room.unchecked_to slot) (g.D.Disk.left store.disk)
@@ -36,7 +36,7 @@ loop-event-init g c =
     record {
       room = omega (arith, none, c.new-2.ensures.len);
       goes = λ came.
-          let slot = c.in-Ok.ensures.slot came in
+          let slot = c.in-Ok.ensures.checkpoint_pages came in
           record {
             came = subst (λ (d : g.row.D.Denot). CameTidy g.D.Disk.honest g.D.Disk.content d) (sym c.in-Ok.ensures.given) came;
             run = run_as first [] [] c.new-3.result.items [] c.new-2.result.items c.in-Ok.life.keeper.machine c.new-3.ensures.items c.new-2.ensures.items

@@ -5,7 +5,7 @@ use Rattle.keeper.proofs.Held.{holds_armed}
 use Rattle.keeper.proofs.ledgers.Ledger.arm.Goals as goal
 
 abbrev sizes_told : Told → Sizes
-sizes_told t = record { journal_pages = t.journal_pages; slot_pages = t.slot_pages }
+sizes_told t = record { journal_pages = t.journal_pages; checkpoint_pages = t.checkpoint_pages }
 
 pub invariant_of-self : goal.invariant_of-self
 invariant_of-self g c = (

@@ -11,7 +11,7 @@ returns-clause-honest g c = rw (← c.self.view_is) (λ came. (c.self.invariant 
 pub returns-clause-room : goal.returns-clause-room
 returns-clause-room g c =
     let n = c.self.inside.pages.numbers in
-    rw (← c.self.view_is) (record { version_to = n.version_to; unchecked_to = n.unchecked_to; slot_pages_to = few_pages c.self.inside.pages.header n.header.arcs_to })
+    rw (← c.self.view_is) (record { version_to = n.version_to; unchecked_to = n.unchecked_to; checkpoint_pages_to = few_pages c.self.inside.pages.header n.header.arcs_to })
 
 pub returns-clause-only : goal.returns-clause-only
 returns-clause-only g c = rw (← c.self.view_is) (λ honest works. (c.self.inside.pages.rests works honest).0)
@@ -19,6 +19,6 @@ returns-clause-only g c = rw (← c.self.view_is) (λ honest works. (c.self.insi
 pub returns-clause-stands : goal.returns-clause-stands
 returns-clause-stands g c = rw (← c.self.view_is) (λ came works. durable_of c.self.inside.pages (g.D.Disk.content c.self.inside.pages.disk) ((c.self.invariant came).1 works).1)
 
-pub returns-clause-slot : goal.returns-clause-slot
-returns-clause-slot g c =
+pub returns-clause-checkpoint_pages : goal.returns-clause-checkpoint_pages
+returns-clause-checkpoint_pages g c =
     rw (← c.self.view_is) (λ came works. ap (pages_for 1023) (arcs_of_header (g.D.Disk.content c.self.inside.pages.disk) (told_by c.self.inside.pages) ((c.self.invariant came).1 works).1.0))

@@ -19,7 +19,7 @@ use roadnet::Refusal;
 use std::snapshot::Snapshot;
 use store::Part;
 
-/// A checkpoint has at most 65,602 pages to write: so many steps of 64 end each.
+/// A checkpoint has at most 65,601 pages to write: so many steps of 64 end each.
 const MOST_STEPS: u32 = 1026;
 
 impl<D: Disk> Ledger<D> {

@@ -20,5 +20,5 @@ returns-in-Ok-clause-tidy g c honest = (told_by c.in-Ok.pages, (c.in-Ok.ensures.
 pub returns-in-Ok-clause-told : goal.returns-in-Ok-clause-told
 returns-in-Ok-clause-told g c honest = record { standing = told_by c.in-Ok.pages; is = c.in-Ok.ensures.standing honest; told_is = refl }
 
-pub returns-in-Ok-clause-slot : goal.returns-in-Ok-clause-slot
-returns-in-Ok-clause-slot g c honest = ap (pages_for 1023) (arcs_of_header (g.D.Disk.content c.in-Ok.pages.disk) (told_by c.in-Ok.pages) (c.in-Ok.ensures.standing honest))
+pub returns-in-Ok-clause-checkpoint_pages : goal.returns-in-Ok-clause-checkpoint_pages
+returns-in-Ok-clause-checkpoint_pages g c honest = ap (pages_for 1023) (arcs_of_header (g.D.Disk.content c.in-Ok.pages.disk) (told_by c.in-Ok.pages) (c.in-Ok.ensures.standing honest))

@@ -1,7 +1,8 @@
 //! Memory that one search leaves to the next.
 
-ghost use Rattle.std.specs.Prelude.{◌≡◌, ◌+◌, ◌≤◌, [], IfOk};
-ghost use Rattle.deltastep.specs.Search.{Suits, ring_buckets, most_lists};
+ghost use Rattle.std.specs.Prelude.{◌≡◌, ◌+◌, ◌≤◌, [], Some, IsOk, IsSome, IfOk, IfSome};
+ghost use Rattle.std.specs.FinMap as map;
+ghost use Rattle.deltastep.specs.Search.{Suits, IsSuited, ring_buckets, most_lists};
 
 use crate::distances::RowError;
 use crate::remembered::Remembered;
@@ -18,6 +19,19 @@ pub struct Workspace {
     remembered: Option<Remembered>,
 }
 
+/// The queue that was left, if there is one and a search of this snapshot can begin with it.
+fn suited<Q: BucketQueue + Drop>(left: Option<Q>, snapshot: &Snapshot) -> Option<Q>
+    ensures suits { IfSome result (λ q. Suits snapshot.now (Q.entries q) (Q.accepts q) (Q.width q) (Q.span q)) }
+    ensures kept { IfSome left (λ q. Suits snapshot.now (Q.entries q) (Q.accepts q) (Q.width q) (Q.span q) → result ≡ Some q) }
+{
+    if let Some(queue) = left {
+        if suits(&queue, snapshot) {
+            return Some(queue);
+        }
+    }
+    None
+}
+
 impl Workspace {
     /// A workspace to which no search has left anything.
     pub fn new() -> Workspace {
@@ -27,8 +41,7 @@ impl Workspace {
         }
     }
 
-    /// A ring of so many lists for a search of this snapshot: the one that was left, without asking for memory, where it suits, else a
-    /// new one.
+    /// A ring of so many lists for a search of this snapshot: the one that was left, where it suits, else a new one.
     pub(crate) fn take_ring(
         &mut self,
         alloc: Global,
@@ -37,12 +50,12 @@ impl Workspace {
     ) -> Result<RingBuckets, RowError>
         requires size { size ≡ ring_buckets snapshot.now.greatest snapshot.now.delta }
         requires few { size ≤ most_lists }
-        ensures suits { IfOk result (λ q. Suits snapshot.now (⟦<RingBuckets as BucketQueue>⟧.entries q) (⟦<RingBuckets as BucketQueue>⟧.accepts q) (⟦<RingBuckets as BucketQueue>⟧.width q) (⟦<RingBuckets as BucketQueue>⟧.span q)) }
+        ensures empty { IfOk result (λ q. ⟦<RingBuckets as BucketQueue>⟧.entries q ≡ map.empty) }
+        ensures first { IfOk result (λ q. ⟦<RingBuckets as BucketQueue>⟧.accepts q 0) }
+        ensures suited { IfOk result (λ q. IsSuited snapshot.now (⟦<RingBuckets as BucketQueue>⟧.width q) (⟦<RingBuckets as BucketQueue>⟧.span q)) }
     {
-        if let Some(ring) = self.ring.take() {
-            if suits(&ring, snapshot) {
-                return Ok(ring);
-            }
+        if let Some(ring) = suited(self.ring.take(), snapshot) {
+            return Ok(ring);
         }
         let buckets = RingBuckets::new(alloc, snapshot.delta(), size)?;
         Ok(buckets)
@@ -55,6 +68,7 @@ impl Workspace {
         limit: usize,
     ) -> Result<Remembered, RowError>
         ensures none { IfOk result (λ remembered. remembered ≡ record { limit = limit; nodes = [] }) }
+        ensures kept { self.old.remembered ≡ Some (record { limit = limit; nodes = [] }) → IsOk result }
     {
         if let Some(remembered) = self.remembered.take() {
             if remembered.is_fresh(limit) {
@@ -65,7 +79,10 @@ impl Workspace {
     }
 
     /// Keeps what a search took, for the next one.
-    pub(crate) fn keep(&mut self, ring: RingBuckets, remembered: Remembered) {
+    pub(crate) fn keep(&mut self, ring: RingBuckets, remembered: Remembered)
+        ensures ring { ⟦<RingBuckets as BucketQueue>⟧.entries ring ≡ map.empty → IsSome self.new.ring }
+        ensures remembered { self.new.remembered ≡ Some remembered }
+    {
         let mut ring = ring;
         if ring.is_empty() {
             ring.restart();

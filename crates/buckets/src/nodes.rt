@@ -100,6 +100,14 @@ impl NodeValues {
         self.count == 0
     }
 
+    /// Whether one node alone has a value, in O(1).
+    #[inline(always)]
+    pub fn is_single(&self) -> bool
+        ensures { IsTrue result ↔ (map.len self.now ≡ 1) }
+    {
+        self.count == 1
+    }
+
     /// The value of the node, if it has one, in O(1).
     #[inline(always)]
     pub fn get(&self, node: u32) -> Option<u64>

@@ -156,3 +156,13 @@ fn a_ring_of_one_list(rt: HostRuntime) -> Result<(), AllocError> {
     assert!(rt; queue.is_empty() && queue.fits(0) && !queue.fits(2));
     Ok(())
 }
+
+#[test]
+fn a_ring_begins_anew(rt: HostRuntime) -> Result<(), AllocError> {
+    let mut queue = ring(rt.alloc(), 5, 5)?;
+    assert!(rt; moves(&mut queue)? && queue.is_empty() && !queue.fits(0));
+    queue.restart();
+    assert!(rt; queue.fits(0) && queue.fits(24) && !queue.fits(25) && queue.window() == 5);
+    assert!(rt; moves(&mut queue)?);
+    Ok(())
+}

@@ -21,7 +21,7 @@ impl Model for Remembered {
 }
 
 impl Remembered {
-    ghost use Rattle.std.specs.Prelude.{◌≡◌, ◌<◌, ◌==◌, [], OnOk, IfOk, All, MatchBool, length};
+    ghost use Rattle.std.specs.Prelude.{◌≡◌, ◌<◌, ◌==◌, ◌↔◌, [], IsTrue, OnOk, IfOk, All, MatchBool, length};
     ghost use Rattle.std.specs.List.{IsDistinct};
     ghost use Rattle.deltastep.specs.Remembered.{remember, remember_all};
 
@@ -33,6 +33,13 @@ impl Remembered {
             flags: vec![in alloc; false; limit]?,
             nodes: Vec::new(alloc),
         })
+    }
+
+    /// Whether it has no node and this limit.
+    pub(crate) fn is_fresh(&self, limit: usize) -> bool
+        ensures { IsTrue result ↔ (self.now ≡ record { limit = limit; nodes = [] }) }
+    {
+        self.nodes.is_empty() && self.flags.len() == limit
     }
 
     /// The nodes in the order in which they were first added.

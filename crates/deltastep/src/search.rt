@@ -59,7 +59,7 @@ fn is_alone(snapshot: &Snapshot, nodes: &[u32]) -> bool
 #[derive(Drop)]
 pub struct Search<Q> {
     pub(crate) tentative: Tentative,
-    buckets: Q,
+    pub(crate) buckets: Q,
 }
 
 impl<Q: BucketQueue> Search<Q> {
@@ -120,9 +120,27 @@ impl<Q: BucketQueue> Search<Q> {
         ensures settled { OnOk result ((source : ℕ) → IsBetweenBuckets snapshot.now source self.old.tentative (Q.entries self.old.buckets) → IsBetweenBuckets snapshot.now source self.new.tentative map.empty) }
     {
         let mut remembered = Remembered::new(alloc, snapshot.nodes() as usize + 1)?;
+        self.settle_all(alloc, snapshot, team, &mut remembered)
+    }
+
+    /// Settles bucket after bucket until none is left, with a memory of nodes that was given and that is empty again.
+    #[inline(always)]
+    pub(crate) fn settle_all<T: Team>(
+        &mut self,
+        alloc: Global,
+        snapshot: &Snapshot,
+        team: &T,
+        remembered: &mut Remembered,
+    ) -> Result<(), RowError>
+        requires state { (source : ℕ) × IsBetweenBuckets snapshot.now source self.old.tentative (Q.entries self.old.buckets) }
+        requires suited { IsSuited snapshot.now (Q.width self.old.buckets) (Q.span self.old.buckets) }
+        requires live { AreLive snapshot.now (Q.entries self.old.buckets) }
+        requires none { remembered.old ≡ record { limit = snapshot.now.nodes + 1; nodes = [] } }
+        ensures settled { OnOk result ((source : ℕ) → IsBetweenBuckets snapshot.now source self.old.tentative (Q.entries self.old.buckets) → IsBetweenBuckets snapshot.now source self.new.tentative map.empty) }
+    {
         let mut taken = Vec::new(alloc);
         'buckets: while let Some(bucket) = self.take_bucket(snapshot, &mut taken)? {
-            self.settle(alloc, snapshot, team, bucket, &mut taken, &mut remembered)?;
+            self.settle(alloc, snapshot, team, bucket, &mut taken, remembered)?;
         }
         Ok(())
     }
@@ -331,10 +349,12 @@ impl<Q: BucketQueue> Search<Q> {
         ensures width { OnOk result (Q.width self.new.buckets ≡ Q.width self.old.buckets) }
         ensures span { OnOk result (Q.span self.new.buckets ≡ Q.span self.old.buckets) }
     {
+        let delta = u64::from(self.buckets.delta());
+        let start = bucket.saturating_mul(delta);
         let mut came_back = false;
         for leg in legs {
             let through = value + u64::from(leg.length);
-            if self.meet_one(top, bucket, leg.head, through)? {
+            if self.meet_one(top, bucket, start, delta, leg.head, through)? {
                 came_back = true;
             }
         }
@@ -355,19 +375,32 @@ impl<Q: BucketQueue> Search<Q> {
         ensures width { OnOk result (Q.width self.new.buckets ≡ Q.width self.old.buckets) }
         ensures span { OnOk result (Q.span self.new.buckets ≡ Q.span self.old.buckets) }
     {
+        let delta = u64::from(self.buckets.delta());
+        let start = bucket.saturating_mul(delta);
         let mut came_back = false;
         for request in requests {
             let (node, value) = *request;
-            if self.meet_one(top, bucket, node, value)? {
+            if self.meet_one(top, bucket, start, delta, node, value)? {
                 came_back = true;
             }
         }
         Ok(came_back)
     }
 
-    /// Meets one request, and tells whether its node came into the given bucket.
+    /// Meets one request, and tells whether its node came into the given bucket, whose start and width are given.
     #[inline(always)]
-    fn meet_one(&mut self, top: u64, bucket: u64, node: u32, value: u64) -> Result<bool, RowError>
+    fn meet_one(
+        &mut self,
+        top: u64,
+        bucket: u64,
+        start: u64,
+        delta: u64,
+        node: u32,
+        value: u64,
+    ) -> Result<bool, RowError>
+        requires width { delta ≡ Q.width self.old.buckets }
+        requires positive { 1 ≤ delta }
+        requires start { start ≡ min (bucket * delta) u64.MAX }
         requires node { (1 ≤ node) × (node < length self.old.tentative) }
         requires fits { Q.accepts self.old.buckets value }
         requires above { bucket ≤ value / Q.width self.old.buckets }
@@ -385,8 +418,6 @@ impl<Q: BucketQueue> Search<Q> {
         if !self.lower(top, node, value)? {
             return Ok(false);
         }
-        let delta = u64::from(self.buckets.delta());
-        let start = bucket.saturating_mul(delta);
         Ok(is_near(start, value, delta))
     }
 

@@ -1,12 +1,14 @@
-ghost use Rattle.std.specs.Prelude.{◌≡◌, ℕ, ◌≤◌, ◌<◌, ◌↔◌, IfOk, IsTrue, MatchOption};
+ghost use Rattle.std.specs.Prelude.{◌≡◌, ℕ, ◌+◌, ◌≤◌, ◌<◌, ◌↔◌, [], IfOk, IsTrue, MatchOption};
 ghost use Rattle.roadnet.specs.Net.{Net};
 ghost use Rattle.roadnet.specs.Walks.{RowOf};
 ghost use Rattle.snapshot.specs.Groups.{IsSnapshotOf};
 ghost use Rattle.deltastep.specs.Search.{Suits, ring_buckets, most_lists};
 
 use crate::distances::{Distances, RowError};
+use crate::remembered::Remembered;
 use crate::search::Search;
-use buckets::{BucketQueue, OrderedBuckets, RingBuckets};
+use crate::workspace::Workspace;
+use buckets::{BucketQueue, OrderedBuckets};
 use relax::Team;
 use snapshot::Snapshot;
 use std::alloc::Global;
@@ -31,10 +33,30 @@ pub fn row_from<Q: BucketQueue + Drop, T: Team>(
     requires suits { Suits snapshot.now (Q.entries buckets) (Q.accepts buckets) (Q.width buckets) (Q.span buckets) }
     ensures row { IfOk result (λ row. (net : Net) → IsSnapshotOf net snapshot.now → RowOf net source row) }
 {
+    let mut remembered = Remembered::new(alloc, snapshot.nodes() as usize + 1)?;
+    let (row, _buckets) = row_by(alloc, snapshot, source, team, buckets, &mut remembered)?;
+    Ok(row)
+}
+
+/// The row of `source` with the given team, queue and memory of no node, and the queue, in which no node is left.
+#[inline(always)]
+fn row_by<Q: BucketQueue + Drop, T: Team>(
+    alloc: Global,
+    snapshot: &Snapshot,
+    source: u32,
+    team: &T,
+    buckets: Q,
+    remembered: &mut Remembered,
+) -> Result<(Distances, Q), RowError>
+    requires node { (1 ≤ source) × (source ≤ snapshot.now.nodes) }
+    requires suits { Suits snapshot.now (Q.entries buckets) (Q.accepts buckets) (Q.width buckets) (Q.span buckets) }
+    requires none { remembered.old ≡ record { limit = snapshot.now.nodes + 1; nodes = [] } }
+    ensures row { IfOk result (λ made. (net : Net) → IsSnapshotOf net snapshot.now → RowOf net source made.0) }
+{
     let mut search = Search::start(alloc, snapshot, source, buckets)?;
-    search.run(alloc, snapshot, team)?;
-    let Search { tentative, .. } = search;
-    Ok(Distances::from_words(tentative.into_words()))
+    search.settle_all(alloc, snapshot, team, remembered)?;
+    let Search { tentative, buckets } = search;
+    Ok((Distances::from_words(tentative.into_words()), buckets))
 }
 
 /// Whether a search of this snapshot can begin with this queue: no node is queued, nothing was taken from it, its buckets are as wide
@@ -79,14 +101,28 @@ pub fn row<T: Team>(
     requires node { (1 ≤ source) × (source ≤ snapshot.now.nodes) }
     ensures row { IfOk result (λ row. (net : Net) → IsSnapshotOf net snapshot.now → RowOf net source row) }
 {
-    match ring_size(snapshot) {
-        Some(size) => {
-            let buckets = RingBuckets::new(alloc, snapshot.delta(), size)?;
-            row_from(alloc, snapshot, source, team, buckets)
-        }
-        None => {
-            let buckets = OrderedBuckets::new(alloc, snapshot.delta());
-            row_from(alloc, snapshot, source, team, buckets)
-        }
-    }
+    row_in(alloc, snapshot, source, team, &mut Workspace::new())
+}
+
+/// The same row, by a search that takes what an earlier one left in the workspace, and leaves its own there: of rows that are made one after
+/// another, only the first asks for that memory. After an `Err` what the search took is given back, and nothing is left of it.
+pub fn row_in<T: Team>(
+    alloc: Global,
+    snapshot: &Snapshot,
+    source: u32,
+    team: &T,
+    workspace: &mut Workspace,
+) -> Result<Distances, RowError>
+    requires node { (1 ≤ source) × (source ≤ snapshot.now.nodes) }
+    ensures row { IfOk result (λ row. (net : Net) → IsSnapshotOf net snapshot.now → RowOf net source row) }
+{
+    let Some(size) = ring_size(snapshot) else {
+        let buckets = OrderedBuckets::new(alloc, snapshot.delta());
+        return row_from(alloc, snapshot, source, team, buckets);
+    };
+    let ring = workspace.take_ring(alloc, snapshot, size)?;
+    let mut remembered = workspace.take_remembered(alloc, snapshot.nodes() as usize + 1)?;
+    let (row, ring) = row_by(alloc, snapshot, source, team, ring, &mut remembered)?;
+    workspace.keep(ring, remembered);
+    Ok(row)
 }

@@ -4,7 +4,7 @@ ghost use Rattle.std.specs.NonZero.{non_zero_usize_get};
 
 use crate::answers::distance_in;
 use crate::queries::Reply;
-use deltastep::{Distances, RowError, row};
+use deltastep::{Distances, RowError, Workspace, row_in};
 use lru::LruCache;
 use relax::{CHUNK, Crew};
 use roadnet::OutOfMemory;
@@ -14,12 +14,13 @@ use std::num::NonZeroUsize;
 use std::thread::Threads;
 
 /// Rows that queries made, by version and source, up to a number of them: where it is full, the row that was not used for the longest
-/// time gives way. It takes 8 bytes a node for each row.
+/// time gives way. It takes 8 bytes a node for each row. What a search takes beside its row is kept for the next one.
 #[derive(Drop)]
 pub struct RowCache {
     alloc: Global,
     capacity: NonZeroUsize,
     rows: Option<LruCache<(u64, u32), Distances>>,
+    workspace: Workspace,
     ghost sized: { ForSome rows (λ rows. rows.cap ≡ non_zero_usize_get capacity) },
 }
 
@@ -43,6 +44,7 @@ impl RowCache {
             alloc,
             capacity,
             rows: None,
+            workspace: Workspace::new(),
         }
     }
 
@@ -141,7 +143,8 @@ impl RowCache {
         if let Some(reply) = self.find(version, source, target) {
             return Ok(reply);
         }
-        match row(alloc, snapshot, source, &Crew::new(rt, CHUNK)) {
+        let crew = Crew::new(rt, CHUNK);
+        match row_in(alloc, snapshot, source, &crew, &mut self.workspace) {
             Ok(distances) => {
                 let reply = distance_in(&distances, target);
                 self.keep(version, source, distances);

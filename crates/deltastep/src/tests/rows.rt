@@ -3,7 +3,7 @@
 ghost use Rattle.std.specs.Prelude.{◌≤◌};
 
 use super::networks::{chain, drawn, fan, longest, network, parallel, six};
-use crate::{Distances, RowError, plain_row, ring_size, row, row_from, suits};
+use crate::{Distances, RowError, Workspace, plain_row, ring_size, row, row_from, row_in, suits};
 use buckets::{OrderedBuckets, RingBuckets};
 use relax::{CHUNK, Crew, Solo, Team};
 use roadnet::{Command, Network, Refusal};
@@ -41,6 +41,28 @@ fn row_by<T: Team>(
     match row(alloc, &snapshot, source, team) {
         Ok(row) => Ok(row),
         Err(RowError::OutOfMemory) => Err(Refusal::OutOfMemory),
+    }
+}
+
+/// The row of a node under this delta, by one worker, twice in this workspace: the second one.
+fn row_again(
+    alloc: Global,
+    network: &Network,
+    source: u32,
+    delta: u32,
+    workspace: &mut Workspace,
+) -> Result<Distances, Refusal> {
+    if delta == 0 || delta > 2147483647 {
+        return Err(Refusal::NumberRange);
+    }
+    let snapshot = Snapshot::build(alloc, network, delta)?;
+    if !snapshot.has_node(source) {
+        return Err(Refusal::NoSuchNode);
+    }
+    let first = row_in(alloc, &snapshot, source, &Solo, workspace);
+    match (first, row_in(alloc, &snapshot, source, &Solo, workspace)) {
+        (Ok(_), Ok(row)) => Ok(row),
+        _ => Err(Refusal::OutOfMemory),
     }
 }
 
@@ -104,6 +126,30 @@ fn rows_of_drawn_networks(rt: HostRuntime) -> Result<(), Refusal> {
         for delta in [1, 3, 2147483647] {
             assert!(rt; agree(&row_under(alloc, &network, 1, delta)?, &plain, 10));
         }
+    }
+    Ok(())
+}
+
+#[test]
+fn rows_in_one_workspace(rt: HostRuntime) -> Result<(), Refusal> {
+    let alloc = rt.alloc();
+    let mut workspace = Workspace::new();
+    let six = six(alloc)?;
+    for seed in 0..10 {
+        let network = drawn(alloc, seed)?;
+        assert!(rt; network.has_node(1));
+        let plain = plain_row(alloc, &network, 1).map_err(|_| Refusal::OutOfMemory)?;
+        for delta in [1, 3, 2147483647] {
+            assert!(rt;
+                agree(
+                    &row_again(alloc, &network, 1, delta, &mut workspace)?,
+                    &plain,
+                    10
+                )
+            );
+        }
+        let want = [None, Some(0), Some(0), Some(2), Some(0), Some(5)];
+        assert!(rt; is(&row_again(alloc, &six, 3, 3, &mut workspace)?, &want));
     }
     Ok(())
 }

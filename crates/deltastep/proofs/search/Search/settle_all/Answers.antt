@@ -5,9 +5,9 @@ use Rattle.snapshot.specs.declared.legs.Part.TheVariants.{Light, Heavy}
 use Rattle.deltastep.proofs.Live.{AreLiveFrom-taken}
 use Rattle.deltastep.proofs.Phases.{weight-taken, IsBetweenBuckets-after}
 use Rattle.deltastep.proofs.Relaxing.{IsSearch-taken, IsRelaxedBut-taken, AreInBucket-taken, IsBucketEmpty-taken}
-use Rattle.deltastep.proofs.search.Search.run.Given.{Over}
-use Rattle.deltastep.proofs.search.Search.run.Goals as goal
-use Rattle.deltastep.proofs.search.Search.run.Goals.{In-Some}
+use Rattle.deltastep.proofs.search.Search.settle_all.Given.{Over}
+use Rattle.deltastep.proofs.search.Search.settle_all.Goals as goal
+use Rattle.deltastep.proofs.search.Search.settle_all.Goals.{In-Some}
 
 takes : (g : Over) (c : In-Some g) → TakesLeast c.args.snapshot.now.delta (g.Q.BucketQueue.entries c.buckets.self.buckets) c.in-Some.bucket c.take_bucket.new.taken.items (g.Q.BucketQueue.entries c.take_bucket.new.self.buckets)
 takes g c = rw c.in-Some.is at c.in_ok-bucket.ensures.taken

@@ -1,6 +1,6 @@
 use Rattle.std.proofs.Common.{◌≡◌, ℕ, ◌+◌, []}
 use Rattle.deltastep.specs.Search.{AreLive, IsBetweenBuckets, IsSuited, top_of, weight}
-use Rattle.deltastep.proofs.search.Search.run.Given as goal
+use Rattle.deltastep.proofs.search.Search.settle_all.Given as goal
 
 abbrev pub invariant-buckets : goal.invariant-buckets
 invariant-buckets g l =

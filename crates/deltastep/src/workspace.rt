@@ -1,0 +1,93 @@
+//! Memory that one search leaves to the next.
+
+ghost use Rattle.std.specs.Prelude.{◌≡◌, ◌+◌, ◌≤◌, [], Some, IsOk, IsSome, IfOk, IfSome};
+ghost use Rattle.std.specs.FinMap as map;
+ghost use Rattle.deltastep.specs.Search.{Suits, IsSuited, ring_buckets, most_lists};
+
+use crate::distances::RowError;
+use crate::remembered::Remembered;
+use crate::stepping::suits;
+use buckets::{BucketQueue, RingBuckets};
+use snapshot::Snapshot;
+use std::alloc::Global;
+
+/// The memory that a search takes beside its row, left to the next search, of the same snapshot or another: what does not suit that is made
+/// anew. It takes none before a search has left some, and then 14 to 27 bytes a node, 24 a list of the ring, and what these lists hold.
+#[derive(Drop)]
+pub struct Workspace {
+    ring: Option<RingBuckets>,
+    remembered: Option<Remembered>,
+}
+
+/// The queue that was left, if there is one and a search of this snapshot can begin with it.
+fn suited<Q: BucketQueue + Drop>(left: Option<Q>, snapshot: &Snapshot) -> Option<Q>
+    ensures suits { IfSome result (λ q. Suits snapshot.now (Q.entries q) (Q.accepts q) (Q.width q) (Q.span q)) }
+    ensures kept { IfSome left (λ q. Suits snapshot.now (Q.entries q) (Q.accepts q) (Q.width q) (Q.span q) → result ≡ Some q) }
+{
+    if let Some(queue) = left {
+        if suits(&queue, snapshot) {
+            return Some(queue);
+        }
+    }
+    None
+}
+
+impl Workspace {
+    /// A workspace to which no search has left anything.
+    pub fn new() -> Workspace {
+        Workspace {
+            ring: None,
+            remembered: None,
+        }
+    }
+
+    /// A ring of so many lists for a search of this snapshot: the one that was left, where it suits, else a new one.
+    pub(crate) fn take_ring(
+        &mut self,
+        alloc: Global,
+        snapshot: &Snapshot,
+        size: u32,
+    ) -> Result<RingBuckets, RowError>
+        requires size { size ≡ ring_buckets snapshot.now.greatest snapshot.now.delta }
+        requires few { size ≤ most_lists }
+        ensures empty { IfOk result (λ q. ⟦<RingBuckets as BucketQueue>⟧.entries q ≡ map.empty) }
+        ensures first { IfOk result (λ q. ⟦<RingBuckets as BucketQueue>⟧.accepts q 0) }
+        ensures suited { IfOk result (λ q. IsSuited snapshot.now (⟦<RingBuckets as BucketQueue>⟧.width q) (⟦<RingBuckets as BucketQueue>⟧.span q)) }
+    {
+        if let Some(ring) = suited(self.ring.take(), snapshot) {
+            return Ok(ring);
+        }
+        let buckets = RingBuckets::new(alloc, snapshot.delta(), size)?;
+        Ok(buckets)
+    }
+
+    /// A memory of no node, of the numbers below the limit: the one that was left, where it has that limit, else a new one.
+    pub(crate) fn take_remembered(
+        &mut self,
+        alloc: Global,
+        limit: usize,
+    ) -> Result<Remembered, RowError>
+        ensures none { IfOk result (λ remembered. remembered ≡ record { limit = limit; nodes = [] }) }
+        ensures kept { self.old.remembered ≡ Some (record { limit = limit; nodes = [] }) → IsOk result }
+    {
+        if let Some(remembered) = self.remembered.take() {
+            if remembered.is_fresh(limit) {
+                return Ok(remembered);
+            }
+        }
+        Remembered::new(alloc, limit)
+    }
+
+    /// Keeps what a search took, for the next one.
+    pub(crate) fn keep(&mut self, ring: RingBuckets, remembered: Remembered)
+        ensures ring { ⟦<RingBuckets as BucketQueue>⟧.entries ring ≡ map.empty → IsSome self.new.ring }
+        ensures remembered { self.new.remembered ≡ Some remembered }
+    {
+        let mut ring = ring;
+        if ring.is_empty() {
+            ring.restart();
+            self.ring = Some(ring);
+        }
+        self.remembered = Some(remembered);
+    }
+}

@@ -1,7 +1,10 @@
 -- What holds of an office each time its lock is got.
-use Rattle.std.specs.Prelude.{◌≡◌, ℕ, ◌≤◌, Some}
+use Rattle.std.specs.Prelude.{◌≡◌, ℕ, ◌≤◌, false, Some}
 use Rattle.history.specs.Origins.{Origin, Beginning}
+use Rattle.machine.specs.declared.calls.Ticket.{Ticket}
+use Rattle.machine.specs.declared.calls.Receipt.{Receipt}
 use Rattle.machine.specs.Machine.{Machine, IsState, commands_to, network_at}
+use Rattle.keeper.specs.Keeping.{Keeping}
 use Rattle.published.specs.Showing.{Showing}
 
 -- The machine runs from the desk's network and version, and the history has the commands that it accepted. Readers see the view of the shown
@@ -23,3 +26,11 @@ pub record RunsFrom (origin : Origin) (m : Machine) : Type 0 where
   pub state : IsState m
   pub base : m.base ≡ origin.base
   pub base_version : m.base_version ≡ origin.version
+
+-- Where the desk's store came tidy, and no write had failed before, P.
+abbrev pub WhenTidy : {D : Type 0} → Type 0 → Keeping D → Type 0 → Type 0
+WhenTidy came_tidy k P = came_tidy → k.machine.broken ≡ false → P
+
+-- the keeper's receipt for a ticket
+abbrev pub receipt_of : Ticket → Receipt
+receipt_of ticket = record { number = ticket.number; command = ticket.command }

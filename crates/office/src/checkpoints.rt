@@ -1,12 +1,13 @@
 // Checkpoints between flushes.
-ghost use Rattle.std.specs.Prelude.{◌≡◌, ◌≢◌, ◌≤◌, ◌↔◌, true, false, None, Ok, Err, IfErr, MatchResult};
+ghost use Rattle.std.specs.Prelude.{◌≡◌, ◌≢◌, ◌≤◌, ◌↔◌, true, None, IfErr};
 ghost use Rattle.disk.specs.Contents.{Rose};
 ghost use Rattle.disk.specs.Moments.{AddsNothing, LeavesOnly};
 ghost use Rattle.pagereader.specs.Outcomes.{failures_told};
 ghost use Rattle.roadnet.specs.declared.refusals.Refusal.TheVariants.{Device as device, OutOfMemory as out_of_memory};
 ghost use Rattle.machine.specs.Calls.{StepsCheckpoint};
 ghost use Rattle.keeper.specs.Keeping.{IsDurableIn};
-ghost use Rattle.keeper.specs.Parts.{done_version};
+ghost use Rattle.office.specs.Offices.{WhenTidy};
+ghost use Rattle.keeper.specs.Parts.{told_as};
 
 use crate::naming::Naming;
 use crate::offices::Office;
@@ -23,7 +24,7 @@ impl<N: Naming, D: Disk> Office<N, D> {
     pub fn checkpoint_step(&mut self, pages: u32) -> Result<Part, Refusal>
         requires some { 1 ≤ pages }
         requires few { pages ≤ 64 }
-        ensures step { MatchResult result (λ part. StepsCheckpoint self.old.machine pages (Ok (done_version part)) self.new.machine) (λ refusal. StepsCheckpoint self.old.machine pages (Err refusal) self.new.machine) }
+        ensures step { StepsCheckpoint self.old.machine pages (told_as result) self.new.machine }
         ensures same { IfErr result (λ refusal. refusal ≢ device → self.new ≡ self.old) }
         ensures memory { IfErr result (λ refusal. refusal ≡ out_of_memory → self.old.machine.checkpoint ≡ None) }
         ensures counted { D.failures self.new.disk ≡ failures_told result (D.failures self.old.disk) }
@@ -32,7 +33,7 @@ impl<N: Naming, D: Disk> Office<N, D> {
         ensures given { self.new.given ≡ self.old.given }
         ensures adds_nothing { self.old.machine.broken ≡ true → AddsNothing D.moment D.left_since self.old.disk self.new.disk }
         // A stop at any moment of the call leaves what stands for what is durable.
-        ensures any_moment { N.came_tidy → self.old.machine.broken ≡ false → LeavesOnly D.moment D.left_since self.old.disk self.new.disk (IsDurableIn self.old.machine) }
+        ensures any_moment { WhenTidy N.came_tidy self.old (LeavesOnly D.moment D.left_since self.old.disk self.new.disk (IsDurableIn self.old.machine)) }
         ensures honest { D.honest self.new.disk ↔ D.honest self.old.disk }
     {
         self.keeper.checkpoint_step(pages)

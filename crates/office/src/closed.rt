@@ -1,6 +1,7 @@
 // An office closed.
-ghost use Rattle.std.specs.Prelude.{◌≡◌, ℕ, ◌≤◌, List, take, length, IfOk};
+ghost use Rattle.std.specs.Prelude.{◌≡◌, ◌≤◌, List, take, length, IfOk};
 ghost use Rattle.std.proofs.Props.{props};
+ghost use Rattle.disk.specs.Contents.{AreAmong};
 ghost use mathlib.Core.List.{IsPrefix};
 ghost use Rattle.roadnet.specs.declared.commands.Command.{Command as Accepted};
 ghost use Rattle.machine.specs.Machine.{commands_to};
@@ -43,7 +44,7 @@ impl<N: Naming, D: Disk> Office<N, D> {
         ensures acknowledged { IfOk result (λ closed. closed.whole.acknowledged ≤ self.machine.durable) }
         ensures disk { IfOk result (λ closed. closed.disk ≡ self.disk) }
         // What a stop may leave of the disk stands for the network after a beginning of the history, with all that was acknowledged or shown.
-        ensures left { N.came_tidy → IfOk result (λ closed. (c : List ℕ) → D.left closed.disk c → KeepsDesk closed.whole closed.shown self.machine.sizes.journal_pages c) }
+        ensures left { N.came_tidy → IfOk result (λ closed. AreAmong (D.left closed.disk) (KeepsDesk closed.whole closed.shown self.machine.sizes.journal_pages)) }
     {
         let _ = self.keeper.opened();
         let Office {

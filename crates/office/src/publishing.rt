@@ -1,7 +1,8 @@
 // Tasks, and their views shown.
-ghost use Rattle.std.specs.Prelude.{◌≡◌, ◌≢◌, Ok, Err, IfOk, IfErr, OnOk, OnErr, MatchResult, option_map, []};
+ghost use Rattle.std.specs.Prelude.{◌≡◌, ◌≢◌, Ok, IfOk, IfErr, OnOk, OnErr, option_map, []};
 ghost use Rattle.roadnet.specs.declared.refusals.Refusal.TheVariants.{OutOfMemory as out_of_memory};
 ghost use Rattle.machine.specs.Machine.{commands_to};
+ghost use Rattle.keeper.specs.Parts.{or_out_of_memory, result_map};
 ghost use Rattle.machine.specs.Calls.{TakesTask, without_task, RefusesView, Publishes};
 
 use crate::naming::Naming;
@@ -19,7 +20,7 @@ impl<N: Naming, D: Disk> Office<N, D> {
     ///
     /// The one error is want of memory, and then nothing has changed.
     pub fn take_task(&mut self) -> Result<Option<Task>, OutOfMemory>
-        ensures step { MatchResult result (λ task. TakesTask self.old.machine (Ok (option_map (λ t. (t.version, t.network.value)) task)) self.new.machine) (λ _. TakesTask self.old.machine (Err out_of_memory) self.new.machine) }
+        ensures step { TakesTask self.old.machine (or_out_of_memory (result_map (option_map (λ t. (t.version, t.network.value))) result)) self.new.machine }
         ensures disk { self.new.disk ≡ self.old.disk }
         ensures given { self.new.given ≡ self.old.given }
         ensures width { self.new.width ≡ self.old.width }

@@ -4,6 +4,7 @@ ghost use Rattle.roadnet.specs.declared.refusals.Refusal.TheVariants.{Closed as 
 ghost use Rattle.machine.specs.Machine.{commands_to};
 ghost use Rattle.machine.specs.Calls.{IsTicketOf, receipt_for};
 ghost use Rattle.machine.specs.Laws.{IsAt};
+ghost use Rattle.office.specs.Offices.{receipt_of};
 
 use crate::naming::Naming;
 use crate::offices::Office;
@@ -19,7 +20,7 @@ impl<N: Naming, D: Disk> Office<N, D> {
     /// is handed back then.
     pub fn receipt(&mut self, ticket: Claim) -> Result<Settled, (Refusal, Claim)>
         requires { ticket.origin ≡ N.origin }
-        ensures step { IfOk result (λ _. receipt_for self.old.machine ticket.ticket ≡ Ok (record { number = ticket.ticket.number; command = ticket.ticket.command })) }
+        ensures step { OnOk result (receipt_for self.old.machine ticket.ticket ≡ Ok (receipt_of ticket.ticket)) }
         ensures there { OnOk result (IsTicketOf self.old.machine ticket.ticket) }
         ensures receipt { IfOk result (λ receipt. receipt ≡ ticket) }
         ensures refused { IfErr result (λ refused. refused.0 ≢ closed → receipt_for self.old.machine ticket.ticket ≡ Err refused.0) }

@@ -1,12 +1,12 @@
 // Commands accepted and made durable.
-ghost use Rattle.std.specs.Prelude.{◌≡◌, ◌≢◌, ◌↔◌, true, false, Ok, Err, IfOk, IfErr, OnErr};
+ghost use Rattle.std.specs.Prelude.{◌≡◌, ◌≢◌, ◌↔◌, true, Ok, Err, IfOk, IfErr, OnErr};
 ghost use Rattle.disk.specs.Contents.{Rose};
 ghost use Rattle.disk.specs.Moments.{AddsNothing, LeavesOnly};
 ghost use Rattle.pagereader.specs.Outcomes.{failures_told};
 ghost use Rattle.roadnet.specs.declared.refusals.Refusal.TheVariants.{Closed as closed, Device as device};
-ghost use Rattle.machine.specs.Machine.{batch};
-ghost use Rattle.machine.specs.Calls.{Submits, Flushes, failed};
-ghost use Rattle.keeper.specs.Keeping.{IsDurableIn};
+ghost use Rattle.machine.specs.Calls.{Submits, Flushes};
+ghost use Rattle.keeper.specs.Keeping.{IsLeftByFlush};
+ghost use Rattle.office.specs.Offices.{WhenTidy};
 
 use crate::naming::Naming;
 use crate::offices::Office;
@@ -49,7 +49,7 @@ impl<N: Naming, D: Disk> Office<N, D> {
         ensures given { self.new.given ≡ self.old.given }
         ensures adds_nothing { self.old.machine.broken ≡ true → AddsNothing D.moment D.left_since self.old.disk self.new.disk }
         // A stop at any moment of the call leaves what a flush that failed leaves.
-        ensures any_moment { N.came_tidy → self.old.machine.broken ≡ false → LeavesOnly D.moment D.left_since self.old.disk self.new.disk (IsDurableIn (failed self.old.machine (batch self.old.machine))) }
+        ensures any_moment { WhenTidy N.came_tidy self.old (LeavesOnly D.moment D.left_since self.old.disk self.new.disk (IsLeftByFlush self.old.machine)) }
         ensures honest { D.honest self.new.disk ↔ D.honest self.old.disk }
     {
         self.keeper.flush()

@@ -1,17 +1,19 @@
 ghost use Rattle.std.specs.Prelude.{◌≡◌, [], true, IfOk};
 ghost use Rattle.store.specs.State.{CameTidy, is_calm};
+ghost use Rattle.machine.specs.Laws.{IsAt};
 
 use crate::naming::Naming;
 use crate::offices::Office;
 use disk::MemDisk;
 use history::{Claim, History, Settled};
 use keeper::Task;
+use published::Shown;
 use relax::Solo;
 use roadnet::{Command, Network, Refusal, RoadArc};
 use rows::View;
 use std::alloc::{AllocError, Global};
 use std::marker::Brand;
-use std::sync::{Arc, Wait};
+use std::sync::{Arc, Mutex, Wait};
 use std::test::Fail;
 use std::thread::Threads;
 use store::{Store, create};
@@ -48,12 +50,16 @@ fn view_of(alloc: Global, task: &Task) -> Result<Arc<View>, Refusal> {
 }
 
 /// A receipt for a ticket whose command a flush makes durable.
-fn settle<N: Naming>(office: &mut Office<N, MemDisk>, ticket: Claim) -> Result<Settled, Refusal>
+fn settle<N: Naming, R: Wait>(
+    rt: &R,
+    lock: &Mutex<Office<N, MemDisk>>,
+    ticket: Claim,
+) -> Result<Settled, Refusal>
     requires { ticket.origin ≡ N.origin }
     ensures { IfOk result (λ receipt. receipt ≡ ticket) }
 {
-    office.flush()?;
-    match office.receipt(ticket) {
+    lock.lock(rt).flush()?;
+    match lock.lock(rt).receipt(ticket) {
         Ok(receipt) => Ok(receipt),
         Err((refusal, _)) => Err(refusal),
     }
@@ -63,26 +69,41 @@ fn settle<N: Naming>(office: &mut Office<N, MemDisk>, ticket: Claim) -> Result<S
 fn show<N: Naming, R: Wait>(
     rt: &R,
     alloc: Global,
-    office: &mut Office<N, MemDisk>,
+    lock: &Mutex<Office<N, MemDisk>>,
 ) -> Result<u64, Refusal> {
-    let task = match office.take_task() {
+    let task = match lock.lock(rt).take_task() {
         Ok(Some(task)) => task,
         Ok(None) => return Err(Refusal::NoTask),
         Err(_) => return Err(Refusal::OutOfMemory),
     };
     let view = view_of(alloc, &task)?;
-    match office.publish(rt, view) {
+    let mut answer = lock.lock(rt).publish(rt, view);
+    if let Err((Refusal::OutOfMemory, view)) = answer {
+        answer = lock.lock(rt).publish(rt, view);
+    }
+    match answer {
         Ok(shown) => Ok(shown),
-        Err((Refusal::OutOfMemory, view)) => match office.publish(rt, view) {
-            Ok(shown) => Ok(shown),
-            Err((refusal, _)) => Err(refusal),
-        },
         Err((refusal, _)) => Err(refusal),
     }
 }
 
-/// Two commands are accepted, settled and shown. Of two readers one learns of the second. Told are the versions that they see, and what is
-/// confirmed of both receipts.
+/// What is shown since a ticket.
+fn shown_since<N: Naming, R: Wait>(
+    rt: &R,
+    lock: &Mutex<Office<N, MemDisk>>,
+    ticket: &Claim,
+) -> Result<Shown, Refusal>
+    requires { ticket.now.origin ≡ N.origin }
+    ensures { IfOk result (λ shown. (shown.origin ≡ N.origin) × IsAt N.origin.version shown.commands ticket.now.ticket) }
+{
+    match lock.lock(rt).shown_since(ticket) {
+        Some(shown) => Ok(shown),
+        None => Err(Refusal::NotYet),
+    }
+}
+
+/// Two commands are accepted, settled and shown, each call under the lock. Of two readers one learns of the second. Told are the versions that
+/// they see, and what is confirmed of both receipts.
 fn round<N: Naming, R: Threads + Wait>(
     rt: &R,
     alloc: Global,
@@ -94,28 +115,24 @@ fn round<N: Naming, R: Threads + Wait>(
     requires history { (history.origin ≡ N.origin) × (history.commands ≡ []) × (history.acknowledged ≡ 0) }
     requires came_tidy { N.came_tidy → CameTidy MemDisk.honest MemDisk.content store.given }
 {
-    let mut office = Office::<N, MemDisk>::new(rt, alloc, history, store, None)?;
-    let (mut told, mut other) = (office.reader()?, office.reader()?);
-    let first = office.submit(CLOSE)?;
-    let first = settle(&mut office, first)?;
-    show(rt, alloc, &mut office)?;
+    let lock = Mutex::new(Office::<N, MemDisk>::new(rt, alloc, history, store, None)?);
+    let mut told = lock.lock(rt).reader()?;
+    let mut other = lock.lock(rt).reader()?;
+    let first = lock.lock(rt).submit(CLOSE)?;
+    let first = settle(rt, &lock, first)?;
+    show(rt, alloc, &lock)?;
     let before = told.look()?.version();
-    let second = office.submit(MARK)?;
-    let second = settle(&mut office, second)?;
+    let second = lock.lock(rt).submit(MARK)?;
+    let second = settle(rt, &lock, second)?;
     let behind = other.look()?.version();
-    show(rt, alloc, &mut office)?;
-    let Some(shown) = office.shown_since(second.ticket()) else {
-        return Err(Refusal::NotYet);
-    };
-    told.learn(&shown);
-    let seen = [
-        before,
-        behind,
-        told.look()?.version(),
-        other.look()?.version(),
-    ];
-    let closed = office.close(rt)?;
-    Ok((seen, [closed.confirm(&first), closed.confirm(&second)]))
+    show(rt, alloc, &lock)?;
+    told.learn(&shown_since(rt, &lock, second.ticket())?);
+    let seen = (told.look()?.version(), other.look()?.version());
+    let closed = lock.into_inner().close(rt)?;
+    Ok((
+        [before, behind, seen.0, seen.1],
+        [closed.confirm(&first), closed.confirm(&second)],
+    ))
 }
 
 #[test]

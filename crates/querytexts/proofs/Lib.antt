@@ -1,1 +1,2 @@
 pub mod Batched
+pub mod Unanswered

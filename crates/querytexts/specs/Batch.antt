@@ -1,5 +1,5 @@
 -- What the pairs of a text are answered with, and for what they are refused.
-use Rattle.std.specs.Prelude.{◌≡◌, ℕ, zero, suc, List, [], ◌∷◌, ◌++◌, Option, Result, Ok, Err}
+use Rattle.std.specs.Prelude.{◌≡◌, ◌≤◌, ℕ, zero, suc, List, [], ◌∷◌, ◌++◌, Option, Result, Ok, Err}
 use Rattle.std.specs.List.{AllZip}
 use Rattle.std.specs.Io.KnownBytes.{Appends}
 use Rattle.roadnet.specs.Net.{Net}
@@ -20,7 +20,7 @@ use Rattle.rows.specs.declared.queries.Reply.{Reply}
 use Rattle.rows.specs.Replies.{IsRight}
 use Rattle.printing.specs.Printed.{version_line, answer_line}
 use Rattle.printing.specs.declared.failed.Failed.{Failed}
-use Rattle.printing.specs.declared.failed.Failed.TheVariants.{Text}
+use Rattle.printing.specs.declared.failed.Failed.TheVariants.{Text, Code}
 use Rattle.querytexts.specs.Once.{IsUnanswered}
 
 abbrev pub query_of : Pair → Query
@@ -59,6 +59,11 @@ pub record AfterNetwork (network : List ℕ) (Refused : Net → Type 0) : Type 0
   pub net : Net
   pub network_is : content network ≡ Ok net
   pub refused : Refused net
+
+-- a fault of one of the two texts, or the writer failed, or memory ran out: nothing else
+abbrev pub IsOfBatch : Failed → Type 0
+IsOfBatch (Text which fault) = which ≤ 1
+IsOfBatch (Code refusal) = IsUnanswered (Code refusal)
 
 -- the fault of a reader's first text is told, or, where that has none, that of the second; or a reader failed in its text; or the writer
 -- failed, or memory ran out

@@ -35,6 +35,11 @@ IsUnanswered (Code Write) = ⊤
 IsUnanswered (Code OutOfMemory) = ⊤
 IsUnanswered failed = ⊥
 
+-- a fault of the call's one text, or the writer failed, or memory ran out: nothing else
+abbrev pub IsOfOnce : Failed → Type 0
+IsOfOnce (Text which fault) = which ≡ 0
+IsOfOnce (Code refusal) = IsUnanswered (Code refusal)
+
 -- a reader's text has its fault told, or the reader failed in it; or the writer failed, or memory ran out
 abbrev pub IsRefusedOnce : List ℕ → Option (List ℕ) → Failed → Type 0
 IsRefusedOnce text left (Text zero fault) = FaultOfLines text (rows text) left fault

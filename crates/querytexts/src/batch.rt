@@ -9,7 +9,7 @@ ghost use Rattle.dimacs.specs.Counts.{failed_calls, reader_of, IsSameReader};
 ghost use Rattle.printing.specs.Counting.{failed_writes, writer_of, IsSameWriter, CountsFailure};
 ghost use Rattle.printing.specs.Failing.{CountsFirst, CountsSecond, CountsWrites, LeavesUnwritten};
 ghost use Rattle.querytexts.specs.Once.{IsUnanswered};
-ghost use Rattle.querytexts.specs.Batch.{AreRight, query_of, answer_lines, AnswersAll, IsAnsweredBatch, IsRefusedBatch, IsTextRefusedBatch};
+ghost use Rattle.querytexts.specs.Batch.{AreRight, query_of, answer_lines, AnswersAll, IsAnsweredBatch, IsOfBatch, IsRefusedBatch, IsTextRefusedBatch};
 
 use dimacs::{Counted, Pair, parse_gr, parse_p2p, read_gr_counted, read_p2p_counted};
 use printing::{CountedWriter, Done, Failed, put_answer, put_version};
@@ -176,8 +176,8 @@ pub fn answer_pairs<T: Threads, W: Write>(
 ///
 /// `delta` is the width of a search's buckets, 1 to 2147483647: every width gives the same answers; without one it is
 /// the network's default. The rows of the last 16 sources are kept, 8 bytes a node and row. Where no memory is there for all replies the
-/// call is refused with 11 and nothing is written. A failed read is fault 10 of the text and line being read, and a failed write is 12: both are told only where the count of
-/// that reader's or the writer's failed calls rose. After an `Err` readers and writer are not used again.
+/// call is refused with 11 and nothing is written. A failed read is fault 10 of the text and line being read, and a failed write is 12: both
+/// are told only where the count of that reader's or the writer's failed calls rose. After an `Err` readers and writer are not used again.
 pub fn batch_counted<T: Threads, R: BufRead, Q: BufRead, W: Write>(
     rt: &T,
     alloc: Global,
@@ -192,6 +192,7 @@ pub fn batch_counted<T: Threads, R: BufRead, Q: BufRead, W: Write>(
     ensures width { IfOk result (λ done. done.delta ≡ delta) }
     ensures refused { IfErr result (λ failed. IfSome (R.remaining (reader_of gr.old)) (λ network. IfSome (Q.remaining (reader_of p2p.old))
         (λ pairs. IsRefusedBatch network pairs (R.remaining (reader_of gr.new)) (Q.remaining (reader_of p2p.new)) failed))) }
+    ensures codes { IfErr result IsOfBatch }
     ensures unwritten { IfErr result (LeavesUnwritten (writer_of out.old) (writer_of out.new)) }
     ensures reads_network { CountsFirst (failed_calls gr.old) (failed_calls gr.new) result }
     ensures reads_pairs { CountsSecond (failed_calls p2p.old) (failed_calls p2p.new) result }

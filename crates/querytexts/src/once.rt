@@ -6,7 +6,7 @@ ghost use Rattle.rows.specs.Replies.{refusal_of};
 ghost use Rattle.dimacs.specs.Counts.{failed_calls, reader_of, IsSameReader};
 ghost use Rattle.printing.specs.Counting.{failed_writes, writer_of, IsSameWriter};
 ghost use Rattle.printing.specs.Failing.{CountsReads, CountsWrites, LeavesUnwritten};
-ghost use Rattle.querytexts.specs.Once.{AnswersOne, IsUnanswered, IsAnsweredOnce, IsRefusedOnce, IsTextRefusedOnce};
+ghost use Rattle.querytexts.specs.Once.{AnswersOne, IsUnanswered, IsAnsweredOnce, IsOfOnce, IsRefusedOnce, IsTextRefusedOnce};
 
 use dimacs::{Counted, parse_gr, read_gr_counted};
 use printing::{CountedWriter, Done, Failed, put_lines};
@@ -82,6 +82,7 @@ pub fn once_counted<T: Threads, R: BufRead, W: Write>(
     ensures width { IfOk result (λ done. done.delta ≡ delta) }
     ensures refused { IfErr result (λ failed. IfSome (R.remaining (reader_of gr.old))
         (λ text. IsRefusedOnce text (R.remaining (reader_of gr.new)) failed)) }
+    ensures codes { IfErr result IsOfOnce }
     ensures unwritten { IfErr result (LeavesUnwritten (writer_of out.old) (writer_of out.new)) }
     ensures reads { CountsReads (failed_calls gr.old) (failed_calls gr.new) result }
     ensures writes { CountsWrites (failed_writes out.old) (failed_writes out.new) result }

@@ -1,7 +1,7 @@
 ghost use Rattle.std.specs.Prelude.{◌≤◌};
 
 use crate::batch::answer_by;
-use crate::{batch_text, once_counted, once_text};
+use crate::{answer_pairs, batch_counted, batch_text, once_counted, once_text};
 use dimacs::{Code, Counted, Fault, Pair, parse_gr, parse_p2p};
 use printing::{CountedWriter, Done, Failed};
 use roadnet::{Network, Refusal};
@@ -96,6 +96,46 @@ fn a_writer_fails_at_each_write(rt: HostRuntime) {
             assert!(rt; failed == 1, "write {writes}");
         }
     }
+}
+
+/// The calls that count, with ample memory: each writes its bytes, and no call of a reader or of the writer fails.
+#[test]
+fn counted_calls_write_their_bytes(rt: HostRuntime) {
+    let alloc = rt.alloc();
+    let mut out = Vec::new(alloc);
+    let mut writer = CountedWriter::new(&mut out);
+    let two = b"p aux sp p2p 2\nq 1 6\nq 6 1\n".as_slice();
+    let mut six = SIX;
+    let outcome = once_counted(
+        &rt,
+        alloc,
+        &mut Counted::new(&mut six),
+        1,
+        6,
+        Some(5),
+        &mut writer,
+    );
+    assert!(rt; outcome == Ok(Done { delta: Some(5) }));
+    let (mut six, mut pairs) = (SIX, two);
+    let outcome = batch_counted(
+        &rt,
+        alloc,
+        &mut Counted::new(&mut six),
+        &mut Counted::new(&mut pairs),
+        None,
+        &mut writer,
+    );
+    assert!(rt; outcome == Ok(Done { delta: None }));
+    if let Ok(network) = parse_gr(alloc, SIX)
+        && let Ok(pairs) = parse_p2p(alloc, two, network.nodes())
+    {
+        let outcome = answer_pairs(&rt, alloc, &network, 7, Some(3), &pairs, &mut writer);
+        assert!(rt; outcome == Ok(Done { delta: Some(3) }));
+    }
+    assert_eq!(rt; writer.failed_writes(), 0);
+    assert!(rt;
+        out.as_slice() == b"v 0\nd 1 6 15\nv 0\nd 1 6 15\nx 6 1\nv 7\nd 1 6 15\nx 6 1\n".as_slice()
+    );
 }
 
 #[test]

@@ -3,7 +3,8 @@ use Rattle.std.proofs.Common.{◌≡◌, ℕ, List, [], refl, sym, subst, arith,
 use Rattle.std.proofs.lemmas.List.Elements.{All-nil}
 use Rattle.roadnet.specs.Net.{Net}
 use Rattle.machine.specs.Machine.{Machine, Sizes, start}
-use Rattle.storetexts.specs.Applying.{IsSettled, HaveCome}
+use Rattle.storetexts.specs.Outcomes.{IsSettled}
+use Rattle.storetexts.specs.Applying.{HaveCome}
 
 pub none_come : (net there : Net) (version at unchecked : ℕ) (sizes : Sizes) (m : Machine) → m ≡ start sizes there at unchecked → there ≡ net → at ≡ version → HaveCome net version [] [] 0 m
 none_come net there version at unchecked sizes m is same counted =

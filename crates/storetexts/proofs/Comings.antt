@@ -12,8 +12,7 @@ use Rattle.roadnet.specs.Step.{after, changed, refusal_of}
 use Rattle.machine.specs.Machine.{most_versions, most_of_life}
 use Rattle.storetexts.specs.declared.outcomes.Outcome.{Outcome}
 use Rattle.storetexts.specs.declared.outcomes.Outcome.TheVariants.{Accepted, Refused}
-use Rattle.storetexts.specs.Outcomes.{refusal_at, IsRefusedFor, ComesTo, accepted_in}
-use Rattle.storetexts.specs.Applying.{IsSettled}
+use Rattle.storetexts.specs.Outcomes.{refusal_at, IsRefusedFor, ComesTo, accepted_in, IsSettled}
 
 -- ---- one command more
 pub one_accepted : (opened : ℕ) (net there : Net) (version at : ℕ) (cs : List Command) (os : List Outcome) (c : Command) (n : ℕ)

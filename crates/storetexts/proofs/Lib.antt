@@ -1,4 +1,5 @@
 pub mod Marked
+pub mod Meanwhile
 pub mod Made
 pub mod Judged
 pub mod Answered
@@ -9,3 +10,4 @@ pub mod Remaining
 pub mod Beginning
 pub mod Checkpointed
 pub mod Unbegun
+pub mod TextApplied

@@ -1,8 +1,9 @@
 -- What a stop leaves of a store to which commands were applied.
-use Rattle.std.proofs.Common.{◌≡◌, ◌∙◌, ℕ, ◌+◌, ◌-◌, ◌<◌, ◌≤◌, false, List, [], ◌∷◌, ◌++◌, length, get_or, take, Option, None, Some, Result, ◌⊎◌, inr, Ok, Err, sym, ap, subst, arith}
-use Rattle.std.specs.Prelude.{All, OnOk, IfErr, IfSome}
+use Rattle.std.proofs.Common.{◌≡◌, ◌∙◌, ℕ, ◌+◌, ◌-◌, ◌<◌, ◌≤◌, false, List, [], ◌∷◌, ◌++◌, length, get_or, take, Option, None, Some, Result, ◌⊎◌, ⊎_elim, inr, Ok, Err, sym, ap, subst, arith}
+use Rattle.std.specs.Prelude.{All, OnOk, IfErr, IfSome, slice_get}
 use Rattle.std.proofs.lemmas.List.{take_all, take_more}
-use Rattle.std.proofs.lemmas.List.Elements.{All-weaker}
+use Rattle.std.proofs.lemmas.Option.{slice_get_cases}
+use Rattle.std.proofs.lemmas.List.Elements.{All-weaker, All-get_or}
 use Rattle.roadnet.specs.declared.commands.Command.{Command}
 use Rattle.roadnet.specs.Net.{Net}
 use Rattle.roadnet.specs.Step.{after}
@@ -14,11 +15,13 @@ use Rattle.machine.specs.Lives.{HoldsDurable}
 use Rattle.machine.proofs.Kept.{left_between}
 use Rattle.keeper.specs.Keeping.{Holds}
 use Rattle.printing.specs.declared.failed.Failed.{Failed}
+use Rattle.printing.specs.declared.failed.Failed.TheVariants.{Code}
+use Rattle.roadnet.specs.declared.refusals.Refusal.TheVariants.{Write}
 use Rattle.storetexts.specs.declared.outcomes.Outcome.{Outcome}
 use Rattle.storetexts.specs.declared.outcomes.Outcome.TheVariants.{Accepted, Refused}
-use Rattle.storetexts.specs.Outcomes.{ComesTo, accepted_in, outcome_lines}
-use Rattle.storetexts.specs.Applied.{commands_of, StandsAfter, AppliesAll, IsApplied, KeepsTold, AppliesSome, IsCutOff, IfNotWrite}
-use Rattle.storetexts.specs.Applying.{IsSteady, IsSettled, HaveCome, HaveComeSome, KeepsAccepted, AreTold, IfTold}
+use Rattle.storetexts.specs.Outcomes.{ComesTo, accepted_in, outcome_lines, IsSettled, IsUnsettledAt}
+use Rattle.storetexts.specs.Applied.{commands_of, StandsAfter, AppliesAll, IsApplied, KeepsTold, TellsFront, AppliesSome, IsCutOff, IfNotWrite, TellsAll, StandsWithin, StandsAmong}
+use Rattle.storetexts.specs.Applying.{IsSteady, HaveCome, HaveComeSome, KeepsAccepted, AreTold, IfTold, IfEndedEarly, StandsIn}
 use Rattle.storetexts.proofs.Comings.{IsPlace, place, as_many}
 use Rattle.storetexts.proofs.Stepping.{latest_is, settled_all, come_kept, come_told}
 
@@ -34,7 +37,7 @@ module _ (net : Net) (version told : ℕ) (cs : List Command) (os : List Outcome
       ∙ ap (λ (l : List Command). after net (take (v - version) l)) h.accepted_is)
 
   -- a content that holds what is durable keeps what was told
-  pub kept_told : (content : List ℕ) → HoldsDurable (StandsTidyFor m.sizes.journal_pages) m content → KeepsTold net version cs os told content
+  pub kept_told : (content : List ℕ) → HoldsDurable (StandsTidyFor m.sizes.journal_pages) m content → KeepsTold net version cs os told m.durable content
   kept_told content held =
       let v = held.version in
       let between = left_between m s.state v held.left in
@@ -47,6 +50,7 @@ module _ (net : Net) (version told : ℕ) (cs : List Command) (os : List Outcome
         kept = p.kept;
         told_kept = p.told_kept;
         kept_to = p.kept_to;
+        durable_kept = omega (arith, from, p.counted);
         stands = record {
           network = held.network;
           network_is = ap (after net) p.same ∙ (sym (network_there v) ∙ held.network_is);
@@ -56,8 +60,8 @@ module _ (net : Net) (version told : ℕ) (cs : List Command) (os : List Outcome
       }
 
 -- where all is told, it keeps all
-pub kept_all : (net : Net) (version : ℕ) (cs : List Command) (os : List Outcome) (content : List ℕ) → ComesTo version net version cs os → KeepsTold net version cs os (length os) content → StandsAfter net version cs os content
-kept_all net version cs os content come k =
+pub kept_all : (net : Net) (version durable : ℕ) (cs : List Command) (os : List Outcome) (content : List ℕ) → ComesTo version net version cs os → KeepsTold net version cs os (length os) durable content → StandsAfter net version cs os content
+kept_all net version durable cs os content come k =
     let long : length os ≡ length cs = as_many version net version cs os come in
     let same_cs : take k.kept cs ≡ cs = take_all k.kept cs (omega (arith, k.told_kept, long)) in
     let same_os : take k.kept os ≡ os = take_all k.kept os k.told_kept in
@@ -69,24 +73,31 @@ pub applies_all : (net : Net) (version : ℕ) (cs : List Command) (os : List Out
 applies_all net version cs os told m content left old new h s calm holds now all lines = record {
   outcomes = os;
   come = h.come;
-  stands = kept_all net version cs os content h.come (kept_told net version (length os) cs os m h s content (holds.each_left content now));
+  stands = kept_all net version m.durable cs os content h.come (kept_told net version (length os) cs os m h s content (holds.each_left content now));
   only = holds.only calm;
   written =
       let same : outcome_lines (take told os) ≡ outcome_lines os = ap outcome_lines (take_all told os (omega (arith, all))) in
       rw same at lines;
 }
 
+front_of : (failed : Failed) (durable : ℕ) (os : List Outcome) (told : ℕ) (old new : Option (List ℕ)) → All (IsSettled durable) (take told os)
+    → IfNotWrite failed (AreTold old new os told) → IfNotWrite failed (IsUnsettledAt durable os told) → IfNotWrite failed (TellsFront durable os told old new)
+front_of (Code Write) durable os told old new settled lines next = tt
+front_of _ durable os told old new settled lines next = record { written = lines; settled = settled; next = next }
+
 pub applies_some : (net : Net) (version : ℕ) (cs : List Command) (os : List Outcome) (told : ℕ) (m : Machine) (content : List ℕ) (left : List ℕ → Type 0) (old new : Option (List ℕ)) (failed : Failed)
-    → HaveComeSome net version cs os told m → IsSteady m → Holds content left m → IfNotWrite failed (AreTold old new os told)
+    → HaveComeSome net version cs os told m → IsSteady m → pending m ≤ 253 → Holds content left m → IfNotWrite failed (AreTold old new os told) → IfNotWrite failed (IsUnsettledAt m.durable os told)
     → AppliesSome net version cs left old new failed
-applies_some net version cs os told m content left old new failed h s holds lines = record {
+applies_some net version cs os told m content left old new failed h s waiting holds lines next = record {
   taken = h.taken;
   outcomes = os;
   come = h.come.come;
+  durable = m.durable;
+  waiting = let long = latest_is net version told (take h.taken cs) os m h.come in omega (arith, waiting, long);
   told = told;
   told_to = h.come.told_to;
   each_left = λ c was. kept_told net version told (take h.taken cs) os m h.come s c (holds.each_left c was);
-  written = lines;
+  front = front_of failed m.durable os told old new h.come.settled lines next;
 }
 
 -- ---- a flush, and what is told behind it
@@ -97,13 +108,26 @@ settle_come net version told told' cs os m m' k to more h =
     let later = come_kept net version told cs os m h m' k in
     come_told net version told cs os m' later told' to (more later.settled)
 
+unsettled : (durable : ℕ) (o : Option Outcome) (x : Outcome) → o ≡ Some x → IfSome o (λ outcome. IsSettled durable outcome → ⊥) → IsSettled durable x → ⊥
+unsettled durable o x is next =
+    let here : IfSome (Some x) (λ outcome. IsSettled durable outcome → ⊥) = subst (λ (p : Option Outcome). IfSome p (λ outcome. IsSettled durable outcome → ⊥)) is next in
+    here
+
+all_if_unsettled : (durable : ℕ) (os : List Outcome) (told : ℕ) → told ≤ length os → IsUnsettledAt durable os told → All (IsSettled durable) os → told ≡ length os
+all_if_unsettled durable os told to next all = ⊎_elim
+    (λ here.
+    let last : IsSettled durable (get_or os told here.0) = All-get_or (IsSettled durable) os told here.0 here.1 all in
+    absurd (unsettled durable (slice_get os told) here.0 here.2 next (subst (IsSettled durable) here.3 last)))
+    (λ past. omega (arith, to, past.0))
+    (slice_get_cases os told).1
+
 pub settle_all : (net : Net) (version told told' : ℕ) (cs : List Command) (os : List Outcome) (m m' : Machine)
-    → KeepsAccepted m m' → IsSteady m' → pending m' ≡ 0 → (All (IsSettled m'.durable) os → told' ≡ length os)
+    → KeepsAccepted m m' → IsSteady m' → pending m' ≡ 0 → told' ≤ length os → IsUnsettledAt m'.durable os told'
     → HaveCome net version cs os told m → told' ≡ length os
-settle_all net version told told' cs os m m' k s none all h =
+settle_all net version told told' cs os m m' k s none to next h =
     let later = come_kept net version told cs os m h m' k in
     let within = s.state.durable_accepted in
-    all (settled_all net version told cs os m' later (omega (arith, within, none)))
+    all_if_unsettled m'.durable os told' to next (settled_all net version told cs os m' later (omega (arith, within, none)))
 
 -- ---- commands taken one by one
 pub come_next : (net : Net) (version : ℕ) (cs : List Command) (i : ℕ) (d : Command) (os : List Outcome) (told : ℕ) (m : Machine) → i < length cs
@@ -114,20 +138,48 @@ pub come_end : (net : Net) (version : ℕ) (cs : List Command) (i : ℕ) (os : L
     → HaveCome net version (take i cs) os told m → HaveCome net version cs os told m
 come_end net version cs i os told m end h = subst (λ (l : List Command). HaveCome net version l os told m) (take_all i cs end) h
 
+pub on_ok_any : {X E : Type 0} (r : Result X E) (P : Type 0) → P → OnOk r P
+on_ok_any (Ok x) P p = p
+on_ok_any (Err e) P p = tt
+
 pub on_ok_too : {X E : Type 0} (r : Result X E) (P Q : Type 0) → OnOk r P → (P → Q) → OnOk r Q
 on_ok_too (Ok x) P Q p f = f p
 on_ok_too (Err e) P Q p f = tt
 
 -- ---- how it ends
 module _ (net : Net) (version : ℕ) (first m : Machine) (cs : List Command) (os : List Outcome) (told : ℕ) (content : List ℕ) (left : List ℕ → Type 0) (old new : Option (List ℕ)) (begun : HaveCome net version [] [] 0 first) (s : IsSteady m) (holds : Holds content left m) where
-  pub ended_all : (r : Result (Unit {0}) Failed) → OnOk r ((n : Net) (v : ℕ) → HaveCome n v [] [] 0 first → HaveCome n v cs os (length os) m) → OnOk r (m.broken ≡ false)
+  pub ended_all : (r : Result (Unit {0}) Failed) → OnOk r ((n : Net) (v : ℕ) → HaveCome n v [] [] 0 first → HaveCome n v cs os told m) → OnOk r (m.broken ≡ false)
       → OnOk r ((n : Net) (v : ℕ) → HaveCome n v [] [] 0 first → told ≡ length os) → IfTold r (AreTold old new os told) → left content → OnOk r (AppliesAll net version cs content left old new)
-  ended_all (Ok done) come calm all lines now = applies_all net version cs os told m content left old new (come net version begun) s calm holds now (all net version begun) lines
+  ended_all (Ok done) come calm all lines now =
+      let whole : told ≡ length os = all net version begun in
+      applies_all net version cs os told m content left old new (subst (λ (n : ℕ). HaveCome net version cs os n m) whole (come net version begun)) s calm holds now whole lines
   ended_all (Err failed) come calm all lines now = tt
 
-  pub ended_some : (r : Result (Unit {0}) Failed) → ((n : Net) (v : ℕ) → HaveCome n v [] [] 0 first → HaveComeSome n v cs os told m) → IfTold r (AreTold old new os told) → IfErr r (AppliesSome net version cs left old new)
-  ended_some (Ok done) some lines = tt
-  ended_some (Err failed) some lines = applies_some net version cs os told m content left old new failed (some net version begun) s holds lines
+  pub ended_some : (r : Result (Unit {0}) Failed) → ((n : Net) (v : ℕ) → HaveCome n v [] [] 0 first → HaveComeSome n v cs os told m) → pending m ≤ 253 → IfTold r (AreTold old new os told) → IfEndedEarly r (IsUnsettledAt m.durable os told)
+      → IfErr r (AppliesSome net version cs left old new)
+  ended_some (Ok done) some waiting lines next = tt
+  ended_some (Err failed) some waiting lines next = applies_some net version cs os told m content left old new failed (some net version begun) s waiting holds lines next
+
+-- all that was told, also where the content isn't known
+pub told_all : (net : Net) (version : ℕ) (first m : Machine) (cs : List Command) (os : List Outcome) (told : ℕ) (old new : Option (List ℕ)) → HaveCome net version [] [] 0 first → (r : Result (Unit {0}) Failed)
+    → OnOk r ((n : Net) (v : ℕ) → HaveCome n v [] [] 0 first → HaveCome n v cs os told m) → OnOk r ((n : Net) (v : ℕ) → HaveCome n v [] [] 0 first → told ≡ length os) → IfTold r (AreTold old new os told)
+    → OnOk r (TellsAll net version cs old new)
+told_all net version first m cs os told old new begun (Ok done) come all lines = record {
+  outcomes = os;
+  come = (come net version begun).come;
+  written =
+      let whole : told ≡ length os = all net version begun in
+      let same : outcome_lines (take told os) ≡ outcome_lines os = ap outcome_lines (take_all told os (omega (arith, whole))) in
+      rw same at lines;
+}
+told_all net version first m cs os told old new begun (Err failed) come all lines = tt
+
+-- a stop at any moment leaves a beginning of what was accepted of the first commands
+pub among : (net : Net) (version : ℕ) (cs : List Command) (os : List Outcome) (told : ℕ) (m : Machine) → HaveComeSome net version cs os told m → (c : List ℕ) → StandsIn m c → StandsAmong net version cs c
+among net version cs os told m h c w =
+    let of_base : StandsWithin net m.base_version m.accepted c = subst (λ (n : Net). StandsWithin n m.base_version m.accepted c) h.come.base_is w in
+    let of_version : StandsWithin net version m.accepted c = subst (λ (v : ℕ). StandsWithin net v m.accepted c) h.come.version_is of_base in
+    record { taken = h.taken; outcomes = os; come = h.come.come; stands = subst (λ (l : List Command). StandsWithin net version l c) h.come.accepted_is of_version }
 
 -- ---- the same of a text
 pub if_known : (known : Option (List ℕ)) (P : List ℕ → Type 0) → ((text : List ℕ) → P text) → IfSome known P

@@ -17,8 +17,8 @@ use Rattle.machine.specs.Runs.Happened.{Submitted}
 use Rattle.machine.proofs.Kept.{states_kept}
 use Rattle.storetexts.specs.declared.outcomes.Outcome.{Outcome}
 use Rattle.storetexts.specs.declared.outcomes.Outcome.TheVariants.{Accepted, Refused}
-use Rattle.storetexts.specs.Outcomes.{refusal_at, IsRefusedFor, accepted_in}
-use Rattle.storetexts.specs.Applying.{IsSteady, IsSettled, HaveCome, KeepsAccepted}
+use Rattle.storetexts.specs.Outcomes.{refusal_at, IsRefusedFor, accepted_in, IsSettled}
+use Rattle.storetexts.specs.Applying.{IsSteady, HaveCome, KeepsAccepted}
 use Rattle.storetexts.proofs.Comings.{one_accepted, one_refused, accepted_more, accepted_same, after_come, all_settled}
 
 -- ---- a submit

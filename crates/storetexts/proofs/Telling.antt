@@ -8,8 +8,8 @@ use Rattle.std.proofs.lemmas.List.Elements.{All-nil, All-cons, All-append}
 use Rattle.std.proofs.lemmas.Grind.{flat_map-append}
 use Rattle.printing.specs.Replied.{printed_reply, printed_replies}
 use Rattle.storetexts.specs.declared.outcomes.Outcome.{Outcome}
-use Rattle.storetexts.specs.Outcomes.{reply_of, outcome_lines}
-use Rattle.storetexts.specs.Applying.{IsSettled, AreTold}
+use Rattle.storetexts.specs.Outcomes.{reply_of, outcome_lines, IsSettled}
+use Rattle.storetexts.specs.Applying.{AreTold}
 
 line_of_one_more : (os : List Outcome) (i : ℕ) (d : Outcome) → i < length os → outcome_lines (take (i + 1) os) ≡ outcome_lines (take i os) ++ printed_reply (reply_of (get_or os i d))
 line_of_one_more os i d lt =

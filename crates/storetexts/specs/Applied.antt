@@ -1,5 +1,5 @@
 -- What a store and a writer are left with once the commands of a text were applied, and for what that is refused.
-use Rattle.std.specs.Prelude.{◌≡◌, ℕ, zero, ◌+◌, ◌≤◌, List, Option, Some, Ok, Err, Result, ⊤, length, take}
+use Rattle.std.specs.Prelude.{◌≡◌, ◌⊎◌, ℕ, zero, ◌+◌, ◌≤◌, List, All, Option, Some, Ok, Err, Result, ⊤, length, take}
 use Rattle.std.specs.Io.KnownBytes.{Appends}
 use Rattle.roadnet.specs.declared.commands.Command.{Command}
 use Rattle.roadnet.specs.declared.refusals.Refusal.TheVariants.{NotAStore, WrongFormat, Damaged, Write}
@@ -14,11 +14,11 @@ use Rattle.dimacs.specs.Taking.{ByCode, ByMemory}
 use Rattle.dimacs.specs.Texts.{content_by}
 use Rattle.disk.specs.Contents.{Only}
 use Rattle.storefile.specs.StoreFile.{StandsTidyFor}
-use Rattle.store.specs.Opening.{MayRefuseToOpen}
 use Rattle.printing.specs.declared.failed.Failed.{Failed}
 use Rattle.printing.specs.declared.failed.Failed.TheVariants.{Text, Code}
 use Rattle.storetexts.specs.declared.outcomes.Outcome.{Outcome}
-use Rattle.storetexts.specs.Outcomes.{ComesTo, accepted_in, outcome_lines}
+use Rattle.storetexts.specs.Asked.{OfStore, IsUnopened}
+use Rattle.storetexts.specs.Outcomes.{ComesTo, accepted_in, outcome_lines, IsSettled, IsUnsettledAt}
 
 -- the commands of a text, in order, or its fault
 abbrev pub commands_of : List ℕ → Result (List Command) Fault
@@ -45,11 +45,13 @@ pub record IsApplied (net : Net) (version : ℕ) (text content : List ℕ) (left
   pub list_is : commands_of text ≡ Ok list
   pub applies : AppliesAll net version list content left old new
 
--- The content stands for the network after the first of these commands, with their outcomes: no fewer than were told.
-pub record KeepsTold (net : Net) (version : ℕ) (commands : List Command) (outcomes : List Outcome) (told : ℕ) (content : List ℕ) : Type 0 where
+-- The content stands for the network after the first of these commands, with their outcomes: no fewer than were told, and all that are
+-- durable.
+pub record KeepsTold (net : Net) (version : ℕ) (commands : List Command) (outcomes : List Outcome) (told durable : ℕ) (content : List ℕ) : Type 0 where
   pub kept : ℕ
   pub told_kept : told ≤ kept
   pub kept_to : kept ≤ length outcomes
+  pub durable_kept : durable ≤ version + length (accepted_in (take kept commands) (take kept outcomes))
   pub stands : StandsAfter net version (take kept commands) (take kept outcomes) content
 
 -- what holds where the writer did not fail
@@ -57,22 +59,83 @@ abbrev pub IfNotWrite : Failed → Type 0 → Type 0
 IfNotWrite (Code Write) written = ⊤
 IfNotWrite failed written = written
 
--- Only the first commands were taken, and came to these outcomes, of which the first are told. Each content that a stop may leave stands
--- for the network after the first commands, no fewer than were told: nothing that was told is lost.
+-- these lines are told: those of the outcomes before the first command that isn't durable, and nothing else
+pub record TellsFront (durable : ℕ) (outcomes : List Outcome) (told : ℕ) (old new : Option (List ℕ)) : Type 0 where
+  pub written : Appends old new (outcome_lines (take told outcomes))
+  pub settled : All (IsSettled durable) (take told outcomes)
+  pub next : IsUnsettledAt durable outcomes told
+
+-- Only the first commands were taken, and came to these outcomes; all accepted ones but at most 253 are durable. Each content that a stop
+-- may leave stands for the network after the first commands, no fewer than were told: nothing that was told is lost.
 pub record AppliesSome (net : Net) (version : ℕ) (list : List Command) (left : List ℕ → Type 0) (old new : Option (List ℕ)) (failed : Failed) : Type 0 where
   pub taken : ℕ
   pub outcomes : List Outcome
   pub come : ComesTo version net version (take taken list) outcomes
+  pub durable : ℕ
+  pub waiting : version + length (accepted_in (take taken list) outcomes) ≤ durable + 253
   pub told : ℕ
   pub told_to : told ≤ length outcomes
-  pub each_left : (content : List ℕ) → left content → KeepsTold net version (take taken list) outcomes told content
-  pub written : IfNotWrite failed (Appends old new (outcome_lines (take told outcomes)))
+  pub each_left : (content : List ℕ) → left content → KeepsTold net version (take taken list) outcomes told durable content
+  pub front : IfNotWrite failed (TellsFront durable outcomes told old new)
 
 -- the same for the commands of a text
 pub record IsCutOff (net : Net) (version : ℕ) (text : List ℕ) (left : List ℕ → Type 0) (old new : Option (List ℕ)) (failed : Failed) : Type 0 where
   pub list : List Command
   pub list_is : commands_of text ≡ Ok list
   pub applies : AppliesSome net version list left old new failed
+
+-- ---- what is known without a tidy content
+
+-- all of these commands came to outcomes on this network from this version on; their lines are written, and nothing else
+pub record TellsAll (net : Net) (version : ℕ) (list : List Command) (old new : Option (List ℕ)) : Type 0 where
+  pub outcomes : List Outcome
+  pub come : ComesTo version net version list outcomes
+  pub written : Appends old new (outcome_lines outcomes)
+
+-- the same for the commands of a text
+pub record TellsText (text : List ℕ) (old new : Option (List ℕ)) (net : Net) (version : ℕ) : Type 0 where
+  pub list : List Command
+  pub list_is : commands_of text ≡ Ok list
+  pub tells : TellsAll net version list old new
+
+-- a store was opened, and all commands of the text are told, on its network from its version on
+abbrev pub IsTold : Type 0 → List ℕ → List ℕ → Option (List ℕ) → Option (List ℕ) → Type 0
+IsTold Honest file text old new = OfStore Honest file (TellsText text old new)
+
+-- ---- a stop at any moment
+
+-- the content, whatever its number of journal pages, is tidy and stands for the network after a beginning of these commands, each counted
+pub record StandsWithin (net : Net) (version : ℕ) (accepted : List Command) (content : List ℕ) : Type 0 where
+  pub count : ℕ
+  pub count_to : count ≤ length accepted
+  pub network : Net
+  pub network_is : after net (take count accepted) ≡ Some network
+  pub journal_pages : ℕ
+  pub stands : StandsTidyFor journal_pages content network (version + count)
+
+-- the same for the accepted ones of the first of these commands
+pub record StandsAmong (net : Net) (version : ℕ) (list : List Command) (content : List ℕ) : Type 0 where
+  pub taken : ℕ
+  pub outcomes : List Outcome
+  pub come : ComesTo version net version (take taken list) outcomes
+  pub stands : StandsWithin net version (accepted_in (take taken list) outcomes) content
+
+-- the same for the commands of a text
+pub record IsWithin (net : Net) (version : ℕ) (text content : List ℕ) : Type 0 where
+  pub list : List Command
+  pub list_is : commands_of text ≡ Ok list
+  pub stands : StandsAmong net version list content
+
+-- a stop at any moment from old to new leaves what it might have left before, or what has P
+abbrev pub AtAnyMoment : {D : Type 0} → (D → ℕ) → (D → ℕ → List ℕ → Type 0) → (D → List ℕ → Type 0) → D → D → (List ℕ → Type 0) → Type 0
+AtAnyMoment moment left_since left old new P = (content : List ℕ) → left_since new (moment old) content → left old content ⊎ P content
+
+-- what holds of the network and the version that the disk's content stands for, tidily, where the disk keeps the disk model
+abbrev pub ForTidy : {D : Type 0} → (D → Type 0) → (D → List ℕ) → D → (Net → ℕ → Type 0) → Type 0
+ForTidy honest content disk Holds =
+    honest disk → (journal_pages : ℕ) (net : Net) (version : ℕ) → StandsTidyFor journal_pages (content disk) net version → Holds net version
+
+-- ---- refusals
 
 -- nothing was begun: the text has a fault, or the file is refused as it is opened
 abbrev pub IfUnbegun : Failed → Type 0 → Type 0
@@ -82,16 +145,17 @@ IfUnbegun (Code WrongFormat) same = same
 IfUnbegun (Code (Damaged page)) same = same
 IfUnbegun (Code refusal) same = ⊤
 
--- The text has its fault told, or the reader failed in it; or the writer failed; or opening is refused, memory ran out, or the disk failed.
-abbrev pub IsRefusedApply : List ℕ → List ℕ → Option (List ℕ) → Failed → Type 0
-IsRefusedApply file text left (Text zero fault) = ByCode fault.code (commands_of text ≡ Err fault) (FailsIn (command_code commands) text (rows text) left fault.line) (BreaksOff (command_code commands) (rows text) (rows text) fault.line)
-IsRefusedApply file text left (Code Write) = ⊤
-IsRefusedApply file text left (Code refusal) = MayRefuseToOpen file refusal
-IsRefusedApply file text left failed = ⊥
+-- A store was opened and the text has its fault told, or the reader failed in it; or the writer failed; or opening is refused, memory ran
+-- out, or the disk failed.
+abbrev pub IsRefusedApply : Type 0 → List ℕ → List ℕ → Option (List ℕ) → Failed → Type 0
+IsRefusedApply Honest file text left (Text zero fault) = OfStore Honest file (λ net version. ByCode fault.code (commands_of text ≡ Err fault) (FailsIn (command_code commands) text (rows text) left fault.line) (BreaksOff (command_code commands) (rows text) (rows text) fault.line))
+IsRefusedApply Honest file text left (Code Write) = ⊤
+IsRefusedApply Honest file text left (Code refusal) = IsUnopened Honest file refusal
+IsRefusedApply Honest file text left failed = ⊥
 
 -- the same of a text in memory, in which no reader can fail
-abbrev pub IsTextRefusedApply : List ℕ → List ℕ → Failed → Type 0
-IsTextRefusedApply file text (Text zero fault) = ByMemory fault.code (commands_of text ≡ Err fault) (BreaksOff (command_code commands) (rows text) (rows text) fault.line)
-IsTextRefusedApply file text (Code Write) = ⊤
-IsTextRefusedApply file text (Code refusal) = MayRefuseToOpen file refusal
-IsTextRefusedApply file text failed = ⊥
+abbrev pub IsTextRefusedApply : Type 0 → List ℕ → List ℕ → Failed → Type 0
+IsTextRefusedApply Honest file text (Text zero fault) = OfStore Honest file (λ net version. ByMemory fault.code (commands_of text ≡ Err fault) (BreaksOff (command_code commands) (rows text) (rows text) fault.line))
+IsTextRefusedApply Honest file text (Code Write) = ⊤
+IsTextRefusedApply Honest file text (Code refusal) = IsUnopened Honest file refusal
+IsTextRefusedApply Honest file text failed = ⊥

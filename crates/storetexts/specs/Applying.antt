@@ -1,17 +1,20 @@
 -- The commands of a text while they are applied: how the keeper's machine stands to what they came to.
-use Rattle.std.specs.Prelude.{◌≡◌, ◌⊎◌, ℕ, ◌≤◌, false, List, Option, None, All, length, take, Result, Ok, Err, ⊤}
+use Rattle.std.specs.Prelude.{◌≡◌, ◌⊎◌, ℕ, ◌≤◌, false, List, [], ◌∷◌, ◌++◌, Option, None, All, length, take, Result, Ok, Err, ⊤}
 use Rattle.std.specs.Io.KnownBytes.{Appends}
 use Rattle.roadnet.specs.declared.commands.Command.{Command}
 use Rattle.roadnet.specs.declared.refusals.Refusal.{Refusal}
 use Rattle.roadnet.specs.declared.refusals.Refusal.TheVariants.{OutOfMemory, Device, Write}
 use Rattle.roadnet.specs.Net.{Net}
 use Rattle.machine.specs.Machine.{Machine, IsState}
+use Rattle.keeper.specs.Keeping.{Keeping}
+use Rattle.store.specs.State.{CameTidy}
+use Rattle.storetexts.specs.declared.applying.Applying.{Applying}
 use Rattle.storetexts.specs.declared.outcomes.Outcome.{Outcome}
 use Rattle.storetexts.specs.declared.outcomes.Outcome.TheVariants.{Accepted, Refused}
 use Rattle.printing.specs.declared.failed.Failed.{Failed}
 use Rattle.printing.specs.declared.failed.Failed.TheVariants.{Text, Code}
-use Rattle.storetexts.specs.Applied.{IfNotWrite}
-use Rattle.storetexts.specs.Outcomes.{ComesTo, accepted_in, outcome_lines}
+use Rattle.storetexts.specs.Applied.{IfNotWrite, StandsWithin}
+use Rattle.storetexts.specs.Outcomes.{ComesTo, accepted_in, outcome_lines, IsSettled, IsUnsettledAt}
 
 -- a machine between two calls of one life, in which no checkpoint is going while it is not broken, and whose journal has some page
 pub record IsSteady (m : Machine) : Type 0 where
@@ -19,11 +22,6 @@ pub record IsSteady (m : Machine) : Type 0 where
   pub opened_is : m.opened ≡ m.base_version
   pub none_going : m.broken ≡ false → m.checkpoint ≡ None
   pub some_page : 1 ≤ m.sizes.journal_pages
-
--- the command is durable at this version, or was refused
-abbrev pub IsSettled : ℕ → Outcome → Type 0
-IsSettled durable (Accepted number) = number ≤ durable
-IsSettled durable (Refused refusal) = ⊤
 
 -- Commands on this network at this version came to these outcomes; the machine has accepted just the accepted ones, and the first
 -- outcomes, so many, are settled.
@@ -55,6 +53,11 @@ abbrev pub IfTold : Result (Unit {0}) Failed → Type 0 → Type 0
 IfTold (Ok done) told = told
 IfTold (Err failed) told = IfNotWrite failed told
 
+-- what holds where it ended early and the writer did not fail
+abbrev pub IfEndedEarly : Result (Unit {0}) Failed → Type 0 → Type 0
+IfEndedEarly (Ok done) P = ⊤
+IfEndedEarly (Err failed) P = IfNotWrite failed P
+
 -- memory ran out, or the disk or the writer failed
 abbrev pub IsCutOffBy : Failed → Type 0
 IsCutOffBy (Text which fault) = ⊥
@@ -65,3 +68,85 @@ IsCutOffBy (Code refusal) = IsOfDevice refusal
 pub record HaveComeSome (net : Net) (version : ℕ) (commands : List Command) (outcomes : List Outcome) (told : ℕ) (m : Machine) : Type 0 where
   pub taken : ℕ
   pub come : HaveCome net version (take taken commands) outcomes told m
+
+-- ---- from one state of the applying to a later one
+
+-- how far commands are applied: what they came to, how many of these outcomes are told, and the machine of the keeper
+pub record Progress : Type 0 where
+  pub outcomes : List Outcome
+  pub told : ℕ
+  pub machine : Machine
+
+abbrev pub progress : {D : Type 0} → Applying D → Progress
+progress a = record { outcomes = a.outcomes.items; told = a.told; machine = a.keeper.machine }
+
+-- whatever commands came to the old outcomes came, with this one behind them, to the new ones
+abbrev pub ComesBehind : Command → Progress → Progress → Type 0
+ComesBehind command old new = (net : Net) (version : ℕ) (commands : List Command)
+    → HaveCome net version commands old.outcomes old.told old.machine → HaveCome net version (commands ++ command ∷ []) new.outcomes new.told new.machine
+
+-- whatever commands came to the old outcomes came to the new ones
+abbrev pub ComesStill : Progress → Progress → Type 0
+ComesStill old new = (net : Net) (version : ℕ) (commands : List Command)
+    → HaveCome net version commands old.outcomes old.told old.machine → HaveCome net version commands new.outcomes new.told new.machine
+
+-- where commands came to the old outcomes, each of the new ones is told
+abbrev pub AllTold : Progress → Progress → Type 0
+AllTold old new = (net : Net) (version : ℕ) (commands : List Command)
+    → HaveCome net version commands old.outcomes old.told old.machine → new.told ≡ length new.outcomes
+
+-- what was told is still the same
+abbrev pub SameTold : Progress → List Outcome → Type 0
+SameTold old new = old.told ≤ length old.outcomes → take old.told new ≡ take old.told old.outcomes
+
+-- the first outcomes, so many, are settled
+abbrev pub SettledTo : Progress → ℕ → Type 0
+SettledTo p told = All (IsSettled p.machine.durable) (take told p.outcomes)
+
+-- so many outcomes are told, and the next one, if there is one, isn't settled
+abbrev pub StopsAt : Progress → ℕ → Type 0
+StopsAt p told = IsUnsettledAt p.machine.durable p.outcomes told
+
+-- where the lines of what was told before were written, those of what is told now are
+abbrev pub TellsTo : Option (List ℕ) → Option (List ℕ) → Progress → ℕ → Type 0
+TellsTo mid now p told = (before : Option (List ℕ)) → AreTold before mid p.outcomes p.told → AreTold before now p.outcomes told
+
+abbrev pub TellsOn : Option (List ℕ) → Option (List ℕ) → Progress → Progress → Type 0
+TellsOn mid now old new = (before : Option (List ℕ)) → AreTold before mid old.outcomes old.told → AreTold before now new.outcomes new.told
+
+-- of a keeper that has just begun, with this machine: what holds of its network and version
+abbrev pub ForBegun : Machine → (Net → ℕ → Type 0) → Type 0
+ForBegun first Holds = (net : Net) (version : ℕ) → HaveCome net version [] [] 0 first → Holds net version
+
+-- the same of a keeper whose store came tidy
+abbrev pub ForCame : {D : Type 0} → (D → Type 0) → (D → List ℕ) → Keeping D → (Net → ℕ → Type 0) → Type 0
+ForCame honest content keeper Holds = CameTidy honest content keeper.given → ForBegun keeper.machine Holds
+
+-- all of these commands have come so far, or the first of them
+abbrev pub ComeTo : Machine → List Command → Progress → Type 0
+ComeTo first commands p = ForBegun first (λ net version. HaveCome net version commands p.outcomes p.told p.machine)
+
+abbrev pub SomeComeTo : Machine → List Command → Progress → Type 0
+SomeComeTo first commands p = ForBegun first (λ net version. HaveComeSome net version commands p.outcomes p.told p.machine)
+
+-- ---- what a stop leaves meanwhile
+
+-- From old to new a stop at any moment leaves what it might have left before, or what has P.
+pub record AddsOnly {D : Type 0} (moment : D → ℕ) (left_since : D → ℕ → List ℕ → Type 0) (old new : D) (P : List ℕ → Type 0) : Type 0 where
+  pub later : moment old ≤ moment new
+  pub each : (t : ℕ) (c : List ℕ) → t ≤ moment old → left_since new t c → left_since old t c ⊎ P c
+
+-- the accepted commands of the new machine begin with those of the old one
+pub record Grows (old new : Machine) : Type 0 where
+  pub base : new.base ≡ old.base
+  pub base_version : new.base_version ≡ old.base_version
+  pub more : List Command
+  pub accepted : new.accepted ≡ old.accepted ++ more
+
+-- the content stands for the network after a beginning of the machine's accepted commands
+abbrev pub StandsIn : Machine → List ℕ → Type 0
+StandsIn m content = StandsWithin m.base m.base_version m.accepted content
+
+-- where the store came tidy, a stop at any moment leaves what it might have left before, or a beginning of the accepted commands
+abbrev pub Leaves : {D : Type 0} → (D → Type 0) → (D → List ℕ) → (D → ℕ) → (D → ℕ → List ℕ → Type 0) → Keeping D → Keeping D → Type 0
+Leaves honest content moment left_since old new = CameTidy honest content old.given → AddsOnly moment left_since old.disk new.disk (StandsIn new.machine)

@@ -1,5 +1,5 @@
 -- What the commands of a text come to, one after the other, and how it is told.
-use Rattle.std.specs.Prelude.{◌≡◌, ◌⊎◌, ℕ, ◌+◌, List, [], ◌∷◌, Option, None, Some, map, nat_le, if◌then◌else◌}
+use Rattle.std.specs.Prelude.{◌≡◌, ◌⊎◌, ℕ, ◌+◌, ◌≤◌, List, [], ◌∷◌, slice_get, Option, None, Some, IfSome, map, nat_le, if◌then◌else◌, ⊤}
 use Rattle.roadnet.specs.declared.commands.Command.{Command}
 use Rattle.roadnet.specs.declared.refusals.Refusal.{Refusal}
 use Rattle.roadnet.specs.declared.refusals.Refusal.TheVariants.{OutOfMemory, HistoryFull, VersionsExhausted}
@@ -50,3 +50,12 @@ accepted_in [] outcomes = []
 accepted_in (command ∷ commands) [] = []
 accepted_in (command ∷ commands) (Accepted number ∷ outcomes) = command ∷ accepted_in commands outcomes
 accepted_in (command ∷ commands) (Refused refusal ∷ outcomes) = accepted_in commands outcomes
+
+-- the command is durable at this version, or was refused
+abbrev pub IsSettled : ℕ → Outcome → Type 0
+IsSettled durable (Accepted number) = number ≤ durable
+IsSettled durable (Refused refusal) = ⊤
+
+-- the outcome at this place, counted from 0, is not settled, if there is one
+abbrev pub IsUnsettledAt : ℕ → List Outcome → ℕ → Type 0
+IsUnsettledAt durable outcomes place = IfSome (slice_get outcomes place) (λ outcome. IsSettled durable outcome → ⊥)

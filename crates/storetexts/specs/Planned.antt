@@ -1,5 +1,6 @@
 -- The network of one text with the landmarks of another, and the store made of it.
-use Rattle.std.specs.Prelude.{◌≡◌, ℕ, zero, suc, ◌<◌, List, Option, Some, length, Result, Ok, Err, ⊤}
+use Rattle.std.specs.Prelude.{◌≡◌, ◌⊎◌, ℕ, zero, suc, ◌<◌, ◌≤◌, List, Option, Some, length, Result, Ok, Err, ⊤}
+use Rattle.roadnet.specs.declared.refusals.Refusal.{Refusal}
 use Rattle.roadnet.specs.declared.refusals.Refusal.TheVariants.{OutOfMemory, Write, Device, NotEmpty, TooManyLandmarks}
 use Rattle.roadnet.specs.Net.{Net, most_landmarks}
 use Rattle.dimacs.specs.declared.fault.Fault.{Fault}
@@ -55,9 +56,9 @@ IsTextRefusedPlan network landmarks (Code TooManyLandmarks) = AfterNetwork netwo
 IsTextRefusedPlan network landmarks (Code OutOfMemory) = ⊤
 IsTextRefusedPlan network landmarks failed = ⊥
 
--- a text is refused, its landmarks are too many, or memory ran out
+-- one of the two texts is refused, its landmarks are too many, or memory ran out
 abbrev pub IsOfPlan : Failed → Type 0
-IsOfPlan (Text which fault) = ⊤
+IsOfPlan (Text which fault) = which ≤ 1
 IsOfPlan (Code TooManyLandmarks) = ⊤
 IsOfPlan (Code OutOfMemory) = ⊤
 IsOfPlan failed = ⊥
@@ -69,6 +70,28 @@ IsUnmade (Code Device) = ⊤
 IsUnmade (Code OutOfMemory) = ⊤
 IsUnmade (Code Write) = ⊤
 IsUnmade failed = ⊥
+
+-- these landmarks cannot be marked: they are too many, or memory ran out
+abbrev pub IsUnmarked : List ℕ → Refusal → Type 0
+IsUnmarked landmarks refusal = ((refusal ≡ TooManyLandmarks) × (most_landmarks < length landmarks)) ⊎ (refusal ≡ OutOfMemory)
+
+-- both texts have no fault, and their landmarks are not too many
+abbrev pub HasPlan : List ℕ → List ℕ → Type 0
+HasPlan network landmarks = (planned : Net) × IsPlanned network landmarks planned
+
+-- The texts come first: the disk or the writer is told of only where they give a network; else they are refused.
+abbrev pub IsRefusedCreate : List ℕ → List ℕ → Option (List ℕ) → Option (List ℕ) → Failed → Type 0
+IsRefusedCreate network landmarks network_left landmarks_left (Code NotEmpty) = HasPlan network landmarks
+IsRefusedCreate network landmarks network_left landmarks_left (Code Device) = HasPlan network landmarks
+IsRefusedCreate network landmarks network_left landmarks_left (Code Write) = HasPlan network landmarks
+IsRefusedCreate network landmarks network_left landmarks_left failed = IsRefusedPlan network landmarks network_left landmarks_left failed
+
+-- the same of texts in memory
+abbrev pub IsTextRefusedCreate : List ℕ → List ℕ → Failed → Type 0
+IsTextRefusedCreate network landmarks (Code NotEmpty) = HasPlan network landmarks
+IsTextRefusedCreate network landmarks (Code Device) = HasPlan network landmarks
+IsTextRefusedCreate network landmarks (Code Write) = HasPlan network landmarks
+IsTextRefusedCreate network landmarks failed = IsTextRefusedPlan network landmarks failed
 
 -- The content stands for the network at version 0, with so many journal pages, is tidy, and is all that a stop may leave.
 pub record IsNewStore (net : Net) (journal_pages : ℕ) (content : List ℕ) (left : List ℕ → Type 0) : Type 0 where

@@ -1,6 +1,7 @@
 -- What texts and disks say where a call failed.
-use Rattle.std.specs.Prelude.{Result, Ok, Err, ⊤}
-use Rattle.roadnet.specs.declared.refusals.Refusal.TheVariants.{Write, Device, NotEmpty, TooManyLandmarks}
+use Rattle.std.specs.Prelude.{◌≡◌, ℕ, Result, Ok, Err, ⊤}
+use Rattle.roadnet.specs.declared.refusals.Refusal.TheVariants.{Write, Device, NotEmpty, OutOfMemory, TooManyLandmarks}
+use Rattle.pagereader.specs.Outcomes.{failures_with, MayEndOpening}
 use Rattle.printing.specs.declared.failed.Failed.{Failed}
 use Rattle.printing.specs.declared.failed.Failed.TheVariants.{Text, Code}
 
@@ -31,3 +32,21 @@ IfNotEmpty failed some = ⊤
 abbrev pub IfDevice : Failed → Type 0 → Type 0
 IfDevice (Code Device) failed = failed
 IfDevice other failed = ⊤
+
+-- no memory was given
+abbrev pub IfNoMemory : Failed → Type 0 → Type 0
+IfNoMemory (Code OutOfMemory) made = made
+IfNoMemory other made = ⊤
+
+-- a fault of the call's one text, or the writer failed, or a refusal with which an opening may end: nothing else
+abbrev pub IsOfStore : Failed → Type 0
+IsOfStore (Text which fault) = which ≡ 0
+IsOfStore (Code Write) = ⊤
+IsOfStore (Code refusal) = MayEndOpening refusal
+
+-- The disk's count of failures rose by one where 43 is told, and is else as it was. A failed write may be told in place of 43.
+abbrev pub CountsDevice : {X : Type 0} → ℕ → ℕ → Result X Failed → Type 0
+CountsDevice old new (Ok done) = new ≡ old
+CountsDevice old new (Err (Text which fault)) = new ≡ old
+CountsDevice old new (Err (Code Write)) = ⊤
+CountsDevice old new (Err (Code refusal)) = new ≡ failures_with refusal old

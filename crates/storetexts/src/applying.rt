@@ -1,21 +1,24 @@
 // The commands of a text, applied to a store.
-ghost use Rattle.std.specs.Prelude.{◌≡◌, ◌⊎◌, ◌+◌, ◌≤◌, ◌<◌, ◌↔◌, ℕ, List, [], ◌∷◌, ◌++◌, Option, Some, Ok, Err, false, All, length, take, vec_capacity, OnOk, IfOk, IfErr, IfSome};
+ghost use Rattle.std.specs.Prelude.{◌≡◌, ◌⊎◌, ◌+◌, ◌≤◌, ◌<◌, ◌↔◌, ℕ, Some, [], false, length, vec_capacity, OnOk, IfOk, IfErr, IfSome, MatchResult};
 ghost use Rattle.std.specs.Bool.{Decides};
 ghost use Rattle.std.specs.Option.{ForSome};
 ghost use Rattle.dimacs.specs.Counts.{failed_calls, reader_of, IsSameReader};
 ghost use Rattle.disk.specs.Moments.{StaysSame};
+ghost use Rattle.pagereader.specs.Outcomes.{failures_told, failures_with};
 ghost use Rattle.keeper.specs.Keeping.{Holds};
-ghost use Rattle.machine.specs.Machine.{latest, pending};
-ghost use Rattle.roadnet.specs.declared.commands.Command.{Command as TheCommand};
-ghost use Rattle.roadnet.specs.Net.{Net};
+ghost use Rattle.machine.specs.Machine.{pending};
 ghost use Rattle.rows.specs.Kept.{IsWidth};
-ghost use Rattle.storefile.specs.StoreFile.{StandsTidyFor};
-ghost use Rattle.store.specs.Opening.{MayRefuseToOpen};
 ghost use Rattle.store.specs.State.{CameTidy};
 ghost use Rattle.printing.specs.Counting.{failed_writes, writer_of, IsSameWriter, CountsFailure};
 ghost use Rattle.printing.specs.Failing.{CountsReads, CountsWrites};
-ghost use Rattle.storetexts.specs.Applied.{AppliesAll, IsApplied, AppliesSome, IsCutOff, IsRefusedApply, IsTextRefusedApply, IfUnbegun};
-ghost use Rattle.storetexts.specs.Applying.{IsSteady, IsSettled, HaveCome, HaveComeSome, KeepsAccepted, AreTold, IfTold, IsOfDevice, IsCutOffBy};
+ghost use Rattle.storetexts.specs.Applied.{ForTidy, AppliesAll, IsApplied, AppliesSome, IsCutOff, TellsAll, IsTold, StandsAmong, IsWithin};
+ghost use Rattle.storetexts.specs.Applied.{AtAnyMoment, IsRefusedApply, IsTextRefusedApply, IfUnbegun};
+ghost use Rattle.storetexts.specs.Applying.{IsSteady, HaveCome, ForBegun, ForCame, AddsOnly, Grows, Leaves, IfTold, IfEndedEarly, AreTold};
+ghost use Rattle.storetexts.specs.Applying.{Progress, progress, ComesBehind, ComesStill, ComeTo, SomeComeTo, SameTold, SettledTo, StopsAt};
+ghost use Rattle.storetexts.specs.Applying.{KeepsAccepted, TellsTo, TellsOn, AllTold, IsOfDevice, IsCutOffBy};
+ghost use Rattle.storetexts.specs.Asked.{OfStore, IsUnopened};
+ghost use Rattle.storetexts.specs.Outcomes.{IsSettled};
+ghost use Rattle.storetexts.specs.Refused.{CountsDevice, IsOfStore};
 
 use crate::outcomes::{Outcome, reply_of};
 use dimacs::{Counted, parse_commands, read_commands_counted};
@@ -52,12 +55,13 @@ impl<D: Disk> Applying<D> {
         requires room { length self.old.outcomes.items < vec_capacity self.old.outcomes }
         ensures steady { IsSteady self.new.keeper.machine }
         ensures calm { self.new.keeper.machine.broken ≡ false }
-        ensures come { (net : Net) (version : ℕ) (commands : List TheCommand) → HaveCome net version commands self.old.outcomes.items self.old.told self.old.keeper.machine → HaveCome net version (commands ++ command ∷ []) self.new.outcomes.items self.new.told self.new.keeper.machine }
+        ensures come { ComesBehind command (progress self.old) (progress self.new) }
         ensures one { pending self.new.keeper.machine ≤ pending self.old.keeper.machine + 1 }
         ensures noted { length self.new.outcomes.items ≡ length self.old.outcomes.items + 1 }
         ensures room { vec_capacity self.new.outcomes ≡ vec_capacity self.old.outcomes }
         ensures told { self.new.told ≡ self.old.told }
-        ensures first { self.old.told ≤ length self.old.outcomes.items → take self.old.told self.new.outcomes.items ≡ take self.old.told self.old.outcomes.items }
+        ensures first { SameTold (progress self.old) self.new.outcomes.items }
+        ensures grows { Grows self.old.keeper.machine self.new.keeper.machine }
         ensures disk { self.new.keeper.disk ≡ self.old.keeper.disk }
         ensures given { self.new.keeper.given ≡ self.old.keeper.given }
     {
@@ -82,6 +86,8 @@ impl<D: Disk> Applying<D> {
         ensures refused { IfErr result IsOfDevice }
         ensures outcomes { self.new.outcomes ≡ self.old.outcomes }
         ensures told { self.new.told ≡ self.old.told }
+        ensures counted { D.failures self.new.keeper.disk ≡ failures_told result (D.failures self.old.keeper.disk) }
+        ensures leaves { Leaves D.honest D.content D.moment D.left_since self.old.keeper self.new.keeper }
         ensures given { self.new.keeper.given ≡ self.old.keeper.given }
         ensures honest { D.honest self.new.keeper.disk ↔ D.honest self.old.keeper.disk }
     {
@@ -104,6 +110,8 @@ impl<D: Disk> Applying<D> {
         ensures refused { IfErr result IsOfDevice }
         ensures outcomes { self.new.outcomes ≡ self.old.outcomes }
         ensures told { self.new.told ≡ self.old.told }
+        ensures counted { D.failures self.new.keeper.disk ≡ failures_told result (D.failures self.old.keeper.disk) }
+        ensures leaves { Leaves D.honest D.content D.moment D.left_since self.old.keeper self.new.keeper }
         ensures given { self.new.keeper.given ≡ self.old.keeper.given }
         ensures honest { D.honest self.new.keeper.disk ↔ D.honest self.old.keeper.disk }
     {
@@ -128,6 +136,8 @@ impl<D: Disk> Applying<D> {
         ensures refused { IfErr result IsOfDevice }
         ensures outcomes { self.new.outcomes ≡ self.old.outcomes }
         ensures told { self.new.told ≡ self.old.told }
+        ensures counted { D.failures self.new.keeper.disk ≡ failures_told result (D.failures self.old.keeper.disk) }
+        ensures leaves { Leaves D.honest D.content D.moment D.left_since self.old.keeper self.new.keeper }
         ensures given { self.new.keeper.given ≡ self.old.keeper.given }
         ensures honest { D.honest self.new.keeper.disk ↔ D.honest self.old.keeper.disk }
     {
@@ -157,9 +167,9 @@ impl<D: Disk> Applying<D> {
         ensures keeper { self.new.keeper ≡ self.old.keeper }
         ensures outcomes { self.new.outcomes ≡ self.old.outcomes }
         ensures told_to { self.new.told ≤ length self.old.outcomes.items }
-        ensures settled { All (IsSettled self.old.keeper.machine.durable) (take self.old.told self.old.outcomes.items) → All (IsSettled self.old.keeper.machine.durable) (take self.new.told self.old.outcomes.items) }
-        ensures all { OnOk result (All (IsSettled self.old.keeper.machine.durable) self.old.outcomes.items → self.new.told ≡ length self.old.outcomes.items) }
-        ensures lines { OnOk result ((before : Option (List ℕ)) → AreTold before (W.contents (writer_of out.old)) self.old.outcomes.items self.old.told → AreTold before (W.contents (writer_of out.new)) self.old.outcomes.items self.new.told) }
+        ensures settled { SettledTo (progress self.old) self.old.told → SettledTo (progress self.old) self.new.told }
+        ensures next { OnOk result (StopsAt (progress self.old) self.new.told) }
+        ensures lines { OnOk result (TellsTo (W.contents (writer_of out.old)) (W.contents (writer_of out.new)) (progress self.old) self.new.told) }
         ensures refused { IfErr result (λ failed. failed ≡ Failed.Code Refusal.Write) }
         ensures counts { CountsFailure (failed_writes out.old) (failed_writes out.new) result }
         ensures same { IsSameWriter out.old out.new }
@@ -184,16 +194,22 @@ impl<D: Disk> Applying<D> {
         requires few { pending self.old.keeper.machine ≤ 253 }
         requires told_to { self.old.told ≤ length self.old.outcomes.items }
         ensures steady { IsSteady self.new.keeper.machine }
-        ensures come { (net : Net) (version : ℕ) (commands : List TheCommand) → HaveCome net version commands self.old.outcomes.items self.old.told self.old.keeper.machine → HaveCome net version commands self.new.outcomes.items self.new.told self.new.keeper.machine }
+        ensures come { ComesStill (progress self.old) (progress self.new) }
         ensures calm { OnOk result (self.new.keeper.machine.broken ≡ false) }
         ensures done { OnOk result (pending self.new.keeper.machine ≡ 0) }
+        ensures waiting { pending self.new.keeper.machine ≤ 253 }
         ensures told_to { self.new.told ≤ length self.new.outcomes.items }
-        ensures all { OnOk result ((net : Net) (version : ℕ) (commands : List TheCommand) → HaveCome net version commands self.old.outcomes.items self.old.told self.old.keeper.machine → self.new.told ≡ length self.new.outcomes.items) }
-        ensures lines { IfTold result ((before : Option (List ℕ)) → AreTold before (W.contents (writer_of out.old)) self.old.outcomes.items self.old.told → AreTold before (W.contents (writer_of out.new)) self.new.outcomes.items self.new.told) }
+        // What is told ends before the first command that isn't durable.
+        ensures next { IfEndedEarly result (StopsAt (progress self.new) self.new.told) }
+        ensures all { OnOk result (AllTold (progress self.old) (progress self.new)) }
+        ensures lines { IfTold result (TellsOn (W.contents (writer_of out.old)) (W.contents (writer_of out.new)) (progress self.old) (progress self.new)) }
         ensures outcomes { self.new.outcomes ≡ self.old.outcomes }
         ensures refused { IfErr result IsCutOffBy }
         ensures writes { CountsWrites (failed_writes out.old) (failed_writes out.new) result }
         ensures same { IsSameWriter out.old out.new }
+        ensures counted { CountsDevice (D.failures self.old.keeper.disk) (D.failures self.new.keeper.disk) result }
+        ensures grows { Grows self.old.keeper.machine self.new.keeper.machine }
+        ensures leaves { Leaves D.honest D.content D.moment D.left_since self.old.keeper self.new.keeper }
         ensures given { self.new.keeper.given ≡ self.old.keeper.given }
         ensures honest { D.honest self.new.keeper.disk ↔ D.honest self.old.keeper.disk }
     {
@@ -222,16 +238,22 @@ impl<D: Disk> Applying<D> {
         requires told_to { self.old.told ≤ length self.old.outcomes.items }
         requires room { length self.old.outcomes.items < vec_capacity self.old.outcomes }
         ensures steady { IsSteady self.new.keeper.machine }
-        ensures come { (net : Net) (version : ℕ) (commands : List TheCommand) → HaveCome net version commands self.old.outcomes.items self.old.told self.old.keeper.machine → HaveCome net version (commands ++ command ∷ []) self.new.outcomes.items self.new.told self.new.keeper.machine }
+        ensures come { ComesBehind command (progress self.old) (progress self.new) }
         ensures calm { OnOk result (self.new.keeper.machine.broken ≡ false) }
         ensures few { OnOk result (pending self.new.keeper.machine < 253) }
+        ensures waiting { pending self.new.keeper.machine ≤ 253 }
+        // What is told ends before the first command that isn't durable.
+        ensures next { IfEndedEarly result (StopsAt (progress self.new) self.new.told) }
         ensures told_to { self.new.told ≤ length self.new.outcomes.items }
         ensures noted { length self.new.outcomes.items ≡ length self.old.outcomes.items + 1 }
         ensures room { vec_capacity self.new.outcomes ≡ vec_capacity self.old.outcomes }
-        ensures lines { IfTold result ((before : Option (List ℕ)) → AreTold before (W.contents (writer_of out.old)) self.old.outcomes.items self.old.told → AreTold before (W.contents (writer_of out.new)) self.new.outcomes.items self.new.told) }
+        ensures lines { IfTold result (TellsOn (W.contents (writer_of out.old)) (W.contents (writer_of out.new)) (progress self.old) (progress self.new)) }
         ensures refused { IfErr result IsCutOffBy }
         ensures writes { CountsWrites (failed_writes out.old) (failed_writes out.new) result }
         ensures same { IsSameWriter out.old out.new }
+        ensures counted { CountsDevice (D.failures self.old.keeper.disk) (D.failures self.new.keeper.disk) result }
+        ensures grows { Grows self.old.keeper.machine self.new.keeper.machine }
+        ensures leaves { Leaves D.honest D.content D.moment D.left_since self.old.keeper self.new.keeper }
         ensures given { self.new.keeper.given ≡ self.old.keeper.given }
         ensures honest { D.honest self.new.keeper.disk ↔ D.honest self.old.keeper.disk }
     {
@@ -255,15 +277,20 @@ impl<D: Disk> Applying<D> {
         requires untold { self.old.told ≡ 0 }
         requires room { length commands.now ≤ vec_capacity self.old.outcomes }
         ensures steady { IsSteady self.new.keeper.machine }
-        ensures some { (net : Net) (version : ℕ) → HaveCome net version [] [] 0 self.old.keeper.machine → HaveComeSome net version commands.now self.new.outcomes.items self.new.told self.new.keeper.machine }
-        ensures come { OnOk result ((net : Net) (version : ℕ) → HaveCome net version [] [] 0 self.old.keeper.machine → HaveCome net version commands.now self.new.outcomes.items self.new.told self.new.keeper.machine) }
+        ensures some { SomeComeTo self.old.keeper.machine commands.now (progress self.new) }
+        ensures come { OnOk result (ComeTo self.old.keeper.machine commands.now (progress self.new)) }
         ensures calm { OnOk result (self.new.keeper.machine.broken ≡ false) }
-        ensures few { OnOk result (pending self.new.keeper.machine ≤ 253) }
+        ensures waiting { pending self.new.keeper.machine ≤ 253 }
+        // What is told ends before the first command that isn't durable.
+        ensures next { IfEndedEarly result (StopsAt (progress self.new) self.new.told) }
         ensures told_to { self.new.told ≤ length self.new.outcomes.items }
         ensures lines { IfTold result (AreTold (W.contents (writer_of out.old)) (W.contents (writer_of out.new)) self.new.outcomes.items self.new.told) }
         ensures refused { IfErr result IsCutOffBy }
         ensures writes { CountsWrites (failed_writes out.old) (failed_writes out.new) result }
         ensures same { IsSameWriter out.old out.new }
+        ensures counted { CountsDevice (D.failures self.old.keeper.disk) (D.failures self.new.keeper.disk) result }
+        ensures grows { Grows self.old.keeper.machine self.new.keeper.machine }
+        ensures leaves { Leaves D.honest D.content D.moment D.left_since self.old.keeper self.new.keeper }
         ensures given { self.new.keeper.given ≡ self.old.keeper.given }
         ensures honest { D.honest self.new.keeper.disk ↔ D.honest self.old.keeper.disk }
     {
@@ -288,15 +315,21 @@ impl<D: Disk> Applying<D> {
         requires untold { self.old.told ≡ 0 }
         requires room { length commands.now ≤ vec_capacity self.old.outcomes }
         ensures steady { IsSteady self.new.keeper.machine }
-        ensures some { (net : Net) (version : ℕ) → HaveCome net version [] [] 0 self.old.keeper.machine → HaveComeSome net version commands.now self.new.outcomes.items self.new.told self.new.keeper.machine }
-        ensures come { OnOk result ((net : Net) (version : ℕ) → HaveCome net version [] [] 0 self.old.keeper.machine → HaveCome net version commands.now self.new.outcomes.items (length self.new.outcomes.items) self.new.keeper.machine) }
+        ensures some { SomeComeTo self.old.keeper.machine commands.now (progress self.new) }
+        ensures come { OnOk result (ComeTo self.old.keeper.machine commands.now (progress self.new)) }
         ensures calm { OnOk result (self.new.keeper.machine.broken ≡ false) }
         ensures done { OnOk result (pending self.new.keeper.machine ≡ 0) }
+        ensures waiting { pending self.new.keeper.machine ≤ 253 }
+        // What is told ends before the first command that isn't durable.
+        ensures next { IfEndedEarly result (StopsAt (progress self.new) self.new.told) }
         ensures lines { IfTold result (AreTold (W.contents (writer_of out.old)) (W.contents (writer_of out.new)) self.new.outcomes.items self.new.told) }
-        ensures all { OnOk result ((net : Net) (version : ℕ) → HaveCome net version [] [] 0 self.old.keeper.machine → self.new.told ≡ length self.new.outcomes.items) }
+        ensures all { OnOk result (ForBegun self.old.keeper.machine (λ net version. self.new.told ≡ length self.new.outcomes.items)) }
         ensures refused { IfErr result IsCutOffBy }
         ensures writes { CountsWrites (failed_writes out.old) (failed_writes out.new) result }
         ensures same { IsSameWriter out.old out.new }
+        ensures counted { CountsDevice (D.failures self.old.keeper.disk) (D.failures self.new.keeper.disk) result }
+        ensures grows { Grows self.old.keeper.machine self.new.keeper.machine }
+        ensures leaves { Leaves D.honest D.content D.moment D.left_since self.old.keeper self.new.keeper }
         ensures given { self.new.keeper.given ≡ self.old.keeper.given }
         ensures honest { D.honest self.new.keeper.disk ↔ D.honest self.old.keeper.disk }
     {
@@ -334,11 +367,15 @@ fn keeper_on<T: Threads, D: Disk>(
     ensures calm { IfOk result (λ keeper. keeper.machine.broken ≡ false) }
     ensures none { IfOk result (λ keeper. pending keeper.machine ≡ 0) }
     ensures width { (width : ℕ) → delta ≡ Some width → IfOk result (λ keeper. keeper.width ≡ width) }
-    ensures begins { D.honest disk → (journal_pages : ℕ) (net : Net) (version : ℕ) → StandsTidyFor journal_pages (D.content disk) net version → IfOk result (λ keeper. HaveCome net version [] [] 0 keeper.machine) }
-    ensures came { D.honest disk → (journal_pages : ℕ) (net : Net) (version : ℕ) → StandsTidyFor journal_pages (D.content disk) net version → IfOk result (λ keeper. CameTidy D.honest D.content keeper.given) }
+    ensures begins { ForTidy D.honest D.content disk (λ net version. IfOk result (λ keeper. HaveCome net version [] [] 0 keeper.machine)) }
+    ensures came { ForTidy D.honest D.content disk (λ net version. IfOk result (λ keeper. CameTidy D.honest D.content keeper.given)) }
+    // It is the keeper of a store, which the disk stands for where it keeps the disk model.
+    ensures opened { IfOk result (λ keeper. OfStore (D.honest disk) (D.content disk) (λ net version. HaveCome net version [] [] 0 keeper.machine)) }
     ensures same { D.honest disk → IfOk result (λ keeper. StaysSame D.content D.left D.moment D.left_since disk keeper.disk) }
     ensures handed_back { D.honest disk → IfErr result (λ refused. StaysSame D.content D.left D.moment D.left_since disk refused.1) }
-    ensures refused { D.honest disk → IfErr result (λ refused. MayRefuseToOpen (D.content disk) refused.0) }
+    ensures refused { IfErr result (λ refused. IsUnopened (D.honest disk) (D.content disk) refused.0) }
+    ensures counted { MatchResult result (λ keeper. D.failures keeper.disk ≡ D.failures disk)
+        (λ refused. D.failures refused.1 ≡ failures_with refused.0 (D.failures disk)) }
     ensures honest { (IfOk result (λ keeper. D.honest keeper.disk ↔ D.honest disk)) × (IfErr result (λ refused. D.honest refused.1 ↔ D.honest disk)) }
 {
     let store = match open(alloc, disk) {
@@ -371,8 +408,15 @@ fn apply_commands<D: Disk, W: Write>(
     requires calm { keeper.machine.broken ≡ false }
     requires none { pending keeper.machine ≡ 0 }
     ensures done { IfOk result.0 (λ told. told ≡ done) }
-    ensures applied { CameTidy D.honest D.content keeper.given → (net : Net) (version : ℕ) → HaveCome net version [] [] 0 keeper.machine → OnOk result.0 (AppliesAll net version commands.now (D.content result.1) (D.left result.1) (W.contents (writer_of out.old)) (W.contents (writer_of out.new))) }
-    ensures cut_off { CameTidy D.honest D.content keeper.given → (net : Net) (version : ℕ) → HaveCome net version [] [] 0 keeper.machine → IfErr result.0 (AppliesSome net version commands.now (D.left result.1) (W.contents (writer_of out.old)) (W.contents (writer_of out.new))) }
+    ensures applied { ForCame D.honest D.content keeper (λ net version. OnOk result.0
+        (AppliesAll net version commands.now (D.content result.1) (D.left result.1) (W.contents (writer_of out.old)) (W.contents (writer_of out.new)))) }
+    ensures cut_off { ForCame D.honest D.content keeper (λ net version. IfErr result.0
+        (AppliesSome net version commands.now (D.left result.1) (W.contents (writer_of out.old)) (W.contents (writer_of out.new)))) }
+    ensures told { ForBegun keeper.machine (λ net version. OnOk result.0
+        (TellsAll net version commands.now (W.contents (writer_of out.old)) (W.contents (writer_of out.new)))) }
+    ensures any_moment { ForCame D.honest D.content keeper (λ net version.
+        AddsOnly D.moment D.left_since keeper.disk result.1 (StandsAmong net version commands.now)) }
+    ensures counted { CountsDevice (D.failures keeper.disk) (D.failures result.1) result.0 }
     ensures refused { IfErr result.0 IsCutOffBy }
     ensures writes { CountsWrites (failed_writes out.old) (failed_writes out.new) result.0 }
     ensures same { IsSameWriter out.old out.new }
@@ -410,8 +454,14 @@ fn apply_to_writer<D: Disk, W: Write>(
     requires calm { keeper.machine.broken ≡ false }
     requires none { pending keeper.machine ≡ 0 }
     ensures done { IfOk result.0 (λ told. told ≡ done) }
-    ensures applied { CameTidy D.honest D.content keeper.given → (net : Net) (version : ℕ) → HaveCome net version [] [] 0 keeper.machine → OnOk result.0 (AppliesAll net version commands.now (D.content result.1) (D.left result.1) (W.contents out.old) (W.contents out.new)) }
-    ensures cut_off { CameTidy D.honest D.content keeper.given → (net : Net) (version : ℕ) → HaveCome net version [] [] 0 keeper.machine → IfErr result.0 (AppliesSome net version commands.now (D.left result.1) (W.contents out.old) (W.contents out.new)) }
+    ensures applied { ForCame D.honest D.content keeper (λ net version. OnOk result.0
+        (AppliesAll net version commands.now (D.content result.1) (D.left result.1) (W.contents out.old) (W.contents out.new))) }
+    ensures cut_off { ForCame D.honest D.content keeper (λ net version. IfErr result.0
+        (AppliesSome net version commands.now (D.left result.1) (W.contents out.old) (W.contents out.new))) }
+    ensures told { ForBegun keeper.machine (λ net version. OnOk result.0 (TellsAll net version commands.now (W.contents out.old) (W.contents out.new))) }
+    ensures any_moment { ForCame D.honest D.content keeper (λ net version.
+        AddsOnly D.moment D.left_since keeper.disk result.1 (StandsAmong net version commands.now)) }
+    ensures counted { CountsDevice (D.failures keeper.disk) (D.failures result.1) result.0 }
     ensures refused { IfErr result.0 IsCutOffBy }
     ensures honest { D.honest result.1 ↔ D.honest keeper.disk }
 {
@@ -443,18 +493,29 @@ pub fn apply_counted<T: Threads, D: Disk, R: BufRead, W: Write>(
     ensures width { IfOk result.0 (λ done. done.delta ≡ delta) }
     // Where the disk stands, tidy, for this network at this version, all that a stop may leave stands for that network after the accepted
     // commands, and the lines of all commands are written.
-    ensures applied { D.honest disk → (journal_pages : ℕ) (net : Net) (version : ℕ) → StandsTidyFor journal_pages (D.content disk) net version → OnOk result.0 (IfSome (R.remaining (reader_of commands.old))
-        (λ text. IsApplied net version text (D.content result.1) (D.left result.1) (W.contents (writer_of out.old)) (W.contents (writer_of out.new)))) }
+    ensures applied { ForTidy D.honest D.content disk (λ net version. OnOk result.0 (IfSome (R.remaining (reader_of commands.old))
+        (λ text. IsApplied net version text (D.content result.1) (D.left result.1) (W.contents (writer_of out.old)) (W.contents (writer_of out.new))))) }
     // Where it ends early, nothing was begun, or nothing that was told is lost.
-    ensures cut_off { D.honest disk → (journal_pages : ℕ) (net : Net) (version : ℕ) → StandsTidyFor journal_pages (D.content disk) net version → IfErr result.0 (λ failed. IfSome (R.remaining (reader_of commands.old))
-        (λ text. (StaysSame D.content D.left D.moment D.left_since disk result.1 × (writer_of out.new ≡ writer_of out.old)) ⊎ IsCutOff net version text (D.left result.1) (W.contents (writer_of out.old)) (W.contents (writer_of out.new)) failed)) }
-    ensures refused { D.honest disk → IfErr result.0 (λ failed. IfSome (R.remaining (reader_of commands.old))
-        (λ text. IsRefusedApply (D.content disk) text (R.remaining (reader_of commands.new)) failed)) }
+    ensures cut_off { ForTidy D.honest D.content disk (λ net version. IfErr result.0 (λ failed. IfSome (R.remaining (reader_of commands.old))
+        (λ text. (StaysSame D.content D.left D.moment D.left_since disk result.1 × (writer_of out.new ≡ writer_of out.old))
+        ⊎ IsCutOff net version text (D.left result.1) (W.contents (writer_of out.old)) (W.contents (writer_of out.new)) failed))) }
+    // A stop at any moment of the call leaves what it might have left before, or what stands for the network after a beginning of the
+    // text's accepted commands.
+    ensures any_moment { ForTidy D.honest D.content disk (λ net version. IfSome (R.remaining (reader_of commands.old))
+        (λ text. AtAnyMoment D.moment D.left_since D.left disk result.1 (IsWithin net version text))) }
+    // Over any disk: Ok comes where a store was opened, and all commands of the text are told.
+    ensures told { OnOk result.0 (IfSome (R.remaining (reader_of commands.old))
+        (λ text. IsTold (D.honest disk) (D.content disk) text (W.contents (writer_of out.old)) (W.contents (writer_of out.new)))) }
+    ensures refused { IfErr result.0 (λ failed. IfSome (R.remaining (reader_of commands.old))
+        (λ text. IsRefusedApply (D.honest disk) (D.content disk) text (R.remaining (reader_of commands.new)) failed)) }
+    ensures codes { IfErr result.0 IsOfStore }
+    // The disk's count of failures rises where 43 is told, and for no other refusal but a failed write.
+    ensures failed { CountsDevice (D.failures disk) (D.failures result.1) result.0 }
     ensures untouched { D.honest disk → IfErr result.0 (λ failed. IfUnbegun failed (StaysSame D.content D.left D.moment D.left_since disk result.1)) }
     ensures unwritten { IfErr result.0 (λ failed. IfUnbegun failed (writer_of out.new ≡ writer_of out.old)) }
     ensures honest { D.honest result.1 ↔ D.honest disk }
     ensures reads { CountsReads (failed_calls commands.old) (failed_calls commands.new) result.0 }
-    ensures writes { D.honest disk → CountsWrites (failed_writes out.old) (failed_writes out.new) result.0 }
+    ensures writes { CountsWrites (failed_writes out.old) (failed_writes out.new) result.0 }
     ensures same_reader { IsSameReader commands.old commands.new }
     ensures same_writer { IsSameWriter out.old out.new }
 {
@@ -490,16 +551,23 @@ pub fn apply_text<T: Threads, D: Disk, W: Write>(
 ) -> (Result<Done, Failed>, D)
     requires { ForSome delta IsWidth }
     ensures width { IfOk result.0 (λ done. done.delta ≡ delta) }
-    ensures applied { D.honest disk → (journal_pages : ℕ) (net : Net) (version : ℕ) → StandsTidyFor journal_pages (D.content disk) net version → OnOk result.0 (IsApplied net version commands.now (D.content result.1) (D.left result.1) (W.contents out.old) (W.contents out.new)) }
-    ensures cut_off { D.honest disk → (journal_pages : ℕ) (net : Net) (version : ℕ) → StandsTidyFor journal_pages (D.content disk) net version → IfErr result.0 (λ failed. (StaysSame D.content D.left D.moment D.left_since disk result.1 × (out.new ≡ out.old)) ⊎ IsCutOff net version commands.now (D.left result.1) (W.contents out.old) (W.contents out.new) failed) }
-    ensures refused { D.honest disk → IfErr result.0 (IsTextRefusedApply (D.content disk) commands.now) }
+    ensures applied { ForTidy D.honest D.content disk (λ net version. OnOk result.0
+        (IsApplied net version commands.now (D.content result.1) (D.left result.1) (W.contents out.old) (W.contents out.new))) }
+    ensures cut_off { ForTidy D.honest D.content disk (λ net version. IfErr result.0
+        (λ failed. (StaysSame D.content D.left D.moment D.left_since disk result.1 × (out.new ≡ out.old))
+        ⊎ IsCutOff net version commands.now (D.left result.1) (W.contents out.old) (W.contents out.new) failed)) }
+    ensures any_moment { ForTidy D.honest D.content disk (λ net version.
+        AtAnyMoment D.moment D.left_since D.left disk result.1 (IsWithin net version commands.now)) }
+    ensures told { OnOk result.0 (IsTold (D.honest disk) (D.content disk) commands.now (W.contents out.old) (W.contents out.new)) }
+    ensures refused { IfErr result.0 (IsTextRefusedApply (D.honest disk) (D.content disk) commands.now) }
+    ensures failed { CountsDevice (D.failures disk) (D.failures result.1) result.0 }
     ensures untouched { D.honest disk → IfErr result.0 (λ failed. IfUnbegun failed (StaysSame D.content D.left D.moment D.left_since disk result.1)) }
     ensures unwritten { IfErr result.0 (λ failed. IfUnbegun failed (out.new ≡ out.old)) }
     ensures honest { D.honest result.1 ↔ D.honest disk }
 {
     let keeper = match keeper_on(rt, alloc, disk, delta) {
         Ok(keeper) => keeper,
-        Err((refusal, disk)) => return (Err(Failed::Code(refusal)), disk),
+        Err((refused, disk)) => return (Err(Failed::Code(refused)), disk),
     };
     let done = done_by(&keeper, delta);
     let commands = match parse_commands(alloc, commands) {

@@ -9,6 +9,7 @@ ghost use Rattle.printing.specs.Failing.{CountsReads, CountsWrites, LeavesUnwrit
 ghost use Rattle.querytexts.specs.Batch.{AnswersAll};
 ghost use Rattle.querytexts.specs.Once.{IsUnanswered};
 ghost use Rattle.storetexts.specs.Asked.{IsAsked, IsRefusedAsk, IsTextRefusedAsk};
+ghost use Rattle.storetexts.specs.Refused.{CountsDevice, IsOfStore};
 
 use dimacs::{Counted, Pair, parse_p2p, read_p2p_counted};
 use disk::Disk;
@@ -51,11 +52,13 @@ fn ask_opened<T: Threads, D: Disk, W: Write>(
     (answered, store.close())
 }
 
-/// Opens the store on a disk, and writes its version and a right answer to each pair of a reader's `.p2p` text, in their order. The store is opened first, then
-/// the text is read whole, then the answers are written. Nodes of the pairs are judged by the store's network. Nothing is written to the disk, which is handed back.
+/// Opens the store on a disk, and writes its version and a right answer to each pair of a reader's `.p2p` text, in their order. The store
+/// is opened first, then the text is read whole, then the answers are written. Nodes of the pairs are judged by the store's network.
+/// Nothing is written to the disk, which is handed back.
 ///
 /// Refused is what is refused on opening: no store (40), another format (41), a damaged page (42), a disk that fails (43), want of memory
-/// (11); then a fault of the text, `which` 0; then want of memory for all replies (11). Nothing is written then. A failed read is fault 10
+/// (11); then a fault of the text, `which` 0; then want of memory for all replies (11). Nothing is written then. 43 is told only where the
+/// disk's count of failures rose. A failed read is fault 10
 /// of the line being read, and a failed write is 12: both are told only where the count of the reader's or the writer's failed calls rose.
 /// After an `Err` reader and writer are not used again.
 ///
@@ -71,16 +74,20 @@ pub fn ask_counted<T: Threads, D: Disk, R: BufRead, W: Write>(
 ) -> (Result<Done, Failed>, D)
     requires { ForSome delta IsWidth }
     ensures width { IfOk result.0 (λ done. done.delta ≡ delta) }
-    ensures answered { D.honest disk → OnOk result.0 (IfSome (R.remaining (reader_of p2p.old))
-        (λ text. IsAsked text (D.content disk) (W.contents (writer_of out.old)) (W.contents (writer_of out.new)))) }
-    ensures refused { D.honest disk → IfErr result.0 (λ failed. IfSome (R.remaining (reader_of p2p.old))
-        (λ text. IsRefusedAsk (D.content disk) text (R.remaining (reader_of p2p.new)) failed)) }
+    // Over any disk the answers are right in the network of the store that was opened.
+    ensures answered { OnOk result.0 (IfSome (R.remaining (reader_of p2p.old))
+        (λ text. IsAsked (D.honest disk) (D.content disk) text (W.contents (writer_of out.old)) (W.contents (writer_of out.new)))) }
+    ensures refused { IfErr result.0 (λ failed. IfSome (R.remaining (reader_of p2p.old))
+        (λ text. IsRefusedAsk (D.honest disk) (D.content disk) text (R.remaining (reader_of p2p.new)) failed)) }
+    ensures codes { IfErr result.0 IsOfStore }
+    // The disk's count of failures rises where 43 is told, and else not at all.
+    ensures failed { CountsDevice (D.failures disk) (D.failures result.1) result.0 }
     // Nothing is written to the disk.
     ensures untouched { D.honest disk → StaysSame D.content D.left D.moment D.left_since disk result.1 }
     ensures honest { D.honest result.1 ↔ D.honest disk }
     ensures unwritten { IfErr result.0 (LeavesUnwritten (writer_of out.old) (writer_of out.new)) }
     ensures reads { CountsReads (failed_calls p2p.old) (failed_calls p2p.new) result.0 }
-    ensures writes { D.honest disk → CountsWrites (failed_writes out.old) (failed_writes out.new) result.0 }
+    ensures writes { CountsWrites (failed_writes out.old) (failed_writes out.new) result.0 }
     ensures same_reader { IsSameReader p2p.old p2p.new }
     ensures same_writer { IsSameWriter out.old out.new }
 {
@@ -114,8 +121,9 @@ pub fn ask_text<T: Threads, D: Disk, W: Write>(
 ) -> (Result<Done, Failed>, D)
     requires { ForSome delta IsWidth }
     ensures width { IfOk result.0 (λ done. done.delta ≡ delta) }
-    ensures answered { D.honest disk → OnOk result.0 (IsAsked p2p.now (D.content disk) (W.contents out.old) (W.contents out.new)) }
-    ensures refused { D.honest disk → IfErr result.0 (IsTextRefusedAsk (D.content disk) p2p.now) }
+    ensures answered { OnOk result.0 (IsAsked (D.honest disk) (D.content disk) p2p.now (W.contents out.old) (W.contents out.new)) }
+    ensures refused { IfErr result.0 (IsTextRefusedAsk (D.honest disk) (D.content disk) p2p.now) }
+    ensures failed { CountsDevice (D.failures disk) (D.failures result.1) result.0 }
     ensures untouched { D.honest disk → StaysSame D.content D.left D.moment D.left_since disk result.1 }
     ensures honest { D.honest result.1 ↔ D.honest disk }
     ensures unwritten { IfErr result.0 (LeavesUnwritten out.old out.new) }

@@ -1,5 +1,5 @@
 // A store made from two texts.
-ghost use Rattle.std.specs.Prelude.{◌≡◌, ◌≢◌, ◌⊎◌, ◌<◌, ◌≤◌, ◌↔◌, [], length, OnOk, IfOk, IfErr, IfSome};
+ghost use Rattle.std.specs.Prelude.{◌≡◌, ◌≢◌, ◌⊎◌, ◌≤◌, ◌↔◌, [], OnOk, IfOk, IfErr, IfSome};
 ghost use Rattle.std.specs.Io.KnownBytes.{Appends};
 ghost use Rattle.std.specs.List.Sorted.{IsStrictlyIncreasing};
 ghost use lib.Chars.{codes};
@@ -9,8 +9,9 @@ ghost use Rattle.disk.specs.Moments.{StaysSame};
 ghost use Rattle.printing.specs.Counting.{failed_writes, writer_of, IsSameWriter};
 ghost use Rattle.printing.specs.Failing.{CountsFirst, CountsSecond, CountsWrites, LeavesUnwritten};
 ghost use Rattle.printing.specs.Replied.{number_line};
-ghost use Rattle.storetexts.specs.Planned.{with_landmarks, IsPlanned, IsRefusedPlan, IsTextRefusedPlan, IsOfPlan, IsUnmade, IsNewStore, IsNewStoreOf};
-ghost use Rattle.storetexts.specs.Refused.{IfDone, IfNoDevice, IfOfTexts, IfNotEmpty, IfDevice};
+ghost use Rattle.storetexts.specs.Planned.{with_landmarks, IsPlanned, IsUnmarked, IsRefusedPlan, IsTextRefusedPlan, IsOfPlan, IsUnmade};
+ghost use Rattle.storetexts.specs.Planned.{IsRefusedCreate, IsTextRefusedCreate, IsNewStore, IsNewStoreOf};
+ghost use Rattle.storetexts.specs.Refused.{IfDone, IfNoDevice, IfOfTexts, IfNotEmpty, IfNoMemory, IfDevice};
 
 use dimacs::{Counted, parse_gr, parse_ss, read_gr_counted, read_ss_counted};
 use disk::Disk;
@@ -32,7 +33,7 @@ const MOST_LANDMARKS: usize = 1000;
 fn with_landmarks(network: Network, landmarks: &[u32]) -> Result<Network, Refusal>
     requires { IsStrictlyIncreasing landmarks.now }
     ensures marked { network.landmarks ≡ [] → IfOk result (λ marked. marked ≡ with_landmarks network landmarks.now) }
-    ensures refused { IfErr result (λ refusal. ((refusal ≡ Refusal.TooManyLandmarks) × (1000 < length landmarks.now)) ⊎ (refusal ≡ Refusal.OutOfMemory)) }
+    ensures refused { IfErr result (IsUnmarked landmarks.now) }
 {
     if landmarks.len() > MOST_LANDMARKS {
         return Err(Refusal::TooManyLandmarks);
@@ -133,7 +134,9 @@ pub fn create_store<D: Disk, W: Write>(
     ensures made { D.honest disk → IfDone result.0 (IsNewStore network.now journal_pages (D.content result.1) (D.left result.1)) }
     ensures empty { D.honest disk → IfDone result.0 (D.content disk ≡ []) }
     ensures refused { IfErr result.0 IsUnmade }
+    // 46 comes exactly where the disk isn't empty, 43 apart; 11 behind it.
     ensures not_empty { D.honest disk → IfErr result.0 (λ failed. IfNotEmpty failed (D.content disk ≢ [])) }
+    ensures order { D.honest disk → IfErr result.0 (λ failed. IfNoMemory failed (D.content disk ≡ [])) }
     ensures untouched { D.honest disk → IfErr result.0 (λ failed. IfNoDevice failed (StaysSame D.content D.left D.moment D.left_since disk result.1)) }
     ensures failed { IfErr result.0 (λ failed. IfDevice failed (Rose (D.failures disk) (D.failures result.1))) }
     ensures honest { D.honest result.1 ↔ D.honest disk }
@@ -168,9 +171,13 @@ pub fn create_counted<D: Disk, R: BufRead, Q: BufRead, W: Write>(
     ensures made { D.honest disk → IfDone result.0 (IfSome (R.remaining (reader_of gr.old)) (λ network. IfSome (Q.remaining (reader_of ss.old))
         (λ landmarks. IsNewStoreOf network landmarks journal_pages (D.content result.1) (D.left result.1)))) }
     ensures refused { IfErr result.0 (λ failed. IfSome (R.remaining (reader_of gr.old)) (λ network. IfSome (Q.remaining (reader_of ss.old))
-        (λ landmarks. IsUnmade failed ⊎ IsRefusedPlan network landmarks (R.remaining (reader_of gr.new)) (Q.remaining (reader_of ss.new)) failed))) }
+        (λ landmarks. IsRefusedCreate network landmarks (R.remaining (reader_of gr.new)) (Q.remaining (reader_of ss.new)) failed))) }
+    ensures codes { IfErr result.0 (λ failed. IsOfPlan failed ⊎ IsUnmade failed) }
     ensures unread { IfErr result.0 (λ failed. IfOfTexts failed (result.1 ≡ disk)) }
+    // 46 comes exactly where the disk isn't empty, 43 apart; 11 where it is empty, or before any call of it.
+    ensures empty { D.honest disk → IfDone result.0 (D.content disk ≡ []) }
     ensures not_empty { D.honest disk → IfErr result.0 (λ failed. IfNotEmpty failed (D.content disk ≢ [])) }
+    ensures order { D.honest disk → IfErr result.0 (λ failed. IfNoMemory failed ((D.content disk ≡ []) ⊎ (result.1 ≡ disk))) }
     ensures untouched { D.honest disk → IfErr result.0 (λ failed. IfNoDevice failed (StaysSame D.content D.left D.moment D.left_since disk result.1)) }
     ensures failed { IfErr result.0 (λ failed. IfDevice failed (Rose (D.failures disk) (D.failures result.1))) }
     ensures honest { D.honest result.1 ↔ D.honest disk }
@@ -201,9 +208,12 @@ pub fn create_text<D: Disk, W: Write>(
     requires some { 1 ≤ journal_pages }
     requires few { journal_pages ≤ 65536 }
     ensures made { D.honest disk → IfDone result.0 (IsNewStoreOf gr.now ss.now journal_pages (D.content result.1) (D.left result.1)) }
-    ensures refused { IfErr result.0 (λ failed. IsUnmade failed ⊎ IsTextRefusedPlan gr.now ss.now failed) }
+    ensures refused { IfErr result.0 (IsTextRefusedCreate gr.now ss.now) }
     ensures unread { IfErr result.0 (λ failed. IfOfTexts failed (result.1 ≡ disk)) }
+    // 46 comes exactly where the disk isn't empty, 43 apart; 11 where it is empty, or before any call of it.
+    ensures empty { D.honest disk → IfDone result.0 (D.content disk ≡ []) }
     ensures not_empty { D.honest disk → IfErr result.0 (λ failed. IfNotEmpty failed (D.content disk ≢ [])) }
+    ensures order { D.honest disk → IfErr result.0 (λ failed. IfNoMemory failed ((D.content disk ≡ []) ⊎ (result.1 ≡ disk))) }
     ensures untouched { D.honest disk → IfErr result.0 (λ failed. IfNoDevice failed (StaysSame D.content D.left D.moment D.left_since disk result.1)) }
     ensures failed { IfErr result.0 (λ failed. IfDevice failed (Rose (D.failures disk) (D.failures result.1))) }
     ensures honest { D.honest result.1 ↔ D.honest disk }

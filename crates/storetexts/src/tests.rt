@@ -1,9 +1,12 @@
 ghost use Rattle.std.specs.Prelude.{◌≤◌};
 
-use crate::{apply_text, ask_text, create_text};
-use dimacs::{Code, Fault};
-use disk::{Disk, FailOnce, MemDisk};
-use printing::{Done, Failed};
+use crate::{
+    apply_counted, apply_text, ask_counted, ask_text, create_counted, create_store, create_text,
+    read_planned,
+};
+use dimacs::{Code, Counted, Fault};
+use disk::{Disk, FailOnce, FuseDisk, MemDisk};
+use printing::{CountedWriter, Done, Failed};
 use roadnet::Refusal;
 use std::alloc::Global;
 use std::io;
@@ -308,5 +311,98 @@ fn lines_are_sent_page_by_page(rt: HostRuntime) -> Result<(), Refusal> {
     // Of 253 lines 9 have 5 bytes, 90 have 6 and 154 have 7; 47 of 7 bytes follow.
     assert!(rt; out.sent.as_slice() == [5, 13, 1663, 329].as_slice());
     assert_eq!(rt; out.waiting, 0);
+    Ok(())
+}
+
+/// The calls that count, with ample memory: each writes its bytes, and no call of a reader or of the writer fails.
+#[test]
+fn counted_calls_write_their_bytes(rt: HostRuntime) -> Result<(), Refusal> {
+    let alloc = rt.alloc();
+    let mut out = Vec::new(alloc);
+    let mut writer = CountedWriter::new(&mut out);
+    let (mut six, mut marks) = (SIX, LANDMARKS);
+    let planned = read_planned(
+        alloc,
+        &mut Counted::new(&mut six),
+        &mut Counted::new(&mut marks),
+    );
+    let Ok(network) = planned else {
+        return Err(Refusal::Broken);
+    };
+    assert!(rt; network.landmarks() == [3, 6].as_slice());
+    let (outcome, _) = create_store(alloc, MemDisk::new(alloc), &network, 2, &mut writer);
+    assert!(rt; outcome == Ok(()));
+    let (mut six, mut marks) = (SIX, LANDMARKS);
+    let (outcome, disk) = create_counted(
+        alloc,
+        MemDisk::new(alloc),
+        &mut Counted::new(&mut six),
+        &mut Counted::new(&mut marks),
+        64,
+        &mut writer,
+    );
+    assert!(rt; outcome == Ok(()));
+    let mut commands = b"close 7\nclose 7\nset 8 4\n".as_slice();
+    let (outcome, disk) = apply_counted(
+        &rt,
+        alloc,
+        disk,
+        &mut Counted::new(&mut commands),
+        None,
+        &mut writer,
+    );
+    assert!(rt; outcome == Ok(Done { delta: None }));
+    let mut pair = PAIR;
+    let (outcome, _) = ask_counted(
+        &rt,
+        alloc,
+        disk,
+        &mut Counted::new(&mut pair),
+        Some(5),
+        &mut writer,
+    );
+    assert!(rt; outcome == Ok(Done { delta: Some(5) }));
+    assert_eq!(rt; writer.failed_writes(), 0);
+    assert!(rt; out.as_slice() == b"ok 0\nok 0\nok 1\nno 22\nok 2\nv 2\nd 1 6 14\n".as_slice());
+    Ok(())
+}
+
+/// Opening syncs once, and a flush makes four writes and syncs where its page is closed. No checkpoint is written while no flush is refused for a
+/// full journal, so a disk that takes just so many calls takes all commands, and one that takes a call fewer does not.
+#[test]
+fn a_checkpoint_comes_for_a_full_journal_alone(rt: HostRuntime) -> Result<(), Refusal> {
+    let alloc = rt.alloc();
+    let table: [(u32, u32, u64); 4] = [(64, 0, 1), (64, 1, 5), (64, 300, 9), (2, 506, 9)];
+    for (journal_pages, count, calls) in table {
+        if journal_pages < 1 || journal_pages > 65536 {
+            return Err(Refusal::Broken);
+        }
+        let text = repeated(alloc, count)?;
+        let (disk, _) = created(alloc, journal_pages)?;
+        let mut out = Vec::new(alloc);
+        let (outcome, _) = apply_text(
+            &rt,
+            alloc,
+            FuseDisk::new(disk, calls),
+            &text,
+            None,
+            &mut out,
+        );
+        assert!(rt; outcome == Ok(Done { delta: None }), "{count} commands");
+        assert_eq!(rt; lines_of(&out), u64::from(count));
+        let (disk, _) = created(alloc, journal_pages)?;
+        let (outcome, _) = apply_text(
+            &rt,
+            alloc,
+            FuseDisk::new(disk, calls.saturating_sub(1)),
+            &text,
+            None,
+            &mut out,
+        );
+        assert!(rt;
+            outcome == Err(Failed::Code(Refusal::Device)),
+            "{count} commands"
+        );
+    }
     Ok(())
 }

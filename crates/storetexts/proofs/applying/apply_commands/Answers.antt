@@ -1,11 +1,14 @@
-use Rattle.std.proofs.Common.{[], Ok, Err, sym, subst}
+use Rattle.std.proofs.Common.{[], Ok, Err, sym, subst, arith}
 use Rattle.std.specs.Io.KnownBytes.{Appends}
 use Rattle.std.proofs.KnownBytes.{Appends-nil}
 use Rattle.roadnet.specs.declared.refusals.Refusal.TheVariants.{OutOfMemory}
 use Rattle.printing.specs.Counting.{writer_of}
 use Rattle.printing.specs.declared.failed.Failed.TheVariants.{Code}
 use Rattle.store.specs.State.{CameTidy}
-use Rattle.storetexts.proofs.Remaining.{applies_some, ended_all, ended_some}
+use Rattle.storetexts.specs.Applied.{StandsAmong}
+use Rattle.storetexts.specs.Applying.{StandsIn}
+use Rattle.storetexts.proofs.Meanwhile.{adds_weaker}
+use Rattle.storetexts.proofs.Remaining.{applies_some, ended_all, ended_some, told_all, among}
 use Rattle.storetexts.proofs.applying.apply_commands.Goals as goal
 
 pub returns-in-Err-clause-cut_off : goal.returns-in-Err-clause-cut_off
@@ -13,7 +16,7 @@ returns-in-Err-clause-cut_off g c came net version begun =
     let unwritten : Appends (g.W.Write.contents (writer_of c.args.out.now)) (g.W.Write.contents (writer_of c.args.out.now)) [] = Appends-nil _ in
     rw c.close-disk.ensures.disk
     (applies_some net version c.args.commands.now [] 0 c.args.keeper.machine (g.D.Disk.content c.args.keeper.disk) (g.D.Disk.left c.args.keeper.disk) _ _ (Code OutOfMemory)
-    (record { taken = 0; come = begun }) c.requires.steady (c.close-disk.ensures.holds came) unwritten)
+    (record { taken = 0; come = begun }) c.requires.steady (omega (arith, c.requires.none)) (c.close-disk.ensures.holds came) unwritten tt)
 
 pub returns-in-Ok-ended-clause-applied : goal.returns-in-Ok-ended-clause-applied
 returns-in-Ok-ended-clause-applied g c was net version begun =
@@ -31,4 +34,23 @@ returns-in-Err-ended-clause-cut_off g c was net version begun =
     rw c.close-left.ensures.disk
     (ended_some net version c.args.keeper.machine c.run-ended.new.self.keeper.machine c.args.commands.now c.run-ended.new.self.outcomes.items c.run-ended.new.self.told
     (g.D.Disk.content disk) (g.D.Disk.left disk) _ _ begun c.run-ended.ensures.steady (c.close-left.ensures.holds came)
-    (Err c.in-Err-ended.failed) c.run-ended.ensures.some c.in-Err-ended.ensures.lines)
+    (Err c.in-Err-ended.failed) c.run-ended.ensures.some c.run-ended.ensures.waiting c.in-Err-ended.ensures.lines c.in-Err-ended.ensures.next)
+
+pub returns-in-Ok-ended-clause-told : goal.returns-in-Ok-ended-clause-told
+returns-in-Ok-ended-clause-told g c net version begun =
+    told_all net version c.args.keeper.machine c.run-ended.new.self.keeper.machine c.args.commands.now c.run-ended.new.self.outcomes.items c.run-ended.new.self.told _ _ begun
+    (Ok tt) c.in-Ok-ended.ensures.come c.in-Ok-ended.ensures.all c.in-Ok-ended.ensures.lines
+
+pub returns-in-Ok-ended-clause-any_moment : goal.returns-in-Ok-ended-clause-any_moment
+returns-in-Ok-ended-clause-any_moment g c was net version begun =
+    rw c.close-left.ensures.disk
+    (adds_weaker g.D.Disk.moment g.D.Disk.left_since c.args.keeper.disk c.run-ended.new.self.keeper.disk (StandsIn c.run-ended.new.self.keeper.machine) (StandsAmong net version c.args.commands.now)
+    (among net version c.args.commands.now c.run-ended.new.self.outcomes.items c.run-ended.new.self.told c.run-ended.new.self.keeper.machine (c.run-ended.ensures.some net version begun))
+    (c.run-ended.ensures.leaves was))
+
+pub returns-in-Err-ended-clause-any_moment : goal.returns-in-Err-ended-clause-any_moment
+returns-in-Err-ended-clause-any_moment g c was net version begun =
+    rw c.close-left.ensures.disk
+    (adds_weaker g.D.Disk.moment g.D.Disk.left_since c.args.keeper.disk c.run-ended.new.self.keeper.disk (StandsIn c.run-ended.new.self.keeper.machine) (StandsAmong net version c.args.commands.now)
+    (among net version c.args.commands.now c.run-ended.new.self.outcomes.items c.run-ended.new.self.told c.run-ended.new.self.keeper.machine (c.run-ended.ensures.some net version begun))
+    (c.run-ended.ensures.leaves was))

@@ -1,28 +1,41 @@
-use Rattle.std.proofs.Common.{rules, ◌≡◌}
+use Rattle.std.proofs.Common.{rules, ◌≡◌, ◌∙◌, ap}
 use Rattle.dimacs.specs.Counts.{reader_of}
 use Rattle.printing.specs.declared.done.Done.{Done}
-use Rattle.storetexts.proofs.Judged.{opening_is_no_write, not_written, opening_refused}
-use Rattle.storetexts.proofs.Answered.{asked_of, fault_of, refused_so}
+use Rattle.storetexts.proofs.Judged.{opening_counts, opening_of_store, ask_refused_known}
+use Rattle.storetexts.proofs.Meanwhile.{counts_code}
+use Rattle.storetexts.proofs.Answered.{asked_of, fault_of, refused_so, kind_unanswered, counts_unanswered}
 use Rattle.storetexts.proofs.asking.ask_counted.Goals as goal
 
 pub returns-in-Err-clause-writes : goal.returns-in-Err-clause-writes
-returns-in-Err-clause-writes g c honest = not_written Done c.in-Err.refusal _ (opening_is_no_write (g.D.Disk.content c.args.disk) c.in-Err.refusal (c.in-Err.ensures.judged honest))
+returns-in-Err-clause-writes g c = opening_counts Done c.in-Err.refusal _ c.in-Err.ensures.causes
+
+pub returns-in-Err-clause-codes : goal.returns-in-Err-clause-codes
+returns-in-Err-clause-codes g c = opening_of_store c.in-Err.refusal c.in-Err.ensures.causes
+
+pub returns-in-Err-clause-failed : goal.returns-in-Err-clause-failed
+returns-in-Err-clause-failed g c = counts_code Done c.in-Err.refusal _ _ c.in-Err.ensures.counted
 
 pub returns-in-Err-clause-refused : goal.returns-in-Err-clause-refused
-returns-in-Err-clause-refused g c honest = opening_refused (g.D.Disk.content c.args.disk) (g.R.Read.remaining (reader_of c.args.p2p.now)) (g.R.Read.remaining (reader_of c.args.p2p.now)) c.in-Err.refusal (c.in-Err.ensures.judged honest)
+returns-in-Err-clause-refused g c = ask_refused_known (g.D.Disk.honest c.args.disk) (g.D.Disk.content c.args.disk) (g.R.Read.remaining (reader_of c.args.p2p.now)) (g.R.Read.remaining (reader_of c.args.p2p.now)) c.in-Err.refusal (c.in-Err.ensures.causes, c.in-Err.ensures.judged)
 
 pub returns-in-Err-read_p2p_counted-clause-refused :
     goal.returns-in-Err-read_p2p_counted-clause-refused
-returns-in-Err-read_p2p_counted-clause-refused g c honest =
+returns-in-Err-read_p2p_counted-clause-refused g c =
     let nodes : c.nodes.result ≡ c.in-Ok.store.network.nodes = search rules in
-    fault_of _ c.in-Ok.store.network c.in-Ok.store.version c.nodes.result (c.in-Ok.ensures.stands honest) nodes _ _ c.in-Err-read_p2p_counted.fault c.in-Err-read_p2p_counted.ensures.read
+    fault_of _ _ c.in-Ok.store.network c.in-Ok.store.version c.nodes.result c.in-Ok.ensures.stands nodes _ _ c.in-Err-read_p2p_counted.fault c.in-Err-read_p2p_counted.ensures.read
 
 pub returns-clause-answered : goal.returns-clause-answered
-returns-clause-answered g c honest =
+returns-clause-answered g c =
     let nodes : c.nodes.result ≡ c.in-Ok.store.network.nodes = search rules in
     let list : c.deref.result.now ≡ c.in-Ok-read_p2p_counted.pairs.items = search rules in
     let answers = c.ask_opened.ensures.answered in
-    asked_of _ c.in-Ok.store.network c.in-Ok.store.version c.nodes.result (c.in-Ok.ensures.stands honest) nodes c.ask_opened.result.0 _ _ c.in-Ok-read_p2p_counted.pairs.items _ _ c.in-Ok-read_p2p_counted.ensures.read (rw list at answers)
+    asked_of _ _ c.in-Ok.store.network c.in-Ok.store.version c.nodes.result c.in-Ok.ensures.stands nodes c.ask_opened.result.0 _ _ c.in-Ok-read_p2p_counted.pairs.items _ _ c.in-Ok-read_p2p_counted.ensures.read (rw list at answers)
 
 pub returns-clause-refused : goal.returns-clause-refused
-returns-clause-refused g c honest = refused_so c.ask_opened.result.0 _ _ _ c.ask_opened.ensures.refused
+returns-clause-refused g c = refused_so c.ask_opened.result.0 (g.D.Disk.honest c.args.disk) (g.D.Disk.content c.args.disk) (g.R.Read.remaining (reader_of c.args.p2p.now)) _ c.ask_opened.ensures.refused
+
+pub returns-clause-codes : goal.returns-clause-codes
+returns-clause-codes g c = kind_unanswered c.ask_opened.result.0 c.ask_opened.ensures.refused
+
+pub returns-clause-failed : goal.returns-clause-failed
+returns-clause-failed g c = counts_unanswered c.ask_opened.result.0 _ _ c.ask_opened.ensures.refused (ap g.D.Disk.failures c.ask_opened.ensures.disk ∙ c.in-Ok.ensures.counted)

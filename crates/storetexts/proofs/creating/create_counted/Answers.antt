@@ -1,4 +1,5 @@
-use Rattle.storetexts.proofs.Made.{made_of_both, plan_not_empty, plan_no_device, plan_counts}
+use Rattle.std.proofs.Common.{inl, refl}
+use Rattle.storetexts.proofs.Made.{made_of_both, plan_not_empty, plan_no_device, plan_counts, known_plan_refused, all_unmade_refused, unmade_kinds, memory_first, memory_second}
 use Rattle.storetexts.proofs.creating.create_counted.Goals as goal
 
 pub returns-in-Ok-clause-made : goal.returns-in-Ok-clause-made
@@ -12,3 +13,21 @@ returns-in-Err-clause-failed g c = plan_no_device c.in-Err.failed c.in-Err.ensur
 
 pub returns-in-Err-clause-writes : goal.returns-in-Err-clause-writes
 returns-in-Err-clause-writes g c = plan_counts c.in-Err.failed c.in-Err.ensures.kinds _
+
+pub returns-in-Err-clause-refused : goal.returns-in-Err-clause-refused
+returns-in-Err-clause-refused g c = known_plan_refused _ _ _ _ c.in-Err.failed c.in-Err.ensures.refused
+
+pub returns-in-Err-clause-codes : goal.returns-in-Err-clause-codes
+returns-in-Err-clause-codes g c = inl c.in-Err.ensures.kinds
+
+pub returns-in-Err-clause-order : goal.returns-in-Err-clause-order
+returns-in-Err-clause-order g c honest = memory_second c.in-Err.failed _ _ refl
+
+pub returns-in-Ok-clause-refused : goal.returns-in-Ok-clause-refused
+returns-in-Ok-clause-refused g c = all_unmade_refused c.create_store.result.0 _ _ _ _ c.in-Ok.network c.in-Ok.ensures.planned c.create_store.ensures.refused
+
+pub returns-in-Ok-clause-codes : goal.returns-in-Ok-clause-codes
+returns-in-Ok-clause-codes g c = unmade_kinds c.create_store.result.0 c.create_store.ensures.refused
+
+pub returns-in-Ok-clause-order : goal.returns-in-Ok-clause-order
+returns-in-Ok-clause-order g c honest = memory_first c.create_store.result.0 _ _ (c.create_store.ensures.order honest)

@@ -1,4 +1,5 @@
-use Rattle.std.proofs.Common.{◌∙◌, ◌+◌, ◌<◌, length, arith}
+use Rattle.std.proofs.Common.{◌∙◌, ◌+◌, ◌<◌, length, Err, arith}
+use Rattle.storetexts.proofs.Meanwhile.{grows_both, leaves_both, counts_from}
 use Rattle.storetexts.proofs.Remaining.{come_next, come_end}
 use Rattle.storetexts.proofs.applying.Applying.take_all.Goals as goal
 
@@ -24,6 +25,9 @@ loop-index-preserved g c =
       lines = c.in_default.ensures.lines _ before.lines;
       counts = c.in_default.ensures.writes ∙ before.counts;
       same = c.in_default.ensures.same ∙ before.same;
+      counted = c.in_default.ensures.counted ∙ before.counted;
+      grows = grows_both _ _ _ before.grows c.in_default.ensures.grows;
+      leaves = leaves_both g.D.Disk.honest g.D.Disk.content g.D.Disk.moment g.D.Disk.left_since c.args.self.now.keeper c.loop-index.self.keeper c.advance.new.self.keeper before.given c.in_default.ensures.grows before.leaves c.in_default.ensures.leaves;
       given = c.in_default.ensures.given ∙ before.given;
       forth = λ honest. before.forth (c.in_default.ensures.honest.0 honest);
       back = λ honest. c.in_default.ensures.honest.1 (before.back honest);
@@ -34,3 +38,14 @@ returns-clause-some g c net version have = record { taken = c.loop-index.index; 
 
 pub returns-clause-come : goal.returns-clause-come
 returns-clause-come g c net version have = come_end net version c.args.commands.now c.loop-index.index _ _ _ c.loop-index-test.false (c.loop-index.invariant.come net version have)
+
+pub returns-in-Err-clause-counted : goal.returns-in-Err-clause-counted
+returns-in-Err-clause-counted g c = counts_from {X = Unit {0}} (Err c.in-Err.failed) _ _ _ c.loop-index.invariant.counted c.in-Err.ensures.counted
+
+pub returns-in-Err-clause-grows : goal.returns-in-Err-clause-grows
+returns-in-Err-clause-grows g c = grows_both _ _ _ c.loop-index.invariant.grows c.advance.ensures.grows
+
+pub returns-in-Err-clause-leaves : goal.returns-in-Err-clause-leaves
+returns-in-Err-clause-leaves g c =
+    leaves_both g.D.Disk.honest g.D.Disk.content g.D.Disk.moment g.D.Disk.left_since c.args.self.now.keeper c.loop-index.self.keeper c.advance.new.self.keeper c.loop-index.invariant.given c.advance.ensures.grows
+    c.loop-index.invariant.leaves c.advance.ensures.leaves

@@ -3,7 +3,7 @@ use Rattle.std.specs.Prelude.{vec_capacity}
 use Rattle.roadnet.specs.Net.{Net}
 use Rattle.printing.specs.Counting.{failed_writes, writer_of, IsSameWriter}
 use Rattle.machine.specs.Machine.{pending}
-use Rattle.storetexts.specs.Applying.{IsSteady, HaveCome, AreTold}
+use Rattle.storetexts.specs.Applying.{IsSteady, HaveCome, AreTold, Grows, Leaves}
 use Rattle.storetexts.proofs.applying.Applying.take_all.Given as goal
 
 abbrev pub invariant-loop-index : goal.invariant-loop-index
@@ -18,6 +18,9 @@ invariant-loop-index g l = record {
   lines : AreTold (g.W.Write.contents (writer_of l.initial.out)) (g.W.Write.contents (writer_of l.out)) l.self.outcomes.items l.self.told;
   counts : failed_writes l.out ≡ failed_writes l.initial.out;
   same : IsSameWriter l.initial.out l.out;
+  counted : g.D.Disk.failures l.self.keeper.disk ≡ g.D.Disk.failures l.initial.self.keeper.disk;
+  grows : Grows l.initial.self.keeper.machine l.self.keeper.machine;
+  leaves : Leaves g.D.Disk.honest g.D.Disk.content g.D.Disk.moment g.D.Disk.left_since l.initial.self.keeper l.self.keeper;
   given : l.self.keeper.given ≡ l.initial.self.keeper.given;
   forth : g.D.Disk.honest l.self.keeper.disk → g.D.Disk.honest l.initial.self.keeper.disk;
   back : g.D.Disk.honest l.initial.self.keeper.disk → g.D.Disk.honest l.self.keeper.disk;

@@ -3,8 +3,7 @@ use Rattle.std.specs.Io.KnownBytes.{Appends}
 use Rattle.machine.specs.declared.events.Replied.{Replied}
 use Rattle.printing.specs.Counting.{writer_of}
 use Rattle.printing.specs.Replied.{printed_reply}
-use Rattle.storetexts.specs.Applying.{IsSettled}
-use Rattle.storetexts.specs.Outcomes.{reply_of}
+use Rattle.storetexts.specs.Outcomes.{reply_of, IsSettled}
 use Rattle.storetexts.proofs.Telling.{told_more, settled_more}
 use Rattle.storetexts.proofs.applying.Applying.tell.Goals as goal
 

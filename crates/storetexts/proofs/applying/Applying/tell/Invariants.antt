@@ -1,7 +1,8 @@
 use Rattle.std.proofs.Common.{◌≡◌, ℕ, List, Option, take}
 use Rattle.std.specs.Prelude.{All}
 use Rattle.printing.specs.Counting.{failed_writes, writer_of, IsSameWriter}
-use Rattle.storetexts.specs.Applying.{IsSettled, AreTold}
+use Rattle.storetexts.specs.Outcomes.{IsSettled}
+use Rattle.storetexts.specs.Applying.{AreTold}
 use Rattle.storetexts.proofs.applying.Applying.tell.Given as goal
 
 abbrev pub invariant-loop-index : goal.invariant-loop-index

@@ -75,8 +75,9 @@ fn after_opening<D: Disk + Drop>(alloc: Global, disk: D, failed: Failed) -> Fail
     }
 }
 
-/// The commands of a file, on the store of another. A fault of the store is told before one of the commands.
-pub fn run_apply<R: AllocGlobal + Files<File = File> + Print + Threads>(
+/// The commands of a file, on the store of another. A fault of the store is told before one of the commands. No row is computed, so the
+/// width is one that nothing searches by.
+pub fn run_apply<R: AllocGlobal + Files<File = File> + Print>(
     rt: &R,
     store: &str,
     commands: &str,
@@ -95,8 +96,11 @@ pub fn run_apply<R: AllocGlobal + Files<File = File> + Print + Threads>(
     };
     let mut commands = Counted::new(&mut commands);
     let mut writer = CountedWriter::new(&mut writer);
-    let (outcome, _disk) = apply_counted(rt, rt.alloc(), disk, &mut commands, delta, &mut writer);
-    outcome
+    let (outcome, _disk) = apply_counted(rt.alloc(), disk, &mut commands, &mut writer);
+    match outcome {
+        Ok(()) => Ok(Done { delta }),
+        Err(failed) => Err(failed),
+    }
 }
 
 /// The pairs of a file in the network of a store, which is read alone and stays as it is. A fault of the store is told before one of the

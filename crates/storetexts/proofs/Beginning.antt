@@ -1,4 +1,4 @@
--- A keeper that has just begun.
+-- A ledger that has just begun.
 use Rattle.std.proofs.Common.{◌≡◌, ℕ, List, [], refl, sym, subst, arith, Some}
 use Rattle.std.proofs.lemmas.List.Elements.{All-nil}
 use Rattle.roadnet.specs.Net.{Net}

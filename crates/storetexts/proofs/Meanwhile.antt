@@ -13,7 +13,7 @@ use Rattle.machine.specs.declared.calls.Ticket.{Ticket}
 use Rattle.machine.specs.Machine.{Machine, IsState, batch, latest}
 use Rattle.machine.specs.Calls.{Submits, Flushes, failed}
 use Rattle.machine.proofs.Kept.{left_between, broken}
-use Rattle.keeper.specs.Keeping.{Keeping, IsDurableIn}
+use Rattle.keeper.specs.Keeping.{LedgerState, IsDurableIn}
 use Rattle.printing.specs.declared.failed.Failed.{Failed}
 use Rattle.printing.specs.declared.failed.Failed.TheVariants.{Code}
 use Rattle.store.specs.State.{CameTidy}
@@ -109,26 +109,26 @@ pub leaves_by : {D : Type 0} (moment : D → ℕ) (left_since : D → ℕ → Li
     → LeavesOnly moment left_since old new P → AddsOnly moment left_since old new (StandsIn n)
 leaves_by moment left_since old new m n P f g l = adds_weaker moment left_since old new P (StandsIn n) (λ c p. in_more m n g c (f c p)) (adds_by moment left_since old new P l)
 
--- ---- one keeper after the other
+-- ---- one ledger after the other
 module _ {D : Type 0} (honest : D → Type 0) (content : D → List ℕ) (moment : D → ℕ) (left_since : D → ℕ → List ℕ → Type 0) where
-  pub leaves_both : (old mid new : Keeping D) → mid.given ≡ old.given → Grows mid.machine new.machine → Leaves honest content moment left_since old mid → Leaves honest content moment left_since mid new
+  pub leaves_both : (old mid new : LedgerState D) → mid.given ≡ old.given → Grows mid.machine new.machine → Leaves honest content moment left_since old mid → Leaves honest content moment left_since mid new
       → Leaves honest content moment left_since old new
   leaves_both old mid new given g a b came =
       adds_both moment left_since old.disk mid.disk new.disk (StandsIn new.machine)
       (adds_weaker moment left_since old.disk mid.disk (StandsIn mid.machine) (StandsIn new.machine) (in_more mid.machine new.machine g) (a came))
       (b (subst (CameTidy honest content) (sym given) came))
 
-  pub leaves_same : (old new : Keeping D) → new.disk ≡ old.disk → Leaves honest content moment left_since old new
+  pub leaves_same : (old new : LedgerState D) → new.disk ≡ old.disk → Leaves honest content moment left_since old new
   leaves_same old new same came = subst (λ (d : D). AddsOnly moment left_since old.disk d (StandsIn new.machine)) (sym same) (adds_none moment left_since old.disk (StandsIn new.machine))
 
-  pub leaves_flush : (old new : Keeping D) (r : Result ℕ Refusal) → Flushes old.machine r new.machine → IsState old.machine → old.machine.broken ≡ false
+  pub leaves_flush : (old new : LedgerState D) (r : Result ℕ Refusal) → Flushes old.machine r new.machine → IsState old.machine → old.machine.broken ≡ false
       → (CameTidy honest content old.given → old.machine.broken ≡ false → LeavesOnly moment left_since old.disk new.disk (IsDurableIn (failed old.machine (batch old.machine))))
       → Leaves honest content moment left_since old new
   leaves_flush old new r step s calm leaves came =
       leaves_by moment left_since old.disk new.disk old.machine new.machine (IsDurableIn (failed old.machine (batch old.machine))) (in_flight_within old.machine s)
       (grows_flush old.machine new.machine r step) (leaves came calm)
 
-  pub leaves_checkpoint : (old new : Keeping D) → KeepsAccepted old.machine new.machine → IsState old.machine → old.machine.broken ≡ false
+  pub leaves_checkpoint : (old new : LedgerState D) → KeepsAccepted old.machine new.machine → IsState old.machine → old.machine.broken ≡ false
       → (CameTidy honest content old.given → old.machine.broken ≡ false → LeavesOnly moment left_since old.disk new.disk (IsDurableIn old.machine))
       → Leaves honest content moment left_since old new
   leaves_checkpoint old new kept s calm leaves came =

@@ -1,4 +1,4 @@
--- The commands of a text while they are applied: how the keeper's machine stands to what they came to.
+-- The commands of a text while they are applied: how the ledger's machine stands to what they came to.
 use Rattle.std.specs.Prelude.{◌≡◌, ◌⊎◌, ℕ, ◌≤◌, false, List, [], ◌∷◌, ◌++◌, Option, None, All, length, take, Result, Ok, Err, ⊤}
 use Rattle.std.specs.Io.KnownBytes.{Appends}
 use Rattle.roadnet.specs.declared.commands.Command.{Command}
@@ -6,7 +6,7 @@ use Rattle.roadnet.specs.declared.refusals.Refusal.{Refusal}
 use Rattle.roadnet.specs.declared.refusals.Refusal.TheVariants.{OutOfMemory, Device, Write}
 use Rattle.roadnet.specs.Net.{Net}
 use Rattle.machine.specs.Machine.{Machine, IsState}
-use Rattle.keeper.specs.Keeping.{Keeping}
+use Rattle.keeper.specs.Keeping.{LedgerState}
 use Rattle.store.specs.State.{CameTidy}
 use Rattle.storetexts.specs.declared.applying.Applying.{Applying}
 use Rattle.storetexts.specs.declared.outcomes.Outcome.{Outcome}
@@ -71,14 +71,14 @@ pub record HaveComeSome (net : Net) (version : ℕ) (commands : List Command) (o
 
 -- ---- from one state of the applying to a later one
 
--- how far commands are applied: what they came to, how many of these outcomes are told, and the machine of the keeper
+-- how far commands are applied: what they came to, how many of these outcomes are told, and the machine of the ledger
 pub record Progress : Type 0 where
   pub outcomes : List Outcome
   pub told : ℕ
   pub machine : Machine
 
 abbrev pub progress : {D : Type 0} → Applying D → Progress
-progress a = record { outcomes = a.outcomes.items; told = a.told; machine = a.keeper.machine }
+progress a = record { outcomes = a.outcomes.items; told = a.told; machine = a.ledger.machine }
 
 -- whatever commands came to the old outcomes came, with this one behind them, to the new ones
 abbrev pub ComesBehind : Command → Progress → Progress → Type 0
@@ -114,13 +114,13 @@ TellsTo mid now p told = (before : Option (List ℕ)) → AreTold before mid p.o
 abbrev pub TellsOn : Option (List ℕ) → Option (List ℕ) → Progress → Progress → Type 0
 TellsOn mid now old new = (before : Option (List ℕ)) → AreTold before mid old.outcomes old.told → AreTold before now new.outcomes new.told
 
--- of a keeper that has just begun, with this machine: what holds of its network and version
+-- of a ledger that has just begun, with this machine: what holds of its network and version
 abbrev pub ForBegun : Machine → (Net → ℕ → Type 0) → Type 0
 ForBegun first Holds = (net : Net) (version : ℕ) → HaveCome net version [] [] 0 first → Holds net version
 
--- the same of a keeper whose store came tidy
-abbrev pub ForCame : {D : Type 0} → (D → Type 0) → (D → List ℕ) → Keeping D → (Net → ℕ → Type 0) → Type 0
-ForCame honest content keeper Holds = CameTidy honest content keeper.given → ForBegun keeper.machine Holds
+-- the same of a ledger whose store came tidy
+abbrev pub ForCame : {D : Type 0} → (D → Type 0) → (D → List ℕ) → LedgerState D → (Net → ℕ → Type 0) → Type 0
+ForCame honest content ledger Holds = CameTidy honest content ledger.given → ForBegun ledger.machine Holds
 
 -- all of these commands have come so far, or the first of them
 abbrev pub ComeTo : Machine → List Command → Progress → Type 0
@@ -148,5 +148,5 @@ abbrev pub StandsIn : Machine → List ℕ → Type 0
 StandsIn m content = StandsWithin m.base m.base_version m.accepted content
 
 -- where the store came tidy, a stop at any moment leaves what it might have left before, or a beginning of the accepted commands
-abbrev pub Leaves : {D : Type 0} → (D → Type 0) → (D → List ℕ) → (D → ℕ) → (D → ℕ → List ℕ → Type 0) → Keeping D → Keeping D → Type 0
+abbrev pub Leaves : {D : Type 0} → (D → Type 0) → (D → List ℕ) → (D → ℕ) → (D → ℕ → List ℕ → Type 0) → LedgerState D → LedgerState D → Type 0
 Leaves honest content moment left_since old new = CameTidy honest content old.given → AddsOnly moment left_since old.disk new.disk (StandsIn new.machine)

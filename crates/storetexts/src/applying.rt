@@ -1,20 +1,18 @@
 // The commands of a text, applied to a store.
-ghost use Rattle.std.specs.Prelude.{◌≡◌, ◌⊎◌, ◌+◌, ◌≤◌, ◌<◌, ◌↔◌, ℕ, Some, [], false, length, vec_capacity, OnOk, IfOk, IfErr, IfSome, MatchResult};
+ghost use Rattle.std.specs.Prelude.{◌≡◌, ◌⊎◌, ◌+◌, ◌≤◌, ◌<◌, ◌↔◌, [], false, length, vec_capacity, OnOk, IfOk, IfErr, IfSome, MatchResult};
 ghost use Rattle.std.specs.Bool.{Decides};
-ghost use Rattle.std.specs.Option.{ForSome};
 ghost use Rattle.dimacs.specs.Counts.{failed_calls, reader_of, IsSameReader};
 ghost use Rattle.disk.specs.Moments.{StaysSame};
 ghost use Rattle.pagereader.specs.Outcomes.{failures_told, failures_with};
 ghost use Rattle.keeper.specs.Keeping.{Holds};
 ghost use Rattle.machine.specs.Machine.{pending};
-ghost use Rattle.rows.specs.Kept.{IsWidth};
 ghost use Rattle.store.specs.State.{CameTidy};
 ghost use Rattle.printing.specs.Counting.{failed_writes, writer_of, IsSameWriter, CountsFailure};
 ghost use Rattle.printing.specs.Failing.{CountsReads, CountsWrites};
 ghost use Rattle.storetexts.specs.Applied.{ForTidy, AppliesAll, IsApplied, AppliesSome, IsCutOff, TellsAll, IsTold, StandsAmong, IsWithin};
 ghost use Rattle.storetexts.specs.Applied.{AtAnyMoment, IsRefusedApply, IsTextRefusedApply, IfUnbegun};
 ghost use Rattle.storetexts.specs.Applying.{IsSteady, HaveCome, ForBegun, ForCame, AddsOnly, Grows, Leaves, IfTold, IfEndedEarly, AreTold};
-ghost use Rattle.storetexts.specs.Applying.{Progress, progress, ComesBehind, ComesStill, ComeTo, SomeComeTo, SameTold, SettledTo, StopsAt};
+ghost use Rattle.storetexts.specs.Applying.{progress, ComesBehind, ComesStill, ComeTo, SomeComeTo, SameTold, SettledTo, StopsAt};
 ghost use Rattle.storetexts.specs.Applying.{KeepsAccepted, TellsTo, TellsOn, AllTold, IsOfDevice, IsCutOffBy};
 ghost use Rattle.storetexts.specs.Asked.{OfStore, IsUnopened};
 ghost use Rattle.storetexts.specs.Outcomes.{IsSettled};
@@ -23,13 +21,12 @@ ghost use Rattle.storetexts.specs.Refused.{CountsDevice, IsOfStore};
 use crate::outcomes::{Outcome, reply_of};
 use dimacs::{Counted, parse_commands, read_commands_counted};
 use disk::Disk;
-use keeper::Keeper;
+use keeper::Ledger;
 use pages::MOST_COMMANDS;
-use printing::{CountedWriter, Done, Failed, put_reply};
+use printing::{CountedWriter, Failed, put_reply};
 use roadnet::{Command, Refusal};
 use std::alloc::Global;
 use std::io::{BufRead, Write};
-use std::thread::Threads;
 use store::open;
 
 const COMMANDS: u8 = 0;
@@ -37,11 +34,11 @@ const COMMANDS: u8 = 0;
 /// How many commands are made durable at a time.
 const MOST_OF_PAGE: u64 = MOST_COMMANDS as u64;
 
-/// Commands being applied, one after the other: the keeper of the store, what the commands came to, in order, and how many of these
+/// Commands being applied, one after the other: the ledger of the store, what the commands came to, in order, and how many of these
 /// outcomes are told.
 #[derive(Drop)]
 struct Applying<D: Disk> {
-    keeper: Keeper<D>,
+    ledger: Ledger<D>,
     outcomes: Vec<Outcome>,
     told: usize,
 }
@@ -49,23 +46,23 @@ struct Applying<D: Disk> {
 impl<D: Disk> Applying<D> {
     /// Submits the next command, and notes what it came to.
     fn take(&mut self, command: Command)
-        requires steady { IsSteady self.old.keeper.machine }
-        requires calm { self.old.keeper.machine.broken ≡ false }
-        requires few { pending self.old.keeper.machine < 4096 }
+        requires steady { IsSteady self.old.ledger.machine }
+        requires calm { self.old.ledger.machine.broken ≡ false }
+        requires few { pending self.old.ledger.machine < 4096 }
         requires room { length self.old.outcomes.items < vec_capacity self.old.outcomes }
-        ensures steady { IsSteady self.new.keeper.machine }
-        ensures calm { self.new.keeper.machine.broken ≡ false }
+        ensures steady { IsSteady self.new.ledger.machine }
+        ensures calm { self.new.ledger.machine.broken ≡ false }
         ensures come { ComesBehind command (progress self.old) (progress self.new) }
-        ensures one { pending self.new.keeper.machine ≤ pending self.old.keeper.machine + 1 }
+        ensures one { pending self.new.ledger.machine ≤ pending self.old.ledger.machine + 1 }
         ensures noted { length self.new.outcomes.items ≡ length self.old.outcomes.items + 1 }
         ensures room { vec_capacity self.new.outcomes ≡ vec_capacity self.old.outcomes }
         ensures told { self.new.told ≡ self.old.told }
         ensures first { SameTold (progress self.old) self.new.outcomes.items }
-        ensures grows { Grows self.old.keeper.machine self.new.keeper.machine }
-        ensures disk { self.new.keeper.disk ≡ self.old.keeper.disk }
-        ensures given { self.new.keeper.given ≡ self.old.keeper.given }
+        ensures grows { Grows self.old.ledger.machine self.new.ledger.machine }
+        ensures disk { self.new.ledger.disk ≡ self.old.ledger.disk }
+        ensures given { self.new.ledger.given ≡ self.old.ledger.given }
     {
-        let outcome = match self.keeper.submit(command) {
+        let outcome = match self.ledger.submit(command) {
             Ok(ticket) => Outcome::Accepted {
                 number: ticket.number,
             },
@@ -76,22 +73,22 @@ impl<D: Disk> Applying<D> {
 
     /// A whole checkpoint.
     fn checkpoint(&mut self) -> Result<(), Refusal>
-        requires steady { IsSteady self.old.keeper.machine }
-        requires calm { self.old.keeper.machine.broken ≡ false }
-        ensures steady { IsSteady self.new.keeper.machine }
-        ensures kept { KeepsAccepted self.old.keeper.machine self.new.keeper.machine }
-        ensures pending { pending self.new.keeper.machine ≡ pending self.old.keeper.machine }
-        ensures calm { OnOk result (self.new.keeper.machine.broken ≡ false) }
-        ensures free { OnOk result (self.new.keeper.machine.unchecked ≡ 0) }
+        requires steady { IsSteady self.old.ledger.machine }
+        requires calm { self.old.ledger.machine.broken ≡ false }
+        ensures steady { IsSteady self.new.ledger.machine }
+        ensures kept { KeepsAccepted self.old.ledger.machine self.new.ledger.machine }
+        ensures pending { pending self.new.ledger.machine ≡ pending self.old.ledger.machine }
+        ensures calm { OnOk result (self.new.ledger.machine.broken ≡ false) }
+        ensures free { OnOk result (self.new.ledger.machine.unchecked ≡ 0) }
         ensures refused { IfErr result IsOfDevice }
         ensures outcomes { self.new.outcomes ≡ self.old.outcomes }
         ensures told { self.new.told ≡ self.old.told }
-        ensures counted { D.failures self.new.keeper.disk ≡ failures_told result (D.failures self.old.keeper.disk) }
-        ensures leaves { Leaves D.honest D.content D.moment D.left_since self.old.keeper self.new.keeper }
-        ensures given { self.new.keeper.given ≡ self.old.keeper.given }
-        ensures honest { D.honest self.new.keeper.disk ↔ D.honest self.old.keeper.disk }
+        ensures counted { D.failures self.new.ledger.disk ≡ failures_told result (D.failures self.old.ledger.disk) }
+        ensures leaves { Leaves D.honest D.content D.moment D.left_since self.old.ledger self.new.ledger }
+        ensures given { self.new.ledger.given ≡ self.old.ledger.given }
+        ensures honest { D.honest self.new.ledger.disk ↔ D.honest self.old.ledger.disk }
     {
-        match self.keeper.checkpoint() {
+        match self.ledger.checkpoint() {
             Ok(_) => Ok(()),
             Err(refusal) => Err(refusal),
         }
@@ -99,26 +96,26 @@ impl<D: Disk> Applying<D> {
 
     /// A checkpoint, and then a flush of the pending commands, of which there are some.
     fn flush_anew(&mut self) -> Result<(), Refusal>
-        requires steady { IsSteady self.old.keeper.machine }
-        requires calm { self.old.keeper.machine.broken ≡ false }
-        requires some { 1 ≤ pending self.old.keeper.machine }
-        requires few { pending self.old.keeper.machine ≤ 253 }
-        ensures steady { IsSteady self.new.keeper.machine }
-        ensures kept { KeepsAccepted self.old.keeper.machine self.new.keeper.machine }
-        ensures calm { OnOk result (self.new.keeper.machine.broken ≡ false) }
-        ensures done { OnOk result (pending self.new.keeper.machine ≡ 0) }
+        requires steady { IsSteady self.old.ledger.machine }
+        requires calm { self.old.ledger.machine.broken ≡ false }
+        requires some { 1 ≤ pending self.old.ledger.machine }
+        requires few { pending self.old.ledger.machine ≤ 253 }
+        ensures steady { IsSteady self.new.ledger.machine }
+        ensures kept { KeepsAccepted self.old.ledger.machine self.new.ledger.machine }
+        ensures calm { OnOk result (self.new.ledger.machine.broken ≡ false) }
+        ensures done { OnOk result (pending self.new.ledger.machine ≡ 0) }
         ensures refused { IfErr result IsOfDevice }
         ensures outcomes { self.new.outcomes ≡ self.old.outcomes }
         ensures told { self.new.told ≡ self.old.told }
-        ensures counted { D.failures self.new.keeper.disk ≡ failures_told result (D.failures self.old.keeper.disk) }
-        ensures leaves { Leaves D.honest D.content D.moment D.left_since self.old.keeper self.new.keeper }
-        ensures given { self.new.keeper.given ≡ self.old.keeper.given }
-        ensures honest { D.honest self.new.keeper.disk ↔ D.honest self.old.keeper.disk }
+        ensures counted { D.failures self.new.ledger.disk ≡ failures_told result (D.failures self.old.ledger.disk) }
+        ensures leaves { Leaves D.honest D.content D.moment D.left_since self.old.ledger self.new.ledger }
+        ensures given { self.new.ledger.given ≡ self.old.ledger.given }
+        ensures honest { D.honest self.new.ledger.disk ↔ D.honest self.old.ledger.disk }
     {
         if let Err(refusal) = self.checkpoint() {
             return Err(refusal);
         }
-        match self.keeper.flush() {
+        match self.ledger.flush() {
             Ok(_) => Ok(()),
             Err(refusal) => Err(refusal),
         }
@@ -126,25 +123,25 @@ impl<D: Disk> Applying<D> {
 
     /// Makes the pending commands durable, at most 253. Where the journal is full a checkpoint is written first.
     fn flush(&mut self) -> Result<(), Refusal>
-        requires steady { IsSteady self.old.keeper.machine }
-        requires calm { self.old.keeper.machine.broken ≡ false }
-        requires few { pending self.old.keeper.machine ≤ 253 }
-        ensures steady { IsSteady self.new.keeper.machine }
-        ensures kept { KeepsAccepted self.old.keeper.machine self.new.keeper.machine }
-        ensures calm { OnOk result (self.new.keeper.machine.broken ≡ false) }
-        ensures done { OnOk result (pending self.new.keeper.machine ≡ 0) }
+        requires steady { IsSteady self.old.ledger.machine }
+        requires calm { self.old.ledger.machine.broken ≡ false }
+        requires few { pending self.old.ledger.machine ≤ 253 }
+        ensures steady { IsSteady self.new.ledger.machine }
+        ensures kept { KeepsAccepted self.old.ledger.machine self.new.ledger.machine }
+        ensures calm { OnOk result (self.new.ledger.machine.broken ≡ false) }
+        ensures done { OnOk result (pending self.new.ledger.machine ≡ 0) }
         ensures refused { IfErr result IsOfDevice }
         ensures outcomes { self.new.outcomes ≡ self.old.outcomes }
         ensures told { self.new.told ≡ self.old.told }
-        ensures counted { D.failures self.new.keeper.disk ≡ failures_told result (D.failures self.old.keeper.disk) }
-        ensures leaves { Leaves D.honest D.content D.moment D.left_since self.old.keeper self.new.keeper }
-        ensures given { self.new.keeper.given ≡ self.old.keeper.given }
-        ensures honest { D.honest self.new.keeper.disk ↔ D.honest self.old.keeper.disk }
+        ensures counted { D.failures self.new.ledger.disk ≡ failures_told result (D.failures self.old.ledger.disk) }
+        ensures leaves { Leaves D.honest D.content D.moment D.left_since self.old.ledger self.new.ledger }
+        ensures given { self.new.ledger.given ≡ self.old.ledger.given }
+        ensures honest { D.honest self.new.ledger.disk ↔ D.honest self.old.ledger.disk }
     {
-        if self.keeper.pending() == 0 {
+        if self.ledger.pending() == 0 {
             return Ok(());
         }
-        match self.keeper.flush() {
+        match self.ledger.flush() {
             Ok(_) => Ok(()),
             Err(Refusal::JournalFull) => self.flush_anew(),
             Err(refusal) => Err(refusal),
@@ -153,10 +150,10 @@ impl<D: Disk> Applying<D> {
 
     /// Whether the outcome may be told: the command is durable, or was refused.
     fn is_settled(&self, outcome: &Outcome) -> bool
-        ensures { Decides result (IsSettled self.now.keeper.machine.durable outcome.now) }
+        ensures { Decides result (IsSettled self.now.ledger.machine.durable outcome.now) }
     {
         match outcome {
-            Outcome::Accepted { number } => *number <= self.keeper.durable(),
+            Outcome::Accepted { number } => *number <= self.ledger.durable(),
             Outcome::Refused { refusal: _ } => true,
         }
     }
@@ -164,7 +161,7 @@ impl<D: Disk> Applying<D> {
     /// Writes a line for each outcome that is not told yet, up to the first command that is not durable.
     fn tell<W: Write>(&mut self, out: &mut CountedWriter<'_, W>) -> Result<(), Failed>
         requires { self.old.told ≤ length self.old.outcomes.items }
-        ensures keeper { self.new.keeper ≡ self.old.keeper }
+        ensures ledger { self.new.ledger ≡ self.old.ledger }
         ensures outcomes { self.new.outcomes ≡ self.old.outcomes }
         ensures told_to { self.new.told ≤ length self.old.outcomes.items }
         ensures settled { SettledTo (progress self.old) self.old.told → SettledTo (progress self.old) self.new.told }
@@ -189,15 +186,15 @@ impl<D: Disk> Applying<D> {
 
     /// Makes the pending commands durable, tells what may be told, also where that is refused, and sends it out.
     fn settle<W: Write>(&mut self, out: &mut CountedWriter<'_, W>) -> Result<(), Failed>
-        requires steady { IsSteady self.old.keeper.machine }
-        requires calm { self.old.keeper.machine.broken ≡ false }
-        requires few { pending self.old.keeper.machine ≤ 253 }
+        requires steady { IsSteady self.old.ledger.machine }
+        requires calm { self.old.ledger.machine.broken ≡ false }
+        requires few { pending self.old.ledger.machine ≤ 253 }
         requires told_to { self.old.told ≤ length self.old.outcomes.items }
-        ensures steady { IsSteady self.new.keeper.machine }
+        ensures steady { IsSteady self.new.ledger.machine }
         ensures come { ComesStill (progress self.old) (progress self.new) }
-        ensures calm { OnOk result (self.new.keeper.machine.broken ≡ false) }
-        ensures done { OnOk result (pending self.new.keeper.machine ≡ 0) }
-        ensures waiting { pending self.new.keeper.machine ≤ 253 }
+        ensures calm { OnOk result (self.new.ledger.machine.broken ≡ false) }
+        ensures done { OnOk result (pending self.new.ledger.machine ≡ 0) }
+        ensures waiting { pending self.new.ledger.machine ≤ 253 }
         ensures told_to { self.new.told ≤ length self.new.outcomes.items }
         // What is told ends before the first command that isn't durable.
         ensures next { IfEndedEarly result (StopsAt (progress self.new) self.new.told) }
@@ -207,11 +204,11 @@ impl<D: Disk> Applying<D> {
         ensures refused { IfErr result IsCutOffBy }
         ensures writes { CountsWrites (failed_writes out.old) (failed_writes out.new) result }
         ensures same { IsSameWriter out.old out.new }
-        ensures counted { CountsDevice (D.failures self.old.keeper.disk) (D.failures self.new.keeper.disk) result }
-        ensures grows { Grows self.old.keeper.machine self.new.keeper.machine }
-        ensures leaves { Leaves D.honest D.content D.moment D.left_since self.old.keeper self.new.keeper }
-        ensures given { self.new.keeper.given ≡ self.old.keeper.given }
-        ensures honest { D.honest self.new.keeper.disk ↔ D.honest self.old.keeper.disk }
+        ensures counted { CountsDevice (D.failures self.old.ledger.disk) (D.failures self.new.ledger.disk) result }
+        ensures grows { Grows self.old.ledger.machine self.new.ledger.machine }
+        ensures leaves { Leaves D.honest D.content D.moment D.left_since self.old.ledger self.new.ledger }
+        ensures given { self.new.ledger.given ≡ self.old.ledger.given }
+        ensures honest { D.honest self.new.ledger.disk ↔ D.honest self.old.ledger.disk }
     {
         let flushed = self.flush();
         if let Err(failed) = self.tell(out) {
@@ -232,16 +229,16 @@ impl<D: Disk> Applying<D> {
         command: Command,
         out: &mut CountedWriter<'_, W>,
     ) -> Result<(), Failed>
-        requires steady { IsSteady self.old.keeper.machine }
-        requires calm { self.old.keeper.machine.broken ≡ false }
-        requires few { pending self.old.keeper.machine < 253 }
+        requires steady { IsSteady self.old.ledger.machine }
+        requires calm { self.old.ledger.machine.broken ≡ false }
+        requires few { pending self.old.ledger.machine < 253 }
         requires told_to { self.old.told ≤ length self.old.outcomes.items }
         requires room { length self.old.outcomes.items < vec_capacity self.old.outcomes }
-        ensures steady { IsSteady self.new.keeper.machine }
+        ensures steady { IsSteady self.new.ledger.machine }
         ensures come { ComesBehind command (progress self.old) (progress self.new) }
-        ensures calm { OnOk result (self.new.keeper.machine.broken ≡ false) }
-        ensures few { OnOk result (pending self.new.keeper.machine < 253) }
-        ensures waiting { pending self.new.keeper.machine ≤ 253 }
+        ensures calm { OnOk result (self.new.ledger.machine.broken ≡ false) }
+        ensures few { OnOk result (pending self.new.ledger.machine < 253) }
+        ensures waiting { pending self.new.ledger.machine ≤ 253 }
         // What is told ends before the first command that isn't durable.
         ensures next { IfEndedEarly result (StopsAt (progress self.new) self.new.told) }
         ensures told_to { self.new.told ≤ length self.new.outcomes.items }
@@ -251,14 +248,14 @@ impl<D: Disk> Applying<D> {
         ensures refused { IfErr result IsCutOffBy }
         ensures writes { CountsWrites (failed_writes out.old) (failed_writes out.new) result }
         ensures same { IsSameWriter out.old out.new }
-        ensures counted { CountsDevice (D.failures self.old.keeper.disk) (D.failures self.new.keeper.disk) result }
-        ensures grows { Grows self.old.keeper.machine self.new.keeper.machine }
-        ensures leaves { Leaves D.honest D.content D.moment D.left_since self.old.keeper self.new.keeper }
-        ensures given { self.new.keeper.given ≡ self.old.keeper.given }
-        ensures honest { D.honest self.new.keeper.disk ↔ D.honest self.old.keeper.disk }
+        ensures counted { CountsDevice (D.failures self.old.ledger.disk) (D.failures self.new.ledger.disk) result }
+        ensures grows { Grows self.old.ledger.machine self.new.ledger.machine }
+        ensures leaves { Leaves D.honest D.content D.moment D.left_since self.old.ledger self.new.ledger }
+        ensures given { self.new.ledger.given ≡ self.old.ledger.given }
+        ensures honest { D.honest self.new.ledger.disk ↔ D.honest self.old.ledger.disk }
     {
         self.take(command);
-        if self.keeper.pending() < MOST_OF_PAGE {
+        if self.ledger.pending() < MOST_OF_PAGE {
             return Ok(());
         }
         self.settle(out)
@@ -270,17 +267,17 @@ impl<D: Disk> Applying<D> {
         commands: &[Command],
         out: &mut CountedWriter<'_, W>,
     ) -> Result<(), Failed>
-        requires steady { IsSteady self.old.keeper.machine }
-        requires calm { self.old.keeper.machine.broken ≡ false }
-        requires none { pending self.old.keeper.machine ≡ 0 }
+        requires steady { IsSteady self.old.ledger.machine }
+        requires calm { self.old.ledger.machine.broken ≡ false }
+        requires none { pending self.old.ledger.machine ≡ 0 }
         requires new { self.old.outcomes.items ≡ [] }
         requires untold { self.old.told ≡ 0 }
         requires room { length commands.now ≤ vec_capacity self.old.outcomes }
-        ensures steady { IsSteady self.new.keeper.machine }
-        ensures some { SomeComeTo self.old.keeper.machine commands.now (progress self.new) }
-        ensures come { OnOk result (ComeTo self.old.keeper.machine commands.now (progress self.new)) }
-        ensures calm { OnOk result (self.new.keeper.machine.broken ≡ false) }
-        ensures waiting { pending self.new.keeper.machine ≤ 253 }
+        ensures steady { IsSteady self.new.ledger.machine }
+        ensures some { SomeComeTo self.old.ledger.machine commands.now (progress self.new) }
+        ensures come { OnOk result (ComeTo self.old.ledger.machine commands.now (progress self.new)) }
+        ensures calm { OnOk result (self.new.ledger.machine.broken ≡ false) }
+        ensures waiting { pending self.new.ledger.machine ≤ 253 }
         // What is told ends before the first command that isn't durable.
         ensures next { IfEndedEarly result (StopsAt (progress self.new) self.new.told) }
         ensures told_to { self.new.told ≤ length self.new.outcomes.items }
@@ -288,11 +285,11 @@ impl<D: Disk> Applying<D> {
         ensures refused { IfErr result IsCutOffBy }
         ensures writes { CountsWrites (failed_writes out.old) (failed_writes out.new) result }
         ensures same { IsSameWriter out.old out.new }
-        ensures counted { CountsDevice (D.failures self.old.keeper.disk) (D.failures self.new.keeper.disk) result }
-        ensures grows { Grows self.old.keeper.machine self.new.keeper.machine }
-        ensures leaves { Leaves D.honest D.content D.moment D.left_since self.old.keeper self.new.keeper }
-        ensures given { self.new.keeper.given ≡ self.old.keeper.given }
-        ensures honest { D.honest self.new.keeper.disk ↔ D.honest self.old.keeper.disk }
+        ensures counted { CountsDevice (D.failures self.old.ledger.disk) (D.failures self.new.ledger.disk) result }
+        ensures grows { Grows self.old.ledger.machine self.new.ledger.machine }
+        ensures leaves { Leaves D.honest D.content D.moment D.left_since self.old.ledger self.new.ledger }
+        ensures given { self.new.ledger.given ≡ self.old.ledger.given }
+        ensures honest { D.honest self.new.ledger.disk ↔ D.honest self.old.ledger.disk }
     {
         for index in 0..commands.len() {
             if let Err(failed) = self.advance(commands[index], out) {
@@ -308,30 +305,30 @@ impl<D: Disk> Applying<D> {
         commands: &[Command],
         out: &mut CountedWriter<'_, W>,
     ) -> Result<(), Failed>
-        requires steady { IsSteady self.old.keeper.machine }
-        requires calm { self.old.keeper.machine.broken ≡ false }
-        requires none { pending self.old.keeper.machine ≡ 0 }
+        requires steady { IsSteady self.old.ledger.machine }
+        requires calm { self.old.ledger.machine.broken ≡ false }
+        requires none { pending self.old.ledger.machine ≡ 0 }
         requires new { self.old.outcomes.items ≡ [] }
         requires untold { self.old.told ≡ 0 }
         requires room { length commands.now ≤ vec_capacity self.old.outcomes }
-        ensures steady { IsSteady self.new.keeper.machine }
-        ensures some { SomeComeTo self.old.keeper.machine commands.now (progress self.new) }
-        ensures come { OnOk result (ComeTo self.old.keeper.machine commands.now (progress self.new)) }
-        ensures calm { OnOk result (self.new.keeper.machine.broken ≡ false) }
-        ensures done { OnOk result (pending self.new.keeper.machine ≡ 0) }
-        ensures waiting { pending self.new.keeper.machine ≤ 253 }
+        ensures steady { IsSteady self.new.ledger.machine }
+        ensures some { SomeComeTo self.old.ledger.machine commands.now (progress self.new) }
+        ensures come { OnOk result (ComeTo self.old.ledger.machine commands.now (progress self.new)) }
+        ensures calm { OnOk result (self.new.ledger.machine.broken ≡ false) }
+        ensures done { OnOk result (pending self.new.ledger.machine ≡ 0) }
+        ensures waiting { pending self.new.ledger.machine ≤ 253 }
         // What is told ends before the first command that isn't durable.
         ensures next { IfEndedEarly result (StopsAt (progress self.new) self.new.told) }
         ensures lines { IfTold result (AreTold (W.contents (writer_of out.old)) (W.contents (writer_of out.new)) self.new.outcomes.items self.new.told) }
-        ensures all { OnOk result (ForBegun self.old.keeper.machine (λ net version. self.new.told ≡ length self.new.outcomes.items)) }
+        ensures all { OnOk result (ForBegun self.old.ledger.machine (λ net version. self.new.told ≡ length self.new.outcomes.items)) }
         ensures refused { IfErr result IsCutOffBy }
         ensures writes { CountsWrites (failed_writes out.old) (failed_writes out.new) result }
         ensures same { IsSameWriter out.old out.new }
-        ensures counted { CountsDevice (D.failures self.old.keeper.disk) (D.failures self.new.keeper.disk) result }
-        ensures grows { Grows self.old.keeper.machine self.new.keeper.machine }
-        ensures leaves { Leaves D.honest D.content D.moment D.left_since self.old.keeper self.new.keeper }
-        ensures given { self.new.keeper.given ≡ self.old.keeper.given }
-        ensures honest { D.honest self.new.keeper.disk ↔ D.honest self.old.keeper.disk }
+        ensures counted { CountsDevice (D.failures self.old.ledger.disk) (D.failures self.new.ledger.disk) result }
+        ensures grows { Grows self.old.ledger.machine self.new.ledger.machine }
+        ensures leaves { Leaves D.honest D.content D.moment D.left_since self.old.ledger self.new.ledger }
+        ensures given { self.new.ledger.given ≡ self.old.ledger.given }
+        ensures honest { D.honest self.new.ledger.disk ↔ D.honest self.old.ledger.disk }
     {
         match self.take_all(commands, out) {
             Ok(()) => self.settle(out),
@@ -341,139 +338,117 @@ impl<D: Disk> Applying<D> {
 
     /// The disk, of which no call is made.
     fn close(self) -> D
-        ensures disk { result ≡ self.keeper.disk }
-        ensures honest { CameTidy D.honest D.content self.keeper.given → D.honest self.keeper.disk }
-        ensures holds { CameTidy D.honest D.content self.keeper.given → Holds (D.content self.keeper.disk) (D.left self.keeper.disk) self.keeper.machine }
+        ensures disk { result ≡ self.ledger.disk }
+        ensures honest { CameTidy D.honest D.content self.ledger.given → D.honest self.ledger.disk }
+        ensures holds { CameTidy D.honest D.content self.ledger.given → Holds (D.content self.ledger.disk) (D.left self.ledger.disk) self.ledger.machine }
     {
         let Applying {
-            keeper,
+            ledger,
             outcomes: _,
             told: _,
         } = self;
-        let (_, disk) = keeper.close();
+        let (_, disk) = ledger.close();
         disk
     }
 }
 
-/// The keeper of the store on a disk.
-fn keeper_on<T: Threads, D: Disk>(
-    rt: &T,
-    alloc: Global,
-    disk: D,
-    delta: Option<u32>,
-) -> Result<Keeper<D>, (Refusal, D)>
-    requires { ForSome delta IsWidth }
-    ensures steady { IfOk result (λ keeper. IsSteady keeper.machine) }
-    ensures calm { IfOk result (λ keeper. keeper.machine.broken ≡ false) }
-    ensures none { IfOk result (λ keeper. pending keeper.machine ≡ 0) }
-    ensures width { (width : ℕ) → delta ≡ Some width → IfOk result (λ keeper. keeper.width ≡ width) }
-    ensures begins { ForTidy D.honest D.content disk (λ net version. IfOk result (λ keeper. HaveCome net version [] [] 0 keeper.machine)) }
-    ensures came { ForTidy D.honest D.content disk (λ net version. IfOk result (λ keeper. CameTidy D.honest D.content keeper.given)) }
-    // It is the keeper of a store, which the disk stands for where it keeps the disk model.
-    ensures opened { IfOk result (λ keeper. OfStore (D.honest disk) (D.content disk) (λ net version. HaveCome net version [] [] 0 keeper.machine)) }
-    ensures same { D.honest disk → IfOk result (λ keeper. StaysSame D.content D.left D.moment D.left_since disk keeper.disk) }
+/// The ledger of the store on a disk.
+fn ledger_on<D: Disk>(alloc: Global, disk: D) -> Result<Ledger<D>, (Refusal, D)>
+    ensures steady { IfOk result (λ ledger. IsSteady ledger.machine) }
+    ensures calm { IfOk result (λ ledger. ledger.machine.broken ≡ false) }
+    ensures none { IfOk result (λ ledger. pending ledger.machine ≡ 0) }
+    ensures begins { ForTidy D.honest D.content disk (λ net version. IfOk result (λ ledger. HaveCome net version [] [] 0 ledger.machine)) }
+    ensures came { ForTidy D.honest D.content disk (λ net version. IfOk result (λ ledger. CameTidy D.honest D.content ledger.given)) }
+    // It is the ledger of a store, which the disk stands for where it keeps the disk model.
+    ensures opened { IfOk result (λ ledger. OfStore (D.honest disk) (D.content disk) (λ net version. HaveCome net version [] [] 0 ledger.machine)) }
+    ensures same { D.honest disk → IfOk result (λ ledger. StaysSame D.content D.left D.moment D.left_since disk ledger.disk) }
     ensures handed_back { D.honest disk → IfErr result (λ refused. StaysSame D.content D.left D.moment D.left_since disk refused.1) }
     ensures refused { IfErr result (λ refused. IsUnopened (D.honest disk) (D.content disk) refused.0) }
-    ensures counted { MatchResult result (λ keeper. D.failures keeper.disk ≡ D.failures disk)
+    ensures counted { MatchResult result (λ ledger. D.failures ledger.disk ≡ D.failures disk)
         (λ refused. D.failures refused.1 ≡ failures_with refused.0 (D.failures disk)) }
-    ensures honest { (IfOk result (λ keeper. D.honest keeper.disk ↔ D.honest disk)) × (IfErr result (λ refused. D.honest refused.1 ↔ D.honest disk)) }
+    ensures honest { (IfOk result (λ ledger. D.honest ledger.disk ↔ D.honest disk)) × (IfErr result (λ refused. D.honest refused.1 ↔ D.honest disk)) }
 {
     let store = match open(alloc, disk) {
         Ok(store) => store,
         Err(refused) => return Err(refused),
     };
-    match Keeper::new(rt, alloc, store, delta) {
-        Ok(keeper) => Ok(keeper),
+    match Ledger::new(alloc, store) {
+        Ok(ledger) => Ok(ledger),
         Err((_, store)) => Err((Refusal::OutOfMemory, store.close())),
     }
 }
 
-/// What is told when all is done by a keeper whose searches have this width, if one was given.
-fn done_by<D: Disk>(_keeper: &Keeper<D>, delta: Option<u32>) -> Done
-    requires { (width : ℕ) → delta ≡ Some width → _keeper.now.width ≡ width }
-    ensures { result.delta ≡ delta }
-{
-    Done { delta }
-}
-
-/// Applies these commands to the store of a keeper that has just begun, and then tells this.
+/// Applies these commands to the store of a ledger that has just begun.
 fn apply_commands<D: Disk, W: Write>(
     alloc: Global,
-    keeper: Keeper<D>,
-    done: Done,
+    ledger: Ledger<D>,
     commands: &[Command],
     out: &mut CountedWriter<'_, W>,
-) -> (Result<Done, Failed>, D)
-    requires steady { IsSteady keeper.machine }
-    requires calm { keeper.machine.broken ≡ false }
-    requires none { pending keeper.machine ≡ 0 }
-    ensures done { IfOk result.0 (λ told. told ≡ done) }
-    ensures applied { ForCame D.honest D.content keeper (λ net version. OnOk result.0
+) -> (Result<(), Failed>, D)
+    requires steady { IsSteady ledger.machine }
+    requires calm { ledger.machine.broken ≡ false }
+    requires none { pending ledger.machine ≡ 0 }
+    ensures applied { ForCame D.honest D.content ledger (λ net version. OnOk result.0
         (AppliesAll net version commands.now (D.content result.1) (D.left result.1) (W.contents (writer_of out.old)) (W.contents (writer_of out.new)))) }
-    ensures cut_off { ForCame D.honest D.content keeper (λ net version. IfErr result.0
+    ensures cut_off { ForCame D.honest D.content ledger (λ net version. IfErr result.0
         (AppliesSome net version commands.now (D.left result.1) (W.contents (writer_of out.old)) (W.contents (writer_of out.new)))) }
-    ensures told { ForBegun keeper.machine (λ net version. OnOk result.0
+    ensures told { ForBegun ledger.machine (λ net version. OnOk result.0
         (TellsAll net version commands.now (W.contents (writer_of out.old)) (W.contents (writer_of out.new)))) }
-    ensures any_moment { ForCame D.honest D.content keeper (λ net version.
-        AddsOnly D.moment D.left_since keeper.disk result.1 (StandsAmong net version commands.now)) }
-    ensures counted { CountsDevice (D.failures keeper.disk) (D.failures result.1) result.0 }
+    ensures any_moment { ForCame D.honest D.content ledger (λ net version.
+        AddsOnly D.moment D.left_since ledger.disk result.1 (StandsAmong net version commands.now)) }
+    ensures counted { CountsDevice (D.failures ledger.disk) (D.failures result.1) result.0 }
     ensures refused { IfErr result.0 IsCutOffBy }
     ensures writes { CountsWrites (failed_writes out.old) (failed_writes out.new) result.0 }
     ensures same { IsSameWriter out.old out.new }
-    ensures honest { D.honest result.1 ↔ D.honest keeper.disk }
+    ensures honest { D.honest result.1 ↔ D.honest ledger.disk }
 {
     let outcomes = match Vec::with_capacity(alloc, commands.len()) {
         Ok(outcomes) => outcomes,
         Err(_) => {
-            let (_, disk) = keeper.close();
+            let (_, disk) = ledger.close();
             return (Err(Failed::Code(Refusal::OutOfMemory)), disk);
         }
     };
     let mut applying = Applying {
-        keeper,
+        ledger,
         outcomes,
         told: 0,
     };
     let ended = applying.run(commands, out);
     let left = applying.close();
-    match ended {
-        Ok(()) => (Ok(done), left),
-        Err(failed) => (Err(failed), left),
-    }
+    (ended, left)
 }
 
 /// The same over any writer, whose failed calls nobody counts.
 fn apply_to_writer<D: Disk, W: Write>(
     alloc: Global,
-    keeper: Keeper<D>,
-    done: Done,
+    ledger: Ledger<D>,
     commands: &[Command],
     out: &mut W,
-) -> (Result<Done, Failed>, D)
-    requires steady { IsSteady keeper.machine }
-    requires calm { keeper.machine.broken ≡ false }
-    requires none { pending keeper.machine ≡ 0 }
-    ensures done { IfOk result.0 (λ told. told ≡ done) }
-    ensures applied { ForCame D.honest D.content keeper (λ net version. OnOk result.0
+) -> (Result<(), Failed>, D)
+    requires steady { IsSteady ledger.machine }
+    requires calm { ledger.machine.broken ≡ false }
+    requires none { pending ledger.machine ≡ 0 }
+    ensures applied { ForCame D.honest D.content ledger (λ net version. OnOk result.0
         (AppliesAll net version commands.now (D.content result.1) (D.left result.1) (W.contents out.old) (W.contents out.new))) }
-    ensures cut_off { ForCame D.honest D.content keeper (λ net version. IfErr result.0
+    ensures cut_off { ForCame D.honest D.content ledger (λ net version. IfErr result.0
         (AppliesSome net version commands.now (D.left result.1) (W.contents out.old) (W.contents out.new))) }
-    ensures told { ForBegun keeper.machine (λ net version. OnOk result.0 (TellsAll net version commands.now (W.contents out.old) (W.contents out.new))) }
-    ensures any_moment { ForCame D.honest D.content keeper (λ net version.
-        AddsOnly D.moment D.left_since keeper.disk result.1 (StandsAmong net version commands.now)) }
-    ensures counted { CountsDevice (D.failures keeper.disk) (D.failures result.1) result.0 }
+    ensures told { ForBegun ledger.machine (λ net version. OnOk result.0 (TellsAll net version commands.now (W.contents out.old) (W.contents out.new))) }
+    ensures any_moment { ForCame D.honest D.content ledger (λ net version.
+        AddsOnly D.moment D.left_since ledger.disk result.1 (StandsAmong net version commands.now)) }
+    ensures counted { CountsDevice (D.failures ledger.disk) (D.failures result.1) result.0 }
     ensures refused { IfErr result.0 IsCutOffBy }
-    ensures honest { D.honest result.1 ↔ D.honest keeper.disk }
+    ensures honest { D.honest result.1 ↔ D.honest ledger.disk }
 {
     let mut counted = CountedWriter::new(out);
-    apply_commands(alloc, keeper, done, commands, &mut counted)
+    apply_commands(alloc, ledger, commands, &mut counted)
 }
 
 /// Applies the commands of a reader's text to the store on a disk, in their order, and writes one line a command: `ok N` once the command is
 /// durable as version N, or `no CODE` for one that is refused (20 to 28, 62, 11). The disk is handed back.
 ///
 /// The store is opened first, then the text is read whole, then the commands are applied. 253 commands at a time are made durable; where
-/// the journal is full a checkpoint is written. It takes 24 bytes a command for what it came to, beside the text's 24 and the keeper.
+/// the journal is full a checkpoint is written. It takes 24 bytes a command for what it came to, beside the text's 24 and the ledger: no row is computed.
 ///
 /// Refused is what is refused on opening: no store (40), another format (41), a damaged page (42), a disk that fails (43), want of memory
 /// (11); then a fault of the text, `which` 0. Nothing is applied or written then. A disk that fails later (43) and want of memory for a
@@ -481,16 +456,12 @@ fn apply_to_writer<D: Disk, W: Write>(
 /// write (12) ends it too: then the last commands may be durable and not told, or lost. A failed read is fault 10 of the line being read; it
 /// and 12 are told only where the count of the reader's or the writer's failed calls rose. After an `Err` reader and writer are not used
 /// again.
-pub fn apply_counted<T: Threads, D: Disk, R: BufRead, W: Write>(
-    rt: &T,
+pub fn apply_counted<D: Disk, R: BufRead, W: Write>(
     alloc: Global,
     disk: D,
     commands: &mut Counted<'_, R>,
-    delta: Option<u32>,
     out: &mut CountedWriter<'_, W>,
-) -> (Result<Done, Failed>, D)
-    requires { ForSome delta IsWidth }
-    ensures width { IfOk result.0 (λ done. done.delta ≡ delta) }
+) -> (Result<(), Failed>, D)
     // Where the disk stands, tidy, for this network at this version, all that a stop may leave stands for that network after the accepted
     // commands, and the lines of all commands are written.
     ensures applied { ForTidy D.honest D.content disk (λ net version. OnOk result.0 (IfSome (R.remaining (reader_of commands.old))
@@ -519,15 +490,14 @@ pub fn apply_counted<T: Threads, D: Disk, R: BufRead, W: Write>(
     ensures same_reader { IsSameReader commands.old commands.new }
     ensures same_writer { IsSameWriter out.old out.new }
 {
-    let keeper = match keeper_on(rt, alloc, disk, delta) {
-        Ok(keeper) => keeper,
+    let ledger = match ledger_on(alloc, disk) {
+        Ok(ledger) => ledger,
         Err((refusal, disk)) => return (Err(Failed::Code(refusal)), disk),
     };
-    let done = done_by(&keeper, delta);
     let commands = match read_commands_counted(alloc, commands) {
         Ok(commands) => commands,
         Err(fault) => {
-            let (_, disk) = keeper.close();
+            let (_, disk) = ledger.close();
             return (
                 Err(Failed::Text {
                     which: COMMANDS,
@@ -537,20 +507,16 @@ pub fn apply_counted<T: Threads, D: Disk, R: BufRead, W: Write>(
             );
         }
     };
-    apply_commands(alloc, keeper, done, &commands, out)
+    apply_commands(alloc, ledger, &commands, out)
 }
 
 /// The same for a text in memory, over any writer, whose failed calls nobody counts.
-pub fn apply_text<T: Threads, D: Disk, W: Write>(
-    rt: &T,
+pub fn apply_text<D: Disk, W: Write>(
     alloc: Global,
     disk: D,
     commands: &[u8],
-    delta: Option<u32>,
     out: &mut W,
-) -> (Result<Done, Failed>, D)
-    requires { ForSome delta IsWidth }
-    ensures width { IfOk result.0 (λ done. done.delta ≡ delta) }
+) -> (Result<(), Failed>, D)
     ensures applied { ForTidy D.honest D.content disk (λ net version. OnOk result.0
         (IsApplied net version commands.now (D.content result.1) (D.left result.1) (W.contents out.old) (W.contents out.new))) }
     ensures cut_off { ForTidy D.honest D.content disk (λ net version. IfErr result.0
@@ -565,15 +531,14 @@ pub fn apply_text<T: Threads, D: Disk, W: Write>(
     ensures unwritten { IfErr result.0 (λ failed. IfUnbegun failed (out.new ≡ out.old)) }
     ensures honest { D.honest result.1 ↔ D.honest disk }
 {
-    let keeper = match keeper_on(rt, alloc, disk, delta) {
-        Ok(keeper) => keeper,
+    let ledger = match ledger_on(alloc, disk) {
+        Ok(ledger) => ledger,
         Err((refused, disk)) => return (Err(Failed::Code(refused)), disk),
     };
-    let done = done_by(&keeper, delta);
     let commands = match parse_commands(alloc, commands) {
         Ok(commands) => commands,
         Err(fault) => {
-            let (_, disk) = keeper.close();
+            let (_, disk) = ledger.close();
             return (
                 Err(Failed::Text {
                     which: COMMANDS,
@@ -583,5 +548,5 @@ pub fn apply_text<T: Threads, D: Disk, W: Write>(
             );
         }
     };
-    apply_to_writer(alloc, keeper, done, &commands, out)
+    apply_to_writer(alloc, ledger, &commands, out)
 }

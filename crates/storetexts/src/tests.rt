@@ -101,12 +101,14 @@ fn made_changed_and_asked(rt: HostRuntime) -> Result<(), Refusal> {
     let mut disk = store.close();
     for (applies, text, want) in table {
         let mut out = Vec::new(alloc);
-        let (outcome, same) = if applies {
-            apply_text(&rt, alloc, disk, text, None, &mut out)
+        let (done, same) = if applies {
+            let (outcome, disk) = apply_text(alloc, disk, text, &mut out);
+            (outcome == Ok(()), disk)
         } else {
-            ask_text(&rt, alloc, disk, text, Some(5), &mut out)
+            let (outcome, disk) = ask_text(&rt, alloc, disk, text, Some(5), &mut out);
+            (outcome == Ok(Done { delta: Some(5) }), disk)
         };
-        assert!(rt; outcome.is_ok());
+        assert!(rt; done);
         assert!(rt; out.as_slice() == want);
         disk = same;
     }
@@ -136,8 +138,8 @@ fn applied_across_a_checkpoint(rt: HostRuntime) -> Result<(), Refusal> {
     let (disk, _) = created(alloc, 2)?;
     let text = repeated(alloc, 762)?;
     let mut out = Vec::new(alloc);
-    let (outcome, disk) = apply_text(&rt, alloc, disk, &text, None, &mut out);
-    assert!(rt; outcome == Ok(Done { delta: None }));
+    let (outcome, disk) = apply_text(alloc, disk, &text, &mut out);
+    assert!(rt; outcome == Ok(()));
     assert_eq!(rt; lines_of(&out), 762);
     assert!(rt; out.as_slice().starts_with(b"ok 1\nok 2\n"));
     assert!(rt; out.as_slice().ends_with(b"ok 761\nok 762\n"));
@@ -155,11 +157,9 @@ fn nothing_told_is_lost(rt: HostRuntime) -> Result<(), Refusal> {
         let (disk, _) = created(alloc, 1)?;
         let mut out = Vec::new(alloc);
         let (outcome, disk) = apply_text(
-            &rt,
             alloc,
             FailOnce::new(disk, call),
             &text,
-            None,
             &mut out,
         );
         let version = version_on(alloc, disk.into_inner())?;
@@ -211,7 +211,7 @@ fn faults_of_texts(rt: HostRuntime) -> Result<(), Refusal> {
     let (mut disk, _) = created(alloc, 64)?;
     let before = bytes_of(alloc, &mut disk)?;
     let mut out = Vec::new(alloc);
-    let (outcome, disk) = apply_text(&rt, alloc, disk, b"close 7\nclose x\n", None, &mut out);
+    let (outcome, disk) = apply_text(alloc, disk, b"close 7\nclose x\n", &mut out);
     assert!(rt;
         outcome
             == Err(Failed::Text {
@@ -259,7 +259,7 @@ fn other_files_are_refused(rt: HostRuntime) -> Result<(), Refusal> {
         }
         let disk = with_bytes(alloc, &bytes)?;
         let mut out = Vec::new(alloc);
-        let (outcome, disk) = apply_text(&rt, alloc, disk, b"close 7\n", None, &mut out);
+        let (outcome, disk) = apply_text(alloc, disk, b"close 7\n", &mut out);
         assert!(rt; outcome == Err(Failed::Code(refusal)), "{refusal}");
         let (outcome, _) = ask_text(&rt, alloc, disk, PAIR, None, &mut out);
         assert!(rt; outcome == Err(Failed::Code(refusal)), "{refusal}");
@@ -306,8 +306,8 @@ fn lines_are_sent_page_by_page(rt: HostRuntime) -> Result<(), Refusal> {
     let (outcome, disk) = ask_text(&rt, alloc, disk, PAIR, None, &mut out);
     assert!(rt; outcome == Ok(Done { delta: None }));
     let text = repeated(alloc, 300)?;
-    let (outcome, _) = apply_text(&rt, alloc, disk, &text, None, &mut out);
-    assert!(rt; outcome == Ok(Done { delta: None }));
+    let (outcome, _) = apply_text(alloc, disk, &text, &mut out);
+    assert!(rt; outcome == Ok(()));
     // Of 253 lines 9 have 5 bytes, 90 have 6 and 154 have 7; 47 of 7 bytes follow.
     assert!(rt; out.sent.as_slice() == [5, 13, 1663, 329].as_slice());
     assert_eq!(rt; out.waiting, 0);
@@ -344,14 +344,12 @@ fn counted_calls_write_their_bytes(rt: HostRuntime) -> Result<(), Refusal> {
     assert!(rt; outcome == Ok(()));
     let mut commands = b"close 7\nclose 7\nset 8 4\n".as_slice();
     let (outcome, disk) = apply_counted(
-        &rt,
         alloc,
         disk,
         &mut Counted::new(&mut commands),
-        None,
         &mut writer,
     );
-    assert!(rt; outcome == Ok(Done { delta: None }));
+    assert!(rt; outcome == Ok(()));
     let mut pair = PAIR;
     let (outcome, _) = ask_counted(
         &rt,
@@ -381,22 +379,18 @@ fn a_checkpoint_comes_for_a_full_journal_alone(rt: HostRuntime) -> Result<(), Re
         let (disk, _) = created(alloc, journal_pages)?;
         let mut out = Vec::new(alloc);
         let (outcome, _) = apply_text(
-            &rt,
             alloc,
             FuseDisk::new(disk, calls),
             &text,
-            None,
             &mut out,
         );
-        assert!(rt; outcome == Ok(Done { delta: None }), "{count} commands");
+        assert!(rt; outcome == Ok(()), "{count} commands");
         assert_eq!(rt; lines_of(&out), u64::from(count));
         let (disk, _) = created(alloc, journal_pages)?;
         let (outcome, _) = apply_text(
-            &rt,
             alloc,
             FuseDisk::new(disk, calls.saturating_sub(1)),
             &text,
-            None,
             &mut out,
         );
         assert!(rt;

@@ -15,42 +15,42 @@ pub returns-in-Err-clause-cut_off : goal.returns-in-Err-clause-cut_off
 returns-in-Err-clause-cut_off g c came net version begun =
     let unwritten : Appends (g.W.Write.contents (writer_of c.args.out.now)) (g.W.Write.contents (writer_of c.args.out.now)) [] = Appends-nil _ in
     rw c.close-disk.ensures.disk
-    (applies_some net version c.args.commands.now [] 0 c.args.keeper.machine (g.D.Disk.content c.args.keeper.disk) (g.D.Disk.left c.args.keeper.disk) _ _ (Code OutOfMemory)
+    (applies_some net version c.args.commands.now [] 0 c.args.ledger.machine (g.D.Disk.content c.args.ledger.disk) (g.D.Disk.left c.args.ledger.disk) _ _ (Code OutOfMemory)
     (record { taken = 0; come = begun }) c.requires.steady (omega (arith, c.requires.none)) (c.close-disk.ensures.holds came) unwritten tt)
 
 pub returns-in-Ok-ended-clause-applied : goal.returns-in-Ok-ended-clause-applied
 returns-in-Ok-ended-clause-applied g c was net version begun =
-    let disk = c.run-ended.new.self.keeper.disk in
+    let disk = c.run-ended.new.self.ledger.disk in
     let came = subst (λ (d : g.row.D.Denot). CameTidy g.D.Disk.honest g.D.Disk.content d) (sym c.run-ended.ensures.given) was in
     rw c.close-left.ensures.disk
-    (ended_all net version c.args.keeper.machine c.run-ended.new.self.keeper.machine c.args.commands.now c.run-ended.new.self.outcomes.items c.run-ended.new.self.told
+    (ended_all net version c.args.ledger.machine c.run-ended.new.self.ledger.machine c.args.commands.now c.run-ended.new.self.outcomes.items c.run-ended.new.self.told
     (g.D.Disk.content disk) (g.D.Disk.left disk) _ _ begun c.run-ended.ensures.steady (c.close-left.ensures.holds came)
     (Ok tt) c.in-Ok-ended.ensures.come c.in-Ok-ended.ensures.calm c.in-Ok-ended.ensures.all c.in-Ok-ended.ensures.lines (g.met.D.Disk.leaves_content disk (c.close-left.ensures.honest came)))
 
 pub returns-in-Err-ended-clause-cut_off : goal.returns-in-Err-ended-clause-cut_off
 returns-in-Err-ended-clause-cut_off g c was net version begun =
-    let disk = c.run-ended.new.self.keeper.disk in
+    let disk = c.run-ended.new.self.ledger.disk in
     let came = subst (λ (d : g.row.D.Denot). CameTidy g.D.Disk.honest g.D.Disk.content d) (sym c.run-ended.ensures.given) was in
     rw c.close-left.ensures.disk
-    (ended_some net version c.args.keeper.machine c.run-ended.new.self.keeper.machine c.args.commands.now c.run-ended.new.self.outcomes.items c.run-ended.new.self.told
+    (ended_some net version c.args.ledger.machine c.run-ended.new.self.ledger.machine c.args.commands.now c.run-ended.new.self.outcomes.items c.run-ended.new.self.told
     (g.D.Disk.content disk) (g.D.Disk.left disk) _ _ begun c.run-ended.ensures.steady (c.close-left.ensures.holds came)
     (Err c.in-Err-ended.failed) c.run-ended.ensures.some c.run-ended.ensures.waiting c.in-Err-ended.ensures.lines c.in-Err-ended.ensures.next)
 
 pub returns-in-Ok-ended-clause-told : goal.returns-in-Ok-ended-clause-told
 returns-in-Ok-ended-clause-told g c net version begun =
-    told_all net version c.args.keeper.machine c.run-ended.new.self.keeper.machine c.args.commands.now c.run-ended.new.self.outcomes.items c.run-ended.new.self.told _ _ begun
+    told_all net version c.args.ledger.machine c.run-ended.new.self.ledger.machine c.args.commands.now c.run-ended.new.self.outcomes.items c.run-ended.new.self.told _ _ begun
     (Ok tt) c.in-Ok-ended.ensures.come c.in-Ok-ended.ensures.all c.in-Ok-ended.ensures.lines
 
 pub returns-in-Ok-ended-clause-any_moment : goal.returns-in-Ok-ended-clause-any_moment
 returns-in-Ok-ended-clause-any_moment g c was net version begun =
     rw c.close-left.ensures.disk
-    (adds_weaker g.D.Disk.moment g.D.Disk.left_since c.args.keeper.disk c.run-ended.new.self.keeper.disk (StandsIn c.run-ended.new.self.keeper.machine) (StandsAmong net version c.args.commands.now)
-    (among net version c.args.commands.now c.run-ended.new.self.outcomes.items c.run-ended.new.self.told c.run-ended.new.self.keeper.machine (c.run-ended.ensures.some net version begun))
+    (adds_weaker g.D.Disk.moment g.D.Disk.left_since c.args.ledger.disk c.run-ended.new.self.ledger.disk (StandsIn c.run-ended.new.self.ledger.machine) (StandsAmong net version c.args.commands.now)
+    (among net version c.args.commands.now c.run-ended.new.self.outcomes.items c.run-ended.new.self.told c.run-ended.new.self.ledger.machine (c.run-ended.ensures.some net version begun))
     (c.run-ended.ensures.leaves was))
 
 pub returns-in-Err-ended-clause-any_moment : goal.returns-in-Err-ended-clause-any_moment
 returns-in-Err-ended-clause-any_moment g c was net version begun =
     rw c.close-left.ensures.disk
-    (adds_weaker g.D.Disk.moment g.D.Disk.left_since c.args.keeper.disk c.run-ended.new.self.keeper.disk (StandsIn c.run-ended.new.self.keeper.machine) (StandsAmong net version c.args.commands.now)
-    (among net version c.args.commands.now c.run-ended.new.self.outcomes.items c.run-ended.new.self.told c.run-ended.new.self.keeper.machine (c.run-ended.ensures.some net version begun))
+    (adds_weaker g.D.Disk.moment g.D.Disk.left_since c.args.ledger.disk c.run-ended.new.self.ledger.disk (StandsIn c.run-ended.new.self.ledger.machine) (StandsAmong net version c.args.commands.now)
+    (among net version c.args.commands.now c.run-ended.new.self.outcomes.items c.run-ended.new.self.told c.run-ended.new.self.ledger.machine (c.run-ended.ensures.some net version begun))
     (c.run-ended.ensures.leaves was))

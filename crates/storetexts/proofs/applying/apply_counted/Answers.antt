@@ -1,6 +1,5 @@
 use Rattle.std.proofs.Common.{rules, ◌≡◌, inl, refl, Err}
 use Rattle.dimacs.specs.Counts.{reader_of}
-use Rattle.printing.specs.declared.done.Done.{Done}
 use Rattle.printing.specs.declared.failed.Failed.TheVariants.{Code}
 use Rattle.printing.specs.Counting.{writer_of}
 use Rattle.storetexts.proofs.Judged.{opening_counts, opening_of_store, apply_refused_known, kind_cut_off, cut_off_refused}
@@ -24,10 +23,10 @@ pub returns-in-Err-clause-codes : goal.returns-in-Err-clause-codes
 returns-in-Err-clause-codes g c = opening_of_store c.in-Err.refusal c.in-Err.ensures.refused.0
 
 pub returns-in-Err-clause-failed : goal.returns-in-Err-clause-failed
-returns-in-Err-clause-failed g c = counts_code Done c.in-Err.refusal _ _ c.in-Err.ensures.counted
+returns-in-Err-clause-failed g c = counts_code _ c.in-Err.refusal _ _ c.in-Err.ensures.counted
 
 pub returns-in-Err-clause-writes : goal.returns-in-Err-clause-writes
-returns-in-Err-clause-writes g c = opening_counts Done c.in-Err.refusal _ c.in-Err.ensures.refused.0
+returns-in-Err-clause-writes g c = opening_counts _ c.in-Err.refusal _ c.in-Err.ensures.refused.0
 
 pub returns-in-Err-clause-untouched : goal.returns-in-Err-clause-untouched
 returns-in-Err-clause-untouched g c honest = unbegun (Code c.in-Err.refusal) _ (c.in-Err.ensures.handed_back honest)
@@ -67,14 +66,14 @@ pub returns-clause-any_moment : goal.returns-clause-any_moment
 returns-clause-any_moment g c honest pages net version stands =
     let list : c.deref.result.now ≡ c.in-Ok-read_commands_counted.commands.items = search rules in
     let moments = c.apply_commands.ensures.any_moment (c.in-Ok.ensures.came honest pages net version stands) net version (c.in-Ok.ensures.begins honest pages net version stands) in
-    known_since g.D.Disk.moment g.D.Disk.left_since g.D.Disk.left c.args.disk c.in-Ok.keeper.disk c.apply_commands.result.1 (λ content. g.met.D.Disk.only_now c.args.disk content honest)
+    known_since g.D.Disk.moment g.D.Disk.left_since g.D.Disk.left c.args.disk c.in-Ok.ledger.disk c.apply_commands.result.1 (λ content. g.met.D.Disk.only_now c.args.disk content honest)
     (c.in-Ok.ensures.same honest).adds_nothing net version c.in-Ok-read_commands_counted.commands.items _ _ c.in-Ok-read_commands_counted.ensures.read (rw list at moments)
 
 pub returns-clause-told : goal.returns-clause-told
 returns-clause-told g c =
     let list : c.deref.result.now ≡ c.in-Ok-read_commands_counted.commands.items = search rules in
     let tells = c.apply_commands.ensures.told in
-    told_known _ _ c.in-Ok.keeper.machine c.in-Ok.ensures.opened c.in-Ok-read_commands_counted.commands.items c.apply_commands.result.0 _ _ _ _ (rw list at tells) c.in-Ok-read_commands_counted.ensures.read
+    told_known _ _ c.in-Ok.ledger.machine c.in-Ok.ensures.opened c.in-Ok-read_commands_counted.commands.items c.apply_commands.result.0 _ _ _ _ (rw list at tells) c.in-Ok-read_commands_counted.ensures.read
 
 pub returns-clause-refused : goal.returns-clause-refused
 returns-clause-refused g c = cut_off_refused c.apply_commands.result.0 (g.D.Disk.honest c.args.disk) (g.D.Disk.content c.args.disk) (g.R.Read.remaining (reader_of c.args.commands.now)) _ c.apply_commands.ensures.refused

@@ -1,5 +1,4 @@
 use Rattle.std.proofs.Common.{rules, ◌≡◌, refl}
-use Rattle.printing.specs.declared.done.Done.{Done}
 use Rattle.printing.specs.declared.failed.Failed.TheVariants.{Code}
 use Rattle.storetexts.proofs.Judged.{apply_text_refused, cut_off_text_refused}
 use Rattle.storetexts.proofs.Meanwhile.{counts_code, counts_from}
@@ -16,7 +15,7 @@ pub returns-in-Err-clause-refused : goal.returns-in-Err-clause-refused
 returns-in-Err-clause-refused g c = apply_text_refused (g.D.Disk.honest c.args.disk) (g.D.Disk.content c.args.disk) c.args.commands.now c.in-Err.refused c.in-Err.ensures.refused
 
 pub returns-in-Err-clause-failed : goal.returns-in-Err-clause-failed
-returns-in-Err-clause-failed g c = counts_code Done c.in-Err.refused _ _ c.in-Err.ensures.counted
+returns-in-Err-clause-failed g c = counts_code _ c.in-Err.refused _ _ c.in-Err.ensures.counted
 
 pub returns-in-Err-clause-untouched : goal.returns-in-Err-clause-untouched
 returns-in-Err-clause-untouched g c honest = unbegun (Code c.in-Err.refused) _ (c.in-Err.ensures.handed_back honest)
@@ -52,14 +51,14 @@ pub returns-clause-any_moment : goal.returns-clause-any_moment
 returns-clause-any_moment g c honest pages net version stands =
     let list : c.deref.result.now ≡ c.in-Ok-parse_commands.commands.items = search rules in
     let moments = c.apply_to_writer.ensures.any_moment (c.in-Ok.ensures.came honest pages net version stands) net version (c.in-Ok.ensures.begins honest pages net version stands) in
-    text_since g.D.Disk.moment g.D.Disk.left_since g.D.Disk.left c.args.disk c.in-Ok.keeper.disk c.apply_to_writer.result.1 (λ content. g.met.D.Disk.only_now c.args.disk content honest)
+    text_since g.D.Disk.moment g.D.Disk.left_since g.D.Disk.left c.args.disk c.in-Ok.ledger.disk c.apply_to_writer.result.1 (λ content. g.met.D.Disk.only_now c.args.disk content honest)
     (c.in-Ok.ensures.same honest).adds_nothing net version c.in-Ok-parse_commands.commands.items c.args.commands.now c.in-Ok-parse_commands.ensures (rw list at moments)
 
 pub returns-clause-told : goal.returns-clause-told
 returns-clause-told g c =
     let list : c.deref.result.now ≡ c.in-Ok-parse_commands.commands.items = search rules in
     let tells = c.apply_to_writer.ensures.told in
-    told_text _ _ c.in-Ok.keeper.machine c.in-Ok.ensures.opened c.in-Ok-parse_commands.commands.items c.apply_to_writer.result.0 c.args.commands.now _ _ (rw list at tells) c.in-Ok-parse_commands.ensures
+    told_text _ _ c.in-Ok.ledger.machine c.in-Ok.ensures.opened c.in-Ok-parse_commands.commands.items c.apply_to_writer.result.0 c.args.commands.now _ _ (rw list at tells) c.in-Ok-parse_commands.ensures
 
 pub returns-clause-refused : goal.returns-clause-refused
 returns-clause-refused g c = cut_off_text_refused c.apply_to_writer.result.0 (g.D.Disk.honest c.args.disk) (g.D.Disk.content c.args.disk) c.args.commands.now c.apply_to_writer.ensures.refused

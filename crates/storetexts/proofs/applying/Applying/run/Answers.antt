@@ -16,5 +16,5 @@ returns-in-Ok-clause-all g c = on_ok_too c.settle.result _ _ c.settle.ensures.al
 
 pub returns-in-Ok-clause-leaves : goal.returns-in-Ok-clause-leaves
 returns-in-Ok-clause-leaves g c =
-    leaves_both g.D.Disk.honest g.D.Disk.content g.D.Disk.moment g.D.Disk.left_since c.args.self.now.keeper c.take_all.new.self.keeper c.settle.new.self.keeper c.take_all.ensures.given c.settle.ensures.grows
+    leaves_both g.D.Disk.honest g.D.Disk.content g.D.Disk.moment g.D.Disk.left_since c.args.self.now.ledger c.take_all.new.self.ledger c.settle.new.self.ledger c.take_all.ensures.given c.settle.ensures.grows
     c.take_all.ensures.leaves c.settle.ensures.leaves

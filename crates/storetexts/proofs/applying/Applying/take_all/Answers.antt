@@ -27,7 +27,7 @@ loop-index-preserved g c =
       same = c.in_default.ensures.same ∙ before.same;
       counted = c.in_default.ensures.counted ∙ before.counted;
       grows = grows_both _ _ _ before.grows c.in_default.ensures.grows;
-      leaves = leaves_both g.D.Disk.honest g.D.Disk.content g.D.Disk.moment g.D.Disk.left_since c.args.self.now.keeper c.loop-index.self.keeper c.advance.new.self.keeper before.given c.in_default.ensures.grows before.leaves c.in_default.ensures.leaves;
+      leaves = leaves_both g.D.Disk.honest g.D.Disk.content g.D.Disk.moment g.D.Disk.left_since c.args.self.now.ledger c.loop-index.self.ledger c.advance.new.self.ledger before.given c.in_default.ensures.grows before.leaves c.in_default.ensures.leaves;
       given = c.in_default.ensures.given ∙ before.given;
       forth = λ honest. before.forth (c.in_default.ensures.honest.0 honest);
       back = λ honest. c.in_default.ensures.honest.1 (before.back honest);
@@ -47,5 +47,5 @@ returns-in-Err-clause-grows g c = grows_both _ _ _ c.loop-index.invariant.grows 
 
 pub returns-in-Err-clause-leaves : goal.returns-in-Err-clause-leaves
 returns-in-Err-clause-leaves g c =
-    leaves_both g.D.Disk.honest g.D.Disk.content g.D.Disk.moment g.D.Disk.left_since c.args.self.now.keeper c.loop-index.self.keeper c.advance.new.self.keeper c.loop-index.invariant.given c.advance.ensures.grows
+    leaves_both g.D.Disk.honest g.D.Disk.content g.D.Disk.moment g.D.Disk.left_since c.args.self.now.ledger c.loop-index.self.ledger c.advance.new.self.ledger c.loop-index.invariant.given c.advance.ensures.grows
     c.loop-index.invariant.leaves c.advance.ensures.leaves

@@ -11,15 +11,15 @@ pub loop-index-preserved : goal.loop-index-preserved
 loop-index-preserved g c =
     let os = c.args.self.now.outcomes.items in
     let i = c.loop-index.index in
-    let durable = c.args.self.now.keeper.machine.durable in
+    let durable = c.args.self.now.ledger.machine.durable in
     let lt : i < length os = omega (arith, c.loop-index-test.true, c.len-index-end.ensures) in
     let there : c.index.result.now ≡ get_or os i c.index.result.now = search rules in
     let here : get_or os i c.index.result.now ≡ c.index.result.now = sym there in
     let yes : c.is_settled.result ≡ true = search rules in
-    let settled : IsSettled durable c.index.result.now = rw c.loop-index.invariant.keeper at (c.is_settled.ensures.0 yes) in
+    let settled : IsSettled durable c.index.result.now = rw c.loop-index.invariant.ledger at (c.is_settled.ensures.0 yes) in
     let replied : c.reply_of.result ≡ reply_of (get_or os i c.index.result.now) = c.reply_of.ensures ∙ ap reply_of (sym here) in
     record {
-      keeper = c.loop-index.invariant.keeper;
+      ledger = c.loop-index.invariant.ledger;
       outcomes = c.loop-index.invariant.outcomes;
       told = search rules;
       settled = λ before. settled_more durable os i c.index.result.now lt (c.loop-index.invariant.settled before) (subst (IsSettled durable) (sym here) settled);

@@ -7,10 +7,10 @@ use Rattle.storetexts.proofs.applying.Applying.tell.Given as goal
 
 abbrev pub invariant-loop-index : goal.invariant-loop-index
 invariant-loop-index g l = record {
-  keeper : l.self.keeper ≡ l.initial.self.keeper;
+  ledger : l.self.ledger ≡ l.initial.self.ledger;
   outcomes : l.self.outcomes ≡ l.initial.self.outcomes;
   told : l.self.told ≡ l.index;
-  settled : All (IsSettled l.initial.self.keeper.machine.durable) (take l.initial.self.told l.initial.self.outcomes.items) → All (IsSettled l.initial.self.keeper.machine.durable) (take l.index l.initial.self.outcomes.items);
+  settled : All (IsSettled l.initial.self.ledger.machine.durable) (take l.initial.self.told l.initial.self.outcomes.items) → All (IsSettled l.initial.self.ledger.machine.durable) (take l.index l.initial.self.outcomes.items);
   lines : (before : Option (List ℕ)) → AreTold before (g.W.Write.contents (writer_of l.initial.out)) l.initial.self.outcomes.items l.initial.self.told → AreTold before (g.W.Write.contents (writer_of l.out)) l.initial.self.outcomes.items l.index;
   counts : failed_writes l.out ≡ failed_writes l.initial.out;
   same : IsSameWriter l.initial.out l.out;

@@ -4,7 +4,7 @@ use Rattle.store.specs.Committing.{StandsTidily}
 use Rattle.store.specs.State.{CameTidy, Told}
 use Rattle.keeper.proofs.Stopped.{IsOpened, is_opened}
 use Rattle.storetexts.proofs.Beginning.{none_come}
-use Rattle.storetexts.proofs.applying.keeper_on.Goals as goal
+use Rattle.storetexts.proofs.applying.ledger_on.Goals as goal
 
 pub returns-in-Ok-new-clause-begins : goal.returns-in-Ok-new-clause-begins
 returns-in-Ok-new-clause-begins g c honest pages net version stands =
@@ -12,7 +12,7 @@ returns-in-Ok-new-clause-begins g c honest pages net version stands =
     let o : IsOpened pages (g.D.Disk.content c.args.disk) net version tells.standing = is_opened pages (g.D.Disk.content c.args.disk) net version tells.standing stands tells.is in
     let network : c.in-Ok.store.network ≡ net = sym (ap (λ (t : Told). t.network) tells.told_is) ∙ o.network_is in
     let at : c.in-Ok.store.version ≡ version = sym (ap (λ (t : Told). t.version) tells.told_is) ∙ o.version_is in
-    none_come net c.in-Ok.store.network version c.in-Ok.store.version c.in-Ok.store.unchecked _ c.in-Ok-new.keeper.machine c.in-Ok-new.ensures.begins network at
+    none_come net c.in-Ok.store.network version c.in-Ok.store.version c.in-Ok.store.unchecked _ c.in-Ok-new.ledger.machine c.in-Ok-new.ensures.begins network at
 
 pub returns-in-Ok-new-clause-came : goal.returns-in-Ok-new-clause-came
 returns-in-Ok-new-clause-came g c honest pages net version stands =
@@ -28,5 +28,5 @@ returns-in-Ok-new-clause-opened g c =
       net = store.network;
       version = store.version;
       stands = c.in-Ok.ensures.stands;
-      holds = none_come store.network store.network store.version store.version store.unchecked _ c.in-Ok-new.keeper.machine c.in-Ok-new.ensures.begins refl refl;
+      holds = none_come store.network store.network store.version store.version store.unchecked _ c.in-Ok-new.ledger.machine c.in-Ok-new.ensures.begins refl refl;
     }

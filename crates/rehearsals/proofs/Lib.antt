@@ -1,2 +1,3 @@
 pub mod JointRead
 pub mod NewRuns
+pub mod BrokenOff

@@ -1,20 +1,19 @@
 -- A run of events on a new store, and what is written of it.
-use Rattle.std.specs.Prelude.{◌≡◌, ◌⊎◌, ℕ, List, length, Option, Some}
+use Rattle.std.specs.Prelude.{◌≡◌, ◌⊎◌, ℕ, List, length, Option, Some, ⊤}
 use Rattle.std.specs.Io.KnownBytes.{Appends}
 use Rattle.roadnet.specs.Net.{Net}
 use Rattle.roadnet.specs.declared.commands.Command.{Command}
 use Rattle.roadnet.specs.declared.refusals.Refusal.{Refusal}
-use Rattle.roadnet.specs.declared.refusals.Refusal.TheVariants.{Write}
+use Rattle.roadnet.specs.declared.refusals.Refusal.TheVariants.{OutOfMemory, Device, Write}
 use Rattle.disk.specs.declared.stoppable.Pick.{Pick}
 use Rattle.pages.specs.Layout.{pages_for}
-use Rattle.store.specs.Opening.{IsPassing}
 use Rattle.machine.specs.declared.events.Event.{Event}
 use Rattle.machine.specs.declared.events.Replied.{Replied}
 use Rattle.machine.specs.Machine.{Sizes, Machine, start}
 use Rattle.machine.specs.Lives.{Lives}
 use Rattle.printing.specs.Replied.{printed_replies}
 use Rattle.printing.specs.declared.failed.Failed.{Failed}
-use Rattle.printing.specs.declared.failed.Failed.TheVariants.{Text, Code}
+use Rattle.printing.specs.declared.failed.Failed.TheVariants.{Code}
 
 -- the sizes of a new store of this network: a checkpoint writes a page for each 1,023 arcs
 abbrev pub sizes_of : Net → ℕ → Sizes
@@ -33,11 +32,15 @@ pub record Rehearses (net : Net) (journal_pages : ℕ) (events : List (Event Pic
   pub run : RepliesTo net journal_pages events replies ended
   pub written : Appends old new (printed_replies replies)
 
--- nothing is written, or the replies to a run that ended early for this refusal
-abbrev pub EndsEarly : Net → ℕ → List (Event Pick) → Refusal → Option (List ℕ) → Option (List ℕ) → Type 0
-EndsEarly net journal_pages events refusal old new = (new ≡ old) ⊎ Rehearses net journal_pages events (Some refusal) old new
-
--- the writer failed; or memory ran out or the disk failed, before the run or within it
+-- The writer failed; or memory ran out, in making the store or in the run, of which the replies so far are written; or the disk failed, in
+-- making the store, and then nothing is written, or in opening what a stop left, and then the replies so far are.
 abbrev pub IsBrokenOff : Net → ℕ → List (Event Pick) → Option (List ℕ) → Option (List ℕ) → Failed → Type 0
-IsBrokenOff net journal_pages events old new (Text which fault) = ⊥
-IsBrokenOff net journal_pages events old new (Code refusal) = (refusal ≡ Write) ⊎ (IsPassing refusal × EndsEarly net journal_pages events refusal old new)
+IsBrokenOff net journal_pages events old new (Code Write) = ⊤
+IsBrokenOff net journal_pages events old new (Code OutOfMemory) = Rehearses net journal_pages events (Some OutOfMemory) old new
+IsBrokenOff net journal_pages events old new (Code Device) = (new ≡ old) ⊎ Rehearses net journal_pages events (Some Device) old new
+IsBrokenOff net journal_pages events old new failed = ⊥
+
+-- what holds where the disk failed
+abbrev pub IfDevice : Failed → Type 0 → Type 0
+IfDevice (Code Device) failed = failed
+IfDevice other failed = ⊤

@@ -45,7 +45,8 @@ pub fn rehearse_counted<T: Threads, R: BufRead, Q: BufRead, W: Write>(
     ensures answered { OnOk result (IfSome (R.remaining (reader_of gr.old)) (λ network. IfSome (Q.remaining (reader_of script.old))
         (λ events. IsRehearsed journal_pages (rows network) (rows events) (W.contents (writer_of out.old)) (W.contents (writer_of out.new))))) }
     ensures refused { IfErr result (λ failed. IfSome (R.remaining (reader_of gr.old)) (λ network. IfSome (Q.remaining (reader_of script.old))
-        (λ events. IsRefusedRehearsal journal_pages network events (R.remaining (reader_of gr.new)) (Q.remaining (reader_of script.new)) (W.contents (writer_of out.old)) (W.contents (writer_of out.new)) failed))) }
+        (λ events. IsRefusedRehearsal journal_pages network events (R.remaining (reader_of gr.new)) (Q.remaining (reader_of script.new))
+        (W.contents (writer_of out.old)) (W.contents (writer_of out.new)) failed))) }
     ensures codes { IfErr result IsOfRehearsal }
     ensures unwritten { IfErr result (KeepsWriter (writer_of out.old) (writer_of out.new)) }
     ensures reads_network { CountsFirst (failed_calls gr.old) (failed_calls gr.new) result }

@@ -1,13 +1,16 @@
-//! Events run on a new store in memory, and what is told of them.
-ghost use Rattle.std.specs.Prelude.{◌≡◌, ◌≤◌, OnOk, IfOk, IfErr, IfSome};
+//! Events run on a new store, and what is told of them.
+ghost use Rattle.std.specs.Prelude.{◌≡◌, ◌≤◌, [], OnOk, IfOk, IfErr, IfSome, MatchResult};
 ghost use Rattle.std.specs.Option.{ForSome};
+ghost use Rattle.disk.specs.Contents.{Rose};
+ghost use Rattle.pagereader.specs.Outcomes.{failures_with};
 ghost use Rattle.rows.specs.Kept.{IsWidth};
 ghost use Rattle.store.specs.Opening.{IsPassing};
+ghost use Rattle.keeper.specs.Failures.{EndsAsTold};
 ghost use Rattle.printing.specs.Counting.{failed_writes, writer_of, IsSameWriter};
 ghost use Rattle.printing.specs.Failing.{CountsWrites};
-ghost use Rattle.rehearsals.specs.Rehearsed.{RepliesTo, Rehearses, IsBrokenOff};
+ghost use Rattle.rehearsals.specs.Rehearsed.{RepliesTo, Rehearses, IsBrokenOff, IfDevice};
 
-use disk::{MemDisk, Pick};
+use disk::{MemDisk, Pick, Stoppable};
 use keeper::{Rehearsal, rehearse};
 use machine::Event;
 use printing::{CountedWriter, Done, Failed, put_replies};
@@ -17,33 +20,83 @@ use std::io::Write;
 use std::thread::Threads;
 use store::create;
 
-/// Runs the events on a new store of the network in memory, with so many journal pages. Without a store, which only want of memory (11)
-/// or the disk (43) can keep from being made, nothing is run.
-fn rehearsed<T: Threads>(
+/// Runs the events on a new store of the network on an empty disk, with so many journal pages. Without a store nothing is run, and the disk
+/// is handed back: where it keeps the disk model, only want of memory (11) or its failure (43) can keep a store from being made on it.
+fn rehearsed<T: Threads, D: Stoppable>(
     rt: &T,
     alloc: Global,
+    disk: D,
     network: &Network,
     journal_pages: u32,
     delta: Option<u32>,
     events: &[Event<Pick>],
-) -> Result<Rehearsal<MemDisk>, Refusal>
+) -> Result<Rehearsal<D>, (Refusal, D)>
     requires width { ForSome delta IsWidth }
     requires some { 1 ≤ journal_pages }
     requires few { journal_pages ≤ 65536 }
-    ensures run { IfOk result (λ run. RepliesTo network.now journal_pages events.now run.replies.items run.ended) }
-    ensures ended { IfOk result (λ run. IfSome run.ended IsPassing) }
+    ensures run { D.honest disk → IfOk result (λ run. RepliesTo network.now journal_pages events.now run.replies.items run.ended) }
+    ensures ended { D.honest disk → IfOk result (λ run. IfSome run.ended IsPassing) }
     ensures width { IfOk result (λ run. run.delta ≡ delta) }
-    ensures refused { IfErr result IsPassing }
+    ensures refused { D.honest disk → D.content disk ≡ [] → IfErr result (λ refused. IsPassing refused.0) }
+    // Over any disk its count of failures rises by those that the replies tell, and by one more where the run ends with 43.
+    ensures counted { IfOk result (λ run. EndsAsTold events.now run.replies.items run.ended (D.failures disk) (D.failures run.disk)) }
+    ensures unmade { IfErr result (λ refused. D.failures refused.1 ≡ failures_with refused.0 (D.failures disk)) }
 {
-    match create(alloc, MemDisk::new(alloc), network, journal_pages) {
+    match create(alloc, disk, network, journal_pages) {
         Ok(store) => Ok(rehearse(rt, alloc, store, delta, events)),
-        Err((refusal, _)) => Err(refusal),
+        Err(refused) => Err(refused),
     }
 }
 
-/// Runs the events on a new store of the network in memory, with so many journal pages, and writes the lines of the replies to them, and
-/// nothing else. Where the run ends early, the replies so far are written, and its refusal is the answer: 11 or 43. A failed write is 12,
-/// and then an unknown part was written.
+/// Runs the events on a new store of the network on an empty disk, with so many journal pages, and writes the lines of the replies to them,
+/// and nothing else. Where the run ends early, the replies so far are written, and its refusal is the answer: 11 or 43. A failed write is
+/// 12, and then an unknown part was written. 43 is told only where the disk's count of failures rose. The disk is handed back.
+fn run_events_on<T: Threads, D: Stoppable, W: Write>(
+    rt: &T,
+    alloc: Global,
+    disk: D,
+    network: &Network,
+    journal_pages: u32,
+    delta: Option<u32>,
+    events: &[Event<Pick>],
+    out: &mut CountedWriter<'_, W>,
+) -> (Result<Done, Failed>, D)
+    requires width { ForSome delta IsWidth }
+    requires some { 1 ≤ journal_pages }
+    requires few { journal_pages ≤ 65536 }
+    ensures width { IfOk result.0 (λ done. done.delta ≡ delta) }
+    ensures answered { D.honest disk → OnOk result.0
+        (Rehearses network.now journal_pages events.now None (W.contents (writer_of out.old)) (W.contents (writer_of out.new))) }
+    ensures refused { D.honest disk → D.content disk ≡ [] → IfErr result.0
+        (IsBrokenOff network.now journal_pages events.now (W.contents (writer_of out.old)) (W.contents (writer_of out.new))) }
+    ensures failed { IfErr result.0 (λ failed. IfDevice failed (Rose (D.failures disk) (D.failures result.1))) }
+    ensures writes { D.honest disk → D.content disk ≡ [] → CountsWrites (failed_writes out.old) (failed_writes out.new) result.0 }
+    ensures same { IsSameWriter out.old out.new }
+{
+    let run = match rehearsed(rt, alloc, disk, network, journal_pages, delta, events) {
+        Ok(run) => run,
+        Err((refusal, disk)) => return (Err(Failed::Code(refusal)), disk),
+    };
+    let Rehearsal {
+        history: _,
+        replies,
+        ended,
+        disk,
+        delta,
+    } = run;
+    if let Err(failed) = put_replies(out, &replies) {
+        return (Err(failed), disk);
+    }
+    if let Err(failed) = out.flush() {
+        return (Err(failed), disk);
+    }
+    match ended {
+        None => (Ok(Done { delta }), disk),
+        Some(refusal) => (Err(Failed::Code(refusal)), disk),
+    }
+}
+
+/// The same on an empty disk in memory, which is the call's own: it keeps the disk model, and nothing is said of it afterwards.
 pub fn run_events<T: Threads, W: Write>(
     rt: &T,
     alloc: Global,
@@ -58,22 +111,12 @@ pub fn run_events<T: Threads, W: Write>(
     requires few { journal_pages ≤ 65536 }
     ensures width { IfOk result (λ done. done.delta ≡ delta) }
     ensures answered { OnOk result (Rehearses network.now journal_pages events.now None (W.contents (writer_of out.old)) (W.contents (writer_of out.new))) }
-    ensures refused { IfErr result (IsBrokenOff network.now journal_pages events.now (W.contents (writer_of out.old)) (W.contents (writer_of out.new))) }
+    ensures refused { IfErr result
+        (IsBrokenOff network.now journal_pages events.now (W.contents (writer_of out.old)) (W.contents (writer_of out.new))) }
     ensures writes { CountsWrites (failed_writes out.old) (failed_writes out.new) result }
     ensures same { IsSameWriter out.old out.new }
 {
-    let run = match rehearsed(rt, alloc, network, journal_pages, delta, events) {
-        Ok(run) => run,
-        Err(refusal) => return Err(Failed::Code(refusal)),
-    };
-    if let Err(failed) = put_replies(out, &run.replies) {
-        return Err(failed);
-    }
-    if let Err(failed) = out.flush() {
-        return Err(failed);
-    }
-    match run.ended {
-        None => Ok(Done { delta: run.delta }),
-        Some(refusal) => Err(Failed::Code(refusal)),
-    }
+    let disk = MemDisk::new(alloc);
+    let (ended, _disk) = run_events_on(rt, alloc, disk, network, journal_pages, delta, events, out);
+    ended
 }

@@ -1,13 +1,24 @@
-use Rattle.std.proofs.Common.{sym, subst}
-use Rattle.store.specs.State.{CameTidy}
+use Rattle.std.proofs.Common.{subst}
+use Rattle.keeper.specs.Failures.{EndsAsTold}
+use Rattle.rehearsals.proofs.BrokenOff.{unmade_passing}
 use Rattle.rehearsals.proofs.NewRuns.{replies_to, run_ends_passing}
 use Rattle.rehearsals.proofs.running.rehearsed.Goals as goal
 
 pub returns-in-Ok-clause-run : goal.returns-in-Ok-clause-run
-returns-in-Ok-clause-run g c =
+returns-in-Ok-clause-run g c honest =
     let made = c.in-Ok.ensures in
+<<<<<<< HEAD
     replies_to c.in-Ok.store _ c.args.network.now c.args.journal_pages _ c.args.events.now _ _ _ (made.checkpoint_pages tt) made.network made.version made.unchecked made.journal_pages
     (c.rehearse.ensures.lives (rw made.given (tt, made.tidy tt)))
+=======
+    replies_to c.in-Ok.store _ c.args.network.now c.args.journal_pages _ c.args.events.now _ _ _ (made.checkpoint_pages honest) made.network made.version made.unchecked made.journal_pages
+    (c.rehearse.ensures.lives (rw made.given (made.honest.0.1 honest, made.tidy honest)))
+>>>>>>> 712245335ac48be69be0bbf9971213495d64a43d
 
 pub returns-in-Ok-clause-ended : goal.returns-in-Ok-clause-ended
-returns-in-Ok-clause-ended g c = run_ends_passing c.args.network.now c.args.journal_pages c.args.events.now _ _ (returns-in-Ok-clause-run g c)
+returns-in-Ok-clause-ended g c honest = run_ends_passing c.args.network.now c.args.journal_pages c.args.events.now _ _ (returns-in-Ok-clause-run g c honest)
+
+pub returns-in-Err-clause-refused : goal.returns-in-Err-clause-refused
+returns-in-Err-clause-refused g c honest empty =
+    let refused = c.in-Err.ensures in
+    unmade_passing c.in-Err.refused.0 (λ is. refused.not_empty honest is empty) refused.refused

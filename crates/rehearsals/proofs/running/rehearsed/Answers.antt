@@ -7,13 +7,8 @@ use Rattle.rehearsals.proofs.running.rehearsed.Goals as goal
 pub returns-in-Ok-clause-run : goal.returns-in-Ok-clause-run
 returns-in-Ok-clause-run g c honest =
     let made = c.in-Ok.ensures in
-<<<<<<< HEAD
-    replies_to c.in-Ok.store _ c.args.network.now c.args.journal_pages _ c.args.events.now _ _ _ (made.checkpoint_pages tt) made.network made.version made.unchecked made.journal_pages
-    (c.rehearse.ensures.lives (rw made.given (tt, made.tidy tt)))
-=======
     replies_to c.in-Ok.store _ c.args.network.now c.args.journal_pages _ c.args.events.now _ _ _ (made.checkpoint_pages honest) made.network made.version made.unchecked made.journal_pages
     (c.rehearse.ensures.lives (rw made.given (made.honest.0.1 honest, made.tidy honest)))
->>>>>>> 712245335ac48be69be0bbf9971213495d64a43d
 
 pub returns-in-Ok-clause-ended : goal.returns-in-Ok-clause-ended
 returns-in-Ok-clause-ended g c honest = run_ends_passing c.args.network.now c.args.journal_pages c.args.events.now _ _ (returns-in-Ok-clause-run g c honest)

@@ -25,8 +25,8 @@ pub struct Closed<D: Disk> {
     pub disk: D,
     /// The history as tokens are compared with it.
     pub whole: Whole,
-    ghost is: { whole.commands ≡ history.items },
-    ghost of: { shown.origin ≡ whole.origin } by { Prim.hlevel props },
+    ghost listed: { whole.commands ≡ history.items },
+    ghost desk: { shown.origin ≡ whole.origin } by { Prim.hlevel props },
     ghost begins: { shown.commands ≡ take (length shown.commands) history.items },
 }
 

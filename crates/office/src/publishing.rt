@@ -3,7 +3,7 @@ ghost use Rattle.std.specs.Prelude.{◌≡◌, ◌≢◌, Ok, IfOk, IfErr, OnOk,
 ghost use Rattle.roadnet.specs.declared.refusals.Refusal.TheVariants.{OutOfMemory as out_of_memory};
 ghost use Rattle.machine.specs.Machine.{commands_to};
 ghost use Rattle.keeper.specs.Parts.{or_out_of_memory, result_map};
-ghost use Rattle.machine.specs.Calls.{TakesTask, without_task, RefusesView, Publishes};
+ghost use Rattle.machine.specs.Calls.{TakesTask, without_task, IsTask, RefusesView, Publishes};
 
 use crate::naming::Naming;
 use crate::offices::Office;
@@ -46,6 +46,7 @@ impl<N: Naming, D: Disk> Office<N, D> {
     pub fn publish<R: Wait>(&mut self, rt: &R, view: Arc<View>) -> Result<u64, (Refusal, Arc<View>)>
         ensures step { IfOk result (λ shown. Publishes self.old.machine view.value.version view.value.network (Ok shown) self.new.machine) }
         ensures refused { IfErr result (λ refused. refused.0 ≢ out_of_memory → RefusesView self.old.machine view.value.version view.value.network refused.0) }
+        ensures order { IfErr result (λ refused. refused.0 ≡ out_of_memory → IsTask self.old.machine view.value.version view.value.network) }
         ensures handed_back { IfErr result (λ refused. refused.1 ≡ view) }
         ensures same { OnErr result (self.new ≡ self.old) }
         ensures disk { self.new.disk ≡ self.old.disk }

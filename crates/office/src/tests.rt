@@ -4,7 +4,7 @@ ghost use Rattle.machine.specs.Laws.{IsAt};
 
 use crate::naming::Naming;
 use crate::offices::Office;
-use disk::MemDisk;
+use disk::{Disk, MemDisk};
 use history::{Claim, History, Settled};
 use keeper::Task;
 use published::Shown;
@@ -50,9 +50,9 @@ fn view_of(alloc: Global, task: &Task) -> Result<Arc<View>, Refusal> {
 }
 
 /// A receipt for a ticket whose command a flush makes durable.
-fn settle<N: Naming, R: Wait>(
+fn settle<N: Naming, D: Disk + Drop, R: Wait>(
     rt: &R,
-    lock: &Mutex<Office<N, MemDisk>>,
+    lock: &Mutex<Office<N, D>>,
     ticket: Claim,
 ) -> Result<Settled, Refusal>
     requires { ticket.origin ≡ N.origin }
@@ -66,10 +66,10 @@ fn settle<N: Naming, R: Wait>(
 }
 
 /// Shows the durable version. Where the readers' copy has no room, the view is offered once more.
-fn show<N: Naming, R: Wait>(
+fn show<N: Naming, D: Disk + Drop, R: Wait>(
     rt: &R,
     alloc: Global,
-    lock: &Mutex<Office<N, MemDisk>>,
+    lock: &Mutex<Office<N, D>>,
 ) -> Result<u64, Refusal> {
     let task = match lock.lock(rt).take_task() {
         Ok(Some(task)) => task,
@@ -88,9 +88,9 @@ fn show<N: Naming, R: Wait>(
 }
 
 /// What is shown since a ticket.
-fn shown_since<N: Naming, R: Wait>(
+fn shown_since<N: Naming, D: Disk + Drop, R: Wait>(
     rt: &R,
-    lock: &Mutex<Office<N, MemDisk>>,
+    lock: &Mutex<Office<N, D>>,
     ticket: &Claim,
 ) -> Result<Shown, Refusal>
     requires { ticket.now.origin ≡ N.origin }
@@ -104,18 +104,18 @@ fn shown_since<N: Naming, R: Wait>(
 
 /// Two commands are accepted, settled and shown, each call under the lock. Of two readers one learns of the second. Told are the versions that
 /// they see, and what is confirmed of both receipts.
-fn round<N: Naming, R: Threads + Wait>(
+fn round<N: Naming, D: Disk + Drop, R: Threads + Wait>(
     rt: &R,
     alloc: Global,
     history: History,
-    store: Store<MemDisk>,
+    store: Store<D>,
 ) -> Result<([u64; 4], [Command; 2]), Refusal>
     requires calm { is_calm store ≡ true }
     requires origin { (N.origin.base ≡ store.network) × (N.origin.version ≡ store.version) }
     requires history { (history.origin ≡ N.origin) × (history.commands ≡ []) × (history.acknowledged ≡ 0) }
-    requires came_tidy { N.came_tidy → CameTidy MemDisk.honest MemDisk.content store.given }
+    requires came_tidy { N.came_tidy → CameTidy D.honest D.content store.given }
 {
-    let lock = Mutex::new(Office::<N, MemDisk>::new(rt, alloc, history, store, None)?);
+    let lock = Mutex::new(Office::<N, D>::new(rt, alloc, history, store, None)?);
     let mut told = lock.lock(rt).reader()?;
     let mut other = lock.lock(rt).reader()?;
     let first = lock.lock(rt).submit(CLOSE)?;
@@ -143,7 +143,7 @@ fn commands_are_read_back(rt: HostRuntime) -> Result<(), Fail> {
         return Err(Fail::from("a store"));
     };
     let history = History::new(store.network(), store.version());
-    let told = round::<Brand, _>(&rt, alloc, history, store);
+    let told = round::<Brand, _, _>(&rt, alloc, history, store);
     assert_eq!(rt; told, Ok(([1, 1, 2, 2], [CLOSE, MARK])));
     Ok(())
 }

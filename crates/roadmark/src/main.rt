@@ -1,5 +1,7 @@
 //! A crash-safe landmark distance server for road networks.
 //!
+//! It hands on the calls on texts that stand in the libraries below it, with their failures, fault lines and statuses, and the disk over a file.
+//!
 //! With no words the program reads the joint form from standard input: a `.gr` text, a line `run`, and a script. Its words name jobs on
 //! files.
 //!
@@ -21,9 +23,13 @@ mod store_jobs;
 mod streams;
 mod words;
 
+pub use filedisk::FileDisk;
 use jobs::{run_batch, run_joint, run_once, run_rehearse};
-use printing::{Done, Failed, fault_line, status};
+pub use printing::{Done, Failed, fault_line, status};
+pub use querytexts::{batch_text, once_text};
+pub use rehearsals::{joint_text, rehearse_text};
 use roadnet::Refusal;
+pub use scripts::parse_script;
 use std::env;
 use std::fs::File;
 use std::io::{self, ErrorKind};
@@ -31,6 +37,7 @@ use std::process::ExitCode;
 use std::rt::{Env, Files};
 use std::thread::Threads;
 use store_jobs::{run_apply, run_ask, run_create};
+pub use storetexts::{apply_text, ask_text, create_text};
 use streams::hold_streams;
 pub use words::{Job, MISUSE, Usage, read_words};
 

@@ -152,7 +152,7 @@ fn misuses_of_words(rt: HostRuntime) {
     }
 }
 
-/// Each help tells what its word does, its arguments and an example. Where an allocation fails there is no text, and the status is 1.
+/// Each help tells what its word does, its arguments and an example.
 #[test]
 fn help_of_words(rt: HostRuntime) {
     let table: [(&[&str], &[&str]); 9] = [
@@ -240,9 +240,30 @@ fn help_of_words(rt: HostRuntime) {
             Ok(job) => assert!(rt; false, "{words:?}: {job:?}"),
             Err(usage) => {
                 let text = usage.text.as_str();
-                let is_whole = usage.status == 0 && parts.iter().all(|part| text.contains(*part));
+                let is_whole = parts.iter().all(|part| text.contains(*part));
+                assert!(rt; usage.status == 0 && is_whole, "{words:?}");
+            }
+        }
+    }
+}
+
+/// A help that finds no memory gives up: it has no text then, and the status is 1. Each allocation is made to fail in turn by the tool that
+/// runs the test.
+#[test]
+fn help_that_gives_up(rt: HostRuntime) {
+    let table: [&[&str]; 4] = [
+        &["roadmark", "--help"],
+        &["roadmark", "help", "ask"],
+        &["roadmark", "create", "--help"],
+        &["roadmark", "--version"],
+    ];
+    for words in table {
+        match read_words(rt.alloc(), words) {
+            Ok(job) => assert!(rt; false, "{words:?}: {job:?}"),
+            Err(usage) => {
+                let is_told = usage.status == 0 && !usage.text.is_empty();
                 assert!(rt;
-                    is_whole || (usage.status == 1 && text.is_empty()),
+                    is_told || (usage.status == 1 && usage.text.is_empty()),
                     "{words:?}"
                 );
             }

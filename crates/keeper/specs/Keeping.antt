@@ -77,8 +77,8 @@ abbrev pub WhenSound : {D : Type 0} → (D → Type 0) → (D → List ℕ) → 
 WhenSound honest content k P = CameTidy honest content k.given → k.machine.broken ≡ false → P
 
 -- the same of a ledger
-abbrev pub WhenLedgerSound : {D : Type 0} → (D → Type 0) → (D → List ℕ) → LedgerState D → Type 0 → Type 0
-WhenLedgerSound honest content k P = CameTidy honest content k.given → k.machine.broken ≡ false → P
+abbrev pub OfSoundLedger : {D : Type 0} → (D → Type 0) → (D → List ℕ) → LedgerState D → Type 0 → Type 0
+OfSoundLedger honest content k P = CameTidy honest content k.given → k.machine.broken ≡ false → P
 
 -- a content that a flush may leave: a flush that failed may have its commands in flight
 abbrev pub IsLeftByFlush : Machine → List ℕ → Type 0

@@ -9,7 +9,7 @@ ghost use Rattle.machine.specs.declared.events.Writing.TheVariants.{Checkpoint a
 ghost use Rattle.machine.specs.Machine.{IsState};
 ghost use Rattle.machine.specs.Calls.{StepsCheckpoint};
 ghost use Rattle.machine.specs.Lives.{Writes};
-ghost use Rattle.keeper.specs.Keeping.{Holds, IsDurableIn, WhenLedgerSound};
+ghost use Rattle.keeper.specs.Keeping.{Holds, IsDurableIn, OfSoundLedger};
 ghost use Rattle.keeper.specs.Parts.{told_as};
 
 use crate::ledgers::{Ledger, has_failed};
@@ -41,7 +41,7 @@ impl<D: Disk> Ledger<D> {
         ensures given { self.new.given ≡ self.old.given }
         ensures adds_nothing { self.old.machine.broken ≡ true → AddsNothing D.moment D.left_since self.old.disk self.new.disk }
         // A stop at any moment of the call leaves what stands for what is durable.
-        ensures any_moment { WhenLedgerSound D.honest D.content self.old (LeavesOnly D.moment D.left_since self.old.disk self.new.disk (IsDurableIn self.old.machine)) }
+        ensures any_moment { OfSoundLedger D.honest D.content self.old (LeavesOnly D.moment D.left_since self.old.disk self.new.disk (IsDurableIn self.old.machine)) }
         ensures honest { D.honest self.new.disk ↔ D.honest self.old.disk }
     {
         if self.broken {
@@ -66,7 +66,7 @@ impl<D: Disk> Ledger<D> {
         ensures given { self.new.given ≡ self.old.given }
         ensures adds_nothing { self.old.machine.broken ≡ true → AddsNothing D.moment D.left_since self.old.disk self.new.disk }
         // A stop at any moment of the call leaves what stands for what is durable.
-        ensures any_moment { WhenLedgerSound D.honest D.content self.old (LeavesOnly D.moment D.left_since self.old.disk self.new.disk (IsDurableIn self.old.machine)) }
+        ensures any_moment { OfSoundLedger D.honest D.content self.old (LeavesOnly D.moment D.left_since self.old.disk self.new.disk (IsDurableIn self.old.machine)) }
         ensures honest { D.honest self.new.disk ↔ D.honest self.old.disk }
     {
         for _ in 0..self.most_steps() {

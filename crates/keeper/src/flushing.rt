@@ -5,7 +5,7 @@ ghost use Rattle.pagereader.specs.Outcomes.{failures_told};
 ghost use Rattle.disk.specs.Moments.{LeavesOnly, AddsNothing};
 ghost use Rattle.roadnet.specs.declared.refusals.Refusal.TheVariants.{Device as device};
 ghost use Rattle.machine.specs.Calls.{Flushes, refusal_of_flush};
-ghost use Rattle.keeper.specs.Keeping.{IsLeftByFlush, WhenLedgerSound};
+ghost use Rattle.keeper.specs.Keeping.{IsLeftByFlush, OfSoundLedger};
 
 use crate::ledgers::{Ledger, has_failed};
 use disk::Disk;
@@ -45,7 +45,7 @@ impl<D: Disk> Ledger<D> {
         ensures given { self.new.given ≡ self.old.given }
         ensures adds_nothing { self.old.machine.broken ≡ true → AddsNothing D.moment D.left_since self.old.disk self.new.disk }
         // A stop at any moment of the call leaves what a flush that failed leaves.
-        ensures any_moment { WhenLedgerSound D.honest D.content self.old (LeavesOnly D.moment D.left_since self.old.disk self.new.disk (IsLeftByFlush self.old.machine)) }
+        ensures any_moment { OfSoundLedger D.honest D.content self.old (LeavesOnly D.moment D.left_since self.old.disk self.new.disk (IsLeftByFlush self.old.machine)) }
         ensures honest { D.honest self.new.disk ↔ D.honest self.old.disk }
     {
         if let Err(refusal) = self.may_flush() {

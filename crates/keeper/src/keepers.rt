@@ -32,5 +32,6 @@ impl<D: Disk> Model for Keeper<D> {
     } };
 
     ghost invariant = { λ k.
-        IsViewed (with_views k.ledger.machine k.shown.version (option_map (λ t. t.version) k.task)) k.shown.network (option_map (λ t. (t.version, t.network.value)) k.task) };
+        let m = with_views k.ledger.machine k.shown.version (option_map (λ t. t.version) k.task) in
+        IsViewed m k.shown.network (option_map (λ t. (t.version, t.network.value)) k.task) };
 }

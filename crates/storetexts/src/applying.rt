@@ -416,7 +416,10 @@ fn apply_commands<D: Disk, W: Write>(
     };
     let ended = applying.run(commands, out);
     let left = applying.close();
-    (ended, left)
+    match ended {
+        Ok(()) => (Ok(()), left),
+        Err(failed) => (Err(failed), left),
+    }
 }
 
 /// The same over any writer, whose failed calls nobody counts.

@@ -1,3 +1,4 @@
+use Rattle.std.specs.Prelude.{⊤}
 use Rattle.std.proofs.Common.{rules, ◌≡◌, inl, refl, Err}
 use Rattle.dimacs.specs.Counts.{reader_of}
 use Rattle.printing.specs.declared.failed.Failed.TheVariants.{Code}
@@ -23,10 +24,10 @@ pub returns-in-Err-clause-codes : goal.returns-in-Err-clause-codes
 returns-in-Err-clause-codes g c = opening_of_store c.in-Err.refusal c.in-Err.ensures.refused.0
 
 pub returns-in-Err-clause-failed : goal.returns-in-Err-clause-failed
-returns-in-Err-clause-failed g c = counts_code _ c.in-Err.refusal _ _ c.in-Err.ensures.counted
+returns-in-Err-clause-failed g c = counts_code ⊤ c.in-Err.refusal _ _ c.in-Err.ensures.counted
 
 pub returns-in-Err-clause-writes : goal.returns-in-Err-clause-writes
-returns-in-Err-clause-writes g c = opening_counts _ c.in-Err.refusal _ c.in-Err.ensures.refused.0
+returns-in-Err-clause-writes g c = opening_counts ⊤ c.in-Err.refusal _ c.in-Err.ensures.refused.0
 
 pub returns-in-Err-clause-untouched : goal.returns-in-Err-clause-untouched
 returns-in-Err-clause-untouched g c honest = unbegun (Code c.in-Err.refusal) _ (c.in-Err.ensures.handed_back honest)

@@ -1,3 +1,4 @@
+use Rattle.std.specs.Prelude.{⊤}
 use Rattle.std.proofs.Common.{rules, ◌≡◌, refl}
 use Rattle.printing.specs.declared.failed.Failed.TheVariants.{Code}
 use Rattle.storetexts.proofs.Judged.{apply_text_refused, cut_off_text_refused}
@@ -15,7 +16,7 @@ pub returns-in-Err-clause-refused : goal.returns-in-Err-clause-refused
 returns-in-Err-clause-refused g c = apply_text_refused (g.D.Disk.honest c.args.disk) (g.D.Disk.content c.args.disk) c.args.commands.now c.in-Err.refused c.in-Err.ensures.refused
 
 pub returns-in-Err-clause-failed : goal.returns-in-Err-clause-failed
-returns-in-Err-clause-failed g c = counts_code _ c.in-Err.refused _ _ c.in-Err.ensures.counted
+returns-in-Err-clause-failed g c = counts_code ⊤ c.in-Err.refused _ _ c.in-Err.ensures.counted
 
 pub returns-in-Err-clause-untouched : goal.returns-in-Err-clause-untouched
 returns-in-Err-clause-untouched g c honest = unbegun (Code c.in-Err.refused) _ (c.in-Err.ensures.handed_back honest)

@@ -6,7 +6,7 @@ use crate::Ledger;
 use crate::tests::{CLOSE, OPEN, six};
 use disk::{Disk, MemDisk, Pick, Stoppable};
 use machine::{Receipt, Ticket};
-use roadnet::{Command, Refusal};
+use roadnet::{Command, Refusal, RoadArc};
 use std::alloc::Global;
 use std::test::Fail;
 use store::{Part, Store, create, open};
@@ -94,7 +94,13 @@ fn ledger_makes_commands_durable(rt: HostRuntime) -> Result<(), Fail> {
     };
     assert_eq!(rt; told_by(&ledger), now);
     assert!(rt; ledger.commands() == [CLOSE, OPEN].as_slice());
-    assert!(rt; !ledger.network().arcs()[6].opened);
+    let closed = RoadArc {
+        tail: 5,
+        head: 2,
+        length: 0,
+        opened: false,
+    };
+    assert_eq!(rt; ledger.network().arc(7), Some(closed));
     Ok(())
 }
 

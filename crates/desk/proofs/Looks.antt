@@ -1,0 +1,42 @@
+-- Views of one desk.
+use Rattle.std.proofs.Common.{◌≡◌, ◌∙◌, ℕ, List, length, Option, Some, sym, ap, subst, arith, [], Contains}
+use Rattle.std.specs.Prelude.{unwrap_or, Result, Ok, Err, IfOk}
+use mathlib.Core.List.{IsPrefix}
+use Rattle.roadnet.specs.declared.commands.Command.{Command}
+use Rattle.roadnet.specs.Net.{Net}
+use Rattle.roadnet.specs.Step.{after}
+use Rattle.rows.specs.Views.{Viewed}
+use Rattle.rows.specs.Cached.{KeptRow, HasRowsOf, kept_row, rows_of}
+use Rattle.rows.specs.declared.caches.RowCache.{RowCache}
+use Rattle.history.specs.Origins.{Origin, Beginning}
+use Rattle.history.proofs.Beginnings.{prefix_whole, prefix_trans}
+use Rattle.desk.specs.Readings.{IsViewAfter, HasSeen}
+
+some_one : {A : Type 0} (x y : A) → Some x ≡ Some y → x ≡ y
+some_one {A} x y is = ap (λ (o : Option A). unwrap_or o y) is
+
+-- of the same version, after lists of which one begins the other, they are of the same network
+pub same_network : (origin : Origin) (seen now : List Command) (old new : Viewed) → IsViewAfter origin seen old → IsViewAfter origin now new → IsPrefix seen now → new.version ≡ old.version → new.network ≡ old.network
+same_network origin seen now old new was is begins same =
+    let counts : length seen ≡ length now = let a = was.version in let b = is.version in omega (arith, a, b, same) in
+    let whole : seen ≡ now = prefix_whole seen now begins (omega (arith, counts)) in
+    some_one new.network old.network (sym is.network ∙ (ap (after origin.base) (sym whole) ∙ was.network))
+
+-- what it has seen is begun by all that it knows later
+pub still_seen : (known now : Beginning) (view : Viewed) → now.origin ≡ known.origin → IsPrefix known.commands now.commands → HasSeen (record { known = known; view = view }) → HasSeen (record { known = now; view = view })
+still_seen known now view same begins has = record {
+  seen = has.seen;
+  begins = prefix_trans has.seen known.commands now.commands has.begins begins;
+  after_seen = subst (λ (o : Origin). IsViewAfter o has.seen view) (sym same) has.after_seen;
+}
+
+-- what holds of an answer holds of it in another form
+pub ok_map : {X E : Type 0} (answer : Result X E) (P Q : X → Type 0) → ((x : X) → P x → Q x) → IfOk answer P → IfOk answer Q
+ok_map (Ok x) P Q turn holds = turn x holds
+ok_map (Err e) P Q turn holds = tt
+
+-- a cache that keeps nothing keeps rows of any network
+pub none_kept : (version : ℕ) (net : Net) (cache : RowCache) → rows_of cache ≡ [] → HasRowsOf version net cache
+none_kept version net cache empty source row there =
+    let none : Contains [] (kept_row version source row) = subst (λ (rows : List KeptRow). Contains rows (kept_row version source row)) empty there in
+    absurd (omega (arith, none.1))

@@ -1,0 +1,53 @@
+-- An office may go to another thread, as its disk may.
+use denote.RattleType.{RattleType}
+use denote.Param.Send.{IsSend, sendable, view_send}
+use Rattle.std.proofs.Crossing.{crosses}
+use Rattle.disk.specs.declared.disk.Disk.{Ghosts as DiskGhosts}
+use Rattle.office.specs.declared.naming.Naming.{Ghosts as NamingGhosts}
+use Rattle.roadnet.proofs.networks.Network.TheSendSync as Networks
+use Rattle.roadnet.proofs.commands.Command.TheSendSync as Commands
+use Rattle.store.proofs.paged.Paged.TheSendSync as Pages
+use Rattle.history.proofs.histories.History.TheSendSync as Histories
+use Rattle.published.proofs.publishers.Publisher.TheSendSync as Publishers
+use Rattle.keeper.proofs.tasks.Task.TheSendSync as Tasks
+use Rattle.keeper.proofs.shown.Shown.TheSendSync as Showns
+use Rattle.store.specs.contracts.store.Store as Store
+use Rattle.store.specs.contracts.store.Store.TheInside as StoreInside
+use Rattle.keeper.specs.contracts.ledgers.Ledger as Ledger
+use Rattle.keeper.specs.contracts.ledgers.Ledger.TheInside as LedgerInside
+use Rattle.keeper.specs.contracts.keepers.Keeper as Keeper
+use Rattle.keeper.specs.contracts.keepers.Keeper.TheInside as KeeperInside
+use Rattle.office.specs.contracts.offices.Office as Office
+use Rattle.office.specs.contracts.offices.Office.TheInside as OfficeInside
+
+ruleset pages = (Pages.the_field_send)
+
+store_inside : (D : RattleType) (d : DiskGhosts D.Denot) → IsSend D → IsSend (StoreInside.the_row D d)
+store_inside D d s = search (pages, sendable, crosses) depth 20
+
+store_send : (D : RattleType) (d : DiskGhosts D.Denot) → IsSend D → IsSend (Store.the_row D d)
+store_send D d s = view_send _ _ _ _ _ (store_inside D d s)
+
+ruleset entries = (store_send, Networks.the_send, Networks.the_sync, Commands.the_field_send)
+
+ledger_inside : (D : RattleType) (d : DiskGhosts D.Denot) → IsSend D → IsSend (LedgerInside.the_row D d)
+ledger_inside D d s = search (entries, sendable, crosses) depth 20
+
+ledger_send : (D : RattleType) (d : DiskGhosts D.Denot) → IsSend D → IsSend (Ledger.the_row D d)
+ledger_send D d s = view_send _ _ _ _ _ (ledger_inside D d s)
+
+ruleset kept = (ledger_send, Showns.the_send, Tasks.the_field_send)
+
+keeper_inside : (D : RattleType) (d : DiskGhosts D.Denot) → IsSend D → IsSend (KeeperInside.the_row D d)
+keeper_inside D d s = search (kept, sendable, crosses) depth 20
+
+keeper_send : (D : RattleType) (d : DiskGhosts D.Denot) → IsSend D → IsSend (Keeper.the_row D d)
+keeper_send D d s = view_send _ _ _ _ _ (keeper_inside D d s)
+
+ruleset held = (keeper_send, Histories.the_send, Publishers.the_send)
+
+office_inside : (N : RattleType) (n : NamingGhosts N.Denot) (D : RattleType) (d : DiskGhosts D.Denot) → IsSend N → IsSend D → IsSend (OfficeInside.the_row N D n d)
+office_inside N n D d t s = search (held, sendable, crosses) depth 20
+
+pub office_send : (N : RattleType) (n : NamingGhosts N.Denot) (D : RattleType) (d : DiskGhosts D.Denot) → IsSend N → IsSend D → IsSend (Office.the_row N D n d)
+office_send N n D d t s = view_send _ _ _ _ _ (office_inside N n D d t s)

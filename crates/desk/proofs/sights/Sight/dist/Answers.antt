@@ -1,0 +1,11 @@
+use Rattle.std.proofs.Common.{◌∙◌, sym, subst}
+use Rattle.rows.specs.Views.{Viewed}
+use Rattle.rows.specs.Cached.{HasRowsOf}
+use Rattle.desk.proofs.sights.Sight.dist.Goals as goal
+
+pub pinned-pinned-requires : goal.pinned-pinned-requires
+pinned-pinned-requires g c = subst (λ (v : Viewed). HasRowsOf v.version v.network c.self.inside.cache) (sym c.deref.ensures) c.self.invariant
+
+pub invariant_of-self : goal.invariant_of-self
+invariant_of-self g c =
+    subst (λ (v : Viewed). HasRowsOf v.version v.network c.dist.new.self.cache.now) (c.dist.ensures.same.view ∙ c.pinned-pinned.ensures.view ∙ c.deref.ensures) c.dist.ensures.kept

@@ -1,0 +1,4 @@
+pub mod Openings
+pub mod Readings
+pub mod Shares
+pub mod Turns

@@ -1,0 +1,12 @@
+-- What a desk is started with.
+use Rattle.std.specs.Prelude.{◌≡◌, []}
+use Rattle.history.specs.Origins.{Origin, Beginning}
+use Rattle.store.specs.State.{StoreState}
+
+-- the history of a new desk, which is opened with the network and version of this store
+pub record IsNewDesk {D : Type 0} (origin : Origin) (history : Beginning) (store : StoreState D) : Type 0 where
+  pub base : origin.base ≡ store.network
+  pub version : origin.version ≡ store.version
+  pub named : history.origin ≡ origin
+  pub no_command : history.commands ≡ []
+  pub none_acknowledged : history.acknowledged ≡ 0

@@ -1,0 +1,60 @@
+-- What the threads of a desk are to do, and who has to wait, by the machine's numbers.
+use Rattle.std.specs.Prelude.{ℕ, ◌*◌, ◌+◌, Bool, true, false, ◌&&◌, not, if◌then◌else◌, nat_le, nat_lt, ◌==◌, min}
+use Rattle.roadnet.specs.declared.refusals.Refusal.{Refusal}
+use Rattle.roadnet.specs.declared.refusals.Refusal.TheVariants.{OutOfMemory, Device, Broken}
+use Rattle.machine.specs.Machine.{Machine, pending}
+use Rattle.desk.specs.declared.attempts.Attempt.{Attempt}
+use Rattle.desk.specs.declared.attempts.Attempt.TheVariants.{Done, NoMemory, Failed}
+use Rattle.desk.specs.declared.locked.FlusherTurn.{FlusherTurn}
+use Rattle.desk.specs.declared.locked.FlusherTurn.TheVariants.{Rest, Flush, Checkpoint, End}
+use Rattle.desk.specs.declared.locked.BuilderTurn.{BuilderTurn}
+use Rattle.desk.specs.declared.locked.BuilderTurn.TheVariants.{Rest as rest, Build, End as end}
+
+-- half of the journal's pages, or more, are unchecked
+abbrev pub is_checkpoint_due : Machine → Bool
+is_checkpoint_due m = nat_le m.sizes.journal_pages (2 * m.unchecked)
+
+-- behind a flush a step of a checkpoint, where one is due; else flush while commands are pending; then end where the desk is halted; then
+-- go on with a checkpoint that is due
+abbrev pub flusher_turn_of : Machine → Bool → Bool → FlusherTurn
+flusher_turn_of m has_flushed halted =
+    if has_flushed && is_checkpoint_due m then Checkpoint m.durable else
+    if nat_lt 0 (pending m) then Flush m.durable else
+    if halted then End else
+    if is_checkpoint_due m then Checkpoint m.durable else Rest
+
+-- show what is durable; then end where no more becomes durable
+abbrev pub builder_turn_of : Machine → Bool → BuilderTurn
+builder_turn_of m flusher_ended =
+    if m.shown == m.durable then (if flusher_ended then end else rest) else Build m.durable
+
+-- what a call came to that was refused so: it found no memory, or the disk has failed, or there was nothing to do
+abbrev pub attempt_of : Refusal → Attempt
+attempt_of OutOfMemory = NoMemory
+attempt_of Device = Failed
+attempt_of Broken = Failed
+attempt_of _ = Done
+
+-- how many attempts in a row found no memory, behind this one
+abbrev pub misses_after : ℕ → Attempt → ℕ
+misses_after misses Done = 0
+misses_after misses NoMemory = min (misses + 1) 4294967295
+misses_after misses Failed = misses
+
+-- a thread goes on, unless three attempts in a row found no memory, or the disk has failed
+abbrev pub goes_on_after : ℕ → Attempt → Bool
+goes_on_after misses Done = true
+goes_on_after misses NoMemory = nat_lt (misses + 1) 3
+goes_on_after misses Failed = false
+
+-- Who settles this number waits: it is not durable, and may still become so.
+abbrev pub is_unsettled : Machine → Bool → ℕ → Bool
+is_unsettled m flusher_ended number = nat_lt m.durable number && (not m.broken && not flusher_ended)
+
+-- It is not durable, and won't be.
+abbrev pub is_lost : Machine → ℕ → Bool
+is_lost m number = nat_lt m.durable number && m.broken
+
+-- Who waits for a view with this number's command goes on waiting: none is shown, and one may still be.
+abbrev pub is_unseen : Machine → Bool → ℕ → Bool
+is_unseen m builder_ended number = nat_lt m.shown number && (not (is_lost m number) && not builder_ended)

@@ -1,0 +1,63 @@
+// What comes of the turns of a thread, and when it gives up.
+ghost use Rattle.std.specs.Prelude.{◌≡◌};
+ghost use Rattle.desk.specs.Turns.{attempt_of, misses_after, goes_on_after};
+
+use roadnet::Refusal;
+
+/// How many attempts in a row found no memory before a thread gives up.
+const MOST_MISSES: u32 = 3;
+
+/// What came of a turn.
+#[derive(Clone, Copy, Debug, PartialEq, Eq)]
+pub(crate) enum Attempt {
+    /// It is done, or there was nothing to do.
+    Done,
+    /// No memory was found, and nothing has changed.
+    NoMemory,
+    /// The disk has failed: there is nothing more to do.
+    Failed,
+}
+
+/// What a call came to that was refused so.
+pub(crate) fn attempt_of(refusal: Refusal) -> Attempt
+    ensures { result ≡ attempt_of refusal }
+{
+    match refusal {
+        Refusal::OutOfMemory => Attempt::NoMemory,
+        Refusal::Device | Refusal::Broken => Attempt::Failed,
+        _ => Attempt::Done,
+    }
+}
+
+/// How many attempts of a thread found no memory, in a row up to now.
+#[derive(Clone, Copy)]
+pub(crate) struct Misses {
+    count: u32,
+}
+
+impl Misses {
+    /// No attempt has been made.
+    pub(crate) fn none() -> Misses
+        ensures { result.count ≡ 0 }
+    {
+        Misses { count: 0 }
+    }
+
+    /// Counts an attempt, and tells whether the thread goes on.
+    pub(crate) fn goes_on(&mut self, attempt: Attempt) -> bool
+        ensures count { self.new.count ≡ misses_after self.old.count attempt }
+        ensures goes_on { result ≡ goes_on_after self.old.count attempt }
+    {
+        match attempt {
+            Attempt::Done => {
+                self.count = 0;
+                true
+            }
+            Attempt::NoMemory => {
+                self.count = self.count.saturating_add(1);
+                self.count < MOST_MISSES
+            }
+            Attempt::Failed => false,
+        }
+    }
+}

@@ -1,0 +1,75 @@
+// The builder: the thread that builds the views of what is durable, and shows them.
+use crate::attempts::{Attempt, Misses};
+use crate::gates::Gate;
+use crate::locked::BuilderTurn;
+use crate::plans::Plan;
+use crate::shared::Shared;
+use disk::Disk;
+use keeper::Task;
+use office::{Naming, Office};
+use rows::View;
+use std::sync::{Arc, Wait};
+use std::thread::Threads;
+
+impl<N: Naming, D: Disk + Drop, G: Gate + Drop + Sync> Shared<Office<N, D>, G> {
+    /// Shows the view, or gives its task up.
+    fn show<R: Wait>(&self, rt: &R, version: u64, view: Arc<View>) -> Attempt {
+        let mut guard = self.lock(rt);
+        match guard.office.publish(rt, view) {
+            Ok(_) => {
+                drop(guard);
+                self.published.notify_all();
+                Attempt::Done
+            }
+            Err(_) => {
+                guard.office.give_up(version);
+                Attempt::NoMemory
+            }
+        }
+    }
+
+    /// Builds the view of a task and shows it, or gives the task up.
+    fn carry_out<R: Threads + Wait + Sync>(&self, rt: &R, plan: &Plan, task: Task) -> Attempt {
+        match plan.build(rt, &self.gate, &task) {
+            Ok(view) => self.show(rt, task.version, view),
+            Err(_) => {
+                self.lock(rt).office.give_up(task.version);
+                Attempt::NoMemory
+            }
+        }
+    }
+
+    /// Takes a task, unless the gate holds it up, and carries it out.
+    fn build<R: Threads + Wait + Sync>(&self, rt: &R, plan: &Plan, durable: u64) -> Attempt {
+        if !self.gate.before_task(durable) {
+            return Attempt::NoMemory;
+        }
+        let taken = self.lock(rt).office.take_task();
+        match taken {
+            Ok(Some(task)) => self.carry_out(rt, plan, task),
+            Ok(None) => Attempt::Done,
+            Err(_) => Attempt::NoMemory,
+        }
+    }
+}
+
+/// What the builder does until it ends.
+pub(crate) fn build_views<
+    N: Naming,
+    D: Disk + Drop,
+    G: Gate + Drop + Sync,
+    R: Threads + Wait + Sync,
+>(rt: &R, shared: &Shared<Office<N, D>, G>, plan: &Plan) {
+    let mut misses = Misses::none();
+    for _ in rt.forever() {
+        let attempt = match shared.next_builder_turn(rt) {
+            BuilderTurn::End => break,
+            BuilderTurn::Rest => Attempt::Done,
+            BuilderTurn::Build { durable } => shared.build(rt, plan, durable),
+        };
+        if !misses.goes_on(attempt) {
+            break;
+        }
+    }
+    shared.end_builder(rt);
+}

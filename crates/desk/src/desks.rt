@@ -1,0 +1,175 @@
+ghost use Rattle.std.specs.Prelude.{◌≡◌, ◌≤◌, ℕ, true, List, IfOk, IfErr};
+ghost use Rattle.std.specs.Option.{ForSome};
+ghost use Rattle.rows.specs.Kept.{IsWidth};
+ghost use Rattle.store.specs.State.{CameTidy, is_calm};
+ghost use Rattle.machine.specs.Laws.{IsAt};
+ghost use Rattle.office.specs.Left.{KeepsDesk};
+ghost use Rattle.desk.specs.Openings.{IsNewDesk};
+
+use crate::building::build_views;
+use crate::flushing::flush_pending;
+use crate::gates::Gate;
+use crate::plans::Plan;
+use crate::readers::Reader;
+use crate::shared::Shared;
+use crate::threads::{Started, start_threads};
+use disk::Disk;
+use history::History;
+use office::{Closed, Naming, Office, Receipt, Ticket};
+use published::Shown;
+use roadnet::{Command, Refusal};
+use std::alloc::Global;
+use std::sync::{Arc, Wait};
+use std::thread::{JoinHandle, Threads};
+use store::Store;
+
+/// How a desk builds its views.
+#[derive(Clone, Copy, Debug, PartialEq, Eq)]
+pub struct Setup {
+    /// The width of the buckets of searches, 1 to 2147483647; where none is given it is each network's default.
+    pub delta: Option<u32>,
+    /// How many row workers there are, 1 to 64.
+    pub workers: u32,
+}
+
+/// Starts the flusher and the builder of a desk. Where the system gives no thread (63), none runs.
+fn start_both<
+    N: Naming + Send + Sync + 'static,
+    D: Disk + Drop + Send + 'static,
+    G: Gate + Drop + Send + Sync + 'static,
+    R: Threads + Wait + Copy + Send + Sync + 'static,
+>(rt: R, shared: &Arc<Shared<Office<N, D>, G>>, plan: Plan) -> Result<Started, Refusal> {
+    start_threads(
+        rt,
+        shared,
+        |rt: R, shared: Arc<Shared<Office<N, D>, G>>| flush_pending(&rt, &shared),
+        move |rt: R, shared: Arc<Shared<Office<N, D>, G>>| build_views(&rt, &shared, &plan),
+    )
+}
+
+/// A store that is served: commands are taken from any thread, made durable by one, and shown by another.
+#[derive(Drop)]
+pub struct Desk<N: Naming, D: Disk, G, R> {
+    rt: R,
+    alloc: Global,
+    shared: Arc<Shared<Office<N, D>, G>>,
+    flusher: JoinHandle<()>,
+    builder: JoinHandle<()>,
+}
+
+impl<
+    N: Naming + Send + Sync + 'static,
+    D: Disk + Drop + Send + 'static,
+    G: Gate + Drop + Send + Sync + 'static,
+    R: Threads + Wait + Copy + Send + Sync + 'static,
+> Desk<N, D, G, R> {
+    /// Serves a store that is not broken, with the history of a new desk. The first view is built by this call, without a call of the gate.
+    ///
+    /// Refused is want of memory (11) and of threads (63); the store is dropped then, and no thread runs.
+    pub fn start(
+        rt: R,
+        alloc: Global,
+        history: History,
+        store: Store<D>,
+        gate: G,
+        setup: Setup,
+    ) -> Result<Desk<N, D, G, R>, Refusal>
+        requires calm { is_calm store ≡ true }
+        requires width { ForSome setup.delta IsWidth }
+        requires workers { (1 ≤ setup.workers) × (setup.workers ≤ 64) }
+        requires new { IsNewDesk N.origin history store }
+        requires came_tidy { N.came_tidy → CameTidy D.honest D.content store.given }
+    {
+        let Ok(office) = Office::new(&rt, alloc, history, store, setup.delta) else {
+            return Err(Refusal::OutOfMemory);
+        };
+        let Ok(shared) = Arc::new(alloc, Shared::new(office, gate)) else {
+            return Err(Refusal::OutOfMemory);
+        };
+        let plan = Plan {
+            alloc,
+            delta: setup.delta,
+            workers: setup.workers,
+        };
+        let Started { flusher, builder } = start_both(rt, &shared, plan)?;
+        Ok(Desk {
+            rt,
+            alloc,
+            shared,
+            flusher,
+            builder,
+        })
+    }
+
+    /// Accepts the command as the next number, and gives a ticket for it. It is not acknowledged yet.
+    ///
+    /// Refused is a desk that is halted (61), then what the keeper refuses.
+    pub fn submit(&self, command: Command) -> Result<Ticket, Refusal>
+        ensures origin { IfOk result (λ ticket. ticket.origin ≡ N.origin) }
+        ensures command { IfOk result (λ ticket. ticket.ticket.command ≡ command) }
+    {
+        self.shared.submit(&self.rt, command)
+    }
+
+    /// Waits until the ticket's command is durable: no stop takes it back then. The receipt is for the ticket's number and command.
+    ///
+    /// Refused is a store that broke before that (45), and a desk whose flusher ended before that (61). The ticket is handed back then.
+    pub fn settle(&self, ticket: Ticket) -> Result<Receipt, (Refusal, Ticket)>
+        requires { ticket.origin ≡ N.origin }
+        ensures receipt { IfOk result (λ receipt. receipt ≡ ticket) }
+        ensures handed_back { IfErr result (λ refused. refused.1 ≡ ticket) }
+    {
+        self.shared.settle(&self.rt, ticket)
+    }
+
+    /// Waits until a view is shown that has the ticket's command, and tells the commands after which it is shown.
+    ///
+    /// Refused is a store that broke before the command was durable (45), and a desk whose builder ended before that (61).
+    pub fn wait_shown(&self, ticket: &Ticket) -> Result<Shown, Refusal>
+        requires { ticket.now.origin ≡ N.origin }
+        ensures origin { IfOk result (λ shown. shown.origin ≡ N.origin) }
+        ensures there { IfOk result (λ shown. IsAt N.origin.version shown.commands ticket.now.ticket) }
+    {
+        self.shared.wait_shown(&self.rt, ticket)
+    }
+
+    /// A reader of the views that are shown.
+    ///
+    /// Refused is a place for it that is not found (60): there are 64, and while readers come and go a free one may be missed. Then want of
+    /// memory (11).
+    pub fn reader(&self) -> Result<Reader<N>, Refusal> {
+        let reader = self.shared.reader(&self.rt)?;
+        Reader::new(self.alloc, reader)
+    }
+
+    /// No command is taken any more: the flusher makes durable what is pending, the builder shows the last view, and both end. It takes no
+    /// memory.
+    pub fn halt(&self) {
+        self.shared.halt(&self.rt)
+    }
+
+    /// Halts the desk, waits for its threads, and hands out what it leaves: the history, what was shown last, and the disk. Its readers can't
+    /// look any more.
+    ///
+    /// Refused (61) is a state that can't be taken from the lock, and a history that was closed by another; neither comes.
+    pub fn close(self) -> Result<Closed<D>, Refusal>
+        ensures origin { IfOk result (λ closed. closed.whole.origin ≡ N.origin) }
+        // What a stop may leave of the disk stands for the network after a beginning of the history, with all that was acknowledged or shown.
+        ensures left { N.came_tidy → IfOk result (λ closed. (pages : ℕ) × ((c : List ℕ) → D.left closed.disk c → KeepsDesk closed.whole closed.shown pages c)) }
+    {
+        self.halt();
+        let Desk {
+            rt,
+            alloc: _,
+            shared,
+            flusher,
+            builder,
+        } = self;
+        flusher.join(&rt);
+        builder.join(&rt);
+        let Some(shared) = Arc::into_inner(shared) else {
+            return Err(Refusal::Closed);
+        };
+        shared.into_office().close(&rt)
+    }
+}

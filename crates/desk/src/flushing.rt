@@ -1,0 +1,78 @@
+// The flusher: the thread that makes commands durable and writes checkpoints.
+use crate::attempts::{Attempt, Misses, attempt_of};
+use crate::gates::Gate;
+use crate::locked::FlusherTurn;
+use crate::shared::Shared;
+use disk::Disk;
+use office::{Naming, Office};
+use std::sync::Wait;
+use store::Part;
+
+/// How many pages a step of a checkpoint writes.
+const PAGES_OF_STEP: u32 = 64;
+
+impl<N: Naming, D: Disk + Drop, G: Gate + Drop> Shared<Office<N, D>, G> {
+    /// A flush, unless the gate holds it up.
+    fn flush<R: Wait>(&self, rt: &R, durable: u64) -> Attempt {
+        if !self.gate.before_flush(durable) {
+            return Attempt::NoMemory;
+        }
+        let flushed = self.lock(rt).office.flush();
+        self.flushed.notify_all();
+        match flushed {
+            Ok(_) => Attempt::Done,
+            Err(refusal) => attempt_of(refusal),
+        }
+    }
+
+    /// A step of a checkpoint, unless the gate holds it up: of the one that is going, which holds this version, or else of one that begins.
+    fn step<R: Wait>(&self, rt: &R, going: &mut Option<u64>, durable: u64) -> Attempt {
+        let version = match *going {
+            Some(version) => version,
+            None => durable,
+        };
+        if !self.gate.before_step(version) {
+            return Attempt::NoMemory;
+        }
+        let part = self.lock(rt).office.checkpoint_step(PAGES_OF_STEP);
+        match part {
+            Ok(Part::Going) => {
+                *going = Some(version);
+                Attempt::Done
+            }
+            Ok(Part::Done(_)) => {
+                *going = None;
+                Attempt::Done
+            }
+            Err(refusal) => attempt_of(refusal),
+        }
+    }
+}
+
+/// What the flusher does until it ends.
+pub(crate) fn flush_pending<N: Naming, D: Disk + Drop, G: Gate + Drop, R: Wait>(
+    rt: &R,
+    shared: &Shared<Office<N, D>, G>,
+) {
+    let mut misses = Misses::none();
+    let mut has_flushed = false;
+    let mut going = None;
+    for _ in rt.forever() {
+        let attempt = match shared.next_flusher_turn(rt, has_flushed) {
+            FlusherTurn::End => break,
+            FlusherTurn::Rest => Attempt::Done,
+            FlusherTurn::Flush { durable } => {
+                has_flushed = true;
+                shared.flush(rt, durable)
+            }
+            FlusherTurn::Checkpoint { durable } => {
+                has_flushed = false;
+                shared.step(rt, &mut going, durable)
+            }
+        };
+        if !misses.goes_on(attempt) {
+            break;
+        }
+    }
+    shared.end_flusher(rt);
+}

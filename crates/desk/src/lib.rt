@@ -1,0 +1,25 @@
+//! The desk of a store: an office under a lock, a thread that makes commands durable, a thread that builds views, and readers that wait
+//! for neither.
+#![tactic(auto)]
+
+mod attempts;
+mod building;
+mod desks;
+mod flushing;
+mod gates;
+mod locked;
+mod pins;
+mod plans;
+mod readers;
+mod row_workers;
+mod shared;
+mod sights;
+mod threads;
+
+pub use desks::{Desk, Setup};
+pub use gates::{Gate, NoGate};
+pub use history::History;
+pub use office::{Closed, Naming, Receipt, Ticket};
+pub use pins::Pinned;
+pub use published::Shown;
+pub use readers::Reader;

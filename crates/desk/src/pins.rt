@@ -1,0 +1,77 @@
+ghost use Rattle.std.specs.Prelude.{◌≡◌, IfOk};
+ghost use Rattle.rows.specs.declared.queries.Query.TheVariants.{Dist, From, Lower};
+ghost use Rattle.rows.specs.Replies.{IsRight};
+ghost use Rattle.rows.specs.Views.{AreRight};
+
+use crate::readers::Reader;
+use office::Naming;
+use roadnet::OutOfMemory;
+use rows::Reply;
+use std::alloc::Global;
+use std::thread::Threads;
+
+/// A reader that looked at a view and is asked queries of it. As long as it is lent, it looks at no other.
+#[derive(Drop)]
+pub struct Pinned<'a, N: Naming> {
+    reader: &'a mut Reader<N>,
+}
+
+impl<'a, N: Naming> Pinned<'a, N> {
+    pub(crate) fn new(reader: &'a mut Reader<N>) -> Pinned<'a, N>
+        ensures reader { result.reader.now ≡ reader.old }
+        ensures same { result.reader.ghost_name ≡ reader.entry.ghost_name }
+    {
+        Pinned { reader }
+    }
+
+    /// The version of the view. It takes no memory.
+    pub fn version(&self) -> u64
+        ensures { result ≡ self.now.reader.now.view.version }
+    {
+        self.reader.sight().version()
+    }
+
+    /// The reply to `From`, by the landmark's row. It takes no memory.
+    pub fn from_landmark(&self, landmark: u64, target: u64) -> Reply
+        ensures { IsRight self.now.reader.now.view.network (From landmark target) result }
+    {
+        self.reader.sight().from_landmark(landmark, target)
+    }
+
+    /// The reply to `Lower`, by the rows of all landmarks. It takes no memory.
+    pub fn lower(&self, source: u64, target: u64) -> Reply
+        ensures { IsRight self.now.reader.now.view.network (Lower source target) result }
+    {
+        self.reader.sight().lower(source, target)
+    }
+
+    /// The reply to `Dist`, by a row that the reader keeps or a new one. The one error is want of memory for a new row.
+    pub fn dist<R: Threads>(
+        &mut self,
+        rt: &R,
+        alloc: Global,
+        source: u64,
+        target: u64,
+    ) -> Result<Reply, OutOfMemory>
+        ensures right { IfOk result (IsRight self.old.reader.now.view.network (Dist source target)) }
+        ensures view { self.new.reader.now ≡ self.old.reader.now }
+        ensures same { self.new.reader.ghost_name ≡ self.old.reader.ghost_name }
+    {
+        self.reader.dist(rt, alloc, source, target)
+    }
+
+    /// The replies to `Dist` for pairs of a source and a target, in their order. The one error is want of memory, for 16 bytes a pair and a
+    /// row.
+    pub fn batch<R: Threads>(
+        &mut self,
+        rt: &R,
+        alloc: Global,
+        pairs: &[(u64, u64)],
+    ) -> Result<Vec<Reply>, OutOfMemory>
+        ensures right { IfOk result (λ replies. AreRight self.old.reader.now.view.network pairs.now replies.items) }
+        ensures view { self.new.reader.now ≡ self.old.reader.now }
+        ensures same { self.new.reader.ghost_name ≡ self.old.reader.ghost_name }
+    {
+        self.reader.batch(rt, alloc, pairs)
+    }
+}

@@ -1,0 +1,127 @@
+ghost use Rattle.std.specs.Prelude.{◌≡◌, ◌⊎◌, OnErr, IfOk};
+ghost use mathlib.Core.List.{IsPrefix};
+ghost use Rattle.rows.specs.declared.queries.Query.TheVariants.{Dist};
+ghost use Rattle.rows.specs.Replies.{IsRight};
+ghost use Rattle.rows.specs.Views.{AreRight};
+ghost use Rattle.desk.specs.Readings.{Reading, IsViewAfter};
+
+use crate::pins::Pinned;
+use crate::sights::Sight;
+use office::Naming;
+use published::Shown;
+use roadnet::{OutOfMemory, Refusal};
+use rows::Reply;
+use std::alloc::Global;
+use std::marker::{Model, PhantomData};
+use std::thread::Threads;
+
+/// A reader of the views that a desk shows. It takes no lock and waits for nobody. Contracts see it as the commands that it has seen or was
+/// told of, with the view that it looked at last. It keeps up to 16 rows of that view, of 8 bytes a node.
+#[derive(Drop)]
+pub struct Reader<N: Naming> {
+    reader: published::Reader,
+    sight: Sight,
+    of: PhantomData<N>,
+}
+
+impl<N: Naming> Model for Reader<N> {
+    ghost use Rattle.std.specs.Prelude.{◌≡◌};
+    ghost use Rattle.desk.specs.Readings.{Reading, HasSeen};
+
+    ghost Value = { Reading };
+
+    ghost view = { λ r. record { known = r.reader; view = r.sight } };
+
+    ghost invariant = { λ r. (r.reader.origin ≡ N.origin) × HasSeen (record { known = r.reader; view = r.sight }) };
+}
+
+impl<N: Naming> Reader<N> {
+    /// A reader that looks for the first time.
+    pub(crate) fn new(alloc: Global, mut reader: published::Reader) -> Result<Reader<N>, Refusal>
+        requires { reader.origin ≡ N.origin }
+    {
+        let view = reader.look()?;
+        Ok(Reader {
+            reader,
+            sight: Sight::new(alloc, view),
+            of: PhantomData,
+        })
+    }
+
+    /// Looks at the view that is shown. The commands after which it stands begin with all that the reader has seen and was told of, and the
+    /// reader has then seen them.
+    ///
+    /// Refused is a share of the view for which there is no room (11), and a desk that is closed (61). Then nothing has changed.
+    pub fn look(&mut self) -> Result<(), Refusal>
+        ensures view { IfOk result (λ _. IsViewAfter N.origin self.new.known.commands self.new.view) }
+        ensures begins { IsPrefix self.old.known.commands self.new.known.commands }
+        ensures refused { OnErr result (self.new ≡ self.old) }
+    {
+        let view = self.reader.look()?;
+        self.sight.look_at(view);
+        Ok(())
+    }
+
+    /// The view that it looked at last, for queries.
+    pub fn pinned(&mut self) -> Pinned<'_, N>
+        ensures reader { result.reader.now ≡ self.old }
+        ensures same { result.reader.ghost_name ≡ self.entry.ghost_name }
+    {
+        Pinned::new(self)
+    }
+
+    /// Looks at the view that is shown, as `look` does, and lends the reader for queries of it.
+    pub fn pin(&mut self) -> Result<Pinned<'_, N>, Refusal>
+        ensures view { IfOk result (λ pinned. IsViewAfter N.origin pinned.reader.now.known.commands pinned.reader.now.view) }
+        ensures begins { IfOk result (λ pinned. IsPrefix self.old.known.commands pinned.reader.now.known.commands) }
+        ensures same { IfOk result (λ pinned. pinned.reader.ghost_name ≡ self.entry.ghost_name) }
+    {
+        self.look()?;
+        Ok(self.pinned())
+    }
+
+    /// Takes in what was shown: the reader knows the longer of both lists of commands, which the other begins.
+    pub fn learn(&mut self, shown: &Shown)
+        requires { shown.now.origin ≡ N.origin }
+        ensures one { (self.new.known ≡ self.old.known) ⊎ (self.new.known ≡ shown.now) }
+        ensures this { IsPrefix self.old.known.commands self.new.known.commands }
+        ensures that { IsPrefix shown.now.commands self.new.known.commands }
+        ensures view { self.new.view ≡ self.old.view }
+    {
+        self.reader.learn(shown);
+    }
+
+    /// The view that it looked at last, with its rows.
+    pub(crate) fn sight(&self) -> &Sight
+        ensures { result.now ≡ self.now.view }
+    {
+        &self.sight
+    }
+
+    /// The reply to `Dist` in the view that it looked at last.
+    pub(crate) fn dist<R: Threads>(
+        &mut self,
+        rt: &R,
+        alloc: Global,
+        source: u64,
+        target: u64,
+    ) -> Result<Reply, OutOfMemory>
+        ensures right { IfOk result (IsRight self.old.view.network (Dist source target)) }
+        ensures same { self.new ≡ self.old }
+    {
+        self.sight.dist(rt, alloc, source, target)
+    }
+
+    /// The replies to `Dist` for pairs in the view that it looked at last.
+    pub(crate) fn batch<R: Threads>(
+        &mut self,
+        rt: &R,
+        alloc: Global,
+        pairs: &[(u64, u64)],
+    ) -> Result<Vec<Reply>, OutOfMemory>
+        ensures right { IfOk result (λ replies. AreRight self.old.view.network pairs.now replies.items) }
+        ensures same { self.new ≡ self.old }
+    {
+        self.sight.batch(rt, alloc, pairs)
+    }
+}

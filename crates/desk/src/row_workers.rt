@@ -1,0 +1,136 @@
+// The rows of a network's landmarks, made by several threads at once.
+ghost use Rattle.std.specs.Prelude.{◌≡◌, ◌≤◌, ◌<◌, IfOk, Ok, map, drop, length, slice_index};
+ghost use Rattle.snapshot.specs.Groups.{IsSnapshotOf};
+ghost use Rattle.rows.specs.Views.{AreLandmarkRows, IsRowAt};
+ghost use Rattle.desk.specs.Shares.{share_of, AreRowsOf, AreDealt};
+
+use crate::gates::Gate;
+use relax::{CHUNK, Crew};
+use roadnet::{Network, OutOfMemory};
+use rows::Row;
+use snapshot::Snapshot;
+use std::alloc::Global;
+use std::collections::VecDeque;
+use std::thread::{self, Threads};
+
+/// A version whose rows are wanted, and by how many workers.
+#[derive(Clone, Copy)]
+pub(crate) struct RowJob<'a, G> {
+    pub(crate) alloc: Global,
+    pub(crate) gate: &'a G,
+    pub(crate) version: u64,
+    pub(crate) network: &'a Network,
+    pub(crate) snapshot: &'a Snapshot,
+    pub(crate) workers: u32,
+}
+
+impl<G: Gate> RowJob<'_, G> {
+    /// The rows of one worker's landmarks, in their order: of so many workers, the one of this number, from 0 on, has the landmark at
+    /// that place and each `workers`-th behind it.
+    fn rows_of<R: Threads>(&self, rt: &R, worker: u32) -> Result<VecDeque<Row>, OutOfMemory>
+        requires snapshot { IsSnapshotOf self.now.network.now self.now.snapshot.now }
+        requires worker { worker < self.now.workers }
+        requires few { self.now.workers ≤ 64 }
+        ensures { IfOk result (λ rows. AreRowsOf self.now.version self.now.network.now (share_of self.now.workers worker self.now.network.now.landmarks) rows.items) }
+    {
+        let crew = Crew::new(rt, CHUNK);
+        let mut rows = VecDeque::new(self.alloc);
+        let mut passed = worker;
+        for landmark in self.network.landmarks() {
+            if passed > 0 {
+                passed -= 1;
+                continue;
+            }
+            passed = self.workers - 1;
+            self.gate.before_row(worker + 1, *landmark);
+            let row = match Row::build(self.alloc, self.version, self.snapshot, *landmark, &crew) {
+                Ok(row) => row,
+                Err(error) => return Err(error),
+            };
+            if rows.push_back(row).is_err() {
+                return Err(OutOfMemory);
+            }
+        }
+        Ok(rows)
+    }
+}
+
+/// The rows of all landmarks, in their order, each worker's in a thread of its own where the system gives one. The one error is want of
+/// memory.
+pub(crate) fn landmark_rows<G: Gate + Sync, R: Threads + Sync>(
+    rt: &R,
+    job: &RowJob<'_, G>,
+) -> Result<Vec<Row>, OutOfMemory>
+    requires snapshot { IsSnapshotOf job.now.network.now job.now.snapshot.now }
+    requires some { 1 ≤ job.now.workers }
+    requires few { job.now.workers ≤ 64 }
+    ensures { IfOk result (λ rows. AreLandmarkRows job.now.version job.now.network.now rows.items) }
+{
+    let workers = job.workers as usize;
+    let made = thread::map_indices(
+        rt,
+        job.alloc,
+        workers,
+        &|worker: usize| -> Result<VecDeque<Row>, OutOfMemory>
+            requires snapshot { IsSnapshotOf job.now.network.now job.now.snapshot.now }
+            requires worker { worker < job.now.workers }
+            requires few { job.now.workers ≤ 64 }
+            ensures { IfOk result (λ rows. AreRowsOf job.entry.now.version job.entry.now.network.now (share_of job.entry.now.workers worker job.entry.now.network.now.landmarks) rows.items) }
+        { job.rows_of(rt, worker as u32) },
+    );
+    match made {
+        Ok(made) => gather(job, all_made(job.alloc, made)?),
+        Err(_) => Err(OutOfMemory),
+    }
+}
+
+/// All values, in their order, where each was made.
+fn all_made<T: Drop>(
+    alloc: Global,
+    made: Vec<Result<T, OutOfMemory>>,
+) -> Result<VecDeque<T>, OutOfMemory>
+    ensures { IfOk result (λ values. made.items ≡ map Ok values.items) }
+{
+    let mut values = VecDeque::new(alloc);
+    for value in made {
+        if values.push_back(value?).is_err() {
+            return Err(OutOfMemory);
+        }
+    }
+    Ok(values)
+}
+
+/// The row of the first of the landmarks that are left, out of the rows that the workers have left. The next worker is the first then.
+fn next_row<G>(job: &RowJob<'_, G>, left: &[u32], parts: &mut VecDeque<VecDeque<Row>>) -> Row
+    requires some { 0 < length left.now }
+    requires dealt { AreDealt job.now.version job.now.network.now job.now.workers left.now (map (λ rows. rows.items) parts.old.items) }
+    requires workers { 1 ≤ job.now.workers }
+    ensures landmark { result.landmark ≡ slice_index left.now 0 }
+    ensures right { IsRowAt job.now.version job.now.network.now result }
+    ensures dealt { AreDealt job.now.version job.now.network.now job.now.workers (drop 1 left.now) (map (λ rows. rows.items) parts.new.items) }
+{
+    let mut part = parts.pop_front().unwrap();
+    let row = part.pop_front().unwrap();
+    parts.push_back_reserved(part);
+    row
+}
+
+/// The rows of all landmarks, in their order, out of those of each worker.
+fn gather<G>(
+    job: &RowJob<'_, G>,
+    mut parts: VecDeque<VecDeque<Row>>,
+) -> Result<Vec<Row>, OutOfMemory>
+    requires dealt { AreDealt job.now.version job.now.network.now job.now.workers job.now.network.now.landmarks (map (λ rows. rows.items) parts.items) }
+    requires workers { 1 ≤ job.now.workers }
+    ensures { IfOk result (λ rows. AreLandmarkRows job.now.version job.now.network.now rows.items) }
+{
+    let landmarks = job.network.landmarks();
+    let mut rows = match Vec::with_capacity(job.alloc, landmarks.len()) {
+        Ok(rows) => rows,
+        Err(_) => return Err(OutOfMemory),
+    };
+    for place in 0..landmarks.len() {
+        rows.push_reserved(next_row(job, &landmarks[place..], &mut parts));
+    }
+    Ok(rows)
+}

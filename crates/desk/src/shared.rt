@@ -1,0 +1,160 @@
+// What the threads of a desk and its callers share.
+ghost use Rattle.std.specs.Prelude.{◌≡◌, IfOk, IfErr};
+ghost use Rattle.machine.specs.Laws.{IsAt};
+
+use crate::gates::Gate;
+use crate::locked::{BuilderTurn, FlusherTurn, Locked};
+use disk::Disk;
+use office::{Naming, Office, Receipt, Ticket};
+use published::{Reader, Shown};
+use roadnet::{Command, Refusal};
+use std::sync::{Condvar, Mutex, MutexGuard, Wait};
+
+/// The lock, and what is waited for.
+#[derive(Drop)]
+pub(crate) struct Shared<O, G> {
+    pub(crate) locked: Mutex<Locked<O>>,
+    /// A command was submitted, or the desk was halted: the flusher waits for it.
+    pub(crate) submitted: Condvar,
+    /// Commands became durable, or the flusher ended: the builder and those that settle wait for it.
+    pub(crate) flushed: Condvar,
+    /// A view was shown, or a thread ended: those that wait for a view do so by it.
+    pub(crate) published: Condvar,
+    pub(crate) gate: G,
+}
+
+impl<N: Naming, D: Disk + Drop, G: Gate + Drop> Shared<Office<N, D>, G> {
+    /// Takes the lock.
+    pub(crate) fn lock<R: Wait>(&self, rt: &R) -> MutexGuard<'_, Locked<Office<N, D>>> {
+        self.locked.lock(rt)
+    }
+
+    /// Waits until the flusher has something to do, and tells it.
+    pub(crate) fn next_flusher_turn<R: Wait>(&self, rt: &R, has_flushed: bool) -> FlusherTurn {
+        let guard = self.submitted.wait_while(
+            rt,
+            self.locked.lock(rt),
+            |locked: &mut Locked<Office<N, D>>| locked.flusher_turn(has_flushed)
+                == FlusherTurn::Rest,
+        );
+        guard.flusher_turn(has_flushed)
+    }
+
+    /// Waits until the builder has something to do, and tells it.
+    pub(crate) fn next_builder_turn<R: Wait>(&self, rt: &R) -> BuilderTurn {
+        let guard = self.flushed.wait_while(
+            rt,
+            self.locked.lock(rt),
+            |locked: &mut Locked<Office<N, D>>| locked.builder_turn() == BuilderTurn::Rest,
+        );
+        guard.builder_turn()
+    }
+
+    /// Takes a command, unless the desk is halted.
+    pub(crate) fn submit<R: Wait>(&self, rt: &R, command: Command) -> Result<Ticket, Refusal>
+        ensures origin { IfOk result (λ ticket. ticket.origin ≡ N.origin) }
+        ensures command { IfOk result (λ ticket. ticket.ticket.command ≡ command) }
+    {
+        let mut guard = self.locked.lock(rt);
+        if guard.halted {
+            return Err(Refusal::Closed);
+        }
+        let ticket = guard.office.submit(command)?;
+        drop(guard);
+        self.submitted.notify_one();
+        Ok(ticket)
+    }
+
+    /// Waits until the ticket's command is durable, or won't be.
+    pub(crate) fn settle<R: Wait>(
+        &self,
+        rt: &R,
+        ticket: Ticket,
+    ) -> Result<Receipt, (Refusal, Ticket)>
+        requires { ticket.origin ≡ N.origin }
+        ensures receipt { IfOk result (λ receipt. receipt ≡ ticket) }
+        ensures handed_back { IfErr result (λ refused. refused.1 ≡ ticket) }
+    {
+        let number = ticket.ticket().number;
+        let mut guard = self.flushed.wait_while(
+            rt,
+            self.locked.lock(rt),
+            |locked: &mut Locked<Office<N, D>>| locked.is_unsettled(number),
+        );
+        guard.settle(ticket)
+    }
+
+    /// Waits until a view is shown that has the ticket's command, or none will be.
+    pub(crate) fn wait_shown<R: Wait>(&self, rt: &R, ticket: &Ticket) -> Result<Shown, Refusal>
+        requires { ticket.now.origin ≡ N.origin }
+        ensures origin { IfOk result (λ shown. shown.origin ≡ N.origin) }
+        ensures there { IfOk result (λ shown. IsAt N.origin.version shown.commands ticket.now.ticket) }
+    {
+        let number = ticket.ticket().number;
+        let guard = self.published.wait_while(
+            rt,
+            self.locked.lock(rt),
+            |locked: &mut Locked<Office<N, D>>| locked.is_unseen(number),
+        );
+        guard.shown_since(ticket)
+    }
+
+    /// A reader of the readers' copy.
+    pub(crate) fn reader<R: Wait>(&self, rt: &R) -> Result<Reader, Refusal>
+        ensures { IfOk result (λ reader. reader.origin ≡ N.origin) }
+    {
+        self.locked.lock(rt).office.reader()
+    }
+}
+
+impl<O, G> Shared<O, G> {
+    /// The lock, and nothing has happened.
+    pub(crate) fn new(office: O, gate: G) -> Shared<O, G> {
+        Shared {
+            locked: Mutex::new(Locked::new(office)),
+            submitted: Condvar::new(),
+            flushed: Condvar::new(),
+            published: Condvar::new(),
+            gate,
+        }
+    }
+
+    /// No command is taken any more.
+    pub(crate) fn halt<R: Wait>(&self, rt: &R) {
+        self.locked.lock(rt).halted = true;
+        self.submitted.notify_all();
+    }
+
+    /// The flusher has ended.
+    pub(crate) fn end_flusher<R: Wait>(&self, rt: &R) {
+        self.locked.lock(rt).flusher_ended = true;
+        self.flushed.notify_all();
+        self.published.notify_all();
+    }
+
+    /// The builder has ended.
+    pub(crate) fn end_builder<R: Wait>(&self, rt: &R) {
+        self.locked.lock(rt).builder_ended = true;
+        self.published.notify_all();
+    }
+}
+
+impl<O: Drop, G: Drop> Shared<O, G> {
+    /// What the lock protects.
+    pub(crate) fn into_office(self) -> O {
+        let Shared {
+            locked,
+            submitted: _,
+            flushed: _,
+            published: _,
+            gate: _,
+        } = self;
+        let Locked {
+            office,
+            halted: _,
+            flusher_ended: _,
+            builder_ended: _,
+        } = locked.into_inner();
+        office
+    }
+}

@@ -1,0 +1,52 @@
+// The two threads of a desk, started.
+use crate::shared::Shared;
+use roadnet::Refusal;
+use std::sync::{Arc, Wait};
+use std::thread::{self, JoinHandle, Threads};
+
+/// The flusher and the builder.
+#[derive(Drop)]
+pub(crate) struct Started {
+    pub(crate) flusher: JoinHandle<()>,
+    pub(crate) builder: JoinHandle<()>,
+}
+
+/// Starts two threads over what they share. Where the system gives no thread (63), none runs.
+///
+/// The office's type is a parameter here, of which nothing is known but that it may go to another thread.
+pub(crate) fn start_threads<
+    O: Send + Drop + 'static,
+    G: Send + Sync + Drop + 'static,
+    R: Threads + Wait + Copy + Send + Sync + 'static,
+    F: FnOnce(R, Arc<Shared<O, G>>) + Send + Drop + 'static,
+    B: FnOnce(R, Arc<Shared<O, G>>) + Send + Drop + 'static,
+>(rt: R, shared: &Arc<Shared<O, G>>, flush: F, build: B) -> Result<Started, Refusal>
+    requires flush { F.IsAlwaysCallable flush }
+    requires build { B.IsAlwaysCallable build }
+{
+    let Ok(of_flusher) = Arc::try_clone(shared) else {
+        return Err(Refusal::OutOfMemory);
+    };
+    let Ok(of_builder) = Arc::try_clone(shared) else {
+        return Err(Refusal::OutOfMemory);
+    };
+    let Ok(flusher) = thread::spawn(
+        &rt,
+        move ||
+            requires { F.IsAlwaysCallable flush }
+        { flush(rt, of_flusher) },
+    ) else {
+        return Err(Refusal::NoThread);
+    };
+    let Ok(builder) = thread::spawn(
+        &rt,
+        move ||
+            requires { B.IsAlwaysCallable build }
+        { build(rt, of_builder) },
+    ) else {
+        shared.halt(&rt);
+        flusher.join(&rt);
+        return Err(Refusal::NoThread);
+    };
+    Ok(Started { flusher, builder })
+}

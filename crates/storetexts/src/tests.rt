@@ -156,12 +156,7 @@ fn nothing_told_is_lost(rt: HostRuntime) -> Result<(), Refusal> {
     for call in 1..=45 {
         let (disk, _) = created(alloc, 1)?;
         let mut out = Vec::new(alloc);
-        let (outcome, disk) = apply_text(
-            alloc,
-            FailOnce::new(disk, call),
-            &text,
-            &mut out,
-        );
+        let (outcome, disk) = apply_text(alloc, FailOnce::new(disk, call), &text, &mut out);
         let version = version_on(alloc, disk.into_inner())?;
         let told = lines_of(&out);
         assert!(rt; told <= version && version <= 300, "call {call}");
@@ -343,12 +338,7 @@ fn counted_calls_write_their_bytes(rt: HostRuntime) -> Result<(), Refusal> {
     );
     assert!(rt; outcome == Ok(()));
     let mut commands = b"close 7\nclose 7\nset 8 4\n".as_slice();
-    let (outcome, disk) = apply_counted(
-        alloc,
-        disk,
-        &mut Counted::new(&mut commands),
-        &mut writer,
-    );
+    let (outcome, disk) = apply_counted(alloc, disk, &mut Counted::new(&mut commands), &mut writer);
     assert!(rt; outcome == Ok(()));
     let mut pair = PAIR;
     let (outcome, _) = ask_counted(
@@ -378,12 +368,7 @@ fn a_checkpoint_comes_for_a_full_journal_alone(rt: HostRuntime) -> Result<(), Re
         let text = repeated(alloc, count)?;
         let (disk, _) = created(alloc, journal_pages)?;
         let mut out = Vec::new(alloc);
-        let (outcome, _) = apply_text(
-            alloc,
-            FuseDisk::new(disk, calls),
-            &text,
-            &mut out,
-        );
+        let (outcome, _) = apply_text(alloc, FuseDisk::new(disk, calls), &text, &mut out);
         assert!(rt; outcome == Ok(()), "{count} commands");
         assert_eq!(rt; lines_of(&out), u64::from(count));
         let (disk, _) = created(alloc, journal_pages)?;

@@ -1,0 +1,60 @@
+#!/usr/bin/env python3
+"""A client of `roadmark serve`: closes an arc, waits until that is shown, asks, and reads refusals.
+
+    examples/client.py STORE        (made by: ./roadmark create six.store examples/six.gr examples/six.ss)
+"""
+import pathlib
+import subprocess
+import sys
+
+PROGRAM = pathlib.Path(__file__).resolve().parent.parent / "roadmark"
+
+class Refused(Exception):
+    """An answer `no CODE`."""
+
+class Session:
+    """A session with one server. One line is told, and its whole answer read, before the next one."""
+
+    def __init__(self, store):
+        self.server = subprocess.Popen([PROGRAM, "serve", store], stdin=subprocess.PIPE, stdout=subprocess.PIPE, text=True)
+
+    def tell(self, line):
+        self.server.stdin.write(line + "\n")
+        self.server.stdin.flush()
+        return self.hear()
+
+    def hear(self):
+        answer = self.server.stdout.readline().split()
+        if not answer:
+            raise EOFError(f"the server ended with status {self.server.wait()}")
+        if answer[0] == "no":
+            raise Refused(int(answer[1]))
+        return answer
+
+    def change(self, line):
+        return int(self.tell(line)[1])
+
+    def wait(self):
+        return int(self.tell("wait")[1])
+
+    def distance(self, source, target):
+        """The version, and the least length of a walk, or None where there is none."""
+        version = int(self.tell(f"dist {source} {target}")[1])
+        answer = self.hear()
+        return version, int(answer[3]) if answer[0] == "d" else None
+
+    def quit(self):
+        self.server.stdin.close()
+        return self.server.wait()
+
+session = Session(sys.argv[1])
+print("from 1 to 6 (version, length):", session.distance(1, 6))
+for line in ("close 7", "close 7"):
+    try:
+        print(f"{line}: durable as version", session.change(line))
+    except Refused as refused:
+        print(f"{line}: refused, code", refused)
+print("shown: version", session.wait())
+print("from 1 to 6 (version, length):", session.distance(1, 6))
+print("reopen 7: durable as version", session.change("reopen 7"))
+sys.exit(session.quit())

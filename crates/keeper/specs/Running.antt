@@ -1,5 +1,5 @@
 -- What the calls of a run do to it: it goes on with one event more, or ends.
-use Rattle.std.specs.Prelude.{◌≡◌, ◌⊎◌, ℕ, Bool, List, [], ◌∷◌, ◌++◌, Option, Some, Result, Err, IfOk, IfErr, MatchResult}
+use Rattle.std.specs.Prelude.{◌≡◌, ◌⊎◌, ℕ, Bool, List, [], ◌∷◌, ◌++◌, Option, Some, Result, IfOk, IfErr, MatchResult}
 use Rattle.roadnet.specs.declared.commands.Command.{Command}
 use Rattle.roadnet.specs.declared.refusals.Refusal.{Refusal}
 use Rattle.roadnet.specs.declared.refusals.Refusal.TheVariants.{OutOfMemory, Device}
@@ -9,8 +9,8 @@ use Rattle.disk.specs.declared.stoppable.Pick.{Pick}
 use Rattle.disk.specs.Stop.{TakesPicks}
 use Rattle.machine.specs.declared.events.Event.{Event}
 use Rattle.machine.specs.declared.events.Replied.{Replied}
+use Rattle.machine.specs.declared.events.Replied.TheVariants.{Refused}
 use Rattle.machine.specs.Machine.{Machine, IsState, commands_to}
-use Rattle.machine.specs.Lives.{told_version}
 use Rattle.keeper.specs.declared.rehearsing.Rehearsal.{Rehearsal}
 use Rattle.keeper.specs.declared.rehearsing.Run.{Run}
 use Rattle.keeper.specs.declared.halted.Halted.{Halted}
@@ -24,9 +24,9 @@ use Rattle.keeper.specs.Rehearsing.{First, HasPagesOfNetwork, IsGoing, HasLived,
 abbrev pub IsCut : {D : Type 0} → (D → List ℕ) → (D → ℕ → Bool) → (D → List ℕ) → List Pick → D → D → Type 0
 IsCut synced is_unsynced content picks old new = TakesPicks picks (synced old) (is_unsynced old) (content old) (content new)
 
--- the answer of a write is told, or it is the disk's failure and is not
-abbrev pub IsToldOrFailed : List Replied → Result ℕ Refusal → List Replied → Type 0
-IsToldOrFailed old written new = (new ≡ old ++ told_version written ∷ []) ⊎ ((written ≡ Err Device) × (new ≡ old))
+-- the reply to an event that writes is told, or it is the disk's failure and is not
+abbrev pub IsToldOrFailed : List Replied → Replied → List Replied → Type 0
+IsToldOrFailed old written new = (new ≡ old ++ written ∷ []) ⊎ ((written ≡ Refused Device) × (new ≡ old))
 
 -- want of memory, or the disk's failure
 abbrev pub IsPassingEnd : Option Refusal → Type 0

@@ -1,5 +1,5 @@
 // A script's events over lives with stops.
-ghost use Rattle.std.specs.Prelude.{◌≡◌, ◌+◌, ◌<◌, ◌≤◌, ◌∷◌, ◌++◌, [], ℕ, true, false, List, Option, None, Some, Result, Err, length, take, ◌-◌, ◌↔◌, IsTrue, IfOk, IfErr, OnOk, MatchResult};
+ghost use Rattle.std.specs.Prelude.{◌≡◌, ◌+◌, ◌<◌, ◌≤◌, ◌∷◌, ◌++◌, [], ℕ, true, false, List, Option, None, Some, Result, length, take, ◌-◌, ◌↔◌, IsTrue, IfOk, IfErr, OnOk, MatchResult};
 ghost use Rattle.std.specs.Option.{ForSome};
 ghost use Rattle.std.specs.Vec.{vec_len, vec_capacity};
 ghost use Rattle.disk.specs.Contents.{Only, AreAmong};
@@ -12,15 +12,14 @@ ghost use Rattle.store.specs.State.{CameTidy, is_calm};
 ghost use Rattle.store.specs.Opening.{IsPassing, StandsForSome};
 ghost use Rattle.machine.specs.declared.events.Event.{Event as ScriptEvent};
 ghost use Rattle.machine.specs.declared.events.Event.TheVariants.{Stop};
-ghost use Rattle.machine.specs.declared.events.Replied.TheVariants.{Opened, Stopped};
+ghost use Rattle.machine.specs.declared.events.Replied.TheVariants.{Refused, Opened, Stopped};
 ghost use Rattle.machine.specs.Machine.{Machine};
-ghost use Rattle.machine.specs.Lives.{told_version};
 ghost use Rattle.keeper.specs.Failures.{EndsAsTold};
 ghost use Rattle.keeper.specs.Rehearsing.{within_of, BeginsAfter, first_of};
 ghost use Rattle.keeper.specs.Running.{Continues, LeavesDurable, HasLivedTo, IsCut, IsToldOrFailed, IsPassingEnd, OfEachLeft, OfEachHalted, HasHaltedSo, FailsAtEnd, GoesOnWith, EndsWith, FailsWith};
 
 use crate::halted::Halted;
-use crate::lives::{Life, told_version};
+use crate::lives::Life;
 use disk::{Disk, Pick, Stoppable};
 use machine::{Event, Replied, Writing};
 use roadnet::{Command, Refusal};
@@ -83,18 +82,20 @@ fn stop_disk<D: Stoppable>(disk: &mut D, picks: &[Pick]) -> bool
     }
 }
 
-/// Tells what a flush or a checkpoint answered, unless the stop came within it.
-fn tell_write(replies: &mut Vec<Replied>, came: bool, written: &Result<u64, Refusal>)
+/// Tells the reply to an event that writes, unless the stop came within it.
+fn tell_write(replies: &mut Vec<Replied>, came: bool, written: Replied)
     requires { vec_len replies.old < vec_capacity replies.old }
-    ensures told { IsToldOrFailed replies.old.items written.now replies.new.items }
-    ensures behind { came ≡ false → replies.new.items ≡ replies.old.items ++ told_version written.now ∷ [] }
-    ensures within { came ≡ true → written.now ≡ Err device → replies.new.items ≡ replies.old.items }
+    ensures told { IsToldOrFailed replies.old.items written replies.new.items }
+    ensures behind { came ≡ false → replies.new.items ≡ replies.old.items ++ written ∷ [] }
+    ensures within { came ≡ true → written ≡ Refused device → replies.new.items ≡ replies.old.items }
     ensures room { vec_len replies.new ≤ vec_len replies.old + 1 }
     ensures capacity { vec_capacity replies.new ≡ vec_capacity replies.old }
 {
     match written {
-        Err(Refusal::Device) if came => {}
-        _ => replies.push_reserved(told_version(written)),
+        Replied::Refused {
+            refusal: Refusal::Device,
+        } if came => {}
+        _ => replies.push_reserved(written),
     }
 }
 
@@ -260,7 +261,7 @@ impl<D: Stoppable> Run<D> {
         halted.resume(rt, alloc)
     }
 
-    /// A stop within the write or sync of this number of a flush or a checkpoint, or behind that where it makes fewer.
+    /// A stop within the write or sync of this number of an event that writes, or behind that where it makes fewer.
     fn stop_within<R: Threads>(
         self,
         rt: &R,
@@ -284,7 +285,7 @@ impl<D: Stoppable> Run<D> {
         run.life.arm(call);
         let written = run.life.write(writing);
         let (mut halted, came) = run.halt(picks);
-        tell_write(&mut halted.replies, came, &written);
+        tell_write(&mut halted.replies, came, written);
         halted.resume(rt, alloc)
     }
 

@@ -1,5 +1,4 @@
 use Rattle.std.proofs.Common.{◌≡◌, ◌+◌, ◌≤◌, length, take}
-use Rattle.std.specs.Prelude.{option_map}
 use Rattle.std.specs.Vec.{vec_len, vec_capacity}
 use Rattle.disk.specs.declared.stoppable.Pick.{Pick}
 use Rattle.store.specs.State.{CameTidy}

@@ -15,30 +15,28 @@ const JOURNAL_PAGES: u32 = 3;
 /// How many rounds a run has: in each a `set` and a flush, in each second one a checkpoint.
 const ROUNDS: u64 = 40;
 
-/// The arcs of the network: tail, head and length.
-const ARCS: [(u32, u32, u32); 8] = [
-    (1, 2, 17),
-    (1, 3, 10),
-    (2, 4, 2),
-    (3, 5, 0),
-    (4, 3, 0),
-    (4, 6, 3),
-    (5, 2, 0),
-    (5, 6, 20),
-];
-
-/// A disk with a new store of the network.
-fn six(alloc: Global) -> Result<MemDisk, Refusal> {
-    let mut arcs = Vec::new(alloc);
-    for (tail, head, length) in ARCS {
-        arcs.push(RoadArc {
-            tail,
-            head,
-            length,
-            opened: true,
-        })?;
+fn arc(tail: u32, head: u32, length: u32) -> RoadArc {
+    RoadArc {
+        tail,
+        head,
+        length,
+        opened: true,
     }
-    let network = Network::new(alloc, 6, arcs, &[])?;
+}
+
+/// A disk with a new store of six nodes and eight arcs.
+fn six(alloc: Global) -> Result<MemDisk, Refusal> {
+    let arcs = [
+        arc(1, 2, 17),
+        arc(1, 3, 10),
+        arc(2, 4, 2),
+        arc(3, 5, 0),
+        arc(4, 3, 0),
+        arc(4, 6, 3),
+        arc(5, 2, 0),
+        arc(5, 6, 20),
+    ];
+    let network = Network::new(alloc, 6, Vec::from_slice(alloc, &arcs)?, &[])?;
     match create(alloc, MemDisk::new(alloc), &network, JOURNAL_PAGES) {
         Ok(store) => Ok(store.close()),
         Err((refusal, _)) => Err(refusal),

@@ -87,3 +87,8 @@ returns-clause-counted g c event within before done f =
     (stop_told event c.args.writing c.write-written.result self.replies.items c.tell_write.new.replies.items Stopped done before n then within other refl told f counted))
     ends)
     c.resume.ensures.counted c.resume.ensures.told c.resume.ensures.stopped
+
+pub returns-clause-cut : goal.returns-clause-cut
+returns-clause-cut g c event is tidy =
+    let came = subst (λ (d : g.row.D.Denot). CameTidy g.D.Disk.honest g.D.Disk.content d) (sym (c.write-written.ensures.given ∙ c.arm.ensures.given)) tidy in
+    rw is (c.write-written.new.self.keeper.disk, c.halt-halted.result.0.disk, c.halt-halted.ensures.cut came, c.resume.ensures.content (c.halt-halted.ensures.honest came))

@@ -1,5 +1,5 @@
 -- The failures of a disk that a run's replies tell, counted.
-use Rattle.std.proofs.Common.{◌≡◌, ◌⊎◌, ⊎_elim, ℕ, true, false, List, [], ◌∷◌, ◌++◌, Option, Some, Result, Ok, Err, refl, sym, ◌∙◌, ap, subst, append_assoc}
+use Rattle.std.proofs.Common.{◌≡◌, ◌⊎◌, ⊎_elim, ℕ, true, false, List, [], ◌∷◌, ◌++◌, Option, None, Some, Result, Ok, Err, refl, sym, ◌∙◌, ap, subst, append_assoc}
 use Rattle.std.specs.Prelude.{MatchResult, IfOk, IfErr}
 use Rattle.std.specs.List.{AllByRecursion}
 use Rattle.pagereader.specs.Outcomes.{failures_told}
@@ -8,13 +8,16 @@ use Rattle.roadnet.specs.declared.refusals.Refusal.TheVariants.{Device}
 use Rattle.machine.specs.declared.events.Event.{Event}
 use Rattle.machine.specs.declared.events.Event.TheVariants.{Submit, Flush, Checkpoint, CheckpointStep, Task, Publish, Ask, Stop, StopWithin}
 use Rattle.machine.specs.declared.events.Replied.{Replied}
+use Rattle.machine.specs.declared.events.Replied.TheVariants.{Refused}
 use Rattle.machine.specs.declared.events.Writing.{Writing}
-use Rattle.machine.specs.Lives.{Turn, told_version, told_part}
+use Rattle.machine.specs.declared.events.Writing.TheVariants.{Flush as a_flush, Checkpoint as a_checkpoint, Step as a_step}
+use Rattle.machine.specs.Machine.{Machine}
+use Rattle.machine.specs.Lives.{Turn, told_version, told_part, Writes}
 use Rattle.store.specs.declared.parts.Part.{Part}
 use Rattle.store.specs.declared.parts.Part.TheVariants.{Going, Done}
 use Rattle.keeper.specs.Parts.{told_as}
 use Rattle.machine.proofs.Rehearsing.{events_more, replies_more}
-use Rattle.keeper.specs.Failures.{is_of_stop, IsAnswered, failures_of_write, failures_of_stop, failures_after, failures_in, failures_at_end, FailsAsTold, EndsAsTold}
+use Rattle.keeper.specs.Failures.{is_of_stop, IsAnswered, failures_by, failures_of_stop, failures_after, failures_in, failures_at_end, FailsAsTold, EndsAsTold}
 use Rattle.keeper.specs.Rehearsing.{is_stop, within_of}
 
 -- clauses on one result, together
@@ -23,18 +26,14 @@ match_both (Ok x) A B X C F Y f g a b c = f x a b
 match_both (Err e) A B X C F Y f g a b c = g e a c
 
 -- a write's reply tells its failure
-pub told_by_write : (result : Result ℕ Refusal) (n : ℕ) → failures_told result n ≡ failures_of_write (told_version result ∷ []) n
-told_by_write (Ok v) n = refl
-told_by_write (Err e) n = refl
+pub told_by_write : (result : Result ℕ Refusal) (told : Replied) (n : ℕ) → told ≡ told_version result → failures_told result n ≡ failures_by told n
+told_by_write (Ok v) told n is = rw is refl
+told_by_write (Err e) told n is = rw is refl
 
-pub told_by_part : (result : Result Part Refusal) (told : Replied) (n : ℕ) → told ≡ told_part (told_as result) → failures_told result n ≡ failures_of_write (told ∷ []) n
+pub told_by_part : (result : Result Part Refusal) (told : Replied) (n : ℕ) → told ≡ told_part (told_as result) → failures_told result n ≡ failures_by told n
 told_by_part (Ok Going) told n is = rw is refl
 told_by_part (Ok (Done v)) told n is = rw is refl
 told_by_part (Err e) told n is = rw is refl
-
-pub told_behind : (result : Result ℕ Refusal) (last : Replied) (n : ℕ) → failures_told result n ≡ failures_of_stop (told_version result ∷ last ∷ []) n
-told_behind (Ok v) last n = refl
-told_behind (Err e) last n = refl
 
 -- ---- a run
 pub fails_none : {P : Type 0} (n : ℕ) → FailsAsTold {P = P} [] [] n n
@@ -81,6 +80,17 @@ no_stop : (result : Result ℕ Refusal) → is_of_stop (told_version result) ≡
 no_stop (Ok v) = refl
 no_stop (Err e) = refl
 
+no_stop_part : (result : Result (Option ℕ) Refusal) → is_of_stop (told_part result) ≡ false
+no_stop_part (Ok None) = refl
+no_stop_part (Ok (Some v)) = refl
+no_stop_part (Err e) = refl
+
+-- the reply to an event that writes is none of a stop
+pub no_stop_written : (w : Writing) (old new : Machine) (reply : Replied) → Writes old w reply new → is_of_stop reply ≡ false
+no_stop_written a_flush old new reply w = ap is_of_stop w.2 ∙ no_stop w.0
+no_stop_written a_checkpoint old new reply w = ap is_of_stop w.2 ∙ no_stop w.0
+no_stop_written (a_step pages) old new reply w = ap is_of_stop w.2 ∙ no_stop_part w.0
+
 one_of_stop : {P : Type 0} (e : Event P) (w : Writing) (last : Replied) → within_of e ≡ Some w → is_of_stop last ≡ true → IsAnswered e (last ∷ [])
 one_of_stop (StopWithin call picks w') w last is own = own
 one_of_stop (Submit c) w last is own = tt
@@ -125,16 +135,16 @@ by_stop Publish w is replies n = cc
 by_stop (Ask query) w is replies n = cc
 by_stop Stop w is replies n = cc
 
-pub stop_told : {P : Type 0} (e : Event P) (w : Writing) (result : Result ℕ Refusal) (replies replies' : List Replied) (last : Replied) (events : List (Event P)) (before mid now : ℕ) → within_of e ≡ Some w → is_of_stop last ≡ true
-    → (replies' ≡ replies ++ told_version result ∷ []) ⊎ ((result ≡ Err Device) × (replies' ≡ replies))
-    → FailsAsTold events replies before mid → now ≡ failures_told result mid → FailsAsTold (events ++ e ∷ []) (replies' ++ last ∷ []) before now
-stop_told e w result replies replies' last events before mid now is own told f counted =
+pub stop_told : {P : Type 0} (e : Event P) (w : Writing) (reply : Replied) (replies replies' : List Replied) (last : Replied) (events : List (Event P)) (before mid now : ℕ) → within_of e ≡ Some w
+    → is_of_stop reply ≡ false → is_of_stop last ≡ true → (replies' ≡ replies ++ reply ∷ []) ⊎ ((reply ≡ Refused Device) × (replies' ≡ replies))
+    → FailsAsTold events replies before mid → now ≡ failures_by reply mid → FailsAsTold (events ++ e ∷ []) (replies' ++ last ∷ []) before now
+stop_told e w reply replies replies' last events before mid now is other own told f counted =
     ⊎_elim
     (λ behind.
-    fails_as (events ++ e ∷ []) (replies ++ (told_version result ∷ last ∷ [])) (replies' ++ last ∷ []) before now
-    (ap (λ (rs : List Replied). rs ++ last ∷ []) behind ∙ append_assoc replies (told_version result ∷ []) (last ∷ []))
-    (fails_more events replies before mid now e (told_version result ∷ last ∷ []) f (two_of_stop e w (told_version result) last is (no_stop result) own) (counted ∙ (told_behind result last mid ∙ by_stop e w is (told_version result ∷ last ∷ []) mid))))
+    fails_as (events ++ e ∷ []) (replies ++ (reply ∷ last ∷ [])) (replies' ++ last ∷ []) before now
+    (ap (λ (rs : List Replied). rs ++ last ∷ []) behind ∙ append_assoc replies (reply ∷ []) (last ∷ []))
+    (fails_more events replies before mid now e (reply ∷ last ∷ []) f (two_of_stop e w reply last is other own) (counted ∙ by_stop e w is (reply ∷ last ∷ []) mid)))
     (λ cut.
     fails_as (events ++ e ∷ []) (replies ++ last ∷ []) (replies' ++ last ∷ []) before now (ap (λ (rs : List Replied). rs ++ last ∷ []) cut.1)
-    (fails_more events replies before mid now e (last ∷ []) f (one_of_stop e w last is own) (counted ∙ (ap (λ (r : Result ℕ Refusal). failures_told r mid) cut.0 ∙ by_stop e w is (last ∷ []) mid))))
+    (fails_more events replies before mid now e (last ∷ []) f (one_of_stop e w last is own) (counted ∙ (ap (λ (r : Replied). failures_by r mid) cut.0 ∙ by_stop e w is (last ∷ []) mid))))
     told

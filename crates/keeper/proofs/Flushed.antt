@@ -9,7 +9,7 @@ use Rattle.roadnet.specs.declared.refusals.Refusal.TheVariants.{OutOfMemory, Dev
 use Rattle.roadnet.specs.Net.{Net}
 use Rattle.roadnet.specs.Step.{after, first_refusal}
 use Rattle.storefile.specs.StoreFile.{StandsTidyFor}
-use Rattle.storefile.specs.Standing.{Standing, IsBeforeOrAfter}
+use Rattle.storefile.specs.Standing.{IsBeforeOrAfter}
 use Rattle.store.specs.Committing.{refusal_of_commit, MayRefuseCommit}
 use Rattle.store.specs.Going.{Progress, with_page_committed}
 use Rattle.keeper.specs.Keeping.{as_checkpoint}

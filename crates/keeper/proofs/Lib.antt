@@ -1,4 +1,5 @@
 pub mod Accepted
+pub mod Cut
 pub mod Failing
 pub mod Flushed
 pub mod Held

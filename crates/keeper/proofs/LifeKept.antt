@@ -9,8 +9,7 @@ use Rattle.roadnet.specs.Step.{after}
 use Rattle.machine.specs.declared.calls.Ticket.{Ticket}
 use Rattle.machine.specs.Machine.{Machine, IsState, network_at}
 use Rattle.machine.specs.Calls.{Submits, StepsCheckpoint, TakesTask, RefusesView, has_nothing_unchecked, checkpoint_of, with_part, with_pages_written, is_out, without_task}
-use Rattle.machine.specs.declared.events.Writing.TheVariants.{Checkpoint as a_checkpoint}
-use Rattle.machine.specs.Lives.{Writes}
+use Rattle.machine.specs.Lives.{Checkpoints}
 use Rattle.machine.specs.Runs.Happened.{Submitted, Checkpointed}
 use Rattle.machine.specs.Laws.{IsLater}
 use Rattle.machine.proofs.Checkpoints.{IsBut, but_step, but_checkpoint, state_checkpoint}
@@ -68,7 +67,7 @@ accepted_by_part m pages = go (has_nothing_unchecked m) (nat_lt pages (checkpoin
 pub life_step : (old new : Machine) (opened : ℕ) (aside : Option (ℕ × Net)) (pages : ℕ) (result : Result (Option ℕ) Refusal) → StepsCheckpoint old pages result new → IsLife old opened aside → IsLife new opened aside
 life_step old new opened aside pages result step k = life_but old new opened aside (but_step old new pages result step) (states_kept old new (Checkpointed pages result) k.state step) k
 
-pub life_checkpoint : (old new : Machine) (opened : ℕ) (aside : Option (ℕ × Net)) (result : Result ℕ Refusal) → Writes old a_checkpoint result new → IsLife old opened aside → IsLife new opened aside
+pub life_checkpoint : (old new : Machine) (opened : ℕ) (aside : Option (ℕ × Net)) (result : Result ℕ Refusal) → Checkpoints old result new → IsLife old opened aside → IsLife new opened aside
 life_checkpoint old new opened aside result written k = life_but old new opened aside (but_checkpoint old new result written) (state_checkpoint old new result written k.state) k
 
 -- ---- tasks and views

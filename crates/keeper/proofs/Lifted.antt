@@ -1,13 +1,12 @@
 -- A ledger's calls are a keeper's: with a view shown and a task out the machine takes the same step.
-use Rattle.std.proofs.Common.{◌≡◌, ◌⊎◌, ⊎_elim, inl, inr, ℕ, suc, zero, ◌+◌, Bool, true, false, cond, List, Option, Some, None, Result, Ok, Err, refl, ◌∙◌, ap}
+use Rattle.std.proofs.Common.{◌≡◌, ⊎_elim, inl, inr, ℕ, suc, zero, Bool, true, false, cond, List, Option, Some, None, Result, Ok, Err, refl, ◌∙◌, ap}
 use Rattle.std.specs.Prelude.{IfOk, IfErr, nat_lt}
 use Rattle.roadnet.specs.declared.commands.Command.{Command}
 use Rattle.roadnet.specs.declared.refusals.Refusal.{Refusal}
 use Rattle.machine.specs.declared.calls.Ticket.{Ticket}
-use Rattle.machine.specs.declared.events.Writing.TheVariants.{Checkpoint as a_checkpoint}
 use Rattle.machine.specs.Machine.{Machine, batch}
 use Rattle.machine.specs.Calls.{failed, Submits, Flushes, StepsCheckpoint, has_nothing_unchecked, checkpoint_of, with_part, with_pages_written}
-use Rattle.machine.specs.Lives.{GoesOn, EndsCheckpoint, Writes, pages_of_step}
+use Rattle.machine.specs.Lives.{GoesOn, EndsCheckpoint, Checkpoints, pages_of_step}
 use Rattle.keeper.specs.Keeping.{with_views, Holds, IsDurableIn, IsLeftByFlush}
 
 module _ (shown : ℕ) (task : Option ℕ) where
@@ -53,7 +52,7 @@ module _ (shown : ℕ) (task : Option ℕ) where
   lift_end old new (Ok version) h = lift_step old new pages_of_step (Ok (Some version)) h
   lift_end old new (Err refusal) h = lift_step old new pages_of_step (Err refusal) h
 
-  pub lift_checkpoint : (old new : Machine) (r : Result ℕ Refusal) → Writes old a_checkpoint r new → Writes (V old) a_checkpoint r (V new)
+  pub lift_checkpoint : (old new : Machine) (r : Result ℕ Refusal) → Checkpoints old r new → Checkpoints (V old) r (V new)
   lift_checkpoint old new r h = (h.0, V h.1, lift_going h.0 old h.1 h.2, lift_end h.1 new r h.3)
 
   -- ---- what the disk holds

@@ -18,11 +18,11 @@ use Rattle.machine.specs.declared.events.Writing.{Writing}
 use Rattle.machine.specs.declared.events.Event.{Event}
 use Rattle.machine.specs.declared.events.Event.TheVariants.{Submit, Flush, Checkpoint, CheckpointStep, Task, Publish, Ask, Stop, StopWithin}
 use Rattle.machine.specs.declared.events.Replied.{Replied}
-use Rattle.machine.specs.declared.events.Replied.TheVariants.{Opened, Stopped}
+use Rattle.machine.specs.declared.events.Replied.TheVariants.{Refused, Opened, Stopped}
 use Rattle.machine.specs.Machine.{Sizes, Machine, IsState, start, commands_to}
 use Rattle.machine.specs.Calls.{StopsAndOpens}
 use Rattle.machine.specs.LifeInRun.{within}
-use Rattle.machine.specs.Lives.{told_version, Writes, StopComes, Does, StopsFor, Lives, HoldsDurable}
+use Rattle.machine.specs.Lives.{Writes, StopComes, Does, StopsFor, Lives, HoldsDurable}
 use Rattle.machine.proofs.InRun.{holds_in, commands_in}
 use Rattle.machine.proofs.Rehearsing.{Ran, ran_more, lives_whole, lives_no_memory, lives_not_opened}
 use Rattle.keeper.specs.Rehearsing.{is_stop, within_of, First, HasRun, HasLived, HasPagesOfNetwork, BeginsAfter}
@@ -150,21 +150,21 @@ module _ {P : Type 0} (first : First) (events : List (Event P)) (replies : List 
     }
 
     -- the disk stops within the event, or behind it
-    pub cut_within : (w : Writing) (final : Replied) → Writes m w (Err Device) mid → IsState m → StopComes (in_run m) w (final ∷ []) final (in_run mid)
-    cut_within w final writes s = inl (writes_in first.network first.version history m mid r.there r.begun s w (Err Device) writes, refl)
+    pub cut_within : (w : Writing) (final : Replied) → Writes m w (Refused Device) mid → IsState m → StopComes (in_run m) w (final ∷ []) final (in_run mid)
+    cut_within w final writes s = inl (writes_in first.network first.version history m mid r.there r.begun s w (Refused Device) writes, refl)
 
-    pub cut_behind : (w : Writing) (result : Result ℕ Refusal) (final : Replied) → Writes m w result mid → IsState m → StopComes (in_run m) w (told_version result ∷ final ∷ []) final (in_run mid)
-    cut_behind w result final writes s = inr (result, writes_in first.network first.version history m mid r.there r.begun s w result writes, refl)
+    pub cut_behind : (w : Writing) (reply final : Replied) → Writes m w reply mid → IsState m → StopComes (in_run m) w (reply ∷ final ∷ []) final (in_run mid)
+    cut_behind w reply final writes s = inr (reply, writes_in first.network first.version history m mid r.there r.begun s w reply writes, refl)
 
     -- what is told before the stop's own reply
     abbrev pub TellsBefore : Writing → List Replied → Type 0
     TellsBefore w told = (final : Replied) → StopComes (in_run m) w (told ++ final ∷ []) final (in_run mid)
 
-    pub tells_nothing : (w : Writing) → IsState m → Writes m w (Err Device) mid → TellsBefore w []
+    pub tells_nothing : (w : Writing) → IsState m → Writes m w (Refused Device) mid → TellsBefore w []
     tells_nothing w s writes final = cut_within w final writes s
 
-    pub tells_answer : (w : Writing) (result : Result ℕ Refusal) → IsState m → Writes m w result mid → TellsBefore w (told_version result ∷ [])
-    tells_answer w result s writes final = cut_behind w result final writes s
+    pub tells_answer : (w : Writing) (reply : Replied) → IsState m → Writes m w reply mid → TellsBefore w (reply ∷ [])
+    tells_answer w reply s writes final = cut_behind w reply final writes s
 
     pub opened_within : (e : Event P) (w : Writing) (told : List Replied) (next : Machine) → within_of e ≡ Some w → TellsBefore w told → BeginsAfter mid next
         → HasRun first (events ++ e ∷ []) ((replies ++ told) ++ Opened next.base_version ∷ []) (history_with next) next
@@ -205,11 +205,11 @@ module _ {P : Type 0} (first : First) (events : List (Event P)) (replies : List 
         stops (Ask query) is = cc
         stops Stop is = cc
 
-    pub told_of : (w : Writing) (result : Result ℕ Refusal) (replies' : List Replied) → IsState m → Writes m w result mid
-        → (replies' ≡ replies ++ told_version result ∷ []) ⊎ ((result ≡ Err Device) × (replies' ≡ replies)) → Told (in_run m) (in_run mid) w replies replies'
-    told_of w result replies' s writes told =
-        ⊎_elim (λ all. record { told = told_version result ∷ []; comes = tells_answer w result s writes; is = all })
-        (λ cut. record { told = []; comes = tells_nothing w s (subst (λ (x : Result ℕ Refusal). Writes m w x mid) cut.0 writes); is = cut.1 ∙ sym (append-nil replies) }) told
+    pub told_of : (w : Writing) (reply : Replied) (replies' : List Replied) → IsState m → Writes m w reply mid
+        → (replies' ≡ replies ++ reply ∷ []) ⊎ ((reply ≡ Refused Device) × (replies' ≡ replies)) → Told (in_run m) (in_run mid) w replies replies'
+    told_of w reply replies' s writes told =
+        ⊎_elim (λ all. record { told = reply ∷ []; comes = tells_answer w reply s writes; is = all })
+        (λ cut. record { told = []; comes = tells_nothing w s (subst (λ (x : Replied). Writes m w x mid) cut.0 writes); is = cut.1 ∙ sym (append-nil replies) }) told
 
     pub opened_told : (e : Event P) (w : Writing) (replies' : List Replied) (next : Machine) → within_of e ≡ Some w → Told (in_run m) (in_run mid) w replies replies' → BeginsAfter mid next → HasRun first (events ++ e ∷ []) (replies' ++ Opened next.base_version ∷ []) (history_with next) next
     opened_told e w replies' next is t b =

@@ -1,14 +1,12 @@
 -- What is opened after a stop, and the life that begins with it.
-use Rattle.std.proofs.Common.{◌≡◌, ⊎_elim, inl, inr, ℕ, ◌+◌, ◌-◌, ◌≤◌, List, [], ◌∷◌, ◌++◌, length, take, Option, Some, None, refl, sym, ◌∙◌, ap, subst, arith, length-append, length-take, cond}
-use Rattle.std.specs.Prelude.{is_none, option_and_then}
+use Rattle.std.proofs.Common.{◌≡◌, ⊎_elim, inl, inr, ℕ, ◌+◌, ◌-◌, ◌≤◌, List, ◌++◌, length, take, Some, refl, sym, ◌∙◌, ap, subst, arith, length-append, length-take}
 use Rattle.roadnet.specs.declared.commands.Command.{Command}
-use Rattle.roadnet.specs.declared.refusals.Refusal.{Refusal}
 use Rattle.roadnet.specs.Net.{Net}
-use Rattle.roadnet.specs.Step.{after, changed, refusal_of}
+use Rattle.roadnet.specs.Step.{after}
 use Rattle.roadnet.proofs.Stepped.{after_both}
 use Rattle.pages.specs.declared.header.Header.{Header}
 use Rattle.pages.specs.Layout.{pages_for, word_pages}
-use Rattle.storefile.specs.StoreFile.{StandsTidyFor, commands_of}
+use Rattle.storefile.specs.StoreFile.{StandsTidyFor}
 use Rattle.storefile.specs.Standing.{Standing, standing_of}
 use Rattle.storefile.proofs.Rests.{stored_as}
 use Rattle.store.specs.Committing.{StandsTidily}

@@ -1,15 +1,14 @@
 -- The networks of the view and of the task stay those of the machine's versions.
-use Rattle.std.proofs.Common.{◌≡◌, ⊎_elim, ℕ, ◌-◌, ◌≤◌, List, [], Option, Some, None, Result, Ok, Err, refl, sym, ◌∙◌, ap, subst, arith}
+use Rattle.std.proofs.Common.{◌≡◌, ℕ, ◌≤◌, Option, Some, None, Result, Ok, Err, refl, sym, ◌∙◌, ap, subst, arith}
 use Rattle.std.specs.Prelude.{IfSome, IfOk, OnErr, option_map}
 use Rattle.roadnet.specs.declared.commands.Command.{Command}
 use Rattle.roadnet.specs.declared.refusals.Refusal.{Refusal}
 use Rattle.roadnet.specs.Net.{Net}
 use Rattle.machine.specs.declared.calls.Ticket.{Ticket}
-use Rattle.machine.specs.declared.events.Writing.TheVariants.{Checkpoint as a_checkpoint}
 use Rattle.machine.specs.Laws.{IsLater}
 use Rattle.machine.specs.Machine.{Sizes, Machine, IsState, start, most_versions, network_at}
 use Rattle.machine.specs.Calls.{Submits, Flushes, StepsCheckpoint}
-use Rattle.machine.specs.Lives.{Writes}
+use Rattle.machine.specs.Lives.{Checkpoints}
 use Rattle.machine.specs.Runs.Happened.{Submitted, Flushed, Checkpointed}
 use Rattle.machine.proofs.Checkpoints.{IsBut, but_step, but_checkpoint, state_checkpoint}
 use Rattle.machine.proofs.Kept.{states_kept, with_task, published}
@@ -68,7 +67,7 @@ module _ (shown : ℕ) (out : Option ℕ) (old new : Machine) (net : Net) (task 
       let step = lift_step shown out old new pages r h in
       viewed_but was is net task (but_step was is pages r step) (states_kept was is (Checkpointed pages r) k.state step) k
 
-  pub viewed_checkpoint : (r : Result ℕ Refusal) → Writes old a_checkpoint r new → IsViewed is net task
+  pub viewed_checkpoint : (r : Result ℕ Refusal) → Checkpoints old r new → IsViewed is net task
   viewed_checkpoint r h =
       let written = lift_checkpoint shown out old new r h in
       viewed_but was is net task (but_checkpoint was is r written) (state_checkpoint was is r written k.state) k

@@ -4,15 +4,15 @@ ghost use Rattle.std.specs.Option.{ForSome};
 ghost use Rattle.std.proofs.Props.{props};
 ghost use Rattle.disk.specs.Stop.{armed_at};
 ghost use Rattle.disk.specs.declared.stoppable.Pick.{Pick as StopPick};
-ghost use Rattle.pagereader.specs.Outcomes.{failures_told};
 ghost use Rattle.rows.specs.Kept.{IsWidth};
 ghost use Rattle.snapshot.specs.Groups.{default_width};
 ghost use Rattle.disk.specs.Contents.{Only};
 ghost use Rattle.store.specs.State.{CameTidy, HasRoom, HasCheckpointPages, IsDurable, is_calm};
-ghost use Rattle.machine.specs.declared.events.Event.TheVariants.{Submit, CheckpointStep, Task as TaskEvent, Publish, Ask};
+ghost use Rattle.machine.specs.declared.events.Event.TheVariants.{Submit, Task as TaskEvent, Publish, Ask};
+ghost use Rattle.machine.specs.declared.events.Writing.TheVariants.{Step as a_step};
 ghost use Rattle.machine.specs.Machine.{start};
 ghost use Rattle.machine.specs.Lives.{told_version, told_part, Writes, Does};
-ghost use Rattle.keeper.specs.Failures.{failures_of_write, failures_after};
+ghost use Rattle.keeper.specs.Failures.{failures_by, failures_after};
 ghost use Rattle.keeper.specs.Keeping.{sizes_of};
 ghost use Rattle.keeper.specs.Parts.{told_as};
 ghost use Rattle.keeper.specs.Rehearsing.{is_stop, IsLife};
@@ -46,7 +46,7 @@ pub(crate) struct Life<D: Stoppable> {
 }
 
 /// The reply to a flush or a checkpoint.
-pub(crate) fn told_version(written: &Result<u64, Refusal>) -> Replied
+fn told_version(written: &Result<u64, Refusal>) -> Replied
     ensures { result ≡ told_version written.now }
 {
     match written {
@@ -145,25 +145,26 @@ impl<D: Stoppable> Life<D> {
         }
     }
 
-    /// A flush, or a whole checkpoint.
-    pub(crate) fn write(&mut self, writing: Writing) -> Result<u64, Refusal>
+    /// A flush, a whole checkpoint or a step of one.
+    pub(crate) fn write(&mut self, writing: Writing) -> Replied
         ensures does { Writes self.old.keeper.machine writing result self.new.keeper.machine }
         ensures delta { self.new.delta ≡ self.old.delta }
         ensures given { self.new.keeper.given ≡ self.old.keeper.given }
-        ensures counted { D.failures self.new.keeper.disk ≡ failures_told result (D.failures self.old.keeper.disk) }
+        ensures counted { D.failures self.new.keeper.disk ≡ failures_by result (D.failures self.old.keeper.disk) }
     {
         match writing {
-            Writing::Flush => self.keeper.flush(),
-            Writing::Checkpoint => self.keeper.checkpoint(),
+            Writing::Flush => told_version(&self.keeper.flush()),
+            Writing::Checkpoint => told_version(&self.keeper.checkpoint()),
+            Writing::Step { pages } => self.step(pages),
         }
     }
 
     /// A step of a checkpoint.
     fn step(&mut self, pages: StepPages) -> Replied
-        ensures does { Does {P = StopPick} self.old.keeper.machine (CheckpointStep pages) (result ∷ []) self.new.keeper.machine }
+        ensures does { Writes self.old.keeper.machine (a_step pages) result self.new.keeper.machine }
         ensures delta { self.new.delta ≡ self.old.delta }
         ensures given { self.new.keeper.given ≡ self.old.keeper.given }
-        ensures counted { D.failures self.new.keeper.disk ≡ failures_of_write (result ∷ []) (D.failures self.old.keeper.disk) }
+        ensures counted { D.failures self.new.keeper.disk ≡ failures_by result (D.failures self.old.keeper.disk) }
     {
         told_part(&self.keeper.checkpoint_step(pages.number()))
     }
@@ -267,9 +268,9 @@ impl<D: Stoppable> Life<D> {
     {
         match event {
             Event::Submit { command } => self.submit(*command),
-            Event::Flush => told_version(&self.write(Writing::Flush)),
-            Event::Checkpoint => told_version(&self.write(Writing::Checkpoint)),
-            Event::CheckpointStep { pages } => self.step(*pages),
+            Event::Flush => self.write(Writing::Flush),
+            Event::Checkpoint => self.write(Writing::Checkpoint),
+            Event::CheckpointStep { pages } => self.write(Writing::Step { pages: *pages }),
             Event::Task => self.task(rt, alloc),
             Event::Publish => self.publish(),
             Event::Ask { query } => self.ask(rt, *query),

@@ -1,5 +1,5 @@
 // A script's events over lives with stops.
-ghost use Rattle.std.specs.Prelude.{◌≡◌, ◌+◌, ◌<◌, ◌≤◌, ◌∷◌, ◌++◌, [], ℕ, true, false, List, Option, None, Some, Result, Err, length, take, ◌-◌, ◌↔◌, IsTrue, IfOk, IfErr, OnOk, MatchResult};
+ghost use Rattle.std.specs.Prelude.{◌≡◌, ◌≢◌, ◌+◌, ◌<◌, ◌≤◌, ◌∷◌, ◌++◌, [], ℕ, true, false, List, Option, None, Some, Result, length, take, ◌-◌, ◌↔◌, IsTrue, IfOk, IfErr, OnOk, MatchResult};
 ghost use Rattle.std.specs.Option.{ForSome};
 ghost use Rattle.std.specs.Vec.{vec_len, vec_capacity};
 ghost use Rattle.disk.specs.Contents.{Only, AreAmong};
@@ -12,15 +12,14 @@ ghost use Rattle.store.specs.State.{CameTidy, is_calm};
 ghost use Rattle.store.specs.Opening.{IsPassing, StandsForSome};
 ghost use Rattle.machine.specs.declared.events.Event.{Event as ScriptEvent};
 ghost use Rattle.machine.specs.declared.events.Event.TheVariants.{Stop};
-ghost use Rattle.machine.specs.declared.events.Replied.TheVariants.{Opened, Stopped};
+ghost use Rattle.machine.specs.declared.events.Replied.TheVariants.{Refused, Opened, Stopped};
 ghost use Rattle.machine.specs.Machine.{Machine};
-ghost use Rattle.machine.specs.Lives.{told_version};
 ghost use Rattle.keeper.specs.Failures.{EndsAsTold};
 ghost use Rattle.keeper.specs.Rehearsing.{within_of, BeginsAfter, first_of};
-ghost use Rattle.keeper.specs.Running.{Continues, LeavesDurable, HasLivedTo, IsCut, IsToldOrFailed, IsPassingEnd, OfEachLeft, OfEachHalted, HasHaltedSo, FailsAtEnd, GoesOnWith, EndsWith, FailsWith};
+ghost use Rattle.keeper.specs.Running.{Continues, LeavesDurable, HasLivedTo, IsCut, CutsBy, HaveCut, picks_taken, picks_of, IsToldOrFailed, IsPassingEnd, OfEachLeft, OfEachHalted, HasHaltedSo, FailsAtEnd, GoesOnWith, EndsWith, FailsWith};
 
 use crate::halted::Halted;
-use crate::lives::{Life, told_version};
+use crate::lives::Life;
 use disk::{Disk, Pick, Stoppable};
 use machine::{Event, Replied, Writing};
 use roadnet::{Command, Refusal};
@@ -83,18 +82,20 @@ fn stop_disk<D: Stoppable>(disk: &mut D, picks: &[Pick]) -> bool
     }
 }
 
-/// Tells what a flush or a checkpoint answered, unless the stop came within it.
-fn tell_write(replies: &mut Vec<Replied>, came: bool, written: &Result<u64, Refusal>)
+/// Tells the reply to an event that writes, unless the stop came within it.
+fn tell_write(replies: &mut Vec<Replied>, came: bool, written: Replied)
     requires { vec_len replies.old < vec_capacity replies.old }
-    ensures told { IsToldOrFailed replies.old.items written.now replies.new.items }
-    ensures behind { came ≡ false → replies.new.items ≡ replies.old.items ++ told_version written.now ∷ [] }
-    ensures within { came ≡ true → written.now ≡ Err device → replies.new.items ≡ replies.old.items }
+    ensures told { IsToldOrFailed replies.old.items written replies.new.items }
+    ensures behind { came ≡ false → replies.new.items ≡ replies.old.items ++ written ∷ [] }
+    ensures within { came ≡ true → written ≡ Refused device → replies.new.items ≡ replies.old.items }
     ensures room { vec_len replies.new ≤ vec_len replies.old + 1 }
     ensures capacity { vec_capacity replies.new ≡ vec_capacity replies.old }
 {
     match written {
-        Err(Refusal::Device) if came => {}
-        _ => replies.push_reserved(told_version(written)),
+        Replied::Refused {
+            refusal: Refusal::Device,
+        } if came => {}
+        _ => replies.push_reserved(written),
     }
 }
 
@@ -110,6 +111,7 @@ fn reopen<R: Threads, D: Stoppable>(
     ensures begins { OfEachLeft D.honest D.content disk (λ m. IfOk result (λ life. BeginsAfter m life.keeper.machine)) }
     ensures came { OfEachLeft D.honest D.content disk (λ _. IfOk result (λ life. CameTidy D.honest D.content life.keeper.given)) }
     ensures empty { IfOk result (λ life. life.keeper.machine.accepted ≡ []) }
+    ensures content { D.honest disk → IfOk result (λ life. D.content life.keeper.disk ≡ D.content disk) }
     ensures delta { IfOk result (λ life. life.delta ≡ delta) }
     ensures passing { D.honest disk → ((c : List ℕ) → D.left disk c → StandsForSome c) → IfErr result (λ refused. IsPassing refused.0) }
     ensures among { D.honest disk → IfErr result (λ refused. AreAmong (D.left refused.1) (D.left disk)) }
@@ -136,6 +138,7 @@ impl<D: Stoppable> Halted<D> {
         ensures begins { OfEachHalted D.honest D.content D.left self (λ m. IfOk result (λ run. BeginsAfter m run.life.keeper.machine)) }
         ensures history { OfEachHalted D.honest D.content D.left self (λ m. IfOk result (Continues m self.history.items)) }
         ensures came { OfEachHalted D.honest D.content D.left self (λ _. IfOk result (λ run. CameTidy D.honest D.content run.life.keeper.given)) }
+        ensures content { D.honest self.disk → IfOk result (λ run. D.content run.life.keeper.disk ≡ D.content self.disk) }
         ensures told { IfOk result (λ run. run.replies.items ≡ self.replies.items ++ Opened run.life.keeper.machine.base_version ∷ []) }
         ensures room { IfOk result (λ run. vec_len run.history + length run.life.keeper.machine.accepted ≤ vec_capacity run.history) }
         ensures ended { (m : Machine) → D.honest self.disk → HasHaltedSo D.content D.left m self → IfErr result (λ ended. IsPassingEnd ended.ended) }
@@ -143,6 +146,7 @@ impl<D: Stoppable> Halted<D> {
         ensures counted { FailsAtEnd D.failures self.disk result }
         ensures delta { MatchResult result (λ run. run.life.delta ≡ self.delta) (λ ended. ended.delta ≡ self.delta) }
         ensures stopped { IfErr result (λ ended. ended.replies.items ≡ self.replies.items ++ Stopped ∷ []) }
+        ensures early { IfErr result (λ ended. ended.ended ≢ None) }
         ensures durable { IfErr result (λ ended. ended.history.items ≡ self.history.items ++ take (self.durable - self.opened) self.commands.items) }
     {
         let Halted {
@@ -215,7 +219,8 @@ impl<D: Stoppable> Run<D> {
         ensures honest { CameTidy D.honest D.content self.life.keeper.given → D.honest result.0.disk }
         ensures failures { D.failures result.0.disk ≡ D.failures self.life.keeper.disk }
         ensures came { IsTrue result.1 ↔ (D.armed self.life.keeper.disk ≡ Some 0) }
-        ensures picks { D.honest self.life.keeper.disk → 1 ≤ length picks.now → IsCut D.synced D.is_unsynced D.content picks.now self.life.keeper.disk result.0.disk }
+        ensures cut { CameTidy D.honest D.content self.life.keeper.given
+            → IsCut D.synced D.is_unsynced D.content (picks_taken picks.now) self.life.keeper.disk result.0.disk }
     {
         let Run {
             history,
@@ -255,12 +260,15 @@ impl<D: Stoppable> Run<D> {
         ensures ends { EndsWith D.honest D.content D.left Stop self result }
         // The disk failed as the replies tell.
         ensures counted { FailsWith D.failures Stop self result }
+        // It has cut the disk by its picks.
+        ensures cut { CameTidy D.honest D.content self.life.keeper.given → CutsBy D.synced D.is_unsynced D.content Stop result }
+        ensures early { IfErr result (λ ended. ended.ended ≢ None) }
     {
         let (halted, _) = self.halt(&[Pick::Old]);
         halted.resume(rt, alloc)
     }
 
-    /// A stop within the write or sync of this number of a flush or a checkpoint, or behind that where it makes fewer.
+    /// A stop within the write or sync of this number of an event that writes, or behind that where it makes fewer.
     fn stop_within<R: Threads>(
         self,
         rt: &R,
@@ -279,12 +287,16 @@ impl<D: Stoppable> Run<D> {
         ensures ends { (event : ScriptEvent StopPick) → within_of event ≡ Some writing → EndsWith D.honest D.content D.left event self result }
         // The disk failed as the replies tell.
         ensures counted { (event : ScriptEvent StopPick) → within_of event ≡ Some writing → FailsWith D.failures event self result }
+        // It has cut the disk by its picks.
+        ensures cut { (event : ScriptEvent StopPick) → picks_of event ≡ Some (picks_taken picks.now) → CameTidy D.honest D.content self.life.keeper.given
+            → CutsBy D.synced D.is_unsynced D.content event result }
+        ensures early { IfErr result (λ ended. ended.ended ≢ None) }
     {
         let mut run = self;
         run.life.arm(call);
         let written = run.life.write(writing);
         let (mut halted, came) = run.halt(picks);
-        tell_write(&mut halted.replies, came, &written);
+        tell_write(&mut halted.replies, came, written);
         halted.resume(rt, alloc)
     }
 
@@ -305,6 +317,9 @@ impl<D: Stoppable> Run<D> {
         ensures ends { EndsWith D.honest D.content D.left event.now self result }
         // The disk failed as the replies tell.
         ensures counted { FailsWith D.failures event.now self result }
+        // With a stop it has cut the disk by its picks.
+        ensures cut { CameTidy D.honest D.content self.life.keeper.given → CutsBy D.synced D.is_unsynced D.content event.now result }
+        ensures early { IfErr result (λ ended. ended.ended ≢ None) }
     {
         match event {
             Event::Stop => self.stop(rt, alloc),
@@ -368,6 +383,8 @@ pub fn rehearse<R: Threads, D: Stoppable>(
     requires width { ForSome delta IsWidth }
     // The run is one of the lives of the store's network and version, and a stop now leaves of the disk what its last state says.
     ensures lives { CameTidy D.honest D.content store.given → HasLivedTo D.left (first_of store) events.now result }
+    // Each stop of the events that were run cut the disk by its picks: the i-th byte, ascending, that was not synced took pick i mod n.
+    ensures cut { CameTidy D.honest D.content store.given → HaveCut D.synced D.is_unsynced D.content events.now result.ended }
     // A given width is that of each view.
     ensures width { result.delta ≡ delta }
     // Over any disk its count of failures rises by one for each failure that the replies tell, with 43 or by a stop that came within an event,

@@ -4,9 +4,8 @@ ghost use Rattle.disk.specs.Contents.{Rose};
 ghost use Rattle.pagereader.specs.Outcomes.{failures_told};
 ghost use Rattle.disk.specs.Moments.{LeavesOnly, AddsNothing};
 ghost use Rattle.roadnet.specs.declared.refusals.Refusal.TheVariants.{Device as device, OutOfMemory as out_of_memory};
-ghost use Rattle.machine.specs.declared.events.Writing.TheVariants.{Checkpoint as a_checkpoint};
 ghost use Rattle.machine.specs.Calls.{Submits, Flushes, StepsCheckpoint};
-ghost use Rattle.machine.specs.Lives.{Writes};
+ghost use Rattle.machine.specs.Lives.{Checkpoints};
 ghost use Rattle.keeper.specs.Keeping.{IsDurableIn, IsLeftByFlush, WhenSound};
 ghost use Rattle.keeper.specs.Parts.{told_as};
 
@@ -83,7 +82,7 @@ impl<D: Disk> Keeper<D> {
     ///
     /// Refused as a step is. After 45 and 11 nothing is changed.
     pub fn checkpoint(&mut self) -> Result<u64, Refusal>
-        ensures does { Writes self.old.machine a_checkpoint result self.new.machine }
+        ensures does { Checkpoints self.old.machine result self.new.machine }
         ensures same { IfErr result (λ refusal. refusal ≢ device → self.new ≡ self.old) }
         ensures counted { D.failures self.new.disk ≡ failures_told result (D.failures self.old.disk) }
         ensures given { self.new.given ≡ self.old.given }

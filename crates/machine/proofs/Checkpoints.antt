@@ -4,11 +4,10 @@ use Rattle.std.specs.Prelude.{IfSome, is_none, unwrap_or, nat_lt, ◌&&◌, ◌=
 use Rattle.std.proofs.lemmas.Bool.{eqb-true, ltb-true}
 use Rattle.roadnet.specs.declared.refusals.Refusal.{Refusal}
 use Rattle.roadnet.specs.declared.refusals.Refusal.TheVariants.{Broken, OutOfMemory, Device}
-use Rattle.machine.specs.declared.events.Writing.TheVariants.{Checkpoint as a_checkpoint}
 use Rattle.machine.specs.Machine.{Checkpoint, Machine, IsState}
 use Rattle.machine.specs.Calls.{StepsCheckpoint, has_nothing_unchecked, checkpoint_of, done_by, with_part, with_pages_written}
 use Rattle.machine.specs.Runs.Happened.{Checkpointed}
-use Rattle.machine.specs.Lives.{pages_of_step, EndsCheckpoint, GoesOn, Writes}
+use Rattle.machine.specs.Lives.{pages_of_step, EndsCheckpoint, GoesOn, Checkpoints}
 use Rattle.machine.proofs.Kept.{states_kept}
 
 -- one step more after which it is still going
@@ -125,7 +124,7 @@ but_end : (old new : Machine) (pages : ℕ) (result : Result ℕ Refusal) → En
 but_end old new pages (Ok version) e = but_step old new pages (Ok (Some version)) e
 but_end old new pages (Err refusal) e = but_step old new pages (Err refusal) e
 
-pub but_checkpoint : (old new : Machine) (result : Result ℕ Refusal) → Writes old a_checkpoint result new → IsBut old new
+pub but_checkpoint : (old new : Machine) (result : Result ℕ Refusal) → Checkpoints old result new → IsBut old new
 but_checkpoint old new result w = but_both old w.1 new (but_goes w.0 old w.1 w.2) (but_end w.1 new pages_of_step result w.3)
 
 state_goes : (n : ℕ) (old new : Machine) → GoesOn n old new → IsState old → IsState new
@@ -136,7 +135,7 @@ state_end : (old new : Machine) (result : Result ℕ Refusal) → EndsCheckpoint
 state_end old new (Ok version) e s = states_kept old new (Checkpointed pages_of_step (Ok (Some version))) s e
 state_end old new (Err refusal) e s = states_kept old new (Checkpointed pages_of_step (Err refusal)) s e
 
-pub state_checkpoint : (old new : Machine) (result : Result ℕ Refusal) → Writes old a_checkpoint result new → IsState old → IsState new
+pub state_checkpoint : (old new : Machine) (result : Result ℕ Refusal) → Checkpoints old result new → IsState old → IsState new
 state_checkpoint old new result w s = state_end w.1 new result w.3 (state_goes w.0 old w.1 w.2 s)
 
 -- ---- where none was going, nothing is unchecked in the end
@@ -156,7 +155,7 @@ done_is m pages version true b nothing told fresh = nothing_going m.checkpoint m
 done_is m pages version false true nothing told fresh = cc
 done_is m pages version false false nothing told fresh = (refl, fresh)
 
-pub done_behind : (old new : Machine) (version : ℕ) → Writes old a_checkpoint (Ok version) new → old.checkpoint ≡ None → (new.checkpoint ≡ None) × (new.unchecked ≡ 0)
+pub done_behind : (old new : Machine) (version : ℕ) → Checkpoints old (Ok version) new → old.checkpoint ≡ None → (new.checkpoint ≡ None) × (new.unchecked ≡ 0)
 done_behind old new version w none =
     let fresh : (checkpoint_of w.1).flushed ≡ 0 = fresh_goes w.0 old w.1 w.2 (ap (λ (o : Option Checkpoint). (unwrap_or o (record { version = old.durable; left = old.sizes.checkpoint_pages; flushed = 0 })).flushed) none) in
     let end = done_is w.1 pages_of_step version (has_nothing_unchecked w.1) (nat_lt pages_of_step (checkpoint_of w.1).left) refl w.3.1 fresh in
@@ -171,5 +170,5 @@ calm_end old new version e =
     go false true calm = calm
     go false false calm = calm
 
-pub calm_checkpoint : (old new : Machine) (version : ℕ) → Writes old a_checkpoint (Ok version) new → new.broken ≡ false
+pub calm_checkpoint : (old new : Machine) (version : ℕ) → Checkpoints old (Ok version) new → new.broken ≡ false
 calm_checkpoint old new version w = calm_end w.1 new version w.3

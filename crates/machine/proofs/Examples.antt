@@ -7,7 +7,7 @@ use Rattle.roadnet.specs.declared.arcs.RoadArc.{RoadArc}
 use Rattle.roadnet.specs.declared.commands.Command.{Command}
 use Rattle.roadnet.specs.declared.commands.Command.TheVariants.{Set, Close, Reopen, Mark, Unmark}
 use Rattle.roadnet.specs.declared.refusals.Refusal.{Refusal}
-use Rattle.roadnet.specs.declared.refusals.Refusal.TheVariants.{NoSuchArc, LengthRange, AlreadyClosed, AlreadyOpen, NoSuchNode, NotALandmark, NothingPending, JournalFull}
+use Rattle.roadnet.specs.declared.refusals.Refusal.TheVariants.{NoSuchArc, LengthRange, AlreadyClosed, AlreadyOpen, NoSuchNode, NotALandmark, NothingPending, JournalFull, Device}
 use Rattle.roadnet.specs.Net.{Net}
 use Rattle.roadnet.specs.Walks.{Least}
 use Rattle.rows.specs.declared.queries.Query.TheVariants.{Dist}
@@ -62,15 +62,15 @@ module _ (P : Type 0) (m : Machine) (es : List (Event P)) (rs : List Replied) wh
   refused_then c r some p = then m m (Submit c) (Refused r ∷ []) es rs (Err r, (inl some, refl), refl) p
 
   flush_then : refusal_of_flush m ≡ None → Plays P (with_batch m) es rs → Plays P m (Flush ∷ es) (Durable (m.durable + batch m) ∷ rs)
-  flush_then none p = then m (with_batch m) Flush (Durable (m.durable + batch m) ∷ []) es rs (Ok (m.durable + batch m), (none, refl, refl), refl) p
+  flush_then none p = then m (with_batch m) Flush (Durable (m.durable + batch m) ∷ []) es rs (Durable (m.durable + batch m), (Ok (m.durable + batch m), (none, refl, refl), refl), refl) p
 
   flush_refused_then : (r : Refusal) → refusal_of_flush m ≡ Some r → Plays P m es rs → Plays P m (Flush ∷ es) (Refused r ∷ rs)
-  flush_refused_then r some p = then m m Flush (Refused r ∷ []) es rs (Err r, inl (inl some, refl), refl) p
+  flush_refused_then r some p = then m m Flush (Refused r ∷ []) es rs (Refused r, (Err r, inl (inl some, refl), refl), refl) p
 
   -- one step ends it
   checkpoint_then : (v : ℕ) → refusal_of_checkpoint m ≡ None → Some v ≡ done_by m pages_of_step → Plays P (with_part m pages_of_step) es rs → Plays P m (Checkpoint ∷ es) (Durable v ∷ rs)
   checkpoint_then v none done p =
-      then m (with_part m pages_of_step) Checkpoint (Durable v ∷ []) es rs (Ok v, (0, m, refl, (none, done, refl)), refl) p
+      then m (with_part m pages_of_step) Checkpoint (Durable v ∷ []) es rs (Durable v, (Ok v, (0, m, refl, (none, done, refl)), refl), refl) p
 
   task_then : (net : Net) → has_no_task m ≡ false → network_at m m.durable ≡ Some net → Plays P (record m { task = Some m.durable }) es rs → Plays P m (Task ∷ es) (TaskOf m.durable ∷ rs)
   task_then net free is p =
@@ -92,24 +92,24 @@ module _ (P : Type 0) (m : Machine) (es : List (Event P)) (rs : List Replied) wh
     stop_before_flush_then : (u : ℕ) → u ≤ m.sizes.journal_pages → refusal_of_flush m ≡ None → Plays P (reopened m m.durable u) es rs → Plays P m (StopWithin call picks a_flush ∷ es) (Opened m.durable ∷ rs)
     stop_before_flush_then u fits none p =
         then m (reopened m m.durable u) (StopWithin call picks a_flush) (Opened m.durable ∷ []) es rs
-        (failed m (batch m), m.durable, inl (inr (none, refl, refl), refl), (inl refl, (u, fits, refl))) p
+        (failed m (batch m), m.durable, inl ((Err Device, inr (none, refl, refl), refl), refl), (inl refl, (u, fits, refl))) p
 
     -- or its commands too
     stop_after_flush_then : (u : ℕ) → u ≤ m.sizes.journal_pages → refusal_of_flush m ≡ None → Plays P (reopened m (m.durable + batch m) u) es rs → Plays P m (StopWithin call picks a_flush ∷ es) (Opened (m.durable + batch m) ∷ rs)
     stop_after_flush_then u fits none p =
         then m (reopened m (m.durable + batch m) u) (StopWithin call picks a_flush) (Opened (m.durable + batch m) ∷ []) es rs
-        (failed m (batch m), m.durable + batch m, inl (inr (none, refl, refl), refl), (inr refl, (u, fits, refl))) p
+        (failed m (batch m), m.durable + batch m, inl ((Err Device, inr (none, refl, refl), refl), refl), (inr refl, (u, fits, refl))) p
 
     -- or comes behind it
     stop_behind_flush_then : (u : ℕ) → u ≤ m.sizes.journal_pages → refusal_of_flush m ≡ None → Plays P (reopened (with_batch m) (m.durable + batch m) u) es rs → Plays P m (StopWithin call picks a_flush ∷ es) (Durable (m.durable + batch m) ∷ Opened (m.durable + batch m) ∷ rs)
     stop_behind_flush_then u fits none p =
         then m (reopened (with_batch m) (m.durable + batch m) u) (StopWithin call picks a_flush) (Durable (m.durable + batch m) ∷ Opened (m.durable + batch m) ∷ []) es rs
-        (with_batch m, m.durable + batch m, inr (Ok (m.durable + batch m), (none, refl, refl), refl), (inl refl, (u, fits, refl))) p
+        (with_batch m, m.durable + batch m, inr (Durable (m.durable + batch m), (Ok (m.durable + batch m), (none, refl, refl), refl), refl), (inl refl, (u, fits, refl))) p
 
     stop_in_checkpoint_then : (u : ℕ) → u ≤ m.sizes.journal_pages → refusal_of_checkpoint m ≡ None → has_nothing_unchecked m ≡ false → Plays P (reopened m m.durable u) es rs → Plays P m (StopWithin call picks a_checkpoint ∷ es) (Opened m.durable ∷ rs)
     stop_in_checkpoint_then u fits none some p =
         then m (reopened m m.durable u) (StopWithin call picks a_checkpoint) (Opened m.durable ∷ []) es rs
-        (failed m 0, m.durable, inl ((0, m, refl, inr (none, some, refl, refl)), refl), (inl refl, (u, fits, refl))) p
+        (failed m 0, m.durable, inl ((Err Device, (0, m, refl, inr (none, some, refl, refl)), refl), refl), (inl refl, (u, fits, refl))) p
 
 -- the network of the scripts
 abbrev open_arc : ℕ → ℕ → ℕ → RoadArc

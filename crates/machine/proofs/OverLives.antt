@@ -13,14 +13,14 @@ use Rattle.machine.specs.declared.calls.Answer.{Answer}
 use Rattle.machine.specs.declared.events.Event.{Event}
 use Rattle.machine.specs.declared.events.Event.TheVariants.{Submit, Flush, Checkpoint, CheckpointStep, Task, Publish, Ask, Stop, StopWithin}
 use Rattle.machine.specs.declared.events.Writing.{Writing}
-use Rattle.machine.specs.declared.events.Writing.TheVariants.{Flush as a_flush, Checkpoint as a_checkpoint}
+use Rattle.machine.specs.declared.events.Writing.TheVariants.{Flush as a_flush, Checkpoint as a_checkpoint, Step as a_step}
 use Rattle.machine.specs.declared.events.Replied.{Replied}
 use Rattle.machine.specs.declared.events.Replied.TheVariants.{Shown, Answered, Refused, Opened, Stopped as StoppedAlone}
 use Rattle.machine.specs.Machine.{Machine, IsState, start, latest, commands_to}
 use Rattle.machine.specs.Calls.{Submits, Flushes, Asks, IsTicketOf, with_command}
 use Rattle.machine.specs.Runs.{Happened, Step, Run, up_to}
 use Rattle.machine.specs.Runs.Happened.{Submitted, Flushed, Checkpointed, TookTask, Published, Asked, Stopped}
-use Rattle.machine.specs.Lives.{told_ticket, told_version, told_part, told_task, told_answer, pages_of_step, EndsCheckpoint, GoesOn, Writes, StopComes, Does, StopsFor, Turn, Passes, Ends}
+use Rattle.machine.specs.Lives.{told_ticket, told_version, told_part, told_task, told_answer, pages_of_step, EndsCheckpoint, GoesOn, Checkpoints, Writes, StopComes, Does, StopsFor, Turn, Passes, Ends}
 use Rattle.machine.specs.Lives.Ends.{Whole, NoMemory, NotOpened}
 use Rattle.machine.specs.Laws.{IsLater, IsAt, IsRightAfter}
 use Rattle.machine.specs.Headline.{left_by, held_behind, durable_by, acknowledged_with, acknowledged_in, IsRightReply, ScriptsAreRuns, AcknowledgedAreInHistory, StopsLeaveAcknowledged, AnswersAreRight}
@@ -59,13 +59,17 @@ ends_checkpoint : (result : Result ℕ Refusal) (a b : Machine) → EndsCheckpoi
 ends_checkpoint (Ok version) a b e = calm_one a b (Checkpointed pages_of_step (Ok (Some version))) refl e
 ends_checkpoint (Err refusal) a b e = calm_one a b (Checkpointed pages_of_step (Err refusal)) refl e
 
-writes_run : (w : Writing) (a b : Machine) (result : Result ℕ Refusal) → Writes a w result b → CalmlyTo a b
-writes_run a_flush a b result w = calm_one a b (Flushed result) refl w
-writes_run a_checkpoint a b result w = calm_both a w.1 b (goes_on w.0 a w.1 w.2) (ends_checkpoint result w.1 b w.3)
+checkpoints_run : (a b : Machine) (result : Result ℕ Refusal) → Checkpoints a result b → CalmlyTo a b
+checkpoints_run a b result c = calm_both a c.1 b (goes_on c.0 a c.1 c.2) (ends_checkpoint result c.1 b c.3)
+
+writes_run : (w : Writing) (a b : Machine) (reply : Replied) → Writes a w reply b → CalmlyTo a b
+writes_run a_flush a b reply w = calm_one a b (Flushed w.0) refl w.1
+writes_run a_checkpoint a b reply w = checkpoints_run a b w.0 w.1
+writes_run (a_step pages) a b reply w = calm_one a b (Checkpointed pages.pages w.0) refl w.1
 
 stop_run : (w : Writing) (a b : Machine) (replies : List Replied) (final : Replied) → StopComes a w replies final b → CalmlyTo a b
 stop_run w a b replies final comes =
-    ⊎_elim (λ within. writes_run w a b (Err Device) within.0) (λ behind. writes_run w a b behind.0 behind.1) comes
+    ⊎_elim (λ within. writes_run w a b (Refused Device) within.0) (λ behind. writes_run w a b behind.0 behind.1) comes
 
 -- an event that is no stop
 abbrev is_stop : {P : Type 0} → Event P → Bool
@@ -77,7 +81,7 @@ calm_event : {P : Type 0} (e : Event P) (a b : Machine) (replies : List Replied)
 calm_event (Submit c) a b replies calm d = calm_one a b (Submitted c d.0) refl d.1
 calm_event Flush a b replies calm d = writes_run a_flush a b d.0 d.1
 calm_event Checkpoint a b replies calm d = writes_run a_checkpoint a b d.0 d.1
-calm_event (CheckpointStep pages) a b replies calm d = calm_one a b (Checkpointed pages.pages d.0) refl d.1
+calm_event (CheckpointStep pages) a b replies calm d = writes_run (a_step pages) a b d.0 d.1
 calm_event Task a b replies calm d = calm_one a b (TookTask d.0) refl d.1
 calm_event Publish a b replies calm d = ⊎_elim (λ p. calm_one a b (Published p.0 p.1 (Ok p.0)) refl p.2) (λ n. ([], n.1, tt)) d
 calm_event (Ask query) a b replies calm d = calm_one a b (Asked query d.0) refl d.1
@@ -92,7 +96,7 @@ event_run (StopWithin call picks writing) a b replies d =
 event_run (Submit c) a b replies d = (Submitted c d.0 ∷ [], run_one a b (Submitted c d.0) d.1)
 event_run Flush a b replies d = let r = writes_run a_flush a b d.0 d.1 in (r.0, r.1)
 event_run Checkpoint a b replies d = let r = writes_run a_checkpoint a b d.0 d.1 in (r.0, r.1)
-event_run (CheckpointStep pages) a b replies d = (Checkpointed pages.pages d.0 ∷ [], run_one a b (Checkpointed pages.pages d.0) d.1)
+event_run (CheckpointStep pages) a b replies d = let r = writes_run (a_step pages) a b d.0 d.1 in (r.0, r.1)
 event_run Task a b replies d = (TookTask d.0 ∷ [], run_one a b (TookTask d.0) d.1)
 event_run Publish a b replies d = ⊎_elim (λ p. (Published p.0 p.1 (Ok p.0) ∷ [], run_one a b (Published p.0 p.1 (Ok p.0)) p.2)) (λ n. ([], n.1)) d
 event_run (Ask query) a b replies d = (Asked query d.0 ∷ [], run_one a b (Asked query d.0) d.1)
@@ -111,13 +115,23 @@ accepted_is a b c t is new =
     (subst (λ (x : Ticket). IsTicketOf (with_command a c) (record { number = x.number; command = c })) (sym is) (ticket_of_new a c))
 
 -- the stop's own reply tells what is left
-left_told : (result : Result ℕ Refusal) (version : ℕ) (held : List Ticket) → left_by held (told_version result ∷ Opened version ∷ []) ≡ up_to version held
-left_told (Ok durable) version held = refl
-left_told (Err refusal) version held = refl
+left_version : (result : Result ℕ Refusal) (version : ℕ) (held : List Ticket) → left_by held (told_version result ∷ Opened version ∷ []) ≡ up_to version held
+left_version (Ok durable) version held = refl
+left_version (Err refusal) version held = refl
+
+left_part : (result : Result (Option ℕ) Refusal) (version : ℕ) (held : List Ticket) → left_by held (told_part result ∷ Opened version ∷ []) ≡ up_to version held
+left_part (Ok None) version held = refl
+left_part (Ok (Some durable)) version held = refl
+left_part (Err refusal) version held = refl
+
+left_told : (w : Writing) (a b : Machine) (reply : Replied) (version : ℕ) (held : List Ticket) → Writes a w reply b → left_by held (reply ∷ Opened version ∷ []) ≡ up_to version held
+left_told a_flush a b reply version held w = ap (λ (r : Replied). left_by held (r ∷ Opened version ∷ [])) w.2 ∙ left_version w.0 version held
+left_told a_checkpoint a b reply version held w = ap (λ (r : Replied). left_by held (r ∷ Opened version ∷ [])) w.2 ∙ left_version w.0 version held
+left_told (a_step pages) a b reply version held w = ap (λ (r : Replied). left_by held (r ∷ Opened version ∷ [])) w.2 ∙ left_part w.0 version held
 
 left_behind : (w : Writing) (a b : Machine) (replies : List Replied) (version : ℕ) (held : List Ticket) → StopComes a w replies (Opened version) b → left_by held replies ≡ up_to version held
 left_behind w a b replies version held comes =
-    ⊎_elim (λ within. ap (left_by held) within.1) (λ behind. ap (left_by held) behind.2 ∙ left_told behind.0 version held) comes
+    ⊎_elim (λ within. ap (left_by held) within.1) (λ behind. ap (left_by held) behind.2 ∙ left_told w a b behind.0 version held behind.1) comes
 
 held_by_turn : (P : Type 0) (e : Event P) (a b : Machine) (replies : List Replied) (held : List Ticket) → Does a e replies b → AllByRecursion (IsTicketOf a) held → AllByRecursion (IsTicketOf b) (held_behind held e replies)
 held_by_turn P (Submit c) a b replies held d all =
@@ -129,7 +143,7 @@ held_by_turn P (Submit c) a b replies held d all =
     go (Err refusal) step same = same
 held_by_turn P Flush a b replies held d all = held_calmly a b held (writes_run a_flush a b d.0 d.1) all
 held_by_turn P Checkpoint a b replies held d all = held_calmly a b held (writes_run a_checkpoint a b d.0 d.1) all
-held_by_turn P (CheckpointStep pages) a b replies held d all = held_calmly a b held (calm_one a b (Checkpointed pages.pages d.0) refl d.1) all
+held_by_turn P (CheckpointStep pages) a b replies held d all = held_calmly a b held (writes_run (a_step pages) a b d.0 d.1) all
 held_by_turn P Task a b replies held d all = held_calmly a b held (calm_one a b (TookTask d.0) refl d.1) all
 held_by_turn P Publish a b replies held d all = held_calmly a b held (calm_event {P = P} Publish a b replies refl d) all
 held_by_turn P (Ask query) a b replies held d all = held_calmly a b held (calm_one a b (Asked query d.0) refl d.1) all
@@ -148,17 +162,18 @@ acked_by_stop : (a b : Machine) (replies : List Replied) (final : Replied) (held
 acked_by_stop a b replies final held none s comes all =
     ⊎_elim
     (λ within. subst (λ (rs : List Replied). AllByRecursion (IsDurable b) (durable_by held rs)) (sym within.1) (subst (AllByRecursion (IsDurable b)) (sym none) tt))
-    (λ behind. subst (λ (rs : List Replied). AllByRecursion (IsDurable b) (durable_by held rs)) (sym behind.2) (acked_by_flush behind.0 a b held (final ∷ []) s behind.1 all))
+    (λ behind. subst (λ (rs : List Replied). AllByRecursion (IsDurable b) (durable_by held rs)) (sym (behind.2 ∙ ap (λ (r : Replied). r ∷ final ∷ []) behind.1.2)) (acked_by_flush behind.1.0 a b held (final ∷ []) s behind.1.1 all))
     comes
 
 acked_by_turn : {P : Type 0} (e : Event P) (a b : Machine) (replies : List Replied) (held : List Ticket) → IsState a → Does a e replies b → AllByRecursion (IsTicketOf a) held → AllByRecursion (IsDurable b) (acknowledged_with held e replies)
 acked_by_turn Flush a b replies held s d all =
-    subst (λ (rs : List Replied). AllByRecursion (IsDurable b) (durable_by held rs)) (sym d.2) (acked_by_flush d.0 a b held [] s d.1 all)
+    subst (λ (rs : List Replied). AllByRecursion (IsDurable b) (durable_by held rs)) (sym (d.2 ∙ ap (λ (r : Replied). r ∷ []) d.1.2)) (acked_by_flush d.1.0 a b held [] s d.1.1 all)
 acked_by_turn (StopWithin call picks a_flush) a b replies held s d all =
     let run = stop_run a_flush a d.0 replies (Opened d.1) d.2 in
     let state = later_by_run a d.0 run.0 s run.1 in
     acked_still d.0 b (durable_by held replies) (later_by_step d.0 b (Stopped d.1) state.0 d.3) (acked_by_stop a d.0 replies (Opened d.1) held refl s d.2 all)
 acked_by_turn (StopWithin call picks a_checkpoint) a b replies held s d all = tt
+acked_by_turn (StopWithin call picks (a_step pages)) a b replies held s d all = tt
 acked_by_turn (Submit c) a b replies held s d all = tt
 acked_by_turn Checkpoint a b replies held s d all = tt
 acked_by_turn (CheckpointStep pages) a b replies held s d all = tt
@@ -170,6 +185,7 @@ acked_by_turn Stop a b replies held s d all = tt
 acked_by_end : {P : Type 0} (e : Event P) (a last : Machine) (replies : List Replied) (held : List Ticket) → IsState a → StopsFor a e replies last → AllByRecursion (IsTicketOf a) held → AllByRecursion (IsDurable last) (acknowledged_with held e replies)
 acked_by_end (StopWithin call picks a_flush) a last replies held s stops all = acked_by_stop a last replies StoppedAlone held refl s stops all
 acked_by_end (StopWithin call picks a_checkpoint) a last replies held s stops all = tt
+acked_by_end (StopWithin call picks (a_step pages)) a last replies held s stops all = tt
 acked_by_end Stop a last replies held s stops all = tt
 acked_by_end (Submit c) a last replies held s stops all = absurd stops
 acked_by_end Flush a last replies held s stops all = absurd stops
@@ -203,6 +219,11 @@ part_right m (Ok None) = tt
 part_right m (Ok (Some version)) = tt
 part_right m (Err refusal) = tt
 
+write_right : (m : Machine) (w : Writing) (a b : Machine) (reply : Replied) → Writes a w reply b → RightAt m reply
+write_right m a_flush a b reply w = subst (RightAt m) (sym w.2) (version_right m w.0)
+write_right m a_checkpoint a b reply w = subst (RightAt m) (sym w.2) (version_right m w.0)
+write_right m (a_step pages) a b reply w = subst (RightAt m) (sym w.2) (part_right m w.0)
+
 task_right : (m : Machine) (result : Result (Option (ℕ × Net)) Refusal) → RightAt m (told_task result)
 task_right m (Ok None) = tt
 task_right m (Ok (Some task)) = tt
@@ -219,15 +240,15 @@ stop_right : (m : Machine) (w : Writing) (a b : Machine) (replies : List Replied
 stop_right m w a b replies final right comes =
     ⊎_elim
     (λ within. one_right m final replies within.1 right)
-    (λ behind. subst (AllByRecursion (RightAt m)) (sym behind.2) (version_right m behind.0, (right, tt)))
+    (λ behind. subst (AllByRecursion (RightAt m)) (sym behind.2) (write_right m w a b behind.0 behind.1, (right, tt)))
     comes
 
 -- each event's replies are right where it begins
 turn_right : {P : Type 0} (e : Event P) (a b : Machine) (replies : List Replied) → IsState a → Does a e replies b → AllByRecursion (RightAt a) replies
 turn_right (Submit c) a b replies s d = one_right a (told_ticket d.0) replies d.2 (ticket_right a d.0)
-turn_right Flush a b replies s d = one_right a (told_version d.0) replies d.2 (version_right a d.0)
-turn_right Checkpoint a b replies s d = one_right a (told_version d.0) replies d.2 (version_right a d.0)
-turn_right (CheckpointStep pages) a b replies s d = one_right a (told_part d.0) replies d.2 (part_right a d.0)
+turn_right Flush a b replies s d = one_right a d.0 replies d.2 (write_right a a_flush a b d.0 d.1)
+turn_right Checkpoint a b replies s d = one_right a d.0 replies d.2 (write_right a a_checkpoint a b d.0 d.1)
+turn_right (CheckpointStep pages) a b replies s d = one_right a d.0 replies d.2 (write_right a (a_step pages) a b d.0 d.1)
 turn_right Task a b replies s d = one_right a (told_task d.0) replies d.2 (task_right a d.0)
 turn_right Publish a b replies s d = ⊎_elim (λ p. one_right a (Shown p.0) replies p.3 tt) (λ n. one_right a (Refused NoTask) replies n.2 tt) d
 turn_right (Ask query) a b replies s d = one_right a (told_answer query d.0) replies d.2 (answer_right a b query d.0 s d.1)

@@ -11,7 +11,7 @@ use Rattle.machine.specs.declared.calls.Answer.{Answer}
 use Rattle.machine.specs.declared.events.Event.{Event}
 use Rattle.machine.specs.declared.events.Event.TheVariants.{Submit, Flush, Checkpoint, CheckpointStep, Task, Publish, Ask, Stop, StopWithin}
 use Rattle.machine.specs.declared.events.Writing.{Writing}
-use Rattle.machine.specs.declared.events.Writing.TheVariants.{Flush as a_flush, Checkpoint as a_checkpoint}
+use Rattle.machine.specs.declared.events.Writing.TheVariants.{Flush as a_flush, Checkpoint as a_checkpoint, Step as a_step}
 use Rattle.machine.specs.declared.events.Replied.{Replied}
 use Rattle.machine.specs.declared.events.Replied.TheVariants.{Accepted, Durable, Stepped, Task as TaskOf, Shown, Answered, Refused, Opened, Stopped}
 use Rattle.machine.specs.Machine.{Sizes, Machine, start, commands_to, network_at}
@@ -58,27 +58,32 @@ abbrev pub GoesOn : ℕ → Machine → Machine → Type 0
 GoesOn zero old new = new ≡ old
 GoesOn (suc n) old new = (mid : Machine) × StepsCheckpoint old pages_of_step (Ok None) mid × GoesOn n mid new
 
--- An event that writes: a flush, or a checkpoint, which is steps until one ends it or is refused.
-abbrev pub Writes : Machine → Writing → Result ℕ Refusal → Machine → Type 0
-Writes old a_flush result new = Flushes old result new
-Writes old a_checkpoint result new = (steps : ℕ) × (mid : Machine) × GoesOn steps old mid × EndsCheckpoint mid pages_of_step result new
+-- A whole checkpoint: steps, until one ends it or is refused.
+abbrev pub Checkpoints : Machine → Result ℕ Refusal → Machine → Type 0
+Checkpoints old result new = (steps : ℕ) × (mid : Machine) × GoesOn steps old mid × EndsCheckpoint mid pages_of_step result new
+
+-- From old an event that writes, a flush, a whole checkpoint or a step of one, may be replied to so, and lead to new.
+abbrev pub Writes : Machine → Writing → Replied → Machine → Type 0
+Writes old a_flush reply new = (result : Result ℕ Refusal) × Flushes old result new × (reply ≡ told_version result)
+Writes old a_checkpoint reply new = (result : Result ℕ Refusal) × Checkpoints old result new × (reply ≡ told_version result)
+Writes old (a_step pages) reply new = (result : Result (Option ℕ) Refusal) × StepsCheckpoint old pages.pages result new × (reply ≡ told_part result)
 
 -- An event that writes, with its reply.
 abbrev pub WritesAndTells : Machine → Writing → List Replied → Machine → Type 0
-WritesAndTells old writing replies new = (result : Result ℕ Refusal) × Writes old writing result new × (replies ≡ told_version result ∷ [])
+WritesAndTells old writing replies new = (reply : Replied) × Writes old writing reply new × (replies ≡ reply ∷ [])
 
 -- The disk stops within the event, which then fails and has no reply; or behind it. The stop's own reply comes last.
 abbrev pub StopComes : Machine → Writing → List Replied → Replied → Machine → Type 0
 StopComes old writing replies stopped new =
-    (Writes old writing (Err Device) new × (replies ≡ stopped ∷ []))
-    ⊎ ((result : Result ℕ Refusal) × Writes old writing result new × (replies ≡ told_version result ∷ stopped ∷ []))
+    (Writes old writing (Refused Device) new × (replies ≡ stopped ∷ []))
+    ⊎ ((reply : Replied) × Writes old writing reply new × (replies ≡ reply ∷ stopped ∷ []))
 
 -- From old the event may be replied to so, and lead to new.
 abbrev pub Does : {P : Type 0} → Machine → Event P → List Replied → Machine → Type 0
 Does old (Submit command) replies new = (result : Result Ticket Refusal) × Submits old command result new × (replies ≡ told_ticket result ∷ [])
 Does old Flush replies new = WritesAndTells old a_flush replies new
 Does old Checkpoint replies new = WritesAndTells old a_checkpoint replies new
-Does old (CheckpointStep pages) replies new = (result : Result (Option ℕ) Refusal) × StepsCheckpoint old pages.pages result new × (replies ≡ told_part result ∷ [])
+Does old (CheckpointStep pages) replies new = WritesAndTells old (a_step pages) replies new
 -- a task whose view finds no memory is given up, so that nothing has changed
 Does old Task replies new = (result : Result (Option (ℕ × Net)) Refusal) × TakesTask old result new × (replies ≡ told_task result ∷ [])
 -- the view that is kept aside is that of the task that is out

@@ -10,6 +10,8 @@ pub enum Writing {
     Flush,
     /// Steps of 64 pages, until the checkpoint is done.
     Checkpoint,
+    /// A step of a checkpoint.
+    Step { pages: StepPages },
 }
 
 /// An event of a script: one variant for each kind of line, with its numbers.
@@ -40,7 +42,8 @@ pub enum Event<P> {
     /// A stop between two calls, and an opening.
     Stop,
     /// A stop within a write or sync of the event, and an opening. The write or sync is the one of number `call`, from 1 on; where
-    /// the event makes fewer, the stop comes behind it.
+    /// the event makes fewer, the stop comes behind it. The i-th byte, ascending, of those written since the last sync takes the pick
+    /// `i mod picks.len()`, i from 0.
     StopWithin {
         call: u64,
         picks: Vec<P>,

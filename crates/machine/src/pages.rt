@@ -3,7 +3,7 @@ ghost use Rattle.std.specs.Prelude.{◌≡◌, ◌≤◌, ◌⊎◌, ◌<◌, If
 use crate::limits::PAGES_OF_STEP;
 
 /// How many pages a step of a checkpoint writes at most: 1 to 64.
-#[derive(Clone, Copy, Debug)]
+#[derive(Clone, Copy, Debug, PartialEq, Eq)]
 pub struct StepPages {
     pages: u32,
     ghost some: { 1 ≤ pages },

@@ -12,4 +12,6 @@ pub use rehearsing::{rehearse_counted, rehearse_text};
 #[cfg(test)]
 mod step_tests;
 #[cfg(test)]
+mod sweep_tests;
+#[cfg(test)]
 mod tests;

@@ -144,10 +144,16 @@ fn scripts_of_the_default_journal(rt: HostRuntime) {
 
 #[test]
 fn scripts_of_two_journal_pages(rt: HostRuntime) {
-    let table: [(&str, &[u8], &[u8]); 2] = [
+    let table: [(&str, &[u8], &[u8]); 3] = [
         (
             "reuse_needs_a_checkpoint",
             b"set 1 1\nflush\nset 1 2\nflush\nset 1 3\nflush\ncheckpoint\nstop 3 170 flush\ndist 1 2\n",
+            b"t 1\nok 1\nt 2\nok 2\nt 3\nno 44\nok 2\nstopped\nv 2\nv 2\nd 1 2 2\n",
+        ),
+        // A body written over an open gate would open as version 3.
+        (
+            "reuse_with_eight_picks",
+            b"set 1 1\nflush\nset 1 2\nflush\nset 1 3\nflush\ncheckpoint\nstop 1 old old old old old old old new flush\ndist 1 2\n",
             b"t 1\nok 1\nt 2\nok 2\nt 3\nno 44\nok 2\nstopped\nv 2\nv 2\nd 1 2 2\n",
         ),
         (
@@ -182,6 +188,46 @@ fn stop_within_flush(rt: HostRuntime) -> Result<(), Fail> {
         }
     }
     Ok(())
+}
+
+/// The i-th byte that was not synced takes pick i mod n. At the third call of a flush these are the eight bytes of a gate, whose last one opens it.
+#[test]
+fn stop_with_several_picks(rt: HostRuntime) {
+    let table: [(&str, &[u8], &[u8]); 6] = [
+        (
+            "the gate's last byte is old",
+            b"close 7\nstop 3 new old flush\n",
+            b"t 1\nstopped\nv 1\n",
+        ),
+        (
+            "the gate's first byte is old",
+            b"close 7\nstop 3 old new flush\n",
+            b"t 1\nstopped\nv 0\n",
+        ),
+        (
+            "a body of old and new bytes",
+            b"close 7\nstop 1 old new flush\n",
+            b"t 1\nstopped\nv 0\n",
+        ),
+        (
+            "a step that is cut",
+            b"close 7\nflush\nstop 4 old step 64\ndist 1 6\nstop 4 new 165 step 64\ndist 1 6\n",
+            b"t 1\nok 1\nstopped\nv 1\nv 1\nd 1 6 22\nstopped\nv 1\nv 1\nd 1 6 22\n",
+        ),
+        (
+            "a stop behind a step",
+            b"close 7\nflush\nstop 99 old step 1\nstep 1\n",
+            b"t 1\nok 1\nok 1\nstopped\nv 1\nok 1\n",
+        ),
+        (
+            "a step that is refused",
+            b"close 7\nstop 1 0 1 2 3 4 5 6 7 step 64\nstop 2 new step 1\n",
+            b"t 1\nok 0\nstopped\nv 0\nok 0\nstopped\nv 0\n",
+        ),
+    ];
+    for (name, script, want) in table {
+        is_rehearsed(&rt, name, SIX, 64, script, want);
+    }
 }
 
 #[test]

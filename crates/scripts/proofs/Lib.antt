@@ -1,4 +1,5 @@
 pub mod ScriptEnds
 pub mod ScriptLines
+pub mod ScriptPicks
 pub mod ScriptSteps
 pub mod ScriptStops

@@ -33,7 +33,7 @@ zero_kept n = grind (arith, nat_tests)
 large_kept : (n : Numeral) → ltb 64 (kept n).size ≡ ltb 64 n.size
 large_kept n = grind (arith, nat_tests)
 
-no_step_kept : (n : Numeral) → is_no_step (kept n) ≡ is_no_step n
+pub no_step_kept : (n : Numeral) → is_no_step (kept n) ≡ is_no_step n
 no_step_kept n =
     ap (λ (b : Bool). b || (eqb (kept n).size 0 || ltb 64 (kept n).size)) (kept_refused n)
     ∙ (ap (λ (b : Bool). is_refused n || (b || ltb 64 (kept n).size)) (zero_kept n)

@@ -1,6 +1,7 @@
 -- A line `stop` that is read from left to right has the lowest code that applies to it, or is the event that it says.
-use Rattle.std.proofs.Common.{◌≡◌, ◌∙◌, ℕ, Bool, true, false, ◌||◌, ◌&&◌, cond, eqb, ltb, List, [], ◌∷◌, Option, None, Some, Result, Ok, Err, refl, sym, ap, subst, inl, inr, arith}
-use Rattle.std.specs.Prelude.{IfOk, IfErr, is_some}
+use Rattle.std.proofs.Common.{◌≡◌, ◌∙◌, ⊎_elim, ℕ, Bool, true, false, not, ◌||◌, ◌&&◌, cond, eqb, List, [], ◌∷◌, length, map, Option, None, Some, Result, Ok, Err, refl, sym, ap, subst, inl, inr, arith}
+use Rattle.std.specs.Prelude.{is_some, ⊤}
+use Rattle.std.specs.List.{prefix_len}
 use Rattle.std.specs.Option.{option_map_or}
 use Rattle.std.specs.Str.{bytes_eq}
 use Rattle.std.proofs.lemmas.Bool.{cases_Bool, or_parts}
@@ -11,50 +12,24 @@ use Rattle.dimacs.specs.declared.fault.Code.{Code}
 use Rattle.dimacs.specs.declared.fault.Code.TheVariants.{BadLine, NumberRange, OutOfMemory}
 use Rattle.dimacs.specs.declared.numeral.Numeral.{Numeral}
 use Rattle.dimacs.specs.Commands.{is_refused}
-use Rattle.dimacs.specs.Faults.{Row, size_of}
+use Rattle.dimacs.specs.Faults.{Row, item_fields, size_of, some_numeral}
+use Rattle.dimacs.specs.Lines.{fields}
 use Rattle.dimacs.specs.Numerals.{numeral, kept}
+use Rattle.dimacs.specs.Taking.{ByMemory}
 use Rattle.dimacs.proofs.Items.{known}
 use Rattle.disk.specs.declared.stoppable.Pick.{Pick}
-use Rattle.disk.specs.declared.stoppable.Pick.TheVariants.{Old, New, Byte}
 use Rattle.machine.specs.declared.events.Event.{Event}
-use Rattle.machine.specs.declared.events.Writing.{Writing}
-use Rattle.machine.specs.declared.events.Writing.TheVariants.{Flush, Checkpoint}
-use Rattle.scripts.specs.declared.script_stops.Cut.{Cut}
-use Rattle.scripts.specs.ScriptTexts.{StopLine, StopWithinLine, as_line, line_of, pick_from, writing_from, is_pick, is_writing, are_of_stop, is_no_call, is_no_byte, stop_applies, script_line_code}
-use Rattle.scripts.specs.ScriptReading.{three_fields, call_of_numeral, call_read, byte_of_numeral, pick_read, writing_read, cut_of, cut_read, ReadsEvent}
+use Rattle.scripts.specs.declared.script_stops.PicksRead.{PicksRead}
+use Rattle.scripts.specs.ScriptTexts.{ScriptLine, FlushLine, CheckpointLine, StepLine, StopLine, StopWithinLine, as_line, line_of, picks_in, behind_picks, pick_from, writing_from, is_pick, is_writing, is_some_of_most, are_of_stop, is_no_call, is_no_byte, is_no_step, has_number_outside, script_line_code}
+use Rattle.scripts.specs.ScriptReading.{call_of_numeral, call_read, step_read, writing_read, map_line, cut_within, cut_of, ReadsPicks, ReadsEvent}
 use Rattle.scripts.proofs.ScriptLines.{kept_refused, kept_number}
+use Rattle.scripts.proofs.ScriptPicks.{AllPicks, all_picks, many_picks}
+use Rattle.scripts.proofs.ScriptSteps.{no_step_kept}
 
--- ---- no field, and not three
+-- ---- no field
 pub stop_alone : (rest : Row) → rest ≡ [] → ((earlier : List Row) → script_line_code earlier (codes "stop" ∷ rest) ≡ None) × (line_of (codes "stop" ∷ rest) ≡ Some StopLine)
 unfolding script_line_code
 stop_alone rest none = rw none ((λ earlier. refl), refl)
-
-bad_line : (others : Row) (earlier : List Row) → are_of_stop others ≡ false → script_line_code earlier (codes "stop" ∷ others) ≡ Some BadLine
-unfolding script_line_code
-bad_line others earlier e = rw e refl
-
-not_three : (first : List ℕ) (others : Row) → three_fields (first ∷ others) ≡ None → are_of_stop (first ∷ others) ≡ false
-not_three first [] e = refl
-not_three first (x ∷ []) e = refl
-not_three first (x ∷ y ∷ []) e = absurd (let absurdity : ⊥ = cc in absurdity)
-not_three first (x ∷ y ∷ z ∷ more) e = refl
-
-pub stop_fields_fault : (rest others : Row) (first : List ℕ) → rest ≡ first ∷ others → None ≡ three_fields rest → ReadsEvent (codes "stop" ∷ rest) (Err BadLine)
-stop_fields_fault rest others first is e =
-    let none : three_fields (first ∷ others) ≡ None = sym (rw is at e) in
-    rw is (λ earlier. bad_line (first ∷ others) earlier (not_three first others none))
-
-three_are : (rest : Row) (call pick event : List ℕ) → three_fields rest ≡ Some (call, pick, event) → rest ≡ call ∷ pick ∷ event ∷ []
-three_are [] call pick event e = absurd (let absurdity : ⊥ = cc in absurdity)
-three_are (x ∷ []) call pick event e = absurd (let absurdity : ⊥ = cc in absurdity)
-three_are (x ∷ y ∷ []) call pick event e = absurd (let absurdity : ⊥ = cc in absurdity)
-three_are (x ∷ y ∷ z ∷ []) call pick event e =
-    let same : (x, y, z) ≡ (call, pick, event) = cc in
-    let first : x ≡ call = ap (λ (t : List ℕ × List ℕ × List ℕ). t.0) same in
-    let second : y ≡ pick = ap (λ (t : List ℕ × List ℕ × List ℕ). t.1) same in
-    let third : z ≡ event = ap (λ (t : List ℕ × List ℕ × List ℕ). t.2) same in
-    rw (first, second, third) refl
-three_are (x ∷ y ∷ z ∷ w ∷ more) call pick event e = absurd (let absurdity : ⊥ = cc in absurdity)
 
 -- ---- the number of a call
 zero_kept : (n : Numeral) → eqb (kept n).size 0 ≡ eqb n.size 0
@@ -81,122 +56,207 @@ call_cases field =
           ]
     ]
 
--- ---- a pick
-large_kept : (n : Numeral) → ltb 255 (kept n).size ≡ ltb 255 n.size
-large_kept n = grind (arith, nat_tests)
+-- ---- an event that writes
+data WritingCase (row : Row) : Type 0 where
+  NoWriting : writing_read row ≡ None → is_writing row ≡ false → WritingCase row
+  IsWriting : (line : ScriptLine) → writing_read row ≡ Some (Ok line) → is_writing row ≡ true → some_numeral is_no_step (item_fields row) ≡ false → writing_from row ≡ line → WritingCase row
+  NoPages : writing_read row ≡ Some (Err NumberRange) → is_writing row ≡ true → some_numeral is_no_step (item_fields row) ≡ true → WritingCase row
 
-no_byte_kept : (n : Numeral) → is_no_byte (kept n) ≡ is_no_byte n
-no_byte_kept n = ap (λ (b : Bool). b || ltb 255 (kept n).size) (kept_refused n) ∙ ap (λ (b : Bool). is_refused n || b) (large_kept n)
+flush_case : (behind : Row) → WritingCase (codes "flush" ∷ behind)
+flush_case [] = IsWriting FlushLine refl refl refl refl
+flush_case (field ∷ []) = NoWriting refl refl
+flush_case (field ∷ next ∷ more) = NoWriting refl refl
 
-data PickCase (field : List ℕ) : Type 0 where
-  NoPick : pick_read field ≡ None → is_pick field ≡ false → PickCase field
-  IsPick : (pick : Pick) → pick_read field ≡ Some (Ok pick) → is_pick field ≡ true → option_map_or is_no_byte (numeral field) false ≡ false → pick_from field ≡ pick → PickCase field
-  NoByte : pick_read field ≡ Some (Err NumberRange) → is_pick field ≡ true → option_map_or is_no_byte (numeral field) false ≡ true → PickCase field
+checkpoint_case : (behind : Row) → WritingCase (codes "checkpoint" ∷ behind)
+checkpoint_case [] = IsWriting CheckpointLine refl refl refl refl
+checkpoint_case (field ∷ []) = NoWriting refl refl
+checkpoint_case (field ∷ next ∷ more) = NoWriting refl refl
 
-old_case : PickCase (codes "old")
-old_case = IsPick Old refl refl refl refl
-
-new_case : PickCase (codes "new")
-new_case = IsPick New refl refl refl refl
-
-byte_case : (field : List ℕ) → bytes_eq field (codes "old") ≡ false → bytes_eq field (codes "new") ≡ false → PickCase field
-byte_case field no_old no_new =
+one_step_case : (field : List ℕ) → WritingCase (codes "step" ∷ field ∷ [])
+one_step_case field =
     elim (known (numeral field)) [
-      | inl e ↦ NoPick (rw (no_old, no_new, e) refl) (rw (no_old, no_new, e) refl)
+      | inl e ↦ NoWriting (rw e refl) (rw e refl)
       | inr (a, e) ↦
-          let read : pick_read field ≡ Some (byte_of_numeral (kept a)) = rw (no_old, no_new, e) refl in
-          let some : is_pick field ≡ true = rw (no_old, no_new, e) refl in
-          elim (cases_Bool (is_no_byte a)) [
-            | inl out ↦ NoByte (read ∙ rw (no_byte_kept a, out) refl) some (rw e out)
-            | inr inside ↦ IsPick (Byte (kept a).size) (read ∙ rw (no_byte_kept a, inside) refl) some (rw e inside)
-                (rw (no_old, no_new, e) (ap Byte (sym (ap (λ (n : Numeral). n.size) (kept_number a (or_parts _ _ inside).0)))))
+          let read : writing_read (codes "step" ∷ field ∷ []) ≡ Some (step_read (kept a)) = rw e refl in
+          elim (cases_Bool (is_no_step a)) [
+            | inl out ↦ NoPages (read ∙ rw (no_step_kept a, out) refl) (rw e refl) (rw (e, out) refl)
+            | inr inside ↦ IsWriting (StepLine (kept a).size) (read ∙ rw (no_step_kept a, inside) refl) (rw e refl) (rw (e, inside) refl)
+                (rw e (sym (ap (λ (n : Numeral). StepLine n.size) (kept_number a (or_parts _ _ inside).0))))
           ]
     ]
 
-pick_cases : (field : List ℕ) → PickCase field
-pick_cases field =
-    elim (cases_Bool (bytes_eq field (codes "old"))) [
-      | inl old ↦ subst PickCase (sym ((bytes_eq-Decides field (codes "old")).0 old)) old_case
-      | inr no_old ↦ elim (cases_Bool (bytes_eq field (codes "new"))) [
-        | inl new ↦ subst PickCase (sym ((bytes_eq-Decides field (codes "new")).0 new)) new_case
-        | inr no_new ↦ byte_case field no_old no_new
+two_step_fields : (field next : List ℕ) (more : Row) → writing_read (codes "step" ∷ field ∷ next ∷ more) ≡ None
+two_step_fields field next more =
+    elim (known (numeral field)) [
+      | inl e ↦ rw e refl
+      | inr (a, e) ↦ rw e refl
+    ]
+
+step_case : (behind : Row) → WritingCase (codes "step" ∷ behind)
+step_case [] = NoWriting refl refl
+step_case (field ∷ []) = one_step_case field
+step_case (field ∷ next ∷ more) = NoWriting (two_step_fields field next more) refl
+
+no_word : (word : List ℕ) (behind : Row) → bytes_eq word (codes "flush") ≡ false → bytes_eq word (codes "checkpoint") ≡ false → bytes_eq word (codes "step") ≡ false → is_writing (word ∷ behind) ≡ false
+no_word word [] no_flush no_checkpoint no_step = rw (no_flush, no_checkpoint) refl
+no_word word (pages ∷ []) no_flush no_checkpoint no_step = rw no_step refl
+no_word word (pages ∷ next ∷ more) no_flush no_checkpoint no_step = refl
+
+word_case : (word : List ℕ) (behind : Row) → WritingCase (word ∷ behind)
+word_case word behind =
+    elim (cases_Bool (bytes_eq word (codes "flush"))) [
+      | inl flush ↦ subst (λ (w : List ℕ). WritingCase (w ∷ behind)) (sym ((bytes_eq-Decides word (codes "flush")).0 flush)) (flush_case behind)
+      | inr no_flush ↦ elim (cases_Bool (bytes_eq word (codes "checkpoint"))) [
+        | inl checkpoint ↦ subst (λ (w : List ℕ). WritingCase (w ∷ behind)) (sym ((bytes_eq-Decides word (codes "checkpoint")).0 checkpoint)) (checkpoint_case behind)
+        | inr no_checkpoint ↦ elim (cases_Bool (bytes_eq word (codes "step"))) [
+          | inl step ↦ subst (λ (w : List ℕ). WritingCase (w ∷ behind)) (sym ((bytes_eq-Decides word (codes "step")).0 step)) (step_case behind)
+          | inr no_step ↦ NoWriting (rw (no_flush, no_checkpoint, no_step) refl) (no_word word behind no_flush no_checkpoint no_step)
+        ]
       ]
     ]
 
--- ---- an event that writes
-data WritingCase (field : List ℕ) : Type 0 where
-  NoWriting : writing_read field ≡ None → is_writing field ≡ false → WritingCase field
-  IsWriting : (writing : Writing) → writing_read field ≡ Some writing → is_writing field ≡ true → writing_from field ≡ writing → WritingCase field
+writing_cases : (row : Row) → WritingCase row
+writing_cases [] = NoWriting refl refl
+writing_cases (word ∷ behind) = word_case word behind
 
-writing_cases : (field : List ℕ) → WritingCase field
-writing_cases field =
-    elim (cases_Bool (bytes_eq field (codes "flush"))) [
-      | inl flush ↦ IsWriting Flush (rw flush refl) (rw flush refl) (rw flush refl)
-      | inr no_flush ↦ elim (cases_Bool (bytes_eq field (codes "checkpoint"))) [
-        | inl checkpoint ↦ IsWriting Checkpoint (rw (no_flush, checkpoint) refl) (rw (no_flush, checkpoint) refl) (rw no_flush refl)
-        | inr none ↦ NoWriting (rw (no_flush, none) refl) (rw (no_flush, none) refl)
-      ]
-    ]
+-- ---- all of them
+-- what a line says, by the line of its event
+abbrev SaysLine : Row → Result ScriptLine Code → Type 0
+SaysLine row (Ok line) = ((earlier : List Row) → script_line_code earlier row ≡ None) × (line_of row ≡ Some line)
+SaysLine row (Err code) = ByMemory code ((earlier : List Row) → script_line_code earlier row ≡ Some code) ⊤
 
--- ---- the three of them
-abbrev RightCut : Row → Result Cut Code → Type 0
-RightCut others (Ok cut) = ((earlier : List Row) → script_line_code earlier (codes "stop" ∷ others) ≡ None) × (line_of (codes "stop" ∷ others) ≡ Some (StopWithinLine cut.call (cut.pick ∷ []) cut.writing))
-RightCut others (Err code) = ReadsEvent (codes "stop" ∷ others) (Err code)
+bad_line : (others : Row) (earlier : List Row) → are_of_stop others ≡ false → script_line_code earlier (codes "stop" ∷ others) ≡ Some BadLine
+unfolding script_line_code
+bad_line others earlier e = rw e refl
 
-module _ (call pick event : List ℕ) where
-  abbrev three : Row
-  three = call ∷ pick ∷ event ∷ []
+code_of_stop : (others : Row) (r : Bool) (earlier : List Row) → are_of_stop others ≡ true → has_number_outside others ≡ r → script_line_code earlier (codes "stop" ∷ others) ≡ cond r (Some NumberRange) None
+unfolding script_line_code
+code_of_stop others r earlier e f = rw (e, f) refl
 
-  cut_is : (a : Option (Result ℕ Code)) (b : Option (Result Pick Code)) (c : Option Writing) → call_read call ≡ a → pick_read pick ≡ b → writing_read event ≡ c
-      → RightCut three (cut_of a b c) → RightCut three (cut_read call pick event)
-  cut_is a b c e f g right =
-      let same : cut_read call pick event ≡ cut_of a b c = ap (λ x. cut_of x (pick_read pick) (writing_read event)) e ∙ ap (λ y. cut_of a y (writing_read event)) f ∙ ap (cut_of a b) g in
-      subst (RightCut three) (sym same) right
+module _ (call : List ℕ) (behind : Row) where
+  abbrev all : Row
+  all = call ∷ behind
 
-  are_three : (a b c : Bool) → is_some (numeral call) ≡ a → is_pick pick ≡ b → is_writing event ≡ c → are_of_stop three ≡ (a && b && c)
-  are_three a b c e f g = rw (e, f, g) refl
+  are_all : (a b c : Bool) → is_some (numeral call) ≡ a → is_some_of_most (prefix_len is_pick behind) ≡ b → is_writing (behind_picks behind) ≡ c → are_of_stop all ≡ (a && b && c)
+  are_all a b c e f g = ap (λ (x : Bool). x && is_some_of_most (prefix_len is_pick behind) && is_writing (behind_picks behind)) e
+      ∙ (ap (λ (y : Bool). a && y && is_writing (behind_picks behind)) f ∙ ap (λ (z : Bool). a && b && z) g)
 
-  range_of : (a b : Bool) → option_map_or is_no_call (numeral call) false ≡ a → option_map_or is_no_byte (numeral pick) false ≡ b → stop_applies three NumberRange ≡ (a || (b || false))
-  range_of a b e f = ap (λ (x : Bool). x || (option_map_or is_no_byte (numeral pick) false || false)) e ∙ ap (λ (y : Bool). a || (y || false)) f
+  outside_all : (a b c : Bool) → option_map_or is_no_call (numeral call) false ≡ a → some_numeral is_no_byte (picks_in behind) ≡ b → some_numeral is_no_step (item_fields (behind_picks behind)) ≡ c
+      → has_number_outside all ≡ ((a || false) || b || c)
+  outside_all a b c e f g = ap (λ (x : Bool). (x || false) || some_numeral is_no_byte (picks_in behind) || some_numeral is_no_step (item_fields (behind_picks behind))) e
+      ∙ (ap (λ (y : Bool). (a || false) || y || some_numeral is_no_step (item_fields (behind_picks behind))) f ∙ ap (λ (z : Bool). (a || false) || b || z) g)
 
-  code_of_three : (r : Bool) (earlier : List Row) → are_of_stop three ≡ true → stop_applies three NumberRange ≡ r → script_line_code earlier (codes "stop" ∷ three) ≡ cond r (Some NumberRange) None
-  unfolding script_line_code
-  code_of_three r earlier e f = rw (e, f) refl
+  says_all : (n : ℕ) (ps : List Pick) (line : ScriptLine) → size_of call ≡ n → map pick_from (picks_in behind) ≡ ps → writing_from (behind_picks behind) ≡ line → line_of (codes "stop" ∷ all) ≡ Some (StopWithinLine n ps line)
+  says_all n ps line e f g =
+      let whole : line_of (codes "stop" ∷ all) ≡ Some (StopWithinLine (size_of call) (map pick_from (picks_in behind)) (writing_from (behind_picks behind))) = refl in
+      whole ∙ (ap (λ (x : ℕ). Some (StopWithinLine x (map pick_from (picks_in behind)) (writing_from (behind_picks behind)))) e
+      ∙ (ap (λ (y : List Pick). Some (StopWithinLine n y (writing_from (behind_picks behind)))) f ∙ ap (λ (z : ScriptLine). Some (StopWithinLine n ps z)) g))
 
-  says : (n : ℕ) (p : Pick) (w : Writing) → size_of call ≡ n → pick_from pick ≡ p → writing_from event ≡ w → line_of (codes "stop" ∷ three) ≡ Some (StopWithinLine n (p ∷ []) w)
-  says n p w e f g =
-      let line : line_of (codes "stop" ∷ three) ≡ Some (StopWithinLine (size_of call) (pick_from pick ∷ []) (writing_from event)) = refl in
-      line ∙ ap (λ (x : ℕ). Some (StopWithinLine x (pick_from pick ∷ []) (writing_from event))) e ∙ ap (λ (y : Pick). Some (StopWithinLine n (y ∷ []) (writing_from event))) f ∙ ap (λ (z : Writing). Some (StopWithinLine n (p ∷ []) z)) g
+  cut_is : (ps : List Pick) (right : Bool) (a : Option (Result ℕ Code)) (b : Option (Result ScriptLine Code)) (row : Row) → call_read call ≡ a → writing_read row ≡ b
+      → SaysLine (codes "stop" ∷ all) (cut_of a ps right b) → SaysLine (codes "stop" ∷ all) (cut_of (call_read call) ps right (writing_read row))
+  cut_is ps right a b row e f says = subst (SaysLine (codes "stop" ∷ all)) (sym (ap (λ x. cut_of x ps right (writing_read row)) e ∙ ap (cut_of a ps right) f)) says
 
-  right_writing : CallCase call → PickCase pick → WritingCase event → RightCut three (cut_read call pick event)
-  right_writing (NoNumeral e1 e2) p w = cut_is None (pick_read pick) (writing_read event) e1 refl refl (λ earlier. bad_line three earlier (are_three false _ _ e2 refl refl))
-  right_writing (IsCall n e1 e2 e3 e4) (NoPick f1 f2) w = cut_is (Some (Ok n)) None (writing_read event) e1 f1 refl (λ earlier. bad_line three earlier (are_three true false _ e2 f2 refl))
-  right_writing (NoCall e1 e2 e3) (NoPick f1 f2) w = cut_is (Some (Err NumberRange)) None (writing_read event) e1 f1 refl (λ earlier. bad_line three earlier (are_three true false _ e2 f2 refl))
-  right_writing (IsCall n e1 e2 e3 e4) (IsPick p f1 f2 f3 f4) (NoWriting g1 g2) = cut_is (Some (Ok n)) (Some (Ok p)) None e1 f1 g1 (λ earlier. bad_line three earlier (are_three true true false e2 f2 g2))
-  right_writing (IsCall n e1 e2 e3 e4) (NoByte f1 f2 f3) (NoWriting g1 g2) = cut_is (Some (Ok n)) (Some (Err NumberRange)) None e1 f1 g1 (λ earlier. bad_line three earlier (are_three true true false e2 f2 g2))
-  right_writing (NoCall e1 e2 e3) (IsPick p f1 f2 f3 f4) (NoWriting g1 g2) = cut_is (Some (Err NumberRange)) (Some (Ok p)) None e1 f1 g1 (λ earlier. bad_line three earlier (are_three true true false e2 f2 g2))
-  right_writing (NoCall e1 e2 e3) (NoByte f1 f2 f3) (NoWriting g1 g2) = cut_is (Some (Err NumberRange)) (Some (Err NumberRange)) None e1 f1 g1 (λ earlier. bad_line three earlier (are_three true true false e2 f2 g2))
-  right_writing (IsCall n e1 e2 e3 e4) (IsPick p f1 f2 f3 f4) (IsWriting w g1 g2 g3) =
-      cut_is (Some (Ok n)) (Some (Ok p)) (Some w) e1 f1 g1 ((λ earlier. code_of_three false earlier (are_three true true true e2 f2 g2) (range_of false false e3 f3)), says n p w e4 f4 g3)
-  right_writing (IsCall n e1 e2 e3 e4) (NoByte f1 f2 f3) (IsWriting w g1 g2 g3) =
-      cut_is (Some (Ok n)) (Some (Err NumberRange)) (Some w) e1 f1 g1 (λ earlier. code_of_three true earlier (are_three true true true e2 f2 g2) (range_of false true e3 f3))
-  right_writing (NoCall e1 e2 e3) (IsPick p f1 f2 f3 f4) (IsWriting w g1 g2 g3) =
-      cut_is (Some (Err NumberRange)) (Some (Ok p)) (Some w) e1 f1 g1 (λ earlier. code_of_three true earlier (are_three true true true e2 f2 g2) (range_of true _ e3 refl))
-  right_writing (NoCall e1 e2 e3) (NoByte f1 f2 f3) (IsWriting w g1 g2 g3) =
-      cut_is (Some (Err NumberRange)) (Some (Err NumberRange)) (Some w) e1 f1 g1 (λ earlier. code_of_three true earlier (are_three true true true e2 f2 g2) (range_of true _ e3 refl))
+  -- too many picks: whatever stands beside them
+  cut_of_many : (ps : List Pick) (right : Bool) (a : Option (Result ℕ Code)) (b : Option (Result ScriptLine Code)) → is_some_of_most (length ps) ≡ false → cut_of a ps right b ≡ Err BadLine
+  cut_of_many ps right None None few = refl
+  cut_of_many ps right None (Some line) few = refl
+  cut_of_many ps right (Some n) None few = refl
+  cut_of_many ps right (Some n) (Some line) few = rw few refl
 
-  pub right_cut : RightCut three (cut_read call pick event)
-  right_cut = right_writing (call_cases call) (pick_cases pick) (writing_cases event)
+  no_part : (a b : Bool) → (a && false && b) ≡ false
+  no_part true b = refl
+  no_part false b = refl
 
--- what is told of a cut
-pub cut_told : (rest : Row) (call pick event : List ℕ) (cut : Cut) (result : Result (Event Pick) Code) → Some (call, pick, event) ≡ three_fields rest → Ok cut ≡ cut_read call pick event
-    → IfOk result (λ told. as_line told ≡ StopWithinLine cut.call (cut.pick ∷ []) cut.writing) → IfErr result (λ code. code ≡ OutOfMemory) → ReadsEvent (codes "stop" ∷ rest) result
-cut_told rest call pick event cut (Ok told) is read said memory =
-    let right : RightCut (call ∷ pick ∷ event ∷ []) (Ok cut) = subst (RightCut (call ∷ pick ∷ event ∷ [])) (sym read) (right_cut call pick event) in
-    rw (three_are rest call pick event (sym is)) (right.0, right.1 ∙ ap Some (sym said))
-cut_told rest call pick event cut (Err code) is read said memory = rw memory tt
+  says_many : (ps : List Pick) (right : Bool) (a : Option (Result ℕ Code)) (b : Option (Result ScriptLine Code)) → is_some_of_most (prefix_len is_pick behind) ≡ false → is_some_of_most (length ps) ≡ false
+      → SaysLine (codes "stop" ∷ all) (cut_of a ps right b)
+  says_many ps right a b row few = subst (SaysLine (codes "stop" ∷ all)) (sym (cut_of_many ps right a b few))
+      (λ earlier. bad_line all earlier (are_all _ false _ refl row refl ∙ no_part (is_some (numeral call)) (is_writing (behind_picks behind))))
 
-pub cut_fault : (rest : Row) (call pick event : List ℕ) (code : Code) → Some (call, pick, event) ≡ three_fields rest → Err code ≡ cut_read call pick event → ReadsEvent (codes "stop" ∷ rest) (Err code)
-cut_fault rest call pick event code is read =
-    let right : RightCut (call ∷ pick ∷ event ∷ []) (Err code) = subst (RightCut (call ∷ pick ∷ event ∷ [])) (sym read) (right_cut call pick event) in
-    rw (three_are rest call pick event (sym is)) right
+  -- picks as many as may be
+  module _ (ps : List Pick) (right : Bool) (some : is_some_of_most (prefix_len is_pick behind) ≡ true) (few : is_some_of_most (length ps) ≡ true) (range : some_numeral is_no_byte (picks_in behind) ≡ not right)
+    (picks : right ≡ true → ps ≡ map pick_from (picks_in behind)) where
+    abbrev whole : Row
+    whole = codes "stop" ∷ all
+
+    cut_some : (c : Result ℕ Code) (w : Result ScriptLine Code) → cut_of (Some c) ps right (Some w) ≡ cut_within c ps right w
+    cut_some c w = rw few refl
+
+    within : (c : Result ℕ Code) (w : Result ScriptLine Code) → SaysLine whole (cut_within c ps right w) → SaysLine whole (cut_of (Some c) ps right (Some w))
+    within c w says = subst (SaysLine whole) (sym (cut_some c w)) says
+
+    outside : (a c : Bool) → is_some (numeral call) ≡ true → is_writing (behind_picks behind) ≡ true → option_map_or is_no_call (numeral call) false ≡ a → some_numeral is_no_step (item_fields (behind_picks behind)) ≡ c
+        → ((a || false) || not right || c) ≡ true → (earlier : List Row) → script_line_code earlier whole ≡ Some NumberRange
+    outside a c numeral_is writing_is e g out earlier = code_of_stop all true earlier (are_all true true true numeral_is some writing_is) (outside_all a (not right) c e range g ∙ out)
+
+    inside_right : (b : Bool) → right ≡ b → (n : ℕ) (line : ScriptLine) → is_some (numeral call) ≡ true → is_writing (behind_picks behind) ≡ true → option_map_or is_no_call (numeral call) false ≡ false
+        → some_numeral is_no_step (item_fields (behind_picks behind)) ≡ false → size_of call ≡ n → writing_from (behind_picks behind) ≡ line → SaysLine whole (cut_within (Ok n) ps b (Ok line))
+    inside_right true is n line e f g h size from = (
+      (λ earlier. code_of_stop all false earlier (are_all true true true e some f) (outside_all false (not right) false g range h ∙ rw is refl)),
+      says_all n ps line size (sym (picks is)) from,
+    )
+    inside_right false is n line e f g h size from = λ earlier. outside false false e f g h (rw is refl) earlier
+
+    refused_call : (w : Result ScriptLine Code) → cut_within (Err NumberRange) ps right w ≡ Err NumberRange
+    refused_call (Ok line) = refl
+    refused_call (Err code) = refl
+
+    refused_pages : (b : Bool) (c : Result ℕ Code) → cut_within c ps b (Err NumberRange) ≡ Err NumberRange
+    refused_pages true (Ok n) = refl
+    refused_pages false (Ok n) = refl
+    refused_pages true (Err code) = refl
+    refused_pages false (Err code) = refl
+
+    or_true : (a b : Bool) → ((a || false) || b || true) ≡ true
+    or_true true b = refl
+    or_true false true = refl
+    or_true false false = refl
+
+    says_some : CallCase call → WritingCase (behind_picks behind) → SaysLine whole (cut_of (call_read call) ps right (writing_read (behind_picks behind)))
+    says_some (NoNumeral e1 e2) w =
+        cut_is ps right None (writing_read (behind_picks behind)) (behind_picks behind) e1 refl (none (writing_read (behind_picks behind)))
+      where
+        none : (b : Option (Result ScriptLine Code)) → SaysLine whole (cut_of None ps right b)
+        none None = λ earlier. bad_line all earlier (are_all false _ _ e2 refl refl)
+        none (Some line) = λ earlier. bad_line all earlier (are_all false _ _ e2 refl refl)
+    says_some (IsCall n e1 e2 e3 e4) (NoWriting g1 g2) = cut_is ps right (Some (Ok n)) None (behind_picks behind) e1 g1 (λ earlier. bad_line all earlier (are_all true true false e2 some g2))
+    says_some (NoCall e1 e2 e3) (NoWriting g1 g2) = cut_is ps right (Some (Err NumberRange)) None (behind_picks behind) e1 g1 (λ earlier. bad_line all earlier (are_all true true false e2 some g2))
+    says_some (IsCall n e1 e2 e3 e4) (IsWriting line g1 g2 g3 g4) = cut_is ps right (Some (Ok n)) (Some (Ok line)) (behind_picks behind) e1 g1 (within (Ok n) (Ok line) (inside_right right refl n line e2 g2 e3 g3 e4 g4))
+    says_some (IsCall n e1 e2 e3 e4) (NoPages g1 g2 g3) =
+        cut_is ps right (Some (Ok n)) (Some (Err NumberRange)) (behind_picks behind) e1 g1 (within (Ok n) (Err NumberRange)
+        (subst (SaysLine whole) (sym (refused_pages right (Ok n))) (outside false true e2 g2 e3 g3 (or_true false (not right)))))
+    says_some (NoCall e1 e2 e3) (IsWriting line g1 g2 g3 g4) =
+        cut_is ps right (Some (Err NumberRange)) (Some (Ok line)) (behind_picks behind) e1 g1 (within (Err NumberRange) (Ok line)
+        (subst (SaysLine whole) (sym (refused_call (Ok line))) (outside true false e2 g2 e3 g3 refl)))
+    says_some (NoCall e1 e2 e3) (NoPages g1 g2 g3) =
+        cut_is ps right (Some (Err NumberRange)) (Some (Err NumberRange)) (behind_picks behind) e1 g1 (within (Err NumberRange) (Err NumberRange)
+        (subst (SaysLine whole) (sym (refused_call (Err NumberRange))) (outside true true e2 g2 e3 g3 refl)))
+
+  -- what was read of the picks decides with what stands beside them
+  by_count : (read : PicksRead) → AllPicks behind read → (b : Bool) → is_some_of_most (length read.picks.items) ≡ b
+      → SaysLine (codes "stop" ∷ all) (cut_of (call_read call) read.picks.items read.in_range (writing_read (fields read.rest.now)))
+  by_count read has true few =
+      subst (λ (row : Row). SaysLine (codes "stop" ∷ all) (cut_of (call_read call) read.picks.items read.in_range (writing_read row))) has.behind
+      (says_some read.picks.items read.in_range (ap is_some_of_most has.count ∙ few) few has.in_range has.picks_are (call_cases call) (writing_cases (behind_picks behind)))
+  by_count read has false few = says_many read.picks.items read.in_range (call_read call) (writing_read (fields read.rest.now)) (ap is_some_of_most has.count ∙ few) few
+
+  right_stop : (read : PicksRead) → ReadsPicks behind read → SaysLine (codes "stop" ∷ all) (cut_of (call_read call) read.picks.items read.in_range (writing_read (fields read.rest.now)))
+  right_stop read reads =
+      ⊎_elim
+      (λ many. let far = many_picks behind reads.taken read reads.has many in says_many read.picks.items read.in_range (call_read call) (writing_read (fields read.rest.now)) far.0 far.1)
+      (λ none. by_count read (all_picks behind reads.taken read reads.has none) (is_some_of_most (length read.picks.items)) refl)
+      reads.ends
+
+-- the event of such a line
+told_by_line : (row : Row) (result : Result (Event Pick) Code) → SaysLine row (map_line as_line result) → ReadsEvent row result
+told_by_line row (Ok event) says = says
+told_by_line row (Err code) says = says
+
+pub stop_told : (rest behind : Row) (call : List ℕ) (read : PicksRead) (called : Option (Result ℕ Code)) (within : Option (Result ScriptLine Code)) (result : Result (Event Pick) Code) → rest ≡ call ∷ behind
+    → ReadsPicks behind read → called ≡ call_read call → within ≡ writing_read (fields read.rest.now) → map_line as_line result ≡ cut_of called read.picks.items read.in_range within → ReadsEvent (codes "stop" ∷ rest) result
+stop_told rest behind call read called within result is reads e f cut =
+    let same : map_line as_line result ≡ cut_of (call_read call) read.picks.items read.in_range (writing_read (fields read.rest.now)) =
+    cut ∙ (ap (λ (x : Option (Result ℕ Code)). cut_of x read.picks.items read.in_range within) e ∙ ap (cut_of (call_read call) read.picks.items read.in_range) f) in
+    rw is (told_by_line (codes "stop" ∷ call ∷ behind) result (subst (SaysLine (codes "stop" ∷ call ∷ behind)) (sym same) (right_stop call behind read reads)))
+
+pub stop_without_memory : (rest : Row) (code : Code) → code ≡ OutOfMemory → ReadsEvent (codes "stop" ∷ rest) (Err code)
+stop_without_memory rest code memory = rw memory tt

@@ -1,6 +1,6 @@
 -- One line of a script, read from left to right.
-use Rattle.std.specs.Prelude.{◌≡◌, ℕ, true, false, ◌||◌, List, [], ◌∷◌, Option, None, Some, option_map, Result, Ok, Err, map, if◌then◌else◌, ⊤}
-use Rattle.std.specs.List.{find}
+use Rattle.std.specs.Prelude.{◌≡◌, ◌⊎◌, ◌<◌, ℕ, Bool, true, false, ◌||◌, not, List, [], ◌∷◌, ◌++◌, length, Option, None, Some, option_map, Result, Ok, Err, map, if◌then◌else◌, ⊤}
+use Rattle.std.specs.List.{find, prefix_len}
 use Rattle.std.specs.Str.{bytes_eq}
 use lib.Chars.{codes}
 use Rattle.roadnet.specs.declared.commands.Command.TheVariants.{Set as set_arc, Close as close_arc, Reopen as reopen_arc, Mark as mark_node, Unmark as unmark_node}
@@ -8,16 +8,15 @@ use Rattle.dimacs.specs.declared.numeral.Numeral.{Numeral}
 use Rattle.dimacs.specs.declared.fault.Code.{Code}
 use Rattle.dimacs.specs.declared.fault.Code.TheVariants.{BadLine, NumberRange}
 use Rattle.dimacs.specs.Commands.{form_of}
-use Rattle.dimacs.specs.Faults.{Row, is_empty, is_remark}
+use Rattle.dimacs.specs.Faults.{Row, has_first, is_empty, is_remark, some_numeral}
 use Rattle.dimacs.specs.Lines.{fields}
 use Rattle.dimacs.specs.Numerals.{numeral, kept}
+use Rattle.dimacs.specs.Reading.{one_numeral}
 use Rattle.dimacs.specs.Taking.{ByMemory}
 use Rattle.disk.specs.declared.stoppable.Pick.{Pick}
 use Rattle.disk.specs.declared.stoppable.Pick.TheVariants.{Old, New, Byte}
 use Rattle.rows.specs.declared.queries.Query.TheVariants.{Dist as distance, From as distance_from, Lower as lower_bound}
 use Rattle.machine.specs.declared.events.Event.{Event}
-use Rattle.machine.specs.declared.events.Writing.{Writing}
-use Rattle.machine.specs.declared.events.Writing.TheVariants.{Flush as a_flush, Checkpoint as a_checkpoint}
 use Rattle.scripts.specs.declared.script_words.Bare.{Bare}
 use Rattle.scripts.specs.declared.script_words.Bare.TheVariants.{Flush, Checkpoint, Task, Publish}
 use Rattle.scripts.specs.declared.script_words.OneNumber.{OneNumber}
@@ -26,11 +25,13 @@ use Rattle.scripts.specs.declared.script_words.TwoNumbers.{TwoNumbers}
 use Rattle.scripts.specs.declared.script_words.TwoNumbers.TheVariants.{Set, Dist, From, Lower}
 use Rattle.scripts.specs.declared.script_words.Word.{Word}
 use Rattle.scripts.specs.declared.script_words.Word.TheVariants.{WithNone, WithOne, WithTwo, Stop, Step}
-use Rattle.scripts.specs.declared.script_stops.Cut.{Cut}
+use Rattle.scripts.specs.declared.script_stops.PicksRead.{PicksRead}
+use Rattle.scripts.specs.declared.script_stops.WritingWord.{WritingWord}
+use Rattle.scripts.specs.declared.script_stops.WritingWord.TheVariants.{Flush as flush_word, Checkpoint as checkpoint_word, Step as step_word}
 use Rattle.scripts.specs.declared.script_texts.Kind.{Kind}
 use Rattle.scripts.specs.declared.script_texts.Kind.TheVariants.{Ignored, Known, Unknown}
 use Rattle.scripts.specs.declared.script_texts.EventLines.{EventLines}
-use Rattle.scripts.specs.ScriptTexts.{ScriptLine, CommandLine, FlushLine, CheckpointLine, TaskLine, PublishLine, QueryLine, as_line, line_of, lines_in, numbered, is_stop, is_step, is_no_call, is_no_byte, script_line_code}
+use Rattle.scripts.specs.ScriptTexts.{ScriptLine, CommandLine, FlushLine, CheckpointLine, StepLine, TaskLine, PublishLine, QueryLine, StopWithinLine, as_line, line_of, lines_in, numbered, is_stop, is_step, is_pick, pick_from, most_picks, is_some_of_most, is_no_call, is_no_byte, is_no_step, script_line_code}
 
 -- WORDS
 
@@ -83,10 +84,6 @@ two_line Lower n m = QueryLine (lower_bound n m)
 
 -- FIELDS BEHIND `stop`
 
-abbrev pub three_fields : Row → Option (List ℕ × List ℕ × List ℕ)
-three_fields (call ∷ pick ∷ event ∷ []) = Some (call, pick, event)
-three_fields others = None
-
 -- the number of a call, which is refused or told; or the field is no numeral
 abbrev pub call_of_numeral : Numeral → Result ℕ Code
 call_of_numeral n = if is_no_call n then Err NumberRange else Ok n.size
@@ -101,19 +98,63 @@ abbrev pub pick_read : List ℕ → Option (Result Pick Code)
 pick_read field = if bytes_eq field (codes "old") then Some (Ok Old) else (if bytes_eq field (codes "new") then Some (Ok New)
     else option_map (λ n. byte_of_numeral (kept n)) (numeral field))
 
-abbrev pub writing_read : List ℕ → Option Writing
-writing_read field = if bytes_eq field (codes "flush") then Some a_flush else (if bytes_eq field (codes "checkpoint") then Some a_checkpoint else None)
+-- the pick that is kept of a field: an old byte stands for a number that is none of a byte
+abbrev pub pick_kept : Result Pick Code → Pick
+pick_kept (Ok pick) = pick
+pick_kept (Err code) = Old
 
-abbrev pub cut_of : Option (Result ℕ Code) → Option (Result Pick Code) → Option Writing → Result Cut Code
-cut_of None pick writing = Err BadLine
-cut_of (Some call) None writing = Err BadLine
-cut_of (Some call) (Some pick) None = Err BadLine
-cut_of (Some (Ok call)) (Some (Ok pick)) (Some writing) = Ok (record { call = call; pick = pick; writing = writing })
-cut_of (Some (Ok call)) (Some (Err code)) (Some writing) = Err NumberRange
-cut_of (Some (Err code)) (Some pick) (Some writing) = Err NumberRange
+abbrev pub is_in_range : Result Pick Code → Bool
+is_in_range (Ok pick) = true
+is_in_range (Err code) = false
 
-abbrev pub cut_read : List ℕ → List ℕ → List ℕ → Result Cut Code
-cut_read call pick event = cut_of (call_read call) (pick_read pick) (writing_read event)
+-- Of the fields of a row these were read, and each is a pick. Where each is in range, these are the picks.
+pub record HasPicks (row taken : Row) (read : PicksRead) : Type 0 where
+  pub row_is : row ≡ taken ++ fields read.rest.now
+  pub are_picks : prefix_len is_pick taken ≡ length taken
+  pub count : length read.picks.items ≡ length taken
+  pub in_range : some_numeral is_no_byte taken ≡ not read.in_range
+  pub picks_are : read.in_range ≡ true → read.picks.items ≡ map pick_from taken
+
+-- all picks with which the row begins were read, or more than a stop may have
+pub record ReadsPicks (row : Row) (read : PicksRead) : Type 0 where
+  pub taken : Row
+  pub has : HasPicks row taken read
+  pub ends : (most_picks < length taken) ⊎ (has_first is_pick (fields read.rest.now) ≡ false)
+
+abbrev pub writing_word : List ℕ → Option WritingWord
+writing_word field = if bytes_eq field (codes "flush") then Some flush_word else (if bytes_eq field (codes "checkpoint") then Some checkpoint_word
+    else (if bytes_eq field (codes "step") then Some step_word else None))
+
+-- the line of an event that writes, or its number of pages is refused; or the fields are none
+abbrev pub step_read : Numeral → Result ScriptLine Code
+step_read n = if is_no_step n then Err NumberRange else Ok (StepLine n.size)
+
+abbrev pub alone_read : ScriptLine → Row → Option (Result ScriptLine Code)
+alone_read line behind = if is_empty behind then Some (Ok line) else None
+
+abbrev pub writing_behind : Option WritingWord → Row → Option (Result ScriptLine Code)
+writing_behind None behind = None
+writing_behind (Some flush_word) behind = alone_read FlushLine behind
+writing_behind (Some checkpoint_word) behind = alone_read CheckpointLine behind
+writing_behind (Some step_word) behind = option_map step_read (one_numeral behind)
+
+abbrev pub writing_read : Row → Option (Result ScriptLine Code)
+writing_read [] = None
+writing_read (word ∷ behind) = writing_behind (writing_word word) behind
+
+-- an answer, with the line of what it has
+abbrev pub map_line : {X : Type 0} → (X → ScriptLine) → Result X Code → Result ScriptLine Code
+map_line line (Ok x) = Ok (line x)
+map_line line (Err code) = Err code
+
+-- the stop with this call, these picks and this event, or the code of its fault
+abbrev pub cut_within : Result ℕ Code → List Pick → Bool → Result ScriptLine Code → Result ScriptLine Code
+cut_within (Ok call) picks true (Ok within) = Ok (StopWithinLine call picks within)
+cut_within call picks in_range within = Err NumberRange
+
+abbrev pub cut_of : Option (Result ℕ Code) → List Pick → Bool → Option (Result ScriptLine Code) → Result ScriptLine Code
+cut_of (Some call) picks in_range (Some within) = if is_some_of_most (length picks) then cut_within call picks in_range within else Err BadLine
+cut_of call picks in_range within = Err BadLine
 
 -- LINES
 

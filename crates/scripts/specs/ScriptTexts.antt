@@ -1,6 +1,6 @@
 -- Script texts: command texts with the lines of further events.
-use Rattle.std.specs.Prelude.{ℕ, Bool, true, false, not, ◌&&◌, ◌||◌, ◌==◌, List, [], ◌∷◌, ◌++◌, Option, None, Some, is_some, option_map, nat_lt, slice_index_or, if◌then◌else◌}
-use Rattle.std.specs.List.{filter_map, find}
+use Rattle.std.specs.Prelude.{ℕ, Bool, true, false, not, ◌&&◌, ◌||◌, ◌==◌, List, [], ◌∷◌, ◌++◌, drop, map, Option, None, Some, is_some, option_map, nat_lt, nat_le, if◌then◌else◌}
+use Rattle.std.specs.List.{filter_map, find, prefix_len, take_while}
 use Rattle.std.specs.Str.{bytes_eq}
 use lib.Chars.{codes}
 use Rattle.roadnet.specs.declared.commands.Command.{Command}
@@ -10,7 +10,7 @@ use Rattle.dimacs.specs.declared.fault.Code.TheVariants.{BadLine, NumberRange}
 use Rattle.dimacs.specs.Commands.{Form, form, commands, is_refused, command_code}
 use Rattle.dimacs.specs.Commanded.{command_from}
 use Rattle.dimacs.specs.Content.{size_at}
-use Rattle.dimacs.specs.Faults.{Row, Judge, has_first, is_malformed, item_fields, size_of, some_at}
+use Rattle.dimacs.specs.Faults.{Row, Judge, has_first, is_malformed, item_fields, size_of, some_at, some_numeral}
 use Rattle.dimacs.specs.Numerals.{numeral}
 use Rattle.dimacs.specs.Texts.{TextKind}
 use Rattle.disk.specs.declared.stoppable.Pick.{Pick}
@@ -20,11 +20,11 @@ use Rattle.rows.specs.declared.queries.Query.TheVariants.{Dist, From, Lower}
 use Rattle.machine.specs.declared.events.Event.{Event}
 use Rattle.machine.specs.declared.events.Event.TheVariants.{Submit, Flush, Checkpoint, CheckpointStep, Task, Publish, Ask, Stop, StopWithin}
 use Rattle.machine.specs.declared.events.Writing.{Writing}
-use Rattle.machine.specs.declared.events.Writing.TheVariants.{Flush as a_flush, Checkpoint as a_checkpoint}
+use Rattle.machine.specs.declared.events.Writing.TheVariants.{Flush as a_flush, Checkpoint as a_checkpoint, Step as a_step}
 
 -- WHAT A LINE SAYS
 
--- a line of a script: an event by its numbers, and its picks as a list
+-- a line of a script: an event by its numbers, and its picks as a list; a stop within an event has that event's line
 pub data ScriptLine : Type 0 where
   CommandLine : (command : Command) → ScriptLine
   FlushLine : ScriptLine
@@ -34,7 +34,13 @@ pub data ScriptLine : Type 0 where
   PublishLine : ScriptLine
   QueryLine : (query : Query) → ScriptLine
   StopLine : ScriptLine
-  StopWithinLine : (call : ℕ) (picks : List Pick) (writing : Writing) → ScriptLine
+  StopWithinLine : (call : ℕ) (picks : List Pick) (within : ScriptLine) → ScriptLine
+
+-- the line of an event that writes
+abbrev pub writing_line : Writing → ScriptLine
+writing_line a_flush = FlushLine
+writing_line a_checkpoint = CheckpointLine
+writing_line (a_step pages) = StepLine pages.pages
 
 -- the line of an event
 abbrev pub as_line : Event Pick → ScriptLine
@@ -46,20 +52,32 @@ as_line Task = TaskLine
 as_line Publish = PublishLine
 as_line (Ask query) = QueryLine query
 as_line Stop = StopLine
-as_line (StopWithin call picks writing) = StopWithinLine call picks.items writing
+as_line (StopWithin call picks writing) = StopWithinLine call picks.items (writing_line writing)
+
+-- `old`, `new` or a numeral
+abbrev pub is_pick : List ℕ → Bool
+is_pick field = bytes_eq field (codes "old") || bytes_eq field (codes "new") || is_some (numeral field)
 
 -- `old`, `new` or the number of a byte
 abbrev pub pick_from : List ℕ → Pick
 pick_from field = if bytes_eq field (codes "old") then Old else (if bytes_eq field (codes "new") then New else Byte (size_of field))
 
--- `flush` or `checkpoint`
-abbrev pub writing_from : List ℕ → Writing
-writing_from field = if bytes_eq field (codes "flush") then a_flush else a_checkpoint
+-- the picks with which fields begin, and the fields behind these
+abbrev pub picks_in : Row → Row
+picks_in row = take_while is_pick row
 
--- `stop` alone, or with the number of a call, a pick and an event
+abbrev pub behind_picks : Row → Row
+behind_picks row = drop (prefix_len is_pick row) row
+
+-- `flush`, `checkpoint`, or `step` with its number of pages
+abbrev pub writing_from : Row → ScriptLine
+writing_from [] = FlushLine
+writing_from (word ∷ others) = if bytes_eq word (codes "flush") then FlushLine else (if bytes_eq word (codes "checkpoint") then CheckpointLine else StepLine (size_at others 0))
+
+-- `stop` alone, or with the number of a call, picks and an event that writes
 abbrev pub stop_from : Row → ScriptLine
 stop_from [] = StopLine
-stop_from (call ∷ others) = StopWithinLine (size_of call) (pick_from (slice_index_or others 0 []) ∷ []) (writing_from (slice_index_or others 1 []))
+stop_from (call ∷ behind) = StopWithinLine (size_of call) (map pick_from (picks_in behind)) (writing_from (behind_picks behind))
 
 -- the event of a word and the fields behind it
 abbrev pub line_from : List ℕ → Row → Option ScriptLine
@@ -95,18 +113,23 @@ is_stop row = has_first (λ first. bytes_eq first (codes "stop")) row
 abbrev pub is_step : Row → Bool
 is_step row = has_first (λ first. bytes_eq first (codes "step")) row
 
--- `old`, `new` or a numeral
-abbrev pub is_pick : List ℕ → Bool
-is_pick field = bytes_eq field (codes "old") || bytes_eq field (codes "new") || is_some (numeral field)
+-- a stop has at most so many picks
+abbrev pub most_picks : ℕ
+most_picks = 8
 
-abbrev pub is_writing : List ℕ → Bool
-is_writing field = bytes_eq field (codes "flush") || bytes_eq field (codes "checkpoint")
+abbrev pub is_some_of_most : ℕ → Bool
+is_some_of_most count = nat_le 1 count && nat_le count most_picks
 
--- what may stand behind `stop`: nothing, or a numeral, a pick and an event that writes
+-- an event that writes: `flush` or `checkpoint` alone, or `step` and a numeral
+abbrev pub is_writing : Row → Bool
+is_writing (word ∷ []) = bytes_eq word (codes "flush") || bytes_eq word (codes "checkpoint")
+is_writing (word ∷ pages ∷ []) = bytes_eq word (codes "step") && is_some (numeral pages)
+is_writing others = false
+
+-- what may stand behind `stop`: nothing, or a numeral, 1 to 8 picks and an event that writes
 abbrev pub are_of_stop : Row → Bool
 are_of_stop [] = true
-are_of_stop (call ∷ pick ∷ event ∷ []) = is_some (numeral call) && is_pick pick && is_writing event
-are_of_stop others = false
+are_of_stop (call ∷ behind) = is_some (numeral call) && is_some_of_most (prefix_len is_pick behind) && is_writing (behind_picks behind)
 
 -- no call has the number 0, and no byte is above 255
 abbrev pub is_no_call : Numeral → Bool
@@ -115,15 +138,20 @@ is_no_call n = is_refused n || (n.size == 0)
 abbrev pub is_no_byte : Numeral → Bool
 is_no_byte n = is_refused n || nat_lt 255 n.size
 
--- The table of faults of a `stop` line, by the fields behind `stop`.
-abbrev pub stop_applies : Row → Code → Bool
-stop_applies others BadLine = not (are_of_stop others)
-stop_applies others NumberRange = some_at (λ is_none_such. is_none_such) (is_no_call ∷ is_no_byte ∷ []) others
-stop_applies others code = false
-
 -- a step has 1 to 64 pages
 abbrev pub is_no_step : Numeral → Bool
 is_no_step n = is_refused n || ((n.size == 0) || nat_lt 64 n.size)
+
+-- one of the numbers behind `stop` is none of a call, of a byte or of pages
+abbrev pub has_number_outside : Row → Bool
+has_number_outside [] = false
+has_number_outside (call ∷ behind) = some_numeral is_no_call (call ∷ []) || some_numeral is_no_byte (picks_in behind) || some_numeral is_no_step (item_fields (behind_picks behind))
+
+-- The table of faults of a `stop` line, by the fields behind `stop`.
+abbrev pub stop_applies : Row → Code → Bool
+stop_applies others BadLine = not (are_of_stop others)
+stop_applies others NumberRange = has_number_outside others
+stop_applies others code = false
 
 -- The table of faults of a `step` line, by the fields behind `step`.
 abbrev pub step_applies : Row → Code → Bool

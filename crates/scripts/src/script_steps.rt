@@ -11,7 +11,7 @@ use disk::Pick;
 use machine::{Event, StepPages};
 
 /// How many pages a step may write: 1 to 64.
-fn pages_of(number: Numeral) -> Result<StepPages, Code>
+pub(crate) fn pages_of(number: Numeral) -> Result<StepPages, Code>
     ensures { MatchResult result (λ pages. (is_no_step number ≡ false) × (pages.pages ≡ number.size)) (λ code. (is_no_step number ≡ true) × (code ≡ Code.NumberRange)) }
 {
     if is_refused(number) {

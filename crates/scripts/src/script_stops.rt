@@ -1,23 +1,41 @@
 //! The lines of a script that stop a life.
-ghost use Rattle.std.specs.Prelude.{◌≡◌, ◌∷◌, [], IfOk, IfErr};
+ghost use Rattle.std.specs.Prelude.{◌≡◌, ◌∷◌, ◌++◌, ◌&&◌, ◌<◌, [], vec_capacity, IfOk, IfErr};
 ghost use Rattle.std.specs.Option.{option_map};
+ghost use Rattle.std.specs.Vec.{vec_len};
 ghost use lib.Chars.{codes};
 ghost use Rattle.dimacs.specs.Commands.{is_refused};
 ghost use Rattle.dimacs.specs.Lines.{fields};
-ghost use Rattle.scripts.specs.ScriptTexts.{as_line, StopWithinLine};
-ghost use Rattle.scripts.specs.ScriptReading.{three_fields, call_of_numeral, call_read, byte_of_numeral, pick_read, writing_read, cut_read, ReadsEvent};
+ghost use Rattle.scripts.specs.ScriptTexts.{as_line, writing_line};
+ghost use Rattle.scripts.specs.ScriptReading.{call_of_numeral, call_read, byte_of_numeral, pick_read, pick_kept, is_in_range, ReadsPicks};
+ghost use Rattle.scripts.specs.ScriptReading.{writing_word, alone_read, step_read, writing_read, map_line, cut_of, ReadsEvent};
 
-use dimacs::{Code, Numeral, split_field};
+use crate::script_steps::pages_of;
+use dimacs::{Code, Numeral, split_field, split_one};
 use disk::Pick;
 use machine::{Event, Writing};
 use std::alloc::Global;
 
-/// Where an event is cut, and what becomes of the bytes that were not synced.
+/// The most picks of a stop.
+const MOST_PICKS: usize = 8;
+
+/// How many picks are read at most: by one more than a stop may have it is seen that they are too many.
+const MOST_READ: usize = MOST_PICKS + 1;
+
+/// The picks with which fields begin, and what stands behind them.
+#[derive(Drop)]
+pub(crate) struct PicksRead<'a> {
+    pub(crate) picks: Vec<Pick>,
+    /// Whether each number is that of a byte.
+    pub(crate) in_range: bool,
+    pub(crate) rest: &'a [u8],
+}
+
+/// The word of an event that writes.
 #[derive(Clone, Copy)]
-pub(crate) struct Cut {
-    pub(crate) call: u64,
-    pub(crate) pick: Pick,
-    pub(crate) writing: Writing,
+pub(crate) enum WritingWord {
+    Flush,
+    Checkpoint,
+    Step,
 }
 
 /// Whether a numeral of a script has a minus, or a size above 2^63 - 1.
@@ -25,19 +43,6 @@ pub(crate) fn is_refused(number: Numeral) -> bool
     ensures { result ≡ is_refused number }
 {
     number.has_minus || number.is_unreadable()
-}
-
-/// Three fields and no other.
-fn split_three(rest: &[u8]) -> Option<(&[u8], &[u8], &[u8])>
-    ensures { option_map (λ x. (x.0.now, x.1.now, x.2.now)) result ≡ three_fields (fields rest.now) }
-{
-    let (call, rest) = split_field(rest)?;
-    let (pick, rest) = split_field(rest)?;
-    let (event, rest) = split_field(rest)?;
-    match split_field(rest) {
-        None => Some((call, pick, event)),
-        Some(_) => None,
-    }
 }
 
 /// The number of a call, which is at least 1.
@@ -86,55 +91,125 @@ fn read_pick(field: &[u8]) -> Option<Result<Pick, Code>>
     }
 }
 
-/// `flush` or `checkpoint`.
-fn read_writing(field: &[u8]) -> Option<Writing>
-    ensures { result ≡ writing_read field.now }
+impl<'a> PicksRead<'a> {
+    /// Puts a pick behind those that were read, with what stands behind it. An old byte stands for a number that is none of a byte.
+    fn take(&mut self, pick: Result<Pick, Code>, rest: &'a [u8])
+        requires { vec_len self.old.picks < vec_capacity self.old.picks }
+        ensures picks { self.new.picks.items ≡ self.old.picks.items ++ pick_kept pick ∷ [] }
+        ensures in_range { self.new.in_range ≡ (self.old.in_range && is_in_range pick) }
+        ensures rest { self.new.rest.now ≡ rest.now }
+        ensures room { vec_capacity self.new.picks ≡ vec_capacity self.old.picks }
+    {
+        match pick {
+            Ok(pick) => self.picks.push_reserved(pick),
+            Err(_) => {
+                self.picks.push_reserved(Pick::Old);
+                self.in_range = false;
+            }
+        }
+        self.rest = rest;
+    }
+}
+
+/// Reads the picks with which the fields begin, up to nine.
+fn read_picks<'a>(alloc: Global, behind: &'a [u8]) -> Result<PicksRead<'a>, Code>
+    ensures read { IfOk result (ReadsPicks (fields behind.now)) }
+    ensures memory { IfErr result (λ code. code ≡ Code.OutOfMemory) }
+{
+    let Ok(picks) = Vec::with_capacity(alloc, MOST_READ) else {
+        return Err(Code::OutOfMemory);
+    };
+    let mut read = PicksRead {
+        picks,
+        in_range: true,
+        rest: behind,
+    };
+    for _ in 0..MOST_READ {
+        let Some((field, rest)) = split_field(read.rest) else {
+            return Ok(read);
+        };
+        let Some(pick) = read_pick(field) else {
+            return Ok(read);
+        };
+        read.take(pick, rest);
+    }
+    Ok(read)
+}
+
+/// The word of an event that writes.
+fn writing_word(field: &[u8]) -> Option<WritingWord>
+    ensures { result ≡ writing_word field.now }
 {
     if field == b"flush".as_slice() {
-        return Some(Writing::Flush);
+        return Some(WritingWord::Flush);
     }
     if field == b"checkpoint".as_slice() {
-        return Some(Writing::Checkpoint);
+        return Some(WritingWord::Checkpoint);
+    }
+    if field == b"step".as_slice() {
+        return Some(WritingWord::Step);
     }
     None
 }
 
-/// Where the three fields behind `stop` cut which event.
-fn read_cut(call: &[u8], pick: &[u8], event: &[u8]) -> Result<Cut, Code>
-    ensures { result ≡ cut_read call.now pick.now event.now }
+/// The event, where nothing stands behind its word.
+fn alone(writing: Writing, behind: &[u8]) -> Option<Result<Writing, Code>>
+    ensures { option_map (λ read. map_line writing_line read) result ≡ alone_read (writing_line writing) (fields behind.now) }
 {
-    let Some(call) = read_call(call) else {
-        return Err(Code::BadLine);
-    };
-    let Some(pick) = read_pick(pick) else {
-        return Err(Code::BadLine);
-    };
-    let Some(writing) = read_writing(event) else {
-        return Err(Code::BadLine);
-    };
-    match (call, pick) {
-        (Ok(call), Ok(pick)) => Ok(Cut {
-            call,
-            pick,
-            writing,
-        }),
-        _ => Err(Code::NumberRange),
+    match split_field(behind) {
+        None => Some(Ok(writing)),
+        Some(_) => None,
     }
 }
 
-/// The event of a cut.
-fn cut_event(alloc: Global, cut: Cut) -> Result<Event<Pick>, Code>
-    ensures event { IfOk result (λ event. as_line event ≡ StopWithinLine cut.call (cut.pick ∷ []) cut.writing) }
-    ensures memory { IfErr result (λ code. code ≡ Code.OutOfMemory) }
+/// The step with this number of pages.
+fn step_of(number: Numeral) -> Result<Writing, Code>
+    ensures { map_line writing_line result ≡ step_read number }
 {
-    let mut picks = Vec::new(alloc);
-    match picks.push(cut.pick) {
-        Ok(()) => Ok(Event::StopWithin {
-            call: cut.call,
+    match pages_of(number) {
+        Ok(pages) => Ok(Writing::Step { pages }),
+        Err(code) => Err(code),
+    }
+}
+
+/// The event with which the fields end. None where they are none.
+fn read_writing(rest: &[u8]) -> Option<Result<Writing, Code>>
+    ensures { option_map (λ read. map_line writing_line read) result ≡ writing_read (fields rest.now) }
+{
+    let (word, behind) = split_field(rest)?;
+    match writing_word(word) {
+        Some(WritingWord::Flush) => alone(Writing::Flush, behind),
+        Some(WritingWord::Checkpoint) => alone(Writing::Checkpoint, behind),
+        Some(WritingWord::Step) => match split_one(behind) {
+            Some(number) => Some(step_of(number)),
+            None => None,
+        },
+        None => None,
+    }
+}
+
+/// The event that is cut at this call, by these picks, each of which is in range or one is not.
+fn cut_event(
+    call: Option<Result<u64, Code>>,
+    picks: Vec<Pick>,
+    in_range: bool,
+    writing: Option<Result<Writing, Code>>,
+) -> Result<Event<Pick>, Code>
+    ensures { map_line as_line result ≡ cut_of call picks.items in_range (option_map (λ read. map_line writing_line read) writing) }
+{
+    let (Some(call), Some(writing)) = (call, writing) else {
+        return Err(Code::BadLine);
+    };
+    if picks.is_empty() || picks.len() > MOST_PICKS {
+        return Err(Code::BadLine);
+    }
+    match (call, in_range, writing) {
+        (Ok(call), true, Ok(writing)) => Ok(Event::StopWithin {
+            call,
             picks,
-            writing: cut.writing,
+            writing,
         }),
-        Err(_) => Err(Code::OutOfMemory),
+        _ => Err(Code::NumberRange),
     }
 }
 
@@ -142,14 +217,18 @@ fn cut_event(alloc: Global, cut: Cut) -> Result<Event<Pick>, Code>
 pub(crate) fn stop_event(alloc: Global, rest: &[u8]) -> Result<Event<Pick>, Code>
     ensures { ReadsEvent (codes "stop" ∷ fields rest.now) result }
 {
-    let Some(_) = split_field(rest) else {
+    let Some((call, behind)) = split_field(rest) else {
         return Ok(Event::Stop);
     };
-    let Some((call, pick, event)) = split_three(rest) else {
-        return Err(Code::BadLine);
-    };
-    match read_cut(call, pick, event) {
-        Ok(cut) => cut_event(alloc, cut),
+    match read_picks(alloc, behind) {
+        Ok(read) => {
+            let PicksRead {
+                picks,
+                in_range,
+                rest,
+            } = read;
+            cut_event(read_call(call), picks, in_range, read_writing(rest))
+        }
         Err(code) => Err(code),
     }
 }

@@ -73,6 +73,22 @@ fn each_line_is_its_event(rt: HostRuntime) -> Result<(), Fail> {
             "stop 9223372036854775807 255 checkpoint",
             "StopWithin { call: 9223372036854775807, picks: [Byte(255)], writing: Checkpoint }",
         ),
+        (
+            "stop 3 old new flush",
+            "StopWithin { call: 3, picks: [Old, New], writing: Flush }",
+        ),
+        (
+            "stop 1 0 1 2 3 4 5 old new checkpoint",
+            "StopWithin { call: 1, picks: [Byte(0), Byte(1), Byte(2), Byte(3), Byte(4), Byte(5), Old, New], writing: Checkpoint }",
+        ),
+        (
+            "stop 2 7 step 64",
+            "StopWithin { call: 2, picks: [Byte(7)], writing: Step { pages: StepPages { pages: 64 } } }",
+        ),
+        (
+            "stop 2 new old step 1",
+            "StopWithin { call: 2, picks: [New, Old], writing: Step { pages: StepPages { pages: 1 } } }",
+        ),
     ];
     for (line, want) in table {
         is_event(&rt, line, want)?;
@@ -118,6 +134,16 @@ fn faults_of_script_lines(rt: HostRuntime) {
         "stop 1 old task",
         "stop 0 256 stop",
         "stop old flush",
+        "stop 1 flush",
+        "stop 1 1 2 3 4 5 6 7 8 9 flush",
+        "stop 0 old old old old old old old old 256 flush",
+        "stop 1 old flush new flush",
+        "stop 1 old step",
+        "stop 1 old step x",
+        "stop 1 old step 1 2",
+        "stop 1 step 1",
+        "stop 1 old new",
+        "stop 1 old new 3",
     ];
     for text in bad {
         is_refused(&rt, text, 1, Code::BadLine);
@@ -143,6 +169,12 @@ fn faults_of_script_lines(rt: HostRuntime) {
         "stop 1 -1 checkpoint",
         "stop 1 9223372036854775808 checkpoint",
         "stop 1 18446744073709551617 flush",
+        "stop 1 old 256 new flush",
+        "stop 1 old new -1 checkpoint",
+        "stop 1 old step 0",
+        "stop 1 old step 65",
+        "stop 1 256 step -1",
+        "stop 0 old new step 64",
     ];
     for text in range {
         is_refused(&rt, text, 1, Code::NumberRange);

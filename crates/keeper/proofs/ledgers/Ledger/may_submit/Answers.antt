@@ -1,4 +1,4 @@
-use Rattle.std.specs.Prelude.{MatchResult, Option, None, Some, option_map}
+use Rattle.std.specs.Prelude.{MatchResult, Option, None, Some}
 use Rattle.std.proofs.Common.{◌≡◌, arith, sym, subst}
 use Rattle.roadnet.specs.declared.refusals.Refusal.{Refusal}
 use Rattle.machine.specs.Machine.{Machine}

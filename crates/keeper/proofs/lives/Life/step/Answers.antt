@@ -1,6 +1,5 @@
-use Rattle.std.proofs.Common.{◌∙◌, ◌∷◌, [], ℕ, List, ap, subst}
+use Rattle.std.proofs.Common.{◌∙◌, ℕ, subst}
 use Rattle.std.specs.Prelude.{option_map}
-use Rattle.machine.specs.declared.events.Replied.{Replied}
 use Rattle.machine.specs.Calls.{StepsCheckpoint}
 use Rattle.keeper.specs.Parts.{told_as}
 use Rattle.keeper.proofs.Failing.{told_by_part}
@@ -11,9 +10,8 @@ pub returns-clause-does : goal.returns-clause-does
 returns-clause-does g c =
     let old = c.args.self.now.keeper.machine in
     let new = c.checkpoint_step.new.self.machine in
-    let alone : Replied → List Replied = λ r. r ∷ [] in
     let step = c.checkpoint_step.ensures.step in
-    (told_as c.checkpoint_step.result, subst (λ (n : ℕ). StepsCheckpoint old n (told_as c.checkpoint_step.result) new) c.number.ensures.is step, ap alone c.told_part.ensures)
+    (told_as c.checkpoint_step.result, subst (λ (n : ℕ). StepsCheckpoint old n (told_as c.checkpoint_step.result) new) c.number.ensures.is step, c.told_part.ensures)
 
 pub invariant_of-self-clause-living : goal.invariant_of-self-clause-living
 invariant_of-self-clause-living g c =

@@ -1,5 +1,13 @@
+use Rattle.std.proofs.Common.{◌∙◌}
+use Rattle.keeper.proofs.Failing.{told_by_write}
 use Rattle.keeper.proofs.LifeKept.{life_checkpoint}
 use Rattle.keeper.proofs.lives.Life.write.Goals as goal
 
 pub invariant_of-self-in-Checkpoint-clause-living : goal.invariant_of-self-in-Checkpoint-clause-living
 invariant_of-self-in-Checkpoint-clause-living g c = life_checkpoint _ _ _ _ c.checkpoint.result c.checkpoint.ensures.does c.args.self.now.living
+
+pub returns-in-Flush-clause-counted : goal.returns-in-Flush-clause-counted
+returns-in-Flush-clause-counted g c = c.flush.ensures.counted ∙ told_by_write c.flush.result c.told_version.result (g.D.Disk.failures c.args.self.now.keeper.disk) c.told_version.ensures
+
+pub returns-in-Checkpoint-clause-counted : goal.returns-in-Checkpoint-clause-counted
+returns-in-Checkpoint-clause-counted g c = c.checkpoint.ensures.counted ∙ told_by_write c.checkpoint.result c.told_version-in-Checkpoint.result (g.D.Disk.failures c.args.self.now.keeper.disk) c.told_version-in-Checkpoint.ensures

@@ -1,4 +1,6 @@
 use Rattle.std.proofs.Common.{sym, subst}
+use Rattle.keeper.specs.Running.{IsCut, picks_taken}
+use Rattle.keeper.proofs.Cut.{cut_by_taken}
 use Rattle.keeper.proofs.rehearsing.Run.halt.Goals as goal
 
 pub returns-clause-halted : goal.returns-clause-halted
@@ -16,3 +18,11 @@ returns-clause-halted g c = λ came.
 
 pub returns-clause-honest : goal.returns-clause-honest
 returns-clause-honest g c = λ came. c.stop_disk-came.ensures.honest (subst g.D.Disk.honest (sym c.close-commands.ensures.disk) (c.close-commands.ensures.honest came))
+
+pub returns-clause-cut : goal.returns-clause-cut
+returns-clause-cut g c = λ came.
+    let kept = subst g.D.Disk.honest (sym c.close-commands.ensures.disk) (c.close-commands.ensures.honest came) in
+    let picks = c.args.picks.now in
+    let now = c.stop_disk-came.new.disk in
+    subst (λ (d : g.row.D.Denot). IsCut g.D.Stoppable.synced g.D.Stoppable.is_unsynced g.D.Disk.content (picks_taken picks) d now) c.close-commands.ensures.disk
+    (cut_by_taken g.D.Stoppable.synced g.D.Stoppable.is_unsynced g.D.Disk.content picks _ now (c.stop_disk-came.ensures.picks kept) (c.stop_disk-came.ensures.no_picks kept))

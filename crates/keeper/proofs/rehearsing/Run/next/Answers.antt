@@ -2,6 +2,8 @@ use Rattle.std.proofs.Common.{◌≡◌, ◌++◌, ◌∷◌, [], false, refl, s
 use Rattle.disk.specs.declared.stoppable.Pick.{Pick}
 use Rattle.store.specs.State.{CameTidy}
 use Rattle.keeper.specs.Rehearsing.{is_stop, within_of}
+use Rattle.keeper.specs.Running.{picks_of}
+use Rattle.keeper.proofs.Cut.{no_picks}
 use Rattle.keeper.proofs.Failing.{fails_more, fails_as, one_reply}
 use Rattle.keeper.proofs.LivesInRun.{does_size}
 use Rattle.keeper.proofs.Runs.{run_as, run_more}
@@ -25,6 +27,14 @@ returns-in-StopWithin-clause-ends g c first done going rest = c.stop_within.ensu
 pub returns-in-StopWithin-clause-counted : goal.returns-in-StopWithin-clause-counted
 returns-in-StopWithin-clause-counted g c before done f = c.stop_within.ensures.counted c.args.event.now (ap (within_of {P = Pick}) c.in-StopWithin.is) before done f
 
+pub returns-in-Stop-clause-cut : goal.returns-in-Stop-clause-cut
+returns-in-Stop-clause-cut g c came = rw c.in-Stop.is (c.stop.ensures.cut came)
+
+pub returns-in-StopWithin-clause-cut : goal.returns-in-StopWithin-clause-cut
+returns-in-StopWithin-clause-cut g c came =
+    let list : c.deref.result.now ≡ c.in-StopWithin.picks.items = search rules in
+    c.stop_within.ensures.cut c.args.event.now (rw list (ap picks_of c.in-StopWithin.is)) came
+
 pub returns-in_default : goal.returns-in_default
 returns-in_default g c =
     let self = c.args.self in
@@ -44,4 +54,6 @@ returns-in_default g c =
       counted = λ before done f.
           fails_as (done ++ c.args.event.now ∷ []) (self.replies.items ++ told) c.push_reserved.new.self.items before _ c.push_reserved.ensures.items
           (fails_more done self.replies.items before _ _ c.args.event.now told f (one_reply {P = Pick} c.args.event.now c.reply-told.result calm) c.reply-told.ensures.counted);
+      cut = λ came. rw (no_picks c.args.event.now calm) tt;
+      early = tt;
     }

@@ -60,3 +60,6 @@ returns-clause-counted g c before done f =
     (fails_as (done ++ Stop ∷ []) (self.replies.items ++ Stopped ∷ []) x.replies.items before n (told ∙ ap (λ (rs : List Replied). rs ++ Stopped ∷ []) replies) (fails_more done self.replies.items before n n Stop (Stopped ∷ []) f tt refl))
     (counted ∙ ap (failures_at_end x.ended) c.halt-halted.ensures.failures))
     c.resume.ensures.counted c.resume.ensures.told c.resume.ensures.stopped
+
+pub returns-clause-cut : goal.returns-clause-cut
+returns-clause-cut g c came = (c.args.self.life.keeper.disk, c.halt-halted.result.0.disk, c.halt-halted.ensures.cut came, c.resume.ensures.content (c.halt-halted.ensures.honest came))

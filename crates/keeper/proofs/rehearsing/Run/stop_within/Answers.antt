@@ -1,13 +1,13 @@
 use Rattle.std.proofs.Common.{◌≡◌, ℕ, ◌-◌, take, ◌++◌, ◌∷◌, [], List, length, refl, sym, ◌∙◌, ap, subst, arith}
 use Rattle.std.specs.Prelude.{IfOk}
-use Rattle.pagereader.specs.Outcomes.{failures_told}
 use Rattle.machine.specs.declared.events.Replied.TheVariants.{Opened, Stopped}
 use Rattle.store.specs.State.{CameTidy}
 use Rattle.roadnet.specs.declared.commands.Command.{Command}
 use Rattle.machine.specs.Machine.{Machine, commands_to}
 use Rattle.machine.specs.Lives.{Writes}
 use Rattle.keeper.specs.Rehearsing.{HasRun}
-use Rattle.keeper.proofs.Failing.{match_both, fails_as, ends_told, stop_told}
+use Rattle.keeper.specs.Failures.{failures_by}
+use Rattle.keeper.proofs.Failing.{match_both, fails_as, ends_told, no_stop_written, stop_told}
 use Rattle.keeper.proofs.LivesInRun.{writes_later, writes_same}
 use Rattle.keeper.proofs.Runs.{if_ok_both, if_err_both, run_as, lives_as, durable_front, slot_then, told_of, opened_told, not_opened_told}
 use Rattle.keeper.proofs.rehearsing.Run.stop_within.Goals as goal
@@ -74,12 +74,21 @@ returns-clause-counted g c event within before done f =
     let then : ℕ = g.D.Disk.failures c.halt-halted.result.0.disk in
     let replies : c.halt-halted.result.0.replies.items ≡ self.replies.items = (let e = c.halt-halted.ensures.replies in cc) in
     let told = rw replies at c.tell_write.ensures.told in
-    let counted : then ≡ failures_told c.write-written.result n = c.halt-halted.ensures.failures ∙ (c.write-written.ensures.counted ∙ ap (failures_told c.write-written.result) c.arm.ensures.failures) in
+    let counted : then ≡ failures_by c.write-written.result n = c.halt-halted.ensures.failures ∙ (c.write-written.ensures.counted ∙ ap (failures_by c.write-written.result) c.arm.ensures.failures) in
+    let m = self.life.keeper.machine in
+    let mid = c.write-written.new.self.keeper.machine in
+    let wrote = subst (λ (x : Machine). Writes x c.args.writing c.write-written.result mid) c.arm.ensures.machine c.write-written.ensures.does in
+    let other = no_stop_written c.args.writing m mid c.write-written.result wrote in
     match_both c.resume.result _ _ _ _ _ _
     (λ x same opened. fails_as (done ++ event ∷ []) (c.tell_write.new.replies.items ++ Opened x.life.keeper.machine.base_version ∷ []) x.replies.items before (g.D.Disk.failures x.life.keeper.disk) opened
-    (stop_told event c.args.writing c.write-written.result self.replies.items c.tell_write.new.replies.items (Opened x.life.keeper.machine.base_version) done before n (g.D.Disk.failures x.life.keeper.disk) within refl told f (same ∙ counted)))
+    (stop_told event c.args.writing c.write-written.result self.replies.items c.tell_write.new.replies.items (Opened x.life.keeper.machine.base_version) done before n (g.D.Disk.failures x.life.keeper.disk) within other refl told f (same ∙ counted)))
     (λ x ends stopped rest. ends_told (done ++ event ∷ []) rest x.replies.items x.ended before then (g.D.Disk.failures x.disk)
     (fails_as (done ++ event ∷ []) (c.tell_write.new.replies.items ++ Stopped ∷ []) x.replies.items before then stopped
-    (stop_told event c.args.writing c.write-written.result self.replies.items c.tell_write.new.replies.items Stopped done before n then within refl told f counted))
+    (stop_told event c.args.writing c.write-written.result self.replies.items c.tell_write.new.replies.items Stopped done before n then within other refl told f counted))
     ends)
     c.resume.ensures.counted c.resume.ensures.told c.resume.ensures.stopped
+
+pub returns-clause-cut : goal.returns-clause-cut
+returns-clause-cut g c event is tidy =
+    let came = subst (λ (d : g.row.D.Denot). CameTidy g.D.Disk.honest g.D.Disk.content d) (sym (c.write-written.ensures.given ∙ c.arm.ensures.given)) tidy in
+    rw is (c.write-written.new.self.keeper.disk, c.halt-halted.result.0.disk, c.halt-halted.ensures.cut came, c.resume.ensures.content (c.halt-halted.ensures.honest came))

@@ -16,3 +16,4 @@ pub mod Sets
 mod CommandRows
 mod Words
 mod FirstFaultLemmas
+mod NextBytes

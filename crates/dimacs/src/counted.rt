@@ -1,12 +1,12 @@
 //! A reader that counts its failed calls.
-ghost use Rattle.std.specs.Prelude.{◌≡◌, ◌+◌, ◌-◌, ◌^◌, ◌<◌, ◌≤◌, ℕ, List, Option};
-ghost use Rattle.dimacs.specs.Counts.{failed_calls, reader_of, IsSameReader};
+ghost use Rattle.std.specs.Prelude.{◌≡◌, ◌+◌, ◌-◌, ◌^◌, ◌<◌, ◌≤◌, ℕ, List, Option, IfErr};
+ghost use Rattle.dimacs.specs.Counts.{failed_calls, reader_of, IsSameReader, TakesByte, CountsCall, one_more_failed};
 ghost use Rattle.dimacs.specs.Turns.{FarFrom, Turns, HasRoom, IsNoRead, CountsTurn};
 
 use crate::fault::Code;
 use crate::feed::{Fed, Feed};
 use crate::taking::TakeLines;
-use std::io::{BufRead, ErrorKind};
+use std::io::{self, BufRead, ErrorKind};
 
 /// A reader, and how many of its calls have failed, up to `u64::MAX`. A call that was interrupted is made again and counts as
 /// none. A reader that goes on, within one reading, until its calls and bytes are 2^64 - 2 together counts as one that fails.
@@ -71,6 +71,36 @@ fn feed_from<R: BufRead, T: TakeLines>(reader: &mut R, feed: &mut Feed<T>) -> Tu
     }
 }
 
+/// Calls the reader once, and takes the first byte that it shows; none where there are no more. At an error nothing is taken.
+fn first_byte<R: BufRead>(reader: &mut R) -> io::Result<Option<u8>>
+    ensures { TakesByte (R.remaining reader.old) (R.remaining reader.new) result }
+{
+    let byte = match reader.fill_buf()? {
+        [byte, ..] => *byte,
+        [] => return Ok(None),
+    };
+    reader.consume(1);
+    Ok(Some(byte))
+}
+
+/// The next byte; none where there are no more. A call that was interrupted is made again.
+fn byte_of<R: BufRead>(reader: &mut R) -> Result<Option<u8>, Code>
+    ensures bytes { TakesByte (R.remaining reader.old) (R.remaining reader.new) result }
+    ensures refused { IfErr result (λ code. code ≡ Code.Read) }
+{
+    for _ in 0..u64::MAX {
+        match first_byte(reader) {
+            Ok(byte) => return Ok(byte),
+            Err(error) => {
+                if error.kind() != ErrorKind::Interrupted {
+                    return Err(Code::Read);
+                }
+            }
+        }
+    }
+    Err(Code::Read)
+}
+
 impl<'r, R: BufRead> Counted<'r, R> {
     /// No call has failed yet.
     pub fn new(reader: &'r mut R) -> Counted<'r, R>
@@ -102,8 +132,32 @@ impl<'r, R: BufRead> Counted<'r, R> {
     {
         let turn = feed_from(self.reader, feed);
         if let Turn::Failed = turn {
-            self.failed = self.failed.saturating_add(1);
+            self.count_failure();
         }
         turn
+    }
+
+    /// One more call has failed.
+    fn count_failure(&mut self)
+        ensures counts { failed_calls self.new ≡ one_more_failed (failed_calls self.old) }
+        ensures reader { reader_of self.new ≡ reader_of self.old }
+        ensures same { IsSameReader self.old self.new }
+    {
+        self.failed = self.failed.saturating_add(1);
+    }
+
+    /// The next byte of the reader; none where there are no more. The one error is a failed call (`Read`), at which no byte is taken: the
+    /// count goes up there, and only there.
+    pub fn next_byte(&mut self) -> Result<Option<u8>, Code>
+        ensures bytes { TakesByte (R.remaining (reader_of self.old)) (R.remaining (reader_of self.new)) result }
+        ensures refused { IfErr result (λ code. code ≡ Code.Read) }
+        ensures counts { CountsCall (failed_calls self.old) (failed_calls self.new) result }
+        ensures same { IsSameReader self.old self.new }
+    {
+        let next = byte_of(self.reader);
+        if next.is_err() {
+            self.count_failure();
+        }
+        next
     }
 }

@@ -1,0 +1,6 @@
+mod Fieldwise
+mod Worded
+mod Numbered
+mod Staged
+mod Answered
+mod Bytewise

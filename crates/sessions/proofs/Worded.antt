@@ -1,0 +1,291 @@
+-- What a line asks for, by its word and the numbers behind it.
+use Rattle.std.proofs.Common.{◌≡◌, ◌≢◌, ◌∙◌, ℕ, ◌<◌, ◌≤◌, Bool, true, false, ◌||◌, cond, eqb, ltb, List, [], ◌∷◌, ◌++◌, Option, None, Some, length, refl, sym, ap, subst, inl, inr, arith}
+use Rattle.std.specs.List.{find}
+use Rattle.std.specs.Str.{bytes_eq}
+use Rattle.std.proofs.lemmas.Bool.{or_parts, lt-ltb, ne_eqb, false_from_ne_true}
+use Rattle.std.proofs.lemmas.Slice.Eq.{bytes_eq-Decides}
+use lib.Chars.{codes}
+use Rattle.dimacs.specs.declared.fault.Code.{Code}
+use Rattle.dimacs.specs.declared.fault.Code.TheVariants.{BadLine, NumberRange}
+use Rattle.dimacs.specs.declared.numeral.Numeral.{Numeral}
+use Rattle.dimacs.specs.Commands.{form, form_of, is_refused, command_code}
+use Rattle.dimacs.specs.Content.{size_at}
+use Rattle.dimacs.specs.Faults.{Row, is_empty, is_remark, is_malformed}
+use Rattle.dimacs.specs.Numerals.{numeral, kept}
+use Rattle.dimacs.proofs.Items.{known, kept_is, unreadable_kept, or-false}
+use Rattle.sessions.specs.declared.words.Bare.{Bare}
+use Rattle.sessions.specs.declared.words.Bare.TheVariants.{Wait, Quit}
+use Rattle.sessions.specs.declared.words.OneNumber.{OneNumber}
+use Rattle.sessions.specs.declared.words.OneNumber.TheVariants.{Close, Reopen, Mark, Unmark}
+use Rattle.sessions.specs.declared.words.TwoNumbers.{TwoNumbers}
+use Rattle.sessions.specs.declared.words.TwoNumbers.TheVariants.{Set, Dist, From, Lower}
+use Rattle.sessions.specs.declared.words.Word.{Word}
+use Rattle.sessions.specs.declared.words.Word.TheVariants.{WithNone, WithOne, WithTwo}
+use Rattle.sessions.specs.declared.lines.Line.TheVariants.{Refused}
+use Rattle.sessions.specs.declared.fields.Numbers.{Numbers}
+use Rattle.sessions.specs.declared.fields.Numbers.TheVariants.{Nothing, One, Two, TooMany}
+use Rattle.sessions.specs.Fields.{IsNumbers, IsOne, AreTwo, number_of, has_one, has_two}
+use Rattle.sessions.specs.SessionLines.{forms, session_code, line_of, AsksFor, IsLine}
+use Rattle.sessions.specs.Spelled.{spelling, words, word_from}
+use Rattle.sessions.specs.Words.{bare_line, one_line, two_line}
+
+-- ---- the word of a field
+found_passes : {X : Type 0} (test : X → Bool) (xs : List X) (x : X) → find test xs ≡ Some x → test x ≡ true
+found_passes test [] x e = absurd (let absurdity : ⊥ = cc in absurdity)
+found_passes test (y ∷ ys) x e = at (test y) refl (found_passes test ys x) e
+  where
+    at : (b : Bool) → test y ≡ b → (find test ys ≡ Some x → test x ≡ true) → cond b (Some y) (find test ys) ≡ Some x → test x ≡ true
+    at true is later e = let same : y ≡ x = cc in subst (λ z. test z ≡ true) same is
+    at false is later e = later e
+
+pub spelled : (field : List ℕ) (word : Word) → word_from field ≡ Some word → field ≡ spelling word
+spelled field word e = (bytes_eq-Decides field (spelling word)).0 (found_passes (λ w. bytes_eq field (spelling w)) words word e)
+
+none_first : {X : Type 0} (b : Bool) (x : X) (o : Option X) → cond b (Some x) o ≡ None → (b ≡ false) × (o ≡ None)
+none_first true x o e = absurd (let absurdity : ⊥ = cc in absurdity)
+none_first false x o e = (refl, e)
+
+unformed : (field : List ℕ) (others : Row) → word_from field ≡ None → form_of forms (field ∷ others) ≡ None
+unformed field others e =
+    let n1 = none_first (bytes_eq field (codes "close")) _ _ e in
+    let n2 = none_first (bytes_eq field (codes "reopen")) _ _ n1.1 in
+    let n3 = none_first (bytes_eq field (codes "mark")) _ _ n2.1 in
+    let n4 = none_first (bytes_eq field (codes "unmark")) _ _ n3.1 in
+    let n5 = none_first (bytes_eq field (codes "set")) _ _ n4.1 in
+    let n6 = none_first (bytes_eq field (codes "dist")) _ _ n5.1 in
+    let n7 = none_first (bytes_eq field (codes "from")) _ _ n6.1 in
+    let n8 = none_first (bytes_eq field (codes "lower")) _ _ n7.1 in
+    let n9 = none_first (bytes_eq field (codes "wait")) _ _ n8.1 in
+    let n10 = none_first (bytes_eq field (codes "quit")) _ _ n9.1 in
+    rw (n1.0, n2.0, n3.0, n4.0, n5.0, n6.0, n7.0, n8.0, n9.0, n10.0) refl
+
+-- a field that is no word and begins no comment
+pub unknown_row : (first : ℕ) (w : List ℕ) (others : Row) → first ≢ 35 → word_from (first ∷ w) ≡ None → session_code ((first ∷ w) ∷ others) ≡ Some BadLine
+unfolding command_code
+unknown_row first w others plain none =
+    let some : ltb 0 (length (first ∷ w)) ≡ true = lt-ltb _ _ (omega arith) in
+    let mark : eqb first 35 ≡ false = ne_eqb first 35 plain in
+    rw (some, mark, unformed (first ∷ w) others none) refl
+
+-- more bytes than a word has
+other_bytes : (field word : List ℕ) → length word < length field → bytes_eq field word ≡ false
+other_bytes field word longer = false_from_ne_true (bytes_eq field word) (λ e. let same : field ≡ word = (bytes_eq-Decides field word).0 e in absurd (omega (arith, ap length same, longer)))
+
+pub long_field : (field : List ℕ) → 6 < length field → word_from field ≡ None
+long_field field long =
+    rw (
+      other_bytes field (codes "close") (omega (arith, long)),
+      other_bytes field (codes "reopen") (omega (arith, long)),
+      other_bytes field (codes "mark") (omega (arith, long)),
+      other_bytes field (codes "unmark") (omega (arith, long)),
+      other_bytes field (codes "set") (omega (arith, long)),
+      other_bytes field (codes "dist") (omega (arith, long)),
+      other_bytes field (codes "from") (omega (arith, long)),
+      other_bytes field (codes "lower") (omega (arith, long)),
+      other_bytes field (codes "wait") (omega (arith, long)),
+      other_bytes field (codes "quit") (omega (arith, long)),
+    ) refl
+
+-- ---- words with so many numbers behind them
+record IsForm (word : List ℕ) (n : ℕ) : Type 0 where
+  plain : (numbers : Row) → (is_empty (word ∷ numbers) || is_remark 35 (word ∷ numbers)) ≡ false
+  formed : (numbers : Row) → form_of forms (word ∷ numbers) ≡ Some (form word n)
+
+bare_form : (word : Bare) → IsForm (spelling (WithNone word)) 0
+bare_form Wait = record { plain = λ numbers. refl; formed = λ numbers. refl }
+bare_form Quit = record { plain = λ numbers. refl; formed = λ numbers. refl }
+
+one_form : (word : OneNumber) → IsForm (spelling (WithOne word)) 1
+one_form Close = record { plain = λ numbers. refl; formed = λ numbers. refl }
+one_form Reopen = record { plain = λ numbers. refl; formed = λ numbers. refl }
+one_form Mark = record { plain = λ numbers. refl; formed = λ numbers. refl }
+one_form Unmark = record { plain = λ numbers. refl; formed = λ numbers. refl }
+
+two_form : (word : TwoNumbers) → IsForm (spelling (WithTwo word)) 2
+two_form Set = record { plain = λ numbers. refl; formed = λ numbers. refl }
+two_form Dist = record { plain = λ numbers. refl; formed = λ numbers. refl }
+two_form From = record { plain = λ numbers. refl; formed = λ numbers. refl }
+two_form Lower = record { plain = λ numbers. refl; formed = λ numbers. refl }
+
+bare_made : (word : Bare) (numbers : Row) → line_of (spelling (WithNone word) ∷ numbers) ≡ Some (bare_line word)
+bare_made Wait numbers = refl
+bare_made Quit numbers = refl
+
+one_made : (word : OneNumber) (numbers : Row) → line_of (spelling (WithOne word) ∷ numbers) ≡ Some (one_line word (size_at numbers 0))
+one_made Close numbers = refl
+one_made Reopen numbers = refl
+one_made Mark numbers = refl
+one_made Unmark numbers = refl
+
+two_made : (word : TwoNumbers) (numbers : Row) → line_of (spelling (WithTwo word) ∷ numbers) ≡ Some (two_line word (size_at numbers 0) (size_at numbers 1))
+two_made Set numbers = refl
+two_made Dist numbers = refl
+two_made From numbers = refl
+two_made Lower numbers = refl
+
+malformed : (word : List ℕ) (n : ℕ) (numbers : Row) → IsForm word n → is_malformed n numbers ≡ true → session_code (word ∷ numbers) ≡ Some BadLine
+unfolding command_code
+malformed word n numbers f e = rw (f.plain numbers, f.formed numbers, e) refl
+
+code_alone : (word : List ℕ) → IsForm word 0 → session_code (word ∷ []) ≡ None
+unfolding command_code
+code_alone word f = rw (f.plain [], f.formed []) refl
+
+code_of_one : (word u : List ℕ) (a : Numeral) → IsForm word 1 → numeral u ≡ Some a → session_code (word ∷ u ∷ []) ≡ cond (is_refused a) (Some NumberRange) None
+unfolding command_code
+code_of_one word u a f e = rw (f.plain (u ∷ []), f.formed (u ∷ []), e) (simp or-false)
+
+code_of_two : (word u v : List ℕ) (a b : Numeral) → IsForm word 2 → numeral u ≡ Some a → numeral v ≡ Some b
+    → session_code (word ∷ u ∷ v ∷ []) ≡ cond (is_refused a || is_refused b) (Some NumberRange) None
+unfolding command_code
+code_of_two word u v a b f d e = rw (f.plain (u ∷ v ∷ []), f.formed (u ∷ v ∷ []), d, e) (simp or-false)
+
+kept_refused : (n : Numeral) → is_refused (kept n) ≡ is_refused n
+kept_refused n = ap (λ b. n.has_minus || b) (unreadable_kept n)
+
+kept_number : (n : Numeral) → is_refused n ≡ false → kept n ≡ n
+kept_number n e = kept_is n (or_parts _ _ e).1
+
+-- ---- what stands behind a word
+-- not so many fields
+other_count : (n : ℕ) (numbers : Row) → length numbers ≢ n → is_malformed n numbers ≡ true
+other_count n numbers other = let count : eqb (length numbers) n ≡ false = ne_eqb _ _ other in rw count refl
+
+-- how many fields are known to be there
+abbrev pub count_of : Numbers → ℕ
+count_of Nothing = 0
+count_of (One a) = 1
+count_of (Two a b) = 2
+count_of TooMany = 3
+
+bad_bare : (word : Bare) (row : Row) → length row ≢ 0 → session_code (spelling (WithNone word) ∷ row) ≡ Some BadLine
+bad_bare word row other = malformed (spelling (WithNone word)) 0 row (bare_form word) (other_count 0 row other)
+
+bad_one : (word : OneNumber) (row : Row) → length row ≢ 1 → session_code (spelling (WithOne word) ∷ row) ≡ Some BadLine
+bad_one word row other = malformed (spelling (WithOne word)) 1 row (one_form word) (other_count 1 row other)
+
+bad_two : (word : TwoNumbers) (row : Row) → length row ≢ 2 → session_code (spelling (WithTwo word) ∷ row) ≡ Some BadLine
+bad_two word row other = malformed (spelling (WithTwo word)) 2 row (two_form word) (other_count 2 row other)
+
+bare_asks : (word : Bare) (row : Row) → AsksFor row (bare_line word) → IsLine row (bare_line word)
+bare_asks Wait row asks = asks
+bare_asks Quit row asks = asks
+
+one_asks : (word : OneNumber) (n : ℕ) (row : Row) → AsksFor row (one_line word n) → IsLine row (one_line word n)
+one_asks Close n row asks = asks
+one_asks Reopen n row asks = asks
+one_asks Mark n row asks = asks
+one_asks Unmark n row asks = asks
+
+two_asks : (word : TwoNumbers) (n m : ℕ) (row : Row) → AsksFor row (two_line word n m) → IsLine row (two_line word n m)
+two_asks Set n m row asks = asks
+two_asks Dist n m row asks = asks
+two_asks From n m row asks = asks
+two_asks Lower n m row asks = asks
+
+-- a word that stands alone
+pub bare_reads : (word : Bare) (row : Row) → IsNumbers row Nothing → IsLine (spelling (WithNone word) ∷ row) (bare_line word)
+bare_reads word row none = rw none (bare_asks word (spelling (WithNone word) ∷ []) (code_alone (spelling (WithNone word)) (bare_form word), bare_made word []))
+
+pub bare_fault : (word : Bare) (row : Row) (numbers : Numbers) → IsNumbers row numbers → 0 < count_of numbers → IsLine (spelling (WithNone word) ∷ row) (Refused BadLine)
+bare_fault word row Nothing are some = let no : 0 < 0 = some in absurd (omega (arith, no))
+bare_fault word row (One a) are some = bad_bare word row (λ e. absurd (omega (arith, e, ap length are.row_is)))
+bare_fault word row (Two a b) are some = bad_bare word row (λ e. absurd (omega (arith, e, ap length are.row_is)))
+bare_fault word row TooMany are some = bad_bare word row (λ e. absurd (omega (arith, e, are)))
+
+-- what a field is whose numeral is kept
+record KeptAs (field : List ℕ) (n : Numeral) : Type 0 where
+  a : Numeral
+  is : numeral field ≡ Some a
+  kept_as : n ≡ kept a
+
+kept_as : (field : List ℕ) (n : Numeral) → Some n ≡ number_of field → KeptAs field n
+kept_as field n e =
+    elim (known (numeral field)) [
+      | inl none ↦ absurd (let clash : Some n ≡ None = e ∙ rw none refl in let absurdity : ⊥ = cc in absurdity)
+      | inr (a, is) ↦ let same : Some n ≡ Some (kept a) = e ∙ rw is refl in record { a = a; is = is; kept_as = cc }
+    ]
+
+no_numeral : (field : List ℕ) → None ≡ number_of field → numeral field ≡ None
+no_numeral field e =
+    elim (known (numeral field)) [
+      | inl none ↦ none
+      | inr (a, is) ↦ absurd (let clash : None ≡ Some (kept a) = e ∙ rw is refl in let absurdity : ⊥ = cc in absurdity)
+    ]
+
+-- a word with one number
+one_is : (word : OneNumber) (u : List ℕ) (a : Numeral) → numeral u ≡ Some a → is_refused a ≡ false → IsLine (spelling (WithOne word) ∷ u ∷ []) (one_line word (kept a).size)
+one_is word u a e plain =
+    let size : size_at (u ∷ []) 0 ≡ (kept a).size = rw e (sym (ap (λ (n : Numeral). n.size) (kept_number a plain))) in
+    one_asks word (kept a).size (spelling (WithOne word) ∷ u ∷ []) (
+      code_of_one (spelling (WithOne word)) u a (one_form word) e ∙ rw plain refl,
+      one_made word (u ∷ []) ∙ ap (λ (x : ℕ). Some (one_line word x)) size,
+    )
+
+pub one_reads : (word : OneNumber) (row : Row) (n : Numeral) → IsNumbers row (One (Some n)) → is_refused n ≡ false → IsLine (spelling (WithOne word) ∷ row) (one_line word n.size)
+one_reads word row n are plain =
+    let k = kept_as are.field n are.number in
+    let still : is_refused k.a ≡ false = sym (kept_refused k.a) ∙ sym (ap is_refused k.kept_as) ∙ plain in
+    rw (are.row_is, k.kept_as) (one_is word are.field k.a k.is still)
+
+pub one_range : (word : OneNumber) (row : Row) (n : Numeral) → IsNumbers row (One (Some n)) → is_refused n ≡ true → IsLine (spelling (WithOne word) ∷ row) (Refused NumberRange)
+one_range word row n are bad =
+    let k = kept_as are.field n are.number in
+    let still : is_refused k.a ≡ true = sym (kept_refused k.a) ∙ sym (ap is_refused k.kept_as) ∙ bad in
+    rw are.row_is (code_of_one (spelling (WithOne word)) are.field k.a (one_form word) k.is ∙ rw still refl)
+
+pub one_fault : (word : OneNumber) (row : Row) (numbers : Numbers) → IsNumbers row numbers → has_one numbers ≡ false → IsLine (spelling (WithOne word) ∷ row) (Refused BadLine)
+one_fault word row Nothing are none = bad_one word row (λ e. absurd (omega (arith, e, ap length are)))
+one_fault word row (One None) are none =
+    let no : numeral are.field ≡ None = no_numeral are.field are.number in
+    let bad : is_malformed 1 (are.field ∷ []) ≡ true = rw no refl in
+    rw are.row_is (malformed (spelling (WithOne word)) 1 (are.field ∷ []) (one_form word) bad)
+one_fault word row (One (Some n)) are none = absurd (let absurdity : ⊥ = cc in absurdity)
+one_fault word row (Two a b) are none = bad_one word row (λ e. absurd (omega (arith, e, ap length are.row_is)))
+one_fault word row TooMany are none = bad_one word row (λ e. absurd (omega (arith, e, are)))
+
+-- a word with two numbers
+two_is : (word : TwoNumbers) (u v : List ℕ) (a b : Numeral) → numeral u ≡ Some a → numeral v ≡ Some b → (is_refused a || is_refused b) ≡ false
+    → IsLine (spelling (WithTwo word) ∷ u ∷ v ∷ []) (two_line word (kept a).size (kept b).size)
+two_is word u v a b d e plain =
+    let parts = or_parts _ _ plain in
+    let first : size_at (u ∷ v ∷ []) 0 ≡ (kept a).size = rw d (sym (ap (λ (n : Numeral). n.size) (kept_number a parts.0))) in
+    let second : size_at (u ∷ v ∷ []) 1 ≡ (kept b).size = rw e (sym (ap (λ (n : Numeral). n.size) (kept_number b parts.1))) in
+    two_asks word (kept a).size (kept b).size (spelling (WithTwo word) ∷ u ∷ v ∷ []) (
+      code_of_two (spelling (WithTwo word)) u v a b (two_form word) d e ∙ rw plain refl,
+      two_made word (u ∷ v ∷ []) ∙ ap (λ (x : ℕ). Some (two_line word x (size_at (u ∷ v ∷ []) 1))) first ∙ ap (λ (y : ℕ). Some (two_line word (kept a).size y)) second,
+    )
+
+both_refused : (a b : Numeral) (n m : Numeral) → n ≡ kept a → m ≡ kept b → (is_refused a || is_refused b) ≡ (is_refused n || is_refused m)
+both_refused a b n m p q =
+    ap (λ (x : Bool). x || is_refused b) (sym (kept_refused a) ∙ sym (ap is_refused p)) ∙ ap (λ (y : Bool). is_refused n || y) (sym (kept_refused b) ∙ sym (ap is_refused q))
+
+pub two_reads : (word : TwoNumbers) (row : Row) (n m : Numeral) → IsNumbers row (Two (Some n) (Some m)) → (is_refused n || is_refused m) ≡ false
+    → IsLine (spelling (WithTwo word) ∷ row) (two_line word n.size m.size)
+two_reads word row n m are plain =
+    let j = kept_as are.first n are.first_number in
+    let k = kept_as are.second m are.second_number in
+    rw (are.row_is, j.kept_as, k.kept_as) (two_is word are.first are.second j.a k.a j.is k.is (both_refused j.a k.a n m j.kept_as k.kept_as ∙ plain))
+
+pub two_range : (word : TwoNumbers) (row : Row) (n m : Numeral) → IsNumbers row (Two (Some n) (Some m)) → (is_refused n || is_refused m) ≡ true
+    → IsLine (spelling (WithTwo word) ∷ row) (Refused NumberRange)
+two_range word row n m are bad =
+    let j = kept_as are.first n are.first_number in
+    let k = kept_as are.second m are.second_number in
+    rw are.row_is (code_of_two (spelling (WithTwo word)) are.first are.second j.a k.a (two_form word) j.is k.is ∙ rw (both_refused j.a k.a n m j.kept_as k.kept_as ∙ bad) refl)
+
+bad_pair : (word : TwoNumbers) (row : Row) (a b : Option Numeral) → AreTwo row a b → is_malformed 2 row ≡ true → session_code (spelling (WithTwo word) ∷ row) ≡ Some BadLine
+bad_pair word row a b are bad = malformed (spelling (WithTwo word)) 2 row (two_form word) bad
+
+pub two_fault : (word : TwoNumbers) (row : Row) (numbers : Numbers) → IsNumbers row numbers → has_two numbers ≡ false → IsLine (spelling (WithTwo word) ∷ row) (Refused BadLine)
+two_fault word row Nothing are none = bad_two word row (λ e. absurd (omega (arith, e, ap length are)))
+two_fault word row (One a) are none = bad_two word row (λ e. absurd (omega (arith, e, ap length are.row_is)))
+two_fault word row (Two None b) are none =
+    let no : numeral are.first ≡ None = no_numeral are.first are.first_number in
+    bad_pair word row None b are (rw (are.row_is, no) refl)
+two_fault word row (Two (Some n) None) are none =
+    let k = kept_as are.first n are.first_number in
+    let no : numeral are.second ≡ None = no_numeral are.second are.second_number in
+    bad_pair word row (Some n) None are (rw (are.row_is, k.is, no) refl)
+two_fault word row (Two (Some n) (Some m)) are none = absurd (let absurdity : ⊥ = cc in absurdity)
+two_fault word row TooMany are none = bad_two word row (λ e. absurd (omega (arith, e, are)))

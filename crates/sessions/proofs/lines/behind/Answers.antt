@@ -1,0 +1,8 @@
+use Rattle.sessions.proofs.Staged.{word_ended, unknown_ended}
+use Rattle.sessions.proofs.lines.behind.Goals as goal
+
+pub returns-in-Some : goal.returns-in-Some
+returns-in-Some c front is = word_ended front c.args.blank c.args.letters c.in-Some.word c.requires c.in-Some.ensures is
+
+pub returns-in-None : goal.returns-in-None
+returns-in-None c front is = unknown_ended front c.args.blank c.args.letters c.requires c.in-None.ensures is

@@ -1,0 +1,10 @@
+use Rattle.std.proofs.Common.{◌≡◌}
+use Rattle.sessions.proofs.serving.serve.Given as goal
+
+abbrev pub invariant-loop : goal.invariant-loop
+invariant-loop g l = record {
+  failed_reads : l.reader.failed ≡ l.initial.reader.failed;
+  same_reader : l.reader.reader.ghost_name ≡ l.initial.reader.reader.ghost_name;
+  failed_writes : l.writer.failed ≡ l.initial.writer.failed;
+  same_writer : l.writer.writer.ghost_name ≡ l.initial.writer.writer.ghost_name;
+}

@@ -1,0 +1,58 @@
+-- What is known of a line before it ends, without its bytes.
+use Rattle.std.specs.Prelude.{◌≡◌, ℕ, ◌<◌, true, false, List, [], ◌∷◌, ◌++◌, All, length, take, Some, ◌≢◌, if◌then◌else◌}
+use Rattle.std.specs.List.{list_all}
+use Rattle.std.specs.Io.BufRead.{strip_last}
+use Rattle.dimacs.specs.declared.fault.Code.TheVariants.{BadLine}
+use Rattle.dimacs.specs.Faults.{Row, is_remark}
+use Rattle.dimacs.specs.Lines.{is_blank, fields}
+use Rattle.sessions.specs.declared.fields.Field.{Field}
+use Rattle.sessions.specs.declared.fields.Numbers.{Numbers}
+use Rattle.sessions.specs.declared.words.Word.{Word}
+use Rattle.sessions.specs.declared.letters.Letters.{Letters}
+use Rattle.sessions.specs.declared.lines.Stage.{Stage}
+use Rattle.sessions.specs.declared.lines.Stage.TheVariants.{Blank, Beginning, Remark, Unknown, Behind}
+use Rattle.sessions.specs.declared.lines.LineSoFar.{LineSoFar}
+use Rattle.sessions.specs.Fields.{IsField, IsNumbers}
+use Rattle.sessions.specs.SessionLines.{session_code}
+use Rattle.sessions.specs.Spelled.{spelling}
+
+-- the bytes of the first field
+abbrev pub letters_of : Letters → List ℕ
+letters_of letters = take letters.count letters.bytes
+
+-- no byte of it is a blank
+abbrev pub IsOneField : List ℕ → Type 0
+IsOneField field = All (λ b. is_blank b ≡ false) field
+
+-- these letters begin a line's first field: there are some, and they begin no comment
+pub record BeginsWith (front letters : List ℕ) : Type 0 where
+  pub first : ℕ
+  pub others : List ℕ
+  pub letters_are : letters ≡ first ∷ others
+  pub no_remark : first ≢ 35
+  pub no_blank : IsOneField letters
+  pub goes_on : (more : List ℕ) → fields (front ++ more) ≡ fields (letters ++ more)
+
+-- the line begins with this word, then has whole fields and one that may go on
+pub record GoesOnBehind (front : List ℕ) (word : Word) (numbers : Numbers) (field : Field) : Type 0 where
+  pub whole : Row
+  pub last : List ℕ
+  pub numbers_are : IsNumbers whole numbers
+  pub field_is : IsField last field
+  pub no_blank : IsOneField last
+  pub goes_on : (more : List ℕ) → fields (front ++ more) ≡ spelling word ∷ (whole ++ fields (last ++ more))
+
+-- what is known of the front of a line
+abbrev pub IsStage : List ℕ → Stage → Type 0
+IsStage front Blank = (more : List ℕ) → fields (front ++ more) ≡ fields more
+IsStage front (Beginning letters) = BeginsWith front (letters_of letters)
+IsStage front Remark = (more : List ℕ) → is_remark 35 (fields (front ++ more)) ≡ true
+IsStage front Unknown = (more : List ℕ) → session_code (fields (front ++ more)) ≡ Some BadLine
+IsStage front (Behind word numbers field) = GoesOnBehind front word numbers field
+
+-- these bytes came: where the last is a carriage return, it waits for what follows
+pub record IsSoFar (front : List ℕ) (line : LineSoFar) : Type 0 where
+  pub judged : List ℕ
+  pub front_is : front ≡ judged ++ (if line.after_return then 13 ∷ [] else [])
+  pub plain : strip_last 13 front ≡ judged
+  pub stage : IsStage judged line.stage

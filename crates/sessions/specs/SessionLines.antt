@@ -1,0 +1,47 @@
+-- The lines of a session: those of command texts, the queries of scripts, `wait` and `quit`.
+use Rattle.std.specs.Prelude.{◌≡◌, ℕ, ◌||◌, true, List, [], ◌∷◌, ◌++◌, Option, None, Some, if◌then◌else◌, ⊤}
+use Rattle.std.specs.Option.{option_map}
+use Rattle.std.specs.Str.{bytes_eq}
+use lib.Chars.{codes}
+use Rattle.dimacs.specs.declared.fault.Code.{Code}
+use Rattle.dimacs.specs.Commands.{Form, form, commands, command_code}
+use Rattle.dimacs.specs.Commanded.{command_from}
+use Rattle.dimacs.specs.Content.{size_at}
+use Rattle.dimacs.specs.Faults.{Row, is_empty, is_remark}
+use Rattle.rows.specs.declared.queries.Query.TheVariants.{Dist, From, Lower}
+use Rattle.sessions.specs.declared.lines.Line.{Line}
+use Rattle.sessions.specs.declared.lines.Line.TheVariants.{Ignored, Command, Query, Wait, Quit, Refused}
+
+-- the words of a session, with how many numbers follow them
+abbrev pub forms : List Form
+forms = commands ++ form (codes "dist") 2 ∷ form (codes "from") 2 ∷ form (codes "lower") 2 ∷ form (codes "wait") 0 ∷ form (codes "quit") 0 ∷ []
+
+-- the code of a line, by the table of command texts with these words
+abbrev pub session_code : Row → Option Code
+session_code row = command_code forms [] row
+
+-- what a line asks for, by its word and the fields behind it
+abbrev pub line_from : List ℕ → Row → Option Line
+line_from word others = if bytes_eq word (codes "dist") then Some (Query (Dist (size_at others 0) (size_at others 1)))
+    else (if bytes_eq word (codes "from") then Some (Query (From (size_at others 0) (size_at others 1)))
+    else (if bytes_eq word (codes "lower") then Some (Query (Lower (size_at others 0) (size_at others 1)))
+    else (if bytes_eq word (codes "wait") then Some Wait
+    else (if bytes_eq word (codes "quit") then Some Quit
+    else option_map Command (command_from word others)))))
+
+abbrev pub line_of : Row → Option Line
+line_of [] = None
+line_of (word ∷ others) = line_from word others
+
+-- the line has no fault and asks for this
+abbrev pub AsksFor : Row → Line → Type 0
+AsksFor row line = (session_code row ≡ None) × (line_of row ≡ Some line)
+
+-- the line asks for nothing, or for this, or has this fault
+abbrev pub IsLine : Row → Line → Type 0
+IsLine row Ignored = (is_empty row || is_remark 35 row) ≡ true
+IsLine row (Refused code) = session_code row ≡ Some code
+IsLine row (Command command) = AsksFor row (Command command)
+IsLine row (Query query) = AsksFor row (Query query)
+IsLine row Wait = AsksFor row Wait
+IsLine row Quit = AsksFor row Quit

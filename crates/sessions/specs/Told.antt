@@ -1,0 +1,79 @@
+-- What a session is told by its desk, and what it tells.
+use Rattle.std.specs.Prelude.{◌≡◌, ◌⊎◌, ℕ, ◌+◌, List, [], length, Option, None, Some, Result, Ok, Err, ⊤}
+use mathlib.Core.List.{IsPrefix}
+use Rattle.roadnet.specs.declared.commands.Command.{Command}
+use Rattle.roadnet.specs.declared.refusals.Refusal.TheVariants.{Read, Write}
+use Rattle.roadnet.specs.Net.{Net}
+use Rattle.roadnet.specs.Step.{after}
+use Rattle.rows.specs.declared.queries.Query.{Query}
+use Rattle.rows.specs.Replies.{IsRight}
+use Rattle.machine.specs.declared.calls.Answer.{Answer}
+use Rattle.machine.specs.declared.events.Replied.{Replied}
+use Rattle.machine.specs.declared.events.Replied.TheVariants.{Durable, Answered, Refused}
+use Rattle.machine.specs.Laws.{IsAt}
+use Rattle.history.specs.Claims.{Claimed}
+use Rattle.history.specs.Origins.{Origin, Beginning}
+use Rattle.desk.specs.Readings.{Reading}
+use Rattle.dimacs.specs.Counts.{one_more_failed}
+use Rattle.printing.specs.declared.failed.Failed.{Failed}
+use Rattle.printing.specs.declared.failed.Failed.TheVariants.{Text, Code}
+use Rattle.sessions.specs.declared.answers.Accepted.{Accepted}
+use Rattle.sessions.specs.declared.answers.Accepted.TheVariants.{Settled, Unsettled}
+
+-- the ticket of an accepted command, with its desk
+abbrev pub claim_of : Accepted → Claimed
+claim_of (Settled receipt) = receipt
+claim_of (Unsettled ticket) = ticket
+
+-- the session has a receipt of this desk for the command, with this number
+abbrev pub HasReceipt : Origin → Option Accepted → ℕ → Command → Type 0
+HasReceipt origin (Some (Settled receipt)) number command =
+    (receipt.origin ≡ origin) × (receipt.ticket.number ≡ number) × (receipt.ticket.command ≡ command)
+HasReceipt origin other number command = ⊥
+
+-- what a command is told: its number, of which the session has a receipt, or a refusal
+abbrev pub Settles : Origin → Option Accepted → Command → Replied → Type 0
+Settles origin last command (Durable number) = HasReceipt origin last number command
+Settles origin last command (Refused refusal) = ⊤
+Settles origin last command other = ⊥
+
+-- the answer is right in the desk's network after these commands, and names the version after them
+pub record AnswersAfter (origin : Origin) (commands : List Command) (query : Query) (answer : Answer) : Type 0 where
+  pub network : Net
+  pub network_is : after origin.base commands ≡ Some network
+  pub version : answer.version ≡ origin.version + length commands
+  pub right : IsRight network query answer.reply
+
+-- what a query is told: an answer after these commands, or a refusal
+abbrev pub Replies : Origin → List Command → Query → Replied → Type 0
+Replies origin commands query (Answered asked answer) = (asked ≡ query) × AnswersAfter origin commands query answer
+Replies origin commands query (Refused refusal) = ⊤
+Replies origin commands query other = ⊥
+
+-- the commands that a session's reader has seen or was told of, if it has one
+abbrev pub known_to : Option Reading → List Command
+known_to None = []
+known_to (Some reading) = reading.known.commands
+
+-- what is shown of this desk has the last accepted command at its number, where there is one
+abbrev pub HasShown : Origin → Option Accepted → Option Beginning → Type 0
+HasShown origin None None = ⊤
+HasShown origin None (Some shown) = ⊥
+HasShown origin (Some accepted) None = ⊥
+HasShown origin (Some accepted) (Some shown) = (shown.origin ≡ origin) × IsAt origin.version shown.commands (claim_of accepted).ticket
+
+-- the last accepted command, if there is one, has its number among these commands, and the version is that after them
+abbrev pub ShowsLast : Origin → Option Accepted → List Command → ℕ → Type 0
+ShowsLast origin None commands version = version ≡ origin.version + length commands
+ShowsLast origin (Some accepted) commands version =
+    IsAt origin.version commands (claim_of accepted).ticket × (version ≡ origin.version + length commands)
+
+-- the reader's count of failed calls is one more where a failed read is told, and else as it was
+abbrev pub CountsRead : {X : Type 0} → ℕ → ℕ → Result X Failed → Type 0
+CountsRead old new (Ok x) = new ≡ old
+CountsRead old new (Err (Code Read)) = new ≡ one_more_failed old
+CountsRead old new (Err other) = new ≡ old
+
+-- a call of the reader or of the writer failed
+abbrev pub IsOfStream : Failed → Type 0
+IsOfStream failed = (failed ≡ Code Read) ⊎ (failed ≡ Code Write)

@@ -1,0 +1,264 @@
+//! What a session answers, by its desk.
+ghost use Rattle.std.specs.Prelude.{◌≡◌, ◌+◌, [], length, IfOk, IfErr};
+ghost use Rattle.std.specs.Option.{ForSome};
+ghost use mathlib.Core.List.{IsPrefix};
+ghost use Rattle.printing.specs.Counting.{failed_writes, writer_of, IsSameWriter, CountsFailure};
+ghost use Rattle.sessions.specs.Told.{claim_of, HasReceipt, HasShown, AnswersAfter, known_to, Settles, Replies, ShowsLast};
+
+use crate::lines::Line;
+use desk::{Desk, Gate, Naming, Reader, Receipt, Shown, Ticket};
+use dimacs::Code;
+use disk::Disk;
+use machine::{Answer, Replied};
+use printing::{CountedWriter, Failed, put_refusal, put_reply, put_version};
+use roadnet::{Command, Refusal};
+use rows::Query;
+use std::alloc::Global;
+use std::io::Write;
+use std::sync::Wait;
+use std::thread::Threads;
+
+/// A command that was accepted, settled or not.
+#[derive(Drop)]
+pub(crate) enum Accepted {
+    Settled(Receipt),
+    Unsettled(Ticket),
+}
+
+impl Accepted {
+    /// The command's ticket.
+    fn ticket(&self) -> &Ticket
+        ensures { result.now ≡ claim_of self.now }
+    {
+        match self {
+            Accepted::Settled(receipt) => receipt.ticket(),
+            Accepted::Unsettled(ticket) => ticket,
+        }
+    }
+}
+
+/// What a session has of its desk: a reader, once a place for it was found, and the last of its commands that was accepted.
+#[derive(Drop)]
+pub(crate) struct Session<N: Naming> {
+    reader: Option<Reader<N>>,
+    last: Option<Accepted>,
+    ghost of_desk: { ForSome last (λ accepted. (claim_of accepted).origin ≡ N.origin) },
+}
+
+/// The number of a line's fault.
+fn number_of_fault(code: Code) -> u8 {
+    match code {
+        Code::NumberRange => 5,
+        Code::OutOfMemory => 11,
+        _ => 1,
+    }
+}
+
+/// The reply to a query, from the view that is shown now, with its version. Refused is a view that the reader can't look at (11, 61), and want
+/// of memory for a new row (11).
+fn answer_by<N: Naming, R: Threads>(
+    rt: &R,
+    alloc: Global,
+    reader: &mut Reader<N>,
+    query: Query,
+) -> Result<Answer, Refusal>
+    ensures right { IfOk result (AnswersAfter N.origin reader.new.known.commands query) }
+    ensures begins { IsPrefix reader.old.known.commands reader.new.known.commands }
+{
+    reader.look()?;
+    let mut pinned = reader.pinned();
+    let version = pinned.version();
+    let reply = match query {
+        Query::Dist { source, target } => match pinned.dist(rt, alloc, source, target) {
+            Ok(reply) => reply,
+            Err(_) => return Err(Refusal::OutOfMemory),
+        },
+        Query::From { landmark, target } => pinned.from_landmark(landmark, target),
+        Query::Lower { source, target } => pinned.lower(source, target),
+    };
+    Ok(Answer { version, reply })
+}
+
+/// The version of the view that is shown now. Refused is a view that the reader can't look at (11, 61).
+fn version_by<N: Naming>(reader: &mut Reader<N>) -> Result<u64, Refusal>
+    ensures version { IfOk result (λ version. version ≡ N.origin.version + length reader.new.known.commands) }
+    ensures begins { IsPrefix reader.old.known.commands reader.new.known.commands }
+{
+    reader.look()?;
+    Ok(reader.pinned().version())
+}
+
+/// The same for a reader that takes in first what it is told of.
+fn version_since<N: Naming>(reader: &mut Reader<N>, shown: &Shown) -> Result<u64, Refusal>
+    requires { shown.now.origin ≡ N.origin }
+    ensures version { IfOk result (λ version. version ≡ N.origin.version + length reader.new.known.commands) }
+    ensures begins { IsPrefix reader.old.known.commands reader.new.known.commands }
+    ensures learned { IsPrefix shown.now.commands reader.new.known.commands }
+{
+    reader.learn(shown);
+    version_by(reader)
+}
+
+impl<N: Naming + Send + Sync + 'static> Session<N> {
+    /// No command was accepted yet.
+    pub(crate) fn new() -> Session<N>
+        ensures { known_to result.reader ≡ [] }
+    {
+        Session {
+            reader: None,
+            last: None,
+        }
+    }
+
+    /// Finds a place for the session's reader, where it has none. Refused is what `Desk::reader` refuses.
+    fn find_reader<
+        D: Disk + Drop + Send + 'static,
+        G: Gate + Drop + Send + Sync + 'static,
+        R: Threads + Wait + Copy + Send + Sync + 'static,
+    >(&mut self, desk: &Desk<N, D, G, R>) -> Result<(), Refusal>
+        ensures begins { IsPrefix (known_to self.old.reader) (known_to self.new.reader) }
+        ensures last { self.new.last ≡ self.old.last }
+    {
+        match &self.reader {
+            Some(_) => Ok(()),
+            None => {
+                self.reader = Some(desk.reader()?);
+                Ok(())
+            }
+        }
+    }
+
+    /// Submits the command and settles it. Its number is then that of a receipt, or it is told for what it was refused.
+    fn settle<
+        D: Disk + Drop + Send + 'static,
+        G: Gate + Drop + Send + Sync + 'static,
+        R: Threads + Wait + Copy + Send + Sync + 'static,
+    >(&mut self, desk: &Desk<N, D, G, R>, command: Command) -> Result<u64, Refusal>
+        ensures receipt { IfOk result (λ number. HasReceipt N.origin self.new.last number command) }
+        ensures reader { self.new.reader ≡ self.old.reader }
+    {
+        let ticket = desk.submit(command)?;
+        match desk.settle(ticket) {
+            Ok(receipt) => {
+                let number = receipt.ticket().ticket().number;
+                self.last = Some(Accepted::Settled(receipt));
+                Ok(number)
+            }
+            Err((refusal, ticket)) => {
+                self.last = Some(Accepted::Unsettled(ticket));
+                Err(refusal)
+            }
+        }
+    }
+
+    /// The reply to a command: `ok N`, where the session then has a receipt of the desk for it with that number, or what it was refused for.
+    pub(crate) fn carry_out<
+        D: Disk + Drop + Send + 'static,
+        G: Gate + Drop + Send + Sync + 'static,
+        R: Threads + Wait + Copy + Send + Sync + 'static,
+    >(&mut self, desk: &Desk<N, D, G, R>, command: Command) -> Replied
+        ensures settled { Settles N.origin self.new.last command result }
+        ensures reader { self.new.reader ≡ self.old.reader }
+    {
+        match self.settle(desk, command) {
+            Ok(version) => Replied::Durable { version },
+            Err(refusal) => Replied::Refused { refusal },
+        }
+    }
+
+    /// The reply to a query, from a pin of this moment: it is right in the network of the version that it names, which comes after commands that
+    /// begin with all that the session has seen and learned. Or what the pin, its reader or its row was refused for.
+    pub(crate) fn ask<
+        D: Disk + Drop + Send + 'static,
+        G: Gate + Drop + Send + Sync + 'static,
+        R: Threads + Wait + Copy + Send + Sync + 'static,
+    >(&mut self, rt: &R, alloc: Global, desk: &Desk<N, D, G, R>, query: Query) -> Replied
+        ensures right { Replies N.origin (known_to self.new.reader) query result }
+        ensures begins { IsPrefix (known_to self.old.reader) (known_to self.new.reader) }
+        ensures last { self.new.last ≡ self.old.last }
+    {
+        if let Err(refusal) = self.find_reader(desk) {
+            return Replied::Refused { refusal };
+        }
+        let Some(reader) = &mut self.reader else {
+            return Replied::Refused {
+                refusal: Refusal::NoReaderPlace,
+            };
+        };
+        match answer_by(rt, alloc, reader, query) {
+            Ok(answer) => Replied::Answered { query, answer },
+            Err(refusal) => Replied::Refused { refusal },
+        }
+    }
+
+    /// What was shown when the session's last accepted command was; nothing where it has none.
+    fn shown<
+        D: Disk + Drop + Send + 'static,
+        G: Gate + Drop + Send + Sync + 'static,
+        R: Threads + Wait + Copy + Send + Sync + 'static,
+    >(&self, desk: &Desk<N, D, G, R>) -> Result<Option<Shown>, Refusal>
+        ensures { IfOk result (λ shown. HasShown N.origin self.now.last shown) }
+    {
+        match &self.last {
+            None => Ok(None),
+            Some(last) => match desk.wait_shown(last.ticket()) {
+                Ok(shown) => Ok(Some(shown)),
+                Err(refusal) => Err(refusal),
+            },
+        }
+    }
+
+    /// Waits until the session's last accepted command is shown, if there is one, and learns it. The version is that of a new pin, after
+    /// commands among which that command has its number.
+    pub(crate) fn wait<
+        D: Disk + Drop + Send + 'static,
+        G: Gate + Drop + Send + Sync + 'static,
+        R: Threads + Wait + Copy + Send + Sync + 'static,
+    >(&mut self, desk: &Desk<N, D, G, R>) -> Result<u64, Refusal>
+        ensures shown { IfOk result (ShowsLast N.origin self.new.last (known_to self.new.reader)) }
+        ensures begins { IsPrefix (known_to self.old.reader) (known_to self.new.reader) }
+        ensures last { self.new.last ≡ self.old.last }
+    {
+        let shown = self.shown(desk)?;
+        self.find_reader(desk)?;
+        let Some(reader) = &mut self.reader else {
+            return Err(Refusal::NoReaderPlace);
+        };
+        match shown {
+            None => version_by(reader),
+            Some(shown) => version_since(reader, &shown),
+        }
+    }
+
+    /// Writes the answer to a line, if it has one, and sends it out. The one error is a failed write.
+    pub(crate) fn answer<
+        D: Disk + Drop + Send + 'static,
+        G: Gate + Drop + Send + Sync + 'static,
+        R: Threads + Wait + Copy + Send + Sync + 'static,
+        W: Write,
+    >(
+        &mut self,
+        rt: &R,
+        alloc: Global,
+        desk: &Desk<N, D, G, R>,
+        line: Line,
+        out: &mut CountedWriter<'_, W>,
+    ) -> Result<(), Failed>
+        ensures begins { IsPrefix (known_to self.old.reader) (known_to self.new.reader) }
+        ensures refused { IfErr result (λ failed. failed ≡ Failed.Code Refusal.Write) }
+        ensures counts { CountsFailure (failed_writes out.old) (failed_writes out.new) result }
+        ensures same { IsSameWriter out.old out.new }
+    {
+        match line {
+            Line::Ignored | Line::Quit => return Ok(()),
+            Line::Command(command) => put_reply(out, &self.carry_out(desk, command))?,
+            Line::Query(query) => put_reply(out, &self.ask(rt, alloc, desk, query))?,
+            Line::Wait => match self.wait(desk) {
+                Ok(version) => put_version(out, version)?,
+                Err(refusal) => put_refusal(out, refusal.number())?,
+            },
+            Line::Refused(code) => put_refusal(out, number_of_fault(code))?,
+        }
+        out.flush()
+    }
+}

@@ -1,0 +1,49 @@
+//! The bytes of a line's first field.
+ghost use Rattle.std.specs.Prelude.{◌≡◌, ◌≤◌, ◌∷◌, ◌++◌, [], take, MatchOption};
+ghost use Rattle.sessions.specs.Spelled.{word_from};
+
+use crate::words::{Word, word_of};
+
+/// The most bytes that a word has.
+const LONGEST_WORD: usize = 6;
+
+/// The bytes of a line's first field, as many as a word may have.
+#[derive(Clone, Copy)]
+pub(crate) struct Letters {
+    bytes: [u8; LONGEST_WORD],
+    count: usize,
+    ghost few: { count ≤ 6 },
+}
+
+impl Letters {
+    /// One letter.
+    pub(crate) fn one(byte: u8) -> Letters
+        ensures { take result.count result.bytes ≡ byte ∷ [] }
+    {
+        let mut bytes = [0; LONGEST_WORD];
+        bytes[0] = byte;
+        Letters { bytes, count: 1 }
+    }
+
+    /// One letter more, where a word has so many.
+    pub(crate) fn with(self, byte: u8) -> Option<Letters>
+        ensures { MatchOption result (self.count ≡ 6) (λ more. take more.count more.bytes ≡ take self.count self.bytes ++ byte ∷ []) }
+    {
+        if self.count == LONGEST_WORD {
+            return None;
+        }
+        let mut bytes = self.bytes;
+        bytes[self.count] = byte;
+        Some(Letters {
+            bytes,
+            count: self.count + 1,
+        })
+    }
+
+    /// The word that they spell.
+    pub(crate) fn word(&self) -> Option<Word>
+        ensures { result ≡ word_from (take self.now.count self.now.bytes) }
+    {
+        word_of(&self.bytes[..self.count])
+    }
+}

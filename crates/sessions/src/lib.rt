@@ -1,0 +1,15 @@
+//! A session: the lines of a client are read one after the other, carried out by a desk, and answered.
+#![tactic(auto)]
+
+mod answers;
+mod fields;
+mod letters;
+mod lines;
+mod reading;
+mod serving;
+mod words;
+
+pub use serving::serve;
+
+#[cfg(test)]
+mod tests;

@@ -1,0 +1,326 @@
+//! The lines of a session, judged byte by byte: of the bytes of a line none is kept but those of a word.
+ghost use Rattle.std.specs.Prelude.{◌≡◌, ◌||◌, ◌∷◌, ◌++◌, [], List, ℕ, true, false};
+ghost use Rattle.std.specs.Io.BufRead.{strip_last};
+ghost use Rattle.dimacs.specs.Commands.{is_refused};
+ghost use Rattle.dimacs.specs.Faults.{Row};
+ghost use Rattle.dimacs.specs.Lines.{is_blank, fields};
+ghost use Rattle.sessions.specs.Fields.{IsNumbers};
+ghost use Rattle.sessions.specs.Spelled.{spelling};
+ghost use Rattle.sessions.specs.Words.{bare_line, one_line, two_line};
+ghost use Rattle.sessions.specs.SessionLines.{IsLine};
+ghost use Rattle.sessions.specs.Judging.{IsStage, IsSoFar};
+
+use crate::fields::{Field, Numbers, one_of, two_of};
+use crate::letters::Letters;
+use crate::words::{Bare, OneNumber, TwoNumbers, Word};
+use dimacs::{Code, Numeral};
+use roadnet::Command;
+use rows::Query;
+
+/// What a line asks for.
+#[derive(Clone, Copy)]
+pub(crate) enum Line {
+    /// Nothing: a line with no field, or a comment.
+    Ignored,
+    Command(Command),
+    Query(Query),
+    /// The session's last accepted command is to be shown.
+    Wait,
+    Quit,
+    /// It has this fault: 1 BadLine or 5 NumberRange.
+    Refused(Code),
+}
+
+/// How far a line came, by what it asks for.
+#[derive(Clone, Copy)]
+pub(crate) enum Stage {
+    /// Blanks alone.
+    Blank,
+    /// The first field, which may go on.
+    Beginning(Letters),
+    /// A comment, whatever follows.
+    Remark,
+    /// No line of a session, whatever follows.
+    Unknown,
+    /// Behind a word: the fields that are whole, and the one that may go on.
+    Behind {
+        word: Word,
+        numbers: Numbers,
+        field: Field,
+    },
+}
+
+fn is_blank(byte: u8) -> bool
+    ensures { result ≡ is_blank byte }
+{
+    byte == b' ' || byte == b'\t'
+}
+
+/// Whether a number of a line has a minus, or a size above 2^63 - 1.
+fn is_refused(number: Numeral) -> bool
+    ensures { result ≡ is_refused number }
+{
+    number.has_minus || number.is_unreadable()
+}
+
+/// What a word alone asks for.
+fn bare_line(word: Bare) -> Line
+    ensures { result ≡ bare_line word }
+{
+    match word {
+        Bare::Wait => Line::Wait,
+        Bare::Quit => Line::Quit,
+    }
+}
+
+/// What a word with a number asks for.
+fn one_line(word: OneNumber, number: u64) -> Line
+    ensures { result ≡ one_line word number }
+{
+    Line::Command(match word {
+        OneNumber::Close => Command::Close { arc: number },
+        OneNumber::Reopen => Command::Reopen { arc: number },
+        OneNumber::Mark => Command::Mark { node: number },
+        OneNumber::Unmark => Command::Unmark { node: number },
+    })
+}
+
+/// What a word with two numbers asks for.
+fn two_line(word: TwoNumbers, first: u64, second: u64) -> Line
+    ensures { result ≡ two_line word first second }
+{
+    match word {
+        TwoNumbers::Set => Line::Command(Command::Set {
+            arc: first,
+            length: second,
+        }),
+        TwoNumbers::Dist => Line::Query(Query::Dist {
+            source: first,
+            target: second,
+        }),
+        TwoNumbers::From => Line::Query(Query::From {
+            landmark: first,
+            target: second,
+        }),
+        TwoNumbers::Lower => Line::Query(Query::Lower {
+            source: first,
+            target: second,
+        }),
+    }
+}
+
+/// What a word asks for that stands alone.
+fn read_bare(word: Bare, numbers: Numbers) -> Line
+    ensures { (row : Row) → IsNumbers row numbers → IsLine (spelling (Word.WithNone word) ∷ row) result }
+{
+    match numbers {
+        Numbers::Nothing => bare_line(word),
+        Numbers::One(_) => Line::Refused(Code::BadLine),
+        Numbers::Two(..) => Line::Refused(Code::BadLine),
+        Numbers::TooMany => Line::Refused(Code::BadLine),
+    }
+}
+
+/// What a word asks for that has one number behind it.
+fn read_one(word: OneNumber, numbers: Numbers) -> Line
+    ensures { (row : Row) → IsNumbers row numbers → IsLine (spelling (Word.WithOne word) ∷ row) result }
+{
+    let Some(number) = one_of(numbers) else {
+        return Line::Refused(Code::BadLine);
+    };
+    if is_refused(number) {
+        return Line::Refused(Code::NumberRange);
+    }
+    one_line(word, number.size)
+}
+
+/// What a word asks for that has two numbers behind it.
+fn read_two(word: TwoNumbers, numbers: Numbers) -> Line
+    ensures { (row : Row) → IsNumbers row numbers → IsLine (spelling (Word.WithTwo word) ∷ row) result }
+{
+    let Some((first, second)) = two_of(numbers) else {
+        return Line::Refused(Code::BadLine);
+    };
+    if are_refused(first, second) {
+        return Line::Refused(Code::NumberRange);
+    }
+    two_line(word, first.size, second.size)
+}
+
+/// What a line asks for, by its word and what stands behind it.
+fn read_line(word: Word, numbers: Numbers) -> Line
+    ensures { (row : Row) → IsNumbers row numbers → IsLine (spelling word ∷ row) result }
+{
+    match word {
+        Word::WithNone(word) => read_bare(word, numbers),
+        Word::WithOne(word) => read_one(word, numbers),
+        Word::WithTwo(word) => read_two(word, numbers),
+    }
+}
+
+/// A line that begins with this byte, which is no blank.
+fn beginning(byte: u8) -> Stage
+    requires { is_blank byte ≡ false }
+    ensures { (front : List ℕ) → IsStage front Stage.Blank → IsStage (front ++ byte ∷ []) result }
+{
+    if byte == b'#' {
+        return Stage::Remark;
+    }
+    Stage::Beginning(Letters::one(byte))
+}
+
+/// A line whose first field goes on with this byte.
+fn going_on(letters: Letters, byte: u8) -> Stage
+    requires { is_blank byte ≡ false }
+    ensures { (front : List ℕ) → IsStage front (Stage.Beginning letters) → IsStage (front ++ byte ∷ []) result }
+{
+    match letters.with(byte) {
+        Some(letters) => Stage::Beginning(letters),
+        None => Stage::Unknown,
+    }
+}
+
+/// A line whose first field is whole.
+fn behind(letters: Letters, blank: u8) -> Stage
+    requires { is_blank blank ≡ true }
+    ensures { (front : List ℕ) → IsStage front (Stage.Beginning letters) → IsStage (front ++ blank ∷ []) result }
+{
+    match letters.word() {
+        Some(word) => Stage::Behind {
+            word,
+            numbers: Numbers::Nothing,
+            field: Field::Unbegun,
+        },
+        None => Stage::Unknown,
+    }
+}
+
+/// A line that goes on behind its word.
+fn with_field(word: Word, numbers: Numbers, field: Field, byte: u8) -> Stage
+    ensures { (front : List ℕ) → IsStage front (Stage.Behind word numbers field) → IsStage (front ++ byte ∷ []) result }
+{
+    if is_blank(byte) {
+        return Stage::Behind {
+            word,
+            numbers: numbers.ended(field),
+            field: Field::Unbegun,
+        };
+    }
+    Stage::Behind {
+        word,
+        numbers,
+        field: field.with(byte),
+    }
+}
+
+/// Whether one of two numbers is refused.
+fn are_refused(first: Numeral, second: Numeral) -> bool
+    ensures { result ≡ (is_refused first || is_refused second) }
+{
+    is_refused(first) || is_refused(second)
+}
+
+impl Stage {
+    /// The line with one more byte.
+    fn with(self, byte: u8) -> Stage
+        ensures { (front : List ℕ) → IsStage front self → IsStage (front ++ byte ∷ []) result }
+    {
+        match self {
+            Stage::Blank => {
+                if is_blank(byte) {
+                    Stage::Blank
+                } else {
+                    beginning(byte)
+                }
+            }
+            Stage::Beginning(letters) => {
+                if is_blank(byte) {
+                    behind(letters, byte)
+                } else {
+                    going_on(letters, byte)
+                }
+            }
+            Stage::Remark => Stage::Remark,
+            Stage::Unknown => Stage::Unknown,
+            Stage::Behind {
+                word,
+                numbers,
+                field,
+            } => with_field(word, numbers, field, byte),
+        }
+    }
+
+    /// What the line asks for that ends here.
+    fn line(self) -> Line
+        ensures { (front : List ℕ) → IsStage front self → IsLine (fields front) result }
+    {
+        match self {
+            Stage::Blank => Line::Ignored,
+            Stage::Remark => Line::Ignored,
+            Stage::Unknown => Line::Refused(Code::BadLine),
+            Stage::Beginning(letters) => match letters.word() {
+                Some(word) => read_line(word, Numbers::Nothing),
+                None => Line::Refused(Code::BadLine),
+            },
+            Stage::Behind {
+                word,
+                numbers,
+                field,
+            } => read_line(word, numbers.ended(field)),
+        }
+    }
+}
+
+/// A line as far as it came: however long it is, it takes a few bytes and no memory.
+#[derive(Clone, Copy)]
+pub(crate) struct LineSoFar {
+    stage: Stage,
+    /// A carriage return came last, which is no part of the line where the line ends behind it.
+    after_return: bool,
+}
+
+impl LineSoFar {
+    /// No byte came.
+    pub(crate) fn new() -> LineSoFar
+        ensures { IsSoFar [] result }
+    {
+        LineSoFar {
+            stage: Stage::Blank,
+            after_return: false,
+        }
+    }
+
+    /// How far the line came with all its bytes, also with a carriage return at their end.
+    fn settled(self) -> Stage
+        ensures { (front : List ℕ) → IsSoFar front self → IsStage front result }
+    {
+        if self.after_return {
+            return self.stage.with(b'\r');
+        }
+        self.stage
+    }
+
+    /// The line with one more byte, which is no line feed.
+    pub(crate) fn with(self, byte: u8) -> LineSoFar
+        ensures { (front : List ℕ) → IsSoFar front self → IsSoFar (front ++ byte ∷ []) result }
+    {
+        let stage = self.settled();
+        if byte == b'\r' {
+            return LineSoFar {
+                stage,
+                after_return: true,
+            };
+        }
+        LineSoFar {
+            stage: stage.with(byte),
+            after_return: false,
+        }
+    }
+
+    /// What the line asks for that ends here.
+    pub(crate) fn line(self) -> Line
+        ensures { (front : List ℕ) → IsSoFar front self → IsLine (fields (strip_last 13 front)) result }
+    {
+        self.stage.line()
+    }
+}

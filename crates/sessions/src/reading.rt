@@ -1,0 +1,39 @@
+//! The lines that a client sends.
+ghost use Rattle.std.specs.Prelude.{◌≡◌, IfErr, IfSome};
+ghost use Rattle.dimacs.specs.Counts.{failed_calls, reader_of, IsSameReader, CountsCall};
+ghost use Rattle.sessions.specs.Reads.{ReadsLine};
+
+use crate::lines::{Line, LineSoFar};
+use dimacs::{Code, Counted};
+use std::io::BufRead;
+use std::sync::Wait;
+
+/// What the next line asks for; none where there is no more line. The one error is a failed call of the reader. No memory is taken.
+pub(crate) fn next_line<R: Wait, I: BufRead>(
+    rt: &R,
+    reader: &mut Counted<'_, I>,
+) -> Result<Option<Line>, Code>
+    ensures line { IfSome (I.remaining (reader_of reader.old)) (λ text. ReadsLine text (I.remaining (reader_of reader.new)) result) }
+    ensures refused { IfErr result (λ code. code ≡ Code.Read) }
+    ensures counts { CountsCall (failed_calls reader.old) (failed_calls reader.new) result }
+    ensures same { IsSameReader reader.old reader.new }
+{
+    let mut line = LineSoFar::new();
+    let mut is_empty = true;
+    for _ in rt.forever() {
+        match reader.next_byte()? {
+            None => {
+                if is_empty {
+                    return Ok(None);
+                }
+                return Ok(Some(line.line()));
+            }
+            Some(b'\n') => return Ok(Some(line.line())),
+            Some(byte) => {
+                line = line.with(byte);
+                is_empty = false;
+            }
+        }
+    }
+    unreachable!()
+}

@@ -1,0 +1,63 @@
+//! A session with one client.
+ghost use Rattle.std.specs.Prelude.{◌≡◌, IfErr};
+ghost use Rattle.dimacs.specs.Counts.{failed_calls, IsSameReader};
+ghost use Rattle.printing.specs.Counting.{failed_writes, IsSameWriter};
+ghost use Rattle.printing.specs.Failing.{CountsWrites};
+ghost use Rattle.sessions.specs.Told.{CountsRead, IsOfStream};
+
+use crate::answers::Session;
+use crate::lines::Line;
+use crate::reading::next_line;
+use desk::{Desk, Gate, Naming};
+use dimacs::Counted;
+use disk::Disk;
+use printing::{CountedWriter, Failed};
+use roadnet::Refusal;
+use std::alloc::Global;
+use std::io::{BufRead, Write};
+use std::sync::Wait;
+use std::thread::Threads;
+
+/// Carries out the lines of a client in their order by the desk, each answered, and the answer sent out, before the next line is read. It ends at
+/// the line `quit` and at the end of the input; the desk goes on.
+///
+/// The lines are the five commands (`ok N` once the command is durable, or `no CODE`), `dist S T`, `from X T` and `lower S T` (`v V` and an
+/// answer line, from a pin of that moment, or `no CODE`), `wait` (`v V` once the session's last accepted command is shown, or `no CODE`) and
+/// `quit`. Lines with no field and comments, which begin with `#`, have no answer; any other line has `no 1` or `no 5`. No line is too long:
+/// a line takes no memory.
+///
+/// The errors are a failed call of the reader (10) and of the writer (12), and no others: what the desk refuses is an answer, also where it
+/// has no place for the session's reader (`no 60`, at each query until there is one).
+pub fn serve<
+    N: Naming + Send + Sync + 'static,
+    D: Disk + Drop + Send + 'static,
+    G: Gate + Drop + Send + Sync + 'static,
+    R: Threads + Wait + Copy + Send + Sync + 'static,
+    I: BufRead,
+    W: Write,
+>(
+    rt: &R,
+    alloc: Global,
+    desk: &Desk<N, D, G, R>,
+    reader: &mut Counted<'_, I>,
+    writer: &mut CountedWriter<'_, W>,
+) -> Result<(), Failed>
+    ensures reads { CountsRead (failed_calls reader.old) (failed_calls reader.new) result }
+    ensures writes { CountsWrites (failed_writes writer.old) (failed_writes writer.new) result }
+    ensures causes { IfErr result IsOfStream }
+    ensures same_reader { IsSameReader reader.old reader.new }
+    ensures same_writer { IsSameWriter writer.old writer.new }
+{
+    let mut session = Session::new();
+    for _ in rt.forever() {
+        let line = match next_line(rt, reader) {
+            Ok(Some(Line::Quit)) | Ok(None) => return Ok(()),
+            Ok(Some(line)) => line,
+            Err(_) => return Err(Failed::Code(Refusal::Read)),
+        };
+        if let Err(failed) = session.answer(rt, alloc, desk, line, writer) {
+            return Err(failed);
+        }
+    }
+    unreachable!()
+}

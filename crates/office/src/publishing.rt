@@ -1,6 +1,6 @@
 // Tasks, and their views shown.
 ghost use Rattle.std.specs.Prelude.{◌≡◌, ◌≢◌, Ok, IfOk, IfErr, OnOk, OnErr, option_map, []};
-ghost use Rattle.roadnet.specs.declared.refusals.Refusal.TheVariants.{OutOfMemory as out_of_memory};
+ghost use Rattle.roadnet.specs.declared.refusals.Refusal.TheVariants.{NoReaderPlace as no_reader_place, OutOfMemory as out_of_memory};
 ghost use Rattle.machine.specs.Machine.{commands_to};
 ghost use Rattle.keeper.specs.Parts.{or_out_of_memory, result_map};
 ghost use Rattle.machine.specs.Calls.{TakesTask, without_task, IsTask, RefusesView, Publishes};
@@ -80,6 +80,7 @@ impl<N: Naming, D: Disk> Office<N, D> {
     /// Refused is a place for it that is not found (60): there are 64, and while readers come and go a free one may be missed.
     pub fn reader(&mut self) -> Result<Reader, Refusal>
         ensures reader { IfOk result (λ reader. (reader.origin ≡ N.origin) × (reader.commands ≡ [])) }
+        ensures causes { IfErr result (λ refusal. refusal ≡ no_reader_place) }
         ensures same { self.new ≡ self.old }
     {
         self.publisher.reader()

@@ -1,6 +1,7 @@
-ghost use Rattle.std.specs.Prelude.{◌≡◌, [], Some, drop, IfOk, MatchResult};
+ghost use Rattle.std.specs.Prelude.{◌≡◌, [], Some, drop, IfOk, IfErr, MatchResult};
 ghost use mathlib.Core.List.{IsPrefix};
 ghost use Rattle.left_right.specs.Sides.{view as seat_view};
+ghost use Rattle.roadnet.specs.declared.refusals.Refusal.TheVariants.{NoReaderPlace as no_reader_place};
 ghost use Rattle.published.specs.Rules.{Follows, last_of};
 
 use crate::published::Published;
@@ -118,6 +119,7 @@ impl Publisher {
     pub fn reader(&mut self) -> Result<Reader, Refusal>
         ensures same { self.new ≡ self.old }
         ensures reader { IfOk result (λ reader. (reader.origin ≡ self.old.shown.origin) × (reader.commands ≡ [])) }
+        ensures causes { IfErr result (λ refusal. refusal ≡ no_reader_place) }
     {
         let Ok(mut reader) = self.writer.factory().reader() else {
             return Err(Refusal::NoReaderPlace);

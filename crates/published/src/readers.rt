@@ -3,6 +3,7 @@ ghost use mathlib.Core.List.{IsPrefix};
 ghost use Rattle.left_right.specs.Sides.{view as seat_view};
 ghost use Rattle.history.specs.Origins.{Beginning};
 ghost use Rattle.roadnet.specs.Step.{after};
+ghost use Rattle.published.specs.Showing.{IsUnseen};
 ghost use Rattle.published.specs.Rules.{Follows};
 
 use crate::published::Published;
@@ -44,7 +45,8 @@ impl Model for Reader {
 /// Enters the published copy, and takes a share of the view.
 fn enter(reader: SeatedReader) -> (SeatedReader, Result<Published, Refusal>)
     requires { IsSome (seat_view reader.place) }
-    ensures { (now : Beginning) × (seat_view result.0.place ≡ Some now) × Follows (seat_view reader.place) now × IfOk result.1 (λ taken. taken.shown ≡ now) }
+    ensures seat { (now : Beginning) × (seat_view result.0.place ≡ Some now) × Follows (seat_view reader.place) now × IfOk result.1 (λ taken. taken.shown ≡ now) }
+    ensures causes { IfErr result.1 IsUnseen }
 {
     match reader.enter_as::<Sees>() {
         Ok(reading) => {
@@ -64,6 +66,7 @@ fn enter_behind(reader: &mut SeatedReader, seen: &Front) -> Result<Published, Re
     requires { (seat : Beginning) × (seat_view reader.old.place ≡ Some seat) × Follows (Some seen.now) seat }
     ensures seat { (seat : Beginning) × (seat_view reader.new.place ≡ Some seat) × Follows (Some seen.now) seat }
     ensures shown { IfOk result (λ taken. (seat_view reader.new.place ≡ Some taken.shown) × Follows (Some seen.now) taken.shown) }
+    ensures causes { IfErr result IsUnseen }
 {
     replace_with(reader, (), |reader, ()| enter(reader))
 }
@@ -89,6 +92,7 @@ impl Reader {
         ensures begins { IsPrefix self.old.commands self.new.commands }
         ensures origin { self.new.origin ≡ self.old.origin }
         ensures refused { IfErr result (λ _. self.new ≡ self.old) }
+        ensures causes { IfErr result IsUnseen }
     {
         let Published { view, commands } = enter_behind(&mut self.reader, &self.seen)?;
         if let Some(learned) = &self.learned {

@@ -144,8 +144,13 @@ fn sweep(alloc: Global, picks: &[Pick]) -> Result<u64, Refusal>
     requires { 0 < length picks.now }
 {
     for calls in 0..400u64 {
-        let (mut disk, mut version, failed) =
-            stopped(alloc, six(alloc)?, (0, ROUNDS), calls, picks)?;
+        let (mut disk, mut version, failed) = stopped(
+            alloc,
+            six(alloc)?,
+            (0, ROUNDS),
+            calls,
+            picks,
+        )?;
         if !failed {
             return Ok(calls);
         }

@@ -86,6 +86,7 @@ says_pick field pick some = go (pick_cases field)
   where
     same_as : (r : Result Pick Code) → pick_read field ≡ Some r → r ≡ pick
     same_as r e = let same : Some pick ≡ Some r = some ∙ e in cc
+
     go : PickCase field → SaysPick field pick
     go (NoPick e f) = absurd (let never : ◌≡◌ {A = Option (Result Pick Code)} (Some pick) None = some ∙ e in let absurdity : ⊥ = cc in absurdity)
     go (IsPick p e f g h) = subst (SaysPick field) (same_as (Ok p) e) (record { is = f; in_range = g; from = λ _. sym h })
@@ -191,5 +192,6 @@ many_picks row taken read has many =
     right_false : (a b : Bool) → b ≡ false → (a && b) ≡ false
     right_false true b e = e
     right_false false b e = refl
+
     above : (n : ℕ) → 9 ≤ n → is_some_of_most n ≡ false
     above n large = right_false (leb 1 n) (leb n 8) (lt-leb n 8 (omega (arith, large)))

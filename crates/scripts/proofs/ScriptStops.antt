@@ -174,7 +174,7 @@ module _ (call : List ℕ) (behind : Row) where
 
   -- picks as many as may be
   module _ (ps : List Pick) (right : Bool) (some : is_some_of_most (prefix_len is_pick behind) ≡ true) (few : is_some_of_most (length ps) ≡ true) (range : some_numeral is_no_byte (picks_in behind) ≡ not right)
-    (picks : right ≡ true → ps ≡ map pick_from (picks_in behind)) where
+      (picks : right ≡ true → ps ≡ map pick_from (picks_in behind)) where
     abbrev whole : Row
     whole = codes "stop" ∷ all
 

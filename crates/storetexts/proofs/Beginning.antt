@@ -1,5 +1,5 @@
 -- A ledger that has just begun.
-use Rattle.std.proofs.Common.{◌≡◌, ℕ, List, [], refl, sym, subst, arith, Some}
+use Rattle.std.proofs.Common.{◌≡◌, ℕ, [], refl, sym, subst, arith}
 use Rattle.std.proofs.lemmas.List.Elements.{All-nil}
 use Rattle.roadnet.specs.Net.{Net}
 use Rattle.machine.specs.Machine.{Machine, Sizes, start}

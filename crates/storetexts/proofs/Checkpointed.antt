@@ -1,9 +1,9 @@
 -- A whole checkpoint, and a flush, while commands are applied.
-use Rattle.std.proofs.Common.{◌≡◌, ◌⊎◌, ⊎_elim, inl, inr, ℕ, ◌≤◌, Bool, true, false, cond, Option, Some, None, Result, Ok, Err, refl, sym, ◌∙◌, ap, subst, arith}
+use Rattle.std.proofs.Common.{◌≡◌, ◌⊎◌, ⊎_elim, inl, inr, ℕ, Bool, true, false, cond, Some, None, Result, Ok, Err, refl, sym, ◌∙◌, ap, subst, arith}
 use Rattle.std.specs.Prelude.{IfErr, option_map}
 use Rattle.roadnet.specs.declared.refusals.Refusal.{Refusal}
 use Rattle.roadnet.specs.declared.refusals.Refusal.TheVariants.{Broken, OutOfMemory, Device}
-use Rattle.machine.specs.Machine.{Checkpoint, Machine, IsState, pending}
+use Rattle.machine.specs.Machine.{Machine, IsState, pending}
 use Rattle.machine.specs.Calls.{Flushes, with_page_flushed}
 use Rattle.machine.specs.Runs.Happened.{Flushed}
 use Rattle.machine.specs.Lives.{Checkpoints}

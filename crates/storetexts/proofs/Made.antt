@@ -1,5 +1,5 @@
 -- A store made of two readers' texts, and the refusals of these.
-use Rattle.std.proofs.Common.{◌≡◌, ◌⊎◌, inl, inr, ℕ, List, Option, None, Some, Result, Ok, Err, refl}
+use Rattle.std.proofs.Common.{◌⊎◌, inl, inr, ℕ, List, Option, None, Some, Result, Ok, Err, refl}
 use Rattle.std.specs.Prelude.{IfSome, IfErr}
 use Rattle.roadnet.specs.declared.refusals.Refusal.TheVariants.{Write, Device, NotEmpty, OutOfMemory}
 use Rattle.roadnet.specs.Net.{Net}

@@ -1,5 +1,5 @@
 -- What a stop at any moment leaves while commands are applied, and what the disk's count of failures is.
-use Rattle.std.proofs.Common.{◌≡◌, ◌∙◌, ⊎_elim, inl, inr, ℕ, ◌+◌, ◌-◌, ◌<◌, ◌≤◌, false, List, [], ◌∷◌, ◌++◌, length, take, append_assoc, append-nil, length-append, Option, Some, Result, Ok, Err, refl, sym, ap, subst, arith}
+use Rattle.std.proofs.Common.{◌≡◌, ◌∙◌, ⊎_elim, inl, inr, ℕ, ◌+◌, ◌-◌, ◌≤◌, false, List, [], ◌∷◌, ◌++◌, append_assoc, append-nil, length-append, Result, Ok, Err, refl, sym, ap, subst, arith}
 use Rattle.std.proofs.lemmas.List.{take-append-le}
 use Rattle.roadnet.specs.declared.commands.Command.{Command}
 use Rattle.roadnet.specs.declared.refusals.Refusal.{Refusal}
@@ -18,7 +18,7 @@ use Rattle.printing.specs.declared.failed.Failed.{Failed}
 use Rattle.printing.specs.declared.failed.Failed.TheVariants.{Code}
 use Rattle.store.specs.State.{CameTidy}
 use Rattle.storetexts.specs.Applied.{StandsWithin}
-use Rattle.storetexts.specs.Applying.{IsSteady, KeepsAccepted, AddsOnly, Grows, StandsIn, Leaves}
+use Rattle.storetexts.specs.Applying.{KeepsAccepted, AddsOnly, Grows, StandsIn, Leaves}
 use Rattle.storetexts.specs.Refused.{CountsDevice}
 
 -- ---- moments, one after the other

@@ -1,5 +1,5 @@
 -- The commands of a text, applied to a store that was opened.
-use Rattle.std.proofs.Common.{◌≡◌, ◌⊎◌, ⊎_elim, inl, inr, ℕ, ◌≤◌, List, [], Option, None, Some, Result, Ok, Err, arith}
+use Rattle.std.proofs.Common.{◌≡◌, ⊎_elim, inl, inr, ℕ, ◌≤◌, List, [], Option, None, Some, Result, Ok, Err, arith}
 use Rattle.std.specs.Prelude.{IfSome, OnOk}
 use Rattle.roadnet.specs.declared.commands.Command.{Command}
 use Rattle.roadnet.specs.Net.{Net}
@@ -17,7 +17,6 @@ use Rattle.printing.specs.declared.failed.Failed.TheVariants.{Text}
 use Rattle.storetexts.specs.Applied.{commands_of, TellsAll, IsTold, StandsAmong, IsWithin, AtAnyMoment, IsRefusedApply, IsTextRefusedApply}
 use Rattle.storetexts.specs.Applying.{HaveCome, AddsOnly}
 use Rattle.storetexts.specs.Asked.{OfStore}
-use Rattle.storetexts.proofs.Remaining.{if_known}
 
 -- ---- a fault of the text, which is read behind the opening
 module _ (Honest : Type 0) (file : List ℕ) (Begun : Net → ℕ → Type 0) (o : OfStore Honest file Begun) where

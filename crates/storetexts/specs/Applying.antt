@@ -10,7 +10,6 @@ use Rattle.keeper.specs.Keeping.{LedgerState}
 use Rattle.store.specs.State.{CameTidy}
 use Rattle.storetexts.specs.declared.applying.Applying.{Applying}
 use Rattle.storetexts.specs.declared.outcomes.Outcome.{Outcome}
-use Rattle.storetexts.specs.declared.outcomes.Outcome.TheVariants.{Accepted, Refused}
 use Rattle.printing.specs.declared.failed.Failed.{Failed}
 use Rattle.printing.specs.declared.failed.Failed.TheVariants.{Text, Code}
 use Rattle.storetexts.specs.Applied.{IfNotWrite, StandsWithin}

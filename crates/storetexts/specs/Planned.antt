@@ -1,5 +1,5 @@
 -- The network of one text with the landmarks of another, and the store made of it.
-use Rattle.std.specs.Prelude.{◌≡◌, ◌⊎◌, ℕ, zero, suc, ◌<◌, ◌≤◌, List, Option, Some, length, Result, Ok, Err, ⊤}
+use Rattle.std.specs.Prelude.{◌≡◌, ◌⊎◌, ℕ, zero, suc, ◌<◌, ◌≤◌, List, Option, length, Result, Ok, Err, ⊤}
 use Rattle.roadnet.specs.declared.refusals.Refusal.{Refusal}
 use Rattle.roadnet.specs.declared.refusals.Refusal.TheVariants.{OutOfMemory, Write, Device, NotEmpty, TooManyLandmarks}
 use Rattle.roadnet.specs.Net.{Net, most_landmarks}

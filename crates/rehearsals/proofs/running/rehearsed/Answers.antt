@@ -1,5 +1,3 @@
-use Rattle.std.proofs.Common.{subst}
-use Rattle.keeper.specs.Failures.{EndsAsTold}
 use Rattle.rehearsals.proofs.BrokenOff.{unmade_passing}
 use Rattle.rehearsals.proofs.NewRuns.{replies_to, run_ends_passing}
 use Rattle.rehearsals.proofs.running.rehearsed.Goals as goal

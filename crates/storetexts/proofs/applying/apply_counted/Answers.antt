@@ -1,5 +1,5 @@
 use Rattle.std.specs.Prelude.{⊤}
-use Rattle.std.proofs.Common.{rules, ◌≡◌, inl, refl, Err}
+use Rattle.std.proofs.Common.{rules, ◌≡◌, inl, refl}
 use Rattle.dimacs.specs.Counts.{reader_of}
 use Rattle.printing.specs.declared.failed.Failed.TheVariants.{Code}
 use Rattle.printing.specs.Counting.{writer_of}

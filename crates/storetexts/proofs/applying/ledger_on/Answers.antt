@@ -1,5 +1,4 @@
 use Rattle.std.proofs.Common.{◌≡◌, ℕ, List, refl, sym, ◌∙◌, ap, subst}
-use Rattle.roadnet.specs.Net.{Net}
 use Rattle.store.specs.Committing.{StandsTidily}
 use Rattle.store.specs.State.{CameTidy, Told}
 use Rattle.keeper.proofs.Stopped.{IsOpened, is_opened}

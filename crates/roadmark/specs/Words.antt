@@ -7,7 +7,7 @@ use Rattle.clap.specs.declared.parser.matches.Found.{Found}
 use Rattle.clap.specs.Words.{first_value, one_text}
 use Rattle.rows.specs.Kept.{IsWidth}
 use Rattle.roadmark.specs.declared.words.Job.{Job}
-use Rattle.roadmark.specs.declared.words.Job.TheVariants.{Joint, Once, Batch, Rehearse, Create, Apply, Ask}
+use Rattle.roadmark.specs.declared.words.Job.TheVariants.{Joint, Once, Batch, Rehearse, Create, Apply, Ask, Serve}
 use Rattle.roadmark.specs.declared.words.Usage.{Usage}
 
 -- the width of the search's buckets that they give, if any
@@ -19,6 +19,7 @@ delta_of (Rehearse network script journal_pages delta) = delta
 delta_of (Create store network landmarks journal_pages) = None
 delta_of (Apply store commands delta) = delta
 delta_of (Ask store pairs delta) = delta
+delta_of (Serve store delta workers) = delta
 
 -- the pages of the store's journal, where it makes a store
 abbrev pub journal_of : Job → Option ℕ
@@ -29,10 +30,26 @@ journal_of (Rehearse network script journal_pages delta) = Some journal_pages
 journal_of (Create store network landmarks journal_pages) = Some journal_pages
 journal_of (Apply store commands delta) = None
 journal_of (Ask store pairs delta) = None
+journal_of (Serve store delta workers) = None
+
+-- the row workers of its desk, where it has one
+abbrev pub workers_of : Job → Option ℕ
+workers_of (Joint delta) = None
+workers_of (Once network source target delta) = None
+workers_of (Batch network pairs delta) = None
+workers_of (Rehearse network script journal_pages delta) = None
+workers_of (Create store network landmarks journal_pages) = None
+workers_of (Apply store commands delta) = None
+workers_of (Ask store pairs delta) = None
+workers_of (Serve store delta workers) = Some workers
 
 -- a number of journal pages
 abbrev pub IsJournal : ℕ → Type 0
 IsJournal pages = (1 ≤ pages) × (pages ≤ 65536)
+
+-- a number of row workers
+abbrev pub IsWorkers : ℕ → Type 0
+IsWorkers workers = (1 ≤ workers) × (workers ≤ 64)
 
 -- the subcommand that asks for a job, if it needs one
 abbrev pub subcommand_of : Job → Option (List ℕ)
@@ -43,6 +60,7 @@ subcommand_of (Rehearse network script journal_pages delta) = Some (codes "rehea
 subcommand_of (Create store network landmarks journal_pages) = Some (codes "create")
 subcommand_of (Apply store commands delta) = Some (codes "apply")
 subcommand_of (Ask store pairs delta) = Some (codes "ask")
+subcommand_of (Serve store delta workers) = Some (codes "serve")
 
 -- this word is a numeral of this number
 abbrev pub IsWordOf : List ℕ → ℕ → Type 0
@@ -109,6 +127,18 @@ GivesAsk found (Some (Ask store pairs delta)) =
     (first_value found (codes "STORE") ≡ Some store.now) × (first_value found (codes "P2P") ≡ Some pairs.now)
     × Gives found (codes "delta") IsWidth delta
 GivesAsk found (Some job) = ⊥
+
+-- the row workers that the words give; 4 where they give none
+abbrev pub GivesWorkers : Found → ℕ → Type 0
+GivesWorkers found workers =
+    Gives found (codes "workers") IsWorkers (Some workers) ⊎ ((workers ≡ 4) × Gives found (codes "workers") IsWorkers None)
+
+-- the words of `serve` give this job, or a word is missing
+abbrev pub GivesServe : Found → Option Job → Type 0
+GivesServe found None = first_value found (codes "STORE") ≡ None
+GivesServe found (Some (Serve store delta workers)) =
+    (first_value found (codes "STORE") ≡ Some store.now) × Gives found (codes "delta") IsWidth delta × GivesWorkers found workers
+GivesServe found (Some job) = ⊥
 
 -- the words give the width of a joint form
 abbrev pub GivesJoint : Found → Job → Type 0

@@ -23,6 +23,8 @@ pub const DELTA: &str = "delta";
 
 pub const JOURNAL: &str = "journal";
 
+pub const WORKERS: &str = "workers";
+
 // The words that name a job.
 pub const ONCE: &str = "once";
 
@@ -35,6 +37,8 @@ pub const CREATE: &str = "create";
 pub const APPLY: &str = "apply";
 
 pub const ASK: &str = "ask";
+
+pub const SERVE: &str = "serve";
 
 const ABOUT: &str =
     "Exact least distances in a road network, which may be kept in a store: a file that survives a power cut.
@@ -61,6 +65,11 @@ const ABOUT_APPLY: &str =
 const ABOUT_ASK: &str =
     "Answers the pairs of the file P2P in the network of the store in the file STORE, which stays as it is: the line `v V`, V the store's version, then one line a pair, in their order: `d S T LENGTH`, or `x S T` where no walk leads there.";
 
+const ABOUT_SERVE: &str =
+    "Serves the store in the file STORE to one client, on standard input and output: it reads a line, carries it out, prints its answer, and then reads the next, until the line `quit` or the end of the input.
+
+`set K W`, `close K`, `reopen K`, `mark X` and `unmark X` change the network: `ok N`, once the command is version N of the store for good, or `no CODE`. `dist S T`, `from X T` and `lower S T` ask: the line `v V`, V the version that is shown, and the answer line, or `no CODE`. `wait` waits until the last command that was accepted is shown: `v V`, from which on answers are of that version or a later one. Empty lines and those that begin with # have no answer; another line has `no 1` or `no 5`.";
+
 const GR_HELP: &str = "File of the network, a .gr text";
 
 const P2P_HELP: &str = "File of the pairs, a .p2p text";
@@ -85,6 +94,17 @@ fn journal_option<'w>(alloc: Global) -> Arg<'w> {
         .value_name("J")
         .value_parser(value_parser!(u32).range(1..=65536))
         .help("Pages of the store's journal, 1 to 65536; 64 where none are given")
+}
+
+/// An option `--workers W`.
+fn workers_option<'w>(alloc: Global) -> Arg<'w> {
+    Arg::new(alloc, WORKERS)
+        .long(WORKERS)
+        .value_name("W")
+        .value_parser(value_parser!(u32).range(1..=64))
+        .help(
+            "Threads that make the landmarks' rows of a new version, 1 to 64; 4 where none are given",
+        )
 }
 
 /// A word that has to stand at its place.
@@ -163,6 +183,16 @@ fn ask_command<'w>(alloc: Global) -> Result<Command<'w>, AllocError> {
         .arg(delta_option(alloc))
 }
 
+fn serve_command<'w>(alloc: Global) -> Result<Command<'w>, AllocError> {
+    Command::new(alloc, SERVE)
+        .about("Takes commands and answers queries on standard input and output, over a store")
+        .long_about(ABOUT_SERVE)
+        .after_help("Example: printf 'close 7\\nwait\\ndist 1 6\\n' | roadmark serve six.store")
+        .arg(required_word(alloc, STORE, STORE_HELP))?
+        .arg(workers_option(alloc))?
+        .arg(delta_option(alloc))
+}
+
 /// The program's words.
 pub fn program<'w>(alloc: Global) -> Result<Command<'w>, AllocError> {
     Command::new(alloc, "roadmark")
@@ -177,5 +207,6 @@ pub fn program<'w>(alloc: Global) -> Result<Command<'w>, AllocError> {
         .subcommand(rehearse_command(alloc)?)?
         .subcommand(create_command(alloc)?)?
         .subcommand(apply_command(alloc)?)?
-        .subcommand(ask_command(alloc)?)
+        .subcommand(ask_command(alloc)?)?
+        .subcommand(serve_command(alloc)?)
 }

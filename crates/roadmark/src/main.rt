@@ -14,11 +14,12 @@ ghost use Rattle.std.specs.Option.{ForSome};
 ghost use Rattle.std.specs.IoError.{error_kind};
 ghost use Rattle.rows.specs.Kept.{IsWidth};
 ghost use Rattle.roadmark.specs.Failures.{text_name};
-ghost use Rattle.roadmark.specs.Words.{IsJournal, delta_of, journal_of};
+ghost use Rattle.roadmark.specs.Words.{IsJournal, IsWorkers, delta_of, journal_of, workers_of};
 
 mod commands;
 mod files;
 mod jobs;
+mod serve_jobs;
 mod store_jobs;
 mod streams;
 mod words;
@@ -30,11 +31,14 @@ pub use querytexts::{batch_text, once_text};
 pub use rehearsals::{joint_text, rehearse_text};
 use roadnet::Refusal;
 pub use scripts::parse_script;
+use serve_jobs::run_serve;
+pub use sessions::serve;
 use std::env;
 use std::fs::File;
 use std::io::{self, ErrorKind};
 use std::process::ExitCode;
 use std::rt::{Env, Files};
+use std::sync::Wait;
 use std::thread::Threads;
 use store_jobs::{run_apply, run_ask, run_create};
 pub use storetexts::{apply_text, ask_text, create_text};
@@ -50,13 +54,14 @@ mod store_tests;
 #[cfg(test)]
 mod tests;
 
-/// Does a job, with searches of the job's width.
-fn run<R: AllocGlobal + Files<File = File> + Input + Print + Threads>(
-    rt: &R,
-    job: &Job<'_>,
-) -> Result<Done, Failed>
+/// Does a job, with searches of the job's width. `threads` is the runtime of a desk's threads.
+fn run<
+    R: AllocGlobal + Files<File = File> + Input + Print + Threads,
+    T: Threads + Wait + Copy + Send + Sync + 'static,
+>(rt: &R, threads: T, job: &Job<'_>) -> Result<Done, Failed>
     requires width { ForSome (delta_of job.now) IsWidth }
     requires journal { ForSome (journal_of job.now) IsJournal }
+    requires workers { ForSome (workers_of job.now) IsWorkers }
     ensures width { IfOk result (λ done. done.delta ≡ delta_of job.now) }
 {
     match *job {
@@ -94,6 +99,11 @@ fn run<R: AllocGlobal + Files<File = File> + Input + Print + Threads>(
             pairs,
             delta,
         } => run_ask(rt, store, pairs, delta),
+        Job::Serve {
+            store,
+            delta,
+            workers,
+        } => run_serve(rt, threads, store, delta, workers),
     }
 }
 
@@ -132,6 +142,7 @@ fn text_name<'w>(job: &Job<'w>, failed: &Failed) -> &'w str
             ..
         } => { if is_first { commands } else { store } }
         Job::Ask { store, pairs, .. } => { if is_first { pairs } else { store } }
+        Job::Serve { store, .. } => store,
     }
 }
 
@@ -184,10 +195,11 @@ fn without_words<R: Eprint>(rt: &R, error: &io::Error) -> u8
 }
 
 /// Does what the program's words ask for, and gives the exit status: 0 where all was done, 1 after a fault, 2 where the words are not
-/// ones that it takes. The standard streams are held first.
-fn program<R: AllocGlobal + Env + Eprint + Files<File = File> + Input + Print + Threads>(
-    rt: &R,
-) -> u8
+/// ones that it takes. The standard streams are held first. `threads` is the runtime of a desk's threads.
+fn program<
+    R: AllocGlobal + Env + Eprint + Files<File = File> + Input + Print + Threads,
+    T: Threads + Wait + Copy + Send + Sync + 'static,
+>(rt: &R, threads: T) -> u8
     ensures { result ≤ 2 }
 {
     let Ok(_streams) = hold_streams(rt) else {
@@ -204,7 +216,7 @@ fn program<R: AllocGlobal + Env + Eprint + Files<File = File> + Input + Print + 
         Ok(job) => job,
         Err(usage) => return show(rt, &usage),
     };
-    let outcome = run(rt, &job);
+    let outcome = run(rt, threads, &job);
     let name = match &outcome {
         Ok(_) => "",
         Err(failed) => text_name(&job, failed),
@@ -213,5 +225,5 @@ fn program<R: AllocGlobal + Env + Eprint + Files<File = File> + Input + Print + 
 }
 
 fn main(rt: HostRuntime) -> ExitCode {
-    ExitCode::from(program(&rt))
+    ExitCode::from(program(&rt, rt))
 }

@@ -4,6 +4,7 @@ use crate::shell::{Shell, is_kept};
 use std::fs::File;
 use std::process::Abort;
 use std::rt::{Env, Files};
+use std::sync::Wait;
 use std::test::Fail;
 use std::thread::Threads;
 use std::{env, fs, process};
@@ -64,12 +65,14 @@ fn refused(words: &'static [Option<&'static str>], err: &'static str) -> Run {
 }
 
 /// The run of these words prints and ends so.
-fn is_run<R: Abort + AllocGlobal + Files<File = File> + Threads>(rt: &R, folder: &str, run: &Run) {
+fn is_run<
+    R: Abort + AllocGlobal + Files<File = File> + Threads + Wait + Copy + Send + Sync + 'static,
+>(rt: &R, folder: &str, run: &Run) {
     let Ok(mut shell) = Shell::new(rt, folder, run.words) else {
         return assert!(rt; false);
     };
     shell.input = run.input.as_bytes();
-    let status = program(&shell);
+    let status = program(&shell, *rt);
     assert!(rt; status == run.status, "{:?}: {status}", run.words);
     assert!(rt; is_kept(&shell.out, run.out), "{:?}", run.words);
     assert!(rt; is_kept(&shell.err, run.err), "{:?}", run.words);
@@ -341,19 +344,21 @@ fn faults_of_words(rt: HostRuntime) -> Result<(), Fail> {
 #[test]
 fn statuses(rt: HostRuntime) -> Result<(), Fail> {
     let shell = Shell::new(&rt, "/", &HELP)?;
-    assert!(rt; program(&shell) == 0 && is_kept(&shell.err, "") && !is_kept(&shell.out, ""));
+    assert!(rt; program(&shell, rt) == 0 && is_kept(&shell.err, "") && !is_kept(&shell.out, ""));
     let mut cut = Shell::new(&rt, "/", &HELP)?;
     cut.fails_at = 1;
-    assert!(rt; program(&cut) == 1 && is_kept(&cut.err, "roadmark: 12 Write\n"));
+    assert!(rt; program(&cut, rt) == 1 && is_kept(&cut.err, "roadmark: 12 Write\n"));
     let misuse = Shell::new(&rt, "/", &MISUSED)?;
-    assert!(rt; program(&misuse) == 2 && is_kept(&misuse.out, "") && !is_kept(&misuse.err, ""));
+    assert!(rt; program(&misuse, rt) == 2 && is_kept(&misuse.out, "") && !is_kept(&misuse.err, ""));
     let no_text = Shell::new(&rt, "/", &NO_TEXT)?;
     let told = "error: a word is not UTF-8\n\nFor more information, try '--help'.\n";
-    assert!(rt; program(&no_text) == 2 && is_kept(&no_text.out, "") && is_kept(&no_text.err, told));
+    assert!(rt;
+        program(&no_text, rt) == 2 && is_kept(&no_text.out, "") && is_kept(&no_text.err, told)
+    );
     let mut joint = Shell::new(&rt, "/", &ALONE)?;
     joint.input = JOINT.as_bytes();
     joint.fails_at = 1;
-    assert!(rt; program(&joint) == 1 && is_kept(&joint.err, "roadmark: 12 Write\n"));
+    assert!(rt; program(&joint, rt) == 1 && is_kept(&joint.err, "roadmark: 12 Write\n"));
     Ok(())
 }
 
@@ -361,12 +366,12 @@ fn statuses(rt: HostRuntime) -> Result<(), Fail> {
 #[test]
 fn streams_are_taken_first(rt: HostRuntime) -> Result<(), Fail> {
     let shell = Shell::new(&rt, "/", &ABSENT)?;
-    assert_eq!(rt; program(&shell), 1);
+    assert_eq!(rt; program(&shell, rt), 1);
     let opened = "read /dev/null\nread /dev/null\nread /dev/null\nread none\n";
     assert!(rt; is_kept(&shell.opened, opened));
     let mut untaken = Shell::new(&rt, "/", &ABSENT)?;
     untaken.absent = "/dev/null";
-    assert_eq!(rt; program(&untaken), 1);
+    assert_eq!(rt; program(&untaken, rt), 1);
     assert!(rt; is_kept(&untaken.opened, "read /dev/null\n"));
     assert!(rt; is_kept(&untaken.err, "roadmark: 12 Write\n"));
     Ok(())

@@ -38,7 +38,7 @@ fn files_are_opened_in_order(rt: HostRuntime) -> Result<(), Fail> {
     ];
     for (words, opened) in table {
         let shell = Shell::new(&rt, folder.as_str(), words)?;
-        assert!(rt; program(&shell) == 0, "{words:?}");
+        assert!(rt; program(&shell, rt) == 0, "{words:?}");
         let whole = format!(in rt.alloc(); "{STREAMS}{opened}")?;
         assert!(rt; is_kept(&shell.opened, whole.as_str()), "{words:?}");
     }
@@ -53,14 +53,14 @@ fn a_store_in_use(rt: HostRuntime) -> Result<(), Fail> {
     let name = format!(in rt.alloc(); "roadmark-locks-{id}")?;
     let folder = new_folder(&rt, name.as_str())?;
     let path = format!(in rt.alloc(); "{}/new.store", folder.as_str())?;
-    assert_eq!(rt; program(&Shell::new(&rt, folder.as_str(), &CREATE)?), 0);
+    assert_eq!(rt; program(&Shell::new(&rt, folder.as_str(), &CREATE)?, rt), 0);
     let in_use = "roadmark: new.store: line 0: 10 Read\n";
     if let Ok(disk) = open_file(&rt, path.as_str()) {
         let table: [&'static [Option<&'static str>]; 3] = [&CREATE, &APPLY, &ASK];
         for words in table {
             let shell = Shell::new(&rt, folder.as_str(), words)?;
             assert!(rt;
-                program(&shell) == 1 && is_kept(&shell.err, in_use),
+                program(&shell, rt) == 1 && is_kept(&shell.err, in_use),
                 "{words:?}"
             );
         }
@@ -70,9 +70,9 @@ fn a_store_in_use(rt: HostRuntime) -> Result<(), Fail> {
     }
     if let Ok(disk) = open_to_read(&rt, path.as_str()) {
         let shell = Shell::new(&rt, folder.as_str(), &APPLY)?;
-        assert!(rt; program(&shell) == 1 && is_kept(&shell.err, in_use));
+        assert!(rt; program(&shell, rt) == 1 && is_kept(&shell.err, in_use));
         let shell = Shell::new(&rt, folder.as_str(), &ASK)?;
-        assert!(rt; program(&shell) == 0 && is_kept(&shell.out, "v 0\nd 1 6 15\nx 6 1\n"));
+        assert!(rt; program(&shell, rt) == 0 && is_kept(&shell.out, "v 0\nd 1 6 15\nx 6 1\n"));
         assert_eq!(rt; disk.failed_calls(), 0);
     } else {
         assert!(rt; false, "the store is not opened to be read");
@@ -91,22 +91,22 @@ fn a_file_without_a_store(rt: HostRuntime) -> Result<(), Fail> {
     let failed = "roadmark: 43 Device\n";
     let mut unsynced = Shell::new(&rt, folder.as_str(), &CREATE)?;
     unsynced.absent = ".";
-    assert!(rt; program(&unsynced) == 1 && is_kept(&unsynced.err, failed));
+    assert!(rt; program(&unsynced, rt) == 1 && is_kept(&unsynced.err, failed));
     assert!(rt; fs::metadata(&rt, path.as_str()).is_err());
     let mut blunt = Shell::new(&rt, folder.as_str(), &CREATE)?;
     blunt.blunt = true;
-    assert!(rt; program(&blunt) == 1 && is_kept(&blunt.err, failed));
+    assert!(rt; program(&blunt, rt) == 1 && is_kept(&blunt.err, failed));
     assert!(rt; fs::metadata(&rt, path.as_str()).is_err());
     fs::write(&rt, path.as_str(), "")?;
     let mut unsynced = Shell::new(&rt, folder.as_str(), &CREATE)?;
     unsynced.absent = ".";
-    assert!(rt; program(&unsynced) == 1 && is_kept(&unsynced.err, failed));
+    assert!(rt; program(&unsynced, rt) == 1 && is_kept(&unsynced.err, failed));
     assert_eq!(rt; fs::metadata(&rt, path.as_str())?.len(), 0);
     let mut untold = Shell::new(&rt, folder.as_str(), &CREATE)?;
     untold.fails_at = 1;
-    assert!(rt; program(&untold) == 1 && is_kept(&untold.err, "roadmark: 12 Write\n"));
+    assert!(rt; program(&untold, rt) == 1 && is_kept(&untold.err, "roadmark: 12 Write\n"));
     assert_eq!(rt; fs::metadata(&rt, path.as_str())?.len(), 286720);
-    assert_eq!(rt; program(&Shell::new(&rt, folder.as_str(), &ASK)?), 0);
+    assert_eq!(rt; program(&Shell::new(&rt, folder.as_str(), &ASK)?, rt), 0);
     fs::remove_dir_all(&rt, folder.as_str())?;
     Ok(())
 }
@@ -125,7 +125,7 @@ fn a_link_to_a_new_store(rt: HostRuntime) -> Result<(), Fail> {
     symlink(&rt, "inner/middle", link.as_str())?;
     symlink(&rt, made.as_str(), middle.as_str())?;
     let shell = Shell::new(&rt, folder.as_str(), &CREATE)?;
-    assert!(rt; program(&shell) == 0 && is_kept(&shell.out, "ok 0\n"));
+    assert!(rt; program(&shell, rt) == 0 && is_kept(&shell.out, "ok 0\n"));
     let opened = format!(in rt.alloc();
         "{STREAMS}read six.gr\nread six.ss\nnew {}\nread {}\n",
         made.as_str(),
@@ -133,7 +133,7 @@ fn a_link_to_a_new_store(rt: HostRuntime) -> Result<(), Fail> {
     )?;
     assert!(rt; is_kept(&shell.opened, opened.as_str()));
     assert_eq!(rt; fs::metadata(&rt, made.as_str())?.len(), 286720);
-    assert_eq!(rt; program(&Shell::new(&rt, folder.as_str(), &ASK)?), 0);
+    assert_eq!(rt; program(&Shell::new(&rt, folder.as_str(), &ASK)?, rt), 0);
     fs::remove_dir_all(&rt, folder.as_str())?;
     Ok(())
 }
@@ -150,14 +150,14 @@ fn lines_page_by_page(rt: HostRuntime) -> Result<(), Fail> {
         commands.push_str("set 1 17\n")?;
     }
     fs::write(&rt, path.as_str(), commands.as_str())?;
-    assert_eq!(rt; program(&Shell::new(&rt, folder.as_str(), &CREATE)?), 0);
+    assert_eq!(rt; program(&Shell::new(&rt, folder.as_str(), &CREATE)?, rt), 0);
     let shell = Shell::new(&rt, folder.as_str(), &APPLY)?;
-    assert_eq!(rt; program(&shell), 0);
+    assert_eq!(rt; program(&shell, rt), 0);
     // Of 253 lines 9 have 5 bytes, 90 have 6 and 154 have 7; 47 of 7 bytes follow.
     assert!(rt; have_sizes(&shell.writes, &[1663, 329]));
     let mut cut = Shell::new(&rt, folder.as_str(), &APPLY)?;
     cut.fails_at = 2;
-    assert!(rt; program(&cut) == 1 && is_kept(&cut.err, "roadmark: 12 Write\n"));
+    assert!(rt; program(&cut, rt) == 1 && is_kept(&cut.err, "roadmark: 12 Write\n"));
     assert!(rt; !is_kept(&cut.out, ""));
     fs::remove_dir_all(&rt, folder.as_str())?;
     Ok(())

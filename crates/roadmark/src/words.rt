@@ -4,11 +4,11 @@ ghost use Rattle.std.specs.Option.{ForSome};
 ghost use lib.Chars.{codes};
 ghost use Rattle.clap.specs.Words.{found_of, kind_of, subcommand_name_of};
 ghost use Rattle.rows.specs.Kept.{IsWidth};
-ghost use Rattle.roadmark.specs.Words.{delta_of, journal_of, subcommand_of, Gives, GivesOnce, GivesBatch, GivesRehearse, GivesCreate, GivesApply, GivesAsk, GivesJoint, GivesJournal, IsJournal, IsLong, IsUsage};
+ghost use Rattle.roadmark.specs.Words.{delta_of, journal_of, workers_of, subcommand_of, Gives, GivesOnce, GivesBatch, GivesRehearse, GivesCreate, GivesApply, GivesAsk, GivesServe, GivesJoint, GivesJournal, GivesWorkers, IsJournal, IsWorkers, IsLong, IsUsage};
 
 use crate::commands::{
     APPLY, ASK, BATCH, COMMANDS, CREATE, DELTA, JOURNAL, LANDMARKS, NETWORK, ONCE, PAIRS, REHEARSE,
-    SCRIPT, SOURCE, STORE, TARGET, program,
+    SCRIPT, SERVE, SOURCE, STORE, TARGET, WORKERS, program,
 };
 use clap::error::ErrorKind;
 use clap::{ArgMatches, Error};
@@ -61,6 +61,12 @@ pub enum Job<'w> {
         pairs: &'w str,
         delta: Option<u32>,
     },
+    /// A session over a store, on standard input and output.
+    Serve {
+        store: &'w str,
+        delta: Option<u32>,
+        workers: u32,
+    },
 }
 
 /// Why the words are no job: help was asked for (status 0), they were not understood (2), or memory ran out (1, without a text).
@@ -72,6 +78,9 @@ pub struct Usage {
 
 /// The journal pages of a store where none are given.
 const DEFAULT_JOURNAL: u32 = 64;
+
+/// The row workers of a desk where none are given.
+const DEFAULT_WORKERS: u32 = 4;
 
 /// The status of a command line that was not understood.
 pub const MISUSE: u8 = 2;
@@ -128,6 +137,17 @@ fn journal_in(matches: &ArgMatches<'_>) -> u32
     }
 }
 
+/// The row workers that these words give, or 4; within their range, as the option's parser has it.
+fn workers_in(matches: &ArgMatches<'_>) -> u32
+    ensures workers { IsWorkers result }
+    ensures given { GivesWorkers (found_of matches.now) result }
+{
+    match matches.get_one::<u32>(WORKERS) {
+        Some(workers) if 1 <= workers && workers <= 64 => workers,
+        _ => DEFAULT_WORKERS,
+    }
+}
+
 /// The node's number that the word of this name gives.
 fn node_in(matches: &ArgMatches<'_>, name: &str) -> Option<u64>
     ensures { Gives (found_of matches.now) name.now IsLong result }
@@ -138,6 +158,7 @@ fn node_in(matches: &ArgMatches<'_>, name: &str) -> Option<u64>
 fn once_in<'w>(matches: &ArgMatches<'w>) -> Option<Job<'w>>
     ensures width { ForSome result (λ job. ForSome (delta_of job) IsWidth) }
     ensures journal { ForSome result (λ job. ForSome (journal_of job) IsJournal) }
+    ensures workers { ForSome result (λ job. ForSome (workers_of job) IsWorkers) }
     ensures given { GivesOnce (found_of matches.now) result }
 {
     let Some(network) = matches.get_str(NETWORK) else {
@@ -160,6 +181,7 @@ fn once_in<'w>(matches: &ArgMatches<'w>) -> Option<Job<'w>>
 fn batch_in<'w>(matches: &ArgMatches<'w>) -> Option<Job<'w>>
     ensures width { ForSome result (λ job. ForSome (delta_of job) IsWidth) }
     ensures journal { ForSome result (λ job. ForSome (journal_of job) IsJournal) }
+    ensures workers { ForSome result (λ job. ForSome (workers_of job) IsWorkers) }
     ensures given { GivesBatch (found_of matches.now) result }
 {
     let Some(network) = matches.get_str(NETWORK) else {
@@ -178,6 +200,7 @@ fn batch_in<'w>(matches: &ArgMatches<'w>) -> Option<Job<'w>>
 fn rehearse_in<'w>(matches: &ArgMatches<'w>) -> Option<Job<'w>>
     ensures width { ForSome result (λ job. ForSome (delta_of job) IsWidth) }
     ensures journal { ForSome result (λ job. ForSome (journal_of job) IsJournal) }
+    ensures workers { ForSome result (λ job. ForSome (workers_of job) IsWorkers) }
     ensures given { GivesRehearse (found_of matches.now) result }
 {
     let Some(network) = matches.get_str(NETWORK) else {
@@ -197,6 +220,7 @@ fn rehearse_in<'w>(matches: &ArgMatches<'w>) -> Option<Job<'w>>
 fn create_in<'w>(matches: &ArgMatches<'w>) -> Option<Job<'w>>
     ensures width { ForSome result (λ job. ForSome (delta_of job) IsWidth) }
     ensures journal { ForSome result (λ job. ForSome (journal_of job) IsJournal) }
+    ensures workers { ForSome result (λ job. ForSome (workers_of job) IsWorkers) }
     ensures given { GivesCreate (found_of matches.now) result }
 {
     let Some(store) = matches.get_str(STORE) else {
@@ -219,6 +243,7 @@ fn create_in<'w>(matches: &ArgMatches<'w>) -> Option<Job<'w>>
 fn apply_in<'w>(matches: &ArgMatches<'w>) -> Option<Job<'w>>
     ensures width { ForSome result (λ job. ForSome (delta_of job) IsWidth) }
     ensures journal { ForSome result (λ job. ForSome (journal_of job) IsJournal) }
+    ensures workers { ForSome result (λ job. ForSome (workers_of job) IsWorkers) }
     ensures given { GivesApply (found_of matches.now) result }
 {
     let Some(store) = matches.get_str(STORE) else {
@@ -237,6 +262,7 @@ fn apply_in<'w>(matches: &ArgMatches<'w>) -> Option<Job<'w>>
 fn ask_in<'w>(matches: &ArgMatches<'w>) -> Option<Job<'w>>
     ensures width { ForSome result (λ job. ForSome (delta_of job) IsWidth) }
     ensures journal { ForSome result (λ job. ForSome (journal_of job) IsJournal) }
+    ensures workers { ForSome result (λ job. ForSome (workers_of job) IsWorkers) }
     ensures given { GivesAsk (found_of matches.now) result }
 {
     let Some(store) = matches.get_str(STORE) else {
@@ -252,10 +278,27 @@ fn ask_in<'w>(matches: &ArgMatches<'w>) -> Option<Job<'w>>
     })
 }
 
+fn serve_in<'w>(matches: &ArgMatches<'w>) -> Option<Job<'w>>
+    ensures width { ForSome result (λ job. ForSome (delta_of job) IsWidth) }
+    ensures journal { ForSome result (λ job. ForSome (journal_of job) IsJournal) }
+    ensures workers { ForSome result (λ job. ForSome (workers_of job) IsWorkers) }
+    ensures given { GivesServe (found_of matches.now) result }
+{
+    let Some(store) = matches.get_str(STORE) else {
+        return None;
+    };
+    Some(Job::Serve {
+        store,
+        delta: width_in(matches),
+        workers: workers_in(matches),
+    })
+}
+
 /// The job that was matched.
 fn job_in<'w>(matches: &ArgMatches<'w>) -> Option<Job<'w>>
     ensures width { ForSome result (λ job. ForSome (delta_of job) IsWidth) }
     ensures journal { ForSome result (λ job. ForSome (journal_of job) IsJournal) }
+    ensures workers { ForSome result (λ job. ForSome (workers_of job) IsWorkers) }
     ensures kind { IfSome result (λ job. subcommand_name_of matches.now ≡ subcommand_of job) }
     ensures joint { IfSome result (GivesJoint (found_of matches.now)) }
     ensures given { subcommand_name_of matches.now ≡ None → IsSome result }
@@ -270,6 +313,7 @@ fn job_in<'w>(matches: &ArgMatches<'w>) -> Option<Job<'w>>
         Some((CREATE, inner)) => create_in(inner),
         Some((APPLY, inner)) => apply_in(inner),
         Some((ASK, inner)) => ask_in(inner),
+        Some((SERVE, inner)) => serve_in(inner),
         Some(_) => None,
     }
 }
@@ -278,6 +322,7 @@ fn job_in<'w>(matches: &ArgMatches<'w>) -> Option<Job<'w>>
 pub fn read_words<'w, S: AsStr>(alloc: Global, words: &'w [S]) -> Result<Job<'w>, Usage>
     ensures width { IfOk result (λ job. ForSome (delta_of job) IsWidth) }
     ensures journal { IfOk result (λ job. ForSome (journal_of job) IsJournal) }
+    ensures workers { IfOk result (λ job. ForSome (workers_of job) IsWorkers) }
     ensures usage { IfErr result IsUsage }
 {
     let matched = match program(alloc) {

@@ -1,6 +1,6 @@
--- The journal pages of a job are those of its words.
+-- The journal pages and row workers of a job are those of its words.
 use Rattle.std.proofs.Common.{ap}
-use Rattle.roadmark.specs.Words.{journal_of}
+use Rattle.roadmark.specs.Words.{journal_of, workers_of}
 use Rattle.roadmark.proofs.run.Goals as goal
 
 pub run_rehearse-requires-clause-journal : goal.run_rehearse-requires-clause-journal
@@ -8,3 +8,6 @@ run_rehearse-requires-clause-journal g c = c.requires.journal c.in-Rehearse.jour
 
 pub run_create-requires : goal.run_create-requires
 run_create-requires g c = c.requires.journal c.in-Create.journal_pages (ap journal_of c.in-Create.is)
+
+pub run_serve-requires-clause-workers : goal.run_serve-requires-clause-workers
+run_serve-requires-clause-workers g c κs outlives = c.requires.workers c.in-Serve.workers (ap workers_of c.in-Serve.is)

@@ -1,4 +1,3 @@
-use Rattle.std.specs.Prelude.{⊥}
 use Rattle.sessions.proofs.tests.a_broken_store.Given as goal
 
 -- the desk of the store that was just made; nothing is claimed of its disk

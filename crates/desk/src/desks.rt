@@ -9,6 +9,7 @@ ghost use Rattle.desk.specs.Openings.{IsNewDesk};
 use crate::building::build_views;
 use crate::flushing::flush_pending;
 use crate::gates::Gate;
+use crate::handles::Handle;
 use crate::plans::Plan;
 use crate::readers::Reader;
 use crate::shared::Shared;
@@ -20,7 +21,7 @@ use published::Shown;
 use roadnet::{Command, Refusal};
 use std::alloc::Global;
 use std::sync::{Arc, Wait};
-use std::thread::{JoinHandle, Threads};
+use std::thread::Threads;
 use store::Store;
 
 /// How a desk builds its views.
@@ -47,14 +48,20 @@ fn start_both<
     )
 }
 
-/// A store that is served: commands are taken from any thread, made durable by one, and shown by another.
-#[derive(Drop)]
-pub struct Desk<N: Naming, D: Disk, G, R> {
-    rt: R,
-    alloc: Global,
-    shared: Arc<Shared<Office<N, D>, G>>,
-    flusher: JoinHandle<()>,
-    builder: JoinHandle<()>,
+/// A store that is served: commands are made durable by one thread, and shown by another. Any thread may call it by its handle.
+///
+/// A desk that is let go without `close` halts, waits for its threads, and ends the readers' copy: its readers can't look any more.
+pub struct Desk<N: Naming, D: Disk + Drop, G: Gate + Drop, R: Threads + Wait + Copy> {
+    handle: Handle<N, D, G, R>,
+    threads: Started,
+}
+
+impl<N: Naming, D: Disk + Drop, G: Gate + Drop, R: Threads + Wait + Copy> Drop
+    for Desk<N, D, G, R> {
+    fn drop(self) {
+        let Desk { handle, threads } = self;
+        let _ = handle.close(threads);
+    }
 }
 
 impl<
@@ -91,13 +98,10 @@ impl<
             delta: setup.delta,
             workers: setup.workers,
         };
-        let Started { flusher, builder } = start_both(rt, &shared, plan)?;
+        let threads = start_both(rt, &shared, plan)?;
         Ok(Desk {
-            rt,
-            alloc,
-            shared,
-            flusher,
-            builder,
+            handle: Handle { rt, alloc, shared },
+            threads,
         })
     }
 
@@ -108,7 +112,7 @@ impl<
         ensures origin { IfOk result (λ ticket. ticket.origin ≡ N.origin) }
         ensures command { IfOk result (λ ticket. ticket.ticket.command ≡ command) }
     {
-        self.shared.submit(&self.rt, command)
+        self.handle.submit(command)
     }
 
     /// Waits until the ticket's command is durable: no stop takes it back then. The receipt is for the ticket's number and command.
@@ -119,7 +123,7 @@ impl<
         ensures receipt { IfOk result (λ receipt. receipt ≡ ticket) }
         ensures handed_back { IfErr result (λ refused. refused.1 ≡ ticket) }
     {
-        self.shared.settle(&self.rt, ticket)
+        self.handle.settle(ticket)
     }
 
     /// Waits until a view is shown that has the ticket's command, and tells the commands after which it is shown.
@@ -130,7 +134,7 @@ impl<
         ensures origin { IfOk result (λ shown. shown.origin ≡ N.origin) }
         ensures there { IfOk result (λ shown. IsAt N.origin.version shown.commands ticket.now.ticket) }
     {
-        self.shared.wait_shown(&self.rt, ticket)
+        self.handle.wait_shown(ticket)
     }
 
     /// A reader of the views that are shown.
@@ -138,14 +142,18 @@ impl<
     /// Refused is a place for it that is not found (60): there are 64, and while readers come and go a free one may be missed. Then want of
     /// memory (11).
     pub fn reader(&self) -> Result<Reader<N>, Refusal> {
-        let reader = self.shared.reader(&self.rt)?;
-        Reader::new(self.alloc, reader)
+        self.handle.reader()
     }
 
     /// No command is taken any more: the flusher makes durable what is pending, the builder shows the last view, and both end. It takes no
     /// memory.
     pub fn halt(&self) {
-        self.shared.halt(&self.rt)
+        self.handle.halt()
+    }
+
+    /// What threads share to call the desk at once.
+    pub fn handle(&self) -> &Handle<N, D, G, R> {
+        &self.handle
     }
 
     /// Halts the desk, waits for its threads, and hands out what it leaves: the history, what was shown last, and the disk. Its readers can't
@@ -157,19 +165,7 @@ impl<
         // What a stop may leave of the disk stands for the network after a beginning of the history, with all that was acknowledged or shown.
         ensures left { N.came_tidy → IfOk result (λ closed. (pages : ℕ) × ((c : List ℕ) → D.left closed.disk c → KeepsDesk closed.whole closed.shown pages c)) }
     {
-        self.halt();
-        let Desk {
-            rt,
-            alloc: _,
-            shared,
-            flusher,
-            builder,
-        } = self;
-        flusher.join(&rt);
-        builder.join(&rt);
-        let Some(shared) = Arc::into_inner(shared) else {
-            return Err(Refusal::Closed);
-        };
-        shared.into_office().close(&rt)
+        let Desk { handle, threads } = self;
+        handle.close(threads)
     }
 }

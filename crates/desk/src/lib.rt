@@ -7,6 +7,7 @@ mod building;
 mod desks;
 mod flushing;
 mod gates;
+mod handles;
 mod locked;
 mod pins;
 mod plans;
@@ -18,6 +19,7 @@ mod threads;
 
 pub use desks::{Desk, Setup};
 pub use gates::{Gate, NoGate};
+pub use handles::Handle;
 pub use history::History;
 pub use office::{Closed, Naming, Receipt, Ticket};
 pub use pins::Pinned;

@@ -7,8 +7,17 @@ use std::thread::{self, JoinHandle, Threads};
 /// The flusher and the builder.
 #[derive(Drop)]
 pub(crate) struct Started {
-    pub(crate) flusher: JoinHandle<()>,
-    pub(crate) builder: JoinHandle<()>,
+    flusher: JoinHandle<()>,
+    builder: JoinHandle<()>,
+}
+
+impl Started {
+    /// Waits until both have ended.
+    pub(crate) fn join<R: Threads>(self, rt: &R) {
+        let Started { flusher, builder } = self;
+        flusher.join(rt);
+        builder.join(rt);
+    }
 }
 
 /// Starts two threads over what they share. Where the system gives no thread (63), none runs.

@@ -1,0 +1,96 @@
+// What the callers of a desk share.
+ghost use Rattle.std.specs.Prelude.{◌≡◌, ℕ, List, IfOk, IfErr};
+ghost use Rattle.machine.specs.Laws.{IsAt};
+ghost use Rattle.office.specs.Left.{KeepsDesk};
+
+use crate::gates::Gate;
+use crate::readers::Reader;
+use crate::shared::Shared;
+use crate::threads::Started;
+use disk::Disk;
+use office::{Closed, Naming, Office, Receipt, Ticket};
+use published::Shown;
+use roadnet::{Command, Refusal};
+use std::alloc::Global;
+use std::sync::{Arc, Wait};
+use std::thread::Threads;
+
+/// A desk without its threads, which any thread may call. Each call is the desk's of its name.
+#[derive(Drop)]
+pub struct Handle<N: Naming, D: Disk + Drop, G: Gate + Drop, R: Wait + Copy> {
+    pub(crate) rt: R,
+    pub(crate) alloc: Global,
+    pub(crate) shared: Arc<Shared<Office<N, D>, G>>,
+}
+
+impl<N: Naming, D: Disk + Drop, G: Gate + Drop, R: Wait + Copy> Handle<N, D, G, R> {
+    /// Accepts the command as the next number, and gives a ticket for it. It is not acknowledged yet.
+    ///
+    /// Refused is a desk that is halted (61), then what the keeper refuses.
+    pub fn submit(&self, command: Command) -> Result<Ticket, Refusal>
+        ensures origin { IfOk result (λ ticket. ticket.origin ≡ N.origin) }
+        ensures command { IfOk result (λ ticket. ticket.ticket.command ≡ command) }
+    {
+        self.shared.submit(&self.rt, command)
+    }
+
+    /// Waits until the ticket's command is durable: no stop takes it back then. The receipt is for the ticket's number and command.
+    ///
+    /// Refused is a store that broke before that (45), and a desk whose flusher ended before that (61). The ticket is handed back then.
+    pub fn settle(&self, ticket: Ticket) -> Result<Receipt, (Refusal, Ticket)>
+        requires { ticket.origin ≡ N.origin }
+        ensures receipt { IfOk result (λ receipt. receipt ≡ ticket) }
+        ensures handed_back { IfErr result (λ refused. refused.1 ≡ ticket) }
+    {
+        self.shared.settle(&self.rt, ticket)
+    }
+
+    /// Waits until a view is shown that has the ticket's command, and tells the commands after which it is shown.
+    ///
+    /// Refused is a store that broke before the command was durable (45), and a desk whose builder ended before that (61).
+    pub fn wait_shown(&self, ticket: &Ticket) -> Result<Shown, Refusal>
+        requires { ticket.now.origin ≡ N.origin }
+        ensures origin { IfOk result (λ shown. shown.origin ≡ N.origin) }
+        ensures there { IfOk result (λ shown. IsAt N.origin.version shown.commands ticket.now.ticket) }
+    {
+        self.shared.wait_shown(&self.rt, ticket)
+    }
+
+    /// A reader of the views that are shown.
+    ///
+    /// Refused is a place for it that is not found (60): there are 64, and while readers come and go a free one may be missed. Then want of
+    /// memory (11).
+    pub fn reader(&self) -> Result<Reader<N>, Refusal> {
+        let reader = self.shared.reader(&self.rt)?;
+        Reader::new(self.alloc, reader)
+    }
+
+    /// No command is taken any more: the flusher makes durable what is pending, the builder shows the last view, and both end. It takes no
+    /// memory.
+    pub fn halt(&self) {
+        self.shared.halt(&self.rt)
+    }
+}
+
+impl<N: Naming, D: Disk + Drop, G: Gate + Drop, R: Threads + Wait + Copy> Handle<N, D, G, R> {
+    /// Halts the desk, waits for its threads, and closes the office that they have left.
+    ///
+    /// Refused (61) is an office that is still shared, and a history that was closed by another; neither comes.
+    pub(crate) fn close(self, threads: Started) -> Result<Closed<D>, Refusal>
+        ensures origin { IfOk result (λ closed. closed.whole.origin ≡ N.origin) }
+        // What a stop may leave of the disk stands for the network after a beginning of the history, with all that was acknowledged or shown.
+        ensures left { N.came_tidy → IfOk result (λ closed. (pages : ℕ) × ((c : List ℕ) → D.left closed.disk c → KeepsDesk closed.whole closed.shown pages c)) }
+    {
+        let Handle {
+            rt,
+            alloc: _,
+            shared,
+        } = self;
+        shared.halt(&rt);
+        threads.join(&rt);
+        let Some(shared) = Arc::into_inner(shared) else {
+            return Err(Refusal::Closed);
+        };
+        shared.into_office().close(&rt)
+    }
+}

@@ -1,4 +1,4 @@
-// A run with checkpoints between its flushes, stopped at each of its calls.
+// A run with checkpoints between its flushes, stopped at calls all along it.
 ghost use Rattle.std.specs.Prelude.{◌≡◌, ◌<◌, length, true, IfOk};
 ghost use Rattle.store.specs.State.{is_calm};
 
@@ -139,11 +139,15 @@ fn stopped(
     Ok((store.close(), version, failed))
 }
 
-/// Stops the run at each of its calls, and then the next rounds at each of theirs.
+/// How far the calls lie apart at which the run is stopped. It is prime, so that different calls of a round come up.
+const STRIDE: u64 = 37;
+
+/// Stops the run at one call in so many, from the first on until it isn't stopped, and then the next rounds at each of theirs.
 fn sweep(alloc: Global, picks: &[Pick]) -> Result<u64, Refusal>
     requires { 0 < length picks.now }
 {
-    for calls in 0..400u64 {
+    for index in 0..40u64 {
+        let calls = index.wrapping_mul(STRIDE);
         let (mut disk, mut version, failed) = stopped(
             alloc,
             six(alloc)?,

@@ -374,10 +374,16 @@ fn settled_in(answers: &[u8]) -> u64 {
         .count() as u64
 }
 
-/// The version that the next opening finds.
-fn next_version<D: Disk + Drop>(alloc: Global, disk: D) -> Result<u64, Refusal> {
+/// How many commands a closed desk accepted, and the version that the next opening finds.
+fn left_by(alloc: Global, closed: Closed<MemDisk>) -> Result<(u64, u64), Refusal> {
+    let Closed {
+        history,
+        shown: _,
+        disk,
+        whole: _,
+    } = closed;
     match open(alloc, disk) {
-        Ok(store) => Ok(store.version()),
+        Ok(store) => Ok((history.len() as u64, store.version())),
         Err((refusal, _)) => Err(refusal),
     }
 }
@@ -386,7 +392,7 @@ fn next_version<D: Disk + Drop>(alloc: Global, disk: D) -> Result<u64, Refusal> 
 #[test]
 fn reader_fails_at_each_call(rt: HostRuntime) -> Result<(), Fail> {
     let alloc = rt.alloc();
-    let mut failed = 0;
+    let mut failed = 0u32;
     for reads in 1..40 {
         let failing = FailingReader {
             bytes: LINES,
@@ -394,21 +400,24 @@ fn reader_fails_at_each_call(rt: HostRuntime) -> Result<(), Fail> {
         };
         let mut input = BufReader::with_capacity(alloc, 3, failing)?;
         let mut output = Vec::new(alloc);
-        let ended = session(rt, alloc, Found::Serving, &mut input, &mut output)?;
-        if ended.failed_reads == 0 {
-            assert!(rt; ended.outcome == Ok(()), "read {reads}");
+        let Ended {
+            outcome,
+            failed_reads,
+            failed_writes,
+            closed,
+        } = session(rt, alloc, Found::Serving, &mut input, &mut output)?;
+        let (accepted, version) = left_by(alloc, closed)?;
+        if failed_reads == 0 {
+            assert!(rt; outcome == Ok(()), "read {reads}");
         } else {
-            failed += 1;
-            assert!(rt;
-                ended.outcome == Err(Failed::Code(Refusal::Read)),
-                "read {reads}"
-            );
-            assert_eq!(rt; ended.failed_reads, 1);
+            failed = failed.saturating_add(1);
+            assert!(rt; outcome == Err(Failed::Code(Refusal::Read)), "read {reads}");
+            assert_eq!(rt; failed_reads, 1);
         }
-        assert_eq!(rt; ended.failed_writes, 0);
+        assert_eq!(rt; failed_writes, 0);
         let settled = settled_in(&output);
-        assert_eq!(rt; ended.closed.history.len() as u64, settled);
-        assert_eq!(rt; next_version(alloc, ended.closed.disk)?, settled);
+        assert_eq!(rt; accepted, settled);
+        assert_eq!(rt; version, settled);
     }
     // The lines have 60 bytes: 20 reads give them, and one more the end.
     assert_eq!(rt; failed, 21);
@@ -419,29 +428,34 @@ fn reader_fails_at_each_call(rt: HostRuntime) -> Result<(), Fail> {
 #[test]
 fn writer_fails_at_each_call(rt: HostRuntime) -> Result<(), Fail> {
     let alloc = rt.alloc();
-    let mut failed = 0;
+    let mut failed = 0u32;
     for calls in 1..60 {
         let mut input = LINES;
         let mut output = FailingWriter {
             calls,
             written: Vec::new(alloc),
         };
-        let ended = session(rt, alloc, Found::Serving, &mut input, &mut output)?;
-        if ended.failed_writes == 0 {
-            assert!(rt; ended.outcome == Ok(()), "call {calls}");
+        let Ended {
+            outcome,
+            failed_reads,
+            failed_writes,
+            closed,
+        } = session(rt, alloc, Found::Serving, &mut input, &mut output)?;
+        let (accepted, version) = left_by(alloc, closed)?;
+        if failed_writes == 0 {
+            assert!(rt; outcome == Ok(()), "call {calls}");
             assert_eq!(rt; settled_in(&output.written), 4);
         } else {
-            failed += 1;
+            failed = failed.saturating_add(1);
             assert!(rt;
-                ended.outcome == Err(Failed::Code(Refusal::Write)),
+                outcome == Err(Failed::Code(Refusal::Write)),
                 "call {calls}"
             );
-            assert_eq!(rt; ended.failed_writes, 1);
+            assert_eq!(rt; failed_writes, 1);
         }
-        assert_eq!(rt; ended.failed_reads, 0);
-        let version = next_version(alloc, ended.closed.disk)?;
+        assert_eq!(rt; failed_reads, 0);
         assert!(rt; settled_in(&output.written) <= version, "call {calls}");
-        assert_eq!(rt; ended.closed.history.len() as u64, version);
+        assert_eq!(rt; accepted, version);
     }
     assert!(rt; failed > 20 && failed < 59, "{failed}");
     Ok(())

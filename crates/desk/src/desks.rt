@@ -48,7 +48,7 @@ fn start_both<
     )
 }
 
-/// A store that is served: commands are made durable by one thread, and shown by another. Any thread may call it by its handle.
+/// A store that is served: commands are made durable by one thread, and shown by another. Its handle has its calls for other threads.
 ///
 /// A desk that is let go without `close` halts, waits for its threads, and ends the readers' copy: its readers can't look any more.
 pub struct Desk<N: Naming, D: Disk + Drop, G: Gate + Drop, R: Threads + Wait + Copy> {

@@ -15,7 +15,7 @@ use std::alloc::Global;
 use std::sync::{Arc, Wait};
 use std::thread::Threads;
 
-/// A desk without its threads, which any thread may call. Each call is the desk's of its name.
+/// A desk without its threads, for callers in other threads. Each call is the desk's of its name.
 #[derive(Drop)]
 pub struct Handle<N: Naming, D: Disk + Drop, G: Gate + Drop, R: Wait + Copy> {
     pub(crate) rt: R,

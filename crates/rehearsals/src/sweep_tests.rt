@@ -1,4 +1,4 @@
-// A run with checkpoints between its flushes, stopped at calls all along it.
+// A run with checkpoints between its flushes, stopped at each of its calls.
 ghost use Rattle.std.specs.Prelude.{◌≡◌, ◌<◌, length, true, IfOk};
 ghost use Rattle.store.specs.State.{is_calm};
 
@@ -139,15 +139,11 @@ fn stopped(
     Ok((store.close(), version, failed))
 }
 
-/// How far the calls lie apart at which the run is stopped. It is prime, so that different calls of a round come up.
-const STRIDE: u64 = 37;
-
-/// Stops the run at one call in so many, from the first on until it isn't stopped, and then the next rounds at each of theirs.
+/// Stops the run at each of its calls, and then the next rounds at each of theirs.
 fn sweep(alloc: Global, picks: &[Pick]) -> Result<u64, Refusal>
     requires { 0 < length picks.now }
 {
-    for index in 0..40u64 {
-        let calls = index.wrapping_mul(STRIDE);
+    for calls in 0..600u64 {
         let (mut disk, mut version, failed) = stopped(
             alloc,
             six(alloc)?,
@@ -158,7 +154,7 @@ fn sweep(alloc: Global, picks: &[Pick]) -> Result<u64, Refusal>
         if !failed {
             return Ok(calls);
         }
-        for more in 0..5u64 {
+        for more in 0..7u64 {
             let next = version.saturating_add(1);
             (disk, version, _) = stopped(alloc, disk, (version, next), more, picks)?;
         }

@@ -232,7 +232,7 @@ fn faults_of_words(rt: HostRuntime) -> Result<(), Fail> {
     let id = process::id(rt.process());
     let name = format!(in rt.alloc(); "roadmark-faults-{id}")?;
     let folder = new_folder(&rt, name.as_str())?;
-    let table: [Run; 22] = [
+    let table: [Run; 24] = [
         done(&[NAME, Some("create"), STORE, GR, Some("six.ss")], "ok 0\n"),
         refused(
             &[NAME, Some("once"), NONE, Some("1"), Some("6")],
@@ -312,6 +312,11 @@ fn faults_of_words(rt: HostRuntime) -> Result<(), Fail> {
             "roadmark: none: line 0: 10 Read\n",
         ),
         refused(&[NAME, Some("ask"), GR, NONE], "roadmark: 40 NotAStore\n"),
+        refused(
+            &[NAME, Some("serve"), NONE],
+            "roadmark: none: line 0: 10 Read\n",
+        ),
+        refused(&[NAME, Some("serve"), GR], "roadmark: 40 NotAStore\n"),
         refused(
             &[NAME, Some("ask"), STORE, Some("bad.p2p")],
             "roadmark: bad.p2p: line 2: 1 BadLine\n",

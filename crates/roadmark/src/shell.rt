@@ -19,7 +19,7 @@ pub struct Shell<'a, R> {
     /// The words of the run, the program's own name first; `None` is a word that is not text.
     pub words: &'static [Option<&'static str>],
     /// The standard input.
-    pub input: &'static [u8],
+    pub input: &'a [u8],
     /// The standard output.
     pub out: RefCell<String>,
     /// How many bytes each write to the standard output had.
@@ -142,17 +142,17 @@ impl<'a, R: AllocGlobal> Eprint for Shell<'a, R> {
 }
 
 impl<'a, R> Input for Shell<'a, R> {
-    type Reader = &'static [u8];
+    type Reader = &'a [u8];
 
     fn read_line<A: Allocator + Clone>(&self, _buf: &mut String<A>) -> io::Result<usize> {
         Err(io::Error::from(ErrorKind::Unsupported))
     }
 
-    fn lines<A: Allocator>(&self, alloc: A) -> Lines<&'static [u8], A> {
+    fn lines<A: Allocator>(&self, alloc: A) -> Lines<&'a [u8], A> {
         io::BufRead::lines(self.input, alloc)
     }
 
-    fn reader(&self) -> &'static [u8] {
+    fn reader(&self) -> &'a [u8] {
         self.input
     }
 }

@@ -162,3 +162,46 @@ fn lines_page_by_page(rt: HostRuntime) -> Result<(), Fail> {
     fs::remove_dir_all(&rt, folder.as_str())?;
     Ok(())
 }
+
+const SERVE: [Option<&str>; 5] = [
+    NAME,
+    Some("serve"),
+    Some("new.store"),
+    Some("--workers"),
+    Some("2"),
+];
+
+/// How many commands a long session has.
+const COMMANDS: u32 = 1000;
+
+/// A session of a thousand commands over a file, whose store is asked behind it. One whose output fails ends with 12, and its command is there.
+#[test]
+fn a_session_over_a_file(rt: HostRuntime) -> Result<(), Fail> {
+    let id = process::id(rt.process());
+    let name = format!(in rt.alloc(); "roadmark-session-{id}")?;
+    let folder = new_folder(&rt, name.as_str())?;
+    assert_eq!(rt; program(&Shell::new(&rt, folder.as_str(), &CREATE)?, rt), 0);
+    let mut lines = String::new(rt.alloc());
+    let mut answers = String::new(rt.alloc());
+    for number in 1..=COMMANDS {
+        lines.push_str("set 8 4\n")?;
+        let answer = format!(in rt.alloc(); "ok {number}\n")?;
+        answers.push_str(answer.as_str())?;
+    }
+    lines.push_str("wait\ndist 1 6\nhello\nquit\nset 8 5\n")?;
+    answers.push_str("v 1000\nv 1000\nd 1 6 14\nno 1\n")?;
+    let mut served = Shell::new(&rt, folder.as_str(), &SERVE)?;
+    served.input = lines.as_bytes();
+    assert!(rt; program(&served, rt) == 0 && is_kept(&served.err, ""));
+    assert!(rt; is_kept(&served.out, answers.as_str()));
+    let asked = Shell::new(&rt, folder.as_str(), &ASK)?;
+    assert!(rt; program(&asked, rt) == 0 && is_kept(&asked.out, "v 1000\nd 1 6 14\nx 6 1\n"));
+    let mut cut = Shell::new(&rt, folder.as_str(), &SERVE)?;
+    cut.input = b"close 7\nclose 8\n";
+    cut.fails_at = 1;
+    assert!(rt; program(&cut, rt) == 1 && is_kept(&cut.err, "roadmark: 12 Write\n"));
+    let behind = Shell::new(&rt, folder.as_str(), &ASK)?;
+    assert!(rt; program(&behind, rt) == 0 && is_kept(&behind.out, "v 1001\nd 1 6 14\nx 6 1\n"));
+    fs::remove_dir_all(&rt, folder.as_str())?;
+    Ok(())
+}

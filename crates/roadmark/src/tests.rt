@@ -47,7 +47,17 @@ fn words_of_jobs(rt: HostRuntime) {
         pairs: "b.p2p",
         delta: None,
     };
-    let table: [(&[&str], Job<'_>); 12] = [
+    let serve = Job::Serve {
+        store: "s",
+        delta: None,
+        workers: 4,
+    };
+    let served = Job::Serve {
+        store: "s",
+        delta: Some(9),
+        workers: 64,
+    };
+    let table: [(&[&str], Job<'_>); 14] = [
         (&["roadmark"], Job::Joint { delta: None }),
         (&["roadmark", "--delta", "1"], Job::Joint { delta: Some(1) }),
         (&["roadmark", "--delta=7"], Job::Joint { delta: Some(7) }),
@@ -105,6 +115,18 @@ fn words_of_jobs(rt: HostRuntime) {
         ),
         (&["roadmark", "apply", "s", "d", "--delta", "3"], apply),
         (&["roadmark", "ask", "s", "b.p2p"], ask),
+        (&["roadmark", "serve", "s"], serve),
+        (
+            &[
+                "roadmark",
+                "serve",
+                "s",
+                "--workers=64",
+                "--delta",
+                "9",
+            ],
+            served,
+        ),
     ];
     for (words, job) in table {
         match read_words(rt.alloc(), words) {
@@ -116,7 +138,11 @@ fn words_of_jobs(rt: HostRuntime) {
 
 #[test]
 fn misuses_of_words(rt: HostRuntime) {
-    let table: [&[&str]; 21] = [
+    let table: [&[&str]; 25] = [
+        &["roadmark", "serve"],
+        &["roadmark", "serve", "s", "t"],
+        &["roadmark", "serve", "s", "--workers", "0"],
+        &["roadmark", "serve", "s", "--workers", "65"],
         &["roadmark", "twice"],
         &["roadmark", "--gamma"],
         &["roadmark", "once"],
@@ -155,7 +181,17 @@ fn misuses_of_words(rt: HostRuntime) {
 /// Each help tells what its word does, its arguments and an example.
 #[test]
 fn help_of_words(rt: HostRuntime) {
-    let table: [(&[&str], &[&str]); 9] = [
+    let table: [(&[&str], &[&str]); 10] = [
+        (
+            &["roadmark", "serve", "--help"],
+            &[
+                "standard input",
+                "<STORE>",
+                "--workers <W>",
+                "--delta <D>",
+                "Example: printf",
+            ],
+        ),
         (
             &["roadmark", "--help"],
             &[

@@ -25,3 +25,10 @@ pub use office::{Closed, Naming, Receipt, Ticket};
 pub use pins::Pinned;
 pub use published::Shown;
 pub use readers::Reader;
+
+#[cfg(test)]
+mod crowd_tests;
+#[cfg(test)]
+mod ending_tests;
+#[cfg(test)]
+mod tests;

@@ -25,3 +25,6 @@ pub use office::{Closed, Naming, Receipt, Ticket};
 pub use pins::Pinned;
 pub use published::Shown;
 pub use readers::Reader;
+
+#[cfg(test)]
+mod tests;

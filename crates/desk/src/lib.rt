@@ -27,4 +27,8 @@ pub use published::Shown;
 pub use readers::Reader;
 
 #[cfg(test)]
+mod ending_tests;
+#[cfg(test)]
+mod holding_tests;
+#[cfg(test)]
 mod tests;

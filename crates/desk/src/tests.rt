@@ -110,7 +110,7 @@ pub(crate) fn refusal_of<T: Drop>(answer: Result<T, Refusal>) -> Result<(), Refu
 }
 
 /// The number of the command that is settled.
-fn settled_number<
+pub(crate) fn settled_number<
     N: Naming + Send + Sync + 'static,
     D: Disk + Drop + Send + 'static,
     G: Gate + Drop + Send + Sync + 'static,
@@ -345,7 +345,7 @@ fn one_reader_too_many(rt: HostRuntime) -> Result<(), Fail> {
 }
 
 /// What is answered of one command.
-fn try_in<
+pub(crate) fn try_in<
     N: Naming + Send + Sync + 'static,
     D: Disk + Drop + Send + 'static,
     G: Gate + Drop + Send + Sync + 'static,
@@ -394,7 +394,7 @@ fn broken_store_is_told(rt: HostRuntime) -> Result<(), Fail> {
 /// It lets flushes, tasks and steps of checkpoints find memory as often as these flags say: of the first three of each kind the one of this
 /// place.
 #[derive(Drop)]
-struct Short {
+pub(crate) struct Short {
     flushes: [bool; 3],
     tasks: [bool; 3],
     steps: [bool; 3],
@@ -430,7 +430,7 @@ impl Gate for Short {
 }
 
 /// What may find memory.
-fn short_gate(flushes: [bool; 3], tasks: [bool; 3], steps: [bool; 3]) -> Short {
+pub(crate) fn short_gate(flushes: [bool; 3], tasks: [bool; 3], steps: [bool; 3]) -> Short {
     Short {
         flushes,
         tasks,

@@ -117,14 +117,7 @@ fn words_of_jobs(rt: HostRuntime) {
         (&["roadmark", "ask", "s", "b.p2p"], ask),
         (&["roadmark", "serve", "s"], serve),
         (
-            &[
-                "roadmark",
-                "serve",
-                "s",
-                "--workers=64",
-                "--delta",
-                "9",
-            ],
+            &["roadmark", "serve", "s", "--workers=64", "--delta", "9"],
             served,
         ),
     ];

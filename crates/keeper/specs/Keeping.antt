@@ -1,6 +1,7 @@
 -- What a keeper is to its callers, and what its disk holds.
 use Rattle.std.specs.Prelude.{◌≡◌, ℕ, Bool, false, List, Option, Some, IfSome, option_map, if◌then◌else◌}
 use Rattle.roadnet.specs.declared.commands.Command.{Command}
+use Rattle.roadnet.specs.Batches.{changed_by}
 use Rattle.roadnet.specs.Net.{Net}
 use Rattle.disk.specs.Contents.{Only}
 use Rattle.storefile.specs.StoreFile.{StandsTidyFor}
@@ -35,6 +36,10 @@ machine_of store base opened accepted shown broken written task = record {
   task = task;
   checkpoint = option_map as_checkpoint store.going;
 }
+
+-- the base network with all accepted commands carried out
+abbrev pub latest_network : Machine → Net
+latest_network m = changed_by m.base m.accepted
 
 -- a ledger's machine, in which no task is out and the version is shown that it was opened at; the disk, and the disk as it was when its
 -- store was made or opened

@@ -7,16 +7,15 @@ ghost use Rattle.keeper.specs.Keeping.{Holds, sizes_of};
 
 use crate::ledgers::Ledger;
 use disk::{Disk, Stoppable};
-use roadnet::{Command, Network, OutOfMemory};
+use roadnet::{Command, OutOfMemory, Outline};
 use std::alloc::Global;
 use std::snapshot::Snapshot;
 use store::Store;
 
 impl<D: Disk> Ledger<D> {
-    /// A ledger of a store that is not broken, in the beginning state of its network and version: nothing is pending. The network is copied
-    /// once.
+    /// A ledger of a store that is not broken, in the beginning state of its network and version: nothing is pending.
     ///
-    /// The one error is want of memory, and then the store is handed back.
+    /// It makes one pass over the network's arcs, and copies none. The one error is want of memory, and then the store is handed back.
     pub fn new(alloc: Global, store: Store<D>) -> Result<Ledger<D>, (OutOfMemory, Store<D>)>
         requires calm { is_calm store ≡ true }
         ensures begins { IfOk result (λ ledger. ledger.machine ≡ start (sizes_of store) store.network store.version store.unchecked) }
@@ -25,7 +24,7 @@ impl<D: Disk> Ledger<D> {
         ensures handed_back { IfErr result (λ refused. refused.1 ≡ store) }
     {
         let opened = store.version();
-        let Ok(network) = store.network().copy() else {
+        let Ok(accepted) = Outline::of(alloc, store.network()) else {
             return Err((OutOfMemory, store));
         };
         let base = Snapshot::of(store.network());
@@ -34,7 +33,7 @@ impl<D: Disk> Ledger<D> {
             base,
             opened,
             history: Vec::new(alloc),
-            network,
+            accepted,
             broken: false,
             written: Snapshot::of(&0),
         })

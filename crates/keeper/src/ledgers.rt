@@ -3,23 +3,24 @@ ghost use Rattle.std.specs.Bool.{Decides};
 ghost use Rattle.roadnet.specs.declared.refusals.Refusal.TheVariants.{Device as device};
 
 use disk::Disk;
-use roadnet::{Command, Network, Refusal};
+use roadnet::{Command, Network, Outline, Refusal};
 use std::marker::Model;
 use std::snapshot::Snapshot;
 use store::Store;
 
 /// The ledger of a store: the commands accepted since it was opened, of which the first are durable. It computes no row and shows nothing.
 ///
-/// It takes the network of the store, that of the accepted commands, and 24 bytes a command of this life.
+/// Beyond the store with its network it takes 1 byte an arc and 4 a landmark, for the outline of the network that commands are judged
+/// by, and 24 bytes a command of this life.
 #[derive(Drop)]
 pub struct Ledger<D: Disk> {
     pub(crate) store: Store<D>,
     /// The network and version that the store was opened with.
     pub(crate) base: Snapshot<Network>,
     pub(crate) opened: u64,
-    /// The commands accepted since, in order, and the network after them.
+    /// The commands accepted since, in order, and the outline of the network after them.
     pub(crate) history: Vec<Command>,
-    pub(crate) network: Network,
+    pub(crate) accepted: Outline,
     /// A write failed: the store takes no more of them before it is opened again.
     pub(crate) broken: bool,
     /// How many commands the last write had: where it failed, they are in flight.
@@ -28,9 +29,10 @@ pub struct Ledger<D: Disk> {
 
 impl<D: Disk> Model for Ledger<D> {
     ghost use Rattle.std.specs.Prelude.{◌≡◌, None};
+    ghost use Rattle.roadnet.specs.Outlines.{outline_of};
     ghost use Rattle.store.specs.State.{CameTidy};
     ghost use Rattle.machine.specs.Keeping.{IsKept};
-    ghost use Rattle.keeper.specs.Keeping.{LedgerState, Holds, machine_of};
+    ghost use Rattle.keeper.specs.Keeping.{LedgerState, Holds, latest_network, machine_of};
 
     ghost Value = { LedgerState D };
 
@@ -42,9 +44,10 @@ impl<D: Disk> Model for Ledger<D> {
 
     ghost invariant = { λ k.
         let m = machine_of k.store k.base.value k.opened k.history.items k.opened k.broken k.written.value None in
-        IsKept m k.network k.store.network k.base.value None
+        IsKept m (latest_network m) k.store.network k.base.value None
         × (k.broken ≡ k.store.broken)
-        × (CameTidy D.honest D.content k.store.given → D.honest k.store.disk × Holds (D.content k.store.disk) (D.left k.store.disk) m) };
+        × (CameTidy D.honest D.content k.store.given → D.honest k.store.disk × Holds (D.content k.store.disk) (D.left k.store.disk) m)
+        × (k.accepted ≡ outline_of (latest_network m)) };
 }
 
 /// Whether the disk failed in a write that told this.

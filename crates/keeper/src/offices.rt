@@ -1,9 +1,8 @@
 // What the holder of a desk's history asks of its keeper: commands that are accepted as they are written there, and the version that
 // numbers go on from.
-ghost use Rattle.std.specs.Prelude.{◌≡◌, ◌≢◌, ◌++◌, ◌∷◌, [], None, Some, Ok, Err, IfSome, IfNone, IfOk, IfErr, OnOk, OnErr};
+ghost use Rattle.std.specs.Prelude.{◌≡◌, ◌≢◌, ◌++◌, ◌∷◌, [], Ok, Err, IfOk, IfErr, OnOk, OnErr};
 ghost use Rattle.roadnet.specs.declared.refusals.Refusal.TheVariants.{OutOfMemory as out_of_memory, Closed as closed};
-ghost use Rattle.roadnet.specs.Batches.{changed_by};
-ghost use Rattle.roadnet.specs.Step.{TakesMemory, refusal_of, step};
+ghost use Rattle.roadnet.specs.Outlines.{EachAdmits, EachStepsTo};
 ghost use Rattle.machine.specs.Machine.{IsState};
 ghost use Rattle.machine.specs.Calls.{Submits};
 
@@ -12,66 +11,35 @@ use crate::ledgers::Ledger;
 use disk::Disk;
 use history::History;
 use machine::Ticket;
-use roadnet::{Command, Network, OutOfMemory, Refusal};
-
-/// The memory that carrying out an admitted command takes, where it takes any: that of the landmarks after a `Mark`.
-fn room_for(network: &Network, command: Command) -> Result<Option<Vec<u32>>, OutOfMemory>
-    requires { refusal_of network.now command ≡ None }
-    ensures none { IfOk result (λ room. IfNone room (TakesMemory command → ⊥)) }
-    ensures landmarks { IfOk result (λ room. IfSome room (λ landmarks. landmarks.items ≡ (changed_by network.now (command ∷ [])).landmarks)) }
-{
-    match command {
-        Command::Mark { .. } => match network.prepare(&[command]) {
-            Ok(landmarks) => Ok(Some(landmarks)),
-            Err(_) => Err(OutOfMemory),
-        },
-        _ => Ok(None),
-    }
-}
-
-/// Carries out an admitted command, given the memory that it takes.
-fn carry_out(network: &mut Network, command: Command, room: Option<Vec<u32>>)
-    requires admitted { refusal_of network.old command ≡ None }
-    requires none { IfNone room (TakesMemory command → ⊥) }
-    requires landmarks { IfSome room (λ landmarks. landmarks.items ≡ (changed_by network.old (command ∷ [])).landmarks) }
-    ensures { step network.old command ≡ Some network.new }
-{
-    match room {
-        Some(landmarks) => network.carry_out(&[command], landmarks),
-        None => match network.apply(command) {
-            Ok(()) => {}
-            Err(_) => unreachable!(),
-        },
-    }
-}
+use roadnet::{Command, Outline, Refusal};
 
 /// Writes an admitted command into the desk's history, puts it behind those that were accepted, and carries it out. After an `Err` nothing
 /// has changed: all room is made before the command is written.
 fn accept_into(
     log: &mut History,
     history: &mut Vec<Command>,
-    network: &mut Network,
+    accepted: &mut Outline,
     command: Command,
 ) -> Result<(), Refusal>
-    requires { refusal_of network.old command ≡ None }
+    requires { EachAdmits accepted.old command }
     ensures history { OnOk result (history.new.items ≡ history.old.items ++ command ∷ []) }
-    ensures network { OnOk result (step network.old command ≡ Some network.new) }
+    ensures accepted { OnOk result (EachStepsTo accepted.old command accepted.new) }
     ensures written { OnOk result (log.new ≡ record log.old { commands = log.old.commands ++ command ∷ [] }) }
     ensures same_history { OnErr result (history.new.items ≡ history.old.items) }
-    ensures same_network { OnErr result (network.new ≡ network.old) }
+    ensures same_accepted { OnErr result (accepted.new ≡ accepted.old) }
     ensures unwritten { OnErr result (log.new ≡ log.old) }
     ensures refused { IfErr result (λ refusal. refusal ≢ closed → refusal ≡ out_of_memory) }
 {
     if history.reserve(1).is_err() {
         return Err(Refusal::OutOfMemory);
     }
-    let Ok(room) = room_for(network, command) else {
+    let Ok(room) = accepted.prepare(&command) else {
         return Err(Refusal::OutOfMemory);
     };
     if !log.write(command) {
         return Err(Refusal::Closed);
     }
-    carry_out(network, command, room);
+    accepted.carry_out(command, room);
     history.push_reserved(command);
     Ok(())
 }
@@ -101,7 +69,7 @@ impl<D: Disk> Ledger<D> {
             return Err(refusal);
         }
         let number = self.opened + self.history.len() as u64 + 1;
-        match accept_into(log, &mut self.history, &mut self.network, command) {
+        match accept_into(log, &mut self.history, &mut self.accepted, command) {
             Ok(()) => Ok(Ticket { number, command }),
             Err(refusal) => Err(refusal),
         }

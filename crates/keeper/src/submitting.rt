@@ -1,30 +1,30 @@
 // Commands accepted.
 ghost use Rattle.std.specs.Prelude.{◌≡◌, ◌++◌, ◌∷◌, [], None, Some, MatchResult, OnOk, OnErr};
-ghost use Rattle.roadnet.specs.Step.{refusal_of, step};
+ghost use Rattle.roadnet.specs.Outlines.{EachAdmits, EachStepsTo};
 ghost use Rattle.machine.specs.Calls.{Submits, refusal_of_submit};
 
 use crate::ledgers::Ledger;
 use disk::Disk;
 use machine::{MOST_OF_LIFE, MOST_PENDING, Ticket};
 use pages::MOST_VERSIONS;
-use roadnet::{Command, Network, OutOfMemory, Refusal};
+use roadnet::{Command, OutOfMemory, Outline, Refusal};
 
 /// Puts an admitted command behind those that were accepted, and carries it out. After an `Err` nothing has changed.
 fn accept(
     history: &mut Vec<Command>,
-    network: &mut Network,
+    accepted: &mut Outline,
     command: Command,
 ) -> Result<(), OutOfMemory>
-    requires { refusal_of network.old command ≡ None }
+    requires { EachAdmits accepted.old command }
     ensures history { OnOk result (history.new.items ≡ history.old.items ++ command ∷ []) }
-    ensures network { OnOk result (step network.old command ≡ Some network.new) }
+    ensures accepted { OnOk result (EachStepsTo accepted.old command accepted.new) }
     ensures same_history { OnErr result (history.new.items ≡ history.old.items) }
-    ensures same_network { OnErr result (network.new ≡ network.old) }
+    ensures same_accepted { OnErr result (accepted.new ≡ accepted.old) }
 {
     if history.reserve(1).is_err() {
         return Err(OutOfMemory);
     }
-    match network.apply(command) {
+    match accepted.apply(command) {
         Ok(()) => {
             history.push_reserved(command);
             Ok(())
@@ -51,7 +51,7 @@ impl<D: Disk> Ledger<D> {
         if latest >= self.store.version() + MOST_PENDING {
             return Err(Refusal::QueueFull);
         }
-        self.network.admit(command)
+        self.accepted.admit(command)
     }
 
     /// Accepts the command as the next number. It is pending then, and a stop may take it back until a flush has made it durable.
@@ -59,7 +59,8 @@ impl<D: Disk> Ledger<D> {
     /// Refused, the first that holds, is a broken store (45), a life of 16,777,216 commands (62), a version that would pass 2^48 (28),
     /// 4,096 pending commands (50), and what the network after the accepted commands doesn't admit (20 to 27); then want of memory (11).
     ///
-    /// The accepted network is changed in place: beyond the command itself this takes O(1), and for a landmark a shift of the others.
+    /// The outline of the accepted network is changed in place: beyond the command itself this takes O(1), and for a landmark a copy or
+    /// a shift of the others.
     pub fn submit(&mut self, command: Command) -> Result<Ticket, Refusal>
         ensures step { Submits self.old.machine command result self.new.machine }
         ensures disk { self.new.disk ≡ self.old.disk }
@@ -69,7 +70,7 @@ impl<D: Disk> Ledger<D> {
             return Err(refusal);
         }
         let number = self.opened + self.history.len() as u64 + 1;
-        match accept(&mut self.history, &mut self.network, command) {
+        match accept(&mut self.history, &mut self.accepted, command) {
             Ok(()) => Ok(Ticket { number, command }),
             Err(_) => Err(Refusal::OutOfMemory),
         }

@@ -21,7 +21,8 @@ impl<D: Disk> Keeper<D> {
     /// Refused, the first that holds, is a broken store (45), a life of 16,777,216 commands (62), a version that would pass 2^48 (28),
     /// 4,096 pending commands (50), and what the network after the accepted commands doesn't admit (20 to 27); then want of memory (11).
     ///
-    /// The accepted network is changed in place: beyond the command itself this takes O(1), and for a landmark a shift of the others.
+    /// The outline of the accepted network is changed in place: beyond the command itself this takes O(1), and for a landmark a copy or
+    /// a shift of the others.
     pub fn submit(&mut self, command: Command) -> Result<Ticket, Refusal>
         ensures step { Submits self.old.machine command result self.new.machine }
         ensures disk { self.new.disk ≡ self.old.disk }

@@ -16,7 +16,6 @@ use Rattle.roadnet.specs.declared.arcs.RoadArc.{RoadArc}
 use Rattle.roadnet.specs.declared.commands.Command.{Command}
 use Rattle.roadnet.specs.declared.commands.Command.TheVariants.{Set, Close, Reopen, Mark, Unmark}
 use Rattle.roadnet.specs.declared.refusals.Refusal.{Refusal}
-use Rattle.roadnet.specs.declared.refusals.Refusal.TheVariants.{NoSuchNode, AlreadyLandmark, NotALandmark, TooManyLandmarks}
 use Rattle.roadnet.specs.Members.{is_member, with_member, without_member}
 use Rattle.roadnet.specs.Net.{Net, IsNode, IsNetwork, arc_at, nth, update_nth}
 use Rattle.roadnet.specs.Step.{is_node, is_landmark, refusal_of, changed, first_refusal}
@@ -396,16 +395,10 @@ all_admitted_fit net (c ∷ cs) ok none =
 pub set-refusal : (net : Net) (cs : List Command) (k w : ℕ) → refusal_of (changed_by net cs) (Set k w) ≡ refusal_of net (Set k w)
 set-refusal net cs k w = rw (none_all net cs k) refl
 
-at_most : (a b : ℕ) → a ≤ b → nat_le a b ≡ true
-at_most a b h = grind (arith, nat_tests)
-
-above : (a b : ℕ) → b < a → nat_le a b ≡ false
-above a b h = grind (arith, nat_tests)
-
 passes_node : (net : Net) (x : ℕ) → is_node net x ≡ true → IsNode net x
 passes_node net x is = (grind (arith, nat_tests), grind (arith, nat_tests))
 
-node_passes : (net : Net) (x : ℕ) → IsNode net x → is_node net x ≡ true
+pub node_passes : (net : Net) (x : ℕ) → IsNode net x → is_node net x ≡ true
 node_passes net x node = grind (arith, nat_tests)
 
 -- what a test for a node says
@@ -417,24 +410,6 @@ node_is net x false to from = no_node (is_node net x) refl
     no_node true e = sym (from (passes_node net x e))
     no_node false e = refl
 
-module _ (net : Net) (cs : List Command) (x : ℕ) where
-  pub mark-no_node : is_node net x ≡ false → refusal_of (changed_by net cs) (Mark x) ≡ Some NoSuchNode
-  mark-no_node node = rw (nodes_kept net cs, node) refl
-
-  pub mark-marked : is_node net x ≡ true → is_landmark (changed_by net cs) x ≡ true → refusal_of (changed_by net cs) (Mark x) ≡ Some AlreadyLandmark
-  mark-marked node marked = rw (nodes_kept net cs, node, marked) refl
-
-  pub mark-many : is_node net x ≡ true → is_landmark (changed_by net cs) x ≡ false → 1000 ≤ length (changed_by net cs).landmarks → refusal_of (changed_by net cs) (Mark x) ≡ Some TooManyLandmarks
-  mark-many node marked many = rw (nodes_kept net cs, node, marked, at_most 1000 (length (changed_by net cs).landmarks) many) refl
-
-  pub mark-admitted : is_node net x ≡ true → is_landmark (changed_by net cs) x ≡ false → length (changed_by net cs).landmarks < 1000 → refusal_of (changed_by net cs) (Mark x) ≡ None
-  mark-admitted node marked few = rw (nodes_kept net cs, node, marked, above 1000 (length (changed_by net cs).landmarks) few) refl
-
-  pub unmark-no_node : is_node net x ≡ false → refusal_of (changed_by net cs) (Unmark x) ≡ Some NoSuchNode
-  unmark-no_node node = rw (nodes_kept net cs, node) refl
-
-  pub unmark-unmarked : is_node net x ≡ true → is_landmark (changed_by net cs) x ≡ false → refusal_of (changed_by net cs) (Unmark x) ≡ Some NotALandmark
-  unmark-unmarked node marked = rw (nodes_kept net cs, node, marked) refl
-
-  pub unmark-admitted : is_node net x ≡ true → is_landmark (changed_by net cs) x ≡ true → refusal_of (changed_by net cs) (Unmark x) ≡ None
-  unmark-admitted node marked = rw (nodes_kept net cs, node, marked) refl
+-- and of the network after commands
+pub node_after : (net : Net) (cs : List Command) (x : ℕ) (b : Bool) → (b ≡ true → IsNode net x) → (IsNode net x → b ≡ true) → is_node (changed_by net cs) x ≡ b
+node_after net cs x b to from = ap (λ (n : ℕ). nat_le 1 x && nat_le x n) (nodes_kept net cs) ∙ node_is net x b to from

@@ -6,4 +6,5 @@ pub mod Joined
 pub mod Kept
 pub mod Lowest
 pub mod Members
+pub mod Outlined
 pub mod Stepped

@@ -1,10 +1,12 @@
 pub mod Batches
 pub mod Causes
 pub mod Changes
+pub mod Judging
 pub mod Made
 pub mod Members
 pub mod Net
 pub mod Numbers
+pub mod Outlines
 pub mod Step
 pub mod WalkLaws
 pub mod Walks

@@ -9,7 +9,8 @@ ghost use Rattle.roadnet.specs.Batches.{changed_by, opened_at, NamesArcAmong, ch
 use crate::arcs::RoadArc;
 use crate::ascending::{put, take_out};
 use crate::commands::Command;
-use crate::networks::{MOST_LANDMARKS, Network};
+use crate::judging::{judge_close, judge_mark, judge_reopen, judge_unmark};
+use crate::networks::Network;
 use crate::refusals::Refusal;
 use std::alloc::{AllocError, Global};
 
@@ -156,36 +157,18 @@ impl Network {
     {
         match *command {
             Command::Set { arc: _, length: _ } => self.admit(command),
-            Command::Close { arc } => match self.is_open_after(earlier, arc) {
-                None => Err(Refusal::NoSuchArc),
-                Some(true) => Ok(()),
-                Some(false) => Err(Refusal::AlreadyClosed),
-            },
-            Command::Reopen { arc } => match self.is_open_after(earlier, arc) {
-                None => Err(Refusal::NoSuchArc),
-                Some(true) => Err(Refusal::AlreadyOpen),
-                Some(false) => Ok(()),
-            },
+            Command::Close { arc } => judge_close(self.is_open_after(earlier, arc)),
+            Command::Reopen { arc } => judge_reopen(self.is_open_after(earlier, arc)),
             Command::Mark { node } => {
-                if !self.has_node(node) {
-                    return Err(Refusal::NoSuchNode);
-                }
-                if self.is_landmark_after(earlier, node) {
-                    return Err(Refusal::AlreadyLandmark);
-                }
-                if self.landmark_count_after(earlier) >= MOST_LANDMARKS {
-                    return Err(Refusal::TooManyLandmarks);
-                }
-                Ok(())
+                let count = self.landmark_count_after(earlier);
+                judge_mark(
+                    self.has_node(node),
+                    self.is_landmark_after(earlier, node),
+                    count,
+                )
             }
             Command::Unmark { node } => {
-                if !self.has_node(node) {
-                    return Err(Refusal::NoSuchNode);
-                }
-                if !self.is_landmark_after(earlier, node) {
-                    return Err(Refusal::NotALandmark);
-                }
-                Ok(())
+                judge_unmark(self.has_node(node), self.is_landmark_after(earlier, node))
             }
         }
     }

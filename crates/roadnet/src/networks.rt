@@ -5,6 +5,7 @@ ghost use Rattle.roadnet.specs.Members.{set_of};
 use crate::arcs::RoadArc;
 use crate::ascending::{collect, contains, put, take_out};
 use crate::commands::Command;
+use crate::judging::{judge_close, judge_mark, judge_reopen, judge_set, judge_unmark};
 use crate::refusals::{OutOfMemory, Refusal};
 use std::alloc::Global;
 use std::marker::Model;
@@ -95,6 +96,7 @@ fn has_stray_landmark(nodes: u32, landmarks: &[u32]) -> bool
 impl Network {
     ghost use Rattle.roadnet.specs.Net.{IsNode, IsNetwork, arc_at};
     ghost use Rattle.roadnet.specs.Step.{is_landmark, refusal_of, step, MayRefuse};
+    ghost use Rattle.roadnet.specs.Batches.{opened_at};
 
     /// A network of the nodes 1 to `nodes`, of these arcs in the order of their numbers, open or closed as they are given, and of
     /// these landmarks, of which doubles count once.
@@ -183,51 +185,29 @@ impl Network {
         Some(self.arcs[(k - 1) as usize])
     }
 
+    /// Whether arc `k` is open, if there is such an arc.
+    fn is_open(&self, k: u64) -> Option<bool>
+        ensures { result ≡ opened_at self.now k }
+    {
+        match self.arc(k) {
+            Some(arc) => Some(arc.opened),
+            None => None,
+        }
+    }
+
     /// Whether the command may be carried out, and else the lowest refusal that applies. It takes no memory.
     pub fn admit(&self, command: &Command) -> Result<(), Refusal>
         ensures { MatchResult result (λ _. refusal_of self.now command.now ≡ None) (λ refusal. refusal_of self.now command.now ≡ Some refusal) }
     {
         match *command {
-            Command::Set { arc, length } => {
-                if self.arc(arc).is_none() {
-                    return Err(Refusal::NoSuchArc);
-                }
-                if length > u64::from(LONGEST_ARC) {
-                    return Err(Refusal::LengthRange);
-                }
-                Ok(())
-            }
-            Command::Close { arc } => match self.arc(arc) {
-                None => Err(Refusal::NoSuchArc),
-                Some(found) if found.opened => Ok(()),
-                Some(_) => Err(Refusal::AlreadyClosed),
-            },
-            Command::Reopen { arc } => match self.arc(arc) {
-                None => Err(Refusal::NoSuchArc),
-                Some(found) if found.opened => Err(Refusal::AlreadyOpen),
-                Some(_) => Ok(()),
-            },
+            Command::Set { arc, length } => judge_set(self.is_open(arc), length),
+            Command::Close { arc } => judge_close(self.is_open(arc)),
+            Command::Reopen { arc } => judge_reopen(self.is_open(arc)),
             Command::Mark { node } => {
-                if !self.has_node(node) {
-                    return Err(Refusal::NoSuchNode);
-                }
-                if self.is_landmark(node) {
-                    return Err(Refusal::AlreadyLandmark);
-                }
-                if self.landmarks.len() >= MOST_LANDMARKS {
-                    return Err(Refusal::TooManyLandmarks);
-                }
-                Ok(())
+                let count = self.landmarks.len();
+                judge_mark(self.has_node(node), self.is_landmark(node), count)
             }
-            Command::Unmark { node } => {
-                if !self.has_node(node) {
-                    return Err(Refusal::NoSuchNode);
-                }
-                if !self.is_landmark(node) {
-                    return Err(Refusal::NotALandmark);
-                }
-                Ok(())
-            }
+            Command::Unmark { node } => judge_unmark(self.has_node(node), self.is_landmark(node)),
         }
     }
 

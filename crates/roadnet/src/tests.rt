@@ -1,5 +1,5 @@
 use crate::{
-    Command, MOST_LANDMARKS, Network, OutOfMemory, Refusal, RoadArc, laws_of_batches,
+    Command, MOST_LANDMARKS, Network, OutOfMemory, Outline, Refusal, RoadArc, laws_of_batches,
     laws_of_refusals, laws_of_steps, laws_of_walks,
 };
 use std::alloc::{AllocError, Global};
@@ -220,6 +220,76 @@ fn the_most_landmarks_in_a_batch(rt: HostRuntime) -> Result<(), Refusal> {
     assert!(rt; goes_as_in_turn(&network, &[mark, unmark], Some(27))?);
     assert!(rt; goes_as_in_turn(&network, &[unmark, mark], None)?);
     assert!(rt; goes_as_in_turn(&network, &[unmark, mark, again], Some(27))?);
+    Ok(())
+}
+
+/// Whether the network and its outline refuse the command with the refusal of this number, or both carry it out.
+fn goes_alike(
+    network: &mut Network,
+    outline: &mut Outline,
+    command: Command,
+    number: Option<u8>,
+) -> bool {
+    let judged = outline.admit(&command).err();
+    let applied = outline.apply(command).err();
+    judged == network.admit(&command).err()
+        && network.apply(command).err() == applied
+        && applied == judged
+        && judged.map(|refusal| refusal.number()) == number
+}
+
+#[test]
+fn outlines_judge_as_their_networks(rt: HostRuntime) -> Result<(), Refusal> {
+    let mut network = six(rt.alloc())?;
+    let mut outline = Outline::of(rt.alloc(), &network)?;
+    let beyond = 2147483648;
+    let table = [
+        (Command::Set { arc: 9, length: 1 }, Some(20)),
+        (Command::Set { arc: 0, length: 1 }, Some(20)),
+        (
+            Command::Set {
+                arc: 1,
+                length: beyond,
+            },
+            Some(21),
+        ),
+        (Command::Set { arc: 8, length: 1 }, None),
+        (Command::Reopen { arc: 7 }, Some(23)),
+        (Command::Close { arc: 7 }, None),
+        (Command::Close { arc: 7 }, Some(22)),
+        (Command::Set { arc: 7, length: 4 }, None),
+        (Command::Close { arc: 8 }, None),
+        (Command::Reopen { arc: 7 }, None),
+        (Command::Reopen { arc: 7 }, Some(23)),
+        (Command::Close { arc: 9 }, Some(20)),
+        (Command::Reopen { arc: u64::MAX }, Some(20)),
+        (Command::Mark { node: 7 }, Some(24)),
+        (Command::Mark { node: 3 }, None),
+        (Command::Mark { node: 3 }, Some(25)),
+        (Command::Unmark { node: 6 }, Some(26)),
+        (Command::Unmark { node: 3 }, None),
+        (Command::Unmark { node: 3 }, Some(26)),
+        (Command::Unmark { node: u64::MAX }, Some(24)),
+    ];
+    for (command, number) in table {
+        assert!(rt; goes_alike(&mut network, &mut outline, command, number));
+    }
+    Ok(())
+}
+
+#[test]
+fn an_outline_is_of_the_network_as_it_is(rt: HostRuntime) -> Result<(), Refusal> {
+    let mut network = six(rt.alloc())?;
+    network.apply(Command::Mark { node: 3 })?;
+    network.apply(Command::Close { arc: 7 })?;
+    let outline = Outline::of(rt.alloc(), &network)?;
+    assert!(rt; outline.admit(&Command::Mark { node: 3 }) == Err(Refusal::AlreadyLandmark));
+    assert!(rt; outline.admit(&Command::Close { arc: 7 }) == Err(Refusal::AlreadyClosed));
+    assert!(rt; outline.admit(&Command::Reopen { arc: 8 }) == Err(Refusal::AlreadyOpen));
+    let arcs = Vec::new(rt.alloc());
+    let network = Network::new(rt.alloc(), 1001, arcs, &twice_each(rt.alloc(), 1000)?)?;
+    let outline = Outline::of(rt.alloc(), &network)?;
+    assert!(rt; outline.admit(&Command::Mark { node: 1001 }) == Err(Refusal::TooManyLandmarks));
     Ok(())
 }
 

@@ -17,4 +17,5 @@ invariant_of-self g c = (
         holds_armed (g.D.Disk.content c.self.inside.store.disk) (g.D.Disk.content c.arm.new.self.disk) (g.D.Disk.left c.self.inside.store.disk) (g.D.Disk.left c.arm.new.self.disk) _ _ c.arm.ensures.content (λ d was. (c.arm.ensures.left d).0 was)
             (ap sizes_told c.arm.ensures.told) (ap (λ (t : Told). t.version) c.arm.ensures.told) refl refl (λ v le. refl) c.self.invariant.0.state held.1,
       ),
+  c.self.invariant.3,
 )

@@ -48,4 +48,5 @@ invariant_of-self g c = (
           };
         },
       ),
+  c.self.invariant.3,
 )

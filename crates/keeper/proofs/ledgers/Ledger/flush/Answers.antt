@@ -3,6 +3,7 @@ use Rattle.std.proofs.Common.{◌-◌, sym, ◌∙◌, ap, subst, arith}
 use Rattle.std.proofs.lemmas.Result.{on_err_weaker, on_ok_weaker}
 use Rattle.machine.proofs.Keeping.{slice_is}
 use Rattle.disk.proofs.Steps.{weaker}
+use Rattle.roadnet.specs.Batches.{changed_by}
 use Rattle.store.specs.State.{StoreState, CameTidy, IsDurableOrAfter}
 use Rattle.keeper.specs.Keeping.{as_checkpoint, sizes_of}
 use Rattle.keeper.proofs.Held.{held_too, no_call, works_at_ok, works_at_err, breaks_at_err, same_flag}
@@ -12,7 +13,7 @@ use Rattle.keeper.proofs.ledgers.Ledger.flush.Goals as goal
 pub invariant_of-self : goal.invariant_of-self
 invariant_of-self g c =
     let commands = slice_of c.deref.result.now (c.version.result - c.self.inside.opened) c.min-count.result in
-    let f : Flushing _ c.self.inside.network c.self.inside.store.network c.self.inside.base.value _ commands c.of.result.value = record {
+    let f : Flushing _ (changed_by c.self.inside.base.value c.self.inside.history.items) c.self.inside.store.network c.self.inside.base.value _ commands c.of.result.value = record {
       kept = c.self.invariant.0;
       clear = rw (← c.self.view_is) at c.in_default.ensures;
       taken = slice_is c.deref.result.now c.self.inside.history.items c.version.result c.self.inside.opened c.min-count.result _ _ c.deref.ensures.value c.version.ensures.version (omega (arith, c.min-count.ensures));
@@ -33,15 +34,15 @@ invariant_of-self g c =
       going_is = on_ok_weaker c.commit-written.result (λ same. ap (option_map as_checkpoint) same ∙ counted c.self.inside.store.going) c.commit-written.ensures.going;
       going_kept = on_err_weaker c.commit-written.result (λ kept. ap (option_map as_checkpoint) kept.1) c.commit-written.ensures.kept_pages;
     } in (
-      kept_by _ c.self.inside.network c.self.inside.store.network c.self.inside.base.value _ commands c.of.result.value f c.commit-written.new.self.network _ c.commit-written.new.self.version c.commit-written.new.self.unchecked c.has_failed-self-inside.result (option_map as_checkpoint c.commit-written.new.self.going) c.commit-written.result h,
-      same_flag c.commit-written.result c.has_failed-self-inside.result c.self.inside.store.broken c.commit-written.new.self.broken c.has_failed-self-inside.ensures (sym c.self.invariant.1 ∙ works _ c.self.inside.network c.self.inside.store.network c.self.inside.base.value _ commands c.of.result.value f) c.commit-written.ensures.works c.commit-written.ensures.breaks (if_err_with _ _ c.commit-written.result (λ refusal same not. let e = same not in cc) c.commit-written.ensures.same),
+      kept_by _ (changed_by c.self.inside.base.value c.self.inside.history.items) c.self.inside.store.network c.self.inside.base.value _ commands c.of.result.value f c.commit-written.new.self.network _ c.commit-written.new.self.version c.commit-written.new.self.unchecked c.has_failed-self-inside.result (option_map as_checkpoint c.commit-written.new.self.going) c.commit-written.result h,
+      same_flag c.commit-written.result c.has_failed-self-inside.result c.self.inside.store.broken c.commit-written.new.self.broken c.has_failed-self-inside.ensures (sym c.self.invariant.1 ∙ works _ (changed_by c.self.inside.base.value c.self.inside.history.items) c.self.inside.store.network c.self.inside.base.value _ commands c.of.result.value f) c.commit-written.ensures.works c.commit-written.ensures.breaks (if_err_with _ _ c.commit-written.result (λ refusal same not. let e = same not in cc) c.commit-written.ensures.same),
       λ now.
           let came = subst (λ (d : g.row.D.Denot). CameTidy g.D.Disk.honest g.D.Disk.content d) c.commit-written.ensures.given now in
           let held = c.self.invariant.2 came in
           let honest = held.0 in
           let old = held.1 in
-          let calm = sym c.self.invariant.1 ∙ works _ c.self.inside.network c.self.inside.store.network c.self.inside.base.value _ commands c.of.result.value f in
-          let w : Written _ c.self.inside.network c.self.inside.store.network c.self.inside.base.value _ commands c.of.result.value f c.commit-written.new.self.network _ c.commit-written.new.self.version c.commit-written.new.self.unchecked c.has_failed-self-inside.result (option_map as_checkpoint c.commit-written.new.self.going) (g.D.Disk.content c.self.inside.store.disk) (g.D.Disk.content c.commit-written.new.self.disk) (g.D.Disk.left c.self.inside.store.disk) (g.D.Disk.left c.commit-written.new.self.disk) c.commit-written.result = record {
+          let calm = sym c.self.invariant.1 ∙ works _ (changed_by c.self.inside.base.value c.self.inside.history.items) c.self.inside.store.network c.self.inside.base.value _ commands c.of.result.value f in
+          let w : Written _ (changed_by c.self.inside.base.value c.self.inside.history.items) c.self.inside.store.network c.self.inside.base.value _ commands c.of.result.value f c.commit-written.new.self.network _ c.commit-written.new.self.version c.commit-written.new.self.unchecked c.has_failed-self-inside.result (option_map as_checkpoint c.commit-written.new.self.going) (g.D.Disk.content c.self.inside.store.disk) (g.D.Disk.content c.commit-written.new.self.disk) (g.D.Disk.left c.self.inside.store.disk) (g.D.Disk.left c.commit-written.new.self.disk) c.commit-written.result = record {
             same = if_err_with _ _ c.commit-written.result (λ refusal same not.
                 let e = same not in (
                   ap (λ (s : StoreState g.row.D.Denot). g.D.Disk.content s.disk) e,
@@ -51,14 +52,15 @@ invariant_of-self g c =
             durably = c.commit-written.ensures.durable came;
             only = c.commit-written.ensures.only honest;
           } in
-          (c.commit-written.ensures.honest.1 honest, holds_by _ c.self.inside.network c.self.inside.store.network c.self.inside.base.value _ commands c.of.result.value f c.commit-written.new.self.network _ c.commit-written.new.self.version c.commit-written.new.self.unchecked c.has_failed-self-inside.result (option_map as_checkpoint c.commit-written.new.self.going) (g.D.Disk.content c.self.inside.store.disk) (g.D.Disk.content c.commit-written.new.self.disk) (g.D.Disk.left c.self.inside.store.disk) (g.D.Disk.left c.commit-written.new.self.disk) c.commit-written.result h w old),
+          (c.commit-written.ensures.honest.1 honest, holds_by _ (changed_by c.self.inside.base.value c.self.inside.history.items) c.self.inside.store.network c.self.inside.base.value _ commands c.of.result.value f c.commit-written.new.self.network _ c.commit-written.new.self.version c.commit-written.new.self.unchecked c.has_failed-self-inside.result (option_map as_checkpoint c.commit-written.new.self.going) (g.D.Disk.content c.self.inside.store.disk) (g.D.Disk.content c.commit-written.new.self.disk) (g.D.Disk.left c.self.inside.store.disk) (g.D.Disk.left c.commit-written.new.self.disk) c.commit-written.result h w old),
+      c.self.invariant.3,
     )
 
 pub returns-clause-step : goal.returns-clause-step
 returns-clause-step g c =
     rw (← c.self.view_is) (
     let commands = slice_of c.deref.result.now (c.version.result - c.self.inside.opened) c.min-count.result in
-    let f : Flushing _ c.self.inside.network c.self.inside.store.network c.self.inside.base.value _ commands c.of.result.value = record {
+    let f : Flushing _ (changed_by c.self.inside.base.value c.self.inside.history.items) c.self.inside.store.network c.self.inside.base.value _ commands c.of.result.value = record {
       kept = c.self.invariant.0;
       clear = rw (← c.self.view_is) at c.in_default.ensures;
       taken = slice_is c.deref.result.now c.self.inside.history.items c.version.result c.self.inside.opened c.min-count.result _ _ c.deref.ensures.value c.version.ensures.version (omega (arith, c.min-count.ensures));
@@ -79,13 +81,13 @@ returns-clause-step g c =
       going_is = on_ok_weaker c.commit-written.result (λ same. ap (option_map as_checkpoint) same ∙ counted c.self.inside.store.going) c.commit-written.ensures.going;
       going_kept = on_err_weaker c.commit-written.result (λ kept. ap (option_map as_checkpoint) kept.1) c.commit-written.ensures.kept_pages;
     } in
-    flushes _ c.self.inside.network c.self.inside.store.network c.self.inside.base.value _ commands c.of.result.value f c.commit-written.new.self.network _ c.commit-written.new.self.version c.commit-written.new.self.unchecked c.has_failed-self-inside.result (option_map as_checkpoint c.commit-written.new.self.going) c.commit-written.result h)
+    flushes _ (changed_by c.self.inside.base.value c.self.inside.history.items) c.self.inside.store.network c.self.inside.base.value _ commands c.of.result.value f c.commit-written.new.self.network _ c.commit-written.new.self.version c.commit-written.new.self.unchecked c.has_failed-self-inside.result (option_map as_checkpoint c.commit-written.new.self.going) c.commit-written.result h)
 
 pub returns-clause-any_moment : goal.returns-clause-any_moment
 returns-clause-any_moment g c =
     rw (← c.self.view_is) (λ came calm.
     let commands = slice_of c.deref.result.now (c.version.result - c.self.inside.opened) c.min-count.result in
-    let f : Flushing _ c.self.inside.network c.self.inside.store.network c.self.inside.base.value _ commands c.of.result.value = record {
+    let f : Flushing _ (changed_by c.self.inside.base.value c.self.inside.history.items) c.self.inside.store.network c.self.inside.base.value _ commands c.of.result.value = record {
       kept = c.self.invariant.0;
       clear = rw (← c.self.view_is) at c.in_default.ensures;
       taken = slice_is c.deref.result.now c.self.inside.history.items c.version.result c.self.inside.opened c.min-count.result _ _ c.deref.ensures.value c.version.ensures.version (omega (arith, c.min-count.ensures));
@@ -93,7 +95,7 @@ returns-clause-any_moment g c =
     } in
     weaker g.D.Disk.moment g.D.Disk.left_since c.self.inside.store.disk c.commit-written.new.self.disk (IsDurableOrAfter c.self.inside.store commands) _
     (c.commit-written.ensures.any_moment came (sym c.self.invariant.1 ∙ calm))
-    (λ d way. held _ c.self.inside.network c.self.inside.store.network c.self.inside.base.value _ commands c.of.result.value f d way))
+    (λ d way. held _ (changed_by c.self.inside.base.value c.self.inside.history.items) c.self.inside.store.network c.self.inside.base.value _ commands c.of.result.value f d way))
 
 pub returns-in-Err-clause-any_moment : goal.returns-in-Err-clause-any_moment
 returns-in-Err-clause-any_moment g c =

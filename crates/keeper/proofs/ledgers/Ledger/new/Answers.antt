@@ -24,4 +24,5 @@ invariant_of-result g c = (
           };
         },
       ),
+  search rules,
 )

@@ -206,7 +206,8 @@ def main():
                     what = judge(pages, script, run.stdout.splitlines(), run.returncode, run.stderr.strip())
                 except Wrong as wrong:
                     raise SystemExit(f"{name}: growth {growth}: {wrong}\n{run.stdout}{run.stderr}")
-                seen[what] = seen.get(what, 0) + 1
+                if is_met:
+                    seen[what] = seen.get(what, 0) + 1
             print(f"{name}: {growth - 1} growths refused in turn")
             for what, count in sorted(seen.items()):
                 print(f"    {count:4} {what}")

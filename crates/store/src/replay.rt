@@ -1,6 +1,6 @@
-ghost use Rattle.std.specs.Prelude.{◌≡◌, ◌+◌, ◌*◌, ◌≤◌, ◌^◌, ◌↔◌, true, false, None, Some, length, IfOk, IfErr};
+ghost use Rattle.std.specs.Prelude.{◌≡◌, ◌+◌, ◌*◌, ◌≤◌, ◌^◌, ◌↔◌, true, false, None, Some, length, IfOk, IfErr, OnErr};
 ghost use Rattle.disk.specs.Moments.{StaysSame};
-ghost use Rattle.roadnet.specs.Step.{step, after};
+ghost use Rattle.roadnet.specs.Step.{refusal_of, step, after};
 ghost use Rattle.pages.specs.Spelling.{IsHeader};
 ghost use Rattle.pages.specs.Layout.{page_count};
 ghost use Rattle.storefile.specs.StoreFile.{page, journal_page_at};
@@ -17,18 +17,20 @@ use pages::{Header, MOST_VERSIONS, PAGE_SIZE, decode_journal_page};
 use roadnet::{Command, Network, OutOfMemory, Refusal};
 use std::alloc::Global;
 
-// Carries the command out where it is admitted. Answers whether it is.
+// Carries the command out where it is admitted. Answers whether it is. Memory is wanting for an admitted command alone.
 fn carry_out(network: &mut Network, command: Command) -> Result<bool, OutOfMemory>
     ensures carried { IfOk result (λ carried. carried ≡ true → step network.old command ≡ Some network.new) }
     ensures refused { IfOk result (λ carried. carried ≡ false → step network.old command ≡ None) }
+    ensures memory { OnErr result (refusal_of network.old command ≡ None) }
 {
     let Ok(()) = network.admit(&command) else {
         return Ok(false);
     };
-    let Ok(()) = network.apply(command) else {
-        return Err(OutOfMemory);
-    };
-    Ok(true)
+    match network.apply(command) {
+        Ok(()) => Ok(true),
+        Err(Refusal::OutOfMemory) => Err(OutOfMemory),
+        Err(_) => unreachable!(),
+    }
 }
 
 // Carries the commands out, each where it is admitted in its turn. Answers whether all were.

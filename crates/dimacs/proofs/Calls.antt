@@ -8,7 +8,7 @@ use Rattle.std.specs.Io.BufRead.{DropsConsumable}
 use Rattle.std.proofs.lemmas.List.{drop-append-le}
 use Rattle.std.proofs.lemmas.List.Elements.{All-nil}
 use Rattle.dimacs.specs.declared.feed.Feed.{Feed}
-use Rattle.dimacs.specs.declared.feed.Fed.{Fed}
+use Rattle.dimacs.specs.declared.feed.TakenBytes.{TakenBytes}
 use Rattle.dimacs.specs.declared.feed.Ended.{Ended}
 use Rattle.dimacs.specs.declared.fault.Code.{Code}
 use Rattle.dimacs.specs.declared.fault.Fault.{Fault}
@@ -45,7 +45,7 @@ module _ {S : Type 0} (judge : Judge) (has_taken : List Row → S → Type 0) (m
       let nothing : a ≡ [] = end none in
       (rw nothing at far, kept ∙ nothing)
 
-  -- what was shown was fed
+  -- what was shown was taken
   pub far_refused : (known a : Option (List ℕ)) (shown : List ℕ) (old new : Feed S) (code : Code) → FarFrom judge has_taken mark known a old → IfSome a (λ xs. StartsWith xs shown)
       → ((text more : List ℕ) → Within judge has_taken mark text (shown ++ more) old → Feeds judge has_taken mark text shown more new (Err code))
       → StopsFrom judge known new code
@@ -57,31 +57,31 @@ module _ {S : Type 0} (judge : Judge) (has_taken : List Row → S → Type 0) (m
   left_after : (a b shown : List ℕ) (taken : ℕ) → b ≡ a → StartsWith a shown → taken ≤ length shown → drop taken b ≡ drop taken shown ++ drop (length shown) a
   left_after a b shown taken kept front le = ap (drop taken) (kept ∙ shown_front a shown front) ∙ drop-append-le taken shown (drop (length shown) a) le
 
-  fed_on : (text a shown : List ℕ) (new : Feed S) (fed : Fed) (n : ℕ) (c : Option (List ℕ)) → c ≡ Some (drop fed.taken shown ++ drop (length shown) a)
-      → Feeds judge has_taken mark text shown (drop (length shown) a) new (Ok fed)
-      → MatchBool fed.at_run (RunFrom judge has_taken (Some text) c (record new { left = n })) (FarFrom judge has_taken mark (Some text) c (record new { left = n }))
-  fed_on text a shown new fed n c e feeds = go fed.at_run refl feeds
+  fed_on : (text a shown : List ℕ) (new : Feed S) (part : TakenBytes) (n : ℕ) (c : Option (List ℕ)) → c ≡ Some (drop part.count shown ++ drop (length shown) a)
+      → Feeds judge has_taken mark text shown (drop (length shown) a) new (Ok part)
+      → MatchBool part.at_run (RunFrom judge has_taken (Some text) c (record new { left = n })) (FarFrom judge has_taken mark (Some text) c (record new { left = n }))
+  fed_on text a shown new part n c e feeds = go part.at_run refl feeds
     where
-      go : (b : Bool) → fed.at_run ≡ b → MatchBool b (BeforeRun judge has_taken text (drop fed.taken shown ++ drop (length shown) a) new) ((fed.taken ≡ length shown) × Within judge has_taken mark text (drop (length shown) a) new) → MatchBool b (RunFrom judge has_taken (Some text) c (record new { left = n })) (FarFrom judge has_taken mark (Some text) c (record new { left = n }))
-      go true is run = rw e (relabel_run text (drop fed.taken shown ++ drop (length shown) a) new n run)
+      go : (b : Bool) → part.at_run ≡ b → MatchBool b (BeforeRun judge has_taken text (drop part.count shown ++ drop (length shown) a) new) ((part.count ≡ length shown) × Within judge has_taken mark text (drop (length shown) a) new) → MatchBool b (RunFrom judge has_taken (Some text) c (record new { left = n })) (FarFrom judge has_taken mark (Some text) c (record new { left = n }))
+      go true is run = rw e (relabel_run text (drop part.count shown ++ drop (length shown) a) new n run)
       go false is p =
-          let nothing : drop fed.taken shown ++ drop (length shown) a ≡ drop (length shown) a = rw (p.0, drop-length shown) refl in
+          let nothing : drop part.count shown ++ drop (length shown) a ≡ drop (length shown) a = rw (p.0, drop-length shown) refl in
           rw (e, nothing) (relabel text (drop (length shown) a) new n p.1)
 
-  pub far_fed : (known a b c : Option (List ℕ)) (buffered : Option ℕ) (shown : List ℕ) (old new : Feed S) (fed : Fed) (n : ℕ) → FarFrom judge has_taken mark known a old
-      → IfSome a (λ xs. StartsWith xs shown) → Keeps a b → IfSome a (λ _. IfSome buffered (λ k. length shown ≤ k)) → DropsConsumable b c buffered fed.taken → fed.taken ≤ length shown
-      → ((text more : List ℕ) → Within judge has_taken mark text (shown ++ more) old → Feeds judge has_taken mark text shown more new (Ok fed))
-      → MatchBool fed.at_run (RunFrom judge has_taken known c (record new { left = n })) (FarFrom judge has_taken mark known c (record new { left = n }))
-  far_fed None a b c buffered shown old new fed n far front kept fits drops le feeds = either fed.at_run
+  pub far_fed : (known a b c : Option (List ℕ)) (buffered : Option ℕ) (shown : List ℕ) (old new : Feed S) (part : TakenBytes) (n : ℕ) → FarFrom judge has_taken mark known a old
+      → IfSome a (λ xs. StartsWith xs shown) → Keeps a b → IfSome a (λ _. IfSome buffered (λ k. length shown ≤ k)) → DropsConsumable b c buffered part.count → part.count ≤ length shown
+      → ((text more : List ℕ) → Within judge has_taken mark text (shown ++ more) old → Feeds judge has_taken mark text shown more new (Ok part))
+      → MatchBool part.at_run (RunFrom judge has_taken known c (record new { left = n })) (FarFrom judge has_taken mark known c (record new { left = n }))
+  far_fed None a b c buffered shown old new part n far front kept fits drops le feeds = either part.at_run
     where
       either : (b : Bool) → MatchBool b (RunFrom judge has_taken None c (record new { left = n })) (FarFrom judge has_taken mark None c (record new { left = n }))
       either true = tt
       either false = tt
-  far_fed (Some text) None b c buffered shown old new fed n far front kept fits drops le feeds = absurd far
-  far_fed (Some text) (Some a) None c buffered shown old new fed n far front kept fits drops le feeds = absurd kept
-  far_fed (Some text) (Some a) (Some b) c buffered shown old new fed n far front kept fits drops le feeds =
-      let dropped : c ≡ Some (drop fed.taken b) = drops (room buffered fed.taken (length shown) le fits) in
-      fed_on text a shown new fed n c (dropped ∙ ap Some (left_after a b shown fed.taken kept front le)) (feeds text (drop (length shown) a) (rw (shown_front a shown front) at far))
+  far_fed (Some text) None b c buffered shown old new part n far front kept fits drops le feeds = absurd far
+  far_fed (Some text) (Some a) None c buffered shown old new part n far front kept fits drops le feeds = absurd kept
+  far_fed (Some text) (Some a) (Some b) c buffered shown old new part n far front kept fits drops le feeds =
+      let dropped : c ≡ Some (drop part.count b) = drops (room buffered part.count (length shown) le fits) in
+      fed_on text a shown new part n c (dropped ∙ ap Some (left_after a b shown part.count kept front le)) (feeds text (drop (length shown) a) (rw (shown_front a shown front) at far))
 
   -- What a reading answers.
 

@@ -41,10 +41,10 @@ unfolding command_code
 unknown_row row e f = λ earlier. rw (e, f) refl
 
 -- ---- numbers
-kept_refused : (n : Numeral) → is_refused (kept n) ≡ is_refused n
+pub kept_refused : (n : Numeral) → is_refused (kept n) ≡ is_refused n
 kept_refused n = ap (λ b. n.has_minus || b) (unreadable_kept n)
 
-kept_number : (n : Numeral) → is_refused n ≡ false → kept n ≡ n
+pub kept_number : (n : Numeral) → is_refused n ≡ false → kept n ≡ n
 kept_number n e = kept_is n (or_parts _ _ e).1
 
 -- a word with one number

@@ -9,7 +9,8 @@ use Rattle.dimacs.specs.declared.problem.Problem.{Problem}
 use Rattle.roadnet.specs.declared.arcs.RoadArc.{RoadArc}
 use Rattle.dimacs.specs.declared.fault.Code.{Code}
 use Rattle.dimacs.specs.declared.fault.Code.TheVariants.{BadLine, NoProblemLine, SecondProblemLine, WrongKind, NumberRange, NodeRange, LengthRange, LineCount, TooLarge, Read, OutOfMemory}
-use Rattle.dimacs.specs.Format.{Format, gr, greatest_length}
+use Rattle.roadnet.specs.Net.{longest_arc}
+use Rattle.dimacs.specs.Format.{Format, gr}
 use Rattle.dimacs.specs.Numerals.{numeral, kept}
 use Rattle.dimacs.specs.Faults.{Row, or_else, is_item, is_problem, is_malformed, is_unreadable, problem_of, announced, announced_items, nodes_of, items_of, applies, code_of}
 use Rattle.dimacs.specs.Reading.{three_numerals, is_outside, arc_of_numerals, item_after}
@@ -105,7 +106,7 @@ code_of_item earlier a b c =
     cond (is_none (problem_of earlier)) (Some NoProblemLine)
     (cond (is_unreadable a || (is_unreadable b || is_unreadable c)) (Some NumberRange)
     (cond (is_outside 1 (nodes_of gr earlier) a || is_outside 1 (nodes_of gr earlier) b) (Some NodeRange)
-    (cond (is_outside 0 greatest_length c) (Some LengthRange)
+    (cond (is_outside 0 longest_arc c) (Some LengthRange)
     (cond (leb (announced_items gr earlier) (items_of gr earlier)) (Some LineCount) None))))
 
 pub malformed_code : (earlier : List Row) (numbers : Row) → is_malformed 3 numbers ≡ true → code_of gr earlier (codes "a" ∷ numbers) ≡ Some BadLine

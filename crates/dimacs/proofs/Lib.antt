@@ -9,11 +9,11 @@ mod Remarks
 mod Far
 mod Calls
 mod Networks
-mod TextEnds
+pub mod TextEnds
 pub mod NodeRows
 mod NodeItems
 pub mod Sets
-mod CommandRows
+pub mod CommandRows
 mod Words
 mod FirstFaultLemmas
 mod NextBytes

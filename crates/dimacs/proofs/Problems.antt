@@ -1,9 +1,10 @@
 -- A problem line read from left to right has the lowest code that applies to it.
-use Rattle.std.proofs.Common.{◌≡◌, ℕ, ◌^◌, Bool, true, false, not, ◌||◌, cond, eqb, List, [], ◌∷◌, ◌++◌, length, drop, Option, Some, None, Result, Ok, Err, map, refl, sym, ap, ◌∙◌, arith, inl, inr, ◌⊎◌}
+use Rattle.std.proofs.Common.{◌≡◌, ℕ, Bool, true, false, not, ◌||◌, cond, eqb, List, [], ◌∷◌, ◌++◌, length, drop, Option, Some, None, Result, Ok, Err, map, refl, sym, ap, ◌∙◌, arith, inl, inr, ◌⊎◌}
 use Rattle.std.specs.Prelude.{is_none, is_some}
 use Rattle.std.specs.Str.{bytes_eq}
 use Rattle.std.proofs.lemmas.Bool.{cases_Bool, ne_eqb, or_parts}
 use lib.Chars.{codes}
+use Rattle.roadnet.specs.Net.{most_nodes, most_arcs}
 use Rattle.dimacs.specs.declared.numeral.Numeral.{Numeral}
 use Rattle.dimacs.specs.declared.problem.Problem.{Problem}
 use Rattle.dimacs.specs.declared.gr.GrLines.{GrLines}
@@ -78,7 +79,7 @@ code_of_counts earlier a b =
     cond (has_problem earlier) (Some SecondProblemLine)
     (cond (is_unreadable a || is_unreadable b) (Some NumberRange)
     (cond (is_under 1 a || is_under 0 b) (Some NumberRange)
-    (cond (is_over (2 ^ 25) a || is_over (2 ^ 26) b) (Some TooLarge) None)))
+    (cond (is_over most_nodes a || is_over most_arcs b) (Some TooLarge) None)))
 
 same_problem : (a b x y : Numeral) → a ≡ x → b ≡ y → problem_of_numerals a b ≡ problem_of_numerals x y
 same_problem a b x y e f = rw (e, f) refl

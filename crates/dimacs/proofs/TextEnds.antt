@@ -3,12 +3,11 @@ use Rattle.std.proofs.Common.{◌≡◌, ℕ, false, List, [], length, Option, S
 use Rattle.std.specs.Prelude.{IfSome}
 use Rattle.dimacs.specs.declared.feed.Ended.{Ended}
 use Rattle.dimacs.specs.declared.fault.Fault.{Fault}
-use Rattle.dimacs.specs.Content.{unless_fault}
 use Rattle.dimacs.specs.Lines.{rows}
 use Rattle.dimacs.specs.Faults.{Row, first_fault, fault_at, fault_of}
 use Rattle.dimacs.specs.Taking.{ByMemory}
 use Rattle.dimacs.specs.Ends.{TakenAll, BreaksOff, FailsIn, ReadsLines}
-use Rattle.dimacs.specs.Texts.{TextKind, content_by, Parses, Reads, Ends}
+use Rattle.dimacs.specs.Texts.{TextKind, unless_fault, content_by, Parses, Reads, Ends}
 use Rattle.dimacs.proofs.Items.{by_code_of, by_memory_of}
 use Rattle.dimacs.proofs.Networks.{same_code, no_rows}
 

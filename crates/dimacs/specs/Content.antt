@@ -1,12 +1,13 @@
 -- What a `.gr` text says.
-use Rattle.std.specs.Prelude.{ℕ, true, List, [], Option, None, Some, Result, Ok, Err, slice_index_or, if◌then◌else◌}
+use Rattle.std.specs.Prelude.{ℕ, true, List, [], Option, None, Some, Result, slice_index_or, if◌then◌else◌}
 use Rattle.std.specs.List.{filter_map}
 use Rattle.roadnet.specs.Net.{Net}
 use Rattle.roadnet.specs.declared.arcs.RoadArc.{RoadArc}
 use Rattle.dimacs.specs.declared.fault.Fault.{Fault}
 use Rattle.dimacs.specs.Format.{gr}
 use Rattle.dimacs.specs.Lines.{rows}
-use Rattle.dimacs.specs.Faults.{Row, is_item, item_fields, size_of, nodes_of, code_of, end_code, fault_of}
+use Rattle.dimacs.specs.Faults.{Row, is_item, item_fields, size_of, nodes_of, code_of, end_code}
+use Rattle.dimacs.specs.Texts.{TextKind, content_by}
 
 -- the size at a place
 abbrev pub size_at : Row → ℕ → ℕ
@@ -23,13 +24,13 @@ arc_of row = if is_item gr row then Some (arc_from (item_fields row)) else None
 abbrev pub network_of : List Row → Net
 network_of rs = record { nodes = nodes_of gr rs; arcs = filter_map arc_of rs; landmarks = [] }
 
-abbrev pub unless_fault : {X : Type 0} → Option Fault → X → Result X Fault
-unless_fault None x = Ok x
-unless_fault (Some fault) x = Err fault
+-- the kind of text that gives a network
+abbrev pub gr_text : TextKind Net
+gr_text = record { judge = code_of gr; end = end_code gr; says = network_of }
 
 -- the content of lines, or their fault
 abbrev pub content_of : List Row → Result Net Fault
-content_of rs = unless_fault (fault_of (code_of gr) (end_code gr) rs) (network_of rs)
+content_of rs = content_by gr_text rs
 
 -- the content of a text, or its fault
 abbrev pub content : List ℕ → Result Net Fault

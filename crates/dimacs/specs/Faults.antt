@@ -8,7 +8,8 @@ use Rattle.dimacs.specs.declared.numeral.Numeral.{Numeral}
 use Rattle.dimacs.specs.declared.fault.Code.{Code}
 use Rattle.dimacs.specs.declared.fault.Code.TheVariants.{BadLine, NoProblemLine, SecondProblemLine, WrongKind, NumberRange, NodeRange, LengthRange, LineCount, TooLarge, Read, OutOfMemory}
 use Rattle.dimacs.specs.declared.fault.Fault.{Fault}
-use Rattle.dimacs.specs.Format.{Format, Quantity, Node, Length, greatest_length}
+use Rattle.roadnet.specs.Net.{longest_arc}
+use Rattle.dimacs.specs.Format.{Format, Quantity, Node, Length}
 use Rattle.dimacs.specs.Numerals.{numeral}
 
 -- a line, as its fields
@@ -84,7 +85,7 @@ is_no_node nodes Length n = false
 
 abbrev pub is_no_length : Quantity → Numeral → Bool
 is_no_length Node n = false
-is_no_length Length n = is_under 0 n || is_over greatest_length n
+is_no_length Length n = is_under 0 n || is_over longest_arc n
 
 -- What lines announce and hold.
 

@@ -6,7 +6,7 @@ use Rattle.dimacs.specs.declared.fault.Fault.{Fault}
 use Rattle.dimacs.specs.declared.problem.Problem.{Problem}
 use Rattle.dimacs.specs.declared.gr.GrLines.{GrLines}
 use Rattle.dimacs.specs.declared.feed.Feed.{Feed}
-use Rattle.dimacs.specs.declared.feed.Fed.{Fed}
+use Rattle.dimacs.specs.declared.feed.TakenBytes.{TakenBytes}
 use Rattle.dimacs.specs.Format.{gr}
 use Rattle.dimacs.specs.Lines.{is_line_feed, rows, fields}
 use Rattle.dimacs.specs.Faults.{Row, Judge, is_remark, problem_of, announced, items_of, first_fault, end_code}
@@ -85,8 +85,8 @@ pub record StopsAt {S : Type 0} (judge : Judge) (text : List ℕ) (feed : Feed S
   pub why : ByMemory code ((judge earlier row ≡ Some code) × (feed.until_run ≡ true → is_run row ≡ false)) ⊤
 
 -- what a feed answers that was shown the front of what is left
-abbrev pub Feeds : {S : Type 0} → Judge → (List Row → S → Type 0) → ℕ → List ℕ → List ℕ → List ℕ → Feed S → Result Fed Code → Type 0
-Feeds judge has_taken mark text bytes more feed (Ok fed) = MatchBool fed.at_run
-    (BeforeRun judge has_taken text (drop fed.taken bytes ++ more) feed)
-    ((fed.taken ≡ length bytes) × Within judge has_taken mark text more feed)
+abbrev pub Feeds : {S : Type 0} → Judge → (List Row → S → Type 0) → ℕ → List ℕ → List ℕ → List ℕ → Feed S → Result TakenBytes Code → Type 0
+Feeds judge has_taken mark text bytes more feed (Ok part) = MatchBool part.at_run
+    (BeforeRun judge has_taken text (drop part.count bytes ++ more) feed)
+    ((part.count ≡ length bytes) × Within judge has_taken mark text more feed)
 Feeds judge has_taken mark text bytes more feed (Err code) = StopsAt judge text feed code

@@ -1,5 +1,5 @@
 -- One line of a `.gr` text, read from left to right.
-use Rattle.std.specs.Prelude.{ℕ, true, ◌^◌, Bool, ◌||◌, [], ◌∷◌, length, drop, Option, None, Some, Result, Ok, Err, nat_le, if◌then◌else◌}
+use Rattle.std.specs.Prelude.{ℕ, true, Bool, ◌||◌, [], ◌∷◌, length, drop, Option, None, Some, Result, Ok, Err, nat_le, if◌then◌else◌}
 use Rattle.std.specs.Option.{option_map, option_and_then}
 use Rattle.std.specs.List.{starts_with}
 use Rattle.std.specs.Str.{bytes_eq}
@@ -9,7 +9,7 @@ use Rattle.dimacs.specs.declared.fault.Code.{Code}
 use Rattle.dimacs.specs.declared.fault.Code.TheVariants.{BadLine, NoProblemLine, SecondProblemLine, WrongKind, NumberRange, NodeRange, LengthRange, LineCount, TooLarge}
 use Rattle.roadnet.specs.declared.arcs.RoadArc.{RoadArc}
 use Rattle.dimacs.specs.declared.problem.Problem.{Problem}
-use Rattle.dimacs.specs.Format.{greatest_length}
+use Rattle.roadnet.specs.Net.{most_nodes, most_arcs, longest_arc}
 use Rattle.dimacs.specs.Numerals.{numeral, kept}
 use Rattle.dimacs.specs.Faults.{Row, is_empty, is_unreadable, is_under, is_over}
 
@@ -35,7 +35,7 @@ abbrev pub arc_of_numerals : Problem → ℕ → Numeral → Numeral → Numeral
 arc_of_numerals p taken tail head length =
     if is_unreadable tail || (is_unreadable head || is_unreadable length) then Err NumberRange
     else (if is_outside 1 p.nodes tail || is_outside 1 p.nodes head then Err NodeRange
-    else (if is_outside 0 greatest_length length then Err LengthRange
+    else (if is_outside 0 longest_arc length then Err LengthRange
     else (if nat_le p.items taken then Err LineCount
     else Ok (record { tail = tail.size; head = head.size; length = length.size; opened = true }))))
 
@@ -49,7 +49,7 @@ abbrev pub problem_of_numerals : Numeral → Numeral → Result Problem Code
 problem_of_numerals nodes items =
     if is_unreadable nodes || is_unreadable items then Err NumberRange
     else (if is_under 1 nodes || is_under 0 items then Err NumberRange
-    else (if is_over (2 ^ 25) nodes || is_over (2 ^ 26) items then Err TooLarge
+    else (if is_over most_nodes nodes || is_over most_arcs items then Err TooLarge
     else Ok (record { nodes = nodes.size; items = items.size })))
 
 abbrev pub counted : Bool → Option (Numeral × Numeral) → Result Problem Code

@@ -32,12 +32,12 @@ EndsFrom judge has_taken mark (Some text) (Some left) feed = Within judge has_ta
 abbrev pub Turns : {S : Type 0} → Judge → (List Row → S → Type 0) → ℕ → Option (List ℕ) → Option (List ℕ) → Feed S → Turn → Type 0
 Turns judge has_taken mark known left feed Failed = FarFrom judge has_taken mark known left feed
 Turns judge has_taken mark known left feed AtEnd = EndsFrom judge has_taken mark known left feed
-Turns judge has_taken mark known left feed (Took fed) = MatchBool fed.at_run (RunFrom judge has_taken known left feed) (FarFrom judge has_taken mark known left feed)
+Turns judge has_taken mark known left feed (Took part) = MatchBool part.at_run (RunFrom judge has_taken known left feed) (FarFrom judge has_taken mark known left feed)
 Turns judge has_taken mark known left feed (Refused code) = StopsFrom judge known feed code
 
 -- the lines can be counted on, and fewer calls are left
 abbrev pub HasRoom : {S : Type 0} → Feed S → Feed S → Turn → Type 0
-HasRoom old new (Took fed) = (new.lines + new.left < 2 ^ 64 - 1) × (new.left < old.left)
+HasRoom old new (Took part) = (new.lines + new.left < 2 ^ 64 - 1) × (new.left < old.left)
 HasRoom old new other = new.lines + 1 < 2 ^ 64
 
 -- only a failed call is told as one

@@ -1,7 +1,6 @@
 //! The texts of commands.
 ghost use Rattle.std.specs.Prelude.{◌≡◌, ◌≢◌, IfErr, IfSome, List, length, vec_items};
 ghost use Rattle.dimacs.specs.Lines.{fields};
-ghost use Rattle.dimacs.specs.Commands.{is_refused};
 ghost use Rattle.dimacs.specs.Reading.{one_numeral, two_numerals};
 ghost use Rattle.dimacs.specs.CommandReading.{IsKind, number_read, numbers_read, ReadsLine};
 
@@ -9,7 +8,6 @@ use crate::counted::Counted;
 use crate::fault::{Code, Fault};
 use crate::feed::{Ended, parse_lines, read_lines};
 use crate::line::split_field;
-use crate::numeral::Numeral;
 use crate::reading::{split_one, split_two};
 use crate::taking::TakeLines;
 use roadnet::Command;
@@ -48,21 +46,15 @@ fn kind_of(line: &[u8]) -> Kind<'_>
     }
 }
 
-/// Whether a numeral of a command has a minus, or a size above 2^63 - 1.
-fn is_refused(number: Numeral) -> bool
-    ensures { result ≡ is_refused number }
-{
-    number.has_minus || number.is_unreadable()
-}
-
-/// The one number of a command.
-fn number(numbers: &[u8]) -> Result<u64, Code>
+/// The one number behind the word of a command or of a script's event, at most 2^63 - 1. Refused are other fields than one numeral (`BadLine`),
+/// and a numeral with a minus or with a greater size (`NumberRange`).
+pub fn number(numbers: &[u8]) -> Result<u64, Code>
     ensures { result ≡ number_read (one_numeral (fields numbers.now)) }
 {
     match split_one(numbers) {
         None => Err(Code::BadLine),
         Some(number) => {
-            if is_refused(number) {
+            if number.is_refused() {
                 return Err(Code::NumberRange);
             }
             Ok(number.size)
@@ -70,14 +62,14 @@ fn number(numbers: &[u8]) -> Result<u64, Code>
     }
 }
 
-/// The two numbers of a command.
-fn two_numbers(numbers: &[u8]) -> Result<(u64, u64), Code>
+/// The two numbers behind such a word, as `number`.
+pub fn two_numbers(numbers: &[u8]) -> Result<(u64, u64), Code>
     ensures { result ≡ numbers_read (two_numerals (fields numbers.now)) }
 {
     match split_two(numbers) {
         None => Err(Code::BadLine),
         Some((first, second)) => {
-            if is_refused(first) || is_refused(second) {
+            if first.is_refused() || second.is_refused() {
                 return Err(Code::NumberRange);
             }
             Ok((first.size, second.size))

@@ -4,7 +4,7 @@ ghost use Rattle.dimacs.specs.Counts.{failed_calls, reader_of, IsSameReader, Tak
 ghost use Rattle.dimacs.specs.Turns.{FarFrom, Turns, HasRoom, IsNoRead, CountsTurn};
 
 use crate::fault::Code;
-use crate::feed::{Fed, Feed};
+use crate::feed::{Feed, TakenBytes};
 use crate::taking::TakeLines;
 use std::io::{self, BufRead, ErrorKind};
 
@@ -24,13 +24,13 @@ pub(crate) enum Turn {
     /// There are no more bytes.
     AtEnd,
     /// These bytes were taken.
-    Took(Fed),
+    Took(TakenBytes),
     /// The bytes have a fault.
     Refused(Code),
 }
 
-const NOTHING: Fed = Fed {
-    taken: 0,
+const NOTHING: TakenBytes = TakenBytes {
+    count: 0,
     at_run: false,
 };
 
@@ -62,10 +62,10 @@ fn feed_from<R: BufRead, T: TakeLines>(reader: &mut R, feed: &mut Feed<T>) -> Tu
         return Turn::AtEnd;
     }
     match feed.take(bytes) {
-        Ok(fed) => {
-            reader.consume(fed.taken);
-            feed.left = left - 1 - fed.taken as u64;
-            Turn::Took(fed)
+        Ok(part) => {
+            reader.consume(part.count);
+            feed.left = left - 1 - part.count as u64;
+            Turn::Took(part)
         }
         Err(code) => Turn::Refused(code),
     }

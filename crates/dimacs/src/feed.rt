@@ -26,12 +26,12 @@ pub(crate) struct Feed<T> {
 
 /// How many bytes were taken, and whether a line `run` ends them.
 #[derive(Clone, Copy)]
-pub(crate) struct Fed {
-    pub(crate) taken: usize,
+pub(crate) struct TakenBytes {
+    pub(crate) count: usize,
     pub(crate) at_run: bool,
 }
 
-/// What the lines of a text have made of the value that took them, their number, and whether a line `run`, which is not one
+/// What the lines of a text have made of the value that part them, their number, and whether a line `run`, which is not one
 /// of them, follows.
 #[derive(Drop)]
 pub struct Ended<T> {
@@ -111,14 +111,14 @@ impl<T: TakeLines> Feed<T> {
 
     /// Takes the lines that end in these bytes, and keeps the front of the next one. Stops behind the line `run`, where it is
     /// told to.
-    pub(crate) fn take(&mut self, bytes: &[u8]) -> Result<Fed, Code>
+    pub(crate) fn take(&mut self, bytes: &[u8]) -> Result<TakenBytes, Code>
         requires { self.old.lines + length bytes.now < 2 ^ 64 }
         ensures reads_nothing { IfErr result (λ code. code ≢ Code.Read) }
         ensures feeds { (text more : List ℕ)
             → Within T.judge T.has_taken T.COMMENT text (bytes.now ++ more) self.old
             → Feeds T.judge T.has_taken T.COMMENT text bytes.now more self.new result }
-        ensures taken { IfOk result (λ fed. fed.taken ≤ length bytes.now) }
-        ensures lines { IfOk result (λ fed. self.new.lines ≤ self.old.lines + fed.taken) }
+        ensures taken { IfOk result (λ part. part.count ≤ length bytes.now) }
+        ensures lines { IfOk result (λ part. self.new.lines ≤ self.old.lines + part.count) }
         ensures refused { OnErr result (self.new.lines < self.old.lines + length bytes.now) }
         ensures until { self.new.until_run ≡ self.old.until_run }
         ensures left { self.new.left ≡ self.old.left }
@@ -126,8 +126,8 @@ impl<T: TakeLines> Feed<T> {
         let mut rest = bytes;
         while let Some((piece, more)) = split_at_feed(rest) {
             if self.take_whole(piece)? {
-                return Ok(Fed {
-                    taken: bytes.len() - more.len(),
+                return Ok(TakenBytes {
+                    count: bytes.len() - more.len(),
                     at_run: true,
                 });
             }
@@ -136,8 +136,8 @@ impl<T: TakeLines> Feed<T> {
             rest = more;
         }
         self.keep(rest)?;
-        Ok(Fed {
-            taken: bytes.len(),
+        Ok(TakenBytes {
+            count: bytes.len(),
             at_run: false,
         })
     }
@@ -243,8 +243,8 @@ pub fn read_lines<T: TakeLines, R: BufRead>(
                 });
             }
             Turn::AtEnd => return feed.end(),
-            Turn::Took(fed) => {
-                if fed.at_run {
+            Turn::Took(part) => {
+                if part.at_run {
                     return Ok(feed.ended(true));
                 }
             }

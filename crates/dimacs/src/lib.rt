@@ -16,7 +16,7 @@ pub mod problem;
 pub mod reading;
 pub mod taking;
 
-pub use commands::{parse_commands, read_commands, read_commands_counted};
+pub use commands::{number, parse_commands, read_commands, read_commands_counted, two_numbers};
 pub use counted::Counted;
 pub use fault::{Code, Fault};
 pub use feed::{Ended, parse_lines, read_lines};

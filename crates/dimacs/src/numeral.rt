@@ -16,6 +16,7 @@ impl Numeral {
     ghost use Rattle.dimacs.specs.Numerals.{numeral, kept};
     ghost use Rattle.dimacs.specs.Faults.{is_unreadable, is_under, is_over};
     ghost use Rattle.dimacs.specs.Reading.{is_outside};
+    ghost use Rattle.dimacs.specs.Commands.{is_refused};
 
     /// The numeral that a field is, if it is one.
     pub fn parse(field: &[u8]) -> Option<Numeral>
@@ -36,6 +37,13 @@ impl Numeral {
         ensures { result ≡ is_unreadable self }
     {
         self.size > MOST_READABLE
+    }
+
+    /// Whether it has a minus, or a size above 2^63 - 1: no command and no event takes such a number.
+    pub fn is_refused(self) -> bool
+        ensures { result ≡ is_refused self }
+    {
+        self.has_minus || self.is_unreadable()
     }
 
     /// Whether the number is below `least`.

@@ -8,13 +8,7 @@ use crate::fault::Code;
 use crate::line::split_field;
 use crate::numeral::Numeral;
 use crate::problem::{Problem, after_kind};
-use roadnet::RoadArc;
-
-const MOST_NODES: u64 = 1 << 25;
-
-const MOST_ARCS: u64 = 1 << 26;
-
-const GREATEST_LENGTH: u64 = 2_147_483_647;
+use roadnet::{LONGEST_ARC, MOST_ARCS, MOST_NODES, RoadArc};
 
 /// The first field as a numeral, and what follows it.
 fn split_numeral(numbers: &[u8]) -> Option<(Numeral, &[u8])>
@@ -92,7 +86,7 @@ fn arc(
     if tail.is_outside(1, nodes) || head.is_outside(1, nodes) {
         return Err(Code::NodeRange);
     }
-    if length.is_outside(0, GREATEST_LENGTH) {
+    if length.is_outside(0, u64::from(LONGEST_ARC)) {
         return Err(Code::LengthRange);
     }
     if problem.items as usize <= taken {
@@ -141,7 +135,7 @@ fn announced(nodes: Numeral, items: Numeral) -> Result<Problem, Code>
     if nodes.is_under(1) || items.is_under(0) {
         return Err(Code::NumberRange);
     }
-    if nodes.is_over(MOST_NODES) || items.is_over(MOST_ARCS) {
+    if nodes.is_over(u64::from(MOST_NODES)) || items.is_over(MOST_ARCS as u64) {
         return Err(Code::TooLarge);
     }
     Ok(Problem {

@@ -1,5 +1,6 @@
 -- A writer with the count of its failed calls.
-use Rattle.std.specs.Prelude.{◌≡◌, ℕ, ◌+◌, ◌-◌, ◌^◌, min, Result, Ok, Err}
+use Rattle.std.specs.Prelude.{◌≡◌, ℕ, Result, Ok, Err}
+use Rattle.dimacs.specs.Counts.{one_more_failed}
 use Rattle.printing.specs.declared.writer.CountedWriter.{CountedWriter}
 
 -- the count, and the writer
@@ -11,10 +12,6 @@ writer_of c = c.writer.now
 
 abbrev pub IsSameWriter : {W : Type 0} → CountedWriter W → CountedWriter W → Type 0
 IsSameWriter old new = new.writer.ghost_name ≡ old.writer.ghost_name
-
--- the count after one more failed call
-abbrev pub one_more_failed : ℕ → ℕ
-one_more_failed n = min (n + 1) (2 ^ 64 - 1)
 
 -- the count has gone up by one where a call failed, and else it is as it was
 abbrev pub CountsFailure : {X E : Type 0} → ℕ → ℕ → Result X E → Type 0

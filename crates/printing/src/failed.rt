@@ -1,5 +1,6 @@
 //! Why a call failed, and how the program says it.
 ghost use Rattle.std.specs.Prelude.{◌≡◌, is_ok, if◌then◌else◌};
+ghost use Rattle.printing.specs.Failing.{told_of};
 
 use dimacs::Fault;
 use roadnet::Refusal;
@@ -13,6 +14,16 @@ pub enum Failed {
     Text { which: u8, fault: Fault },
     /// Any other refusal.
     Code(Refusal),
+}
+
+/// What reading a text gave, its fault told of the text with this number (`which` of `Failed::Text`).
+pub fn of_text<T>(which: u8, read: Result<T, Fault>) -> Result<T, Failed>
+    ensures { result ≡ told_of which read }
+{
+    match read {
+        Ok(value) => Ok(value),
+        Err(fault) => Err(Failed::Text { which, fault }),
+    }
 }
 
 /// A fault line of the program, which it displays as `roadmark: FILE: line L: CODE Name` or `roadmark: CODE Name`.

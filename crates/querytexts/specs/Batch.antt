@@ -1,18 +1,13 @@
 -- What the pairs of a text are answered with, and for what they are refused.
-use Rattle.std.specs.Prelude.{◌≡◌, ◌≤◌, ℕ, zero, suc, List, [], ◌∷◌, ◌++◌, Option, Result, Ok, Err}
+use Rattle.std.specs.Prelude.{◌≡◌, ◌≤◌, ℕ, zero, suc, List, [], ◌∷◌, ◌++◌, Option, Result, Ok}
 use Rattle.std.specs.List.{AllZip}
 use Rattle.std.specs.Io.KnownBytes.{Appends}
 use Rattle.roadnet.specs.Net.{Net}
 use Rattle.dimacs.specs.declared.fault.Fault.{Fault}
 use Rattle.dimacs.specs.declared.pairs.Pair.{Pair}
-use Rattle.dimacs.specs.Faults.{code_of}
-use Rattle.dimacs.specs.Format.{gr, p2p}
 use Rattle.dimacs.specs.Lines.{rows}
-use Rattle.dimacs.specs.Content.{content}
-use Rattle.dimacs.specs.Taking.{ByCode, ByMemory}
-use Rattle.dimacs.specs.Ends.{BreaksOff, FailsIn}
-use Rattle.dimacs.specs.Gr.{FaultOfLines}
-use Rattle.dimacs.specs.Texts.{content_by}
+use Rattle.dimacs.specs.Content.{gr_text, content}
+use Rattle.dimacs.specs.Texts.{Source, FaultOf, content_by}
 use Rattle.dimacs.specs.Pairs.{p2p_text}
 use Rattle.rows.specs.declared.queries.Query.{Query}
 use Rattle.rows.specs.declared.queries.Query.TheVariants.{Dist}
@@ -65,15 +60,9 @@ abbrev pub IsOfBatch : Failed → Type 0
 IsOfBatch (Text which fault) = which ≤ 1
 IsOfBatch (Code refusal) = IsUnanswered (Code refusal)
 
--- the fault of a reader's first text is told, or, where that has none, that of the second; or a reader failed in its text; or the writer
--- failed, or memory ran out
-abbrev pub IsRefusedBatch : List ℕ → List ℕ → Option (List ℕ) → Option (List ℕ) → Failed → Type 0
-IsRefusedBatch network pairs network_left pairs_left (Text zero fault) = FaultOfLines network (rows network) network_left fault
-IsRefusedBatch network pairs network_left pairs_left (Text (suc zero) fault) = AfterNetwork network (λ net. ByCode fault.code (pairs_in net pairs ≡ Err fault) (FailsIn (code_of (p2p net.nodes)) pairs (rows pairs) pairs_left fault.line) (BreaksOff (code_of (p2p net.nodes)) (rows pairs) (rows pairs) fault.line))
-IsRefusedBatch network pairs network_left pairs_left failed = IsUnanswered failed
-
--- the same of texts in memory, in which no reader can fail
-abbrev pub IsTextRefusedBatch : List ℕ → List ℕ → Failed → Type 0
-IsTextRefusedBatch network pairs (Text zero fault) = ByMemory fault.code (content network ≡ Err fault) (BreaksOff (code_of gr) (rows network) (rows network) fault.line)
-IsTextRefusedBatch network pairs (Text (suc zero) fault) = AfterNetwork network (λ net. ByMemory fault.code (pairs_in net pairs ≡ Err fault) (BreaksOff (code_of (p2p net.nodes)) (rows pairs) (rows pairs) fault.line))
-IsTextRefusedBatch network pairs failed = IsUnanswered failed
+-- the fault of the first text is told, or, where that has none, that of the second; or a reader failed in its text; or the writer failed,
+-- or memory ran out
+abbrev pub IsRefusedBatch : List ℕ → List ℕ → Source → Source → Failed → Type 0
+IsRefusedBatch network pairs network_source pairs_source (Text zero fault) = FaultOf gr_text network network_source fault
+IsRefusedBatch network pairs network_source pairs_source (Text (suc zero) fault) = AfterNetwork network (λ net. FaultOf (p2p_text net.nodes) pairs pairs_source fault)
+IsRefusedBatch network pairs network_source pairs_source failed = IsUnanswered failed

@@ -1,15 +1,10 @@
 -- What one query of a text is answered with, and for what it is refused.
-use Rattle.std.specs.Prelude.{◌≡◌, ℕ, zero, List, Option, Some, Ok, Err, ⊤}
+use Rattle.std.specs.Prelude.{◌≡◌, ℕ, zero, List, Option, Some, Ok, ⊤}
 use Rattle.std.specs.Io.KnownBytes.{Appends}
 use Rattle.roadnet.specs.Net.{Net}
 use Rattle.roadnet.specs.declared.refusals.Refusal.TheVariants.{Write, OutOfMemory}
-use Rattle.dimacs.specs.Faults.{code_of}
-use Rattle.dimacs.specs.Format.{gr}
-use Rattle.dimacs.specs.Lines.{rows}
-use Rattle.dimacs.specs.Content.{content}
-use Rattle.dimacs.specs.Taking.{ByMemory}
-use Rattle.dimacs.specs.Ends.{BreaksOff}
-use Rattle.dimacs.specs.Gr.{FaultOfLines}
+use Rattle.dimacs.specs.Content.{gr_text, content}
+use Rattle.dimacs.specs.Texts.{Source, FaultOf}
 use Rattle.rows.specs.declared.queries.Query.{Query}
 use Rattle.rows.specs.declared.queries.Reply.{Reply}
 use Rattle.rows.specs.Replies.{IsRight}
@@ -40,12 +35,7 @@ abbrev pub IsOfOnce : Failed → Type 0
 IsOfOnce (Text which fault) = which ≡ 0
 IsOfOnce (Code refusal) = IsUnanswered (Code refusal)
 
--- a reader's text has its fault told, or the reader failed in it; or the writer failed, or memory ran out
-abbrev pub IsRefusedOnce : List ℕ → Option (List ℕ) → Failed → Type 0
-IsRefusedOnce text left (Text zero fault) = FaultOfLines text (rows text) left fault
-IsRefusedOnce text left failed = IsUnanswered failed
-
--- the same of a text in memory, which no reader can fail in
-abbrev pub IsTextRefusedOnce : List ℕ → Failed → Type 0
-IsTextRefusedOnce text (Text zero fault) = ByMemory fault.code (content text ≡ Err fault) (BreaksOff (code_of gr) (rows text) (rows text) fault.line)
-IsTextRefusedOnce text failed = IsUnanswered failed
+-- the text has its fault told, or its reader failed in it; or the writer failed, or memory ran out
+abbrev pub IsRefusedOnce : List ℕ → Source → Failed → Type 0
+IsRefusedOnce text source (Text zero fault) = FaultOf gr_text text source fault
+IsRefusedOnce text source failed = IsUnanswered failed

@@ -5,14 +5,15 @@ ghost use Rattle.rows.specs.Kept.{AreOf, IsWidth, given_width};
 ghost use Rattle.rows.specs.Replies.{IsRight};
 ghost use Rattle.std.specs.Io.KnownBytes.{Appends};
 ghost use Rattle.roadnet.specs.Net.{IsNetwork};
+ghost use Rattle.dimacs.specs.Texts.{InMemory, OfReader};
 ghost use Rattle.dimacs.specs.Counts.{failed_calls, reader_of, IsSameReader};
 ghost use Rattle.printing.specs.Counting.{failed_writes, writer_of, IsSameWriter, CountsFailure};
 ghost use Rattle.printing.specs.Failing.{CountsFirst, CountsSecond, CountsWrites, LeavesUnwritten};
 ghost use Rattle.querytexts.specs.Once.{IsUnanswered};
-ghost use Rattle.querytexts.specs.Batch.{AreRight, query_of, answer_lines, AnswersAll, IsAnsweredBatch, IsOfBatch, IsRefusedBatch, IsTextRefusedBatch};
+ghost use Rattle.querytexts.specs.Batch.{AreRight, query_of, answer_lines, AnswersAll, IsAnsweredBatch, IsOfBatch, IsRefusedBatch};
 
 use dimacs::{Counted, Pair, parse_gr, parse_p2p, read_gr_counted, read_p2p_counted};
-use printing::{CountedWriter, Done, Failed, put_answer, put_version};
+use printing::{CountedWriter, Done, Failed, of_text, put_answer, put_version};
 use roadnet::{Network, OutOfMemory, Refusal};
 use rows::{Query, Reply, Searches};
 use std::alloc::Global;
@@ -125,22 +126,13 @@ pub(crate) fn answer_by<T: Threads, W: Write>(
     ensures writes { CountsWrites (failed_writes out.old) (failed_writes out.new) result }
     ensures same { IsSameWriter out.old out.new }
 {
-    let replies = match reply_to_all(rt, alloc, network, searches, pairs) {
-        Ok(replies) => replies,
-        Err(failed) => return Err(failed),
-    };
-    if let Err(failed) = put_version(out, version) {
-        return Err(failed);
-    }
-    if let Err(failed) = put_answers(out, pairs, &replies) {
-        return Err(failed);
-    }
-    match out.flush() {
-        Ok(()) => Ok(Done {
-            delta: searches.delta(),
-        }),
-        Err(failed) => Err(failed),
-    }
+    let replies = reply_to_all(rt, alloc, network, searches, pairs)?;
+    put_version(out, version)?;
+    put_answers(out, pairs, &replies)?;
+    out.flush()?;
+    Ok(Done {
+        delta: searches.delta(),
+    })
 }
 
 /// Writes the network's version and a right answer to each pair, in their order, and sends them out; or nothing, where no memory is
@@ -191,7 +183,7 @@ pub fn batch_counted<T: Threads, R: BufRead, Q: BufRead, W: Write>(
         (λ pairs. IsAnsweredBatch network pairs (W.contents (writer_of out.old)) (W.contents (writer_of out.new))))) }
     ensures width { IfOk result (λ done. done.delta ≡ delta) }
     ensures refused { IfErr result (λ failed. IfSome (R.remaining (reader_of gr.old)) (λ network. IfSome (Q.remaining (reader_of p2p.old))
-        (λ pairs. IsRefusedBatch network pairs (R.remaining (reader_of gr.new)) (Q.remaining (reader_of p2p.new)) failed))) }
+        (λ pairs. IsRefusedBatch network pairs (OfReader (R.remaining (reader_of gr.new))) (OfReader (Q.remaining (reader_of p2p.new))) failed))) }
     ensures codes { IfErr result IsOfBatch }
     ensures unwritten { IfErr result (LeavesUnwritten (writer_of out.old) (writer_of out.new)) }
     ensures reads_network { CountsFirst (failed_calls gr.old) (failed_calls gr.new) result }
@@ -201,20 +193,8 @@ pub fn batch_counted<T: Threads, R: BufRead, Q: BufRead, W: Write>(
     ensures same_pair_reader { IsSameReader p2p.old p2p.new }
     ensures same_writer { IsSameWriter out.old out.new }
 {
-    let network = match read_gr_counted(alloc, gr) {
-        Ok(network) => network,
-        Err(fault) => return Err(Failed::Text {
-            which: NETWORK,
-            fault,
-        }),
-    };
-    let pairs = match read_p2p_counted(alloc, p2p, network.nodes()) {
-        Ok(pairs) => pairs,
-        Err(fault) => return Err(Failed::Text {
-            which: PAIRS,
-            fault,
-        }),
-    };
+    let network = of_text(NETWORK, read_gr_counted(alloc, gr))?;
+    let pairs = of_text(PAIRS, read_p2p_counted(alloc, p2p, network.nodes()))?;
     answer_pairs(rt, alloc, &network, 0, delta, &pairs, out)
 }
 
@@ -230,23 +210,11 @@ pub fn batch_text<T: Threads, W: Write>(
     requires { ForSome delta IsWidth }
     ensures answered { OnOk result (IsAnsweredBatch gr.now p2p.now (W.contents out.old) (W.contents out.new)) }
     ensures width { IfOk result (λ done. done.delta ≡ delta) }
-    ensures refused { IfErr result (IsTextRefusedBatch gr.now p2p.now) }
+    ensures refused { IfErr result (IsRefusedBatch gr.now p2p.now InMemory InMemory) }
     ensures unwritten { IfErr result (LeavesUnwritten out.old out.new) }
 {
-    let network = match parse_gr(alloc, gr) {
-        Ok(network) => network,
-        Err(fault) => return Err(Failed::Text {
-            which: NETWORK,
-            fault,
-        }),
-    };
-    let pairs = match parse_p2p(alloc, p2p, network.nodes()) {
-        Ok(pairs) => pairs,
-        Err(fault) => return Err(Failed::Text {
-            which: PAIRS,
-            fault,
-        }),
-    };
+    let network = of_text(NETWORK, parse_gr(alloc, gr))?;
+    let pairs = of_text(PAIRS, parse_p2p(alloc, p2p, network.nodes()))?;
     let mut out = CountedWriter::new(out);
     answer_pairs(rt, alloc, &network, 0, delta, &pairs, &mut out)
 }

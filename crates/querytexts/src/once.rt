@@ -3,18 +3,21 @@ ghost use Rattle.std.specs.Prelude.{◌≡◌, ℕ, OnOk, IfOk, IfErr, IfSome, I
 ghost use Rattle.std.specs.Option.{ForSome};
 ghost use Rattle.rows.specs.Kept.{IsWidth};
 ghost use Rattle.rows.specs.Replies.{refusal_of};
+ghost use Rattle.dimacs.specs.Texts.{InMemory, OfReader};
 ghost use Rattle.dimacs.specs.Counts.{failed_calls, reader_of, IsSameReader};
 ghost use Rattle.printing.specs.Counting.{failed_writes, writer_of, IsSameWriter};
 ghost use Rattle.printing.specs.Failing.{CountsReads, CountsWrites, LeavesUnwritten};
-ghost use Rattle.querytexts.specs.Once.{AnswersOne, IsUnanswered, IsAnsweredOnce, IsOfOnce, IsRefusedOnce, IsTextRefusedOnce};
+ghost use Rattle.querytexts.specs.Once.{AnswersOne, IsUnanswered, IsAnsweredOnce, IsOfOnce, IsRefusedOnce};
 
 use dimacs::{Counted, parse_gr, read_gr_counted};
-use printing::{CountedWriter, Done, Failed, put_lines};
+use printing::{CountedWriter, Done, Failed, of_text, put_lines};
 use roadnet::{Network, Refusal};
 use rows::{Query, Searches};
 use std::alloc::Global;
 use std::io::{BufRead, Write};
 use std::thread::Threads;
+
+const NETWORK: u8 = 0;
 
 /// How many rows are kept for one query.
 const ROWS: u32 = 1;
@@ -48,15 +51,11 @@ fn answer_one<T: Threads, W: Write>(
         Ok(reply) => reply,
         Err(_) => return Err(Failed::Code(Refusal::OutOfMemory)),
     };
-    if let Err(failed) = put_lines(out, 0, &query, Some(reply)) {
-        return Err(failed);
-    }
-    match out.flush() {
-        Ok(()) => Ok(Done {
-            delta: searches.delta(),
-        }),
-        Err(failed) => Err(failed),
-    }
+    put_lines(out, 0, &query, Some(reply))?;
+    out.flush()?;
+    Ok(Done {
+        delta: searches.delta(),
+    })
 }
 
 /// Writes the answer to `dist s t` in the network of a reader's `.gr` text, at version 0, and nothing else. The text is read whole
@@ -81,7 +80,7 @@ pub fn once_counted<T: Threads, R: BufRead, W: Write>(
         (λ text. IsAnsweredOnce text (Query.Dist s t) (W.contents (writer_of out.old)) (W.contents (writer_of out.new)))) }
     ensures width { IfOk result (λ done. done.delta ≡ delta) }
     ensures refused { IfErr result (λ failed. IfSome (R.remaining (reader_of gr.old))
-        (λ text. IsRefusedOnce text (R.remaining (reader_of gr.new)) failed)) }
+        (λ text. IsRefusedOnce text (OfReader (R.remaining (reader_of gr.new))) failed)) }
     ensures codes { IfErr result IsOfOnce }
     ensures unwritten { IfErr result (LeavesUnwritten (writer_of out.old) (writer_of out.new)) }
     ensures reads { CountsReads (failed_calls gr.old) (failed_calls gr.new) result }
@@ -89,10 +88,7 @@ pub fn once_counted<T: Threads, R: BufRead, W: Write>(
     ensures same_reader { IsSameReader gr.old gr.new }
     ensures same_writer { IsSameWriter out.old out.new }
 {
-    let network = match read_gr_counted(alloc, gr) {
-        Ok(network) => network,
-        Err(fault) => return Err(Failed::Text { which: 0, fault }),
-    };
+    let network = of_text(NETWORK, read_gr_counted(alloc, gr))?;
     answer_one(rt, alloc, &network, delta, s, t, out)
 }
 
@@ -109,13 +105,10 @@ pub fn once_text<T: Threads, W: Write>(
     requires { ForSome delta IsWidth }
     ensures answered { OnOk result (IsAnsweredOnce gr.now (Query.Dist s t) (W.contents out.old) (W.contents out.new)) }
     ensures width { IfOk result (λ done. done.delta ≡ delta) }
-    ensures refused { IfErr result (IsTextRefusedOnce gr.now) }
+    ensures refused { IfErr result (IsRefusedOnce gr.now InMemory) }
     ensures unwritten { IfErr result (LeavesUnwritten out.old out.new) }
 {
-    let network = match parse_gr(alloc, gr) {
-        Ok(network) => network,
-        Err(fault) => return Err(Failed::Text { which: 0, fault }),
-    };
+    let network = of_text(NETWORK, parse_gr(alloc, gr))?;
     let mut out = CountedWriter::new(out);
     answer_one(rt, alloc, &network, delta, s, t, &mut out)
 }

@@ -1,4 +1,3 @@
-pub mod ScriptEnds
 pub mod ScriptLines
 pub mod ScriptPicks
 pub mod ScriptSteps

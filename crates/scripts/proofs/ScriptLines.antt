@@ -16,7 +16,8 @@ use Rattle.dimacs.specs.Faults.{Row, is_empty, is_remark, is_malformed}
 use Rattle.dimacs.specs.Numerals.{numeral, kept}
 use Rattle.dimacs.specs.Reading.{one_numeral, two_numerals}
 use Rattle.dimacs.specs.Taking.{Takes}
-use Rattle.dimacs.proofs.Items.{kept_is, unreadable_kept, filter_map_push, or-false, by_memory_of}
+use Rattle.dimacs.proofs.CommandRows.{kept_refused, kept_number}
+use Rattle.dimacs.proofs.Items.{filter_map_push, or-false, by_memory_of}
 use Rattle.dimacs.proofs.NodeRows.{one_cases}
 use Rattle.dimacs.proofs.Problems.{two_cases}
 use Rattle.disk.specs.declared.stoppable.Pick.{Pick}
@@ -168,12 +169,6 @@ bare_fault word rest others first is =
     rw is (λ earlier. malformed (spelling (WithNone word)) 0 earlier (first ∷ others) (bare_form word) bad)
 
 -- ---- numbers
-pub kept_refused : (n : Numeral) → is_refused (kept n) ≡ is_refused n
-kept_refused n = ap (λ b. n.has_minus || b) (unreadable_kept n)
-
-pub kept_number : (n : Numeral) → is_refused n ≡ false → kept n ≡ n
-kept_number n e = kept_is n (or_parts _ _ e).1
-
 -- ---- a word with one number
 abbrev RightOne : OneNumber → Row → Result ℕ Code → Type 0
 RightOne word numbers (Ok n) = ((earlier : List Row) → script_line_code earlier (spelling (WithOne word) ∷ numbers) ≡ None) × (line_of (spelling (WithOne word) ∷ numbers) ≡ Some (one_line word n))

@@ -23,7 +23,7 @@ use Rattle.disk.specs.declared.stoppable.Pick.TheVariants.{Old, New, Byte}
 use Rattle.scripts.specs.declared.script_stops.PicksRead.{PicksRead}
 use Rattle.scripts.specs.ScriptTexts.{pick_from, is_pick, picks_in, behind_picks, most_picks, is_some_of_most, is_no_byte}
 use Rattle.scripts.specs.ScriptReading.{byte_of_numeral, pick_read, pick_kept, is_in_range, HasPicks, ReadsPicks}
-use Rattle.scripts.proofs.ScriptLines.{kept_refused, kept_number}
+use Rattle.dimacs.proofs.CommandRows.{kept_refused, kept_number}
 
 -- ---- one pick
 large_kept : (n : Numeral) → ltb 255 (kept n).size ≡ ltb 255 n.size

@@ -17,7 +17,7 @@ use Rattle.machine.specs.declared.events.Event.TheVariants.{CheckpointStep}
 use Rattle.machine.specs.declared.pages.StepPages.{StepPages}
 use Rattle.scripts.specs.ScriptTexts.{StepLine, is_no_step, script_line_code}
 use Rattle.scripts.specs.ScriptReading.{ReadsEvent}
-use Rattle.scripts.proofs.ScriptLines.{kept_refused, kept_number}
+use Rattle.dimacs.proofs.CommandRows.{kept_refused, kept_number}
 
 bad_step : (others : Row) (earlier : List Row) → is_malformed 1 others ≡ true → script_line_code earlier (codes "step" ∷ others) ≡ Some BadLine
 unfolding script_line_code

@@ -22,7 +22,7 @@ use Rattle.machine.specs.declared.events.Event.{Event}
 use Rattle.scripts.specs.declared.script_stops.PicksRead.{PicksRead}
 use Rattle.scripts.specs.ScriptTexts.{ScriptLine, FlushLine, CheckpointLine, StepLine, StopLine, StopWithinLine, as_line, line_of, picks_in, behind_picks, pick_from, writing_from, is_pick, is_writing, is_some_of_most, are_of_stop, is_no_call, is_no_byte, is_no_step, has_number_outside, script_line_code}
 use Rattle.scripts.specs.ScriptReading.{call_of_numeral, call_read, step_read, writing_read, map_line, cut_within, cut_of, ReadsPicks, ReadsEvent}
-use Rattle.scripts.proofs.ScriptLines.{kept_refused, kept_number}
+use Rattle.dimacs.proofs.CommandRows.{kept_refused, kept_number}
 use Rattle.scripts.proofs.ScriptPicks.{AllPicks, all_picks, many_picks}
 use Rattle.scripts.proofs.ScriptSteps.{no_step_kept}
 

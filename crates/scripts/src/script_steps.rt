@@ -5,7 +5,6 @@ ghost use Rattle.dimacs.specs.Lines.{fields};
 ghost use Rattle.scripts.specs.ScriptTexts.{is_no_step};
 ghost use Rattle.scripts.specs.ScriptReading.{ReadsEvent};
 
-use crate::script_stops::is_refused;
 use dimacs::{Code, Numeral, split_one};
 use disk::Pick;
 use machine::{Event, StepPages};
@@ -14,7 +13,7 @@ use machine::{Event, StepPages};
 pub(crate) fn pages_of(number: Numeral) -> Result<StepPages, Code>
     ensures { MatchResult result (λ pages. (is_no_step number ≡ false) × (pages.pages ≡ number.size)) (λ code. (is_no_step number ≡ true) × (code ≡ Code.NumberRange)) }
 {
-    if is_refused(number) {
+    if number.is_refused() {
         return Err(Code::NumberRange);
     }
     match StepPages::new(number.size) {

@@ -3,7 +3,6 @@ ghost use Rattle.std.specs.Prelude.{◌≡◌, ◌∷◌, ◌++◌, ◌&&◌, �
 ghost use Rattle.std.specs.Option.{option_map};
 ghost use Rattle.std.specs.Vec.{vec_len};
 ghost use lib.Chars.{codes};
-ghost use Rattle.dimacs.specs.Commands.{is_refused};
 ghost use Rattle.dimacs.specs.Lines.{fields};
 ghost use Rattle.scripts.specs.ScriptTexts.{as_line, writing_line};
 ghost use Rattle.scripts.specs.ScriptReading.{call_of_numeral, call_read, byte_of_numeral, pick_read, pick_kept, is_in_range, ReadsPicks};
@@ -38,18 +37,11 @@ pub(crate) enum WritingWord {
     Step,
 }
 
-/// Whether a numeral of a script has a minus, or a size above 2^63 - 1.
-pub(crate) fn is_refused(number: Numeral) -> bool
-    ensures { result ≡ is_refused number }
-{
-    number.has_minus || number.is_unreadable()
-}
-
 /// The number of a call, which is at least 1.
 fn call_of(number: Numeral) -> Result<u64, Code>
     ensures { result ≡ call_of_numeral number }
 {
-    if is_refused(number) || number.size == 0 {
+    if number.is_refused() || number.size == 0 {
         return Err(Code::NumberRange);
     }
     Ok(number.size)
@@ -69,7 +61,7 @@ fn read_call(field: &[u8]) -> Option<Result<u64, Code>>
 fn byte_of(number: Numeral) -> Result<Pick, Code>
     ensures { result ≡ byte_of_numeral number }
 {
-    if is_refused(number) || number.size > 255 {
+    if number.is_refused() || number.size > 255 {
         return Err(Code::NumberRange);
     }
     Ok(Pick::Byte(number.size as u8))

@@ -1,21 +1,19 @@
 //! The texts of scripts.
 ghost use Rattle.std.specs.Prelude.{◌≡◌, ◌∷◌, IfSome, vec_items, map};
 ghost use Rattle.dimacs.specs.Lines.{fields};
-ghost use Rattle.dimacs.specs.Reading.{one_numeral, two_numerals};
-ghost use Rattle.dimacs.specs.CommandReading.{number_read, numbers_read};
 ghost use Rattle.dimacs.specs.Texts.{Parses, Reads, map_ok};
 ghost use Rattle.dimacs.specs.Counts.{CountsFailures, IsSameReader, failed_calls, reader_of};
 ghost use Rattle.scripts.specs.ScriptTexts.{as_line, script_text};
 ghost use Rattle.scripts.specs.ScriptReading.{IsKind, spelling, ReadsEvent, ReadsLine};
 
 use crate::script_steps::step_event;
-use crate::script_stops::{is_refused, stop_event};
+use crate::script_stops::stop_event;
 use crate::script_words::{
     Bare, OneNumber, TwoNumbers, Word, bare_event, one_event, two_event, word_of,
 };
 use dimacs::{
-    Code, Counted, Ended, Fault, TakeLines, parse_lines, read_lines, split_field, split_one,
-    split_two,
+    Code, Counted, Ended, Fault, TakeLines, number, parse_lines, read_lines, split_field,
+    two_numbers,
 };
 use disk::Pick;
 use machine::Event;
@@ -46,36 +44,6 @@ fn kind_of(line: &[u8]) -> Kind<'_>
             Some(word) => Kind::Known(word, rest),
             None => Kind::Unknown,
         },
-    }
-}
-
-/// The one number behind a word.
-fn number(rest: &[u8]) -> Result<u64, Code>
-    ensures { result ≡ number_read (one_numeral (fields rest.now)) }
-{
-    match split_one(rest) {
-        None => Err(Code::BadLine),
-        Some(number) => {
-            if is_refused(number) {
-                return Err(Code::NumberRange);
-            }
-            Ok(number.size)
-        }
-    }
-}
-
-/// The two numbers behind a word.
-fn two_numbers(rest: &[u8]) -> Result<(u64, u64), Code>
-    ensures { result ≡ numbers_read (two_numerals (fields rest.now)) }
-{
-    match split_two(rest) {
-        None => Err(Code::BadLine),
-        Some((first, second)) => {
-            if is_refused(first) || is_refused(second) {
-                return Err(Code::NumberRange);
-            }
-            Ok((first.size, second.size))
-        }
     }
 }
 
@@ -128,10 +96,7 @@ fn read_line(alloc: Global, line: &[u8]) -> Result<Option<Event<Pick>>, Code>
 {
     match kind_of(line) {
         Kind::Ignored => Ok(None),
-        Kind::Known(word, rest) => match read_event(alloc, word, rest) {
-            Ok(event) => Ok(Some(event)),
-            Err(code) => Err(code),
-        },
+        Kind::Known(word, rest) => Ok(Some(read_event(alloc, word, rest)?)),
         Kind::Unknown => Err(Code::BadLine),
     }
 }

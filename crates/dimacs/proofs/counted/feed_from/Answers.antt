@@ -13,7 +13,7 @@ pub returns-in-Ok-take-clause-turns : goal.returns-in-Ok-take-clause-turns
 returns-in-Ok-take-clause-turns g c known far =
     let rested = c.fill_buf.follows.lender-at-none in
     let filled = subst (FillKeeps _ (g.R.Read.remaining rested) (g.R.BufRead.consumable_len rested)) c.in-Ok.is c.fill_buf.follows.holds-at-none in
-    far_fed g.T.TakeLines.judge g.T.TakeLines.has_taken g.T.TakeLines.COMMENT known _ _ _ _ c.in-Ok.bytes.now c.args.feed.now c.take.new.self c.in-Ok-take.fed (c.args.feed.now.left - 1 - c.in-Ok-take.fed.taken)
+    far_fed g.T.TakeLines.judge g.T.TakeLines.has_taken g.T.TakeLines.COMMENT known _ _ _ _ c.in-Ok.bytes.now c.args.feed.now c.take.new.self c.in-Ok-take.part (c.args.feed.now.left - 1 - c.in-Ok-take.part.count)
     far c.in-Ok.ensures.front filled.0 filled.1 c.consume.ensures.bytes c.in-Ok-take.ensures.taken c.in-Ok-take.ensures.feeds
 
 pub returns-in-Err-take-clause-turns : goal.returns-in-Err-take-clause-turns

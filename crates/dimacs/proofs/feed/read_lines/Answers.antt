@@ -12,10 +12,10 @@ returns-in-AtEnd-clause-read g c =
     ended_at g.T.TakeLines.judge g.T.TakeLines.has_taken g.T.TakeLines.COMMENT _ _ c.args.until_run c.turn.new.feed c.end.result
     (c.in-AtEnd.ensures.turns _ c.loop-feed.invariant.far) (c.turn.ensures.until ∙ c.loop-feed.invariant.until) c.end.ensures.ends
 
-pub returns-then-fed-clause-read : goal.returns-then-fed-clause-read
-returns-then-fed-clause-read g c =
+pub returns-then-part-clause-read : goal.returns-then-part-clause-read
+returns-then-part-clause-read g c =
     ran_at g.T.TakeLines.judge g.T.TakeLines.has_taken g.T.TakeLines.COMMENT _ _ c.args.until_run c.turn.new.feed c.ended.result
-    (if_so _ _ c.in-Took.fed.at_run (search rules) (c.in-Took.ensures.turns _ c.loop-feed.invariant.far)) (c.turn.ensures.until ∙ c.loop-feed.invariant.until) (search rules) (search rules) (search rules)
+    (if_so _ _ c.in-Took.part.at_run (search rules) (c.in-Took.ensures.turns _ c.loop-feed.invariant.far)) (c.turn.ensures.until ∙ c.loop-feed.invariant.until) (search rules) (search rules) (search rules)
 
 pub returns-in-Refused-clause-read : goal.returns-in-Refused-clause-read
 returns-in-Refused-clause-read g c =

@@ -4,3 +4,4 @@ mod Numbered
 mod Staged
 mod Answered
 mod Bytewise
+mod Served

@@ -5,3 +5,4 @@ pub mod SessionLines
 pub mod Judging
 pub mod Reads
 pub mod Told
+pub mod Turns

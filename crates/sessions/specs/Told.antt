@@ -31,11 +31,16 @@ HasReceipt origin (Some (Settled receipt)) number command =
     (receipt.origin ≡ origin) × (receipt.ticket.number ≡ number) × (receipt.ticket.command ≡ command)
 HasReceipt origin other number command = ⊥
 
--- what a command is told: its number, of which the session has a receipt, or a refusal
-abbrev pub Settles : Origin → Option Accepted → Command → Replied → Type 0
-Settles origin last command (Durable number) = HasReceipt origin last number command
-Settles origin last command (Refused refusal) = ⊤
-Settles origin last command other = ⊥
+-- the last accepted command of the session is this one, which was not settled
+abbrev pub IsUnsettled : Origin → Option Accepted → Command → Type 0
+IsUnsettled origin (Some (Unsettled ticket)) command = (ticket.origin ≡ origin) × (ticket.ticket.command ≡ command)
+IsUnsettled origin other command = ⊥
+
+-- what a command is told: its number, of which the session has a receipt; or a refusal, where it was accepted and not settled, or was not accepted
+abbrev pub Settles : Origin → Option Accepted → Option Accepted → Command → Replied → Type 0
+Settles origin before last command (Durable number) = HasReceipt origin last number command
+Settles origin before last command (Refused refusal) = (last ≡ before) ⊎ IsUnsettled origin last command
+Settles origin before last command other = ⊥
 
 -- the answer is right in the desk's network after these commands, and names the version after them
 pub record AnswersAfter (origin : Origin) (commands : List Command) (query : Query) (answer : Answer) : Type 0 where

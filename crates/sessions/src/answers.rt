@@ -1,16 +1,17 @@
 //! What a session answers, by its desk.
-ghost use Rattle.std.specs.Prelude.{◌≡◌, ◌+◌, [], length, IfOk, IfErr};
+ghost use Rattle.std.specs.Prelude.{◌≡◌, ◌⊎◌, ◌+◌, length, None, IfOk, IfErr, OnOk, OnErr};
 ghost use Rattle.std.specs.Option.{ForSome};
 ghost use mathlib.Core.List.{IsPrefix};
 ghost use Rattle.printing.specs.Counting.{failed_writes, writer_of, IsSameWriter, CountsFailure};
-ghost use Rattle.sessions.specs.Told.{claim_of, HasReceipt, HasShown, AnswersAfter, known_to, Settles, Replies, ShowsLast};
+ghost use Rattle.sessions.specs.Told.{claim_of, HasReceipt, HasShown, AnswersAfter, known_to, IsUnsettled, Settles, Replies, ShowsLast};
+ghost use Rattle.sessions.specs.Turns.{Tells};
 
 use crate::lines::Line;
+use crate::telling::{tell_fault, tell_reply, tell_version};
 use desk::{Desk, Gate, Naming, Reader, Receipt, Shown, Ticket};
-use dimacs::Code;
 use disk::Disk;
 use machine::{Answer, Replied};
-use printing::{CountedWriter, Failed, put_refusal, put_reply, put_version};
+use printing::{CountedWriter, Failed};
 use roadnet::{Command, Refusal};
 use rows::Query;
 use std::alloc::Global;
@@ -43,15 +44,6 @@ pub(crate) struct Session<N: Naming> {
     reader: Option<Reader<N>>,
     last: Option<Accepted>,
     ghost of_desk: { ForSome last (λ accepted. (claim_of accepted).origin ≡ N.origin) },
-}
-
-/// The number of a line's fault.
-fn number_of_fault(code: Code) -> u8 {
-    match code {
-        Code::NumberRange => 5,
-        Code::OutOfMemory => 11,
-        _ => 1,
-    }
 }
 
 /// The reply to a query, from the view that is shown now, with its version. Refused is a view that the reader can't look at (11, 61), and want
@@ -100,9 +92,10 @@ fn version_since<N: Naming>(reader: &mut Reader<N>, shown: &Shown) -> Result<u64
 }
 
 impl<N: Naming + Send + Sync + 'static> Session<N> {
-    /// No command was accepted yet.
+    /// No command was accepted yet, and nothing was seen.
     pub(crate) fn new() -> Session<N>
-        ensures { known_to result.reader ≡ [] }
+        ensures reader { result.reader ≡ None }
+        ensures last { result.last ≡ None }
     {
         Session {
             reader: None,
@@ -135,6 +128,7 @@ impl<N: Naming + Send + Sync + 'static> Session<N> {
         R: Threads + Wait + Copy + Send + Sync + 'static,
     >(&mut self, desk: &Desk<N, D, G, R>, command: Command) -> Result<u64, Refusal>
         ensures receipt { IfOk result (λ number. HasReceipt N.origin self.new.last number command) }
+        ensures refused { OnErr result ((self.new.last ≡ self.old.last) ⊎ IsUnsettled N.origin self.new.last command) }
         ensures reader { self.new.reader ≡ self.old.reader }
     {
         let ticket = desk.submit(command)?;
@@ -157,7 +151,7 @@ impl<N: Naming + Send + Sync + 'static> Session<N> {
         G: Gate + Drop + Send + Sync + 'static,
         R: Threads + Wait + Copy + Send + Sync + 'static,
     >(&mut self, desk: &Desk<N, D, G, R>, command: Command) -> Replied
-        ensures settled { Settles N.origin self.new.last command result }
+        ensures settled { Settles N.origin self.old.last self.new.last command result }
         ensures reader { self.new.reader ≡ self.old.reader }
     {
         match self.settle(desk, command) {
@@ -244,21 +238,19 @@ impl<N: Naming + Send + Sync + 'static> Session<N> {
         line: Line,
         out: &mut CountedWriter<'_, W>,
     ) -> Result<(), Failed>
+        ensures told { OnOk result (Tells N.origin line self.old.last self.new.last (known_to self.new.reader) (W.contents (writer_of out.old)) (W.contents (writer_of out.new))) }
         ensures begins { IsPrefix (known_to self.old.reader) (known_to self.new.reader) }
         ensures refused { IfErr result (λ failed. failed ≡ Failed.Code Refusal.Write) }
         ensures counts { CountsFailure (failed_writes out.old) (failed_writes out.new) result }
         ensures same { IsSameWriter out.old out.new }
     {
         match line {
-            Line::Ignored | Line::Quit => return Ok(()),
-            Line::Command(command) => put_reply(out, &self.carry_out(desk, command))?,
-            Line::Query(query) => put_reply(out, &self.ask(rt, alloc, desk, query))?,
-            Line::Wait => match self.wait(desk) {
-                Ok(version) => put_version(out, version)?,
-                Err(refusal) => put_refusal(out, refusal.number())?,
-            },
-            Line::Refused(code) => put_refusal(out, number_of_fault(code))?,
+            Line::Ignored => Ok(()),
+            Line::Quit => Ok(()),
+            Line::Command(command) => tell_reply(out, &self.carry_out(desk, command)),
+            Line::Query(query) => tell_reply(out, &self.ask(rt, alloc, desk, query)),
+            Line::Wait => tell_version(out, self.wait(desk)),
+            Line::Refused(code) => tell_fault(out, code),
         }
-        out.flush()
     }
 }

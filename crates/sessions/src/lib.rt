@@ -7,6 +7,7 @@ mod letters;
 mod lines;
 mod reading;
 mod serving;
+mod telling;
 mod words;
 
 pub use serving::serve;

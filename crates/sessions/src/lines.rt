@@ -9,6 +9,7 @@ ghost use Rattle.sessions.specs.Spelled.{spelling};
 ghost use Rattle.sessions.specs.Words.{bare_line, one_line, two_line};
 ghost use Rattle.sessions.specs.SessionLines.{IsLine};
 ghost use Rattle.sessions.specs.Judging.{IsStage, IsSoFar};
+ghost use Rattle.sessions.specs.Turns.{is_quit};
 
 use crate::fields::{Field, Numbers, one_of, two_of};
 use crate::letters::Letters;
@@ -29,6 +30,13 @@ pub(crate) enum Line {
     Quit,
     /// It has this fault: 1 BadLine or 5 NumberRange.
     Refused(Code),
+}
+
+/// Whether a line ends the session.
+pub(crate) fn is_quit(line: Line) -> bool
+    ensures { result ≡ is_quit line }
+{
+    matches!(line, Line::Quit)
 }
 
 /// How far a line came, by what it asks for.

@@ -1,12 +1,13 @@
 //! A session with one client.
-ghost use Rattle.std.specs.Prelude.{◌≡◌, IfErr};
-ghost use Rattle.dimacs.specs.Counts.{failed_calls, IsSameReader};
-ghost use Rattle.printing.specs.Counting.{failed_writes, IsSameWriter};
+ghost use Rattle.std.specs.Prelude.{◌≡◌, IfErr, IfSome};
+ghost use Rattle.dimacs.specs.Counts.{failed_calls, reader_of, IsSameReader};
+ghost use Rattle.printing.specs.Counting.{failed_writes, writer_of, IsSameWriter};
 ghost use Rattle.printing.specs.Failing.{CountsWrites};
 ghost use Rattle.sessions.specs.Told.{CountsRead, IsOfStream};
+ghost use Rattle.sessions.specs.Turns.{Serves};
 
 use crate::answers::Session;
-use crate::lines::Line;
+use crate::lines::is_quit;
 use crate::reading::next_line;
 use desk::{Desk, Gate, Naming};
 use dimacs::Counted;
@@ -42,6 +43,7 @@ pub fn serve<
     reader: &mut Counted<'_, I>,
     writer: &mut CountedWriter<'_, W>,
 ) -> Result<(), Failed>
+    ensures answered { IfSome (I.remaining (reader_of reader.old)) (λ text. Serves N.origin text (I.remaining (reader_of reader.new)) (W.contents (writer_of writer.old)) (W.contents (writer_of writer.new)) result) }
     ensures reads { CountsRead (failed_calls reader.old) (failed_calls reader.new) result }
     ensures writes { CountsWrites (failed_writes writer.old) (failed_writes writer.new) result }
     ensures causes { IfErr result IsOfStream }
@@ -51,10 +53,13 @@ pub fn serve<
     let mut session = Session::new();
     for _ in rt.forever() {
         let line = match next_line(rt, reader) {
-            Ok(Some(Line::Quit)) | Ok(None) => return Ok(()),
+            Ok(None) => return Ok(()),
             Ok(Some(line)) => line,
             Err(_) => return Err(Failed::Code(Refusal::Read)),
         };
+        if is_quit(line) {
+            return Ok(());
+        }
         if let Err(failed) = session.answer(rt, alloc, desk, line, writer) {
             return Err(failed);
         }

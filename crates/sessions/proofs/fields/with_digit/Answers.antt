@@ -1,4 +1,4 @@
-use Rattle.std.proofs.Common.{rules, arith}
+use Rattle.std.proofs.Common.{rules}
 use Rattle.sessions.proofs.Numbered.{number_of_digits, other_byte}
 use Rattle.sessions.proofs.fields.with_digit.Goals as goal
 

@@ -22,7 +22,7 @@ while IFS=, read -r from to seconds; do
     echo "$from to $to: no such road" >&2
     continue
   fi
-  length=$(awk -v seconds="$seconds" 'BEGIN { printf "%d", seconds * 10 + 0.5 }')
+  length=$(awk -v seconds="$seconds" 'BEGIN { printf "%.0f", seconds * 10 }')
   for arc in ${arcs[$from,$to]}; do
     printf 'set %s %s\n' "$arc" "$length" >&"$to_server"
     IFS= read -r answer <&"$from_server"

@@ -7,14 +7,16 @@ import math
 import pathlib
 
 FOLDER = pathlib.Path(__file__).resolve().parent
-LEFT, WIDTH, TOP, LINE = 190, 560, 70, 18
+LEFT, WIDTH, TOP, LINE = 290, 540, 70, 18
+NAMES = 190
 LEAST, MOST = 0.1, 10.0
 PEERS = ("Boost", "4-ary heap", "smart", "delta")
 
-STYLE = """text { fill: #1b1f24 } .small { font-size: 11.5px } .grid { stroke: #d0d7de } .even { stroke: #57606a; stroke-width: 1.5 }
+STYLE = """.ground { fill: #ffffff }
+    text { fill: #1b1f24 } .small { font-size: 11.5px } .grid { stroke: #d0d7de } .even { stroke: #57606a; stroke-width: 1.5 }
     .peer0 { fill: #0969da } .peer1 { fill: #1a7f37 } .peer2 { fill: #bc4c00 } .peer3 { fill: #8250df }
     @media (prefers-color-scheme: dark) {
-      text { fill: #e6edf3 } .grid { stroke: #3d444d } .even { stroke: #9198a1 }
+      .ground { fill: #0d1117 } text { fill: #e6edf3 } .grid { stroke: #3d444d } .even { stroke: #9198a1 }
       .peer0 { fill: #4493f8 } .peer1 { fill: #3fb950 } .peer2 { fill: #f0883e } .peer3 { fill: #ab7df8 }
     }"""
 
@@ -40,7 +42,7 @@ def drawing(networks):
     height = TOP + sum(LINE * len(peers) + 12 for peers in networks.values()) + 34
     title = "The processor time of one row, ours to each peer's"
     yield f'<svg xmlns="http://www.w3.org/2000/svg" viewBox="0 0 860 {height}" font-family="sans-serif" font-size="13" role="img" aria-labelledby="title">'
-    yield f"  <title id=\"title\">{title}</title>\n  <style>\n    {STYLE}\n  </style>"
+    yield f"  <title id=\"title\">{title}</title>\n  <style>\n    {STYLE}\n  </style>\n  <rect class=\"ground\" width=\"100%\" height=\"100%\"/>"
     yield f'  <text x="20" y="26" font-size="15" font-weight="bold">{title}</text>'
     yield '  <text class="small" x="20" y="46">left of 1 we take less. A dot where runs agreed, else the span from the least to the greatest</text>'
     for ratio in (0.1, 0.2, 0.5, 1, 2, 5, 10):
@@ -49,11 +51,11 @@ def drawing(networks):
         yield f'  <text class="small" x="{place(ratio)}" y="{height - 14}" text-anchor="middle">{ratio:g}</text>'
     y = TOP
     for network, peers in networks.items():
-        yield f'  <text x="20" y="{y + 13}">{network}</text>'
+        yield f'  <text x="20" y="{y + 12}">{network}</text>'
         for peer, low, high in peers:
             kind, left, right = PEERS.index(peer), place(low) - 4, place(high) + 4
             yield f'  <rect class="peer{kind}" x="{left:.1f}" y="{y + 4}" width="{right - left:.1f}" height="8" rx="4"/>'
-            yield f'  <text class="small" x="{right + 6:.1f}" y="{y + 12}">{peer}</text>'
+            yield f'  <text class="small" x="{NAMES}" y="{y + 12}">{peer}</text>'
             y += LINE
         y += 12
     yield "</svg>"

@@ -1,0 +1,62 @@
+#!/usr/bin/env bash
+# Runs every tour of README.md, docs/PROGRAM.md and the man page with the built program, and compares what is printed with what stands there.
+#   examples/tour.sh [PROGRAM]
+# A tour is a code block, four blanks wide, whose first line begins with `$ `. Such a line is run, and the lines behind it are what it prints on both streams. Each heading
+# `## ` begins in a new folder with the examples and the program as ./roadmark. Then the words and options of help are compared with those of the man page.
+set -u
+top=$(cd "$(dirname "${BASH_SOURCE[0]}")/.." && pwd)
+program=$(realpath "${1:-$top/crates/roadmark/out/roadmark}")
+work=$(mktemp -d)
+trap 'rm -rf "$work"' EXIT
+
+# Writes the steps of the page on standard input: WORK/NAME.SECTION/STEP.command and STEP.wanted.
+split_page() {
+  awk -v prefix="$work/$1" '
+    /^## / { section++ }
+    !/^    / { inside = 0; next }
+    /^    \$ / {
+      inside = 1
+      folder = sprintf("%s.%02d", prefix, section)
+      if (!(folder in made)) { system("mkdir -p " folder "/run"); made[folder] }
+      step = sprintf("%s/%02d", folder, ++count[folder])
+      print substr($0, 7) > (step ".command")
+      printf "" > (step ".wanted")
+      next
+    }
+    inside { print substr($0, 5) > (step ".wanted") }'
+}
+
+# Runs the steps of a folder in one shell, each with its own output.
+run_steps() {
+  local folder=$1 step
+  cp -r "$top/examples" "$folder/run/examples"
+  ln -s "$program" "$folder/run/roadmark"
+  for step in "$folder"/*.command; do
+    printf '{\n%s\n} > %s.seen 2>&1\n' "$(cat "$step")" "${step%.command}"
+  done > "$folder/script"
+  (cd "$folder/run" && PATH=$PWD:$PATH timeout 300 bash "$folder/script" < /dev/null > /dev/null 2>&1)
+}
+
+split_page readme < "$top/README.md"
+split_page manual < "$top/docs/PROGRAM.md"
+sed -n '/^\.SH EXAMPLES/,/^\.fi/ { /^\./d; s/\\e/\\/g; s/^/    /; p }' "$top/docs/roadmark.1" | split_page man
+
+steps=0
+wrong=0
+for folder in "$work"/*/; do
+  folder=${folder%/}
+  run_steps "$folder"
+  for step in "$folder"/*.command; do
+    steps=$((steps + 1))
+    if ! diff "${step%.command}.wanted" "${step%.command}.seen" > "$work/difference" 2>&1; then
+      wrong=$((wrong + 1))
+      echo "$(basename "$folder"): $(cat "$step")"
+      sed 's/^/    /' "$work/difference"
+    fi
+  done
+done
+echo "$steps commands of the tours, $wrong with another output"
+
+"$top/docs/compare_help.sh" "$program" || wrong=$((wrong + 1))
+"$top/docs/compare_clauses.py" || wrong=$((wrong + 1))
+[ "$wrong" = 0 ]

@@ -29,6 +29,8 @@ pub use readers::Reader;
 #[cfg(test)]
 mod ending_tests;
 #[cfg(test)]
+mod failing_tests;
+#[cfg(test)]
 mod holding_tests;
 #[cfg(test)]
 mod tests;

@@ -1,6 +1,6 @@
--- An office may go to another thread, as its disk may.
+-- An office may go to another thread, as its disk may; and then threads may share a handle.
 use denote.RattleType.{RattleType}
-use denote.Param.Send.{IsSend, sendable, view_send}
+use denote.Param.Send.{IsSend, IsSync, sendable, view_send}
 use Rattle.std.proofs.Crossing.{crosses}
 use Rattle.disk.specs.declared.disk.Disk.{Ghosts as DiskGhosts}
 use Rattle.office.specs.declared.naming.Naming.{Ghosts as NamingGhosts}
@@ -19,6 +19,9 @@ use Rattle.keeper.specs.contracts.keepers.Keeper as Keeper
 use Rattle.keeper.specs.contracts.keepers.Keeper.TheInside as KeeperInside
 use Rattle.office.specs.contracts.offices.Office as Office
 use Rattle.office.specs.contracts.offices.Office.TheInside as OfficeInside
+use Rattle.desk.specs.contracts.locked.Locked as Locked
+use Rattle.desk.specs.contracts.shared.Shared as Shared
+use Rattle.desk.specs.contracts.handles.Handle as Handle
 
 ruleset pages = (Pages.the_field_send)
 
@@ -51,3 +54,17 @@ office_inside N n D d t s = search (held, sendable, crosses) depth 20
 
 pub office_send : (N : RattleType) (n : NamingGhosts N.Denot) (D : RattleType) (d : DiskGhosts D.Denot) → IsSend N → IsSend D → IsSend (Office.the_row N D n d)
 office_send N n D d t s = view_send _ _ _ _ _ (office_inside N n D d t s)
+
+locked_send : (O : RattleType) → IsSend O → IsSend (Locked.the_row O)
+locked_send O s = search (sendable, crosses) depth 20
+
+shared_send : (O G : RattleType) → IsSend O → IsSend G → IsSend (Shared.the_row O G)
+shared_send O G s t = search (locked_send, sendable, crosses) depth 20
+
+shared_sync : (O G : RattleType) → IsSend O → IsSync G → IsSync (Shared.the_row O G)
+shared_sync O G s y = search (locked_send, sendable, crosses) depth 20
+
+ruleset shared = (office_send, shared_send, shared_sync)
+
+pub handle_sync : (N : RattleType) (n : NamingGhosts N.Denot) (D : RattleType) (d : DiskGhosts D.Denot) (G R : RattleType) → IsSend N → IsSend D → IsSend G → IsSync G → IsSync R → IsSync (Handle.the_row N D G R n d)
+handle_sync N n D d G R s t u v w = search (shared, sendable, crosses) depth 20

@@ -1,7 +1,7 @@
 -- What the threads of a desk are to do, and who has to wait, by the machine's numbers.
-use Rattle.std.specs.Prelude.{ℕ, ◌*◌, ◌+◌, Bool, true, false, ◌&&◌, not, if◌then◌else◌, nat_le, nat_lt, ◌==◌, min}
+use Rattle.std.specs.Prelude.{◌≡◌, ◌⊎◌, ℕ, ◌*◌, ◌+◌, Bool, true, false, ◌&&◌, not, if◌then◌else◌, nat_le, nat_lt, ◌==◌, min}
 use Rattle.roadnet.specs.declared.refusals.Refusal.{Refusal}
-use Rattle.roadnet.specs.declared.refusals.Refusal.TheVariants.{OutOfMemory, Device, Broken}
+use Rattle.roadnet.specs.declared.refusals.Refusal.TheVariants.{OutOfMemory, Device, Broken, Closed}
 use Rattle.machine.specs.Machine.{Machine, pending}
 use Rattle.desk.specs.declared.attempts.Attempt.{Attempt}
 use Rattle.desk.specs.declared.attempts.Attempt.TheVariants.{Done, NoMemory, Failed}
@@ -58,3 +58,7 @@ is_lost m number = nat_lt m.durable number && m.broken
 -- Who waits for a view with this number's command goes on waiting: none is shown, and one may still be.
 abbrev pub is_unseen : Machine → Bool → ℕ → Bool
 is_unseen m builder_ended number = nat_lt m.shown number && (not (is_lost m number) && not builder_ended)
+
+-- for what one who waited is refused: the store broke, or the thread that was waited for has ended
+abbrev pub IsUnserved : Refusal → Type 0
+IsUnserved refusal = (refusal ≡ Broken) ⊎ (refusal ≡ Closed)

@@ -5,6 +5,8 @@ ghost use Rattle.store.specs.State.{CameTidy, is_calm};
 ghost use Rattle.machine.specs.Laws.{IsAt};
 ghost use Rattle.office.specs.Left.{KeepsDesk};
 ghost use Rattle.desk.specs.Openings.{IsNewDesk};
+ghost use Rattle.desk.specs.Readings.{IsNoReader};
+ghost use Rattle.desk.specs.Turns.{IsUnserved};
 
 use crate::building::build_views;
 use crate::flushing::flush_pending;
@@ -122,6 +124,7 @@ impl<
         requires { ticket.origin ≡ N.origin }
         ensures receipt { IfOk result (λ receipt. receipt ≡ ticket) }
         ensures handed_back { IfErr result (λ refused. refused.1 ≡ ticket) }
+        ensures causes { IfErr result (λ refused. IsUnserved refused.0) }
     {
         self.handle.settle(ticket)
     }
@@ -133,6 +136,7 @@ impl<
         requires { ticket.now.origin ≡ N.origin }
         ensures origin { IfOk result (λ shown. shown.origin ≡ N.origin) }
         ensures there { IfOk result (λ shown. IsAt N.origin.version shown.commands ticket.now.ticket) }
+        ensures causes { IfErr result IsUnserved }
     {
         self.handle.wait_shown(ticket)
     }
@@ -140,8 +144,10 @@ impl<
     /// A reader of the views that are shown.
     ///
     /// Refused is a place for it that is not found (60): there are 64, and while readers come and go a free one may be missed. Then want of
-    /// memory (11).
-    pub fn reader(&self) -> Result<Reader<N>, Refusal> {
+    /// memory (11), and a copy that can't be entered (61), which doesn't come while there is the desk.
+    pub fn reader(&self) -> Result<Reader<N>, Refusal>
+        ensures causes { IfErr result IsNoReader }
+    {
         self.handle.reader()
     }
 

@@ -2,6 +2,8 @@
 ghost use Rattle.std.specs.Prelude.{◌≡◌, ℕ, List, IfOk, IfErr};
 ghost use Rattle.machine.specs.Laws.{IsAt};
 ghost use Rattle.office.specs.Left.{KeepsDesk};
+ghost use Rattle.desk.specs.Readings.{IsNoReader};
+ghost use Rattle.desk.specs.Turns.{IsUnserved};
 
 use crate::gates::Gate;
 use crate::readers::Reader;
@@ -41,6 +43,7 @@ impl<N: Naming, D: Disk + Drop, G: Gate + Drop, R: Wait + Copy> Handle<N, D, G, 
         requires { ticket.origin ≡ N.origin }
         ensures receipt { IfOk result (λ receipt. receipt ≡ ticket) }
         ensures handed_back { IfErr result (λ refused. refused.1 ≡ ticket) }
+        ensures causes { IfErr result (λ refused. IsUnserved refused.0) }
     {
         self.shared.settle(&self.rt, ticket)
     }
@@ -52,6 +55,7 @@ impl<N: Naming, D: Disk + Drop, G: Gate + Drop, R: Wait + Copy> Handle<N, D, G, 
         requires { ticket.now.origin ≡ N.origin }
         ensures origin { IfOk result (λ shown. shown.origin ≡ N.origin) }
         ensures there { IfOk result (λ shown. IsAt N.origin.version shown.commands ticket.now.ticket) }
+        ensures causes { IfErr result IsUnserved }
     {
         self.shared.wait_shown(&self.rt, ticket)
     }
@@ -59,8 +63,10 @@ impl<N: Naming, D: Disk + Drop, G: Gate + Drop, R: Wait + Copy> Handle<N, D, G, 
     /// A reader of the views that are shown.
     ///
     /// Refused is a place for it that is not found (60): there are 64, and while readers come and go a free one may be missed. Then want of
-    /// memory (11).
-    pub fn reader(&self) -> Result<Reader<N>, Refusal> {
+    /// memory (11), and a copy that can't be entered (61), which doesn't come while there is the desk.
+    pub fn reader(&self) -> Result<Reader<N>, Refusal>
+        ensures causes { IfErr result IsNoReader }
+    {
         let reader = self.shared.reader(&self.rt)?;
         Reader::new(self.alloc, reader)
     }

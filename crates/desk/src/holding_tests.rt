@@ -3,10 +3,12 @@ ghost use Rattle.std.specs.Prelude.{◌≡◌, true, IfOk};
 ghost use Rattle.store.specs.State.{CameTidy, is_calm};
 ghost use Rattle.desk.specs.Openings.{IsNewDesk};
 
-use crate::tests::{CLOSE, SHORTER, ended, seen, settled, settled_number, setup, store_of_six};
+use crate::tests::{
+    CLOSE, SHORTER, ended, refusal_of, seen, settled, settled_number, setup, store_of_six,
+};
 use crate::{Desk, Gate, History, Naming, Reader, Receipt, Ticket};
 use disk::Disk;
-use roadnet::Refusal;
+use roadnet::{Command, Refusal};
 use rows::Reply;
 use std::alloc::Global;
 use std::marker::Brand;
@@ -398,6 +400,120 @@ fn steps_hold_up_nobody(rt: HostRuntime) -> Result<(), Fail> {
     let history = History::new(store.network(), store.version());
     let told = submit_beside_a_step::<Brand, _, _, _>(rt, alloc, history, store, &signals, gate)?;
     assert_eq!(rt; told, ((1, 2), 2));
+    assert!(rt; !signals.expired.load(Ordering::SeqCst));
+    Ok(())
+}
+
+/// Whether the desk refuses each of these commands so.
+fn are_refused<
+    N: Naming + Send + Sync + 'static,
+    D: Disk + Drop + Send + 'static,
+    G: Gate + Drop + Send + Sync + 'static,
+    R: Threads + Wait + Copy + Send + Sync + 'static,
+>(desk: &Desk<N, D, G, R>, table: &[(Command, Refusal)]) -> bool {
+    for (command, refusal) in table {
+        if refusal_of(desk.submit(*command)) != Err(*refusal) {
+            return false;
+        }
+    }
+    true
+}
+
+/// Submits so many commands.
+fn fill<
+    N: Naming + Send + Sync + 'static,
+    D: Disk + Drop + Send + 'static,
+    G: Gate + Drop + Send + Sync + 'static,
+    R: Threads + Wait + Copy + Send + Sync + 'static,
+>(desk: &Desk<N, D, G, R>, count: u32) -> Result<(), Refusal> {
+    for _ in 0..count {
+        desk.submit(SHORTER)?;
+    }
+    Ok(())
+}
+
+/// Whether a queue of 4,096 commands takes one more. The flusher may go on behind that.
+fn fill_and_ask<
+    N: Naming + Send + Sync + 'static,
+    D: Disk + Drop + Send + 'static,
+    G: Gate + Drop + Send + Sync + 'static,
+    R: Threads + Wait + Copy + Send + Sync + 'static,
+>(desk: &Desk<N, D, G, R>, signals: &Signals) -> Result<bool, Refusal> {
+    fill(desk, 4095)?;
+    let is_full = are_refused(desk, &[(SHORTER, Refusal::QueueFull)]);
+    signals.submitted.store(true, Ordering::SeqCst);
+    Ok(is_full)
+}
+
+/// Whether commands are refused that the network doesn't take, and then one more than may be pending.
+fn refuse_all<
+    N: Naming + Send + Sync + 'static,
+    D: Disk + Drop + Send + 'static,
+    G: Gate + Drop + Send + Sync + 'static,
+    R: Threads + Wait + Copy + Send + Sync + 'static,
+>(
+    desk: &Desk<N, D, G, R>,
+    signals: &Signals,
+    table: &[(Command, Refusal)],
+) -> Result<(bool, bool), Refusal> {
+    desk.submit(CLOSE)?;
+    let refused = are_refused(desk, table);
+    Ok((refused, fill_and_ask(desk, signals)?))
+}
+
+/// The same of a desk whose flusher is held at first.
+fn fill_the_queue<
+    N: Naming + Send + Sync + 'static,
+    D: Disk + Drop + Send + 'static,
+    G: Gate + Drop + Send + Sync + 'static,
+    R: Threads + Wait + Copy + Send + Sync + 'static,
+>(
+    rt: R,
+    alloc: Global,
+    history: History,
+    store: Store<D>,
+    signals: &Signals,
+    gate: G,
+    table: &[(Command, Refusal)],
+) -> Result<((bool, bool), usize), Refusal>
+    requires calm { is_calm store ≡ true }
+    requires new { IsNewDesk N.origin history store }
+    requires came_tidy { N.came_tidy → CameTidy D.honest D.content store.given }
+{
+    let desk: Desk<N, D, G, R> = Desk::start(rt, alloc, history, store, gate, setup(1))?;
+    let told = refuse_all(&desk, signals, table);
+    ended(desk, told)
+}
+
+#[test]
+fn submit_refuses_as_the_keeper(rt: HostRuntime) -> Result<(), Fail> {
+    let alloc = rt.alloc();
+    let signals = Arc::new(alloc, Signals::new())?;
+    let gate = Held {
+        rt,
+        signals: Arc::try_clone(&signals)?,
+    };
+    signals.second_called.store(true, Ordering::SeqCst);
+    signals.released.store(true, Ordering::SeqCst);
+    let store = store_of_six(alloc, &[3], 64)?;
+    let history = History::new(store.network(), store.version());
+    let table = [
+        (Command::Close { arc: 9 }, Refusal::NoSuchArc),
+        (
+            Command::Set {
+                arc: 1,
+                length: 2147483648,
+            },
+            Refusal::LengthRange,
+        ),
+        (CLOSE, Refusal::AlreadyClosed),
+        (Command::Reopen { arc: 1 }, Refusal::AlreadyOpen),
+        (Command::Mark { node: 7 }, Refusal::NoSuchNode),
+        (Command::Mark { node: 3 }, Refusal::AlreadyLandmark),
+        (Command::Unmark { node: 1 }, Refusal::NotALandmark),
+    ];
+    let told = fill_the_queue::<Brand, _, _, _>(rt, alloc, history, store, &signals, gate, &table)?;
+    assert_eq!(rt; told, ((true, true), 4096));
     assert!(rt; !signals.expired.load(Ordering::SeqCst));
     Ok(())
 }

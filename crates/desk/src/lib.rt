@@ -27,7 +27,11 @@ pub use published::Shown;
 pub use readers::Reader;
 
 #[cfg(test)]
+mod crowd_tests;
+#[cfg(test)]
 mod ending_tests;
+#[cfg(test)]
+mod failing_tests;
 #[cfg(test)]
 mod holding_tests;
 #[cfg(test)]

@@ -2,7 +2,7 @@
 ghost use Rattle.std.specs.Prelude.{◌≡◌, ◌≢◌, ◌≤◌, ◌<◌, ◌*◌, false, true, IfOk, IfErr, OnOk};
 ghost use Rattle.roadnet.specs.declared.refusals.Refusal.TheVariants.{Closed as closed, Broken as broken};
 ghost use Rattle.machine.specs.Laws.{IsAt};
-ghost use Rattle.desk.specs.Turns.{is_checkpoint_due, flusher_turn_of, builder_turn_of, is_unsettled, is_lost, is_unseen};
+ghost use Rattle.desk.specs.Turns.{is_checkpoint_due, flusher_turn_of, builder_turn_of, is_unsettled, is_lost, is_unseen, IsUnserved};
 
 use disk::Disk;
 use office::{Naming, Office, Receipt, Ticket};
@@ -132,6 +132,7 @@ impl<N: Naming, D: Disk> Locked<Office<N, D>> {
         ensures durable { OnOk result (ticket.ticket.number ≤ self.old.office.machine.durable) }
         ensures refused { IfErr result (λ refused. refused.0 ≢ closed → (refused.0 ≡ broken) × (self.old.office.machine.broken ≡ true)) }
         ensures handed_back { IfErr result (λ refused. refused.1 ≡ ticket) }
+        ensures causes { IfErr result (λ refused. IsUnserved refused.0) }
         ensures same { self.new.office ≡ self.old.office }
     {
         match self.office.receipt(ticket) {
@@ -150,6 +151,7 @@ impl<N: Naming, D: Disk> Locked<Office<N, D>> {
         ensures there { IfOk result (λ shown. IsAt N.origin.version shown.commands ticket.now.ticket) }
         ensures refused { IfErr result (λ _. self.now.office.machine.shown < ticket.now.ticket.number) }
         ensures lost { IfErr result (λ refusal. refusal ≢ closed → (refusal ≡ broken) × (is_lost self.now.office.machine ticket.now.ticket.number ≡ true)) }
+        ensures causes { IfErr result IsUnserved }
         ensures ended { IfErr result (λ refusal. refusal ≡ closed → is_lost self.now.office.machine ticket.now.ticket.number ≡ false) }
     {
         match self.office.shown_since(ticket) {

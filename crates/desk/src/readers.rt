@@ -1,8 +1,9 @@
-ghost use Rattle.std.specs.Prelude.{◌≡◌, ◌⊎◌, OnErr, IfOk};
+ghost use Rattle.std.specs.Prelude.{◌≡◌, ◌⊎◌, OnErr, IfOk, IfErr};
 ghost use mathlib.Core.List.{IsPrefix};
 ghost use Rattle.rows.specs.declared.queries.Query.TheVariants.{Dist};
 ghost use Rattle.rows.specs.Replies.{IsRight};
 ghost use Rattle.rows.specs.Views.{AreRight};
+ghost use Rattle.published.specs.Showing.{IsUnseen};
 ghost use Rattle.desk.specs.Readings.{Reading, IsViewAfter};
 
 use crate::pins::Pinned;
@@ -39,6 +40,7 @@ impl<N: Naming> Reader<N> {
     /// A reader that looks for the first time.
     pub(crate) fn new(alloc: Global, mut reader: published::Reader) -> Result<Reader<N>, Refusal>
         requires { reader.origin ≡ N.origin }
+        ensures causes { IfErr result IsUnseen }
     {
         let view = reader.look()?;
         Ok(Reader {
@@ -56,6 +58,7 @@ impl<N: Naming> Reader<N> {
         ensures view { IfOk result (λ _. IsViewAfter N.origin self.new.known.commands self.new.view) }
         ensures begins { IsPrefix self.old.known.commands self.new.known.commands }
         ensures refused { OnErr result (self.new ≡ self.old) }
+        ensures causes { IfErr result IsUnseen }
     {
         let view = self.reader.look()?;
         self.sight.look_at(view);
@@ -75,6 +78,7 @@ impl<N: Naming> Reader<N> {
         ensures view { IfOk result (λ pinned. IsViewAfter N.origin pinned.reader.now.known.commands pinned.reader.now.view) }
         ensures begins { IfOk result (λ pinned. IsPrefix self.old.known.commands pinned.reader.now.known.commands) }
         ensures same { IfOk result (λ pinned. pinned.reader.ghost_name ≡ self.entry.ghost_name) }
+        ensures causes { IfErr result IsUnseen }
     {
         self.look()?;
         Ok(self.pinned())

@@ -1,6 +1,8 @@
 // What the threads of a desk and its callers share.
 ghost use Rattle.std.specs.Prelude.{◌≡◌, IfOk, IfErr};
+ghost use Rattle.roadnet.specs.declared.refusals.Refusal.TheVariants.{NoReaderPlace as no_reader_place};
 ghost use Rattle.machine.specs.Laws.{IsAt};
+ghost use Rattle.desk.specs.Turns.{IsUnserved};
 
 use crate::gates::Gate;
 use crate::locked::{BuilderTurn, FlusherTurn, Locked};
@@ -74,6 +76,7 @@ impl<N: Naming, D: Disk + Drop, G: Gate + Drop> Shared<Office<N, D>, G> {
         requires { ticket.origin ≡ N.origin }
         ensures receipt { IfOk result (λ receipt. receipt ≡ ticket) }
         ensures handed_back { IfErr result (λ refused. refused.1 ≡ ticket) }
+        ensures causes { IfErr result (λ refused. IsUnserved refused.0) }
     {
         let number = ticket.ticket().number;
         let mut guard = self.flushed.wait_while(
@@ -89,6 +92,7 @@ impl<N: Naming, D: Disk + Drop, G: Gate + Drop> Shared<Office<N, D>, G> {
         requires { ticket.now.origin ≡ N.origin }
         ensures origin { IfOk result (λ shown. shown.origin ≡ N.origin) }
         ensures there { IfOk result (λ shown. IsAt N.origin.version shown.commands ticket.now.ticket) }
+        ensures causes { IfErr result IsUnserved }
     {
         let number = ticket.ticket().number;
         let guard = self.published.wait_while(
@@ -101,7 +105,8 @@ impl<N: Naming, D: Disk + Drop, G: Gate + Drop> Shared<Office<N, D>, G> {
 
     /// A reader of the readers' copy.
     pub(crate) fn reader<R: Wait>(&self, rt: &R) -> Result<Reader, Refusal>
-        ensures { IfOk result (λ reader. reader.origin ≡ N.origin) }
+        ensures origin { IfOk result (λ reader. reader.origin ≡ N.origin) }
+        ensures causes { IfErr result (λ refusal. refusal ≡ no_reader_place) }
     {
         self.locked.lock(rt).office.reader()
     }

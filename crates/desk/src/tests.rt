@@ -19,7 +19,7 @@ pub(crate) const CLOSE: Command = Command::Close { arc: 7 };
 pub(crate) const SHORTER: Command = Command::Set { arc: 8, length: 4 };
 
 /// The network of the worked rows: six nodes and eight arcs.
-fn six(alloc: Global, landmarks: &[u32]) -> Result<Network, Refusal> {
+pub(crate) fn six(alloc: Global, landmarks: &[u32]) -> Result<Network, Refusal> {
     let table = [
         (1, 2, 17),
         (1, 3, 10),
@@ -471,5 +471,61 @@ fn builder_ends_after_three_misses(rt: HostRuntime) -> Result<(), Fail> {
     let gate = short_gate([true; 3], [false; 3], [true; 3]);
     let told = try_one::<Brand, _, _, _>(rt, alloc, history, store, gate)?;
     assert_eq!(rt; told, ((Ok(1), Err(Refusal::Closed)), 1));
+    Ok(())
+}
+
+/// Whether the next command is settled as this number.
+fn is_settled_as<
+    N: Naming + Send + Sync + 'static,
+    D: Disk + Drop + Send + 'static,
+    R: Threads + Wait + Copy + Send + Sync + 'static,
+>(desk: &Desk<N, D, NoGate, R>, number: u64) -> Result<bool, Refusal> {
+    let receipt = settled(desk, SHORTER)?;
+    Ok(receipt.ticket().ticket().number == number)
+}
+
+/// So many commands, each settled before the next. Whether their numbers come one after the other.
+fn settle_in_order<
+    N: Naming + Send + Sync + 'static,
+    D: Disk + Drop + Send + 'static,
+    R: Threads + Wait + Copy + Send + Sync + 'static,
+>(desk: &Desk<N, D, NoGate, R>, count: u64) -> Result<bool, Refusal> {
+    for number in 0..count {
+        if !is_settled_as(desk, number + 1)? {
+            return Ok(false);
+        }
+    }
+    Ok(true)
+}
+
+/// Whether their numbers do, and how many the desk had when it was closed.
+fn settle_many<
+    N: Naming + Send + Sync + 'static,
+    D: Disk + Drop + Send + 'static,
+    R: Threads + Wait + Copy + Send + Sync + 'static,
+>(
+    rt: R,
+    alloc: Global,
+    history: History,
+    store: Store<D>,
+    count: u64,
+) -> Result<(bool, usize), Refusal>
+    requires calm { is_calm store ≡ true }
+    requires new { IsNewDesk N.origin history store }
+    requires came_tidy { N.came_tidy → CameTidy D.honest D.content store.given }
+{
+    let desk: Desk<N, D, NoGate, R> = Desk::start(rt, alloc, history, store, NoGate, setup(1))?;
+    let told = settle_in_order(&desk, count);
+    ended(desk, told)
+}
+
+#[test]
+fn checkpoints_free_the_journal(rt: HostRuntime) -> Result<(), Fail> {
+    let alloc = rt.alloc();
+    // Each flush takes one of two pages of the journal.
+    let store = store_of_six(alloc, &[], 2)?;
+    let history = History::new(store.network(), store.version());
+    let told = settle_many::<Brand, _, _>(rt, alloc, history, store, 20)?;
+    assert_eq!(rt; told, (true, 20));
     Ok(())
 }

@@ -7,7 +7,7 @@ use Rattle.clap.specs.declared.parser.matches.Found.{Found}
 use Rattle.clap.specs.Words.{first_value, one_text}
 use Rattle.rows.specs.Kept.{IsWidth}
 use Rattle.roadmark.specs.declared.words.Job.{Job}
-use Rattle.roadmark.specs.declared.words.Job.TheVariants.{Joint, Once, Batch, Rehearse, Create, Apply, Ask, Serve}
+use Rattle.roadmark.specs.declared.words.Job.TheVariants.{Joint, Once, Batch, Rehearse, Create, Apply, Ask, Check, Serve}
 use Rattle.roadmark.specs.declared.words.Usage.{Usage}
 
 -- the width of the search's buckets that they give, if any
@@ -19,6 +19,7 @@ delta_of (Rehearse network script journal_pages delta) = delta
 delta_of (Create store network landmarks journal_pages) = None
 delta_of (Apply store commands delta) = delta
 delta_of (Ask store pairs delta) = delta
+delta_of (Check store) = None
 delta_of (Serve store delta workers) = delta
 
 -- the pages of the store's journal, where it makes a store
@@ -30,6 +31,7 @@ journal_of (Rehearse network script journal_pages delta) = Some journal_pages
 journal_of (Create store network landmarks journal_pages) = Some journal_pages
 journal_of (Apply store commands delta) = None
 journal_of (Ask store pairs delta) = None
+journal_of (Check store) = None
 journal_of (Serve store delta workers) = None
 
 -- the row workers of its desk, where it has one
@@ -41,6 +43,7 @@ workers_of (Rehearse network script journal_pages delta) = None
 workers_of (Create store network landmarks journal_pages) = None
 workers_of (Apply store commands delta) = None
 workers_of (Ask store pairs delta) = None
+workers_of (Check store) = None
 workers_of (Serve store delta workers) = Some workers
 
 -- a number of journal pages
@@ -60,6 +63,7 @@ subcommand_of (Rehearse network script journal_pages delta) = Some (codes "rehea
 subcommand_of (Create store network landmarks journal_pages) = Some (codes "create")
 subcommand_of (Apply store commands delta) = Some (codes "apply")
 subcommand_of (Ask store pairs delta) = Some (codes "ask")
+subcommand_of (Check store) = Some (codes "check")
 subcommand_of (Serve store delta workers) = Some (codes "serve")
 
 -- this word is a numeral of this number
@@ -127,6 +131,12 @@ GivesAsk found (Some (Ask store pairs delta)) =
     (first_value found (codes "STORE") ≡ Some store.now) × (first_value found (codes "P2P") ≡ Some pairs.now)
     × Gives found (codes "delta") IsWidth delta
 GivesAsk found (Some job) = ⊥
+
+-- the words of `check` give this job, or a word is missing
+abbrev pub GivesCheck : Found → Option Job → Type 0
+GivesCheck found None = first_value found (codes "STORE") ≡ None
+GivesCheck found (Some (Check store)) = first_value found (codes "STORE") ≡ Some store.now
+GivesCheck found (Some job) = ⊥
 
 -- the row workers that the words give; 4 where they give none
 abbrev pub GivesWorkers : Found → ℕ → Type 0

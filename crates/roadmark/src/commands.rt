@@ -38,6 +38,8 @@ pub const APPLY: &str = "apply";
 
 pub const ASK: &str = "ask";
 
+pub const CHECK: &str = "check";
+
 pub const SERVE: &str = "serve";
 
 const ABOUT: &str =
@@ -64,6 +66,9 @@ const ABOUT_APPLY: &str =
 
 const ABOUT_ASK: &str =
     "Answers the pairs of the file P2P in the network of the store in the file STORE, which stays as it is: the line `v V`, V the store's version, then one line a pair, in their order: `d S T LENGTH`, or `x S T` where no walk leads there.";
+
+const ABOUT_CHECK: &str =
+    "Looks at the store in the file STORE, which stays as it is, and tells how it stands: `v V`, its version; `slot A E` or `slot B E`, the slot that holds its last checkpoint, and that slot's epoch, which rises by one with each checkpoint; `journal U`, how many pages of the journal stand behind that checkpoint. The whole file is judged first: where a page is damaged, the fault line names its number, and the status is 1.";
 
 const ABOUT_SERVE: &str =
     "Serves the store in the file STORE to one client, on standard input and output: it reads a line, carries it out, prints its answer, and then reads the next, until the line `quit` or the end of the input.
@@ -183,6 +188,14 @@ fn ask_command<'w>(alloc: Global) -> Result<Command<'w>, AllocError> {
         .arg(delta_option(alloc))
 }
 
+fn check_command<'w>(alloc: Global) -> Result<Command<'w>, AllocError> {
+    Command::new(alloc, CHECK)
+        .about("Judges the file of a store, and tells how it stands")
+        .long_about(ABOUT_CHECK)
+        .after_help("Example: roadmark check six.store")
+        .arg(required_word(alloc, STORE, STORE_HELP))
+}
+
 fn serve_command<'w>(alloc: Global) -> Result<Command<'w>, AllocError> {
     Command::new(alloc, SERVE)
         .about("Takes commands and answers queries on standard input and output, over a store")
@@ -208,5 +221,6 @@ pub fn program<'w>(alloc: Global) -> Result<Command<'w>, AllocError> {
         .subcommand(create_command(alloc)?)?
         .subcommand(apply_command(alloc)?)?
         .subcommand(ask_command(alloc)?)?
+        .subcommand(check_command(alloc)?)?
         .subcommand(serve_command(alloc)?)
 }

@@ -40,8 +40,8 @@ use std::process::ExitCode;
 use std::rt::{Env, Files};
 use std::sync::Wait;
 use std::thread::Threads;
-use store_jobs::{run_apply, run_ask, run_create};
-pub use storetexts::{apply_text, ask_text, create_text};
+use store_jobs::{run_apply, run_ask, run_check, run_create};
+pub use storetexts::{apply_text, ask_text, check_text, create_text};
 use streams::hold_streams;
 pub use words::{Job, MISUSE, Usage, read_words};
 
@@ -99,6 +99,7 @@ fn run<
             pairs,
             delta,
         } => run_ask(rt, store, pairs, delta),
+        Job::Check { store } => run_check(rt, store),
         Job::Serve {
             store,
             delta,
@@ -142,7 +143,7 @@ fn text_name<'w>(job: &Job<'w>, failed: &Failed) -> &'w str
             ..
         } => { if is_first { commands } else { store } }
         Job::Ask { store, pairs, .. } => { if is_first { pairs } else { store } }
-        Job::Serve { store, .. } => store,
+        Job::Check { store } | Job::Serve { store, .. } => store,
     }
 }
 

@@ -20,7 +20,7 @@ use std::io::{self, BufWriter};
 use std::rt::Files;
 use std::thread::Threads;
 use store::open;
-use storetexts::{apply_counted, ask_counted, create_store, read_planned};
+use storetexts::{apply_counted, ask_counted, check_counted, create_store, read_planned};
 
 /// Whether a store that was to be made is there: all was done, or only its line could not be told.
 fn is_store_made(outcome: &Result<(), Failed>) -> bool
@@ -126,4 +126,23 @@ pub fn run_ask<R: AllocGlobal + Files<File = File> + Print + Threads>(
     let mut writer = CountedWriter::new(&mut writer);
     let (outcome, _disk) = ask_counted(rt, rt.alloc(), disk, &mut p2p, delta, &mut writer);
     outcome
+}
+
+/// How the store of a file stands. The file is read alone and stays as it is.
+pub fn run_check<R: AllocGlobal + Files<File = File> + Print>(
+    rt: &R,
+    store: &str,
+) -> Result<Done, Failed>
+    ensures { IfOk result (λ done. done.delta ≡ None) }
+{
+    let disk = open_store_to_read(rt, store)?;
+    let Ok(mut writer) = BufWriter::with_capacity(rt.alloc(), BUFFER, io::writer(rt)) else {
+        return Err(Failed::Code(Refusal::OutOfMemory));
+    };
+    let mut writer = CountedWriter::new(&mut writer);
+    let (outcome, _disk) = check_counted(rt.alloc(), disk, &mut writer);
+    match outcome {
+        Ok(()) => Ok(Done { delta: None }),
+        Err(failed) => Err(failed),
+    }
 }

@@ -4,11 +4,11 @@ ghost use Rattle.std.specs.Option.{ForSome};
 ghost use lib.Chars.{codes};
 ghost use Rattle.clap.specs.Words.{found_of, kind_of, subcommand_name_of};
 ghost use Rattle.rows.specs.Kept.{IsWidth};
-ghost use Rattle.roadmark.specs.Words.{delta_of, journal_of, workers_of, subcommand_of, Gives, GivesOnce, GivesBatch, GivesRehearse, GivesCreate, GivesApply, GivesAsk, GivesServe, GivesJoint, GivesJournal, GivesWorkers, IsJournal, IsWorkers, IsLong, IsUsage};
+ghost use Rattle.roadmark.specs.Words.{delta_of, journal_of, workers_of, subcommand_of, Gives, GivesOnce, GivesBatch, GivesRehearse, GivesCreate, GivesApply, GivesAsk, GivesCheck, GivesServe, GivesJoint, GivesJournal, GivesWorkers, IsJournal, IsWorkers, IsLong, IsUsage};
 
 use crate::commands::{
-    APPLY, ASK, BATCH, COMMANDS, CREATE, DELTA, JOURNAL, LANDMARKS, NETWORK, ONCE, PAIRS, REHEARSE,
-    SCRIPT, SERVE, SOURCE, STORE, TARGET, WORKERS, program,
+    APPLY, ASK, BATCH, CHECK, COMMANDS, CREATE, DELTA, JOURNAL, LANDMARKS, NETWORK, ONCE, PAIRS,
+    REHEARSE, SCRIPT, SERVE, SOURCE, STORE, TARGET, WORKERS, program,
 };
 use clap::error::ErrorKind;
 use clap::{ArgMatches, Error};
@@ -60,6 +60,10 @@ pub enum Job<'w> {
         store: &'w str,
         pairs: &'w str,
         delta: Option<u32>,
+    },
+    /// How a store stands.
+    Check {
+        store: &'w str,
     },
     /// A session over a store, on standard input and output.
     Serve {
@@ -278,6 +282,18 @@ fn ask_in<'w>(matches: &ArgMatches<'w>) -> Option<Job<'w>>
     })
 }
 
+fn check_in<'w>(matches: &ArgMatches<'w>) -> Option<Job<'w>>
+    ensures width { ForSome result (λ job. ForSome (delta_of job) IsWidth) }
+    ensures journal { ForSome result (λ job. ForSome (journal_of job) IsJournal) }
+    ensures workers { ForSome result (λ job. ForSome (workers_of job) IsWorkers) }
+    ensures given { GivesCheck (found_of matches.now) result }
+{
+    let Some(store) = matches.get_str(STORE) else {
+        return None;
+    };
+    Some(Job::Check { store })
+}
+
 fn serve_in<'w>(matches: &ArgMatches<'w>) -> Option<Job<'w>>
     ensures width { ForSome result (λ job. ForSome (delta_of job) IsWidth) }
     ensures journal { ForSome result (λ job. ForSome (journal_of job) IsJournal) }
@@ -313,6 +329,7 @@ fn job_in<'w>(matches: &ArgMatches<'w>) -> Option<Job<'w>>
         Some((CREATE, inner)) => create_in(inner),
         Some((APPLY, inner)) => apply_in(inner),
         Some((ASK, inner)) => ask_in(inner),
+        Some((CHECK, inner)) => check_in(inner),
         Some((SERVE, inner)) => serve_in(inner),
         Some(_) => None,
     }

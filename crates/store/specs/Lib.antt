@@ -3,6 +3,7 @@ pub mod Committing
 pub mod Created
 pub mod Durable
 pub mod Going
+pub mod Inspecting
 pub mod Opening
 pub mod Resting
 pub mod State

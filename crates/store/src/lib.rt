@@ -14,10 +14,12 @@ mod opening;
 mod paged;
 mod parts;
 mod replay;
+mod standing;
 mod store;
 
 pub use making::{create, open};
 pub use parts::Part;
+pub use standing::{Inspected, Standing, inspect};
 pub use store::Store;
 
 #[cfg(test)]
@@ -38,6 +40,8 @@ mod opening_tests;
 mod part_tests;
 #[cfg(test)]
 mod reuse_tests;
+#[cfg(test)]
+mod standing_tests;
 #[cfg(test)]
 mod sweep_tests;
 #[cfg(test)]

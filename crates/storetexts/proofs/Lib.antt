@@ -11,3 +11,4 @@ pub mod Beginning
 pub mod Checkpointed
 pub mod Unbegun
 pub mod TextApplied
+pub mod Checked

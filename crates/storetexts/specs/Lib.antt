@@ -4,3 +4,4 @@ pub mod Planned
 pub mod Asked
 pub mod Applied
 pub mod Applying
+pub mod Checked

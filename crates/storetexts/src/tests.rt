@@ -23,7 +23,7 @@ const LANDMARKS: &[u8] = b"p aux sp ss 3\ns 6\ns 3\ns 6\n";
 const PAIR: &[u8] = b"p aux sp p2p 1\nq 1 6\n";
 
 /// A store of the network with landmarks 3 and 6, and what was written.
-fn created(alloc: Global, journal_pages: u32) -> Result<(MemDisk, Vec<u8>), Refusal>
+pub fn created(alloc: Global, journal_pages: u32) -> Result<(MemDisk, Vec<u8>), Refusal>
     requires some { 1 ≤ journal_pages }
     requires few { journal_pages ≤ 65536 }
 {
@@ -42,7 +42,7 @@ fn created(alloc: Global, journal_pages: u32) -> Result<(MemDisk, Vec<u8>), Refu
 }
 
 /// The bytes of a disk.
-fn bytes_of(alloc: Global, disk: &mut MemDisk) -> Result<Vec<u8>, Refusal> {
+pub fn bytes_of(alloc: Global, disk: &mut MemDisk) -> Result<Vec<u8>, Refusal> {
     let Ok(length) = disk.len() else {
         return Err(Refusal::Device);
     };
@@ -56,7 +56,7 @@ fn bytes_of(alloc: Global, disk: &mut MemDisk) -> Result<Vec<u8>, Refusal> {
 }
 
 /// A disk with these bytes, all of them synced.
-fn with_bytes(alloc: Global, bytes: &[u8]) -> Result<MemDisk, Refusal> {
+pub fn with_bytes(alloc: Global, bytes: &[u8]) -> Result<MemDisk, Refusal> {
     let mut disk = MemDisk::new(alloc);
     if disk.write_at(0, bytes).is_err() || disk.sync().is_err() {
         return Err(Refusal::Device);

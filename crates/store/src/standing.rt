@@ -1,0 +1,77 @@
+// How a store stands in its file: told of a store, and of a file that is only looked at.
+ghost use Rattle.std.specs.Prelude.{◌≡◌, ◌↔◌, false, IfOk, IfErr};
+ghost use Rattle.disk.specs.Moments.{StaysSame};
+ghost use Rattle.roadnet.specs.Net.{Net};
+ghost use Rattle.pagereader.specs.Outcomes.{failures_told, MayEndOpening};
+ghost use Rattle.store.specs.Inspecting.{StandsThus};
+ghost use Rattle.store.specs.Opening.{MayRefuseToOpen};
+ghost use Rattle.store.specs.State.{CameTidy};
+
+use crate::opening::find;
+use crate::store::Store;
+use disk::Disk;
+use pages::Slot;
+use roadnet::Refusal;
+use std::alloc::Global;
+
+/// How a store stands in its file.
+#[derive(Clone, Copy, Debug, PartialEq, Eq)]
+pub struct Standing {
+    /// The slot that is current: it holds the last checkpoint.
+    pub slot: Slot,
+    /// The epoch of that slot: it rises by one with each checkpoint.
+    pub epoch: u64,
+    /// How many pages of the journal stand behind that checkpoint.
+    pub unchecked: u32,
+}
+
+/// What a look at the file of a store finds.
+#[derive(Clone, Copy, Debug, PartialEq, Eq)]
+pub struct Inspected {
+    /// The version of the network that the file stands for.
+    pub version: u64,
+    pub standing: Standing,
+}
+
+impl<D: Disk> Store<D> {
+    /// How the store stands in its file. No call of the disk is made, and no memory is taken. Where the store came tidy, over a disk that
+    /// keeps the disk model, and is not broken, this is how the content stands, whatever was called since.
+    pub fn standing(&self) -> Standing
+        ensures unchecked { result.unchecked ≡ self.now.unchecked }
+        ensures stands { CameTidy D.honest D.content self.now.given → self.now.broken ≡ false → StandsThus (D.content self.now.disk) self.now.network self.now.version result }
+    {
+        Standing {
+            slot: self.pages.slot,
+            epoch: self.pages.epoch,
+            unchecked: self.pages.unchecked,
+        }
+    }
+}
+
+/// Looks at the file of a store: it is synced, judged and read as by `open`, and refused as there. Nothing is written.
+///
+/// It takes the memory of `open`, and gives it back.
+pub fn inspect<D: Disk>(alloc: Global, disk: &mut D) -> Result<Inspected, Refusal>
+    // The content stands for a network at this version, and so.
+    ensures stands { D.honest disk.old → IfOk result (λ found. (net : Net) × StandsThus (D.content disk.old) net found.version found.standing) }
+    // It refuses what the format refuses. Other refusals come for want of memory, or where the disk failed in this call.
+    ensures judged { D.honest disk.old → IfErr result (MayRefuseToOpen (D.content disk.old)) }
+    // Whatever the disk, it refuses with 11 or 40 to 43. Its count of failures rises by one where 43 is told, and else not at all.
+    ensures causes { IfErr result MayEndOpening }
+    ensures counted { D.failures disk.new ≡ failures_told result (D.failures disk.old) }
+    ensures untouched { D.honest disk.old → StaysSame D.content D.left D.moment D.left_since disk.old disk.new }
+    ensures honest { D.honest disk.new ↔ D.honest disk.old }
+{
+    let found = match find(alloc, disk) {
+        Ok(found) => found,
+        Err(refusal) => return Err(refusal),
+    };
+    Ok(Inspected {
+        version: found.version,
+        standing: Standing {
+            slot: found.slot,
+            epoch: found.epoch,
+            unchecked: found.unchecked,
+        },
+    })
+}

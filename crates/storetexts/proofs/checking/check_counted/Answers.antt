@@ -1,0 +1,28 @@
+use Rattle.storetexts.proofs.Judged.{opening_counts}
+use Rattle.storetexts.proofs.Meanwhile.{counts_code}
+use Rattle.storetexts.proofs.Checked.{unopened, told_so, write_refused, write_unwritten, write_counts, write_device}
+use Rattle.storetexts.proofs.checking.check_counted.Goals as goal
+
+pub returns-in-Err-clause-refused : goal.returns-in-Err-clause-refused
+returns-in-Err-clause-refused g c = unopened (g.D.Disk.honest c.args.disk) (g.D.Disk.content c.args.disk) c.in-Err.refusal (c.in-Err.ensures.causes, c.in-Err.ensures.judged)
+
+pub returns-in-Err-clause-failed : goal.returns-in-Err-clause-failed
+returns-in-Err-clause-failed g c = counts_code (Unit {0}) c.in-Err.refusal _ _ c.in-Err.ensures.counted
+
+pub returns-in-Err-clause-writes : goal.returns-in-Err-clause-writes
+returns-in-Err-clause-writes g c = opening_counts (Unit {0}) c.in-Err.refusal _ c.in-Err.ensures.causes
+
+pub returns-clause-answered : goal.returns-clause-answered
+returns-clause-answered g c = told_so c.put_standing-told.result (g.D.Disk.honest c.args.disk) (g.D.Disk.content c.args.disk) c.in-Ok.found.version c.in-Ok.found.standing _ _ c.in-Ok.ensures.stands c.put_standing-told.ensures.ok
+
+pub returns-clause-refused : goal.returns-clause-refused
+returns-clause-refused g c = write_refused c.put_standing-told.result (g.D.Disk.honest c.args.disk) (g.D.Disk.content c.args.disk) c.put_standing-told.ensures.refused
+
+pub returns-clause-failed : goal.returns-clause-failed
+returns-clause-failed g c = write_device c.put_standing-told.result _ _ c.put_standing-told.ensures.refused c.in-Ok.ensures.counted
+
+pub returns-clause-unwritten : goal.returns-clause-unwritten
+returns-clause-unwritten g c = write_unwritten c.put_standing-told.result _ _ c.put_standing-told.ensures.refused
+
+pub returns-clause-writes : goal.returns-clause-writes
+returns-clause-writes g c = write_counts c.put_standing-told.result _ _ c.put_standing-told.ensures.refused c.put_standing-told.ensures.counts

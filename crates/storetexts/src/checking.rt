@@ -1,0 +1,109 @@
+// A store that is only looked at.
+ghost use Rattle.std.specs.Prelude.{◌≡◌, ◌↔◌, OnOk, IfErr};
+ghost use Rattle.std.specs.Io.KnownBytes.{Appends};
+ghost use Rattle.disk.specs.Moments.{StaysSame};
+ghost use Rattle.printing.specs.Counting.{failed_writes, writer_of, IsSameWriter, CountsFailure};
+ghost use Rattle.printing.specs.Failing.{CountsWrites, LeavesUnwritten};
+ghost use Rattle.printing.specs.Replied.{number_line};
+ghost use Rattle.storetexts.specs.Checked.{slot_line, standing_lines, IsChecked, IsRefusedCheck};
+ghost use Rattle.storetexts.specs.Refused.{CountsDevice};
+
+use disk::Disk;
+use pages::Slot;
+use printing::{CountedWriter, Failed, put_number, put_version};
+use roadnet::Refusal;
+use std::alloc::Global;
+use std::io::Write;
+use store::{Standing, inspect};
+
+/// A word with a blank behind it, and a number.
+fn put_numbered<W: Write>(
+    out: &mut CountedWriter<'_, W>,
+    word: &[u8],
+    number: u64,
+) -> Result<(), Failed>
+    ensures ok { OnOk result (Appends (W.contents (writer_of out.old)) (W.contents (writer_of out.new)) (number_line word.now number)) }
+    ensures refused { IfErr result (λ failed. failed ≡ Failed.Code Refusal.Write) }
+    ensures counts { CountsFailure (failed_writes out.old) (failed_writes out.new) result }
+    ensures same { IsSameWriter out.old out.new }
+{
+    out.write_all(word)?;
+    put_number(out, number)?;
+    out.write_all(b"\n")
+}
+
+/// `slot A E` or `slot B E`
+fn put_slot<W: Write>(out: &mut CountedWriter<'_, W>, slot: Slot, epoch: u64) -> Result<(), Failed>
+    ensures ok { OnOk result (Appends (W.contents (writer_of out.old)) (W.contents (writer_of out.new)) (slot_line slot epoch)) }
+    ensures refused { IfErr result (λ failed. failed ≡ Failed.Code Refusal.Write) }
+    ensures counts { CountsFailure (failed_writes out.old) (failed_writes out.new) result }
+    ensures same { IsSameWriter out.old out.new }
+{
+    match slot {
+        Slot::A => put_numbered(out, b"slot A ", epoch),
+        Slot::B => put_numbered(out, b"slot B ", epoch),
+    }
+}
+
+/// `v V`, `slot A E` or `slot B E`, and `journal U`, which are sent out.
+fn put_standing<W: Write>(
+    out: &mut CountedWriter<'_, W>,
+    version: u64,
+    standing: Standing,
+) -> Result<(), Failed>
+    ensures ok { OnOk result (Appends (W.contents (writer_of out.old)) (W.contents (writer_of out.new)) (standing_lines version standing)) }
+    ensures refused { IfErr result (λ failed. failed ≡ Failed.Code Refusal.Write) }
+    ensures counts { CountsFailure (failed_writes out.old) (failed_writes out.new) result }
+    ensures same { IsSameWriter out.old out.new }
+{
+    put_version(out, version)?;
+    put_slot(out, standing.slot, standing.epoch)?;
+    put_numbered(out, b"journal ", u64::from(standing.unchecked))?;
+    out.flush()
+}
+
+/// Looks at the store on a disk, and writes how it stands: `v V`, its version; `slot A E` or `slot B E`, the slot that holds its last
+/// checkpoint, and that slot's epoch; `journal U`, how many pages of the journal stand behind it. The whole file is judged first. Nothing
+/// is written to the disk, which is handed back.
+///
+/// Refused is what is refused on opening: no store (40), another format (41), a damaged page (42), a disk that fails (43), want of memory
+/// (11). Nothing is written then. 43 is told only where the disk's count of failures rose. A failed write is 12, told only where the count
+/// of the writer's failed calls rose; the writer is not used again then.
+pub fn check_counted<D: Disk, W: Write>(
+    alloc: Global,
+    disk: D,
+    out: &mut CountedWriter<'_, W>,
+) -> (Result<(), Failed>, D)
+    // The lines are those of what the content stands for.
+    ensures answered { OnOk result.0 (IsChecked (D.honest disk) (D.content disk) (W.contents (writer_of out.old)) (W.contents (writer_of out.new))) }
+    ensures refused { IfErr result.0 (IsRefusedCheck (D.honest disk) (D.content disk)) }
+    // The disk's count of failures rises where 43 is told, and else not at all.
+    ensures failed { CountsDevice (D.failures disk) (D.failures result.1) result.0 }
+    // Nothing is written to the disk.
+    ensures untouched { D.honest disk → StaysSame D.content D.left D.moment D.left_since disk result.1 }
+    ensures honest { D.honest result.1 ↔ D.honest disk }
+    ensures unwritten { IfErr result.0 (LeavesUnwritten (writer_of out.old) (writer_of out.new)) }
+    ensures writes { CountsWrites (failed_writes out.old) (failed_writes out.new) result.0 }
+    ensures same_writer { IsSameWriter out.old out.new }
+{
+    let mut disk = disk;
+    let found = match inspect(alloc, &mut disk) {
+        Ok(found) => found,
+        Err(refusal) => return (Err(Failed::Code(refusal)), disk),
+    };
+    let told = put_standing(out, found.version, found.standing);
+    (told, disk)
+}
+
+/// The same over any writer, whose failed calls nobody counts.
+pub fn check_text<D: Disk, W: Write>(alloc: Global, disk: D, out: &mut W) -> (Result<(), Failed>, D)
+    ensures answered { OnOk result.0 (IsChecked (D.honest disk) (D.content disk) (W.contents out.old) (W.contents out.new)) }
+    ensures refused { IfErr result.0 (IsRefusedCheck (D.honest disk) (D.content disk)) }
+    ensures failed { CountsDevice (D.failures disk) (D.failures result.1) result.0 }
+    ensures untouched { D.honest disk → StaysSame D.content D.left D.moment D.left_since disk result.1 }
+    ensures honest { D.honest result.1 ↔ D.honest disk }
+    ensures unwritten { IfErr result.0 (LeavesUnwritten out.old out.new) }
+{
+    let mut out = CountedWriter::new(out);
+    check_counted(alloc, disk, &mut out)
+}

@@ -1,9 +1,10 @@
 // An office closed.
-ghost use Rattle.std.specs.Prelude.{◌≡◌, ◌≤◌, List, take, length, IfOk};
+ghost use Rattle.std.specs.Prelude.{◌≡◌, ◌≤◌, List, take, length, IfOk, IfErr};
 ghost use Rattle.std.proofs.Props.{props};
 ghost use Rattle.disk.specs.Contents.{AreAmong};
 ghost use mathlib.Core.List.{IsPrefix};
 ghost use Rattle.roadnet.specs.declared.commands.Command.{Command as Accepted};
+ghost use Rattle.roadnet.specs.declared.refusals.Refusal.TheVariants.{Closed as history_closed};
 ghost use Rattle.machine.specs.Machine.{commands_to};
 ghost use Rattle.machine.specs.Laws.{IsAt};
 ghost use Rattle.office.specs.Left.{KeepsDesk, KeepsSeen};
@@ -43,6 +44,7 @@ impl<N: Naming, D: Disk> Office<N, D> {
         ensures shown { IfOk result (λ closed. closed.shown.commands ≡ commands_to self.machine self.machine.shown) }
         ensures acknowledged { IfOk result (λ closed. closed.whole.acknowledged ≤ self.machine.durable) }
         ensures disk { IfOk result (λ closed. closed.disk ≡ self.disk) }
+        ensures causes { IfErr result (λ refusal. refusal ≡ history_closed) }
         // What a stop may leave of the disk stands for the network after a beginning of the history, with all that was acknowledged or shown.
         ensures left { N.came_tidy → IfOk result (λ closed. AreAmong (D.left closed.disk) (KeepsDesk closed.whole closed.shown self.machine.sizes.journal_pages)) }
     {

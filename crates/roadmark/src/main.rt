@@ -46,6 +46,8 @@ use streams::hold_streams;
 pub use words::{Job, MISUSE, Usage, read_words};
 
 #[cfg(test)]
+mod check_tests;
+#[cfg(test)]
 mod program_tests;
 #[cfg(test)]
 mod shell;

@@ -56,7 +56,7 @@ fn a_store_in_use(rt: HostRuntime) -> Result<(), Fail> {
     assert_eq!(rt; program(&Shell::new(&rt, folder.as_str(), &CREATE)?, rt), 0);
     let in_use = "roadmark: new.store: line 0: 10 Read\n";
     if let Ok(disk) = open_file(&rt, path.as_str()) {
-        let table: [&'static [Option<&'static str>]; 3] = [&CREATE, &APPLY, &ASK];
+        let table: [&'static [Option<&'static str>]; 4] = [&CREATE, &APPLY, &ASK, &SERVE];
         for words in table {
             let shell = Shell::new(&rt, folder.as_str(), words)?;
             assert!(rt;
@@ -69,8 +69,14 @@ fn a_store_in_use(rt: HostRuntime) -> Result<(), Fail> {
         assert!(rt; false, "the store is not opened");
     }
     if let Ok(disk) = open_to_read(&rt, path.as_str()) {
-        let shell = Shell::new(&rt, folder.as_str(), &APPLY)?;
-        assert!(rt; program(&shell, rt) == 1 && is_kept(&shell.err, in_use));
+        let table: [&'static [Option<&'static str>]; 2] = [&APPLY, &SERVE];
+        for words in table {
+            let shell = Shell::new(&rt, folder.as_str(), words)?;
+            assert!(rt;
+                program(&shell, rt) == 1 && is_kept(&shell.err, in_use),
+                "{words:?}"
+            );
+        }
         let shell = Shell::new(&rt, folder.as_str(), &ASK)?;
         assert!(rt; program(&shell, rt) == 0 && is_kept(&shell.out, "v 0\nd 1 6 15\nx 6 1\n"));
         assert_eq!(rt; disk.failed_calls(), 0);

@@ -13,4 +13,6 @@ mod words;
 pub use serving::serve;
 
 #[cfg(test)]
+mod memory_tests;
+#[cfg(test)]
 mod tests;

@@ -3,7 +3,7 @@ ghost use Rattle.store.specs.State.{CameTidy, is_calm};
 ghost use Rattle.desk.specs.Openings.{IsNewDesk};
 
 use crate::serve;
-use desk::{Closed, Desk, History, Naming, NoGate, Reader, Setup};
+use desk::{Closed, Desk, Gate, History, Naming, NoGate, Reader, Setup};
 use dimacs::Counted;
 use disk::{Disk, FailOnce, MemDisk};
 use printing::{CountedWriter, Failed};
@@ -17,7 +17,7 @@ use std::thread::Threads;
 use store::{Store, create, open};
 
 /// A new store of the network of the worked rows, with six nodes, eight arcs and these landmarks.
-fn store_of_six(alloc: Global) -> Result<Store<MemDisk>, Refusal>
+pub(crate) fn store_of_six(alloc: Global) -> Result<Store<MemDisk>, Refusal>
     ensures calm { IfOk result (λ store. is_calm store ≡ true) }
 {
     let table = [
@@ -51,16 +51,16 @@ fn store_of_six(alloc: Global) -> Result<Store<MemDisk>, Refusal>
 
 /// How a session ended: its outcome, how many calls of the reader and of the writer failed, and what the closed desk left.
 #[derive(Drop)]
-struct Ended<D: Disk> {
-    outcome: Result<(), Failed>,
+pub(crate) struct Ended<D: Disk> {
+    pub(crate) outcome: Result<(), Failed>,
     failed_reads: u64,
     failed_writes: u64,
-    closed: Closed<D>,
+    pub(crate) closed: Closed<D>,
 }
 
 /// In what state a session finds its desk.
 #[derive(Clone, Copy, PartialEq, Eq)]
-enum Found {
+pub(crate) enum Found {
     Serving,
     /// It takes no commands any more.
     Halted,
@@ -69,9 +69,10 @@ enum Found {
 }
 
 /// A session over a store. The desk is closed behind it.
-fn session_over<
+pub(crate) fn session_over<
     N: Naming + Send + Sync + 'static,
     D: Disk + Drop + Send + 'static,
+    G: Gate + Drop + Send + Sync + 'static,
     R: Threads + Wait + Copy + Send + Sync + 'static,
     I: BufRead,
     W: Write,
@@ -80,6 +81,7 @@ fn session_over<
     alloc: Global,
     history: History,
     store: Store<D>,
+    gate: G,
     found: Found,
     input: &mut I,
     output: &mut W,
@@ -92,7 +94,7 @@ fn session_over<
         delta: None,
         workers: 2,
     };
-    let desk: Desk<N, D, NoGate, R> = Desk::start(rt, alloc, history, store, NoGate, setup)?;
+    let desk: Desk<N, D, G, R> = Desk::start(rt, alloc, history, store, gate, setup)?;
     let mut others: Vec<Reader<N>> = Vec::new(alloc);
     if found == Found::Crowded {
         for _ in 0..64u32 {
@@ -126,11 +128,11 @@ fn session<R: Threads + Wait + Copy + Send + Sync + 'static, I: BufRead, W: Writ
 ) -> Result<Ended<MemDisk>, Refusal> {
     let store = store_of_six(alloc)?;
     let history = History::new(store.network(), store.version());
-    session_over::<Brand, _, _, _, _>(rt, alloc, history, store, found, input, output)
+    session_over::<Brand, _, _, _, _, _>(rt, alloc, history, store, NoGate, found, input, output)
 }
 
 /// What a session with these lines writes that ends without a fault.
-fn answers_of<R: Threads + Wait + Copy + Send + Sync + 'static>(
+pub(crate) fn answers_of<R: Threads + Wait + Copy + Send + Sync + 'static>(
     rt: R,
     alloc: Global,
     found: Found,
@@ -301,11 +303,12 @@ fn a_broken_store(rt: HostRuntime) -> Result<(), Fail> {
     let history = History::new(store.network(), store.version());
     let mut input = b"close 7\nwait\ndist 1 6\nclose 8\n".as_slice();
     let mut output = Vec::new(alloc);
-    let ended = session_over::<Brand, _, _, _, _>(
+    let ended = session_over::<Brand, _, _, _, _, _>(
         rt,
         alloc,
         history,
         store,
+        NoGate,
         Found::Serving,
         &mut input,
         &mut output,
@@ -367,7 +370,7 @@ impl Write for FailingWriter {
 const LINES: &[u8] = b"close 7\nwait\nset 8 4\nmark 3\ndist 1 6\nfrom 3 4\nhello\nclose 1\n";
 
 /// How many lines begin with `ok`.
-fn settled_in(answers: &[u8]) -> u64 {
+pub(crate) fn settled_in(answers: &[u8]) -> u64 {
     answers
         .windows(3)
         .filter(|bytes| *bytes == b"ok ".as_slice())
@@ -375,7 +378,7 @@ fn settled_in(answers: &[u8]) -> u64 {
 }
 
 /// How many commands a closed desk accepted, and the version that the next opening finds.
-fn left_by(alloc: Global, closed: Closed<MemDisk>) -> Result<(u64, u64), Refusal> {
+pub(crate) fn left_by(alloc: Global, closed: Closed<MemDisk>) -> Result<(u64, u64), Refusal> {
     let Closed {
         history,
         shown: _,

@@ -117,7 +117,7 @@ const WORDS: [u8; 32] =
 const PICKS: [Pick; 4] = [Pick::Old, Pick::New, Pick::Byte(165), Pick::Byte(17)];
 
 // A journal of two pages that is full.
-fn full(alloc: Global) -> Result<MemDisk, Refusal> {
+pub fn full(alloc: Global) -> Result<MemDisk, Refusal> {
     let mut store = opened(alloc, six(alloc, 2)?)?;
     store.commit(&[set(1, 1)])?;
     store.commit(&[set(1, 2)])?;
@@ -125,7 +125,7 @@ fn full(alloc: Global) -> Result<MemDisk, Refusal> {
 }
 
 // The same after a checkpoint, and one commit more.
-fn reused(alloc: Global) -> Result<MemDisk, Refusal> {
+pub fn reused(alloc: Global) -> Result<MemDisk, Refusal> {
     let mut store = opened(alloc, full(alloc)?)?;
     store.checkpoint()?;
     store.commit(&[set(1, 3)])?;

@@ -39,6 +39,8 @@ mod opening_tests;
 #[cfg(test)]
 mod part_tests;
 #[cfg(test)]
+mod refusal_tests;
+#[cfg(test)]
 mod reuse_tests;
 #[cfg(test)]
 mod standing_tests;

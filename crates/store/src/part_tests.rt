@@ -40,6 +40,13 @@ fn close(arc: u64) -> Command {
     Command::Close { arc }
 }
 
+// The same disk with a journal of two pages, after arc 1 was closed.
+pub fn one_closed(alloc: Global) -> Result<MemDisk, Refusal> {
+    let mut store = opened(alloc, three_pages(alloc, 2)?)?;
+    store.commit(&[close(1)])?;
+    Ok(store.close())
+}
+
 // Whether just the first arcs, so many as the version, are closed.
 fn is_closed_to_version<D: Disk>(store: &Store<D>) -> bool {
     let mut same = true;

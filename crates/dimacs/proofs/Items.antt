@@ -18,7 +18,7 @@ use Rattle.dimacs.specs.Content.{arc_from, arc_of}
 use Rattle.std.specs.List.{filter_map, cons_option, find}
 use Rattle.std.proofs.lemmas.List.{length-append}
 use Rattle.std.proofs.lemmas.List.Sums.{sum_by_push}
-use Rattle.dimacs.specs.declared.gr.GrLines.{GrLines}
+use Rattle.dimacs.specs.declared.gr_lines.GrLines.{GrLines}
 use Rattle.dimacs.specs.Progress.{counts_of, HasTaken}
 use Rattle.dimacs.specs.Taking.{Takes, ByCode, ByMemory}
 

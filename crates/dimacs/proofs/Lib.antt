@@ -9,6 +9,7 @@ mod Remarks
 mod Far
 mod Calls
 mod Networks
+pub mod Fitting
 pub mod TextEnds
 pub mod NodeRows
 mod NodeItems

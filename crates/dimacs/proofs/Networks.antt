@@ -3,7 +3,7 @@ use Rattle.std.proofs.Common.{◌≡◌, ℕ, Bool, false, List, [], ◌∷◌, 
 use Rattle.std.specs.Prelude.{◌≢◌, IfSome, IfErr}
 use Rattle.roadnet.specs.Net.{Net}
 use Rattle.dimacs.specs.declared.feed.Ended.{Ended}
-use Rattle.dimacs.specs.declared.gr.GrLines.{GrLines}
+use Rattle.dimacs.specs.declared.gr_lines.GrLines.{GrLines}
 use Rattle.dimacs.specs.declared.fault.Code.{Code}
 use Rattle.dimacs.specs.declared.fault.Fault.{Fault}
 use Rattle.dimacs.specs.declared.fault.Code.TheVariants.{BadLine, NoProblemLine, SecondProblemLine, WrongKind, NumberRange, NodeRange, LengthRange, LineCount, TooLarge, Read, OutOfMemory}

@@ -7,7 +7,7 @@ use lib.Chars.{codes}
 use Rattle.roadnet.specs.Net.{most_nodes, most_arcs}
 use Rattle.dimacs.specs.declared.numeral.Numeral.{Numeral}
 use Rattle.dimacs.specs.declared.problem.Problem.{Problem}
-use Rattle.dimacs.specs.declared.gr.GrLines.{GrLines}
+use Rattle.dimacs.specs.declared.gr_lines.GrLines.{GrLines}
 use Rattle.dimacs.specs.declared.fault.Code.{Code}
 use Rattle.dimacs.specs.declared.fault.Code.TheVariants.{BadLine, SecondProblemLine, WrongKind, NumberRange, TooLarge}
 use Rattle.dimacs.specs.Format.{gr}
@@ -126,7 +126,7 @@ problem_row earlier (first ∷ counts) =
       | inr other ↦ rw (no_kind earlier first counts other, other) (or_code-cond (has_problem earlier) SecondProblemLine (Some WrongKind) (problem_from counts))
     ]
 
-cond_ok : {E X : Type 0} (b : Bool) (e : E) (r : Result X E) (x : X) → cond b (Err e) r ≡ Ok x → (b ≡ false) × (r ≡ Ok x)
+pub cond_ok : {E X : Type 0} (b : Bool) (e : E) (r : Result X E) (x : X) → cond b (Err e) r ≡ Ok x → (b ≡ false) × (r ≡ Ok x)
 cond_ok true e r x h = absurd cc
 cond_ok false e r x h = (refl, h)
 

@@ -12,6 +12,7 @@ pub mod Joint
 pub mod Taking
 pub mod Ends
 pub mod Counts
+pub mod Fits
 pub mod Gr
 pub mod Progress
 pub mod Turns

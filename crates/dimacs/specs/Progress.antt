@@ -4,7 +4,7 @@ use Rattle.std.specs.List.{filter_map}
 use Rattle.dimacs.specs.declared.fault.Code.{Code}
 use Rattle.dimacs.specs.declared.fault.Fault.{Fault}
 use Rattle.dimacs.specs.declared.problem.Problem.{Problem}
-use Rattle.dimacs.specs.declared.gr.GrLines.{GrLines}
+use Rattle.dimacs.specs.declared.gr_lines.GrLines.{GrLines}
 use Rattle.dimacs.specs.declared.feed.Feed.{Feed}
 use Rattle.dimacs.specs.declared.feed.TakenBytes.{TakenBytes}
 use Rattle.dimacs.specs.Format.{gr}

@@ -1,5 +1,5 @@
 //! The texts of commands.
-ghost use Rattle.std.specs.Prelude.{◌≡◌, ◌≢◌, IfErr, IfSome, List, length, vec_items};
+ghost use Rattle.std.specs.Prelude.{◌≡◌, IfSome, length, vec_items};
 ghost use Rattle.dimacs.specs.Lines.{fields};
 ghost use Rattle.dimacs.specs.Reading.{one_numeral, two_numerals};
 ghost use Rattle.dimacs.specs.CommandReading.{IsKind, number_read, numbers_read, ReadsLine};
@@ -48,6 +48,8 @@ fn kind_of(line: &[u8]) -> Kind<'_>
 
 /// The one number behind the word of a command or of a script's event, at most 2^63 - 1. Refused are other fields than one numeral (`BadLine`),
 /// and a numeral with a minus or with a greater size (`NumberRange`).
+///
+/// ` 7` gives 7; ` 7 8` and ` x` are refused with `BadLine`, ` -7` with `NumberRange`.
 pub fn number(numbers: &[u8]) -> Result<u64, Code>
     ensures { result ≡ number_read (one_numeral (fields numbers.now)) }
 {
@@ -157,6 +159,9 @@ ghost use Rattle.dimacs.specs.Counts.{CountsFailures, IsSameReader, failed_calls
 
 /// The commands that a text gives, in the order of their lines, or the text's first fault. Whether their numbers are in range is
 /// judged where they are carried out. It takes 24 bytes a command.
+///
+/// With `/` for a line feed, `close 7 / # again / set 8 4` gives `Close { arc: 7 }` and `Set { arc: 8, length: 4 }`; no network is asked
+/// whether it has these arcs. `close 7 / close -7` gives line 2, `NumberRange`.
 pub fn parse_commands(alloc: Global, bytes: &[u8]) -> Result<Vec<Command>, Fault>
     ensures { Parses command_text bytes.now (map_ok vec_items result) }
 {

@@ -1,5 +1,5 @@
 //! A reader that counts its failed calls.
-ghost use Rattle.std.specs.Prelude.{◌≡◌, ◌+◌, ◌-◌, ◌^◌, ◌<◌, ◌≤◌, ℕ, List, Option, IfErr};
+ghost use Rattle.std.specs.Prelude.{◌≡◌, ◌+◌, ◌-◌, ◌^◌, ◌<◌, ℕ, List, Option, IfErr};
 ghost use Rattle.dimacs.specs.Counts.{failed_calls, reader_of, IsSameReader, TakesByte, CountsCall, one_more_failed};
 ghost use Rattle.dimacs.specs.Turns.{FarFrom, Turns, HasRoom, IsNoRead, CountsTurn};
 

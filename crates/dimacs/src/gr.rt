@@ -1,117 +1,17 @@
 //! The texts of networks.
 ghost use Rattle.std.specs.Prelude.{◌≡◌, ◌≢◌, List, length, true, IfErr, IfSome};
-
-use crate::counted::Counted;
-use crate::fault::{Code, Fault};
-use crate::feed::{Ended, parse_lines, read_lines};
-use crate::line::{Kind, kind_of};
-use crate::problem::Problem;
-use crate::reading::{item, problem};
-use crate::taking::TakeLines;
-use roadnet::{Network, RoadArc};
-use std::alloc::Global;
-use std::io::BufRead;
-
-/// What the lines so far have given.
-#[derive(Drop)]
-pub struct GrLines {
-    problem: Option<Problem>,
-    arcs: Vec<RoadArc>,
-}
-
-impl GrLines {
-    ghost use Rattle.std.specs.Prelude.{List, [], ◌∷◌};
-    ghost use lib.Chars.{codes};
-    ghost use Rattle.dimacs.specs.Lines.{fields};
-    ghost use Rattle.dimacs.specs.Format.{gr};
-    ghost use Rattle.dimacs.specs.Faults.{Row, code_of};
-    ghost use Rattle.dimacs.specs.Taking.{Takes};
-    ghost use Rattle.dimacs.specs.Progress.{HasTaken, Ends};
-
-    pub(crate) fn new(alloc: Global) -> Self
-        ensures { HasTaken [] result }
-    {
-        GrLines {
-            problem: None,
-            arcs: Vec::new(alloc),
-        }
-    }
-
-    fn take_problem(&mut self, words: &[u8]) -> Result<(), Code>
-        ensures reads_nothing { IfErr result (λ code. code ≢ Code.Read) }
-        ensures takes { (earlier : List Row) → HasTaken earlier self.old
-            → Takes (code_of gr) HasTaken earlier (codes "p" ∷ fields words.now) self.new result }
-    {
-        let problem = problem(self.problem.is_some(), words)?;
-        self.problem = Some(problem);
-        Ok(())
-    }
-
-    fn take_item(&mut self, numbers: &[u8]) -> Result<(), Code>
-        ensures reads_nothing { IfErr result (λ code. code ≢ Code.Read) }
-        ensures takes { (earlier : List Row) → HasTaken earlier self.old
-            → Takes (code_of gr) HasTaken earlier (codes "a" ∷ fields numbers.now) self.new result }
-    {
-        let arc = item(self.problem, self.arcs.len(), numbers)?;
-        match self.arcs.push(arc) {
-            Ok(()) => Ok(()),
-            Err(_) => Err(Code::OutOfMemory),
-        }
-    }
-
-    /// Ends the text.
-    fn finish(self, alloc: Global) -> Result<Network, Code>
-        ensures reads_nothing { IfErr result (λ code. code ≢ Code.Read) }
-        ensures ends { (lines : List Row) → HasTaken lines self → Ends lines result }
-    {
-        let GrLines { problem, arcs } = self;
-        let Some(problem) = problem else {
-            return Err(Code::NoProblemLine);
-        };
-        if arcs.len() < problem.items as usize {
-            return Err(Code::LineCount);
-        }
-        match Network::new(alloc, problem.nodes, arcs, &[]) {
-            Ok(network) => Ok(network),
-            Err(_) => Err(Code::OutOfMemory),
-        }
-    }
-}
-
-impl TakeLines for GrLines {
-    ghost use Rattle.std.specs.Prelude.{refl};
-    ghost use Rattle.dimacs.specs.Format.{gr};
-    ghost use Rattle.dimacs.specs.Faults.{code_of};
-    ghost use Rattle.dimacs.specs.Progress.{HasTaken};
-
-    ghost judge = { code_of gr };
-
-    ghost has_taken = { HasTaken };
-
-    ghost COMMENT = { 99 };
-
-    const COMMENT: u8 = b'c';
-
-    fn take_line(&mut self, line: &[u8]) -> Result<(), Code> {
-        match kind_of(line, b'a') {
-            Kind::Ignored => Ok(()),
-            Kind::Problem(words) => self.take_problem(words),
-            Kind::Item(numbers) => self.take_item(numbers),
-            Kind::Unknown => Err(Code::BadLine),
-        }
-    }
-
-    fn pass_comment(&mut self) {}
-
-    ghost run_is_no_comment = { refl };
-
-    ghost return_is_no_comment = { refl };
-}
-
 ghost use Rattle.dimacs.specs.Counts.{CountsFailures, IsSameReader, failed_calls, reader_of};
 ghost use Rattle.dimacs.specs.Gr.{ParsesGr, ReadsGr, ReadsUntil};
 ghost use Rattle.dimacs.specs.Faults.{Row};
 ghost use Rattle.dimacs.specs.Progress.{HasTaken, AtEnd};
+
+use crate::counted::Counted;
+use crate::fault::{Code, Fault};
+use crate::feed::{Ended, parse_lines, read_lines};
+use crate::gr_lines::GrLines;
+use roadnet::Network;
+use std::alloc::Global;
+use std::io::BufRead;
 
 /// What the lines that were taken give.
 fn network_at_end(alloc: Global, ended: Ended<GrLines>) -> Result<(Network, bool), Fault>
@@ -130,6 +30,9 @@ fn network_at_end(alloc: Global, ended: Ended<GrLines>) -> Result<(Network, bool
 }
 
 /// The network that a `.gr` text gives, all its arcs open and no node a landmark, or the text's first fault.
+///
+/// `examples/six.gr` gives six nodes and eight arcs. Without its last line it has the fault `LineCount` in line 9; the empty text has
+/// `NoProblemLine` in line 0.
 pub fn parse_gr(alloc: Global, bytes: &[u8]) -> Result<Network, Fault>
     ensures { ParsesGr bytes.now result }
 {

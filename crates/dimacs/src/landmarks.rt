@@ -83,6 +83,8 @@ fn as_set(nodes: Vec<u32>) -> Vec<u32>
 
 /// The landmarks that a `.ss` text gives for a network of `nodes` nodes, ascending and each once, or the text's first fault. It takes
 /// 4 bytes a line that was read, and O(K log K) comparisons.
+///
+/// With six nodes, and `/` for a line feed, `p aux sp ss 3 / s 6 / s 3 / s 6` gives 3 and 6; `p aux sp ss 3 / s 7` gives line 2, `NodeRange`.
 pub fn parse_ss(alloc: Global, bytes: &[u8], nodes: u32) -> Result<Vec<u32>, Fault>
     ensures text { Parses (ss_text nodes) bytes.now (map_ok vec_items result) }
     ensures ascending { IfOk result (λ landmarks. IsStrictlyIncreasing landmarks.items) }

@@ -6,6 +6,7 @@ pub mod counted;
 pub mod fault;
 pub mod feed;
 pub mod gr;
+pub mod gr_lines;
 pub mod landmarks;
 pub mod laws;
 pub mod line;
@@ -20,7 +21,8 @@ pub use commands::{number, parse_commands, read_commands, read_commands_counted,
 pub use counted::Counted;
 pub use fault::{Code, Fault};
 pub use feed::{Ended, parse_lines, read_lines};
-pub use gr::{GrLines, parse_gr, read_gr, read_gr_before_run, read_gr_counted};
+pub use gr::{parse_gr, read_gr, read_gr_before_run, read_gr_counted};
+pub use gr_lines::GrLines;
 pub use landmarks::{parse_ss, read_ss, read_ss_counted};
 pub use line::split_field;
 pub use numeral::Numeral;

@@ -35,7 +35,7 @@ fn field_len(rest: &[u8]) -> usize
     first_blank(rest).unwrap_or(rest.len())
 }
 
-/// The first field of a line, and what follows it.
+/// The first field of a line, and what follows it: of ` set 8 4` the field `set` and the rest ` 8 4`; of a line of blanks nothing.
 pub fn split_field(line: &[u8]) -> Option<(&[u8], &[u8])>
     ensures { MatchOption result (fields line.now ≡ [])
         (λ found. fields line.now ≡ found.0.now ∷ fields found.1.now) }

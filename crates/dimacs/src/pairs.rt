@@ -86,6 +86,9 @@ ghost use Rattle.dimacs.specs.Counts.{CountsFailures, IsSameReader, failed_calls
 
 /// The pairs that a `.p2p` text gives for a network of `nodes` nodes, in the order of their lines, or the text's first fault. It
 /// takes 8 bytes a pair that was read.
+///
+/// With six nodes, and `/` for a line feed, `p aux sp p2p 2 / q 1 6 / q 5 6` gives the pairs from 1 to 6 and from 5 to 6;
+/// `p aux sp p2p 1 / q 1 7` gives line 2, `NodeRange`, and `p aux sp p2p 2 / q 1 6` line 2, `LineCount`.
 pub fn parse_p2p(alloc: Global, bytes: &[u8], nodes: u32) -> Result<Vec<Pair>, Fault>
     ensures { Parses (p2p_text nodes) bytes.now (map_ok vec_items result) }
 {

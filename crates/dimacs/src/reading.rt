@@ -1,5 +1,5 @@
 //! One line of a `.gr` text.
-ghost use Rattle.std.specs.Prelude.{◌≡◌, ◌≢◌, IfErr, is_some};
+ghost use Rattle.std.specs.Prelude.{◌≡◌, ◌≢◌, IfErr};
 ghost use Rattle.std.specs.Option.{option_map};
 ghost use Rattle.dimacs.specs.Lines.{fields};
 ghost use Rattle.dimacs.specs.Reading.{first_numeral, one_numeral, two_numerals, three_numerals, arc_of_numerals, item_after, problem_of_numerals, problem_after};

@@ -1,11 +1,14 @@
-use Rattle.std.proofs.Common.{rules, Some, ◌∷◌, ap, ◌∙◌}
+use Rattle.std.proofs.Common.{rules, Ok, Some, ◌≡◌, ◌∷◌, ap, ◌∙◌}
+use Rattle.std.specs.Prelude.{is_some}
 use lib.Chars.{codes}
 use Rattle.dimacs.specs.Format.{gr}
 use Rattle.std.proofs.lemmas.Result.{err_from_is_err_and}
 use Rattle.dimacs.specs.Lines.{fields}
+use Rattle.dimacs.specs.Reading.{problem_after}
 use Rattle.dimacs.proofs.Items.{by_memory, never_read}
 use Rattle.dimacs.proofs.Problems.{takes_problem, problem_fault}
-use Rattle.dimacs.proofs.gr.GrLines.take_problem.Goals as goal
+use Rattle.dimacs.proofs.Fitting.{first_problem, fits_none, none_so_far, some_is}
+use Rattle.dimacs.proofs.gr_lines.GrLines.take_problem.Goals as goal
 
 pub returns-in_err-problem-clause-takes : goal.returns-in_err-problem-clause-takes
 returns-in_err-problem-clause-takes c earlier taken =
@@ -15,3 +18,10 @@ returns-in_err-problem-clause-takes c earlier taken =
 
 pub returns-clause-takes : goal.returns-clause-takes
 returns-clause-takes c earlier taken = takes_problem earlier (fields c.args.words.now) c.in_ok-problem.problem c.args.self.now _ taken (search rules) (search rules) (search rules)
+
+pub invariant_of-self : goal.invariant_of-self
+invariant_of-self c =
+    let read : problem_after (is_some c.args.self.now.problem) (fields c.args.words.now) ≡ Ok c.in_ok-problem.problem = search rules in
+    let first = first_problem _ (fields c.args.words.now) c.in_ok-problem.problem read in
+    let empty = c.args.self.now.none (none_so_far c.args.self.now.problem first.0) in
+    record { none = λ e. absurd cc; fits = λ p e. rw (← some_is _ p e) (fits_none _ (fields c.args.words.now) c.in_ok-problem.problem c.args.self.now.arcs.items read empty) }

@@ -5,7 +5,7 @@ use Rattle.std.proofs.lemmas.Bool.{eqb-true, ltb-true}
 use Rattle.roadnet.specs.declared.refusals.Refusal.{Refusal}
 use Rattle.roadnet.specs.declared.refusals.Refusal.TheVariants.{Broken, OutOfMemory, Device}
 use Rattle.machine.specs.Machine.{Checkpoint, Machine, IsState}
-use Rattle.machine.specs.Calls.{StepsCheckpoint, has_nothing_unchecked, checkpoint_of, done_by, with_part, with_pages_written}
+use Rattle.machine.specs.Calls.{StepsCheckpoint, has_nothing_unchecked, checkpoint_of, with_part, with_pages_written}
 use Rattle.machine.specs.Runs.Happened.{Checkpointed}
 use Rattle.machine.specs.Lives.{pages_of_step, EndsCheckpoint, GoesOn, Checkpoints}
 use Rattle.machine.proofs.Kept.{states_kept}

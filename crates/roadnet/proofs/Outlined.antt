@@ -13,9 +13,9 @@ use Rattle.roadnet.specs.declared.refusals.Refusal.TheVariants.{NoSuchArc, Lengt
 use Rattle.roadnet.specs.Batches.{opened_at}
 use Rattle.roadnet.specs.Made.{is_node_among}
 use Rattle.roadnet.specs.Members.{is_member, with_member, without_member}
-use Rattle.roadnet.specs.Net.{Net, IsNetwork, nth, update_nth}
+use Rattle.roadnet.specs.Net.{Net, nth, update_nth}
 use Rattle.roadnet.specs.Outlines.{Outlined, outline_of, IsOutline, EachAdmits, EachStepsTo}
-use Rattle.roadnet.specs.Step.{is_node, refusal_of, step, changed}
+use Rattle.roadnet.specs.Step.{is_node, refusal_of, changed}
 use Rattle.roadnet.proofs.InTurn.{node_passes, update_at}
 use Rattle.roadnet.proofs.Kept.{IsNetwork-changed, nth_within, past_first, step_admitted}
 use Rattle.roadnet.proofs.Members.{is_member-beyond}

@@ -1,8 +1,8 @@
 // Commands judged and carried out as a batch: all of them or none.
 
-ghost use Rattle.std.specs.Prelude.{◌≡◌, ◌⊎◌, ℕ, ◌≤◌, ◌<◌, Some, None, All, OnOk, IfOk, IfErr, MatchResult, length, fold};
+ghost use Rattle.std.specs.Prelude.{◌≡◌, ◌<◌, Some, None, All, OnOk, IfOk, IfErr, MatchResult, length, fold};
 ghost use Rattle.std.specs.List.Sorted.{IsStrictlyIncreasing};
-ghost use Rattle.roadnet.specs.Net.{Net, IsNetwork};
+ghost use Rattle.roadnet.specs.Net.{Net};
 ghost use Rattle.roadnet.specs.Step.{changed, is_landmark, refusal_of, after, first_refusal};
 ghost use Rattle.roadnet.specs.Batches.{changed_by, opened_at, NamesArcAmong, changed_arcs, changed_landmarks, HasFitNumbers, MayRefuseBatch};
 
@@ -177,6 +177,8 @@ impl Network {
     /// those before it. It takes no memory, whatever the network's size.
     ///
     /// Each command is judged by the network as it is and by the commands before it: n commands cost O(n^2) comparisons.
+    ///
+    /// Where arc 7 is open, `Close { arc: 7 }` and then `Reopen { arc: 7 }` are admitted; `Close { arc: 7 }` twice is `AlreadyClosed`.
     pub fn admit_all(&self, commands: &[Command]) -> Result<(), Refusal>
         ensures { MatchResult result (λ _. first_refusal self.now commands.now ≡ None) (λ refusal. first_refusal self.now commands.now ≡ Some refusal) }
     {
@@ -192,6 +194,8 @@ impl Network {
     ///
     /// Refused is the first command that is not admitted after those before it, with its refusal; and, where each is admitted, want of
     /// memory (11). It takes 4 bytes a landmark, from the network's allocator, and never a copy of the arcs.
+    ///
+    /// Where 3 and 6 are landmarks, `Mark { node: 1 }` and then `Unmark { node: 6 }` give 1 and 3; `Close { arc: 7 }` alone gives 3 and 6.
     pub fn prepare(&self, commands: &[Command]) -> Result<Vec<u32>, Refusal>
         ensures admitted { OnOk result (first_refusal self.now commands.now ≡ None) }
         ensures landmarks { IfOk result (λ landmarks. landmarks.items ≡ (changed_by self.now commands.now).landmarks) }

@@ -1,4 +1,4 @@
-ghost use Rattle.std.specs.Prelude.{false, ◌≡◌, ◌⊎◌, ◌≢◌, ℕ, ◌+◌, ◌-◌, ◌<◌, ◌≤◌, ◌↔◌, IsTrue, IsOk, OnOk, OnErr, IfOk, IfErr, MatchResult, Some, None, Err, length};
+ghost use Rattle.std.specs.Prelude.{false, ◌≡◌, ◌-◌, ◌<◌, ◌↔◌, IsTrue, OnOk, OnErr, IfOk, IfErr, MatchResult, Some, None, Err, length};
 ghost use Rattle.roadnet.specs.Made.{is_node_among, is_node_count, is_long, is_stray, has_long_arc, has_stray_end, has_stray_landmark, flaw_of, MayRefuseParts};
 ghost use Rattle.roadnet.specs.Members.{set_of};
 
@@ -104,6 +104,9 @@ impl Network {
     /// Refused, lowest number first, are a count of nodes that is not 1 to 33,554,432 (5), too many arcs (9), a length above
     /// 2147483647 (21), an end of an arc or a landmark that is no node (24), more than 1,000 landmarks (27); and, where none of the
     /// first four holds, want of memory for the landmarks (11).
+    ///
+    /// With six nodes and the arcs of `examples/six.gr`, the landmarks 6, 3 and 6 make a network with the landmarks 3 and 6; the landmark 7 is
+    /// refused with `NoSuchNode`, and so is an arc from 1 to 7.
     pub fn new(
         alloc: Global,
         nodes: u32,
@@ -176,6 +179,8 @@ impl Network {
     }
 
     /// The arc of number `k`, if there is one.
+    ///
+    /// Of `examples/six.gr`, 7 gives the arc from 5 to 2 of length 0; 0 and 9 give nothing.
     pub fn arc(&self, k: u64) -> Option<RoadArc>
         ensures { result ≡ arc_at self.now k }
     {
@@ -196,6 +201,9 @@ impl Network {
     }
 
     /// Whether the command may be carried out, and else the lowest refusal that applies. It takes no memory.
+    ///
+    /// In the network of `examples/six.gr`, whose arcs are open, `Close { arc: 7 }` is admitted, `Reopen { arc: 7 }` is `AlreadyOpen` and
+    /// `Mark { node: 7 }` is `NoSuchNode`. `Set { arc: 9, length: 2147483648 }` is `NoSuchArc`, the lower of the two that apply.
     pub fn admit(&self, command: &Command) -> Result<(), Refusal>
         ensures { MatchResult result (λ _. refusal_of self.now command.now ≡ None) (λ refusal. refusal_of self.now command.now ≡ Some refusal) }
     {
@@ -228,6 +236,8 @@ impl Network {
     /// refusal the network is as it was.
     ///
     /// An arc is changed in O(1), the landmarks by a binary search and one shift.
+    ///
+    /// `Close { arc: 7 }` closes arc 7 of `examples/six.gr`; a second one is `AlreadyClosed`.
     pub fn apply(&mut self, command: Command) -> Result<(), Refusal>
         ensures ok { OnOk result (step self.old command ≡ Some self.new) }
         ensures err { OnErr result (self.new ≡ self.old) }

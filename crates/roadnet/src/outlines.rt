@@ -105,6 +105,8 @@ impl Outline {
 
     /// The landmarks after an admitted `Mark`: all memory that carrying a command out takes. No other command takes any. Nothing is
     /// changed yet.
+    ///
+    /// Where 3 and 6 are landmarks, `Mark { node: 1 }` gives 1, 3 and 6, and `Unmark { node: 6 }` gives nothing.
     pub fn prepare(&self, command: &Command) -> Result<Option<Vec<u32>>, OutOfMemory>
         requires { EachAdmits self.now command.now }
         ensures none { IfOk result (λ room. IfNone room (TakesMemory command.now → ⊥)) }

@@ -25,7 +25,7 @@ pub struct RowCache {
 }
 
 impl RowCache {
-    ghost use Rattle.std.specs.Prelude.{◌≡◌, ◌≤◌, ◌⊎◌, ℕ, [], None, length, Contains, IsSome, IfSome, IsOk, IfOk, OnErr, MatchOption};
+    ghost use Rattle.std.specs.Prelude.{◌≡◌, ◌≤◌, ◌⊎◌, [], None, length, IsSome, IfSome, IsOk, IfOk, OnErr, MatchOption};
     ghost use Rattle.roadnet.specs.Net.{Net, IsNode};
     ghost use Rattle.snapshot.specs.Groups.{IsSnapshotOf};
     ghost use Rattle.rows.specs.Replies.{IsDistance};

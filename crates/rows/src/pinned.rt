@@ -97,6 +97,9 @@ impl<'a> Pinned<'a> {
     }
 
     /// The reply to `From`, by the landmark's row. It takes no memory.
+    ///
+    /// In the network of `examples/six.gr` with the landmark 3, from 3 to 4 it is `Length(2)`, from 3 to 1 `NoWalk`, and from 1 to 4
+    /// `Refused(NotALandmark)`.
     pub fn from_landmark(&self, landmark: u64, target: u64) -> Reply
         ensures { IsRight (viewed self.now).network (From landmark target) result }
     {
@@ -110,6 +113,9 @@ impl<'a> Pinned<'a> {
     }
 
     /// The reply to `Lower`, by the rows of all landmarks, each read once. It takes no memory.
+    ///
+    /// In the network of `examples/six.gr` with the landmark 3, whose row has 0 for node 5 and 5 for node 6, from 5 to 6 it is `AtLeast(5)`;
+    /// from 5 to 1 it is `NoWalk`, since 3 reaches 5 and not 1.
     pub fn lower(&self, source: u64, target: u64) -> Reply
         ensures { IsRight (viewed self.now).network (Lower source target) result }
     {
@@ -123,6 +129,8 @@ impl<'a> Pinned<'a> {
 
     /// The reply to `Dist`, by a row of the cache, or by a new one, which the cache then keeps where memory is there for it. The one
     /// error is want of memory for a new row, and then what the cache keeps stays as it was; a refused query takes none.
+    ///
+    /// In the network of `examples/six.gr`, from 1 to 6 it is `Length(15)`, from 6 to 1 `NoWalk`, and from 1 to 7 `Refused(NoSuchNode)`.
     pub fn dist<R: Threads>(
         &mut self,
         rt: &R,
@@ -146,6 +154,8 @@ impl<'a> Pinned<'a> {
 
     /// The replies to `Dist` for pairs of a source and a target, in their order, each as `dist` gives it. The one error is want of
     /// memory, for 16 bytes a pair and a row.
+    ///
+    /// In the network of `examples/six.gr`, the pairs (1, 6) and (6, 1) give `Length(15)` and `NoWalk`.
     pub fn batch<R: Threads>(
         &mut self,
         rt: &R,

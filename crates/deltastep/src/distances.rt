@@ -30,6 +30,8 @@ impl Distances {
 
     /// The least length of a walk to this node; nothing where no walk leads there, or where the network has no such node. It takes
     /// no memory.
+    ///
+    /// Of the row of node 1 in the network of `examples/six.gr`, 4 gives 12, and 0 and 7 give nothing.
     pub fn get(&self, node: u64) -> Option<u64>
         ensures { result ≡ distance_at self.now node }
     {

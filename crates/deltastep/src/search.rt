@@ -9,13 +9,13 @@ ghost use Rattle.snapshot.specs.declared.legs.Part.TheVariants.{Light, Heavy};
 ghost use Rattle.buckets.specs.Queue.{Entries, TakesLeast};
 ghost use Rattle.relax.specs.Values.{value_or};
 ghost use Rattle.relax.specs.Requests.{requests_of};
-ghost use Rattle.deltastep.specs.Remembered.{Memory};
 ghost use Rattle.deltastep.specs.Search.{AreLive, AreLiveFrom, AreReached, IsBetweenBuckets, EndsPhase, EmptiesBucket, IsSearch, IsRelaxedBut, IsBucketEmpty, AreInBucket, FitsFrom, IsSuited, Suits, top_of, MeetsRequests, requests_by, weight, HasQueued};
 
 use crate::distances::RowError;
 use crate::remembered::Remembered;
 use buckets::BucketQueue;
 use relax::{Team, Tentative};
+use roadnet::LONGEST_ARC;
 use snapshot::{Leg, Part, Snapshot};
 use std::alloc::Global;
 
@@ -27,7 +27,7 @@ fn top(snapshot: &Snapshot) -> u64
     ensures small { result ≤ 2 ^ 56 }
     ensures grouped { IsGrouped snapshot.now }
 {
-    u64::from(snapshot.nodes() - 1) * 2147483647 + 1
+    u64::from(snapshot.nodes() - 1) * u64::from(LONGEST_ARC) + 1
 }
 
 /// Whether the value is less than `delta` above the start of a bucket: for a value of the bucket or a later one, whether it is in the bucket.

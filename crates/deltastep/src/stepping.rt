@@ -1,4 +1,4 @@
-ghost use Rattle.std.specs.Prelude.{◌≡◌, ℕ, ◌+◌, ◌≤◌, ◌<◌, ◌↔◌, [], IfOk, IsTrue, MatchOption};
+ghost use Rattle.std.specs.Prelude.{◌≡◌, ◌+◌, ◌≤◌, ◌<◌, ◌↔◌, [], IfOk, IsTrue, MatchOption};
 ghost use Rattle.roadnet.specs.Net.{Net};
 ghost use Rattle.roadnet.specs.Walks.{RowOf};
 ghost use Rattle.snapshot.specs.Groups.{IsSnapshotOf};
@@ -59,8 +59,8 @@ fn row_by<Q: BucketQueue + Drop, T: Team>(
     Ok((Distances::from_words(tentative.into_words()), buckets))
 }
 
-/// Whether a search of this snapshot can begin with this queue: no node is queued, nothing was taken from it, its buckets are as wide
-/// as the snapshot's delta, and as many of them fit as hold the values that live at once. It takes no memory.
+/// Whether a search of this snapshot can begin with this queue: no node is queued, a node of value 0 fits, its buckets are as wide as
+/// the snapshot's delta, and as many of them fit as hold the values that live at once. It takes no memory.
 pub fn suits<Q: BucketQueue>(queue: &Q, snapshot: &Snapshot) -> bool
     ensures { IsTrue result ↔ Suits snapshot.now (Q.entries queue.now) (Q.accepts queue.now) (Q.width queue.now) (Q.span queue.now) }
 {
@@ -79,6 +79,8 @@ fn live_buckets(snapshot: &Snapshot) -> u64
 }
 
 /// How many lists a ring needs for a search of this snapshot, or nothing where that is more than a ring may have. It takes no memory.
+///
+/// Where the greatest length of an arc is 20, it is 5 for buckets of width 5, and 21 for buckets of width 1.
 pub fn ring_size(snapshot: &Snapshot) -> Option<u32>
     ensures { MatchOption result (most_lists < ring_buckets snapshot.now.greatest snapshot.now.delta) (λ size. (size ≡ ring_buckets snapshot.now.greatest snapshot.now.delta) × (size ≤ most_lists)) }
 {
@@ -92,6 +94,9 @@ pub fn ring_size(snapshot: &Snapshot) -> Option<u32>
 
 /// The row of `source` by delta-stepping with the given team and a queue of its own: a ring of as many buckets as are needed, where a ring
 /// may have so many, else ordered buckets.
+///
+/// Of the network of `examples/six.gr`, the row of node 1 has the lengths 0, 10, 10, 12, 10 and 15; in the row of node 6 no walk leads
+/// to any other node.
 pub fn row<T: Team>(
     alloc: Global,
     snapshot: &Snapshot,

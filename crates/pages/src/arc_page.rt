@@ -1,4 +1,4 @@
-ghost use Rattle.std.specs.Prelude.{◌≡◌, ◌*◌, ◌≤◌, length, drop, map, ◌==◌, IfOk, nat_le, ◌&&◌};
+ghost use Rattle.std.specs.Prelude.{◌≡◌, ◌*◌, ◌≤◌, length, drop, map, ◌==◌, IfOk, ◌&&◌};
 ghost use Rattle.std.specs.List.{list_all};
 ghost use Rattle.pages.specs.Spelling.{Decodes, SpelledArcs, arc_page, ends_of};
 ghost use Rattle.pages.specs.Reading.{read_items, read_ends, is_ends};

@@ -4,6 +4,7 @@ ghost use Rattle.pages.specs.Reading.{read_header};
 
 use crate::writer::{PAGE_SIZE, PageWriter, have_same_body};
 use byteorder::{BigEndian, ByteOrder};
+use roadnet::{MOST_ARCS, MOST_NODES};
 
 /// The first bytes of a store.
 pub const MAGIC: [u8; 8] = *b"ROADMRK1";
@@ -22,8 +23,8 @@ pub struct Header {
 fn is_header(header: &Header) -> bool
     ensures { IsTrue result ↔ IsHeader header.now }
 {
-    (1..=33_554_432).contains(&header.nodes)
-        && header.arcs <= 67_108_864
+    (1..=MOST_NODES).contains(&header.nodes)
+        && header.arcs <= MOST_ARCS as u32
         && (1..=65_536).contains(&header.journal_pages)
 }
 

@@ -19,14 +19,14 @@ impl Header {
     pub fn arc_pages(&self) -> u64
         ensures { result ≡ arc_pages self.now }
     {
-        u64::from(self.arcs).div_ceil(511)
+        u64::from(self.arcs).div_ceil(ARCS_A_PAGE as u64)
     }
 
     /// How many pages hold the words of the arcs, in each slot.
     pub fn word_pages(&self) -> u64
         ensures { result ≡ word_pages self.now }
     {
-        u64::from(self.arcs).div_ceil(1023)
+        u64::from(self.arcs).div_ceil(WORDS_A_PAGE as u64)
     }
 
     /// The number of the `i`-th arc page, counted from 0.
@@ -82,8 +82,8 @@ impl Header {
         ensures { result ≡ places_in_use 511 i self.now.arcs }
     {
         u64::from(self.arcs)
-            .saturating_sub(i.saturating_mul(511))
-            .min(511) as usize
+            .saturating_sub(i.saturating_mul(ARCS_A_PAGE as u64))
+            .min(ARCS_A_PAGE as u64) as usize
     }
 
     /// How many places of the `i`-th word page, counted from 0, are in use.
@@ -91,7 +91,7 @@ impl Header {
         ensures { result ≡ places_in_use 1023 i self.now.arcs }
     {
         u64::from(self.arcs)
-            .saturating_sub(i.saturating_mul(1023))
-            .min(1023) as usize
+            .saturating_sub(i.saturating_mul(WORDS_A_PAGE as u64))
+            .min(WORDS_A_PAGE as u64) as usize
     }
 }

@@ -7,11 +7,9 @@ ghost use Rattle.pages.specs.Reading.{read_items};
 
 use crate::writer::{PAGE_SIZE, PageWriter, have_same_body};
 use byteorder::{BigEndian, ByteOrder};
-use roadnet::OutOfMemory;
+use roadnet::{MOST_LANDMARKS, OutOfMemory};
 use std::alloc::{AllocError, Global};
 use std::marker::Model;
-
-const MOST_LANDMARKS: u32 = 1000;
 
 /// The greatest version of a store.
 pub const MOST_VERSIONS: u64 = 1 << 48;
@@ -68,7 +66,7 @@ fn are_fit(epoch: u64, version: u64, next_sequence: u64, count: u32) -> bool
     (1..=next_sequence.saturating_add(1)).contains(&epoch)
         && next_sequence <= version
         && version <= MOST_VERSIONS
-        && count <= MOST_LANDMARKS
+        && count <= MOST_LANDMARKS as u32
 }
 
 fn is_ascending(xs: &[u32]) -> bool

@@ -1,17 +1,10 @@
 -- What is told of a content that a stop left.
-use Rattle.std.proofs.Common.{◌≡◌, inl, ℕ, List, [], length, true, false, Some, refl, sym, ◌∙◌, subst}
-use Rattle.disk.specs.Contents.{Only}
-use Rattle.disk.specs.declared.disk.Disk.{Ghosts}
-use Rattle.roadnet.specs.declared.commands.Command.{Command}
+use Rattle.std.proofs.Common.{◌≡◌, ℕ, List, length, Some, refl, sym, ◌∙◌, subst}
 use Rattle.roadnet.specs.Net.{Net}
-use Rattle.pages.specs.declared.header.Header.{Header}
 use Rattle.storefile.specs.StoreFile.{StandsTidyFor}
-use Rattle.storefile.specs.Standing.{Standing, standing_of, IsTidyAt, IsBeforeOrAfter}
+use Rattle.storefile.specs.Standing.{Standing, standing_of, IsTidyAt}
 use Rattle.storefile.proofs.Rests.{standing_is}
-use Rattle.store.specs.declared.paged.Paged.{Paged}
 use Rattle.store.specs.Committing.{StandsTidily}
-use Rattle.store.specs.Durable.{told_by}
-use Rattle.store.proofs.Committed.{left_stands}
 
 -- A content that a stop left, once it is opened: what is told is what the content stood for, it has those journal pages, and it is tidy.
 pub reopened : (journal_pages : ℕ) (c : List ℕ) (net : Net) (version : ℕ) (x : Standing) → StandsTidyFor journal_pages c net version → standing_of c ≡ Some x

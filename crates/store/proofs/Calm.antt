@@ -1,6 +1,6 @@
 -- What a calm store is.
-use Rattle.std.proofs.Common.{◌≡◌, Bool, true, false, Option, Some, None, refl, ap, sym, ◌∙◌}
-use Rattle.std.specs.Prelude.{not, is_none, ◌&&◌, option_map}
+use Rattle.std.proofs.Common.{◌≡◌, Bool, true, false, Option, Some, None, refl}
+use Rattle.std.specs.Prelude.{not, is_none, ◌&&◌}
 use Rattle.disk.specs.declared.disk.Disk.{Ghosts}
 use Rattle.store.specs.declared.paged.Paged.{Paged}
 use Rattle.store.specs.Durable.{going_of, is_calm}

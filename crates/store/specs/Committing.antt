@@ -1,5 +1,5 @@
 -- What a commit answers, and what it asks of a store's content.
-use Rattle.std.specs.Prelude.{◌≡◌, ◌⊎◌, ℕ, ◌+◌, ◌^◌, Bool, List, length, Option, Some, None, nat_lt, nat_le, if◌then◌else◌}
+use Rattle.std.specs.Prelude.{◌≡◌, ◌⊎◌, ℕ, ◌+◌, Bool, List, length, Option, Some, None, nat_lt, nat_le, if◌then◌else◌}
 use Rattle.roadnet.specs.declared.refusals.Refusal.{Refusal}
 use Rattle.roadnet.specs.declared.refusals.Refusal.TheVariants.{Broken, VersionsExhausted, JournalFull, OutOfMemory, Device}
 use Rattle.roadnet.specs.declared.commands.Command.{Command}

@@ -1,12 +1,9 @@
 -- What a stop between two calls of a store may leave.
-use Rattle.std.specs.Prelude.{◌≡◌, ℕ, false, not, Bool, ◌&&◌, ◌==◌, is_none, unwrap_or, List, Option}
-use Rattle.disk.specs.Contents.{Only}
+use Rattle.std.specs.Prelude.{not, Bool, ◌&&◌, ◌==◌, is_none, unwrap_or, Option}
 use Rattle.disk.specs.declared.disk.Disk.{Ghosts}
-use Rattle.roadnet.specs.declared.commands.Command.{Command}
 use Rattle.pages.specs.Layout.{word_pages}
-use Rattle.storefile.specs.Standing.{Standing, IsBeforeOrAfter}
+use Rattle.storefile.specs.Standing.{Standing}
 use Rattle.store.specs.declared.paged.Paged.{Paged}
-use Rattle.store.specs.Committing.{StandsTidily}
 use Rattle.store.specs.Going.{Progress, progress_of}
 
 -- what the fields of a store say that its content stands for

@@ -1,5 +1,5 @@
 -- The parts of opening a file.
-use Rattle.std.specs.Prelude.{◌≡◌, ◌⊎◌, Some, ℕ, ◌+◌, ◌*◌, ◌^◌, nat_le, ◌==◌, List, length, Result, Ok}
+use Rattle.std.specs.Prelude.{◌≡◌, ◌⊎◌, Some, ℕ, ◌+◌, ◌*◌, nat_le, ◌==◌, List, length, Result, Ok}
 use Rattle.storefile.specs.StoreFile.{joined, StandsFor}
 use Rattle.roadnet.specs.declared.commands.Command.{Command}
 use Rattle.roadnet.specs.declared.refusals.Refusal.{Refusal}

@@ -7,9 +7,8 @@ ghost use Rattle.roadnet.specs.declared.refusals.Refusal.TheVariants.{Device as 
 ghost use Rattle.pagereader.specs.Outcomes.{failures_told};
 ghost use Rattle.storefile.specs.StoreFile.{StandsTidyFor};
 ghost use Rattle.storefile.specs.Standing.{IsBeforeOrAfter};
-ghost use Rattle.store.specs.Durable.{told_by};
+ghost use Rattle.store.specs.Durable.{told_by, going_of};
 ghost use Rattle.store.specs.Committing.{refusal_of_commit, MayRefuseCommit, StandsTidily};
-ghost use Rattle.store.specs.Durable.{going_of};
 ghost use Rattle.pages.specs.Limits.{most_commands};
 ghost use Rattle.store.specs.Going.{with_page_committed};
 

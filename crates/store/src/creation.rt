@@ -1,5 +1,5 @@
 // Making a store on an empty disk.
-ghost use Rattle.std.specs.Prelude.{◌≡◌, ◌≢◌, ◌⊎◌, ◌+◌, ◌*◌, ◌≤◌, ◌<◌, ◌^◌, ◌↔◌, false, Some, [], ◌∷◌, ◌++◌, length, All, IfOk, OnOk, IfErr, IsErr, MatchResult};
+ghost use Rattle.std.specs.Prelude.{◌≡◌, ◌≢◌, ◌⊎◌, ◌+◌, ◌*◌, ◌≤◌, ◌<◌, ◌^◌, ◌↔◌, false, Some, [], ◌++◌, length, IfOk, OnOk, IfErr, MatchResult};
 ghost use Rattle.roadnet.specs.declared.refusals.Refusal.TheVariants.{OutOfMemory as out_of_memory, Device as device, NotEmpty as not_empty};
 ghost use Rattle.disk.specs.Contents.{Only, Rose, failures_after};
 ghost use Rattle.disk.specs.Moments.{StaysSame};
@@ -7,10 +7,10 @@ ghost use Rattle.pages.specs.declared.content.Slot.TheVariants.{A as slot_a};
 ghost use Rattle.pages.specs.Spelling.{IsHeader};
 ghost use Rattle.pages.specs.Layout.{HeadOf, arc_pages, word_pages, page_number, page_count};
 ghost use Rattle.pagereader.specs.Outcomes.{failures_with};
-ghost use Rattle.storefile.specs.StoreFile.{part, StandsTidyFor};
+ghost use Rattle.storefile.specs.StoreFile.{StandsTidyFor};
 ghost use Rattle.storefile.specs.Standing.{IsTidyAt, standing_of};
 ghost use Rattle.store.specs.Durable.{told_by, going_of};
-ghost use Rattle.store.specs.Created.{header_of, blank_page, page_of_arcs, page_of_words, new_page, IsLaidOut, first_pages, with_gate, so_far, IsInStep};
+ghost use Rattle.store.specs.Created.{blank_page, page_of_arcs, page_of_words, IsLaidOut, first_pages, with_gate, so_far, IsInStep};
 
 use crate::batch::Batch;
 use crate::paged::Paged;

@@ -1,14 +1,13 @@
 // A slow judge of a file: what the format says of opening it, in its order, read off the bytes alone.
 ghost use Rattle.std.specs.Prelude.{◌≤◌, ◌^◌, IfOk};
 
-use roadnet::{Refusal, RoadArc};
+use pages::{MOST_COMMANDS, MOST_VERSIONS};
+use roadnet::{LONGEST_ARC, MOST_ARCS, MOST_LANDMARKS, MOST_NODES, Refusal, RoadArc};
 use std::alloc::{AllocError, Global};
 
 const MAGIC: [u8; 8] = *b"ROADMRK1";
 
 const PAGE: usize = 4096;
-
-const MOST_VERSIONS: u64 = 1 << 48;
 
 // What a file stands for.
 #[derive(Debug, Drop)]
@@ -80,8 +79,8 @@ fn judge_header(file: &[u8]) -> Result<Plan, Refusal> {
     let (arc_pages, word_pages) = (arcs.div_ceil(511), arcs.div_ceil(1023));
     let pages = u64::from(arc_pages) + 2 * u64::from(word_pages) + 3 + u64::from(journal_pages);
     let right = 1 <= nodes
-        && nodes <= 33_554_432
-        && arcs <= 67_108_864
+        && nodes <= MOST_NODES
+        && arcs <= MOST_ARCS as u32
         && 1 <= journal_pages
         && journal_pages <= 65_536
         && is_zero(file, 24, 4095)
@@ -162,7 +161,7 @@ fn judge_head(page: &[u8], number: u64, judged: &mut Judged) -> Result<u64, Refu
         && epoch <= next.saturating_add(1)
         && version <= MOST_VERSIONS
         && next <= version
-        && count <= 1000
+        && count <= MOST_LANDMARKS as u32
         && is_zero(page, 28 + 4 * count as usize, 4095);
     if !right {
         return Err(Refusal::Damaged { page: number });
@@ -244,7 +243,7 @@ fn judge_journal(file: &[u8], plan: &Plan, from: u64, judged: &mut Judged) -> Re
 // Whether a journal page is right, and its commands are admitted, each in its turn.
 fn judge_entry(page: &[u8], judged: &mut Judged) -> Result<bool, AllocError> {
     let count = number_at(page, 16, 2);
-    if count < 1 || count > 253 {
+    if count < 1 || count > MOST_COMMANDS as u64 {
         return Ok(false);
     }
     let end = 32 + 16 * count as usize;
@@ -293,7 +292,7 @@ fn change_arc(arcs: &mut [RoadArc], kind: u64, name: u32, length: u32) -> bool {
         return false;
     };
     match (kind, arc.opened) {
-        (1, _) if length <= 2_147_483_647 => arc.length = length,
+        (1, _) if length <= LONGEST_ARC => arc.length = length,
         (2, true) => arc.opened = false,
         (3, false) => arc.opened = true,
         _ => return false,
@@ -302,7 +301,7 @@ fn change_arc(arcs: &mut [RoadArc], kind: u64, name: u32, length: u32) -> bool {
 }
 
 fn mark(landmarks: &mut Vec<u32>, nodes: u32, name: u32) -> Result<bool, AllocError> {
-    if name < 1 || name > nodes || landmarks.len() >= 1000 || landmarks.contains(&name) {
+    if name < 1 || name > nodes || landmarks.len() >= MOST_LANDMARKS || landmarks.contains(&name) {
         return Ok(false);
     }
     landmarks.push(name)?;

@@ -20,6 +20,9 @@ use std::snapshot::Snapshot;
 ///
 /// It answers 46 where the disk is not empty, 43 where it fails, and 11. The disk is handed back then, at 46 and 11 with its content as it
 /// was. It takes linear time, and memory for a copy of the network and 64 pages.
+///
+/// With 64 journal pages, the store of `examples/six.gr` is a file of 70 pages: the header, one page of arcs, two slots of a head and
+/// one page of words, and the journal.
 pub fn create<D: Disk>(
     alloc: Global,
     disk: D,
@@ -65,6 +68,9 @@ pub fn create<D: Disk>(
 /// disk failed (43) or that no memory was given (11).
 ///
 /// It takes a pass over the arc pages and the current slot, the network, and 256 KiB for pages.
+///
+/// Of the 70 pages of `examples/six.gr`, with another first byte it answers `NotAStore`, with another number of the format `WrongFormat`, and
+/// cut to 69 pages `Damaged { page: 0 }`.
 pub fn open<D: Disk>(alloc: Global, disk: D) -> Result<Store<D>, (Refusal, D)>
     // The content stands for what the store tells, and is all that a stop may leave.
     ensures stands { D.honest disk → IfOk result (λ store. StandsAt (D.content disk) store.network store.version) }

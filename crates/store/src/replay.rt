@@ -1,4 +1,4 @@
-ghost use Rattle.std.specs.Prelude.{◌≡◌, ◌+◌, ◌*◌, ◌≤◌, ◌^◌, ◌↔◌, true, false, None, Some, length, IfOk, IfErr, OnErr};
+ghost use Rattle.std.specs.Prelude.{◌≡◌, ◌+◌, ◌*◌, ◌≤◌, ◌↔◌, true, false, None, Some, length, IfOk, IfErr, OnErr};
 ghost use Rattle.disk.specs.Moments.{StaysSame};
 ghost use Rattle.roadnet.specs.Step.{refusal_of, step, after};
 ghost use Rattle.pages.specs.Spelling.{IsHeader};

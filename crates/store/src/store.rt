@@ -103,6 +103,9 @@ impl<D: Disk> Store<D> {
     ///
     /// It makes four writes and syncs, or six where the page at that place is open. It takes 4 bytes a landmark, and never a copy of the
     /// arcs: n commands cost O(n^2) comparisons.
+    ///
+    /// In a new store of `examples/six.gr`, `Close { arc: 7 }` twice in one call is `AlreadyClosed`, and version 0 stays; once, it answers 1.
+    /// With a journal of 2 pages, the third commit before a checkpoint is `JournalFull`.
     pub fn commit(&mut self, commands: &[Command]) -> Result<u64, Refusal>
         requires some { 1 ≤ length commands.now }
         requires few { length commands.now ≤ most_commands }
@@ -145,6 +148,8 @@ impl<D: Disk> Store<D> {
     ///
     /// Refused is a broken store (45); then want of memory (11), where a checkpoint would begin, before any call of the disk; then a disk that
     /// failed (43), after which the store is broken and writes nothing more. After each other refusal nothing is changed.
+    ///
+    /// Where a slot has three word pages and a commit has made version 1, a part of 1 page answers `Going`, and then one of 64 `Done(1)`.
     pub fn checkpoint_part(&mut self, pages: u32) -> Result<Part, Refusal>
         requires some { 1 ≤ pages }
         requires few { pages ≤ 64 }
@@ -185,6 +190,8 @@ impl<D: Disk> Store<D> {
     /// Where none is going and no page is unchecked, nothing is done.
     ///
     /// Refused as a part is.
+    ///
+    /// With two commands made durable by a call each and no checkpoint going, it answers 2, and no page of the journal is unchecked then.
     pub fn checkpoint(&mut self) -> Result<u64, Refusal>
         // Network and version stay, also after a refusal.
         ensures network { self.new.network ≡ self.old.network }

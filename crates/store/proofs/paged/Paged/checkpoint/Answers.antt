@@ -1,4 +1,3 @@
-use Rattle.std.proofs.Common.{[], inl, ap, ◌∙◌}
 use Rattle.storefile.specs.Standing.{Standing}
 use Rattle.store.specs.Durable.{told_by}
 use Rattle.store.proofs.Checkpointed.{no_call, only_stands}

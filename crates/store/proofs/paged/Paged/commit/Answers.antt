@@ -1,4 +1,4 @@
-use Rattle.std.proofs.Common.{◌*◌, refl, arith}
+use Rattle.std.proofs.Common.{◌*◌, arith}
 use Rattle.roadnet.specs.Batches.{changed_by}
 use Rattle.disk.specs.Gated.{IsWholeOrShut}
 use Rattle.disk.proofs.Steps.{weaker}

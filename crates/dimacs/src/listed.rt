@@ -17,7 +17,7 @@ use crate::fault::{Code, Fault};
 use crate::feed::{Ended, parse_lines, read_lines};
 use crate::line::{Kind, kind_of, split_field};
 use crate::numeral::Numeral;
-use crate::reading::split_one;
+use crate::reading::{other_kind, split_one};
 use crate::taking::TakeLines;
 use std::alloc::Global;
 use std::io::BufRead;
@@ -102,13 +102,7 @@ fn count<I: NodeItem>(has_problem: bool, words: &[u8]) -> Result<u32, Code>
     ensures value { result ≡ count_after I.word has_problem (fields words.now) }
 {
     match after_kind::<I>(words) {
-        None => {
-            if has_problem {
-                Err(Code::SecondProblemLine)
-            } else {
-                Err(Code::WrongKind)
-            }
-        }
+        None => other_kind(has_problem),
         Some(counts) => {
             let Some(count) = split_one(counts) else {
                 return Err(Code::BadLine);

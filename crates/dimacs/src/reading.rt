@@ -1,5 +1,5 @@
 //! One line of a `.gr` text.
-ghost use Rattle.std.specs.Prelude.{◌≡◌, ◌≢◌, IfErr};
+ghost use Rattle.std.specs.Prelude.{◌≡◌, ◌≢◌, IfErr, if◌then◌else◌};
 ghost use Rattle.std.specs.Option.{option_map};
 ghost use Rattle.dimacs.specs.Lines.{fields};
 ghost use Rattle.dimacs.specs.Reading.{first_numeral, one_numeral, two_numerals, three_numerals, arc_of_numerals, item_after, problem_of_numerals, problem_after};
@@ -100,19 +100,24 @@ fn arc(
     })
 }
 
+/// The fault of a problem line with other kind words.
+pub(crate) fn other_kind<X>(has_problem: bool) -> Result<X, Code>
+    ensures { result ≡ (if has_problem then Err Code.SecondProblemLine else Err Code.WrongKind) }
+{
+    if has_problem {
+        Err(Code::SecondProblemLine)
+    } else {
+        Err(Code::WrongKind)
+    }
+}
+
 /// What a problem line announces, by the words after `p`.
 pub(crate) fn problem(has_problem: bool, words: &[u8]) -> Result<Problem, Code>
     ensures reads_nothing { IfErr result (λ code. code ≢ Code.Read) }
     ensures value { result ≡ problem_after has_problem (fields words.now) }
 {
     match after_kind(words) {
-        None => {
-            if has_problem {
-                Err(Code::SecondProblemLine)
-            } else {
-                Err(Code::WrongKind)
-            }
-        }
+        None => other_kind(has_problem),
         Some(counts) => {
             let Some((nodes, items)) = split_two(counts) else {
                 return Err(Code::BadLine);

@@ -108,7 +108,7 @@ pub record IsSuited (groups : Groups) (delta span : ℕ) : Type 0 where
   pub width : delta ≡ groups.delta
   pub window : ring_buckets groups.greatest groups.delta ≤ span
 
--- what a queue has to be for a search of the snapshot: fresh, of the snapshot's width, and with room for all values that live at once
+-- what a queue has to be for a search of the snapshot: empty, open to the value 0, of the snapshot's width, and with room for all values that live at once
 pub record Suits (groups : Groups) (entries : Entries) (accepts : ℕ → Type 0) (width span : ℕ) : Type 0 where
   pub empty : entries ≡ map.empty
   pub first : accepts 0

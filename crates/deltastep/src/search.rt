@@ -123,7 +123,7 @@ impl<Q: BucketQueue> Search<Q> {
         self.settle_all(alloc, snapshot, team, &mut remembered)
     }
 
-    /// Settles bucket after bucket until none is left, with a memory of nodes that was given and that is empty again.
+    /// Settles bucket after bucket until none is left, with the memory of nodes that is given.
     #[inline(always)]
     pub(crate) fn settle_all<T: Team>(
         &mut self,
@@ -145,9 +145,8 @@ impl<Q: BucketQueue> Search<Q> {
         Ok(())
     }
 
-    /// Settles a bucket, given the nodes that were taken from it: relaxes light legs while nodes come back into it, and then once the
-    /// heavy legs of all nodes that were taken. Nothing is left in the bucket.
-    /// The list is used for the nodes that come back.
+    /// Settles a bucket, given the nodes that were taken from it: relaxes light legs while nodes come back into it, and then the heavy
+    /// legs of all nodes that were taken. Nothing is left in the bucket. The list is used for the nodes that come back.
     #[inline(always)]
     pub fn settle<T: Team>(
         &mut self,

@@ -20,8 +20,8 @@ const MOST_LISTS: u64 = 65536;
 /// and queue.
 ///
 /// The nodes lie in buckets by the length of the shortest way found so far. The least bucket is taken out again and again while the
-/// light arcs of its nodes bring nodes back into it; then the heavy arcs of all nodes that were taken from it are relaxed once. Its one
-/// error is want of memory: it takes 9 bytes a node beside the queue, and 16 for each arc of a phase.
+/// light arcs of its nodes bring nodes back into it; then the heavy arcs of all nodes that were taken from it are relaxed. Its one error
+/// is want of memory: it takes 9 bytes a node beside the queue, and 16 for each arc of a phase.
 pub fn row_from<Q: BucketQueue + Drop, T: Team>(
     alloc: Global,
     snapshot: &Snapshot,
@@ -38,7 +38,7 @@ pub fn row_from<Q: BucketQueue + Drop, T: Team>(
     Ok(row)
 }
 
-/// The row of `source` with the given team, queue and memory of no node, and the queue, in which no node is left.
+/// The row of `source` with the given team, queue and memory of no node, and the queue as the search leaves it.
 #[inline(always)]
 fn row_by<Q: BucketQueue + Drop, T: Team>(
     alloc: Global,
@@ -109,8 +109,8 @@ pub fn row<T: Team>(
     row_in(alloc, snapshot, source, team, &mut Workspace::new())
 }
 
-/// The same row, by a search that takes what an earlier one left in the workspace, and leaves its own there: of rows that are made one after
-/// another, only the first asks for that memory. After an `Err` what the search took is given back, and nothing is left of it.
+/// The same row, whatever the workspace holds. The search takes what an earlier one left there and leaves its own, so that rows which are
+/// made one after another ask for that memory once; after an `Err` it leaves nothing. That saves time alone, and no clause speaks of it.
 pub fn row_in<T: Team>(
     alloc: Global,
     snapshot: &Snapshot,

@@ -1,5 +1,5 @@
 //! The texts of scripts.
-ghost use Rattle.std.specs.Prelude.{◌≡◌, ◌∷◌, IfSome, vec_items, map};
+ghost use Rattle.std.specs.Prelude.{◌≡◌, ◌∷◌, IfSome, map};
 ghost use Rattle.dimacs.specs.Lines.{fields};
 ghost use Rattle.dimacs.specs.Texts.{Parses, Reads, map_ok};
 ghost use Rattle.dimacs.specs.Counts.{CountsFailures, IsSameReader, failed_calls, reader_of};

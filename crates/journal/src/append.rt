@@ -1,4 +1,4 @@
-ghost use Rattle.std.specs.Prelude.{◌≡◌, ◌+◌, ◌*◌, ◌≤◌, ◌↔◌, All, length, OnOk};
+ghost use Rattle.std.specs.Prelude.{◌≡◌, ◌*◌, ◌≤◌, ◌↔◌, All, length, OnOk};
 ghost use Rattle.disk.specs.Contents.{Only, failures_after};
 ghost use Rattle.disk.specs.Moments.{LeavesOnly};
 ghost use Rattle.disk.specs.Gated.{IsWholeOrShut, with_page};

@@ -17,8 +17,8 @@ use std::thread::Threads;
 /// The version under which rows are kept, since all are of one network.
 const VERSION: u64 = 0;
 
-/// Answers queries of one network by delta-stepping. The arcs are grouped at the first query that needs a row, and a cache keeps rows:
-/// of the sources asked last, each is searched once.
+/// Answers queries of one network by delta-stepping. The arcs are grouped at the first query that needs a row, and a cache keeps the
+/// rows of the sources asked last.
 ///
 /// It takes 8 bytes an open arc and 8 a node, 8 a node for each row, and while a row is made what `deltastep::row` takes.
 #[derive(Drop)]

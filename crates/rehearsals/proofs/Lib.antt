@@ -1,3 +1,4 @@
 pub mod JointRead
 pub mod NewRuns
 pub mod BrokenOff
+pub mod TextsRun

@@ -5,12 +5,12 @@ use Rattle.dimacs.specs.Lines.{rows}
 use Rattle.dimacs.specs.Content.{content_of}
 use Rattle.dimacs.specs.Joint.{before_run, after_run}
 use Rattle.dimacs.specs.Gr.{FaultOfLines}
-use Rattle.dimacs.specs.Texts.{content_by}
+use Rattle.dimacs.specs.Texts.{OfReader, FaultOf, content_by}
 use Rattle.scripts.specs.ScriptTexts.{as_line, script_text}
 use Rattle.printing.specs.declared.failed.Failed.{Failed}
 use Rattle.printing.specs.declared.failed.Failed.TheVariants.{Text, Code}
 use Rattle.rehearsals.specs.declared.joint.Joint.{Joint}
-use Rattle.rehearsals.specs.Texts.{AfterNetwork, FaultOfScript, IsRehearsed, IsLeftOff}
+use Rattle.rehearsals.specs.Texts.{AfterNetwork, IsRehearsed, IsLeftOff}
 
 -- the journal's pages of a joint text's store
 abbrev pub pages_of_joint : ℕ
@@ -24,7 +24,7 @@ IsAnswered text old new = IsRehearsed pages_of_joint (before_run (rows text)) (a
 pub record IsScriptRefused (text : List ℕ) (left : Option (List ℕ)) (fault : Fault) : Type 0 where
   pub script : List ℕ
   pub script_is : rows script ≡ after_run (rows text)
-  pub told : FaultOfScript script left fault
+  pub told : FaultOf script_text script (OfReader left) fault
 
 -- which text has which fault: the network before `run`, or, where that has none, the script behind it
 abbrev pub IsTextRefused : ℕ → List ℕ → Option (List ℕ) → Fault → Type 0

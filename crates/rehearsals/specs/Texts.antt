@@ -1,16 +1,11 @@
 -- What the texts of a rehearsal, a network and a script, are answered with; and for what they are refused.
-use Rattle.std.specs.Prelude.{◌≡◌, ◌⊎◌, ◌≤◌, ℕ, zero, suc, List, map, Option, None, Ok, Err, ⊤}
+use Rattle.std.specs.Prelude.{◌≡◌, ◌⊎◌, ◌≤◌, ℕ, zero, suc, List, map, Option, None, Ok, ⊤}
 use Rattle.roadnet.specs.Net.{Net}
 use Rattle.roadnet.specs.declared.refusals.Refusal.TheVariants.{Write}
-use Rattle.dimacs.specs.declared.fault.Fault.{Fault}
-use Rattle.dimacs.specs.Faults.{Row, code_of}
-use Rattle.dimacs.specs.Format.{gr}
+use Rattle.dimacs.specs.Faults.{Row}
 use Rattle.dimacs.specs.Lines.{rows}
-use Rattle.dimacs.specs.Content.{content_of}
-use Rattle.dimacs.specs.Taking.{ByCode, ByMemory}
-use Rattle.dimacs.specs.Ends.{BreaksOff, FailsIn}
-use Rattle.dimacs.specs.Gr.{FaultOfLines}
-use Rattle.dimacs.specs.Texts.{content_by}
+use Rattle.dimacs.specs.Content.{gr_text, content_of}
+use Rattle.dimacs.specs.Texts.{Source, FaultOf, content_by}
 use Rattle.disk.specs.declared.stoppable.Pick.{Pick}
 use Rattle.store.specs.Opening.{IsPassing}
 use Rattle.machine.specs.declared.events.Event.{Event}
@@ -41,22 +36,12 @@ IsRehearsed journal_pages network script old new = OfTexts network script (λ ne
 abbrev pub IsLeftOff : ℕ → List Row → List Row → Option (List ℕ) → Option (List ℕ) → Failed → Type 0
 IsLeftOff journal_pages network script old new failed = OfTexts network script (λ net events. IsBrokenOff net journal_pages events old new failed)
 
--- a reader's script has this fault; or its reader failed, or memory ran out, in a line before which there is none
-abbrev pub FaultOfScript : List ℕ → Option (List ℕ) → Fault → Type 0
-FaultOfScript script left fault = ByCode fault.code (content_by script_text (rows script) ≡ Err fault) (FailsIn script_text.judge script (rows script) left fault.line) (BreaksOff script_text.judge (rows script) (rows script) fault.line)
-
 -- the fault of the network's text is told, or, where that has none, that of the script; or a reader failed in its text; or the run was
 -- broken off
-abbrev pub IsRefusedRehearsal : ℕ → List ℕ → List ℕ → Option (List ℕ) → Option (List ℕ) → Option (List ℕ) → Option (List ℕ) → Failed → Type 0
-IsRefusedRehearsal journal_pages network script network_left script_left old new (Text zero fault) = FaultOfLines network (rows network) network_left fault
-IsRefusedRehearsal journal_pages network script network_left script_left old new (Text (suc zero) fault) = AfterNetwork (rows network) (FaultOfScript script script_left fault)
-IsRefusedRehearsal journal_pages network script network_left script_left old new failed = IsLeftOff journal_pages (rows network) (rows script) old new failed
-
--- the same of texts in memory, in which no reader can fail
-abbrev pub IsTextRefusedRehearsal : ℕ → List ℕ → List ℕ → Option (List ℕ) → Option (List ℕ) → Failed → Type 0
-IsTextRefusedRehearsal journal_pages network script old new (Text zero fault) = ByMemory fault.code (content_of (rows network) ≡ Err fault) (BreaksOff (code_of gr) (rows network) (rows network) fault.line)
-IsTextRefusedRehearsal journal_pages network script old new (Text (suc zero) fault) = AfterNetwork (rows network) (ByMemory fault.code (content_by script_text (rows script) ≡ Err fault) (BreaksOff script_text.judge (rows script) (rows script) fault.line))
-IsTextRefusedRehearsal journal_pages network script old new failed = IsLeftOff journal_pages (rows network) (rows script) old new failed
+abbrev pub IsRefusedRehearsal : ℕ → List ℕ → List ℕ → Source → Source → Option (List ℕ) → Option (List ℕ) → Failed → Type 0
+IsRefusedRehearsal journal_pages network script network_source script_source old new (Text zero fault) = FaultOf gr_text network network_source fault
+IsRefusedRehearsal journal_pages network script network_source script_source old new (Text (suc zero) fault) = AfterNetwork (rows network) (FaultOf script_text script script_source fault)
+IsRefusedRehearsal journal_pages network script network_source script_source old new failed = IsLeftOff journal_pages (rows network) (rows script) old new failed
 
 -- a fault of one of the two texts, or 12, 11 or 43: nothing else
 abbrev pub IsOfRehearsal : Failed → Type 0

@@ -12,7 +12,7 @@ use crate::running::run_events;
 use dimacs::{Counted, read_gr_before_run};
 use disk::Pick;
 use machine::Event;
-use printing::{CountedWriter, Done, Failed};
+use printing::{CountedWriter, Done, Failed, of_text};
 use roadnet::Network;
 use scripts::read_script_counted;
 use std::alloc::Global;
@@ -55,13 +55,8 @@ fn read_joint<R: BufRead>(alloc: Global, reader: &mut Counted<'_, R>) -> Result<
         let events = Vec::new(alloc);
         return Ok(Joint { network, events });
     }
-    match read_script_counted(alloc, reader) {
-        Ok(events) => Ok(Joint { network, events }),
-        Err(fault) => Err(Failed::Text {
-            which: SCRIPT,
-            fault,
-        }),
-    }
+    let events = of_text(SCRIPT, read_script_counted(alloc, reader))?;
+    Ok(Joint { network, events })
 }
 
 /// Reads a joint text, runs the events of its script on a new store of its network, in memory and with 64 journal pages, and writes the
@@ -93,10 +88,7 @@ pub fn joint_counted<T: Threads, R: BufRead, W: Write>(
     ensures same_reader { IsSameReader reader.old reader.new }
     ensures same_writer { IsSameWriter out.old out.new }
 {
-    let joint = match read_joint(alloc, reader) {
-        Ok(joint) => joint,
-        Err(failed) => return Err(failed),
-    };
+    let joint = read_joint(alloc, reader)?;
     run_events(
         rt,
         alloc,

@@ -2,15 +2,16 @@
 ghost use Rattle.std.specs.Prelude.{◌≡◌, ◌≤◌, OnOk, IfOk, IfErr, IfSome};
 ghost use Rattle.std.specs.Option.{ForSome};
 ghost use Rattle.rows.specs.Kept.{IsWidth};
+ghost use Rattle.dimacs.specs.Texts.{InMemory, OfReader};
 ghost use Rattle.dimacs.specs.Counts.{failed_calls, reader_of, IsSameReader};
 ghost use Rattle.dimacs.specs.Lines.{rows};
 ghost use Rattle.printing.specs.Counting.{failed_writes, writer_of, IsSameWriter};
 ghost use Rattle.printing.specs.Failing.{CountsFirst, CountsSecond, CountsWrites};
-ghost use Rattle.rehearsals.specs.Texts.{IsRehearsed, IsRefusedRehearsal, IsTextRefusedRehearsal, IsOfRehearsal, KeepsWriter};
+ghost use Rattle.rehearsals.specs.Texts.{IsRehearsed, IsRefusedRehearsal, IsOfRehearsal, KeepsWriter};
 
 use crate::running::run_events;
 use dimacs::{Counted, parse_gr, read_gr_counted};
-use printing::{CountedWriter, Done, Failed};
+use printing::{CountedWriter, Done, Failed, of_text};
 use scripts::{parse_script, read_script_counted};
 use std::alloc::Global;
 use std::io::{BufRead, Write};
@@ -45,7 +46,7 @@ pub fn rehearse_counted<T: Threads, R: BufRead, Q: BufRead, W: Write>(
     ensures answered { OnOk result (IfSome (R.remaining (reader_of gr.old)) (λ network. IfSome (Q.remaining (reader_of script.old))
         (λ events. IsRehearsed journal_pages (rows network) (rows events) (W.contents (writer_of out.old)) (W.contents (writer_of out.new))))) }
     ensures refused { IfErr result (λ failed. IfSome (R.remaining (reader_of gr.old)) (λ network. IfSome (Q.remaining (reader_of script.old))
-        (λ events. IsRefusedRehearsal journal_pages network events (R.remaining (reader_of gr.new)) (Q.remaining (reader_of script.new))
+        (λ events. IsRefusedRehearsal journal_pages network events (OfReader (R.remaining (reader_of gr.new))) (OfReader (Q.remaining (reader_of script.new)))
         (W.contents (writer_of out.old)) (W.contents (writer_of out.new)) failed))) }
     ensures codes { IfErr result IsOfRehearsal }
     ensures unwritten { IfErr result (KeepsWriter (writer_of out.old) (writer_of out.new)) }
@@ -56,20 +57,8 @@ pub fn rehearse_counted<T: Threads, R: BufRead, Q: BufRead, W: Write>(
     ensures same_script_reader { IsSameReader script.old script.new }
     ensures same_writer { IsSameWriter out.old out.new }
 {
-    let network = match read_gr_counted(alloc, gr) {
-        Ok(network) => network,
-        Err(fault) => return Err(Failed::Text {
-            which: NETWORK,
-            fault,
-        }),
-    };
-    let events = match read_script_counted(alloc, script) {
-        Ok(events) => events,
-        Err(fault) => return Err(Failed::Text {
-            which: SCRIPT,
-            fault,
-        }),
-    };
+    let network = of_text(NETWORK, read_gr_counted(alloc, gr))?;
+    let events = of_text(SCRIPT, read_script_counted(alloc, script))?;
     run_events(rt, alloc, &network, journal_pages, delta, &events, out)
 }
 
@@ -88,23 +77,11 @@ pub fn rehearse_text<T: Threads, W: Write>(
     requires few { journal_pages ≤ 65536 }
     ensures width { IfOk result (λ done. done.delta ≡ delta) }
     ensures answered { OnOk result (IsRehearsed journal_pages (rows gr.now) (rows script.now) (W.contents out.old) (W.contents out.new)) }
-    ensures refused { IfErr result (IsTextRefusedRehearsal journal_pages gr.now script.now (W.contents out.old) (W.contents out.new)) }
+    ensures refused { IfErr result (IsRefusedRehearsal journal_pages gr.now script.now InMemory InMemory (W.contents out.old) (W.contents out.new)) }
     ensures unwritten { IfErr result (KeepsWriter out.old out.new) }
 {
-    let network = match parse_gr(alloc, gr) {
-        Ok(network) => network,
-        Err(fault) => return Err(Failed::Text {
-            which: NETWORK,
-            fault,
-        }),
-    };
-    let events = match parse_script(alloc, script) {
-        Ok(events) => events,
-        Err(fault) => return Err(Failed::Text {
-            which: SCRIPT,
-            fault,
-        }),
-    };
+    let network = of_text(NETWORK, parse_gr(alloc, gr))?;
+    let events = of_text(SCRIPT, parse_script(alloc, script))?;
     let mut out = CountedWriter::new(out);
     run_events(rt, alloc, &network, journal_pages, delta, &events, &mut out)
 }

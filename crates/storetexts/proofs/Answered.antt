@@ -5,19 +5,15 @@ use Rattle.roadnet.specs.declared.refusals.Refusal.TheVariants.{Write, OutOfMemo
 use Rattle.roadnet.specs.Net.{Net}
 use Rattle.dimacs.specs.declared.fault.Fault.{Fault}
 use Rattle.dimacs.specs.declared.pairs.Pair.{Pair}
-use Rattle.dimacs.specs.Ends.{BreaksOff}
-use Rattle.dimacs.specs.Faults.{code_of}
-use Rattle.dimacs.specs.Format.{p2p}
 use Rattle.dimacs.specs.Lines.{rows}
 use Rattle.dimacs.specs.Pairs.{p2p_text}
-use Rattle.dimacs.specs.Taking.{ByMemory}
-use Rattle.dimacs.specs.Texts.{content_by, Reads}
+use Rattle.dimacs.specs.Texts.{Source, OfReader, FaultOf, content_by, Reads}
 use Rattle.store.specs.State.{StandsAt}
 use Rattle.printing.specs.declared.failed.Failed.{Failed}
 use Rattle.printing.specs.declared.failed.Failed.TheVariants.{Text, Code}
 use Rattle.querytexts.specs.Batch.{AnswersAll}
 use Rattle.querytexts.specs.Once.{IsUnanswered}
-use Rattle.storetexts.specs.Asked.{IsAsked, IsRefusedAsk, IsTextRefusedAsk}
+use Rattle.storetexts.specs.Asked.{IsAsked, IsRefusedAsk}
 use Rattle.storetexts.specs.Refused.{IsOfStore, CountsDevice}
 
 module _ (Honest : Type 0) (file : List ℕ) (net : Net) (version nodes : ℕ) (stands : Honest → StandsAt file net version) (is : nodes ≡ net.nodes) where
@@ -39,36 +35,26 @@ module _ (Honest : Type 0) (file : List ℕ) (net : Net) (version nodes : ℕ) (
   asked_of (Ok done) (Some text) left list old new said answers = asked_one text list old new said.0 answers
   asked_of (Err failed) known left list old new said answers = tt
 
-  pub fault_of : (known left : Option (List ℕ)) (fault : Fault) → IfSome known (λ text. Reads (p2p_text nodes) text left (Err fault)) → IfSome known (λ text. IsRefusedAsk Honest file text left (Text 0 fault))
-  fault_of None left fault said = tt
-  fault_of (Some text) left fault said =
-      let here : Reads (p2p_text net.nodes) text left (Err fault) = subst (λ (n : ℕ). Reads (p2p_text n) text left (Err fault)) is said in
-      record { net = net; version = version; stands = stands; holds = here }
+  pub fault_of : (text : List ℕ) (source : Source) (fault : Fault) → FaultOf (p2p_text nodes) text source fault → IsRefusedAsk Honest file text source (Text 0 fault)
+  fault_of text source fault said = record { net = net; version = version; stands = stands; holds = subst (λ (n : ℕ). FaultOf (p2p_text n) text source fault) is said }
 
-  pub text_fault : (text : List ℕ) (fault : Fault) → ByMemory fault.code (content_by (p2p_text nodes) (rows text) ≡ Err fault) (BreaksOff (code_of (p2p nodes)) (rows text) (rows text) fault.line) → IsTextRefusedAsk Honest file text (Text 0 fault)
-  text_fault text fault said =
-      let here : ByMemory fault.code (content_by (p2p_text net.nodes) (rows text) ≡ Err fault) (BreaksOff (code_of (p2p net.nodes)) (rows text) (rows text) fault.line) =
-      subst (λ (n : ℕ). ByMemory fault.code (content_by (p2p_text n) (rows text) ≡ Err fault) (BreaksOff (code_of (p2p n)) (rows text) (rows text) fault.line)) is said in
-      record { net = net; version = version; stands = stands; holds = here }
+  pub fault_known : (known left : Option (List ℕ)) (fault : Fault) → IfSome known (λ text. Reads (p2p_text nodes) text left (Err fault)) → IfSome known (λ text. IsRefusedAsk Honest file text (OfReader left) (Text 0 fault))
+  fault_known None left fault said = tt
+  fault_known (Some text) left fault said = fault_of text (OfReader left) fault said
 
-unanswered : (Honest : Type 0) (file text : List ℕ) (left : Option (List ℕ)) (failed : Failed) → IsUnanswered failed → IsRefusedAsk Honest file text left failed
-unanswered Honest file text left (Code Write) h = tt
-unanswered Honest file text left (Code OutOfMemory) h = (refl, λ honest. inl (inl refl))
-unanswered Honest file text left _ h = absurd h
+unanswered : (Honest : Type 0) (file text : List ℕ) (source : Source) (failed : Failed) → IsUnanswered failed → IsRefusedAsk Honest file text source failed
+unanswered Honest file text source (Code Write) h = tt
+unanswered Honest file text source (Code OutOfMemory) h = (refl, λ honest. inl (inl refl))
+unanswered Honest file text source _ h = absurd h
 
-pub refused_so : {X : Type 0} (r : Result X Failed) (Honest : Type 0) (file : List ℕ) (known left : Option (List ℕ)) → IfErr r IsUnanswered → IfErr r (λ failed. IfSome known (λ text. IsRefusedAsk Honest file text left failed))
-refused_so (Ok done) Honest file known left h = tt
-refused_so (Err failed) Honest file None left h = tt
-refused_so (Err failed) Honest file (Some text) left h = unanswered Honest file text left failed h
+pub refused_so : {X : Type 0} (r : Result X Failed) (Honest : Type 0) (file text : List ℕ) (source : Source) → IfErr r IsUnanswered → IfErr r (IsRefusedAsk Honest file text source)
+refused_so (Ok done) Honest file text source h = tt
+refused_so (Err failed) Honest file text source h = unanswered Honest file text source failed h
 
-text_unanswered : (Honest : Type 0) (file text : List ℕ) (failed : Failed) → IsUnanswered failed → IsTextRefusedAsk Honest file text failed
-text_unanswered Honest file text (Code Write) h = tt
-text_unanswered Honest file text (Code OutOfMemory) h = (refl, λ honest. inl (inl refl))
-text_unanswered Honest file text _ h = absurd h
-
-pub text_refused_so : {X : Type 0} (r : Result X Failed) (Honest : Type 0) (file text : List ℕ) → IfErr r IsUnanswered → IfErr r (IsTextRefusedAsk Honest file text)
-text_refused_so (Ok done) Honest file text h = tt
-text_refused_so (Err failed) Honest file text h = text_unanswered Honest file text failed h
+pub refused_known : {X : Type 0} (r : Result X Failed) (Honest : Type 0) (file : List ℕ) (known : Option (List ℕ)) (source : Source) → IfErr r IsUnanswered → IfErr r (λ failed. IfSome known (λ text. IsRefusedAsk Honest file text source failed))
+refused_known (Ok done) Honest file known source h = tt
+refused_known (Err failed) Honest file None source h = tt
+refused_known (Err failed) Honest file (Some text) source h = unanswered Honest file text source failed h
 
 of_unanswered : (failed : Failed) → IsUnanswered failed → IsOfStore failed
 of_unanswered (Code Write) h = tt

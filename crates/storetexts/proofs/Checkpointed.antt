@@ -9,7 +9,8 @@ use Rattle.machine.specs.Runs.Happened.{Flushed}
 use Rattle.machine.specs.Lives.{Checkpoints}
 use Rattle.machine.proofs.Checkpoints.{but_checkpoint, state_checkpoint, done_behind, calm_checkpoint, calm_goes}
 use Rattle.machine.proofs.Kept.{states_kept}
-use Rattle.storetexts.specs.Applying.{IsSteady, KeepsAccepted, IsOfDevice}
+use Rattle.storetexts.specs.Applying.{IsSteady, KeepsAccepted}
+use Rattle.store.specs.Opening.{IsPassing}
 
 memory : (b : Bool) (refusal : Refusal) → b ≡ false → (cond b (Some Broken) None ≡ Some refusal) ⊎ ((cond b (Some Broken) None ≡ None) × (refusal ≡ OutOfMemory)) → refusal ≡ OutOfMemory
 memory true refusal calm h = cc
@@ -19,7 +20,7 @@ why : (old new : Machine) (refusal : Refusal) → Checkpoints old (Err refusal) 
 why old new refusal w calm =
     ⊎_elim (λ refused. inl (memory w.1.broken refusal (calm_goes w.0 old w.1 w.2 calm) refused.0)) (λ failed. inr (failed.2, ap (λ (m : Machine). m.broken) failed.3)) w.3
 
-pub refused_of_device : (old new : Machine) (refusal : Refusal) → Checkpoints old (Err refusal) new → old.broken ≡ false → IsOfDevice refusal
+pub refused_of_device : (old new : Machine) (refusal : Refusal) → Checkpoints old (Err refusal) new → old.broken ≡ false → IsPassing refusal
 refused_of_device old new refusal w calm = ⊎_elim (λ none. inl none) (λ device. inr device.0) (why old new refusal w calm)
 
 not_device : (refusal : Refusal) → refusal ≡ OutOfMemory → refusal ≡ Device → ⊥

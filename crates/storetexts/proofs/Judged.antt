@@ -4,12 +4,14 @@ use Rattle.std.specs.Prelude.{IfSome, IfErr}
 use Rattle.roadnet.specs.declared.refusals.Refusal.{Refusal}
 use Rattle.roadnet.specs.declared.refusals.Refusal.TheVariants.{OutOfMemory, Device, Write}
 use Rattle.pagereader.specs.Outcomes.{MayEndOpening}
+use Rattle.dimacs.specs.Texts.{Source}
 use Rattle.printing.specs.declared.failed.Failed.{Failed}
 use Rattle.printing.specs.declared.failed.Failed.TheVariants.{Text, Code}
 use Rattle.printing.specs.Failing.{CountsWrites}
-use Rattle.storetexts.specs.Applied.{IsRefusedApply, IsTextRefusedApply}
-use Rattle.storetexts.specs.Applying.{IsOfDevice, IsCutOffBy}
-use Rattle.storetexts.specs.Asked.{IsUnopened, IsRefusedAsk, IsTextRefusedAsk}
+use Rattle.storetexts.specs.Applied.{IsRefusedApply}
+use Rattle.storetexts.specs.Applying.{IsCutOffBy}
+use Rattle.store.specs.Opening.{IsPassing}
+use Rattle.storetexts.specs.Asked.{IsUnopened, IsRefusedAsk}
 use Rattle.storetexts.specs.Refused.{IsOfStore}
 
 pub opening_counts : (T : Type 0) (refusal : Refusal) (n : ℕ) → MayEndOpening refusal → CountsWrites {X = T} n n (Err (Code refusal))
@@ -21,43 +23,35 @@ opening_of_store Write may = tt
 opening_of_store _ may = may
 
 -- ---- asking
-pub ask_refused : (Honest : Type 0) (file text : List ℕ) (left : Option (List ℕ)) (refusal : Refusal) → IsUnopened Honest file refusal → IsRefusedAsk Honest file text left (Code refusal)
-ask_refused Honest file text left Write may = tt
-ask_refused Honest file text left _ may = may
+pub ask_refused : (Honest : Type 0) (file text : List ℕ) (source : Source) (refusal : Refusal) → IsUnopened Honest file refusal → IsRefusedAsk Honest file text source (Code refusal)
+ask_refused Honest file text source Write may = tt
+ask_refused Honest file text source _ may = may
 
-pub ask_refused_known : (Honest : Type 0) (file : List ℕ) (known left : Option (List ℕ)) (refusal : Refusal) → IsUnopened Honest file refusal → IfSome known (λ text. IsRefusedAsk Honest file text left (Code refusal))
-ask_refused_known Honest file None left refusal may = tt
-ask_refused_known Honest file (Some text) left refusal may = ask_refused Honest file text left refusal may
-
-pub ask_text_refused : (Honest : Type 0) (file text : List ℕ) (refusal : Refusal) → IsUnopened Honest file refusal → IsTextRefusedAsk Honest file text (Code refusal)
-ask_text_refused Honest file text Write may = tt
-ask_text_refused Honest file text _ may = may
+pub ask_refused_known : (Honest : Type 0) (file : List ℕ) (known : Option (List ℕ)) (source : Source) (refusal : Refusal) → IsUnopened Honest file refusal → IfSome known (λ text. IsRefusedAsk Honest file text source (Code refusal))
+ask_refused_known Honest file None source refusal may = tt
+ask_refused_known Honest file (Some text) source refusal may = ask_refused Honest file text source refusal may
 
 -- ---- applying
-pub apply_refused : (Honest : Type 0) (file text : List ℕ) (left : Option (List ℕ)) (refusal : Refusal) → IsUnopened Honest file refusal → IsRefusedApply Honest file text left (Code refusal)
-apply_refused Honest file text left Write may = tt
-apply_refused Honest file text left _ may = may
+pub apply_refused : (Honest : Type 0) (file text : List ℕ) (source : Source) (refusal : Refusal) → IsUnopened Honest file refusal → IsRefusedApply Honest file text source (Code refusal)
+apply_refused Honest file text source Write may = tt
+apply_refused Honest file text source _ may = may
 
-pub apply_refused_known : (Honest : Type 0) (file : List ℕ) (known left : Option (List ℕ)) (refusal : Refusal) → IsUnopened Honest file refusal → IfSome known (λ text. IsRefusedApply Honest file text left (Code refusal))
-apply_refused_known Honest file None left refusal may = tt
-apply_refused_known Honest file (Some text) left refusal may = apply_refused Honest file text left refusal may
-
-pub apply_text_refused : (Honest : Type 0) (file text : List ℕ) (refusal : Refusal) → IsUnopened Honest file refusal → IsTextRefusedApply Honest file text (Code refusal)
-apply_text_refused Honest file text Write may = tt
-apply_text_refused Honest file text _ may = may
+pub apply_refused_known : (Honest : Type 0) (file : List ℕ) (known : Option (List ℕ)) (source : Source) (refusal : Refusal) → IsUnopened Honest file refusal → IfSome known (λ text. IsRefusedApply Honest file text source (Code refusal))
+apply_refused_known Honest file None source refusal may = tt
+apply_refused_known Honest file (Some text) source refusal may = apply_refused Honest file text source refusal may
 
 -- ---- a refusal behind the opening
-pub ends_of_device : (refusal : Refusal) → IsOfDevice refusal → MayEndOpening refusal
+pub ends_of_device : (refusal : Refusal) → IsPassing refusal → MayEndOpening refusal
 ends_of_device refusal h = ⊎_elim
     (λ memory. subst MayEndOpening (sym memory) (let yes : MayEndOpening OutOfMemory = refl in yes))
     (λ device. subst MayEndOpening (sym device) (let yes : MayEndOpening Device = refl in yes))
     h
 
-pub unopened_of_device : (Honest : Type 0) (file : List ℕ) (refusal : Refusal) → IsOfDevice refusal → IsUnopened Honest file refusal
+pub unopened_of_device : (Honest : Type 0) (file : List ℕ) (refusal : Refusal) → IsPassing refusal → IsUnopened Honest file refusal
 unopened_of_device Honest file refusal h = (ends_of_device refusal h, λ honest. inl h)
 
 -- ---- a run of commands that ended early
-module _ (P : Failed → Type 0) (written : P (Code Write)) (device : (refusal : Refusal) → IsOfDevice refusal → P (Code refusal)) where
+module _ (P : Failed → Type 0) (written : P (Code Write)) (device : (refusal : Refusal) → IsPassing refusal → P (Code refusal)) where
   by_cut_off : (failed : Failed) → IsCutOffBy failed → P failed
   by_cut_off (Text which fault) h = absurd h
   by_cut_off (Code Write) h = written
@@ -70,9 +64,9 @@ module _ (P : Failed → Type 0) (written : P (Code Write)) (device : (refusal :
 pub kind_cut_off : {X : Type 0} (r : Result X Failed) → IfErr r IsCutOffBy → IfErr r IsOfStore
 kind_cut_off r h = if_cut_off IsOfStore tt (λ refusal of. opening_of_store refusal (ends_of_device refusal of)) r h
 
-pub cut_off_refused : {X : Type 0} (r : Result X Failed) (Honest : Type 0) (file : List ℕ) (known left : Option (List ℕ)) → IfErr r IsCutOffBy → IfErr r (λ failed. IfSome known (λ text. IsRefusedApply Honest file text left failed))
-cut_off_refused r Honest file None left h = if_cut_off (λ failed. Unit {0}) tt (λ refusal of. tt) r h
-cut_off_refused r Honest file (Some text) left h = if_cut_off (IsRefusedApply Honest file text left) tt (λ refusal of. apply_refused Honest file text left refusal (unopened_of_device Honest file refusal of)) r h
+pub cut_off_refused : {X : Type 0} (r : Result X Failed) (Honest : Type 0) (file text : List ℕ) (source : Source) → IfErr r IsCutOffBy → IfErr r (IsRefusedApply Honest file text source)
+cut_off_refused r Honest file text source h = if_cut_off (IsRefusedApply Honest file text source) tt (λ refusal of. apply_refused Honest file text source refusal (unopened_of_device Honest file refusal of)) r h
 
-pub cut_off_text_refused : {X : Type 0} (r : Result X Failed) (Honest : Type 0) (file text : List ℕ) → IfErr r IsCutOffBy → IfErr r (IsTextRefusedApply Honest file text)
-cut_off_text_refused r Honest file text h = if_cut_off (IsTextRefusedApply Honest file text) tt (λ refusal of. apply_text_refused Honest file text refusal (unopened_of_device Honest file refusal of)) r h
+pub cut_off_refused_known : {X : Type 0} (r : Result X Failed) (Honest : Type 0) (file : List ℕ) (known : Option (List ℕ)) (source : Source) → IfErr r IsCutOffBy → IfErr r (λ failed. IfSome known (λ text. IsRefusedApply Honest file text source failed))
+cut_off_refused_known r Honest file None source h = if_cut_off (λ failed. Unit {0}) tt (λ refusal of. tt) r h
+cut_off_refused_known r Honest file (Some text) source h = cut_off_refused r Honest file text source h

@@ -9,6 +9,7 @@ pub mod Telling
 pub mod Remaining
 pub mod Beginning
 pub mod Checkpointed
-pub mod Unbegun
+pub mod RefusedFirst
 pub mod TextApplied
 pub mod Checked
+pub mod Read

@@ -5,10 +5,11 @@ use Rattle.roadnet.specs.declared.refusals.Refusal.TheVariants.{Write, Device, N
 use Rattle.roadnet.specs.Net.{Net}
 use Rattle.disk.specs.Contents.{Only}
 use Rattle.storefile.specs.StoreFile.{StandsTidyFor}
+use Rattle.dimacs.specs.Texts.{Source}
 use Rattle.printing.specs.declared.failed.Failed.{Failed}
 use Rattle.printing.specs.declared.failed.Failed.TheVariants.{Code}
 use Rattle.printing.specs.Failing.{CountsWrites}
-use Rattle.storetexts.specs.Planned.{IsPlanned, IsOfPlan, IsUnmade, IsRefusedPlan, IsTextRefusedPlan, HasPlan, IsRefusedCreate, IsTextRefusedCreate, IsNewStore, IsNewStoreOf}
+use Rattle.storetexts.specs.Created.{IsNetworkOf, IsOfNetwork, IsOfMaking, IsRefusedNetwork, GiveNetwork, IsRefusedCreate, IsNewStore, IsNewStoreOf}
 use Rattle.storetexts.specs.Refused.{IfDone, IfNotEmpty, IfNoMemory, IfDevice}
 
 done_weaker : (r : Result (Unit {0}) Failed) (P Q : Type 0) → (P → Q) → IfDone r P → IfDone r Q
@@ -25,85 +26,69 @@ pub made_so : (net : Net) (pages : ℕ) (content : List ℕ) (left : List ℕ �
 made_so net pages content left stands only = record { stands = stands; only = only }
 
 both_known : (a b : Option (List ℕ)) (net : Net) (pages : ℕ) (content : List ℕ) (left : List ℕ → Type 0)
-    → IfSome a (λ n. IfSome b (λ l. IsPlanned n l net)) → IsNewStore net pages content left → IfSome a (λ n. IfSome b (λ l. IsNewStoreOf n l pages content left))
-both_known None b net pages content left planned made = tt
-both_known (Some n) None net pages content left planned made = tt
-both_known (Some n) (Some l) net pages content left planned made = record { net = net; planned = planned; made = made }
+    → IfSome a (λ n. IfSome b (λ l. IsNetworkOf n l net)) → IsNewStore net pages content left → IfSome a (λ n. IfSome b (λ l. IsNewStoreOf n l pages content left))
+both_known None b net pages content left is made = tt
+both_known (Some n) None net pages content left is made = tt
+both_known (Some n) (Some l) net pages content left is made = record { net = net; network_is = is; made = made }
 
 pub made_of_both : (r : Result (Unit {0}) Failed) (a b : Option (List ℕ)) (net : Net) (pages : ℕ) (content : List ℕ) (left : List ℕ → Type 0)
-    → IfSome a (λ n. IfSome b (λ l. IsPlanned n l net)) → IfDone r (IsNewStore net pages content left) → IfDone r (IfSome a (λ n. IfSome b (λ l. IsNewStoreOf n l pages content left)))
-made_of_both r a b net pages content left planned made = done_weaker r _ _ (both_known a b net pages content left planned) made
+    → IfSome a (λ n. IfSome b (λ l. IsNetworkOf n l net)) → IfDone r (IsNewStore net pages content left) → IfDone r (IfSome a (λ n. IfSome b (λ l. IsNewStoreOf n l pages content left)))
+made_of_both r a b net pages content left is made = done_weaker r _ _ (both_known a b net pages content left is) made
 
-module _ (failed : Failed) (of : IsOfPlan failed) where
-  pub plan_not_empty : (P : Type 0) → IfNotEmpty failed P
-  plan_not_empty P = go failed of
+module _ (failed : Failed) (of : IsOfNetwork failed) where
+  pub network_not_empty : (P : Type 0) → IfNotEmpty failed P
+  network_not_empty P = go failed of
     where
-      go : (f : Failed) → IsOfPlan f → IfNotEmpty f P
+      go : (f : Failed) → IsOfNetwork f → IfNotEmpty f P
       go (Code NotEmpty) h = absurd h
       go _ h = tt
 
-  pub plan_no_device : (P : Type 0) → IfDevice failed P
-  plan_no_device P = go failed of
+  pub network_no_device : (P : Type 0) → IfDevice failed P
+  network_no_device P = go failed of
     where
-      go : (f : Failed) → IsOfPlan f → IfDevice f P
+      go : (f : Failed) → IsOfNetwork f → IfDevice f P
       go (Code Device) h = absurd h
       go _ h = tt
 
-  pub plan_counts : (n : ℕ) → CountsWrites {X = Unit {0}} n n (Err failed)
-  plan_counts n = go failed of
+  pub network_counts : (n : ℕ) → CountsWrites {X = Unit {0}} n n (Err failed)
+  network_counts n = go failed of
     where
-      go : (f : Failed) → IsOfPlan f → CountsWrites {X = Unit {0}} n n (Err f)
+      go : (f : Failed) → IsOfNetwork f → CountsWrites {X = Unit {0}} n n (Err f)
       go (Code Write) h = absurd h
       go _ h = refl
 
 -- ---- what is refused
-pub unmade_refused : (n l : List ℕ) (nl ll : Option (List ℕ)) (failed : Failed) → HasPlan n l → IsUnmade failed → IsRefusedCreate n l nl ll failed
-unmade_refused n l nl ll (Code NotEmpty) plan h = plan
-unmade_refused n l nl ll (Code Device) plan h = plan
-unmade_refused n l nl ll (Code Write) plan h = plan
-unmade_refused n l nl ll (Code OutOfMemory) plan h = tt
-unmade_refused n l nl ll _ plan h = absurd h
+making_refused : (n l : List ℕ) (ns ls : Source) (failed : Failed) → GiveNetwork n l → IsOfMaking failed → IsRefusedCreate n l ns ls failed
+making_refused n l ns ls (Code NotEmpty) give h = give
+making_refused n l ns ls (Code Device) give h = give
+making_refused n l ns ls (Code Write) give h = give
+making_refused n l ns ls (Code OutOfMemory) give h = tt
+making_refused n l ns ls _ give h = absurd h
 
-pub plan_refused : (n l : List ℕ) (nl ll : Option (List ℕ)) (failed : Failed) → IsRefusedPlan n l nl ll failed → IsRefusedCreate n l nl ll failed
-plan_refused n l nl ll (Code NotEmpty) h = absurd h
-plan_refused n l nl ll (Code Device) h = absurd h
-plan_refused n l nl ll (Code Write) h = absurd h
-plan_refused n l nl ll _ h = h
+pub network_refused : (n l : List ℕ) (ns ls : Source) (failed : Failed) → IsRefusedNetwork n l ns ls failed → IsRefusedCreate n l ns ls failed
+network_refused n l ns ls (Code NotEmpty) h = absurd h
+network_refused n l ns ls (Code Device) h = absurd h
+network_refused n l ns ls (Code Write) h = absurd h
+network_refused n l ns ls _ h = h
 
-pub text_unmade_refused : (n l : List ℕ) (failed : Failed) → HasPlan n l → IsUnmade failed → IsTextRefusedCreate n l failed
-text_unmade_refused n l (Code NotEmpty) plan h = plan
-text_unmade_refused n l (Code Device) plan h = plan
-text_unmade_refused n l (Code Write) plan h = plan
-text_unmade_refused n l (Code OutOfMemory) plan h = tt
-text_unmade_refused n l _ plan h = absurd h
+pub network_refused_known : (a b : Option (List ℕ)) (ns ls : Source) (failed : Failed) → IfSome a (λ n. IfSome b (λ l. IsRefusedNetwork n l ns ls failed)) → IfSome a (λ n. IfSome b (λ l. IsRefusedCreate n l ns ls failed))
+network_refused_known None b ns ls failed h = tt
+network_refused_known (Some n) None ns ls failed h = tt
+network_refused_known (Some n) (Some l) ns ls failed h = network_refused n l ns ls failed h
 
-pub text_plan_refused : (n l : List ℕ) (failed : Failed) → IsTextRefusedPlan n l failed → IsTextRefusedCreate n l failed
-text_plan_refused n l (Code NotEmpty) h = absurd h
-text_plan_refused n l (Code Device) h = absurd h
-text_plan_refused n l (Code Write) h = absurd h
-text_plan_refused n l _ h = h
+pub all_making_refused : (r : Result (Unit {0}) Failed) (n l : List ℕ) (ns ls : Source) (net : Net) → IsNetworkOf n l net → IfErr r IsOfMaking → IfErr r (IsRefusedCreate n l ns ls)
+all_making_refused (Ok done) n l ns ls net is h = tt
+all_making_refused (Err failed) n l ns ls net is h = making_refused n l ns ls failed (net, is) h
 
-pub known_plan_refused : (a b nl ll : Option (List ℕ)) (failed : Failed) → IfSome a (λ n. IfSome b (λ l. IsRefusedPlan n l nl ll failed)) → IfSome a (λ n. IfSome b (λ l. IsRefusedCreate n l nl ll failed))
-known_plan_refused None b nl ll failed h = tt
-known_plan_refused (Some n) None nl ll failed h = tt
-known_plan_refused (Some n) (Some l) nl ll failed h = plan_refused n l nl ll failed h
+pub all_making_refused_known : (r : Result (Unit {0}) Failed) (a b : Option (List ℕ)) (ns ls : Source) (net : Net) → IfSome a (λ n. IfSome b (λ l. IsNetworkOf n l net)) → IfErr r IsOfMaking → IfErr r (λ failed. IfSome a (λ n. IfSome b (λ l. IsRefusedCreate n l ns ls failed)))
+all_making_refused_known (Ok done) a b ns ls net is h = tt
+all_making_refused_known (Err failed) None b ns ls net is h = tt
+all_making_refused_known (Err failed) (Some n) None ns ls net is h = tt
+all_making_refused_known (Err failed) (Some n) (Some l) ns ls net is h = making_refused n l ns ls failed (net, is) h
 
-known_unmade_refused : (a b nl ll : Option (List ℕ)) (failed : Failed) (net : Net) → IfSome a (λ n. IfSome b (λ l. IsPlanned n l net)) → IsUnmade failed → IfSome a (λ n. IfSome b (λ l. IsRefusedCreate n l nl ll failed))
-known_unmade_refused None b nl ll failed net plan h = tt
-known_unmade_refused (Some n) None nl ll failed net plan h = tt
-known_unmade_refused (Some n) (Some l) nl ll failed net plan h = unmade_refused n l nl ll failed (net, plan) h
-
-pub all_unmade_refused : (r : Result (Unit {0}) Failed) (a b nl ll : Option (List ℕ)) (net : Net) → IfSome a (λ n. IfSome b (λ l. IsPlanned n l net)) → IfErr r IsUnmade → IfErr r (λ failed. IfSome a (λ n. IfSome b (λ l. IsRefusedCreate n l nl ll failed)))
-all_unmade_refused (Ok done) a b nl ll net plan h = tt
-all_unmade_refused (Err failed) a b nl ll net plan h = known_unmade_refused a b nl ll failed net plan h
-
-pub all_text_unmade_refused : (r : Result (Unit {0}) Failed) (n l : List ℕ) (net : Net) → IsPlanned n l net → IfErr r IsUnmade → IfErr r (IsTextRefusedCreate n l)
-all_text_unmade_refused (Ok done) n l net plan h = tt
-all_text_unmade_refused (Err failed) n l net plan h = text_unmade_refused n l failed (net, plan) h
-
-pub unmade_kinds : (r : Result (Unit {0}) Failed) → IfErr r IsUnmade → IfErr r (λ failed. IsOfPlan failed ⊎ IsUnmade failed)
-unmade_kinds (Ok done) h = tt
-unmade_kinds (Err failed) h = inr h
+pub making_kinds : (r : Result (Unit {0}) Failed) → IfErr r IsOfMaking → IfErr r (λ failed. IsOfNetwork failed ⊎ IsOfMaking failed)
+making_kinds (Ok done) h = tt
+making_kinds (Err failed) h = inr h
 
 memory_so : (failed : Failed) (P Q : Type 0) → (P → Q) → IfNoMemory failed P → IfNoMemory failed Q
 memory_so (Code OutOfMemory) P Q f h = f h

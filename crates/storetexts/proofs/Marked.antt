@@ -10,7 +10,7 @@ use Rattle.roadnet.specs.Net.{Net}
 use Rattle.roadnet.specs.Step.{refusal_of, changed, step}
 use Rattle.roadnet.proofs.Members.{set_of_more}
 use Rattle.dimacs.proofs.Sets.{set_of_ascending}
-use Rattle.storetexts.specs.Planned.{with_landmarks}
+use Rattle.storetexts.specs.Created.{with_landmarks}
 
 -- a step changes the network as its command says
 pub stepped : (net next : Net) (command : Command) → step net command ≡ Some next → next ≡ changed net command

@@ -21,7 +21,7 @@ use Rattle.storetexts.specs.declared.outcomes.Outcome.{Outcome}
 use Rattle.storetexts.specs.declared.outcomes.Outcome.TheVariants.{Accepted, Refused}
 use Rattle.storetexts.specs.Outcomes.{ComesTo, accepted_in, outcome_lines, IsSettled, IsUnsettledAt}
 use Rattle.storetexts.specs.Applied.{commands_of, StandsAfter, AppliesAll, IsApplied, KeepsTold, TellsFront, AppliesSome, IsCutOff, IfNotWrite, TellsAll, StandsWithin, StandsAmong}
-use Rattle.storetexts.specs.Applying.{IsSteady, HaveCome, HaveComeSome, KeepsAccepted, AreTold, IfTold, IfEndedEarly, StandsIn}
+use Rattle.storetexts.specs.Applying.{IsSteady, HaveCome, FirstHaveCome, KeepsAccepted, AreTold, IfTold, IfEndedEarly, StandsIn}
 use Rattle.storetexts.proofs.Comings.{IsPlace, place, as_many}
 use Rattle.storetexts.proofs.Stepping.{latest_is, settled_all, come_kept, come_told}
 
@@ -86,7 +86,7 @@ front_of (Code Write) durable os told old new settled lines next = tt
 front_of _ durable os told old new settled lines next = record { written = lines; settled = settled; next = next }
 
 pub applies_some : (net : Net) (version : ℕ) (cs : List Command) (os : List Outcome) (told : ℕ) (m : Machine) (content : List ℕ) (left : List ℕ → Type 0) (old new : Option (List ℕ)) (failed : Failed)
-    → HaveComeSome net version cs os told m → IsSteady m → pending m ≤ 253 → Holds content left m → IfNotWrite failed (AreTold old new os told) → IfNotWrite failed (IsUnsettledAt m.durable os told)
+    → FirstHaveCome net version cs os told m → IsSteady m → pending m ≤ 253 → Holds content left m → IfNotWrite failed (AreTold old new os told) → IfNotWrite failed (IsUnsettledAt m.durable os told)
     → AppliesSome net version cs left old new failed
 applies_some net version cs os told m content left old new failed h s waiting holds lines next = record {
   taken = h.taken;
@@ -155,7 +155,7 @@ module _ (net : Net) (version : ℕ) (first m : Machine) (cs : List Command) (os
       applies_all net version cs os told m content left old new (subst (λ (n : ℕ). HaveCome net version cs os n m) whole (come net version begun)) s calm holds now whole lines
   ended_all (Err failed) come calm all lines now = tt
 
-  pub ended_some : (r : Result (Unit {0}) Failed) → ((n : Net) (v : ℕ) → HaveCome n v [] [] 0 first → HaveComeSome n v cs os told m) → pending m ≤ 253 → IfTold r (AreTold old new os told) → IfEndedEarly r (IsUnsettledAt m.durable os told)
+  pub ended_some : (r : Result (Unit {0}) Failed) → ((n : Net) (v : ℕ) → HaveCome n v [] [] 0 first → FirstHaveCome n v cs os told m) → pending m ≤ 253 → IfTold r (AreTold old new os told) → IfEndedEarly r (IsUnsettledAt m.durable os told)
       → IfErr r (AppliesSome net version cs left old new)
   ended_some (Ok done) some waiting lines next = tt
   ended_some (Err failed) some waiting lines next = applies_some net version cs os told m content left old new failed (some net version begun) s waiting holds lines next
@@ -175,7 +175,7 @@ told_all net version first m cs os told old new begun (Ok done) come all lines =
 told_all net version first m cs os told old new begun (Err failed) come all lines = tt
 
 -- a stop at any moment leaves a beginning of what was accepted of the first commands
-pub among : (net : Net) (version : ℕ) (cs : List Command) (os : List Outcome) (told : ℕ) (m : Machine) → HaveComeSome net version cs os told m → (c : List ℕ) → StandsIn m c → StandsAmong net version cs c
+pub among : (net : Net) (version : ℕ) (cs : List Command) (os : List Outcome) (told : ℕ) (m : Machine) → FirstHaveCome net version cs os told m → (c : List ℕ) → StandsIn m c → StandsAmong net version cs c
 among net version cs os told m h c w =
     let of_base : StandsWithin net m.base_version m.accepted c = subst (λ (n : Net). StandsWithin n m.base_version m.accepted c) h.come.base_is w in
     let of_version : StandsWithin net version m.accepted c = subst (λ (v : ℕ). StandsWithin net v m.accepted c) h.come.version_is of_base in

@@ -4,28 +4,24 @@ use Rattle.std.specs.Prelude.{IfSome, OnOk}
 use Rattle.roadnet.specs.declared.commands.Command.{Command}
 use Rattle.roadnet.specs.Net.{Net}
 use Rattle.dimacs.specs.declared.fault.Fault.{Fault}
-use Rattle.dimacs.specs.Commands.{command_code, commands}
 use Rattle.dimacs.specs.Commanded.{command_text}
-use Rattle.dimacs.specs.Ends.{BreaksOff}
-use Rattle.dimacs.specs.Lines.{rows}
-use Rattle.dimacs.specs.Taking.{ByMemory}
-use Rattle.dimacs.specs.Texts.{Reads}
+use Rattle.dimacs.specs.Texts.{Source, OfReader, FaultOf, Reads}
 use Rattle.disk.specs.Moments.{AddsNothing}
 use Rattle.machine.specs.Machine.{Machine}
 use Rattle.printing.specs.declared.failed.Failed.{Failed}
 use Rattle.printing.specs.declared.failed.Failed.TheVariants.{Text}
-use Rattle.storetexts.specs.Applied.{commands_of, TellsAll, IsTold, StandsAmong, IsWithin, AtAnyMoment, IsRefusedApply, IsTextRefusedApply}
+use Rattle.storetexts.specs.Applied.{commands_of, TellsAll, IsTold, StandsAmong, IsWithin, AtAnyMoment, IsRefusedApply}
 use Rattle.storetexts.specs.Applying.{HaveCome, AddsOnly}
 use Rattle.storetexts.specs.Asked.{OfStore}
 
 -- ---- a fault of the text, which is read behind the opening
 module _ (Honest : Type 0) (file : List ℕ) (Begun : Net → ℕ → Type 0) (o : OfStore Honest file Begun) where
-  pub fault_of : (known left : Option (List ℕ)) (fault : Fault) → IfSome known (λ text. Reads command_text text left (Err fault)) → IfSome known (λ text. IsRefusedApply Honest file text left (Text 0 fault))
-  fault_of None left fault said = tt
-  fault_of (Some text) left fault said = record { net = o.net; version = o.version; stands = o.stands; holds = said }
+  pub fault_of : (text : List ℕ) (source : Source) (fault : Fault) → FaultOf command_text text source fault → IsRefusedApply Honest file text source (Text 0 fault)
+  fault_of text source fault said = record { net = o.net; version = o.version; stands = o.stands; holds = said }
 
-  pub text_fault : (text : List ℕ) (fault : Fault) → ByMemory fault.code (commands_of text ≡ Err fault) (BreaksOff (command_code commands) (rows text) (rows text) fault.line) → IsTextRefusedApply Honest file text (Text 0 fault)
-  text_fault text fault said = record { net = o.net; version = o.version; stands = o.stands; holds = said }
+  pub fault_known : (known left : Option (List ℕ)) (fault : Fault) → IfSome known (λ text. Reads command_text text left (Err fault)) → IfSome known (λ text. IsRefusedApply Honest file text (OfReader left) (Text 0 fault))
+  fault_known None left fault said = tt
+  fault_known (Some text) left fault said = fault_of text (OfReader left) fault said
 
 -- ---- all of it told
 module _ {X : Type 0} (Honest : Type 0) (file : List ℕ) (first : Machine) (o : OfStore Honest file (λ net version. HaveCome net version [] [] 0 first)) (list : List Command) (r : Result X Failed) where

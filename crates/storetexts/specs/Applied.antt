@@ -1,17 +1,14 @@
 -- What a store and a writer are left with once the commands of a text were applied, and for what that is refused.
-use Rattle.std.specs.Prelude.{◌≡◌, ◌⊎◌, ℕ, zero, ◌+◌, ◌≤◌, List, All, Option, Some, Ok, Err, Result, ⊤, length, take}
+use Rattle.std.specs.Prelude.{◌≡◌, ◌⊎◌, ℕ, zero, ◌+◌, ◌≤◌, List, All, Option, Some, Ok, Result, ⊤, length, take}
 use Rattle.std.specs.Io.KnownBytes.{Appends}
 use Rattle.roadnet.specs.declared.commands.Command.{Command}
 use Rattle.roadnet.specs.declared.refusals.Refusal.TheVariants.{NotAStore, WrongFormat, Damaged, Write}
 use Rattle.roadnet.specs.Net.{Net}
 use Rattle.roadnet.specs.Step.{after}
 use Rattle.dimacs.specs.declared.fault.Fault.{Fault}
-use Rattle.dimacs.specs.Commands.{command_code, commands}
 use Rattle.dimacs.specs.Commanded.{command_text}
-use Rattle.dimacs.specs.Ends.{BreaksOff, FailsIn}
 use Rattle.dimacs.specs.Lines.{rows}
-use Rattle.dimacs.specs.Taking.{ByCode, ByMemory}
-use Rattle.dimacs.specs.Texts.{content_by}
+use Rattle.dimacs.specs.Texts.{Source, FaultOf, content_by}
 use Rattle.disk.specs.Contents.{Only}
 use Rattle.storefile.specs.StoreFile.{StandsTidyFor}
 use Rattle.printing.specs.declared.failed.Failed.{Failed}
@@ -137,25 +134,18 @@ ForTidy honest content disk Holds =
 
 -- ---- refusals
 
--- nothing was begun: the text has a fault, or the file is refused as it is opened
-abbrev pub IfUnbegun : Failed → Type 0 → Type 0
-IfUnbegun (Text which fault) same = same
-IfUnbegun (Code NotAStore) same = same
-IfUnbegun (Code WrongFormat) same = same
-IfUnbegun (Code (Damaged page)) same = same
-IfUnbegun (Code refusal) same = ⊤
+-- the text has a fault, or the file is refused as it is opened: no command was taken
+abbrev pub IfTextOrFileRefused : Failed → Type 0 → Type 0
+IfTextOrFileRefused (Text which fault) same = same
+IfTextOrFileRefused (Code NotAStore) same = same
+IfTextOrFileRefused (Code WrongFormat) same = same
+IfTextOrFileRefused (Code (Damaged page)) same = same
+IfTextOrFileRefused (Code refusal) same = ⊤
 
--- A store was opened and the text has its fault told, or the reader failed in it; or the writer failed; or opening is refused, memory ran
+-- A store was opened and the text has its fault told, or its reader failed in it; or the writer failed; or opening is refused, memory ran
 -- out, or the disk failed.
-abbrev pub IsRefusedApply : Type 0 → List ℕ → List ℕ → Option (List ℕ) → Failed → Type 0
-IsRefusedApply Honest file text left (Text zero fault) = OfStore Honest file (λ net version. ByCode fault.code (commands_of text ≡ Err fault) (FailsIn (command_code commands) text (rows text) left fault.line) (BreaksOff (command_code commands) (rows text) (rows text) fault.line))
-IsRefusedApply Honest file text left (Code Write) = ⊤
-IsRefusedApply Honest file text left (Code refusal) = IsUnopened Honest file refusal
-IsRefusedApply Honest file text left failed = ⊥
-
--- the same of a text in memory, in which no reader can fail
-abbrev pub IsTextRefusedApply : Type 0 → List ℕ → List ℕ → Failed → Type 0
-IsTextRefusedApply Honest file text (Text zero fault) = OfStore Honest file (λ net version. ByMemory fault.code (commands_of text ≡ Err fault) (BreaksOff (command_code commands) (rows text) (rows text) fault.line))
-IsTextRefusedApply Honest file text (Code Write) = ⊤
-IsTextRefusedApply Honest file text (Code refusal) = IsUnopened Honest file refusal
-IsTextRefusedApply Honest file text failed = ⊥
+abbrev pub IsRefusedApply : Type 0 → List ℕ → List ℕ → Source → Failed → Type 0
+IsRefusedApply Honest file text source (Text zero fault) = OfStore Honest file (λ net version. FaultOf command_text text source fault)
+IsRefusedApply Honest file text source (Code Write) = ⊤
+IsRefusedApply Honest file text source (Code refusal) = IsUnopened Honest file refusal
+IsRefusedApply Honest file text source failed = ⊥

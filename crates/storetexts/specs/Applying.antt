@@ -2,9 +2,9 @@
 use Rattle.std.specs.Prelude.{◌≡◌, ◌⊎◌, ℕ, ◌≤◌, false, List, [], ◌∷◌, ◌++◌, Option, None, All, length, take, Result, Ok, Err, ⊤}
 use Rattle.std.specs.Io.KnownBytes.{Appends}
 use Rattle.roadnet.specs.declared.commands.Command.{Command}
-use Rattle.roadnet.specs.declared.refusals.Refusal.{Refusal}
-use Rattle.roadnet.specs.declared.refusals.Refusal.TheVariants.{OutOfMemory, Device, Write}
+use Rattle.roadnet.specs.declared.refusals.Refusal.TheVariants.{Write}
 use Rattle.roadnet.specs.Net.{Net}
+use Rattle.store.specs.Opening.{IsPassing}
 use Rattle.machine.specs.Machine.{Machine, IsState}
 use Rattle.keeper.specs.Keeping.{LedgerState}
 use Rattle.store.specs.State.{CameTidy}
@@ -43,10 +43,6 @@ pub record KeepsAccepted (old new : Machine) : Type 0 where
 abbrev pub AreTold : Option (List ℕ) → Option (List ℕ) → List Outcome → ℕ → Type 0
 AreTold before now outcomes told = Appends before now (outcome_lines (take told outcomes))
 
--- no memory was given, or the disk failed
-abbrev pub IsOfDevice : Refusal → Type 0
-IsOfDevice refusal = (refusal ≡ OutOfMemory) ⊎ (refusal ≡ Device)
-
 -- the lines are known unless the writer failed
 abbrev pub IfTold : Result (Unit {0}) Failed → Type 0 → Type 0
 IfTold (Ok done) told = told
@@ -61,10 +57,10 @@ IfEndedEarly (Err failed) P = IfNotWrite failed P
 abbrev pub IsCutOffBy : Failed → Type 0
 IsCutOffBy (Text which fault) = ⊥
 IsCutOffBy (Code Write) = ⊤
-IsCutOffBy (Code refusal) = IsOfDevice refusal
+IsCutOffBy (Code refusal) = IsPassing refusal
 
 -- the same as `HaveCome` of the first of these commands
-pub record HaveComeSome (net : Net) (version : ℕ) (commands : List Command) (outcomes : List Outcome) (told : ℕ) (m : Machine) : Type 0 where
+pub record FirstHaveCome (net : Net) (version : ℕ) (commands : List Command) (outcomes : List Outcome) (told : ℕ) (m : Machine) : Type 0 where
   pub taken : ℕ
   pub come : HaveCome net version (take taken commands) outcomes told m
 
@@ -125,8 +121,8 @@ ForCame honest content ledger Holds = CameTidy honest content ledger.given → F
 abbrev pub ComeTo : Machine → List Command → Progress → Type 0
 ComeTo first commands p = ForBegun first (λ net version. HaveCome net version commands p.outcomes p.told p.machine)
 
-abbrev pub SomeComeTo : Machine → List Command → Progress → Type 0
-SomeComeTo first commands p = ForBegun first (λ net version. HaveComeSome net version commands p.outcomes p.told p.machine)
+abbrev pub FirstComeTo : Machine → List Command → Progress → Type 0
+FirstComeTo first commands p = ForBegun first (λ net version. FirstHaveCome net version commands p.outcomes p.told p.machine)
 
 -- ---- what a stop leaves meanwhile
 

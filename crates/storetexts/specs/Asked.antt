@@ -1,14 +1,11 @@
 -- What the pairs of a text are answered with by a store, and for what they are refused.
-use Rattle.std.specs.Prelude.{◌≡◌, ℕ, zero, List, Option, Ok, Err, ⊤}
+use Rattle.std.specs.Prelude.{◌≡◌, ℕ, zero, List, Option, Ok, ⊤}
 use Rattle.roadnet.specs.declared.refusals.Refusal.{Refusal}
 use Rattle.roadnet.specs.declared.refusals.Refusal.TheVariants.{Write}
 use Rattle.roadnet.specs.Net.{Net}
 use Rattle.dimacs.specs.declared.pairs.Pair.{Pair}
-use Rattle.dimacs.specs.Ends.{BreaksOff, FailsIn}
-use Rattle.dimacs.specs.Faults.{code_of}
-use Rattle.dimacs.specs.Format.{p2p}
-use Rattle.dimacs.specs.Lines.{rows}
-use Rattle.dimacs.specs.Taking.{ByCode, ByMemory}
+use Rattle.dimacs.specs.Pairs.{p2p_text}
+use Rattle.dimacs.specs.Texts.{Source, FaultOf}
 use Rattle.pagereader.specs.Outcomes.{MayEndOpening}
 use Rattle.store.specs.State.{StandsAt}
 use Rattle.store.specs.Opening.{MayRefuseToOpen}
@@ -37,17 +34,10 @@ pub record AnswersText (text : List ℕ) (old new : Option (List ℕ)) (net : Ne
 abbrev pub IsAsked : Type 0 → List ℕ → List ℕ → Option (List ℕ) → Option (List ℕ) → Type 0
 IsAsked Honest file text old new = OfStore Honest file (AnswersText text old new)
 
--- The store was opened and the text has its fault told, judged by the network of the store, or the reader failed in it; or the writer
+-- The store was opened and the text has its fault told, judged by the network of the store, or its reader failed in it; or the writer
 -- failed; or opening is refused, or memory ran out.
-abbrev pub IsRefusedAsk : Type 0 → List ℕ → List ℕ → Option (List ℕ) → Failed → Type 0
-IsRefusedAsk Honest file text left (Text zero fault) = OfStore Honest file (λ net version. ByCode fault.code (pairs_in net text ≡ Err fault) (FailsIn (code_of (p2p net.nodes)) text (rows text) left fault.line) (BreaksOff (code_of (p2p net.nodes)) (rows text) (rows text) fault.line))
-IsRefusedAsk Honest file text left (Code Write) = ⊤
-IsRefusedAsk Honest file text left (Code refusal) = IsUnopened Honest file refusal
-IsRefusedAsk Honest file text left failed = ⊥
-
--- the same of a text in memory, in which no reader can fail
-abbrev pub IsTextRefusedAsk : Type 0 → List ℕ → List ℕ → Failed → Type 0
-IsTextRefusedAsk Honest file text (Text zero fault) = OfStore Honest file (λ net version. ByMemory fault.code (pairs_in net text ≡ Err fault) (BreaksOff (code_of (p2p net.nodes)) (rows text) (rows text) fault.line))
-IsTextRefusedAsk Honest file text (Code Write) = ⊤
-IsTextRefusedAsk Honest file text (Code refusal) = IsUnopened Honest file refusal
-IsTextRefusedAsk Honest file text failed = ⊥
+abbrev pub IsRefusedAsk : Type 0 → List ℕ → List ℕ → Source → Failed → Type 0
+IsRefusedAsk Honest file text source (Text zero fault) = OfStore Honest file (λ net version. FaultOf (p2p_text net.nodes) text source fault)
+IsRefusedAsk Honest file text source (Code Write) = ⊤
+IsRefusedAsk Honest file text source (Code refusal) = IsUnopened Honest file refusal
+IsRefusedAsk Honest file text source failed = ⊥

@@ -1,6 +1,6 @@
 pub mod Refused
 pub mod Outcomes
-pub mod Planned
+pub mod Created
 pub mod Asked
 pub mod Applied
 pub mod Applying

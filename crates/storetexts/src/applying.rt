@@ -2,6 +2,7 @@
 ghost use Rattle.std.specs.Prelude.{◌≡◌, ◌⊎◌, ◌+◌, ◌≤◌, ◌<◌, ◌↔◌, [], false, length, vec_capacity, OnOk, IfOk, IfErr, IfSome, MatchResult};
 ghost use Rattle.std.specs.Bool.{Decides};
 ghost use Rattle.dimacs.specs.Counts.{failed_calls, reader_of, IsSameReader};
+ghost use Rattle.dimacs.specs.Texts.{InMemory, OfReader};
 ghost use Rattle.disk.specs.Moments.{StaysSame};
 ghost use Rattle.pagereader.specs.Outcomes.{failures_told, failures_with};
 ghost use Rattle.keeper.specs.Keeping.{Holds};
@@ -10,10 +11,11 @@ ghost use Rattle.store.specs.State.{CameTidy};
 ghost use Rattle.printing.specs.Counting.{failed_writes, writer_of, IsSameWriter, CountsFailure};
 ghost use Rattle.printing.specs.Failing.{CountsReads, CountsWrites};
 ghost use Rattle.storetexts.specs.Applied.{ForTidy, AppliesAll, IsApplied, AppliesSome, IsCutOff, TellsAll, IsTold, StandsAmong, IsWithin};
-ghost use Rattle.storetexts.specs.Applied.{AtAnyMoment, IsRefusedApply, IsTextRefusedApply, IfUnbegun};
+ghost use Rattle.storetexts.specs.Applied.{AtAnyMoment, IsRefusedApply, IfTextOrFileRefused};
 ghost use Rattle.storetexts.specs.Applying.{IsSteady, HaveCome, ForBegun, ForCame, AddsOnly, Grows, Leaves, IfTold, IfEndedEarly, AreTold};
-ghost use Rattle.storetexts.specs.Applying.{progress, ComesBehind, ComesStill, ComeTo, SomeComeTo, SameTold, SettledTo, StopsAt};
-ghost use Rattle.storetexts.specs.Applying.{KeepsAccepted, TellsTo, TellsOn, AllTold, IsOfDevice, IsCutOffBy};
+ghost use Rattle.storetexts.specs.Applying.{progress, ComesBehind, ComesStill, ComeTo, FirstComeTo, SameTold, SettledTo, StopsAt};
+ghost use Rattle.storetexts.specs.Applying.{KeepsAccepted, TellsTo, TellsOn, AllTold, IsCutOffBy};
+ghost use Rattle.store.specs.Opening.{IsPassing};
 ghost use Rattle.storetexts.specs.Asked.{OfStore, IsUnopened};
 ghost use Rattle.storetexts.specs.Outcomes.{IsSettled};
 ghost use Rattle.storetexts.specs.Refused.{CountsDevice, IsOfStore};
@@ -23,7 +25,7 @@ use dimacs::{Counted, parse_commands, read_commands_counted};
 use disk::Disk;
 use keeper::Ledger;
 use pages::MOST_COMMANDS;
-use printing::{CountedWriter, Failed, put_reply};
+use printing::{CountedWriter, Failed, of_text, put_reply};
 use roadnet::{Command, Refusal};
 use std::alloc::Global;
 use std::io::{BufRead, Write};
@@ -80,7 +82,7 @@ impl<D: Disk> Applying<D> {
         ensures pending { pending self.new.ledger.machine ≡ pending self.old.ledger.machine }
         ensures calm { OnOk result (self.new.ledger.machine.broken ≡ false) }
         ensures free { OnOk result (self.new.ledger.machine.unchecked ≡ 0) }
-        ensures refused { IfErr result IsOfDevice }
+        ensures refused { IfErr result IsPassing }
         ensures outcomes { self.new.outcomes ≡ self.old.outcomes }
         ensures told { self.new.told ≡ self.old.told }
         ensures counted { D.failures self.new.ledger.disk ≡ failures_told result (D.failures self.old.ledger.disk) }
@@ -104,7 +106,7 @@ impl<D: Disk> Applying<D> {
         ensures kept { KeepsAccepted self.old.ledger.machine self.new.ledger.machine }
         ensures calm { OnOk result (self.new.ledger.machine.broken ≡ false) }
         ensures done { OnOk result (pending self.new.ledger.machine ≡ 0) }
-        ensures refused { IfErr result IsOfDevice }
+        ensures refused { IfErr result IsPassing }
         ensures outcomes { self.new.outcomes ≡ self.old.outcomes }
         ensures told { self.new.told ≡ self.old.told }
         ensures counted { D.failures self.new.ledger.disk ≡ failures_told result (D.failures self.old.ledger.disk) }
@@ -130,7 +132,7 @@ impl<D: Disk> Applying<D> {
         ensures kept { KeepsAccepted self.old.ledger.machine self.new.ledger.machine }
         ensures calm { OnOk result (self.new.ledger.machine.broken ≡ false) }
         ensures done { OnOk result (pending self.new.ledger.machine ≡ 0) }
-        ensures refused { IfErr result IsOfDevice }
+        ensures refused { IfErr result IsPassing }
         ensures outcomes { self.new.outcomes ≡ self.old.outcomes }
         ensures told { self.new.told ≡ self.old.told }
         ensures counted { D.failures self.new.ledger.disk ≡ failures_told result (D.failures self.old.ledger.disk) }
@@ -274,7 +276,7 @@ impl<D: Disk> Applying<D> {
         requires untold { self.old.told ≡ 0 }
         requires room { length commands.now ≤ vec_capacity self.old.outcomes }
         ensures steady { IsSteady self.new.ledger.machine }
-        ensures some { SomeComeTo self.old.ledger.machine commands.now (progress self.new) }
+        ensures some { FirstComeTo self.old.ledger.machine commands.now (progress self.new) }
         ensures come { OnOk result (ComeTo self.old.ledger.machine commands.now (progress self.new)) }
         ensures calm { OnOk result (self.new.ledger.machine.broken ≡ false) }
         ensures waiting { pending self.new.ledger.machine ≤ 253 }
@@ -312,7 +314,7 @@ impl<D: Disk> Applying<D> {
         requires untold { self.old.told ≡ 0 }
         requires room { length commands.now ≤ vec_capacity self.old.outcomes }
         ensures steady { IsSteady self.new.ledger.machine }
-        ensures some { SomeComeTo self.old.ledger.machine commands.now (progress self.new) }
+        ensures some { FirstComeTo self.old.ledger.machine commands.now (progress self.new) }
         ensures come { OnOk result (ComeTo self.old.ledger.machine commands.now (progress self.new)) }
         ensures calm { OnOk result (self.new.ledger.machine.broken ≡ false) }
         ensures done { OnOk result (pending self.new.ledger.machine ≡ 0) }
@@ -481,12 +483,12 @@ pub fn apply_counted<D: Disk, R: BufRead, W: Write>(
     ensures told { OnOk result.0 (IfSome (R.remaining (reader_of commands.old))
         (λ text. IsTold (D.honest disk) (D.content disk) text (W.contents (writer_of out.old)) (W.contents (writer_of out.new)))) }
     ensures refused { IfErr result.0 (λ failed. IfSome (R.remaining (reader_of commands.old))
-        (λ text. IsRefusedApply (D.honest disk) (D.content disk) text (R.remaining (reader_of commands.new)) failed)) }
+        (λ text. IsRefusedApply (D.honest disk) (D.content disk) text (OfReader (R.remaining (reader_of commands.new))) failed)) }
     ensures codes { IfErr result.0 IsOfStore }
     // The disk's count of failures rises where 43 is told, and for no other refusal but a failed write.
     ensures failed { CountsDevice (D.failures disk) (D.failures result.1) result.0 }
-    ensures untouched { D.honest disk → IfErr result.0 (λ failed. IfUnbegun failed (StaysSame D.content D.left D.moment D.left_since disk result.1)) }
-    ensures unwritten { IfErr result.0 (λ failed. IfUnbegun failed (writer_of out.new ≡ writer_of out.old)) }
+    ensures untouched { D.honest disk → IfErr result.0 (λ failed. IfTextOrFileRefused failed (StaysSame D.content D.left D.moment D.left_since disk result.1)) }
+    ensures unwritten { IfErr result.0 (λ failed. IfTextOrFileRefused failed (writer_of out.new ≡ writer_of out.old)) }
     ensures honest { D.honest result.1 ↔ D.honest disk }
     ensures reads { CountsReads (failed_calls commands.old) (failed_calls commands.new) result.0 }
     ensures writes { CountsWrites (failed_writes out.old) (failed_writes out.new) result.0 }
@@ -497,17 +499,11 @@ pub fn apply_counted<D: Disk, R: BufRead, W: Write>(
         Ok(ledger) => ledger,
         Err((refusal, disk)) => return (Err(Failed::Code(refusal)), disk),
     };
-    let commands = match read_commands_counted(alloc, commands) {
+    let commands = match of_text(COMMANDS, read_commands_counted(alloc, commands)) {
         Ok(commands) => commands,
-        Err(fault) => {
+        Err(failed) => {
             let (_, disk) = ledger.close();
-            return (
-                Err(Failed::Text {
-                    which: COMMANDS,
-                    fault,
-                }),
-                disk,
-            );
+            return (Err(failed), disk);
         }
     };
     apply_commands(alloc, ledger, &commands, out)
@@ -528,27 +524,21 @@ pub fn apply_text<D: Disk, W: Write>(
     ensures any_moment { ForTidy D.honest D.content disk (λ net version.
         AtAnyMoment D.moment D.left_since D.left disk result.1 (IsWithin net version commands.now)) }
     ensures told { OnOk result.0 (IsTold (D.honest disk) (D.content disk) commands.now (W.contents out.old) (W.contents out.new)) }
-    ensures refused { IfErr result.0 (IsTextRefusedApply (D.honest disk) (D.content disk) commands.now) }
+    ensures refused { IfErr result.0 (IsRefusedApply (D.honest disk) (D.content disk) commands.now InMemory) }
     ensures failed { CountsDevice (D.failures disk) (D.failures result.1) result.0 }
-    ensures untouched { D.honest disk → IfErr result.0 (λ failed. IfUnbegun failed (StaysSame D.content D.left D.moment D.left_since disk result.1)) }
-    ensures unwritten { IfErr result.0 (λ failed. IfUnbegun failed (out.new ≡ out.old)) }
+    ensures untouched { D.honest disk → IfErr result.0 (λ failed. IfTextOrFileRefused failed (StaysSame D.content D.left D.moment D.left_since disk result.1)) }
+    ensures unwritten { IfErr result.0 (λ failed. IfTextOrFileRefused failed (out.new ≡ out.old)) }
     ensures honest { D.honest result.1 ↔ D.honest disk }
 {
     let ledger = match ledger_on(alloc, disk) {
         Ok(ledger) => ledger,
         Err((refused, disk)) => return (Err(Failed::Code(refused)), disk),
     };
-    let commands = match parse_commands(alloc, commands) {
+    let commands = match of_text(COMMANDS, parse_commands(alloc, commands)) {
         Ok(commands) => commands,
-        Err(fault) => {
+        Err(failed) => {
             let (_, disk) = ledger.close();
-            return (
-                Err(Failed::Text {
-                    which: COMMANDS,
-                    fault,
-                }),
-                disk,
-            );
+            return (Err(failed), disk);
         }
     };
     apply_to_writer(alloc, ledger, &commands, out)

@@ -2,18 +2,19 @@
 ghost use Rattle.std.specs.Prelude.{◌≡◌, ◌↔◌, OnOk, IfOk, IfErr, IfSome};
 ghost use Rattle.std.specs.Option.{ForSome};
 ghost use Rattle.dimacs.specs.Counts.{failed_calls, reader_of, IsSameReader};
+ghost use Rattle.dimacs.specs.Texts.{InMemory, OfReader};
 ghost use Rattle.disk.specs.Moments.{StaysSame};
 ghost use Rattle.rows.specs.Kept.{IsWidth};
 ghost use Rattle.printing.specs.Counting.{failed_writes, writer_of, IsSameWriter};
 ghost use Rattle.printing.specs.Failing.{CountsReads, CountsWrites, LeavesUnwritten};
 ghost use Rattle.querytexts.specs.Batch.{AnswersAll};
 ghost use Rattle.querytexts.specs.Once.{IsUnanswered};
-ghost use Rattle.storetexts.specs.Asked.{IsAsked, IsRefusedAsk, IsTextRefusedAsk};
+ghost use Rattle.storetexts.specs.Asked.{IsAsked, IsRefusedAsk};
 ghost use Rattle.storetexts.specs.Refused.{CountsDevice, IsOfStore};
 
 use dimacs::{Counted, Pair, parse_p2p, read_p2p_counted};
 use disk::Disk;
-use printing::{CountedWriter, Done, Failed};
+use printing::{CountedWriter, Done, Failed, of_text};
 use querytexts::answer_pairs;
 use std::alloc::Global;
 use std::io::{BufRead, Write};
@@ -78,7 +79,7 @@ pub fn ask_counted<T: Threads, D: Disk, R: BufRead, W: Write>(
     ensures answered { OnOk result.0 (IfSome (R.remaining (reader_of p2p.old))
         (λ text. IsAsked (D.honest disk) (D.content disk) text (W.contents (writer_of out.old)) (W.contents (writer_of out.new)))) }
     ensures refused { IfErr result.0 (λ failed. IfSome (R.remaining (reader_of p2p.old))
-        (λ text. IsRefusedAsk (D.honest disk) (D.content disk) text (R.remaining (reader_of p2p.new)) failed)) }
+        (λ text. IsRefusedAsk (D.honest disk) (D.content disk) text (OfReader (R.remaining (reader_of p2p.new))) failed)) }
     ensures codes { IfErr result.0 IsOfStore }
     // The disk's count of failures rises where 43 is told, and else not at all.
     ensures failed { CountsDevice (D.failures disk) (D.failures result.1) result.0 }
@@ -95,17 +96,10 @@ pub fn ask_counted<T: Threads, D: Disk, R: BufRead, W: Write>(
         Ok(store) => store,
         Err((refusal, disk)) => return (Err(Failed::Code(refusal)), disk),
     };
-    let pairs = match read_p2p_counted(alloc, p2p, store.network().nodes()) {
+    let read = read_p2p_counted(alloc, p2p, store.network().nodes());
+    let pairs = match of_text(PAIRS, read) {
         Ok(pairs) => pairs,
-        Err(fault) => {
-            return (
-                Err(Failed::Text {
-                    which: PAIRS,
-                    fault,
-                }),
-                store.close(),
-            );
-        }
+        Err(failed) => return (Err(failed), store.close()),
     };
     ask_opened(rt, alloc, store, &pairs, delta, out)
 }
@@ -122,7 +116,7 @@ pub fn ask_text<T: Threads, D: Disk, W: Write>(
     requires { ForSome delta IsWidth }
     ensures width { IfOk result.0 (λ done. done.delta ≡ delta) }
     ensures answered { OnOk result.0 (IsAsked (D.honest disk) (D.content disk) p2p.now (W.contents out.old) (W.contents out.new)) }
-    ensures refused { IfErr result.0 (IsTextRefusedAsk (D.honest disk) (D.content disk) p2p.now) }
+    ensures refused { IfErr result.0 (IsRefusedAsk (D.honest disk) (D.content disk) p2p.now InMemory) }
     ensures failed { CountsDevice (D.failures disk) (D.failures result.1) result.0 }
     ensures untouched { D.honest disk → StaysSame D.content D.left D.moment D.left_since disk result.1 }
     ensures honest { D.honest result.1 ↔ D.honest disk }
@@ -132,17 +126,10 @@ pub fn ask_text<T: Threads, D: Disk, W: Write>(
         Ok(store) => store,
         Err((refusal, disk)) => return (Err(Failed::Code(refusal)), disk),
     };
-    let pairs = match parse_p2p(alloc, p2p, store.network().nodes()) {
+    let read = parse_p2p(alloc, p2p, store.network().nodes());
+    let pairs = match of_text(PAIRS, read) {
         Ok(pairs) => pairs,
-        Err(fault) => {
-            return (
-                Err(Failed::Text {
-                    which: PAIRS,
-                    fault,
-                }),
-                store.close(),
-            );
-        }
+        Err(failed) => return (Err(failed), store.close()),
     };
     let mut out = CountedWriter::new(out);
     ask_opened(rt, alloc, store, &pairs, delta, &mut out)

@@ -4,20 +4,21 @@ ghost use Rattle.std.specs.Io.KnownBytes.{Appends};
 ghost use Rattle.std.specs.List.Sorted.{IsStrictlyIncreasing};
 ghost use lib.Chars.{codes};
 ghost use Rattle.dimacs.specs.Counts.{failed_calls, reader_of, IsSameReader};
+ghost use Rattle.dimacs.specs.Texts.{InMemory, OfReader};
 ghost use Rattle.disk.specs.Contents.{Rose};
 ghost use Rattle.disk.specs.Moments.{StaysSame};
 ghost use Rattle.printing.specs.Counting.{failed_writes, writer_of, IsSameWriter};
 ghost use Rattle.printing.specs.Failing.{CountsFirst, CountsSecond, CountsWrites, LeavesUnwritten};
 ghost use Rattle.printing.specs.Replied.{number_line};
-ghost use Rattle.storetexts.specs.Planned.{with_landmarks, IsPlanned, IsUnmarked, IsRefusedPlan, IsTextRefusedPlan, IsOfPlan, IsUnmade};
-ghost use Rattle.storetexts.specs.Planned.{IsRefusedCreate, IsTextRefusedCreate, IsNewStore, IsNewStoreOf};
+ghost use Rattle.storetexts.specs.Created.{with_landmarks, IsNetworkOf, IsRefusedMarking, IsRefusedNetwork, IsOfNetwork, IsOfMaking};
+ghost use Rattle.storetexts.specs.Created.{IsRefusedCreate, IsNewStore, IsNewStoreOf};
 ghost use Rattle.storetexts.specs.Refused.{IfDone, IfNoDevice, IfOfTexts, IfNotEmpty, IfNoMemory, IfDevice};
 
 use dimacs::{Counted, parse_gr, parse_ss, read_gr_counted, read_ss_counted};
 use disk::Disk;
 use machine::Replied;
-use printing::{CountedWriter, Failed, put_reply};
-use roadnet::{Command, Network, Refusal};
+use printing::{CountedWriter, Failed, of_text, put_reply};
+use roadnet::{Command, MOST_LANDMARKS, Network, Refusal};
 use std::alloc::Global;
 use std::io::{BufRead, Write};
 use store::create;
@@ -26,14 +27,11 @@ const NETWORK: u8 = 0;
 
 const LANDMARKS: u8 = 1;
 
-/// The most landmarks that a network may have.
-const MOST_LANDMARKS: usize = 1000;
-
 /// The network with these landmarks, ascending, in place of none. More than 1,000 are refused with 27, and want of memory with 11.
 fn with_landmarks(network: Network, landmarks: &[u32]) -> Result<Network, Refusal>
     requires { IsStrictlyIncreasing landmarks.now }
     ensures marked { network.landmarks ≡ [] → IfOk result (λ marked. marked ≡ with_landmarks network landmarks.now) }
-    ensures refused { IfErr result (IsUnmarked landmarks.now) }
+    ensures refused { IfErr result (IsRefusedMarking landmarks.now) }
 {
     if landmarks.len() > MOST_LANDMARKS {
         return Err(Refusal::TooManyLandmarks);
@@ -62,57 +60,33 @@ pub fn read_planned<R: BufRead, Q: BufRead>(
     gr: &mut Counted<'_, R>,
     ss: &mut Counted<'_, Q>,
 ) -> Result<Network, Failed>
-    ensures planned { IfOk result (λ planned. IfSome (R.remaining (reader_of gr.old)) (λ network. IfSome (Q.remaining (reader_of ss.old))
-        (λ landmarks. IsPlanned network landmarks planned))) }
+    ensures network { IfOk result (λ marked. IfSome (R.remaining (reader_of gr.old)) (λ network. IfSome (Q.remaining (reader_of ss.old))
+        (λ landmarks. IsNetworkOf network landmarks marked))) }
     ensures refused { IfErr result (λ failed. IfSome (R.remaining (reader_of gr.old)) (λ network. IfSome (Q.remaining (reader_of ss.old))
-        (λ landmarks. IsRefusedPlan network landmarks (R.remaining (reader_of gr.new)) (Q.remaining (reader_of ss.new)) failed))) }
-    ensures kinds { IfErr result IsOfPlan }
+        (λ landmarks. IsRefusedNetwork network landmarks (OfReader (R.remaining (reader_of gr.new))) (OfReader (Q.remaining (reader_of ss.new))) failed))) }
+    ensures kinds { IfErr result IsOfNetwork }
     ensures reads_network { CountsFirst (failed_calls gr.old) (failed_calls gr.new) result }
     ensures reads_landmarks { CountsSecond (failed_calls ss.old) (failed_calls ss.new) result }
     ensures same_network_reader { IsSameReader gr.old gr.new }
     ensures same_landmark_reader { IsSameReader ss.old ss.new }
 {
-    let network = match read_gr_counted(alloc, gr) {
-        Ok(network) => network,
-        Err(fault) => return Err(Failed::Text {
-            which: NETWORK,
-            fault,
-        }),
-    };
-    let landmarks = match read_ss_counted(alloc, ss, network.nodes()) {
-        Ok(landmarks) => landmarks,
-        Err(fault) => return Err(Failed::Text {
-            which: LANDMARKS,
-            fault,
-        }),
-    };
+    let network = of_text(NETWORK, read_gr_counted(alloc, gr))?;
+    let landmarks = of_text(LANDMARKS, read_ss_counted(alloc, ss, network.nodes()))?;
     match with_landmarks(network, &landmarks) {
-        Ok(planned) => Ok(planned),
+        Ok(marked) => Ok(marked),
         Err(refusal) => Err(Failed::Code(refusal)),
     }
 }
 
 /// The same for texts in memory.
 fn parse_planned(alloc: Global, gr: &[u8], ss: &[u8]) -> Result<Network, Failed>
-    ensures planned { IfOk result (IsPlanned gr.now ss.now) }
-    ensures refused { IfErr result (IsTextRefusedPlan gr.now ss.now) }
+    ensures network { IfOk result (IsNetworkOf gr.now ss.now) }
+    ensures refused { IfErr result (IsRefusedNetwork gr.now ss.now InMemory InMemory) }
 {
-    let network = match parse_gr(alloc, gr) {
-        Ok(network) => network,
-        Err(fault) => return Err(Failed::Text {
-            which: NETWORK,
-            fault,
-        }),
-    };
-    let landmarks = match parse_ss(alloc, ss, network.nodes()) {
-        Ok(landmarks) => landmarks,
-        Err(fault) => return Err(Failed::Text {
-            which: LANDMARKS,
-            fault,
-        }),
-    };
+    let network = of_text(NETWORK, parse_gr(alloc, gr))?;
+    let landmarks = of_text(LANDMARKS, parse_ss(alloc, ss, network.nodes()))?;
     match with_landmarks(network, &landmarks) {
-        Ok(planned) => Ok(planned),
+        Ok(marked) => Ok(marked),
         Err(refusal) => Err(Failed::Code(refusal)),
     }
 }
@@ -133,7 +107,7 @@ pub fn create_store<D: Disk, W: Write>(
     requires few { journal_pages ≤ 65536 }
     ensures made { D.honest disk → IfDone result.0 (IsNewStore network.now journal_pages (D.content result.1) (D.left result.1)) }
     ensures empty { D.honest disk → IfDone result.0 (D.content disk ≡ []) }
-    ensures refused { IfErr result.0 IsUnmade }
+    ensures refused { IfErr result.0 IsOfMaking }
     // 46 comes exactly where the disk isn't empty, 43 apart; 11 behind it.
     ensures not_empty { D.honest disk → IfErr result.0 (λ failed. IfNotEmpty failed (D.content disk ≢ [])) }
     ensures order { D.honest disk → IfErr result.0 (λ failed. IfNoMemory failed (D.content disk ≡ [])) }
@@ -171,8 +145,8 @@ pub fn create_counted<D: Disk, R: BufRead, Q: BufRead, W: Write>(
     ensures made { D.honest disk → IfDone result.0 (IfSome (R.remaining (reader_of gr.old)) (λ network. IfSome (Q.remaining (reader_of ss.old))
         (λ landmarks. IsNewStoreOf network landmarks journal_pages (D.content result.1) (D.left result.1)))) }
     ensures refused { IfErr result.0 (λ failed. IfSome (R.remaining (reader_of gr.old)) (λ network. IfSome (Q.remaining (reader_of ss.old))
-        (λ landmarks. IsRefusedCreate network landmarks (R.remaining (reader_of gr.new)) (Q.remaining (reader_of ss.new)) failed))) }
-    ensures codes { IfErr result.0 (λ failed. IsOfPlan failed ⊎ IsUnmade failed) }
+        (λ landmarks. IsRefusedCreate network landmarks (OfReader (R.remaining (reader_of gr.new))) (OfReader (Q.remaining (reader_of ss.new))) failed))) }
+    ensures codes { IfErr result.0 (λ failed. IsOfNetwork failed ⊎ IsOfMaking failed) }
     ensures unread { IfErr result.0 (λ failed. IfOfTexts failed (result.1 ≡ disk)) }
     // 46 comes exactly where the disk isn't empty, 43 apart; 11 where it is empty, or before any call of it.
     ensures empty { D.honest disk → IfDone result.0 (D.content disk ≡ []) }
@@ -208,7 +182,7 @@ pub fn create_text<D: Disk, W: Write>(
     requires some { 1 ≤ journal_pages }
     requires few { journal_pages ≤ 65536 }
     ensures made { D.honest disk → IfDone result.0 (IsNewStoreOf gr.now ss.now journal_pages (D.content result.1) (D.left result.1)) }
-    ensures refused { IfErr result.0 (IsTextRefusedCreate gr.now ss.now) }
+    ensures refused { IfErr result.0 (IsRefusedCreate gr.now ss.now InMemory InMemory) }
     ensures unread { IfErr result.0 (λ failed. IfOfTexts failed (result.1 ≡ disk)) }
     // 46 comes exactly where the disk isn't empty, 43 apart; 11 where it is empty, or before any call of it.
     ensures empty { D.honest disk → IfDone result.0 (D.content disk ≡ []) }

@@ -1,13 +1,17 @@
-use Rattle.std.specs.Prelude.{⊤}
+use Rattle.std.specs.Prelude.{⊤, IfSome, vec_items}
 use Rattle.std.proofs.Common.{rules, ◌≡◌, inl, refl}
+use Rattle.dimacs.specs.Commanded.{command_text}
 use Rattle.dimacs.specs.Counts.{reader_of}
+use Rattle.dimacs.specs.Texts.{OfReader, Reads}
 use Rattle.printing.specs.declared.failed.Failed.TheVariants.{Code}
 use Rattle.printing.specs.Counting.{writer_of}
-use Rattle.storetexts.proofs.Judged.{opening_counts, opening_of_store, apply_refused_known, kind_cut_off, cut_off_refused}
+use Rattle.storetexts.specs.Applied.{IsRefusedApply}
+use Rattle.storetexts.proofs.Judged.{opening_counts, opening_of_store, apply_refused_known, kind_cut_off, cut_off_refused_known}
 use Rattle.storetexts.proofs.Meanwhile.{counts_code, counts_from}
-use Rattle.storetexts.proofs.Unbegun.{unbegun, cut_off_begun}
+use Rattle.storetexts.proofs.RefusedFirst.{text_or_file_refused, cut_off_later}
 use Rattle.storetexts.proofs.Remaining.{if_known, applied_known, cut_off_known}
-use Rattle.storetexts.proofs.TextApplied.{fault_of, told_known, nothing_since, known_since}
+use Rattle.storetexts.proofs.TextApplied.{fault_known, told_known, nothing_since, known_since}
+use Rattle.storetexts.proofs.Read.{value_of, fault_of}
 use Rattle.storetexts.proofs.applying.apply_counted.Goals as goal
 
 pub returns-in-Err-clause-cut_off : goal.returns-in-Err-clause-cut_off
@@ -18,7 +22,7 @@ returns-in-Err-clause-any_moment g c honest pages net version stands =
     if_known _ _ (λ text. nothing_since g.D.Disk.moment g.D.Disk.left_since g.D.Disk.left c.args.disk _ c.args.disk (λ content. g.met.D.Disk.only_now c.args.disk content honest) (c.in-Err.ensures.handed_back honest).adds_nothing _)
 
 pub returns-in-Err-clause-refused : goal.returns-in-Err-clause-refused
-returns-in-Err-clause-refused g c = apply_refused_known (g.D.Disk.honest c.args.disk) (g.D.Disk.content c.args.disk) (g.R.Read.remaining (reader_of c.args.commands.now)) (g.R.Read.remaining (reader_of c.args.commands.now)) c.in-Err.refusal c.in-Err.ensures.refused
+returns-in-Err-clause-refused g c = apply_refused_known (g.D.Disk.honest c.args.disk) (g.D.Disk.content c.args.disk) (g.R.Read.remaining (reader_of c.args.commands.now)) (OfReader (g.R.Read.remaining (reader_of c.args.commands.now))) c.in-Err.refusal c.in-Err.ensures.refused
 
 pub returns-in-Err-clause-codes : goal.returns-in-Err-clause-codes
 returns-in-Err-clause-codes g c = opening_of_store c.in-Err.refusal c.in-Err.ensures.refused.0
@@ -30,54 +34,58 @@ pub returns-in-Err-clause-writes : goal.returns-in-Err-clause-writes
 returns-in-Err-clause-writes g c = opening_counts ⊤ c.in-Err.refusal _ c.in-Err.ensures.refused.0
 
 pub returns-in-Err-clause-untouched : goal.returns-in-Err-clause-untouched
-returns-in-Err-clause-untouched g c honest = unbegun (Code c.in-Err.refusal) _ (c.in-Err.ensures.handed_back honest)
+returns-in-Err-clause-untouched g c honest = text_or_file_refused (Code c.in-Err.refusal) _ (c.in-Err.ensures.handed_back honest)
 
 pub returns-in-Err-clause-unwritten : goal.returns-in-Err-clause-unwritten
 returns-in-Err-clause-unwritten g c =
     let same : writer_of c.args.out.now ≡ writer_of c.args.out.now = refl in
-    unbegun (Code c.in-Err.refusal) _ same
+    text_or_file_refused (Code c.in-Err.refusal) _ same
 
-pub returns-in-Err-read_commands_counted-clause-cut_off :
-    goal.returns-in-Err-read_commands_counted-clause-cut_off
-returns-in-Err-read_commands_counted-clause-cut_off g c honest pages net version stands = if_known _ _ (λ text. inl (search rules, refl))
+pub returns-in-Err-of_text-clause-cut_off :
+    goal.returns-in-Err-of_text-clause-cut_off
+returns-in-Err-of_text-clause-cut_off g c honest pages net version stands = if_known _ _ (λ text. inl (search rules, refl))
 
-pub returns-in-Err-read_commands_counted-clause-any_moment :
-    goal.returns-in-Err-read_commands_counted-clause-any_moment
-returns-in-Err-read_commands_counted-clause-any_moment g c honest pages net version stands =
+pub returns-in-Err-of_text-clause-any_moment :
+    goal.returns-in-Err-of_text-clause-any_moment
+returns-in-Err-of_text-clause-any_moment g c honest pages net version stands =
     rw c.close-disk.ensures.disk
     (if_known _ _ (λ text. nothing_since g.D.Disk.moment g.D.Disk.left_since g.D.Disk.left c.args.disk _ c.args.disk (λ content. g.met.D.Disk.only_now c.args.disk content honest) (c.in-Ok.ensures.same honest).adds_nothing _))
 
-pub returns-in-Err-read_commands_counted-clause-refused :
-    goal.returns-in-Err-read_commands_counted-clause-refused
-returns-in-Err-read_commands_counted-clause-refused g c = fault_of _ _ _ c.in-Ok.ensures.opened _ _ c.in-Err-read_commands_counted.fault c.in-Err-read_commands_counted.ensures.read
+pub returns-in-Err-of_text-clause-refused : goal.returns-in-Err-of_text-clause-refused
+returns-in-Err-of_text-clause-refused g c =
+    let known = g.R.Read.remaining (reader_of c.args.commands.now) in
+    let left = g.R.Read.remaining (reader_of c.read_commands_counted.new.counted) in
+    fault_of vec_items 0 c.read_commands_counted.result c.in-Err-of_text.failed c.in-Err-of_text.ensures (λ r. IfSome known (λ text. Reads command_text text left r)) c.read_commands_counted.ensures.read
+    (λ failed. IfSome known (λ text. IsRefusedApply (g.D.Disk.honest c.args.disk) (g.D.Disk.content c.args.disk) text (OfReader left) failed))
+    (fault_known _ _ _ c.in-Ok.ensures.opened known left)
 
 pub returns-clause-applied : goal.returns-clause-applied
 returns-clause-applied g c honest pages net version stands =
-    let list : c.deref.result.now ≡ c.in-Ok-read_commands_counted.commands.items = search rules in
+    let list : c.deref.result.now ≡ c.in-Ok-of_text.commands.items = search rules in
     let applies = c.apply_commands.ensures.applied (c.in-Ok.ensures.came honest pages net version stands) net version (c.in-Ok.ensures.begins honest pages net version stands) in
-    applied_known net version c.in-Ok-read_commands_counted.commands.items _ c.apply_commands.result.0 _ _ _ _ _ (rw list at applies) c.in-Ok-read_commands_counted.ensures.read
+    applied_known net version c.in-Ok-of_text.commands.items _ c.apply_commands.result.0 _ _ _ _ _ (rw list at applies) (value_of vec_items 0 c.read_commands_counted.result c.in-Ok-of_text.commands c.in-Ok-of_text.ensures (λ r. IfSome (g.R.Read.remaining (reader_of c.args.commands.now)) (λ text. Reads command_text text (g.R.Read.remaining (reader_of c.read_commands_counted.new.counted)) r)) c.read_commands_counted.ensures.read)
 
 pub returns-clause-cut_off : goal.returns-clause-cut_off
 returns-clause-cut_off g c honest pages net version stands =
-    let list : c.deref.result.now ≡ c.in-Ok-read_commands_counted.commands.items = search rules in
+    let list : c.deref.result.now ≡ c.in-Ok-of_text.commands.items = search rules in
     let applies = c.apply_commands.ensures.cut_off (c.in-Ok.ensures.came honest pages net version stands) net version (c.in-Ok.ensures.begins honest pages net version stands) in
-    cut_off_known net version c.in-Ok-read_commands_counted.commands.items _ c.apply_commands.result.0 _ _ _ _ _ (rw list at applies) c.in-Ok-read_commands_counted.ensures.read
+    cut_off_known net version c.in-Ok-of_text.commands.items _ c.apply_commands.result.0 _ _ _ _ _ (rw list at applies) (value_of vec_items 0 c.read_commands_counted.result c.in-Ok-of_text.commands c.in-Ok-of_text.ensures (λ r. IfSome (g.R.Read.remaining (reader_of c.args.commands.now)) (λ text. Reads command_text text (g.R.Read.remaining (reader_of c.read_commands_counted.new.counted)) r)) c.read_commands_counted.ensures.read)
 
 pub returns-clause-any_moment : goal.returns-clause-any_moment
 returns-clause-any_moment g c honest pages net version stands =
-    let list : c.deref.result.now ≡ c.in-Ok-read_commands_counted.commands.items = search rules in
+    let list : c.deref.result.now ≡ c.in-Ok-of_text.commands.items = search rules in
     let moments = c.apply_commands.ensures.any_moment (c.in-Ok.ensures.came honest pages net version stands) net version (c.in-Ok.ensures.begins honest pages net version stands) in
     known_since g.D.Disk.moment g.D.Disk.left_since g.D.Disk.left c.args.disk c.in-Ok.ledger.disk c.apply_commands.result.1 (λ content. g.met.D.Disk.only_now c.args.disk content honest)
-    (c.in-Ok.ensures.same honest).adds_nothing net version c.in-Ok-read_commands_counted.commands.items _ _ c.in-Ok-read_commands_counted.ensures.read (rw list at moments)
+    (c.in-Ok.ensures.same honest).adds_nothing net version c.in-Ok-of_text.commands.items _ _ (value_of vec_items 0 c.read_commands_counted.result c.in-Ok-of_text.commands c.in-Ok-of_text.ensures (λ r. IfSome (g.R.Read.remaining (reader_of c.args.commands.now)) (λ text. Reads command_text text (g.R.Read.remaining (reader_of c.read_commands_counted.new.counted)) r)) c.read_commands_counted.ensures.read) (rw list at moments)
 
 pub returns-clause-told : goal.returns-clause-told
 returns-clause-told g c =
-    let list : c.deref.result.now ≡ c.in-Ok-read_commands_counted.commands.items = search rules in
+    let list : c.deref.result.now ≡ c.in-Ok-of_text.commands.items = search rules in
     let tells = c.apply_commands.ensures.told in
-    told_known _ _ c.in-Ok.ledger.machine c.in-Ok.ensures.opened c.in-Ok-read_commands_counted.commands.items c.apply_commands.result.0 _ _ _ _ (rw list at tells) c.in-Ok-read_commands_counted.ensures.read
+    told_known _ _ c.in-Ok.ledger.machine c.in-Ok.ensures.opened c.in-Ok-of_text.commands.items c.apply_commands.result.0 _ _ _ _ (rw list at tells) (value_of vec_items 0 c.read_commands_counted.result c.in-Ok-of_text.commands c.in-Ok-of_text.ensures (λ r. IfSome (g.R.Read.remaining (reader_of c.args.commands.now)) (λ text. Reads command_text text (g.R.Read.remaining (reader_of c.read_commands_counted.new.counted)) r)) c.read_commands_counted.ensures.read)
 
 pub returns-clause-refused : goal.returns-clause-refused
-returns-clause-refused g c = cut_off_refused c.apply_commands.result.0 (g.D.Disk.honest c.args.disk) (g.D.Disk.content c.args.disk) (g.R.Read.remaining (reader_of c.args.commands.now)) _ c.apply_commands.ensures.refused
+returns-clause-refused g c = cut_off_refused_known c.apply_commands.result.0 (g.D.Disk.honest c.args.disk) (g.D.Disk.content c.args.disk) (g.R.Read.remaining (reader_of c.args.commands.now)) (OfReader (g.R.Read.remaining (reader_of c.read_commands_counted.new.counted))) c.apply_commands.ensures.refused
 
 pub returns-clause-codes : goal.returns-clause-codes
 returns-clause-codes g c = kind_cut_off c.apply_commands.result.0 c.apply_commands.ensures.refused
@@ -86,11 +94,14 @@ pub returns-clause-failed : goal.returns-clause-failed
 returns-clause-failed g c = counts_from c.apply_commands.result.0 _ _ _ c.in-Ok.ensures.counted c.apply_commands.ensures.counted
 
 pub returns-clause-untouched : goal.returns-clause-untouched
-returns-clause-untouched g c honest = cut_off_begun c.apply_commands.result.0 _ c.apply_commands.ensures.refused
+returns-clause-untouched g c honest = cut_off_later c.apply_commands.result.0 _ c.apply_commands.ensures.refused
 
 pub returns-clause-unwritten : goal.returns-clause-unwritten
-returns-clause-unwritten g c = cut_off_begun c.apply_commands.result.0 _ c.apply_commands.ensures.refused
+returns-clause-unwritten g c = cut_off_later c.apply_commands.result.0 _ c.apply_commands.ensures.refused
 
 pub returns-clause-honest : goal.returns-clause-honest
 returns-clause-honest g c =
     (λ after. c.in-Ok.ensures.honest.0.0 (c.apply_commands.ensures.honest.0 after), λ before. c.apply_commands.ensures.honest.1 (c.in-Ok.ensures.honest.0.1 before))
+
+pub returns-in-Err-of_text-clause-untouched : goal.returns-in-Err-of_text-clause-untouched
+returns-in-Err-of_text-clause-untouched g c honest = rw c.close-disk.ensures.disk (text_or_file_refused c.in-Err-of_text.failed _ (c.in-Ok.ensures.same honest))

@@ -1,11 +1,15 @@
-use Rattle.std.specs.Prelude.{⊤}
+use Rattle.std.specs.Prelude.{⊤, vec_items}
 use Rattle.std.proofs.Common.{rules, ◌≡◌, refl}
+use Rattle.dimacs.specs.Commanded.{command_text}
+use Rattle.dimacs.specs.Texts.{InMemory, Parses}
 use Rattle.printing.specs.declared.failed.Failed.TheVariants.{Code}
-use Rattle.storetexts.proofs.Judged.{apply_text_refused, cut_off_text_refused}
+use Rattle.storetexts.specs.Applied.{IsRefusedApply}
+use Rattle.storetexts.proofs.Judged.{apply_refused, cut_off_refused}
 use Rattle.storetexts.proofs.Meanwhile.{counts_code, counts_from}
-use Rattle.storetexts.proofs.Unbegun.{unbegun, cut_off_begun}
+use Rattle.storetexts.proofs.RefusedFirst.{text_or_file_refused, cut_off_later}
 use Rattle.storetexts.proofs.Remaining.{applied_text, cut_off_text}
-use Rattle.storetexts.proofs.TextApplied.{text_fault, told_text, nothing_since, text_since}
+use Rattle.storetexts.proofs.TextApplied.{fault_of as fault_of_commands, told_text, nothing_since, text_since}
+use Rattle.storetexts.proofs.Read.{value_of, fault_of}
 use Rattle.storetexts.proofs.applying.apply_text.Goals as goal
 
 pub returns-in-Err-clause-any_moment : goal.returns-in-Err-clause-any_moment
@@ -13,66 +17,71 @@ returns-in-Err-clause-any_moment g c honest pages net version stands =
     nothing_since g.D.Disk.moment g.D.Disk.left_since g.D.Disk.left c.args.disk _ c.args.disk (λ content. g.met.D.Disk.only_now c.args.disk content honest) (c.in-Err.ensures.handed_back honest).adds_nothing _
 
 pub returns-in-Err-clause-refused : goal.returns-in-Err-clause-refused
-returns-in-Err-clause-refused g c = apply_text_refused (g.D.Disk.honest c.args.disk) (g.D.Disk.content c.args.disk) c.args.commands.now c.in-Err.refused c.in-Err.ensures.refused
+returns-in-Err-clause-refused g c = apply_refused (g.D.Disk.honest c.args.disk) (g.D.Disk.content c.args.disk) c.args.commands.now InMemory c.in-Err.refused c.in-Err.ensures.refused
 
 pub returns-in-Err-clause-failed : goal.returns-in-Err-clause-failed
 returns-in-Err-clause-failed g c = counts_code ⊤ c.in-Err.refused _ _ c.in-Err.ensures.counted
 
 pub returns-in-Err-clause-untouched : goal.returns-in-Err-clause-untouched
-returns-in-Err-clause-untouched g c honest = unbegun (Code c.in-Err.refused) _ (c.in-Err.ensures.handed_back honest)
+returns-in-Err-clause-untouched g c honest = text_or_file_refused (Code c.in-Err.refused) _ (c.in-Err.ensures.handed_back honest)
 
 pub returns-in-Err-clause-unwritten : goal.returns-in-Err-clause-unwritten
 returns-in-Err-clause-unwritten g c =
     let same : c.args.out.now ≡ c.args.out.now = refl in
-    unbegun (Code c.in-Err.refused) _ same
+    text_or_file_refused (Code c.in-Err.refused) _ same
 
-pub returns-in-Err-parse_commands-clause-any_moment :
-    goal.returns-in-Err-parse_commands-clause-any_moment
-returns-in-Err-parse_commands-clause-any_moment g c honest pages net version stands =
+pub returns-in-Err-of_text-clause-any_moment :
+    goal.returns-in-Err-of_text-clause-any_moment
+returns-in-Err-of_text-clause-any_moment g c honest pages net version stands =
     rw c.close-disk.ensures.disk
     (nothing_since g.D.Disk.moment g.D.Disk.left_since g.D.Disk.left c.args.disk _ c.args.disk (λ content. g.met.D.Disk.only_now c.args.disk content honest) (c.in-Ok.ensures.same honest).adds_nothing _)
 
-pub returns-in-Err-parse_commands-clause-refused :
-    goal.returns-in-Err-parse_commands-clause-refused
-returns-in-Err-parse_commands-clause-refused g c = text_fault _ _ _ c.in-Ok.ensures.opened c.args.commands.now c.in-Err-parse_commands.fault c.in-Err-parse_commands.ensures
+pub returns-in-Err-of_text-clause-refused : goal.returns-in-Err-of_text-clause-refused
+returns-in-Err-of_text-clause-refused g c =
+    fault_of vec_items 0 c.parse_commands.result c.in-Err-of_text.failed c.in-Err-of_text.ensures (Parses command_text c.args.commands.now) c.parse_commands.ensures
+    (IsRefusedApply (g.D.Disk.honest c.args.disk) (g.D.Disk.content c.args.disk) c.args.commands.now InMemory)
+    (fault_of_commands _ _ _ c.in-Ok.ensures.opened c.args.commands.now InMemory)
 
 pub returns-clause-applied : goal.returns-clause-applied
 returns-clause-applied g c honest pages net version stands =
-    let list : c.deref.result.now ≡ c.in-Ok-parse_commands.commands.items = search rules in
+    let list : c.deref.result.now ≡ c.in-Ok-of_text.commands.items = search rules in
     let applies = c.apply_to_writer.ensures.applied (c.in-Ok.ensures.came honest pages net version stands) net version (c.in-Ok.ensures.begins honest pages net version stands) in
-    applied_text net version c.in-Ok-parse_commands.commands.items _ c.apply_to_writer.result.0 _ c.args.commands.now _ _ _ _ refl refl (rw list at applies) c.in-Ok-parse_commands.ensures
+    applied_text net version c.in-Ok-of_text.commands.items _ c.apply_to_writer.result.0 _ c.args.commands.now _ _ _ _ refl refl (rw list at applies) (value_of vec_items 0 c.parse_commands.result c.in-Ok-of_text.commands c.in-Ok-of_text.ensures (Parses command_text c.args.commands.now) c.parse_commands.ensures)
 
 pub returns-clause-cut_off : goal.returns-clause-cut_off
 returns-clause-cut_off g c honest pages net version stands =
-    let list : c.deref.result.now ≡ c.in-Ok-parse_commands.commands.items = search rules in
+    let list : c.deref.result.now ≡ c.in-Ok-of_text.commands.items = search rules in
     let applies = c.apply_to_writer.ensures.cut_off (c.in-Ok.ensures.came honest pages net version stands) net version (c.in-Ok.ensures.begins honest pages net version stands) in
-    cut_off_text net version c.in-Ok-parse_commands.commands.items _ c.apply_to_writer.result.0 _ c.args.commands.now _ _ _ _ refl refl (rw list at applies) c.in-Ok-parse_commands.ensures
+    cut_off_text net version c.in-Ok-of_text.commands.items _ c.apply_to_writer.result.0 _ c.args.commands.now _ _ _ _ refl refl (rw list at applies) (value_of vec_items 0 c.parse_commands.result c.in-Ok-of_text.commands c.in-Ok-of_text.ensures (Parses command_text c.args.commands.now) c.parse_commands.ensures)
 
 pub returns-clause-any_moment : goal.returns-clause-any_moment
 returns-clause-any_moment g c honest pages net version stands =
-    let list : c.deref.result.now ≡ c.in-Ok-parse_commands.commands.items = search rules in
+    let list : c.deref.result.now ≡ c.in-Ok-of_text.commands.items = search rules in
     let moments = c.apply_to_writer.ensures.any_moment (c.in-Ok.ensures.came honest pages net version stands) net version (c.in-Ok.ensures.begins honest pages net version stands) in
     text_since g.D.Disk.moment g.D.Disk.left_since g.D.Disk.left c.args.disk c.in-Ok.ledger.disk c.apply_to_writer.result.1 (λ content. g.met.D.Disk.only_now c.args.disk content honest)
-    (c.in-Ok.ensures.same honest).adds_nothing net version c.in-Ok-parse_commands.commands.items c.args.commands.now c.in-Ok-parse_commands.ensures (rw list at moments)
+    (c.in-Ok.ensures.same honest).adds_nothing net version c.in-Ok-of_text.commands.items c.args.commands.now (value_of vec_items 0 c.parse_commands.result c.in-Ok-of_text.commands c.in-Ok-of_text.ensures (Parses command_text c.args.commands.now) c.parse_commands.ensures) (rw list at moments)
 
 pub returns-clause-told : goal.returns-clause-told
 returns-clause-told g c =
-    let list : c.deref.result.now ≡ c.in-Ok-parse_commands.commands.items = search rules in
+    let list : c.deref.result.now ≡ c.in-Ok-of_text.commands.items = search rules in
     let tells = c.apply_to_writer.ensures.told in
-    told_text _ _ c.in-Ok.ledger.machine c.in-Ok.ensures.opened c.in-Ok-parse_commands.commands.items c.apply_to_writer.result.0 c.args.commands.now _ _ (rw list at tells) c.in-Ok-parse_commands.ensures
+    told_text _ _ c.in-Ok.ledger.machine c.in-Ok.ensures.opened c.in-Ok-of_text.commands.items c.apply_to_writer.result.0 c.args.commands.now _ _ (rw list at tells) (value_of vec_items 0 c.parse_commands.result c.in-Ok-of_text.commands c.in-Ok-of_text.ensures (Parses command_text c.args.commands.now) c.parse_commands.ensures)
 
 pub returns-clause-refused : goal.returns-clause-refused
-returns-clause-refused g c = cut_off_text_refused c.apply_to_writer.result.0 (g.D.Disk.honest c.args.disk) (g.D.Disk.content c.args.disk) c.args.commands.now c.apply_to_writer.ensures.refused
+returns-clause-refused g c = cut_off_refused c.apply_to_writer.result.0 (g.D.Disk.honest c.args.disk) (g.D.Disk.content c.args.disk) c.args.commands.now InMemory c.apply_to_writer.ensures.refused
 
 pub returns-clause-failed : goal.returns-clause-failed
 returns-clause-failed g c = counts_from c.apply_to_writer.result.0 _ _ _ c.in-Ok.ensures.counted c.apply_to_writer.ensures.counted
 
 pub returns-clause-untouched : goal.returns-clause-untouched
-returns-clause-untouched g c honest = cut_off_begun c.apply_to_writer.result.0 _ c.apply_to_writer.ensures.refused
+returns-clause-untouched g c honest = cut_off_later c.apply_to_writer.result.0 _ c.apply_to_writer.ensures.refused
 
 pub returns-clause-unwritten : goal.returns-clause-unwritten
-returns-clause-unwritten g c = cut_off_begun c.apply_to_writer.result.0 _ c.apply_to_writer.ensures.refused
+returns-clause-unwritten g c = cut_off_later c.apply_to_writer.result.0 _ c.apply_to_writer.ensures.refused
 
 pub returns-clause-honest : goal.returns-clause-honest
 returns-clause-honest g c =
     (λ after. c.in-Ok.ensures.honest.0.0 (c.apply_to_writer.ensures.honest.0 after), λ before. c.apply_to_writer.ensures.honest.1 (c.in-Ok.ensures.honest.0.1 before))
+
+pub returns-in-Err-of_text-clause-untouched : goal.returns-in-Err-of_text-clause-untouched
+returns-in-Err-of_text-clause-untouched g c honest = rw c.close-disk.ensures.disk (text_or_file_refused c.in-Err-of_text.failed _ (c.in-Ok.ensures.same honest))

@@ -1,9 +1,14 @@
 use Rattle.std.proofs.Common.{rules, ◌≡◌, ◌∙◌, ap}
+use Rattle.std.specs.Prelude.{IfSome, vec_items}
 use Rattle.dimacs.specs.Counts.{reader_of}
+use Rattle.dimacs.specs.Pairs.{p2p_text}
+use Rattle.dimacs.specs.Texts.{OfReader, Reads}
 use Rattle.printing.specs.declared.done.Done.{Done}
+use Rattle.storetexts.specs.Asked.{IsRefusedAsk}
 use Rattle.storetexts.proofs.Judged.{opening_counts, opening_of_store, ask_refused_known}
 use Rattle.storetexts.proofs.Meanwhile.{counts_code}
-use Rattle.storetexts.proofs.Answered.{asked_of, fault_of, refused_so, kind_unanswered, counts_unanswered}
+use Rattle.storetexts.proofs.Answered.{asked_of, fault_known, refused_known, kind_unanswered, counts_unanswered}
+use Rattle.storetexts.proofs.Read.{value_of, fault_of}
 use Rattle.storetexts.proofs.asking.ask_counted.Goals as goal
 
 pub returns-in-Err-clause-writes : goal.returns-in-Err-clause-writes
@@ -16,23 +21,29 @@ pub returns-in-Err-clause-failed : goal.returns-in-Err-clause-failed
 returns-in-Err-clause-failed g c = counts_code Done c.in-Err.refusal _ _ c.in-Err.ensures.counted
 
 pub returns-in-Err-clause-refused : goal.returns-in-Err-clause-refused
-returns-in-Err-clause-refused g c = ask_refused_known (g.D.Disk.honest c.args.disk) (g.D.Disk.content c.args.disk) (g.R.Read.remaining (reader_of c.args.p2p.now)) (g.R.Read.remaining (reader_of c.args.p2p.now)) c.in-Err.refusal (c.in-Err.ensures.causes, c.in-Err.ensures.judged)
+returns-in-Err-clause-refused g c = ask_refused_known (g.D.Disk.honest c.args.disk) (g.D.Disk.content c.args.disk) (g.R.Read.remaining (reader_of c.args.p2p.now)) (OfReader (g.R.Read.remaining (reader_of c.args.p2p.now))) c.in-Err.refusal (c.in-Err.ensures.causes, c.in-Err.ensures.judged)
 
-pub returns-in-Err-read_p2p_counted-clause-refused :
-    goal.returns-in-Err-read_p2p_counted-clause-refused
-returns-in-Err-read_p2p_counted-clause-refused g c =
+pub returns-in-Err-of_text-clause-refused : goal.returns-in-Err-of_text-clause-refused
+returns-in-Err-of_text-clause-refused g c =
     let nodes : c.nodes.result ≡ c.in-Ok.store.network.nodes = search rules in
-    fault_of _ _ c.in-Ok.store.network c.in-Ok.store.version c.nodes.result c.in-Ok.ensures.stands nodes _ _ c.in-Err-read_p2p_counted.fault c.in-Err-read_p2p_counted.ensures.read
+    let known = g.R.Read.remaining (reader_of c.args.p2p.now) in
+    let left = g.R.Read.remaining (reader_of c.read_p2p_counted-read.new.counted) in
+    fault_of vec_items 0 c.read_p2p_counted-read.result c.in-Err-of_text.failed c.in-Err-of_text.ensures (λ r. IfSome known (λ text. Reads (p2p_text c.nodes.result) text left r)) c.read_p2p_counted-read.ensures.read
+    (λ failed. IfSome known (λ text. IsRefusedAsk (g.D.Disk.honest c.args.disk) (g.D.Disk.content c.args.disk) text (OfReader left) failed))
+    (fault_known _ _ c.in-Ok.store.network c.in-Ok.store.version c.nodes.result c.in-Ok.ensures.stands nodes known left)
 
 pub returns-clause-answered : goal.returns-clause-answered
 returns-clause-answered g c =
     let nodes : c.nodes.result ≡ c.in-Ok.store.network.nodes = search rules in
-    let list : c.deref.result.now ≡ c.in-Ok-read_p2p_counted.pairs.items = search rules in
+    let list : c.deref.result.now ≡ c.in-Ok-of_text.pairs.items = search rules in
     let answers = c.ask_opened.ensures.answered in
-    asked_of _ _ c.in-Ok.store.network c.in-Ok.store.version c.nodes.result c.in-Ok.ensures.stands nodes c.ask_opened.result.0 _ _ c.in-Ok-read_p2p_counted.pairs.items _ _ c.in-Ok-read_p2p_counted.ensures.read (rw list at answers)
+    let known = g.R.Read.remaining (reader_of c.args.p2p.now) in
+    let left = g.R.Read.remaining (reader_of c.read_p2p_counted-read.new.counted) in
+    asked_of _ _ c.in-Ok.store.network c.in-Ok.store.version c.nodes.result c.in-Ok.ensures.stands nodes c.ask_opened.result.0 known left c.in-Ok-of_text.pairs.items _ _
+    (value_of vec_items 0 c.read_p2p_counted-read.result c.in-Ok-of_text.pairs c.in-Ok-of_text.ensures (λ r. IfSome known (λ text. Reads (p2p_text c.nodes.result) text left r)) c.read_p2p_counted-read.ensures.read) (rw list at answers)
 
 pub returns-clause-refused : goal.returns-clause-refused
-returns-clause-refused g c = refused_so c.ask_opened.result.0 (g.D.Disk.honest c.args.disk) (g.D.Disk.content c.args.disk) (g.R.Read.remaining (reader_of c.args.p2p.now)) _ c.ask_opened.ensures.refused
+returns-clause-refused g c = refused_known c.ask_opened.result.0 (g.D.Disk.honest c.args.disk) (g.D.Disk.content c.args.disk) (g.R.Read.remaining (reader_of c.args.p2p.now)) (OfReader (g.R.Read.remaining (reader_of c.read_p2p_counted-read.new.counted))) c.ask_opened.ensures.refused
 
 pub returns-clause-codes : goal.returns-clause-codes
 returns-clause-codes g c = kind_unanswered c.ask_opened.result.0 c.ask_opened.ensures.refused

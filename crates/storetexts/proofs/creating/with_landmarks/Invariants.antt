@@ -1,6 +1,6 @@
 use Rattle.std.proofs.Common.{◌≡◌, [], take}
 use Rattle.roadnet.specs.Members.{set_of}
-use Rattle.storetexts.specs.Planned.{with_landmarks}
+use Rattle.storetexts.specs.Created.{with_landmarks}
 use Rattle.storetexts.proofs.creating.with_landmarks.Given as goal
 
 abbrev pub invariant-loop-node : goal.invariant-loop-node

@@ -1,5 +1,6 @@
 -- What the program's words ask for.
 use Rattle.std.specs.Prelude.{◌≡◌, ◌⊎◌, ◌≤◌, ◌<◌, ◌^◌, ℕ, List, [], Option, None, Some, ⊤}
+use Rattle.std.specs.Option.{ForSome}
 use Rattle.std.specs.String.{string_bytes}
 use Rattle.std.specs.Str.Parse.{IsNumeral, digits_value, without_leading_plus}
 use lib.Chars.{codes}
@@ -53,6 +54,10 @@ IsJournal pages = (1 ≤ pages) × (pages ≤ 65536)
 -- a number of row workers
 abbrev pub IsWorkers : ℕ → Type 0
 IsWorkers workers = (1 ≤ workers) × (workers ≤ 64)
+
+-- the numbers that it gives are within their ranges
+abbrev pub HasFitNumbers : Job → Type 0
+HasFitNumbers job = ForSome (delta_of job) IsWidth × ForSome (journal_of job) IsJournal × ForSome (workers_of job) IsWorkers
 
 -- the subcommand that asks for a job, if it needs one
 abbrev pub subcommand_of : Job → Option (List ℕ)

@@ -4,7 +4,7 @@ ghost use Rattle.std.specs.Option.{ForSome};
 ghost use lib.Chars.{codes};
 ghost use Rattle.clap.specs.Words.{found_of, kind_of, subcommand_name_of};
 ghost use Rattle.rows.specs.Kept.{IsWidth};
-ghost use Rattle.roadmark.specs.Words.{delta_of, journal_of, workers_of, subcommand_of, Gives, GivesOnce, GivesBatch, GivesRehearse, GivesCreate, GivesApply, GivesAsk, GivesCheck, GivesServe, GivesJoint, GivesJournal, GivesWorkers, IsJournal, IsWorkers, IsLong, IsUsage};
+ghost use Rattle.roadmark.specs.Words.{delta_of, journal_of, workers_of, subcommand_of, HasFitNumbers, Gives, GivesOnce, GivesBatch, GivesRehearse, GivesCreate, GivesApply, GivesAsk, GivesCheck, GivesServe, GivesJoint, GivesJournal, GivesWorkers, IsJournal, IsWorkers, IsLong, IsUsage};
 
 use crate::commands::{
     APPLY, ASK, BATCH, CHECK, COMMANDS, CREATE, DELTA, JOURNAL, LANDMARKS, NETWORK, ONCE, PAIRS,
@@ -160,9 +160,7 @@ fn node_in(matches: &ArgMatches<'_>, name: &str) -> Option<u64>
 }
 
 fn once_in<'w>(matches: &ArgMatches<'w>) -> Option<Job<'w>>
-    ensures width { ForSome result (λ job. ForSome (delta_of job) IsWidth) }
-    ensures journal { ForSome result (λ job. ForSome (journal_of job) IsJournal) }
-    ensures workers { ForSome result (λ job. ForSome (workers_of job) IsWorkers) }
+    ensures numbers { ForSome result HasFitNumbers }
     ensures given { GivesOnce (found_of matches.now) result }
 {
     let Some(network) = matches.get_str(NETWORK) else {
@@ -183,9 +181,7 @@ fn once_in<'w>(matches: &ArgMatches<'w>) -> Option<Job<'w>>
 }
 
 fn batch_in<'w>(matches: &ArgMatches<'w>) -> Option<Job<'w>>
-    ensures width { ForSome result (λ job. ForSome (delta_of job) IsWidth) }
-    ensures journal { ForSome result (λ job. ForSome (journal_of job) IsJournal) }
-    ensures workers { ForSome result (λ job. ForSome (workers_of job) IsWorkers) }
+    ensures numbers { ForSome result HasFitNumbers }
     ensures given { GivesBatch (found_of matches.now) result }
 {
     let Some(network) = matches.get_str(NETWORK) else {
@@ -202,9 +198,7 @@ fn batch_in<'w>(matches: &ArgMatches<'w>) -> Option<Job<'w>>
 }
 
 fn rehearse_in<'w>(matches: &ArgMatches<'w>) -> Option<Job<'w>>
-    ensures width { ForSome result (λ job. ForSome (delta_of job) IsWidth) }
-    ensures journal { ForSome result (λ job. ForSome (journal_of job) IsJournal) }
-    ensures workers { ForSome result (λ job. ForSome (workers_of job) IsWorkers) }
+    ensures numbers { ForSome result HasFitNumbers }
     ensures given { GivesRehearse (found_of matches.now) result }
 {
     let Some(network) = matches.get_str(NETWORK) else {
@@ -222,9 +216,7 @@ fn rehearse_in<'w>(matches: &ArgMatches<'w>) -> Option<Job<'w>>
 }
 
 fn create_in<'w>(matches: &ArgMatches<'w>) -> Option<Job<'w>>
-    ensures width { ForSome result (λ job. ForSome (delta_of job) IsWidth) }
-    ensures journal { ForSome result (λ job. ForSome (journal_of job) IsJournal) }
-    ensures workers { ForSome result (λ job. ForSome (workers_of job) IsWorkers) }
+    ensures numbers { ForSome result HasFitNumbers }
     ensures given { GivesCreate (found_of matches.now) result }
 {
     let Some(store) = matches.get_str(STORE) else {
@@ -245,9 +237,7 @@ fn create_in<'w>(matches: &ArgMatches<'w>) -> Option<Job<'w>>
 }
 
 fn apply_in<'w>(matches: &ArgMatches<'w>) -> Option<Job<'w>>
-    ensures width { ForSome result (λ job. ForSome (delta_of job) IsWidth) }
-    ensures journal { ForSome result (λ job. ForSome (journal_of job) IsJournal) }
-    ensures workers { ForSome result (λ job. ForSome (workers_of job) IsWorkers) }
+    ensures numbers { ForSome result HasFitNumbers }
     ensures given { GivesApply (found_of matches.now) result }
 {
     let Some(store) = matches.get_str(STORE) else {
@@ -264,9 +254,7 @@ fn apply_in<'w>(matches: &ArgMatches<'w>) -> Option<Job<'w>>
 }
 
 fn ask_in<'w>(matches: &ArgMatches<'w>) -> Option<Job<'w>>
-    ensures width { ForSome result (λ job. ForSome (delta_of job) IsWidth) }
-    ensures journal { ForSome result (λ job. ForSome (journal_of job) IsJournal) }
-    ensures workers { ForSome result (λ job. ForSome (workers_of job) IsWorkers) }
+    ensures numbers { ForSome result HasFitNumbers }
     ensures given { GivesAsk (found_of matches.now) result }
 {
     let Some(store) = matches.get_str(STORE) else {
@@ -283,9 +271,7 @@ fn ask_in<'w>(matches: &ArgMatches<'w>) -> Option<Job<'w>>
 }
 
 fn check_in<'w>(matches: &ArgMatches<'w>) -> Option<Job<'w>>
-    ensures width { ForSome result (λ job. ForSome (delta_of job) IsWidth) }
-    ensures journal { ForSome result (λ job. ForSome (journal_of job) IsJournal) }
-    ensures workers { ForSome result (λ job. ForSome (workers_of job) IsWorkers) }
+    ensures numbers { ForSome result HasFitNumbers }
     ensures given { GivesCheck (found_of matches.now) result }
 {
     let Some(store) = matches.get_str(STORE) else {
@@ -295,9 +281,7 @@ fn check_in<'w>(matches: &ArgMatches<'w>) -> Option<Job<'w>>
 }
 
 fn serve_in<'w>(matches: &ArgMatches<'w>) -> Option<Job<'w>>
-    ensures width { ForSome result (λ job. ForSome (delta_of job) IsWidth) }
-    ensures journal { ForSome result (λ job. ForSome (journal_of job) IsJournal) }
-    ensures workers { ForSome result (λ job. ForSome (workers_of job) IsWorkers) }
+    ensures numbers { ForSome result HasFitNumbers }
     ensures given { GivesServe (found_of matches.now) result }
 {
     let Some(store) = matches.get_str(STORE) else {
@@ -312,9 +296,7 @@ fn serve_in<'w>(matches: &ArgMatches<'w>) -> Option<Job<'w>>
 
 /// The job that was matched.
 fn job_in<'w>(matches: &ArgMatches<'w>) -> Option<Job<'w>>
-    ensures width { ForSome result (λ job. ForSome (delta_of job) IsWidth) }
-    ensures journal { ForSome result (λ job. ForSome (journal_of job) IsJournal) }
-    ensures workers { ForSome result (λ job. ForSome (workers_of job) IsWorkers) }
+    ensures numbers { ForSome result HasFitNumbers }
     ensures kind { IfSome result (λ job. subcommand_name_of matches.now ≡ subcommand_of job) }
     ensures joint { IfSome result (GivesJoint (found_of matches.now)) }
     ensures given { subcommand_name_of matches.now ≡ None → IsSome result }

@@ -1,7 +1,7 @@
 -- What a session knows by its reader, and what it tells.
 use Rattle.std.proofs.Common.{◌≡◌, ◌∙◌, ◌⊎◌, inl, inr, ℕ, ◌+◌, List, [], ◌++◌, Option, None, Some, length, refl, sym, ap, subst}
 use Rattle.std.proofs.KnownBytes.{Appends-nil}
-use Rattle.std.specs.Prelude.{Result, Ok, Err, IfOk, OnOk}
+use Rattle.std.specs.Prelude.{Result, Ok, Err, IfOk, IfErr, OnOk}
 use Rattle.std.specs.Io.KnownBytes.{Appends}
 use mathlib.Core.List.{IsPrefix}
 use Rattle.roadnet.specs.declared.refusals.Refusal.{Refusal}
@@ -20,7 +20,7 @@ use Rattle.printing.specs.Replied.{printed_reply}
 use Rattle.sessions.specs.declared.answers.Accepted.{Accepted}
 use Rattle.sessions.specs.declared.lines.Line.{Line}
 use Rattle.sessions.specs.declared.lines.Line.TheVariants.{Ignored, Command as a_command, Query as a_query, Wait, Quit, Refused as a_fault}
-use Rattle.sessions.specs.Told.{AnswersAfter, HasShown, ShowsLast, Settles, Replies, claim_of, known_to}
+use Rattle.sessions.specs.Told.{AnswersAfter, HasShown, ShowsLast, Settles, Replies, IsUnshown, claim_of, known_to}
 use Rattle.sessions.specs.Turns.{Tells, fault_number, version_or_refusal}
 
 -- the answer of a reader that looked at a view and is lent for queries of it
@@ -72,9 +72,9 @@ told_query origin query before last known old new (Ok x) reply replies same appe
 told_query origin query before last known old new (Err e) reply replies same appends = tt
 
 pub told_wait : {X E : Type 0} (origin : Origin) (before last : Option Accepted) (known : List Command) (old new : Option (List ℕ)) (result : Result X E) (shown : Result ℕ Refusal)
-    → IfOk shown (ShowsLast origin last known) → last ≡ before → OnOk result (Appends old new (version_or_refusal shown)) → OnOk result (Tells origin Wait before last known old new)
-told_wait origin before last known old new (Ok x) shown shows same appends = (version_or_refusal shown, (shown, shows, refl, same), appends)
-told_wait origin before last known old new (Err e) shown shows same appends = tt
+    → IfOk shown (ShowsLast origin last known) → IfErr shown IsUnshown → last ≡ before → OnOk result (Appends old new (version_or_refusal shown)) → OnOk result (Tells origin Wait before last known old new)
+told_wait origin before last known old new (Ok x) shown shows causes same appends = (version_or_refusal shown, (shown, shows, causes, refl, same), appends)
+told_wait origin before last known old new (Err e) shown shows causes same appends = tt
 
 pub told_fault : {X E : Type 0} (origin : Origin) (code : Code) (before last : Option Accepted) (known : List Command) (old new : Option (List ℕ)) (result : Result X E)
     → last ≡ before → OnOk result (Appends old new (refusal_line (fault_number code))) → OnOk result (Tells origin (a_fault code) before last known old new)

@@ -12,7 +12,8 @@ use Rattle.dimacs.specs.Commands.{form, form_of, is_refused, command_code}
 use Rattle.dimacs.specs.Content.{size_at}
 use Rattle.dimacs.specs.Faults.{Row, is_empty, is_remark, is_malformed}
 use Rattle.dimacs.specs.Numerals.{numeral, kept}
-use Rattle.dimacs.proofs.Items.{known, kept_is, unreadable_kept, or-false}
+use Rattle.dimacs.proofs.CommandRows.{kept_refused, kept_number}
+use Rattle.dimacs.proofs.Items.{known, or-false}
 use Rattle.sessions.specs.declared.words.Bare.{Bare}
 use Rattle.sessions.specs.declared.words.Bare.TheVariants.{Wait, Quit}
 use Rattle.sessions.specs.declared.words.OneNumber.{OneNumber}
@@ -139,12 +140,6 @@ code_of_two : (word u v : List ℕ) (a b : Numeral) → IsForm word 2 → numera
     → session_code (word ∷ u ∷ v ∷ []) ≡ cond (is_refused a || is_refused b) (Some NumberRange) None
 unfolding command_code
 code_of_two word u v a b f d e = rw (f.plain (u ∷ v ∷ []), f.formed (u ∷ v ∷ []), d, e) (simp or-false)
-
-kept_refused : (n : Numeral) → is_refused (kept n) ≡ is_refused n
-kept_refused n = ap (λ b. n.has_minus || b) (unreadable_kept n)
-
-kept_number : (n : Numeral) → is_refused n ≡ false → kept n ≡ n
-kept_number n e = kept_is n (or_parts _ _ e).1
 
 -- ---- what stands behind a word
 -- not so many fields

@@ -2,6 +2,7 @@
 use Rattle.std.specs.Prelude.{◌≡◌, ◌⊎◌, ℕ, ◌+◌, List, [], length, Option, None, Some, Result, Ok, Err, ⊤}
 use mathlib.Core.List.{IsPrefix}
 use Rattle.roadnet.specs.declared.commands.Command.{Command}
+use Rattle.roadnet.specs.declared.refusals.Refusal.{Refusal}
 use Rattle.roadnet.specs.declared.refusals.Refusal.TheVariants.{Read, Write}
 use Rattle.roadnet.specs.Net.{Net}
 use Rattle.roadnet.specs.Step.{after}
@@ -13,7 +14,8 @@ use Rattle.machine.specs.declared.events.Replied.TheVariants.{Durable, Answered,
 use Rattle.machine.specs.Laws.{IsAt}
 use Rattle.history.specs.Claims.{Claimed}
 use Rattle.history.specs.Origins.{Origin, Beginning}
-use Rattle.desk.specs.Readings.{Reading}
+use Rattle.desk.specs.Readings.{Reading, IsNoReader}
+use Rattle.desk.specs.Turns.{IsUnserved}
 use Rattle.dimacs.specs.Counts.{one_more_failed}
 use Rattle.printing.specs.declared.failed.Failed.{Failed}
 use Rattle.printing.specs.declared.failed.Failed.TheVariants.{Text, Code}
@@ -36,10 +38,11 @@ abbrev pub IsUnsettled : Origin → Option Accepted → Command → Type 0
 IsUnsettled origin (Some (Unsettled ticket)) command = (ticket.origin ≡ origin) × (ticket.ticket.command ≡ command)
 IsUnsettled origin other command = ⊥
 
--- what a command is told: its number, of which the session has a receipt; or a refusal, where it was accepted and not settled, or was not accepted
+-- what a command is told: its number, of which the session has a receipt; or a refusal, where it was not accepted, or was accepted and not settled
+-- (45, 61)
 abbrev pub Settles : Origin → Option Accepted → Option Accepted → Command → Replied → Type 0
 Settles origin before last command (Durable number) = HasReceipt origin last number command
-Settles origin before last command (Refused refusal) = (last ≡ before) ⊎ IsUnsettled origin last command
+Settles origin before last command (Refused refusal) = (last ≡ before) ⊎ (IsUnsettled origin last command × IsUnserved refusal)
 Settles origin before last command other = ⊥
 
 -- the answer is right in the desk's network after these commands, and names the version after them
@@ -49,10 +52,10 @@ pub record AnswersAfter (origin : Origin) (commands : List Command) (query : Que
   pub version : answer.version ≡ origin.version + length commands
   pub right : IsRight network query answer.reply
 
--- what a query is told: an answer after these commands, or a refusal
+-- what a query is told: an answer after these commands, or that there is no view to ask, or no memory for it (60, 11, 61)
 abbrev pub Replies : Origin → List Command → Query → Replied → Type 0
 Replies origin commands query (Answered asked answer) = (asked ≡ query) × AnswersAfter origin commands query answer
-Replies origin commands query (Refused refusal) = ⊤
+Replies origin commands query (Refused refusal) = IsNoReader refusal
 Replies origin commands query other = ⊥
 
 -- the commands that a session's reader has seen or was told of, if it has one
@@ -72,6 +75,10 @@ abbrev pub ShowsLast : Origin → Option Accepted → List Command → ℕ → T
 ShowsLast origin None commands version = version ≡ origin.version + length commands
 ShowsLast origin (Some accepted) commands version =
     IsAt origin.version commands (claim_of accepted).ticket × (version ≡ origin.version + length commands)
+
+-- why a session that waits is shown nothing: its command will not be settled (45, 61), or there is no view to look at (60, 11, 61)
+abbrev pub IsUnshown : Refusal → Type 0
+IsUnshown refusal = IsUnserved refusal ⊎ IsNoReader refusal
 
 -- the reader's count of failed calls is one more where a failed read is told, and else as it was
 abbrev pub CountsRead : {X : Type 0} → ℕ → ℕ → Result X Failed → Type 0

@@ -1,5 +1,5 @@
 -- What a session tells, line by line.
-use Rattle.std.specs.Prelude.{◌≡◌, ◌⊎◌, ℕ, Bool, true, false, List, [], ◌∷◌, ◌++◌, Option, None, Some, Result, Ok, Err, IfOk, ⊤}
+use Rattle.std.specs.Prelude.{◌≡◌, ◌⊎◌, ℕ, Bool, true, false, List, [], ◌∷◌, ◌++◌, Option, None, Some, Result, Ok, Err, IfOk, IfErr, ⊤}
 use Rattle.std.specs.Io.KnownBytes.{Appends}
 use mathlib.Core.List.{IsPrefix}
 use Rattle.dimacs.specs.declared.fault.Code.{Code}
@@ -18,7 +18,7 @@ use Rattle.sessions.specs.declared.answers.Accepted.{Accepted}
 use Rattle.sessions.specs.declared.lines.Line.{Line}
 use Rattle.sessions.specs.declared.lines.Line.TheVariants.{Ignored, Command as a_command, Query, Wait, Quit, Refused}
 use Rattle.sessions.specs.Reads.{ReadsOne, FailsInLine, ReadsLine}
-use Rattle.sessions.specs.Told.{Settles, Replies, ShowsLast}
+use Rattle.sessions.specs.Told.{Settles, Replies, ShowsLast, IsUnshown}
 
 -- the number by which a line's fault is told
 abbrev pub fault_number : Code → ℕ
@@ -36,7 +36,7 @@ IsAnswer origin Ignored before last known told = (told ≡ []) × (last ≡ befo
 IsAnswer origin Quit before last known told = (told ≡ []) × (last ≡ before)
 IsAnswer origin (a_command command) before last known told = (reply : Replied) × Settles origin before last command reply × (told ≡ printed_reply reply)
 IsAnswer origin (Query query) before last known told = (reply : Replied) × Replies origin known query reply × (told ≡ printed_reply reply) × (last ≡ before)
-IsAnswer origin Wait before last known told = (shown : Result ℕ Refusal) × IfOk shown (ShowsLast origin last known) × (told ≡ version_or_refusal shown) × (last ≡ before)
+IsAnswer origin Wait before last known told = (shown : Result ℕ Refusal) × IfOk shown (ShowsLast origin last known) × IfErr shown IsUnshown × (told ≡ version_or_refusal shown) × (last ≡ before)
 IsAnswer origin (Refused code) before last known told = (told ≡ refusal_line (fault_number code)) × (last ≡ before)
 
 -- the writer has this answer and no more

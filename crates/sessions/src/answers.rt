@@ -1,9 +1,12 @@
 //! What a session answers, by its desk.
-ghost use Rattle.std.specs.Prelude.{◌≡◌, ◌⊎◌, ◌+◌, length, None, IfOk, IfErr, OnOk, OnErr};
+ghost use Rattle.std.specs.Prelude.{◌≡◌, ◌⊎◌, ◌+◌, length, None, IfOk, IfErr, OnOk};
 ghost use Rattle.std.specs.Option.{ForSome};
 ghost use mathlib.Core.List.{IsPrefix};
+ghost use Rattle.published.specs.Showing.{IsUnseen};
+ghost use Rattle.desk.specs.Readings.{IsNoReader};
+ghost use Rattle.desk.specs.Turns.{IsUnserved};
 ghost use Rattle.printing.specs.Counting.{failed_writes, writer_of, IsSameWriter, CountsFailure};
-ghost use Rattle.sessions.specs.Told.{claim_of, HasReceipt, HasShown, AnswersAfter, known_to, IsUnsettled, Settles, Replies, ShowsLast};
+ghost use Rattle.sessions.specs.Told.{claim_of, HasReceipt, HasShown, AnswersAfter, known_to, IsUnsettled, IsUnshown, Settles, Replies, ShowsLast};
 ghost use Rattle.sessions.specs.Turns.{Tells};
 
 use crate::lines::Line;
@@ -55,6 +58,7 @@ fn answer_by<N: Naming, R: Threads>(
     query: Query,
 ) -> Result<Answer, Refusal>
     ensures right { IfOk result (AnswersAfter N.origin reader.new.known.commands query) }
+    ensures causes { IfErr result IsUnseen }
     ensures begins { IsPrefix reader.old.known.commands reader.new.known.commands }
 {
     reader.look()?;
@@ -74,6 +78,7 @@ fn answer_by<N: Naming, R: Threads>(
 /// The version of the view that is shown now. Refused is a view that the reader can't look at (11, 61).
 fn version_by<N: Naming>(reader: &mut Reader<N>) -> Result<u64, Refusal>
     ensures version { IfOk result (λ version. version ≡ N.origin.version + length reader.new.known.commands) }
+    ensures causes { IfErr result IsUnseen }
     ensures begins { IsPrefix reader.old.known.commands reader.new.known.commands }
 {
     reader.look()?;
@@ -84,6 +89,7 @@ fn version_by<N: Naming>(reader: &mut Reader<N>) -> Result<u64, Refusal>
 fn version_since<N: Naming>(reader: &mut Reader<N>, shown: &Shown) -> Result<u64, Refusal>
     requires { shown.now.origin ≡ N.origin }
     ensures version { IfOk result (λ version. version ≡ N.origin.version + length reader.new.known.commands) }
+    ensures causes { IfErr result IsUnseen }
     ensures begins { IsPrefix reader.old.known.commands reader.new.known.commands }
     ensures learned { IsPrefix shown.now.commands reader.new.known.commands }
 {
@@ -109,6 +115,7 @@ impl<N: Naming + Send + Sync + 'static> Session<N> {
         G: Gate + Drop + Send + Sync + 'static,
         R: Threads + Wait + Copy + Send + Sync + 'static,
     >(&mut self, desk: &Desk<N, D, G, R>) -> Result<(), Refusal>
+        ensures causes { IfErr result IsNoReader }
         ensures begins { IsPrefix (known_to self.old.reader) (known_to self.new.reader) }
         ensures last { self.new.last ≡ self.old.last }
     {
@@ -128,7 +135,7 @@ impl<N: Naming + Send + Sync + 'static> Session<N> {
         R: Threads + Wait + Copy + Send + Sync + 'static,
     >(&mut self, desk: &Desk<N, D, G, R>, command: Command) -> Result<u64, Refusal>
         ensures receipt { IfOk result (λ number. HasReceipt N.origin self.new.last number command) }
-        ensures refused { OnErr result ((self.new.last ≡ self.old.last) ⊎ IsUnsettled N.origin self.new.last command) }
+        ensures refused { IfErr result (λ refusal. (self.new.last ≡ self.old.last) ⊎ (IsUnsettled N.origin self.new.last command × IsUnserved refusal)) }
         ensures reader { self.new.reader ≡ self.old.reader }
     {
         let ticket = desk.submit(command)?;
@@ -191,7 +198,8 @@ impl<N: Naming + Send + Sync + 'static> Session<N> {
         G: Gate + Drop + Send + Sync + 'static,
         R: Threads + Wait + Copy + Send + Sync + 'static,
     >(&self, desk: &Desk<N, D, G, R>) -> Result<Option<Shown>, Refusal>
-        ensures { IfOk result (λ shown. HasShown N.origin self.now.last shown) }
+        ensures shown { IfOk result (λ shown. HasShown N.origin self.now.last shown) }
+        ensures causes { IfErr result IsUnserved }
     {
         match &self.last {
             None => Ok(None),
@@ -210,6 +218,7 @@ impl<N: Naming + Send + Sync + 'static> Session<N> {
         R: Threads + Wait + Copy + Send + Sync + 'static,
     >(&mut self, desk: &Desk<N, D, G, R>) -> Result<u64, Refusal>
         ensures shown { IfOk result (ShowsLast N.origin self.new.last (known_to self.new.reader)) }
+        ensures causes { IfErr result IsUnshown }
         ensures begins { IsPrefix (known_to self.old.reader) (known_to self.new.reader) }
         ensures last { self.new.last ≡ self.old.last }
     {

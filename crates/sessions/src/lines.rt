@@ -1,7 +1,6 @@
 //! The lines of a session, judged byte by byte: of the bytes of a line none is kept but those of a word.
 ghost use Rattle.std.specs.Prelude.{◌≡◌, ◌||◌, ◌∷◌, ◌++◌, [], List, ℕ, true, false};
 ghost use Rattle.std.specs.Io.BufRead.{strip_last};
-ghost use Rattle.dimacs.specs.Commands.{is_refused};
 ghost use Rattle.dimacs.specs.Faults.{Row};
 ghost use Rattle.dimacs.specs.Lines.{is_blank, fields};
 ghost use Rattle.sessions.specs.Fields.{IsNumbers};
@@ -14,7 +13,7 @@ ghost use Rattle.sessions.specs.Turns.{is_quit};
 use crate::fields::{Field, Numbers, one_of, two_of};
 use crate::letters::Letters;
 use crate::words::{Bare, OneNumber, TwoNumbers, Word};
-use dimacs::{Code, Numeral};
+use dimacs::Code;
 use roadnet::Command;
 use rows::Query;
 
@@ -62,13 +61,6 @@ fn is_blank(byte: u8) -> bool
     ensures { result ≡ is_blank byte }
 {
     byte == b' ' || byte == b'\t'
-}
-
-/// Whether a number of a line has a minus, or a size above 2^63 - 1.
-fn is_refused(number: Numeral) -> bool
-    ensures { result ≡ is_refused number }
-{
-    number.has_minus || number.is_unreadable()
 }
 
 /// What a word alone asks for.
@@ -136,7 +128,7 @@ fn read_one(word: OneNumber, numbers: Numbers) -> Line
     let Some(number) = one_of(numbers) else {
         return Line::Refused(Code::BadLine);
     };
-    if is_refused(number) {
+    if number.is_refused() {
         return Line::Refused(Code::NumberRange);
     }
     one_line(word, number.size)
@@ -149,7 +141,7 @@ fn read_two(word: TwoNumbers, numbers: Numbers) -> Line
     let Some((first, second)) = two_of(numbers) else {
         return Line::Refused(Code::BadLine);
     };
-    if are_refused(first, second) {
+    if first.is_refused() || second.is_refused() {
         return Line::Refused(Code::NumberRange);
     }
     two_line(word, first.size, second.size)
@@ -219,13 +211,6 @@ fn with_field(word: Word, numbers: Numbers, field: Field, byte: u8) -> Stage
         numbers,
         field: field.with(byte),
     }
-}
-
-/// Whether one of two numbers is refused.
-fn are_refused(first: Numeral, second: Numeral) -> bool
-    ensures { result ≡ (is_refused first || is_refused second) }
-{
-    is_refused(first) || is_refused(second)
 }
 
 impl Stage {

@@ -1,7 +1,7 @@
-ghost use Rattle.std.specs.Prelude.{◌≡◌, ◌⊎◌, OnErr, IfOk, IfErr};
+ghost use Rattle.std.specs.Prelude.{◌≡◌, ◌⊎◌, OnErr, IfOk, IfErr, IsOk, IsSome};
 ghost use mathlib.Core.List.{IsPrefix};
 ghost use Rattle.rows.specs.declared.queries.Query.TheVariants.{Dist};
-ghost use Rattle.rows.specs.Replies.{IsRight};
+ghost use Rattle.rows.specs.Replies.{refusal_of, IsRight};
 ghost use Rattle.rows.specs.Views.{AreRight};
 ghost use Rattle.published.specs.Showing.{IsUnseen};
 ghost use Rattle.desk.specs.Readings.{Reading, IsViewAfter};
@@ -73,7 +73,8 @@ impl<N: Naming> Reader<N> {
         Pinned::new(self)
     }
 
-    /// Looks at the view that is shown, as `look` does, and lends the reader for queries of it.
+    /// Looks at the view that is shown, as `look` does, and lends the reader for queries of it. After a refusal nothing has
+    /// changed: no clause can say so of a reader that may be lent, but `look` has it as its own.
     pub fn pin(&mut self) -> Result<Pinned<'_, N>, Refusal>
         ensures view { IfOk result (λ pinned. IsViewAfter N.origin pinned.reader.now.known.commands pinned.reader.now.view) }
         ensures begins { IfOk result (λ pinned. IsPrefix self.old.known.commands pinned.reader.now.known.commands) }
@@ -111,6 +112,7 @@ impl<N: Naming> Reader<N> {
         target: u64,
     ) -> Result<Reply, OutOfMemory>
         ensures right { IfOk result (IsRight self.old.view.network (Dist source target)) }
+        ensures refused { IsSome (refusal_of self.old.view.network (Dist source target)) → IsOk result }
         ensures same { self.new ≡ self.old }
     {
         self.sight.dist(rt, alloc, source, target)

@@ -77,6 +77,10 @@ pub record Holds (content : List ℕ) (left : List ℕ → Type 0) (m : Machine)
   pub only : m.broken ≡ false → Only content left
   pub each_left : (c : List ℕ) → left c → IsDurableIn m c
 
+-- P of the network at the version that answers are given from
+abbrev pub OfShown : Machine → (Net → Type 0) → Type 0
+OfShown m P = (net : Net) → network_at m m.shown ≡ Some net → P net
+
 -- Where the keeper's store came tidy, and no write had failed before, P.
 abbrev pub WhenSound : {D : Type 0} → (D → Type 0) → (D → List ℕ) → Keeping D → Type 0 → Type 0
 WhenSound honest content k P = CameTidy honest content k.given → k.machine.broken ≡ false → P

@@ -1,7 +1,9 @@
 // Queries answered.
-ghost use Rattle.std.specs.Prelude.{◌≡◌, ℕ, IsOk};
+ghost use Rattle.std.specs.Prelude.{◌≡◌, ℕ, IsOk, IsSome};
 ghost use Rattle.rows.specs.declared.queries.Query.TheVariants.{From, Lower};
+ghost use Rattle.rows.specs.Replies.{refusal_of};
 ghost use Rattle.machine.specs.Calls.{Asks};
+ghost use Rattle.keeper.specs.Keeping.{OfShown};
 ghost use Rattle.keeper.specs.Parts.{or_out_of_memory};
 
 use crate::keepers::Keeper;
@@ -15,10 +17,11 @@ impl<D: Disk> Keeper<D> {
     /// Answers a query from the view that is shown: the answer names the version, and its reply is right in the network at it. No later
     /// stop takes that version back.
     ///
-    /// The one error is want of memory for a row. A query from a landmark and one for a bound take none.
+    /// The one error is want of memory for a row. A query that is refused takes none, nor does one from a landmark or for a bound.
     pub fn ask<R: Threads>(&mut self, rt: &R, query: Query) -> Result<Answer, OutOfMemory>
         ensures step { Asks self.old.machine query (or_out_of_memory result) self.new.machine }
         ensures same { self.new ≡ self.old }
+        ensures refused { OfShown self.old.machine (λ net. IsSome (refusal_of net query) → IsOk result) }
         ensures landmark { (l t : ℕ) → query ≡ From l t → IsOk result }
         ensures lower { (s t : ℕ) → query ≡ Lower s t → IsOk result }
     {

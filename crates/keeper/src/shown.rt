@@ -1,6 +1,6 @@
 // The view that answers are given from.
-ghost use Rattle.std.specs.Prelude.{◌≡◌, ℕ, IfOk, IsOk};
-ghost use Rattle.rows.specs.Replies.{IsRight};
+ghost use Rattle.std.specs.Prelude.{◌≡◌, ℕ, IfOk, IsOk, IsSome};
+ghost use Rattle.rows.specs.Replies.{refusal_of, IsRight};
 ghost use Rattle.rows.specs.declared.queries.Query.TheVariants.{From, Lower};
 
 use machine::Answer;
@@ -65,7 +65,7 @@ impl Shown {
         self.view = view;
     }
 
-    /// The answer to a query. The one error is want of memory for a row.
+    /// The answer to a query. The one error is want of memory for a row; a refused query takes none.
     pub(crate) fn answer<R: Threads>(
         &mut self,
         rt: &R,
@@ -74,6 +74,7 @@ impl Shown {
     ) -> Result<Answer, OutOfMemory>
         ensures version { IfOk result (λ answer. answer.version ≡ self.old.version) }
         ensures right { IfOk result (λ answer. IsRight self.old.network query.now answer.reply) }
+        ensures refused { IsSome (refusal_of self.old.network query.now) → IsOk result }
         ensures landmark { (l t : ℕ) → query.now ≡ From l t → IsOk result }
         ensures lower { (s t : ℕ) → query.now ≡ Lower s t → IsOk result }
         ensures same { self.new ≡ self.old }

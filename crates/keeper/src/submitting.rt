@@ -24,13 +24,12 @@ fn accept(
     if history.reserve(1).is_err() {
         return Err(OutOfMemory);
     }
-    match accepted.apply(command) {
-        Ok(()) => {
-            history.push_reserved(command);
-            Ok(())
-        }
-        Err(_) => Err(OutOfMemory),
-    }
+    let Ok(room) = accepted.prepare(&command) else {
+        return Err(OutOfMemory);
+    };
+    accepted.carry_out(command, room);
+    history.push_reserved(command);
+    Ok(())
 }
 
 impl<D: Disk> Ledger<D> {

@@ -64,7 +64,7 @@ impl<N: Naming, D: Disk> Office<N, D> {
         if self.publisher.switch(rt, next).is_err() {
             return Err((Refusal::OutOfMemory, view));
         }
-        self.keeper.publish(view)
+        Ok(self.keeper.publish_admitted(view))
     }
 
     /// Tells what is shown: the accepted commands up to the shown version. It takes no memory.

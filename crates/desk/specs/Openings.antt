@@ -1,5 +1,7 @@
--- What a desk is started with.
-use Rattle.std.specs.Prelude.{◌≡◌, []}
+-- What a desk is started with, and for what it is not started.
+use Rattle.std.specs.Prelude.{◌≡◌, ◌⊎◌, []}
+use Rattle.roadnet.specs.declared.refusals.Refusal.{Refusal}
+use Rattle.roadnet.specs.declared.refusals.Refusal.TheVariants.{OutOfMemory, NoThread}
 use Rattle.history.specs.Origins.{Origin, Beginning}
 use Rattle.store.specs.State.{StoreState}
 
@@ -10,3 +12,7 @@ pub record IsNewDesk {D : Type 0} (origin : Origin) (history : Beginning) (store
   pub named : history.origin ≡ origin
   pub no_command : history.commands ≡ []
   pub none_acknowledged : history.acknowledged ≡ 0
+
+-- for what no desk is started: want of memory, or of threads
+abbrev pub IsUnstarted : Refusal → Type 0
+IsUnstarted refusal = (refusal ≡ OutOfMemory) ⊎ (refusal ≡ NoThread)

@@ -1,8 +1,12 @@
 -- What the threads of a desk are to do, and who has to wait, by the machine's numbers.
-use Rattle.std.specs.Prelude.{◌≡◌, ◌⊎◌, ℕ, ◌*◌, ◌+◌, Bool, true, false, ◌&&◌, not, if◌then◌else◌, nat_le, nat_lt, ◌==◌, min}
+use Rattle.std.specs.Prelude.{◌≡◌, ◌≢◌, ◌⊎◌, ℕ, ◌*◌, ◌+◌, Bool, true, false, ◌&&◌, not, if◌then◌else◌, nat_le, nat_lt, ◌==◌, min, Err}
+use Rattle.roadnet.specs.declared.commands.Command.{Command}
 use Rattle.roadnet.specs.declared.refusals.Refusal.{Refusal}
 use Rattle.roadnet.specs.declared.refusals.Refusal.TheVariants.{OutOfMemory, Device, Broken, Closed}
+use Rattle.history.specs.Origins.{Origin}
 use Rattle.machine.specs.Machine.{Machine, pending}
+use Rattle.machine.specs.Calls.{Submits}
+use Rattle.office.specs.Offices.{RunsFrom}
 use Rattle.desk.specs.declared.attempts.Attempt.{Attempt}
 use Rattle.desk.specs.declared.attempts.Attempt.TheVariants.{Done, NoMemory, Failed}
 use Rattle.desk.specs.declared.locked.FlusherTurn.{FlusherTurn}
@@ -62,3 +66,7 @@ is_unseen m builder_ended number = nat_lt m.shown number && (not (is_lost m numb
 -- for what one who waited is refused: the store broke, or the thread that was waited for has ended
 abbrev pub IsUnserved : Refusal → Type 0
 IsUnserved refusal = (refusal ≡ Broken) ⊎ (refusal ≡ Closed)
+
+-- for what a command is refused: the desk is halted, or else a state in the desk's run refuses this command so
+abbrev pub IsUntaken : Origin → Command → Refusal → Type 0
+IsUntaken origin command refusal = refusal ≢ Closed → (m : Machine) × RunsFrom origin m × Submits m command (Err refusal) m

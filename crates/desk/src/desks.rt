@@ -1,12 +1,13 @@
 ghost use Rattle.std.specs.Prelude.{◌≡◌, ◌≤◌, ℕ, true, List, IfOk, IfErr};
 ghost use Rattle.std.specs.Option.{ForSome};
+ghost use Rattle.roadnet.specs.declared.refusals.Refusal.TheVariants.{Closed as closed};
 ghost use Rattle.rows.specs.Kept.{IsWidth};
 ghost use Rattle.store.specs.State.{CameTidy, is_calm};
 ghost use Rattle.machine.specs.Laws.{IsAt};
 ghost use Rattle.office.specs.Left.{KeepsDesk};
-ghost use Rattle.desk.specs.Openings.{IsNewDesk};
+ghost use Rattle.desk.specs.Openings.{IsNewDesk, IsUnstarted};
 ghost use Rattle.desk.specs.Readings.{IsNoReader};
-ghost use Rattle.desk.specs.Turns.{IsUnserved};
+ghost use Rattle.desk.specs.Turns.{IsUnserved, IsUntaken};
 
 use crate::building::build_views;
 use crate::flushing::flush_pending;
@@ -41,7 +42,9 @@ fn start_both<
     D: Disk + Drop + Send + 'static,
     G: Gate + Drop + Send + Sync + 'static,
     R: Threads + Wait + Copy + Send + Sync + 'static,
->(rt: R, shared: &Arc<Shared<Office<N, D>, G>>, plan: Plan) -> Result<Started, Refusal> {
+>(rt: R, shared: &Arc<Shared<Office<N, D>, G>>, plan: Plan) -> Result<Started, Refusal>
+    ensures causes { IfErr result IsUnstarted }
+{
     start_threads(
         rt,
         shared,
@@ -88,6 +91,7 @@ impl<
         requires workers { (1 ≤ setup.workers) × (setup.workers ≤ 64) }
         requires new { IsNewDesk N.origin history store }
         requires came_tidy { N.came_tidy → CameTidy D.honest D.content store.given }
+        ensures causes { IfErr result IsUnstarted }
     {
         let Ok(office) = Office::new(&rt, alloc, history, store, setup.delta) else {
             return Err(Refusal::OutOfMemory);
@@ -113,6 +117,7 @@ impl<
     pub fn submit(&self, command: Command) -> Result<Ticket, Refusal>
         ensures origin { IfOk result (λ ticket. ticket.origin ≡ N.origin) }
         ensures command { IfOk result (λ ticket. ticket.ticket.command ≡ command) }
+        ensures causes { IfErr result (IsUntaken N.origin command) }
     {
         self.handle.submit(command)
     }
@@ -168,6 +173,7 @@ impl<
     /// Refused (61) is a state that can't be taken from the lock, and a history that was closed by another; neither comes.
     pub fn close(self) -> Result<Closed<D>, Refusal>
         ensures origin { IfOk result (λ closed. closed.whole.origin ≡ N.origin) }
+        ensures causes { IfErr result (λ refusal. refusal ≡ closed) }
         // What a stop may leave of the disk stands for the network after a beginning of the history, with all that was acknowledged or shown.
         ensures left { N.came_tidy → IfOk result (λ closed. (pages : ℕ) × ((c : List ℕ) → D.left closed.disk c → KeepsDesk closed.whole closed.shown pages c)) }
     {

@@ -1,9 +1,10 @@
 // What the callers of a desk share.
 ghost use Rattle.std.specs.Prelude.{◌≡◌, ℕ, List, IfOk, IfErr};
+ghost use Rattle.roadnet.specs.declared.refusals.Refusal.TheVariants.{Closed as closed};
 ghost use Rattle.machine.specs.Laws.{IsAt};
 ghost use Rattle.office.specs.Left.{KeepsDesk};
 ghost use Rattle.desk.specs.Readings.{IsNoReader};
-ghost use Rattle.desk.specs.Turns.{IsUnserved};
+ghost use Rattle.desk.specs.Turns.{IsUnserved, IsUntaken};
 
 use crate::gates::Gate;
 use crate::readers::Reader;
@@ -32,6 +33,7 @@ impl<N: Naming, D: Disk + Drop, G: Gate + Drop, R: Wait + Copy> Handle<N, D, G, 
     pub fn submit(&self, command: Command) -> Result<Ticket, Refusal>
         ensures origin { IfOk result (λ ticket. ticket.origin ≡ N.origin) }
         ensures command { IfOk result (λ ticket. ticket.ticket.command ≡ command) }
+        ensures causes { IfErr result (IsUntaken N.origin command) }
     {
         self.shared.submit(&self.rt, command)
     }
@@ -84,6 +86,7 @@ impl<N: Naming, D: Disk + Drop, G: Gate + Drop, R: Threads + Wait + Copy> Handle
     /// Refused (61) is an office that is still shared, and a history that was closed by another; neither comes.
     pub(crate) fn close(self, threads: Started) -> Result<Closed<D>, Refusal>
         ensures origin { IfOk result (λ closed. closed.whole.origin ≡ N.origin) }
+        ensures causes { IfErr result (λ refusal. refusal ≡ closed) }
         // What a stop may leave of the disk stands for the network after a beginning of the history, with all that was acknowledged or shown.
         ensures left { N.came_tidy → IfOk result (λ closed. (pages : ℕ) × ((c : List ℕ) → D.left closed.disk c → KeepsDesk closed.whole closed.shown pages c)) }
     {

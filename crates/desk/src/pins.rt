@@ -1,6 +1,6 @@
-ghost use Rattle.std.specs.Prelude.{◌≡◌, IfOk};
+ghost use Rattle.std.specs.Prelude.{◌≡◌, IfOk, IsOk, IsSome};
 ghost use Rattle.rows.specs.declared.queries.Query.TheVariants.{Dist, From, Lower};
-ghost use Rattle.rows.specs.Replies.{IsRight};
+ghost use Rattle.rows.specs.Replies.{refusal_of, IsRight};
 ghost use Rattle.rows.specs.Views.{AreRight};
 
 use crate::readers::Reader;
@@ -45,7 +45,8 @@ impl<'a, N: Naming> Pinned<'a, N> {
         self.reader.sight().lower(source, target)
     }
 
-    /// The reply to `Dist`, by a row that the reader keeps or a new one. The one error is want of memory for a new row.
+    /// The reply to `Dist`, by a row that the reader keeps or a new one. The one error is want of memory for a new row; a refused query
+    /// takes none.
     pub fn dist<R: Threads>(
         &mut self,
         rt: &R,
@@ -54,6 +55,7 @@ impl<'a, N: Naming> Pinned<'a, N> {
         target: u64,
     ) -> Result<Reply, OutOfMemory>
         ensures right { IfOk result (IsRight self.old.reader.now.view.network (Dist source target)) }
+        ensures refused { IsSome (refusal_of self.old.reader.now.view.network (Dist source target)) → IsOk result }
         ensures view { self.new.reader.now ≡ self.old.reader.now }
         ensures same { self.new.reader.ghost_name ≡ self.old.reader.ghost_name }
     {

@@ -1,7 +1,7 @@
-ghost use Rattle.std.specs.Prelude.{◌≡◌, ◌⊎◌, OnErr, IfOk, IfErr};
+ghost use Rattle.std.specs.Prelude.{◌≡◌, ◌⊎◌, OnErr, IfOk, IfErr, IsOk, IsSome};
 ghost use mathlib.Core.List.{IsPrefix};
 ghost use Rattle.rows.specs.declared.queries.Query.TheVariants.{Dist};
-ghost use Rattle.rows.specs.Replies.{IsRight};
+ghost use Rattle.rows.specs.Replies.{refusal_of, IsRight};
 ghost use Rattle.rows.specs.Views.{AreRight};
 ghost use Rattle.published.specs.Showing.{IsUnseen};
 ghost use Rattle.desk.specs.Readings.{Reading, IsViewAfter};
@@ -37,6 +37,9 @@ impl<N: Naming> Model for Reader<N> {
 }
 
 impl<N: Naming> Reader<N> {
+    ghost use Rattle.std.specs.Borrow.{sem, RestsIfErr};
+    ghost use Rattle.desk.specs.contracts.readers.Reader.{the_row};
+
     /// A reader that looks for the first time.
     pub(crate) fn new(alloc: Global, mut reader: published::Reader) -> Result<Reader<N>, Refusal>
         requires { reader.origin ≡ N.origin }
@@ -73,11 +76,12 @@ impl<N: Naming> Reader<N> {
         Pinned::new(self)
     }
 
-    /// Looks at the view that is shown, as `look` does, and lends the reader for queries of it.
+    /// Looks at the view that is shown, as `look` does, and lends the reader for queries of it. After a refusal nothing has changed.
     pub fn pin(&mut self) -> Result<Pinned<'_, N>, Refusal>
         ensures view { IfOk result (λ pinned. IsViewAfter N.origin pinned.reader.now.known.commands pinned.reader.now.view) }
         ensures begins { IfOk result (λ pinned. IsPrefix self.old.known.commands pinned.reader.now.known.commands) }
         ensures same { IfOk result (λ pinned. pinned.reader.ghost_name ≡ self.entry.ghost_name) }
+        ensures* refused { sem 𝓛 (RestsIfErr (the_row N.row N.Naming) self.entry (λ pinned. pinned.reader.ghost_name) result (λ left. left ≡ self.old)) }
         ensures causes { IfErr result IsUnseen }
     {
         self.look()?;
@@ -111,6 +115,7 @@ impl<N: Naming> Reader<N> {
         target: u64,
     ) -> Result<Reply, OutOfMemory>
         ensures right { IfOk result (IsRight self.old.view.network (Dist source target)) }
+        ensures refused { IsSome (refusal_of self.old.view.network (Dist source target)) → IsOk result }
         ensures same { self.new ≡ self.old }
     {
         self.sight.dist(rt, alloc, source, target)

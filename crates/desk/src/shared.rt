@@ -2,7 +2,7 @@
 ghost use Rattle.std.specs.Prelude.{◌≡◌, IfOk, IfErr};
 ghost use Rattle.roadnet.specs.declared.refusals.Refusal.TheVariants.{NoReaderPlace as no_reader_place};
 ghost use Rattle.machine.specs.Laws.{IsAt};
-ghost use Rattle.desk.specs.Turns.{IsUnserved};
+ghost use Rattle.desk.specs.Turns.{IsUnserved, IsUntaken};
 
 use crate::gates::Gate;
 use crate::locked::{BuilderTurn, FlusherTurn, Locked};
@@ -56,11 +56,13 @@ impl<N: Naming, D: Disk + Drop, G: Gate + Drop> Shared<Office<N, D>, G> {
     pub(crate) fn submit<R: Wait>(&self, rt: &R, command: Command) -> Result<Ticket, Refusal>
         ensures origin { IfOk result (λ ticket. ticket.origin ≡ N.origin) }
         ensures command { IfOk result (λ ticket. ticket.ticket.command ≡ command) }
+        ensures causes { IfErr result (IsUntaken N.origin command) }
     {
         let mut guard = self.locked.lock(rt);
         if guard.halted {
             return Err(Refusal::Closed);
         }
+        let _ = guard.office.durable();
         let ticket = guard.office.submit(command)?;
         drop(guard);
         self.submitted.notify_one();

@@ -1,7 +1,7 @@
 // The view that a reader looked at last, with the rows that its queries made.
-ghost use Rattle.std.specs.Prelude.{◌≡◌, IfOk};
+ghost use Rattle.std.specs.Prelude.{◌≡◌, IfOk, IsOk, IsSome};
 ghost use Rattle.rows.specs.declared.queries.Query.TheVariants.{Dist, From, Lower};
-ghost use Rattle.rows.specs.Replies.{IsRight};
+ghost use Rattle.rows.specs.Replies.{refusal_of, IsRight};
 ghost use Rattle.rows.specs.Views.{AreRight};
 
 use roadnet::OutOfMemory;
@@ -63,7 +63,7 @@ impl Sight {
         self.view = view;
     }
 
-    /// The reply to `Dist`. The one error is want of memory for a row.
+    /// The reply to `Dist`. The one error is want of memory for a row; a refused query takes none.
     pub(crate) fn dist<R: Threads>(
         &mut self,
         rt: &R,
@@ -72,6 +72,7 @@ impl Sight {
         target: u64,
     ) -> Result<Reply, OutOfMemory>
         ensures right { IfOk result (IsRight self.old.network (Dist source target)) }
+        ensures refused { IsSome (refusal_of self.old.network (Dist source target)) → IsOk result }
         ensures same { self.new ≡ self.old }
     {
         let mut pinned = self.view.pinned(&mut self.cache);

@@ -1,4 +1,7 @@
 // The two threads of a desk, started.
+ghost use Rattle.std.specs.Prelude.{IfErr};
+ghost use Rattle.desk.specs.Openings.{IsUnstarted};
+
 use crate::shared::Shared;
 use roadnet::Refusal;
 use std::sync::{Arc, Wait};
@@ -32,6 +35,7 @@ pub(crate) fn start_threads<
 >(rt: R, shared: &Arc<Shared<O, G>>, flush: F, build: B) -> Result<Started, Refusal>
     requires flush { F.IsAlwaysCallable flush }
     requires build { B.IsAlwaysCallable build }
+    ensures causes { IfErr result IsUnstarted }
 {
     let Ok(of_flusher) = Arc::try_clone(shared) else {
         return Err(Refusal::OutOfMemory);

@@ -37,6 +37,9 @@ impl<N: Naming> Model for Reader<N> {
 }
 
 impl<N: Naming> Reader<N> {
+    ghost use Rattle.std.specs.Borrow.{sem, RestsIfErr};
+    ghost use Rattle.desk.specs.contracts.readers.Reader.{the_row};
+
     /// A reader that looks for the first time.
     pub(crate) fn new(alloc: Global, mut reader: published::Reader) -> Result<Reader<N>, Refusal>
         requires { reader.origin ≡ N.origin }
@@ -73,12 +76,12 @@ impl<N: Naming> Reader<N> {
         Pinned::new(self)
     }
 
-    /// Looks at the view that is shown, as `look` does, and lends the reader for queries of it. After a refusal nothing has
-    /// changed: no clause can say so of a reader that may be lent, but `look` has it as its own.
+    /// Looks at the view that is shown, as `look` does, and lends the reader for queries of it. After a refusal nothing has changed.
     pub fn pin(&mut self) -> Result<Pinned<'_, N>, Refusal>
         ensures view { IfOk result (λ pinned. IsViewAfter N.origin pinned.reader.now.known.commands pinned.reader.now.view) }
         ensures begins { IfOk result (λ pinned. IsPrefix self.old.known.commands pinned.reader.now.known.commands) }
         ensures same { IfOk result (λ pinned. pinned.reader.ghost_name ≡ self.entry.ghost_name) }
+        ensures* refused { sem 𝓛 (RestsIfErr (the_row N.row N.Naming) self.entry (λ pinned. pinned.reader.ghost_name) result (λ left. left ≡ self.old)) }
         ensures causes { IfErr result IsUnseen }
     {
         self.look()?;

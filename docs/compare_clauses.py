@@ -22,7 +22,7 @@ def contracts():
             if heading:
                 head, heading = head + line, "{" not in line
             function = re.match(r"( *)(?:pub(?:\([a-z]+\))? )?(?:ghost )?fn (\w+)", line)
-            clause = re.match(r" *ensures (\w+) \{", line)
+            clause = re.match(r" *ensures\*? (\w+) \{", line)
             if function:
                 inner = set(re.findall(r"\w+", head)) if function[1] else set()
                 clauses = set()

@@ -75,7 +75,8 @@ impl<
     G: Gate + Drop + Send + Sync + 'static,
     R: Threads + Wait + Copy + Send + Sync + 'static,
 > Desk<N, D, G, R> {
-    /// Serves a store that is not broken, with the history of a new desk. The first view is built by this call, without a call of the gate.
+    /// Serves a store that is not broken, with the history of a new desk. The first view is built by this call, its landmarks' rows by the row
+    /// workers, without a call of the gate.
     ///
     /// Refused is want of memory (11) and of threads (63); the store is dropped then, and no thread runs.
     pub fn start(
@@ -93,16 +94,19 @@ impl<
         requires came_tidy { N.came_tidy → CameTidy D.honest D.content store.given }
         ensures causes { IfErr result IsUnstarted }
     {
-        let Ok(office) = Office::new(&rt, alloc, history, store, setup.delta) else {
-            return Err(Refusal::OutOfMemory);
-        };
-        let Ok(shared) = Arc::new(alloc, Shared::new(office, gate)) else {
-            return Err(Refusal::OutOfMemory);
-        };
         let plan = Plan {
             alloc,
             delta: setup.delta,
             workers: setup.workers,
+        };
+        let Ok(view) = plan.first(&rt, &store) else {
+            return Err(Refusal::OutOfMemory);
+        };
+        let Ok(office) = Office::new(&rt, alloc, history, store, view) else {
+            return Err(Refusal::OutOfMemory);
+        };
+        let Ok(shared) = Arc::new(alloc, Shared::new(office, gate)) else {
+            return Err(Refusal::OutOfMemory);
         };
         let threads = start_both(rt, &shared, plan)?;
         Ok(Desk {

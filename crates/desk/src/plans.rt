@@ -4,15 +4,17 @@ ghost use Rattle.std.specs.Option.{ForSome};
 ghost use Rattle.rows.specs.Kept.{IsWidth};
 ghost use Rattle.snapshot.specs.Groups.{default_width};
 
-use crate::gates::Gate;
+use crate::gates::{Gate, NoGate};
 use crate::row_workers::{RowJob, landmark_rows};
+use disk::Disk;
 use keeper::Task;
-use roadnet::OutOfMemory;
+use roadnet::{Network, OutOfMemory};
 use rows::View;
 use snapshot::{Snapshot, default_delta};
 use std::alloc::Global;
 use std::sync::Arc;
 use std::thread::Threads;
+use store::Store;
 
 /// How views are built.
 #[derive(Clone, Copy)]
@@ -28,18 +30,19 @@ pub(crate) struct Plan {
 }
 
 impl Plan {
-    /// The view of a task: the rows of its landmarks are made by the row workers. The one error is want of memory.
-    pub(crate) fn build<G: Gate + Sync, R: Threads + Sync>(
+    /// A view of this network at this version: the rows of its landmarks are made by the row workers. The one error is want of memory.
+    fn view_of<G: Gate + Sync, R: Threads + Sync>(
         &self,
         rt: &R,
         gate: &G,
-        task: &Task,
+        version: u64,
+        network: &Network,
     ) -> Result<Arc<View>, OutOfMemory>
-        ensures version { IfOk result (λ view. view.value.version ≡ task.now.version) }
-        ensures network { IfOk result (λ view. view.value.network ≡ task.now.network.value) }
-        ensures width { IfOk result (λ view. view.value.delta ≡ unwrap_or self.now.delta (default_width task.now.network.value)) }
+        ensures version { IfOk result (λ view. view.value.version ≡ version) }
+        ensures network { IfOk result (λ view. view.value.network ≡ network.now) }
+        ensures width { IfOk result (λ view. view.value.delta ≡ unwrap_or self.now.delta (default_width network.now)) }
     {
-        let network = task.network.copy()?;
+        let network = network.copy()?;
         let width = match self.delta {
             Some(width) => width,
             None => default_delta(&network),
@@ -50,18 +53,42 @@ impl Plan {
             &RowJob {
                 alloc: self.alloc,
                 gate,
-                version: task.version,
+                version,
                 network: &network,
                 snapshot: &snapshot,
                 workers: self.workers,
             },
         )?;
-        match Arc::new(
-            self.alloc,
-            View::assemble(task.version, network, snapshot, rows),
-        ) {
+        match Arc::new(self.alloc, View::assemble(version, network, snapshot, rows)) {
             Ok(view) => Ok(view),
             Err(_) => Err(OutOfMemory),
         }
+    }
+
+    /// The view of a task.
+    pub(crate) fn build<G: Gate + Sync, R: Threads + Sync>(
+        &self,
+        rt: &R,
+        gate: &G,
+        task: &Task,
+    ) -> Result<Arc<View>, OutOfMemory>
+        ensures version { IfOk result (λ view. view.value.version ≡ task.now.version) }
+        ensures network { IfOk result (λ view. view.value.network ≡ task.now.network.value) }
+        ensures width { IfOk result (λ view. view.value.delta ≡ unwrap_or self.now.delta (default_width task.now.network.value)) }
+    {
+        self.view_of(rt, gate, task.version, &task.network)
+    }
+
+    /// The view of what a store has, made without a call of a gate.
+    pub(crate) fn first<D: Disk, R: Threads + Sync>(
+        &self,
+        rt: &R,
+        store: &Store<D>,
+    ) -> Result<Arc<View>, OutOfMemory>
+        ensures version { IfOk result (λ view. view.value.version ≡ store.now.version) }
+        ensures network { IfOk result (λ view. view.value.network ≡ store.now.network) }
+        ensures width { IfOk result (λ view. view.value.delta ≡ unwrap_or self.now.delta (default_width store.now.network)) }
+    {
+        self.view_of(rt, &NoGate, store.version(), store.network())
     }
 }

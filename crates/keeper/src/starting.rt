@@ -50,7 +50,7 @@ impl<D: Disk> Keeper<D> {
     /// version is built and shown. `delta`, 1 to 2147483647, is the width of the buckets of its searches; where none is given it is the
     /// network's default.
     ///
-    /// The one error is want of memory, and then the store is handed back.
+    /// The landmarks' rows are made one after the other. The one error is want of memory, and then the store is handed back.
     pub fn new<R: Threads>(
         rt: &R,
         alloc: Global,
@@ -65,10 +65,29 @@ impl<D: Disk> Keeper<D> {
         ensures given { IfOk result (λ keeper. keeper.given ≡ store.given) }
         ensures handed_back { IfErr result (λ refused. refused.1 ≡ store) }
     {
-        let view = match first_view(rt, alloc, store.version(), store.network(), delta) {
-            Ok(view) => view,
-            Err(error) => return Err((error, store)),
-        };
+        match first_view(rt, alloc, store.version(), store.network(), delta) {
+            Ok(view) => Keeper::showing(alloc, store, view),
+            Err(error) => Err((error, store)),
+        }
+    }
+
+    /// The same, with this view of the store's network and version as the one that is shown. The width of the keeper's searches is the view's.
+    ///
+    /// The one error is want of memory, and then the store is handed back.
+    pub fn showing(
+        alloc: Global,
+        store: Store<D>,
+        view: Arc<View>,
+    ) -> Result<Keeper<D>, (OutOfMemory, Store<D>)>
+        requires calm { is_calm store ≡ true }
+        requires version { view.value.version ≡ store.version }
+        requires network { view.value.network ≡ store.network }
+        ensures begins { IfOk result (λ keeper. keeper.machine ≡ start (sizes_of store) store.network store.version store.unchecked) }
+        ensures disk { IfOk result (λ keeper. keeper.disk ≡ store.disk) }
+        ensures width { IfOk result (λ keeper. keeper.width ≡ view.value.delta) }
+        ensures given { IfOk result (λ keeper. keeper.given ≡ store.given) }
+        ensures handed_back { IfErr result (λ refused. refused.1 ≡ store) }
+    {
         match Ledger::new(alloc, store) {
             Ok(ledger) => Ok(Keeper {
                 alloc,

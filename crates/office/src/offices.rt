@@ -1,8 +1,5 @@
 // An office begun.
-ghost use Rattle.std.specs.Prelude.{◌≡◌, [], true, unwrap_or, IfOk};
-ghost use Rattle.std.specs.Option.{ForSome};
-ghost use Rattle.rows.specs.Kept.{IsWidth};
-ghost use Rattle.snapshot.specs.Groups.{default_width};
+ghost use Rattle.std.specs.Prelude.{◌≡◌, [], true, IfOk};
 ghost use Rattle.store.specs.State.{CameTidy, is_calm};
 ghost use Rattle.machine.specs.Machine.{start};
 ghost use Rattle.keeper.specs.Keeping.{sizes_of};
@@ -13,10 +10,10 @@ use history::History;
 use keeper::Keeper;
 use published::{Published, Publisher};
 use roadnet::OutOfMemory;
+use rows::View;
 use std::alloc::Global;
 use std::marker::{Model, PhantomData};
 use std::sync::{Arc, Wait};
-use std::thread::Threads;
 use store::Store;
 
 /// The state under a desk's lock. Contracts see it as its keeper: what the history has, and what readers see, follows from that.
@@ -41,30 +38,30 @@ impl<N: Naming, D: Disk> Model for Office<N, D> {
 }
 
 impl<N: Naming, D: Disk> Office<N, D> {
-    /// An office over a store that is not broken, with the history of a new desk: nothing is pending, and the view of the store's version is
-    /// built and shown. `delta`, 1 to 2147483647, is the width of the buckets of its searches; where none is given it is the network's default.
+    /// An office over a store that is not broken, with the history of a new desk: nothing is pending, and this view of the store's network and
+    /// version is shown. The width of the office's searches is the view's.
     ///
     /// The one error is want of memory, and then the store is dropped.
-    pub fn new<R: Threads + Wait>(
+    pub fn new<R: Wait>(
         rt: &R,
         alloc: Global,
         history: History,
         store: Store<D>,
-        delta: Option<u32>,
+        view: Arc<View>,
     ) -> Result<Office<N, D>, OutOfMemory>
     where
         D: Drop,
         requires calm { is_calm store ≡ true }
-        requires width { ForSome delta IsWidth }
+        requires view { (view.value.network ≡ store.network) × (view.value.version ≡ store.version) }
         requires origin { (N.origin.base ≡ store.network) × (N.origin.version ≡ store.version) }
         requires history { (history.origin ≡ N.origin) × (history.commands ≡ []) × (history.acknowledged ≡ 0) }
         requires came_tidy { N.came_tidy → CameTidy D.honest D.content store.given }
         ensures begins { IfOk result (λ office. office.machine ≡ start (sizes_of store) store.network store.version store.unchecked) }
         ensures disk { IfOk result (λ office. office.disk ≡ store.disk) }
-        ensures width { IfOk result (λ office. office.width ≡ unwrap_or delta (default_width store.network)) }
+        ensures width { IfOk result (λ office. office.width ≡ view.value.delta) }
         ensures given { IfOk result (λ office. office.given ≡ store.given) }
     {
-        let Ok(keeper) = Keeper::new(rt, alloc, store, delta) else {
+        let Ok(keeper) = Keeper::showing(alloc, store, view) else {
             return Err(OutOfMemory);
         };
         let Ok(view) = Arc::try_clone(keeper.view()) else {

@@ -6,7 +6,6 @@ use crate::naming::Naming;
 use crate::offices::Office;
 use disk::{Disk, MemDisk};
 use history::{Claim, History, Settled};
-use keeper::Task;
 use published::Shown;
 use relax::Solo;
 use roadnet::{Command, Network, Refusal, RoadArc};
@@ -35,12 +34,14 @@ fn two(alloc: Global) -> Result<Network, Refusal> {
     Network::new(alloc, 2, arcs, &[])
 }
 
-/// A view of the task's network.
-fn view_of(alloc: Global, task: &Task) -> Result<Arc<View>, Refusal> {
-    let Ok(network) = task.network.copy() else {
+/// A view of a network at a version.
+fn view_of(alloc: Global, version: u64, network: &Network) -> Result<Arc<View>, Refusal>
+    ensures { IfOk result (λ view. (view.value.network ≡ network.now) × (view.value.version ≡ version)) }
+{
+    let Ok(network) = network.copy() else {
         return Err(Refusal::OutOfMemory);
     };
-    let Ok(view) = View::build(alloc, task.version, network, None, &Solo) else {
+    let Ok(view) = View::build(alloc, version, network, None, &Solo) else {
         return Err(Refusal::OutOfMemory);
     };
     match Arc::new(alloc, view) {
@@ -76,7 +77,7 @@ fn show<N: Naming, D: Disk + Drop, R: Wait>(
         Ok(None) => return Err(Refusal::NoTask),
         Err(_) => return Err(Refusal::OutOfMemory),
     };
-    let view = view_of(alloc, &task)?;
+    let view = view_of(alloc, task.version, &task.network)?;
     let mut answer = lock.lock(rt).publish(rt, view);
     if let Err((Refusal::OutOfMemory, view)) = answer {
         answer = lock.lock(rt).publish(rt, view);
@@ -115,7 +116,8 @@ fn round<N: Naming, D: Disk + Drop, R: Threads + Wait>(
     requires history { (history.origin ≡ N.origin) × (history.commands ≡ []) × (history.acknowledged ≡ 0) }
     requires came_tidy { N.came_tidy → CameTidy D.honest D.content store.given }
 {
-    let lock = Mutex::new(Office::<N, D>::new(rt, alloc, history, store, None)?);
+    let first = view_of(alloc, store.version(), store.network())?;
+    let lock = Mutex::new(Office::<N, D>::new(rt, alloc, history, store, first)?);
     let mut told = lock.lock(rt).reader()?;
     let mut other = lock.lock(rt).reader()?;
     let first = lock.lock(rt).submit(CLOSE)?;

@@ -32,6 +32,8 @@ for stream in 0 1 2; do
   printed=0
   [ "$stream" = 1 ] && printed=1
   tries ask "$printed" "$stream" ask six.store six.p2p
+  tries check "$printed" "$stream" check six.store
+  tries serve "$printed" "$stream" serve six.store
   tries once "$printed" "$stream" once six.gr 1 6
   tries batch "$printed" "$stream" batch six.gr six.p2p
   tries rehearse "$printed" "$stream" rehearse six.gr six.script

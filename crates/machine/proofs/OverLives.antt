@@ -17,16 +17,16 @@ use Rattle.machine.specs.declared.events.Writing.TheVariants.{Flush as a_flush, 
 use Rattle.machine.specs.declared.events.Replied.{Replied}
 use Rattle.machine.specs.declared.events.Replied.TheVariants.{Shown, Answered, Refused, Opened, Stopped as StoppedAlone}
 use Rattle.machine.specs.Machine.{Machine, IsState, start, latest, commands_to}
-use Rattle.machine.specs.Calls.{Submits, Flushes, Asks, IsTicketOf, with_command}
+use Rattle.machine.specs.Calls.{Submits, Flushes, Asks, IsLeft, IsTicketOf, with_command}
 use Rattle.machine.specs.Runs.{Happened, Step, Run, up_to}
 use Rattle.machine.specs.Runs.Happened.{Submitted, Flushed, Checkpointed, TookTask, Published, Asked, Stopped}
 use Rattle.machine.specs.Lives.{told_ticket, told_version, told_part, told_task, told_answer, pages_of_step, EndsCheckpoint, GoesOn, Checkpoints, Writes, StopComes, Does, StopsFor, Turn, Passes, Ends}
 use Rattle.machine.specs.Lives.Ends.{Whole, NoMemory, NotOpened}
 use Rattle.machine.specs.Laws.{IsLater, IsAt, IsRightAfter}
-use Rattle.machine.specs.Headline.{left_by, held_behind, durable_by, acknowledged_with, acknowledged_in, IsRightReply, ScriptsAreRuns, AcknowledgedAreInHistory, StopsLeaveAcknowledged, AnswersAreRight}
+use Rattle.machine.specs.Headline.{left_by, held_behind, durable_by, acknowledged_with, acknowledged_in, IsRightReply, ScriptsAreRuns, AcknowledgedAreInHistory, StopsLeaveAcknowledged, AnswersAreRight, StopsLeaveAnswers}
 use Rattle.machine.proofs.Kept.{started}
 use Rattle.machine.proofs.Later.{later_same, later_by_step, later_by_run, later_still}
-use Rattle.machine.proofs.Acknowledged.{nth_from_front, all_both, all_of, is_stopped, ticket_by_step, ticket_of_new, IsDurable, held_by_step, acked_by_step, acked_still, durable_left, durable_commands, asked_right, right_still, right_in_more}
+use Rattle.machine.proofs.Acknowledged.{nth_from_front, all_both, all_of, is_stopped, ticket_by_step, ticket_of_new, IsDurable, held_by_step, acked_by_step, acked_still, durable_left, durable_commands, asked_right, right_still, right_in_more, right_left}
 
 -- ---- an event is a run of calls
 abbrev NoStop : List Happened → Type 0
@@ -414,3 +414,15 @@ answers_are_right P sizes base version unchecked events replies ended history la
     let told = all_of (RightAt last) (IsRightReply last.base last.base_version history) replies (λ reply. right_in last history reply end.kept) rights in
     subst (λ (b : Net). AllByRecursion (IsRightReply b version history) replies) end.later.base
     (subst (λ (v : ℕ). AllByRecursion (IsRightReply last.base v history) replies) end.later.base_version told)
+
+left_right : (last : Machine) (left : ℕ) (reply : Replied) → IsState last → IsLeft last left → RightAt last reply → IsRightReply last.base last.base_version (commands_to last left) reply
+left_right last left (Answered query answer) s is right = right_left last left query answer s is right
+left_right last left _ s is right = tt
+
+pub stops_leave_answers : (P : Type 0) → StopsLeaveAnswers P
+stops_leave_answers P sizes base version unchecked events replies ended history last left few fits lives is =
+    let end = end_of (start sizes base version unchecked) last lives.turns lives.rest ended history (started sizes base version unchecked few fits) lives.ends in
+    let rights : AllByRecursion (RightAt last) replies = subst (AllByRecursion (RightAt last)) (sym lives.replies_are) end.rights in
+    let told = all_of (RightAt last) (IsRightReply last.base last.base_version (commands_to last left)) replies (λ reply. left_right last left reply end.state is) rights in
+    subst (λ (b : Net). AllByRecursion (IsRightReply b version (commands_to last left)) replies) end.later.base
+    (subst (λ (v : ℕ). AllByRecursion (IsRightReply last.base v (commands_to last left)) replies) end.later.base_version told)

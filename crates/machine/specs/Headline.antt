@@ -72,11 +72,19 @@ StopsLeaveAcknowledged P =
     → (lives : Lives (start sizes base version unchecked) events replies ended history last) → IsLeft last left
     → AllByRecursion (IsAt version (commands_to last left)) (acknowledged_in [] lives.turns)
 
--- Each answered query names a version that no later stop takes back, and is right in the network after that many commands of
--- the history.
+-- Each answered query is right in the network after so many commands of the history as its version says.
 abbrev pub AnswersAreRight : Type 0 → Type 0
 AnswersAreRight P =
     (sizes : Sizes) (base : Net) (version unchecked : ℕ) (events : List (Event P)) (replies : List Replied) (ended : Option Refusal) (history : List Command) (last : Machine)
     → version ≤ most_versions → unchecked ≤ sizes.journal_pages
     → Lives (start sizes base version unchecked) events replies ended history last
     → AllByRecursion (IsRightReply base version history) replies
+
+-- Whatever version a stop leaves in the end, each answered query names one up to it, and is right in the network after that many of the
+-- commands that are left: no stop takes an answer's version back.
+abbrev pub StopsLeaveAnswers : Type 0 → Type 0
+StopsLeaveAnswers P =
+    (sizes : Sizes) (base : Net) (version unchecked : ℕ) (events : List (Event P)) (replies : List Replied) (ended : Option Refusal) (history : List Command) (last : Machine) (left : ℕ)
+    → version ≤ most_versions → unchecked ≤ sizes.journal_pages
+    → Lives (start sizes base version unchecked) events replies ended history last → IsLeft last left
+    → AllByRecursion (IsRightReply base version (commands_to last left)) replies

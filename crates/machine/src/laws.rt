@@ -1,4 +1,4 @@
-ghost use Rattle.machine.specs.Headline.{AcknowledgedAreInHistory, AnswersAreRight, ScriptsAreRuns, StopsLeaveAcknowledged};
+ghost use Rattle.machine.specs.Headline.{AcknowledgedAreInHistory, AnswersAreRight, ScriptsAreRuns, StopsLeaveAcknowledged, StopsLeaveAnswers};
 ghost use Rattle.machine.specs.Laws.{StepsKeepStates, StartsAreStates, StepsTakeNothingBack, VersionsAreNetworks, AcknowledgedStay, AnswersStayRight};
 ghost use Rattle.machine.specs.LifeInRun.{LifeStepsAreRunSteps, StopsBeginLives};
 
@@ -22,6 +22,7 @@ pub fn laws_of_lives<P>()
     ensures acknowledged { AcknowledgedAreInHistory P }
     ensures left { StopsLeaveAcknowledged P }
     ensures answers { AnswersAreRight P }
+    ensures answers_stay { StopsLeaveAnswers P }
 {}
 
 /// What a run over several lives takes from each.

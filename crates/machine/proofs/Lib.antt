@@ -1,6 +1,7 @@
 pub mod Acknowledged
 pub mod Checkpoints
 pub mod Examples
+pub mod ForGood
 pub mod InRun
 pub mod Keeping
 pub mod Kept

@@ -324,12 +324,12 @@ rights_through (turn ∷ turns) a b s p =
     (rights_through turns p.0 b now.0 p.2)
 
 -- what holds in the end
-record Ended {P : Type 0} (first : Machine) (turns : List (Turn P)) (history : List Command) (last : Machine) : Type 0 where
-  state : IsState last
-  later : IsLater first last
-  kept : durable_commands last ≡ take (last.durable - last.base_version) history
-  acknowledged : AllByRecursion (IsDurable last) (acknowledged_in [] turns)
-  rights : AllByRecursion (RightAt last) (replies_of turns)
+pub record Ended {P : Type 0} (first : Machine) (turns : List (Turn P)) (history : List Command) (last : Machine) : Type 0 where
+  pub state : IsState last
+  pub later : IsLater first last
+  pub kept : durable_commands last ≡ take (last.durable - last.base_version) history
+  pub acknowledged : AllByRecursion (IsDurable last) (acknowledged_in [] turns)
+  pub rights : AllByRecursion (RightAt last) (replies_of turns)
 
 passed_end : {P : Type 0} (first last : Machine) (turns : List (Turn P)) (history : List Command) → IsState first → Passes first turns last → history ≡ last.accepted → Ended first turns history last
 passed_end first last turns history s p is =
@@ -363,7 +363,7 @@ stopped_end first mid last before turn history s p stops is =
           (all_both (RightAt last) turn.1 [] (end_right turn.0 mid last turn.1 stops) tt));
     }
 
-end_of : {P : Type 0} (first last : Machine) (turns : List (Turn P)) (rest : List (Event P)) (ended : Option Refusal) (history : List Command) → IsState first → Ends first turns rest ended history last → Ended first turns history last
+pub end_of : {P : Type 0} (first last : Machine) (turns : List (Turn P)) (rest : List (Event P)) (ended : Option Refusal) (history : List Command) → IsState first → Ends first turns rest ended history last → Ended first turns history last
 end_of first last turns rest ended history s (Whole passes none nothing is) = passed_end first last turns history s passes is
 end_of first last turns rest ended history s (NoMemory passes some is) = passed_end first last turns history s passes is
 end_of first last turns rest ended history s (NotOpened before turn mid whole passes stops why is) =

@@ -1,9 +1,10 @@
 -- What holds of each script, wherever it is stopped and however early its run ends.
-use Rattle.std.specs.Prelude.{ℕ, ◌≤◌, List, [], ◌∷◌, ◌++◌, Option}
-use Rattle.std.specs.List.{AllByRecursion}
+use Rattle.std.specs.Prelude.{◌≡◌, ℕ, ◌+◌, ◌≤◌, List, [], ◌∷◌, ◌++◌, Option, Some, length, map, take}
+use Rattle.std.specs.List.{AllByRecursion, flat_map}
 use Rattle.roadnet.specs.declared.commands.Command.{Command}
 use Rattle.roadnet.specs.declared.refusals.Refusal.{Refusal}
 use Rattle.roadnet.specs.Net.{Net}
+use Rattle.roadnet.specs.Step.{after}
 use Rattle.machine.specs.declared.calls.Ticket.{Ticket}
 use Rattle.machine.specs.declared.events.Event.{Event}
 use Rattle.machine.specs.declared.events.Event.TheVariants.{Submit, Flush, Stop, StopWithin}
@@ -88,3 +89,29 @@ StopsLeaveAnswers P =
     → version ≤ most_versions → unchecked ≤ sizes.journal_pages
     → Lives (start sizes base version unchecked) events replies ended history last → IsLeft last left
     → AllByRecursion (IsRightReply base version (commands_to last left)) replies
+
+-- WITH A DISK
+
+-- The content stands for the network after a beginning of these commands, in which each acknowledged command has its number, and in whose
+-- networks each answer is right.
+pub record HoldsTold (StandsFor : List ℕ → Net → ℕ → Type 0) (base : Net) (version : ℕ) (accepted : List Command) (acknowledged : List Ticket) (replies : List Replied) (content : List ℕ) : Type 0 where
+  -- how many commands are left
+  pub count : ℕ
+  pub count_to : count ≤ length accepted
+  pub network : Net
+  pub network_is : after base (take count accepted) ≡ Some network
+  pub stands : StandsFor content network (version + count)
+  pub each_acknowledged : AllByRecursion (IsAt version (take count accepted)) acknowledged
+  pub each_answer : AllByRecursion (IsRightReply base version (take count accepted)) replies
+
+-- THE HEADLINE, of a run of these events that began with this network and version: whatever content a stop leaves, it holds what was told.
+-- The history begins the accepted commands; in the end some may be in flight, and then it has just those that are durable.
+pub record ToldForGood {P : Type 0} (StandsFor : List ℕ → Net → ℕ → Type 0) (left : List ℕ → Type 0) (base : Net) (version : ℕ) (events : List (Event P)) (replies : List Replied) (history : List Command) : Type 0 where
+  pub accepted : List Command
+  pub history_begins : history ≡ take (length history) accepted
+  -- the events that were run, each with its replies, and those that were not
+  pub turns : List (Turn P)
+  pub rest : List (Event P)
+  pub events_are : events ≡ map (λ turn. turn.0) turns ++ rest
+  pub replies_are : replies ≡ flat_map (λ turn. turn.1) turns
+  pub each_left : (content : List ℕ) → left content → HoldsTold StandsFor base version accepted (acknowledged_in [] turns) replies content

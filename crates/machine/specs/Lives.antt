@@ -14,7 +14,7 @@ use Rattle.machine.specs.declared.events.Writing.{Writing}
 use Rattle.machine.specs.declared.events.Writing.TheVariants.{Flush as a_flush, Checkpoint as a_checkpoint, Step as a_step}
 use Rattle.machine.specs.declared.events.Replied.{Replied}
 use Rattle.machine.specs.declared.events.Replied.TheVariants.{Accepted, Durable, Stepped, Task as TaskOf, Shown, Answered, Refused, Opened, Stopped}
-use Rattle.machine.specs.Machine.{Sizes, Machine, start, commands_to, network_at}
+use Rattle.machine.specs.Machine.{Sizes, Machine, start, most_versions, commands_to, network_at}
 use Rattle.machine.specs.Calls.{Submits, Flushes, StepsCheckpoint, TakesTask, Publishes, Asks, IsLeft, StopsAndOpens}
 
 -- THE REPLY TO A CALL'S ANSWER
@@ -142,6 +142,7 @@ pub record HoldsDurable (StandsFor : List ℕ → Net → ℕ → Type 0) (m : M
 -- The run is one of a store of this network and version, with so many pages unchecked, and a stop now leaves of the disk what its last
 -- state says.
 pub record LivesOn {P : Type 0} (StandsFor : List ℕ → Net → ℕ → Type 0) (left : List ℕ → Type 0) (sizes : Sizes) (base : Net) (version unchecked : ℕ) (events : List (Event P)) (replies : List Replied) (ended : Option Refusal) (history : List Command) : Type 0 where
+  pub version_to : version ≤ most_versions
   pub unchecked_to : unchecked ≤ sizes.journal_pages
   pub last : Machine
   pub lives : Lives (start sizes base version unchecked) events replies ended history last

@@ -1,9 +1,8 @@
 -- From relaxed legs to least lengths, and from trips to walks.
-use Rattle.std.proofs.Common.{◌≡◌, ℕ, zero, suc, ◌+◌, ◌*◌, ◌<◌, ◌≤◌, ◌⊎◌, List, [], ◌∷◌, length, filter, Contains, Option, Some, None, Bool, true, false, cond, ◌&&◌, ◌==◌, refl, sym, ap, subst, ◌∙◌, inl, inr, arith, unwrap_or, is_some, eqb, eqb-true, ne_eqb, eq-eqb, le_refl, slice_get, MatchOption, nat_le, not, get_or}
+use Rattle.std.proofs.Common.{◌≡◌, ℕ, zero, suc, ◌+◌, ◌*◌, ◌<◌, ◌≤◌, List, [], ◌∷◌, length, filter, Contains, Option, Some, None, Bool, true, false, cond, ◌&&◌, ◌==◌, refl, sym, ap, subst, ◌∙◌, inl, inr, arith, unwrap_or, is_some, eqb, eqb-true, ne_eqb, eq-eqb, le_refl, slice_get, MatchOption, nat_le, not, get_or}
 use Rattle.relax.specs.Values.{value_at, value_or}
 use Rattle.std.specs.Option.{option_map_or}
 use Rattle.std.specs.List.{IsDistinct, AllByRecursion}
-use Rattle.std.proofs.lemmas.Bool.{cases_eq}
 use Rattle.std.proofs.lemmas.List.Sums.{sum_by-cons}
 use Rattle.std.proofs.lemmas.Map.Steps.{length-le_from_distinct_below}
 use Rattle.std.proofs.lemmas.Map.Views.{Contains-from_any}
@@ -14,6 +13,7 @@ use Rattle.std.specs.Ordering.{nat_cmp}
 use Rattle.roadnet.specs.Net.{Net, arc_at}
 use Rattle.roadnet.specs.Walks.{Walk, Least, NoWalk, RowOf, length_of, length_of_arc, distance_at}
 use Rattle.roadnet.specs.declared.arcs.RoadArc.{RoadArc}
+use Rattle.roadnet.proofs.Apart.{decide_member}
 use Rattle.snapshot.specs.declared.legs.Leg.{Leg}
 use Rattle.snapshot.specs.declared.legs.Part.{Part}
 use Rattle.snapshot.specs.declared.legs.Part.TheVariants.{Light, Heavy}
@@ -60,20 +60,6 @@ from_visited groups s t u (leg ∷ legs) (part, c, trip) apart (zero, within, e)
 from_visited groups s t u (leg ∷ legs) (part, c, trip) apart (suc k, within, e) =
     let r = from_visited groups leg.head t u legs trip apart.1 (k, omega arith, e) in
     record { legs = r.legs; trip = r.trip; short = omega (arith, r.short, trip_length-cons leg legs); apart = r.apart }
-
-not_member : (y : ℕ) (xs : List ℕ) (x : ℕ) → (y ≡ x → ⊥) → (Contains xs x → ⊥) → Contains (y ∷ xs) x → ⊥
-not_member y xs x ne not_in (zero, within, e) = ne e
-not_member y xs x ne not_in (suc k, within, e) = not_in (k, omega arith, e)
-
-pub decide_member : (xs : List ℕ) (x : ℕ) → Contains xs x ⊎ (Contains xs x → ⊥)
-decide_member [] x = inr (λ c. Contains-nil x c)
-decide_member (y ∷ xs) x = elim (cases_eq y x) as (λ _. Contains (y ∷ xs) x ⊎ (Contains (y ∷ xs) x → ⊥)) [
-  | inl e ↦ inl (subst (λ z. Contains (y ∷ xs) z) e (Contains-head y xs))
-  | inr ne ↦ elim (decide_member xs x) as (λ _. Contains (y ∷ xs) x ⊎ (Contains (y ∷ xs) x → ⊥)) [
-    | inl c ↦ inl (Contains-tail y xs x c)
-    | inr not_in ↦ inr (not_member y xs x ne not_in)
-  ]
-]
 
 -- each trip can be cut to one that visits no node twice
 pub ShortTrip-of : (groups : Groups) (s t : ℕ) (legs : List Leg) → Trip groups s t legs → ShortTrip groups s t (trip_length legs)

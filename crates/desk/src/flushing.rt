@@ -4,12 +4,10 @@ use crate::gates::Gate;
 use crate::locked::FlusherTurn;
 use crate::shared::Shared;
 use disk::Disk;
+use machine::PAGES_OF_STEP;
 use office::{Naming, Office};
 use std::sync::Wait;
 use store::Part;
-
-/// How many pages a step of a checkpoint writes.
-const PAGES_OF_STEP: u32 = 64;
 
 impl<N: Naming, D: Disk + Drop, G: Gate + Drop> Shared<Office<N, D>, G> {
     /// A flush, unless the gate holds it up.

@@ -13,13 +13,14 @@ use Rattle.machine.specs.declared.events.Event.{Event}
 use Rattle.machine.specs.declared.events.Event.TheVariants.{Stop, StopWithin}
 use Rattle.machine.specs.declared.events.Replied.{Replied}
 use Rattle.machine.specs.declared.events.Replied.TheVariants.{Refused}
+use Rattle.machine.specs.declared.events.Writing.{Writing}
 use Rattle.machine.specs.Machine.{Machine, IsState, commands_to}
 use Rattle.keeper.specs.declared.rehearsing.Rehearsal.{Rehearsal}
 use Rattle.keeper.specs.declared.rehearsing.Run.{Run}
 use Rattle.keeper.specs.declared.halted.Halted.{Halted}
 use Rattle.keeper.specs.Failures.{failures_at_end, FailsAsTold, EndsAsTold}
 use Rattle.keeper.specs.Keeping.{IsDurableIn}
-use Rattle.keeper.specs.Rehearsing.{First, HasPagesOfNetwork, IsGoing, HasLived, HasHalted}
+use Rattle.keeper.specs.Rehearsing.{within_of, First, HasPagesOfNetwork, IsGoing, HasLived, HasHalted}
 
 -- ---- a stop
 
@@ -73,7 +74,7 @@ HasHaltedSo content left m h = HasHalted m h.commands.items h.opened h.durable (
 
 -- P of each machine whose life was halted so
 abbrev pub OfEachHalted : {D : Type 0} {s : StoppableGhosts D} {d : Ghosts D} → (D → Type 0) → (D → List ℕ) → (D → List ℕ → Type 0) → Halted D s d → (Machine → Type 0) → Type 0
-OfEachHalted honest content left h P = (m : Machine) → HasPagesOfNetwork m → honest h.disk → HasHaltedSo content left m h → P m
+OfEachHalted honest content left h P = (m : Machine) → honest h.disk → HasHaltedSo content left m h → P m
 
 -- the run goes on behind a life of this machine: the history has that life's commands up to where the next one begins
 abbrev pub Continues : {D : Type 0} {s : StoppableGhosts D} {d : Ghosts D} → Machine → List Command → Run D s d → Type 0
@@ -89,6 +90,10 @@ FailsAtEnd failures disk result =
     MatchResult result (λ run. failures run.life.keeper.disk ≡ failures disk) (λ ended. failures ended.disk ≡ failures_at_end ended.ended (failures disk))
 
 -- ---- an event
+
+-- P of each event with a stop within this writing
+abbrev pub OfEachWithin : Writing → (Event Pick → Type 0) → Type 0
+OfEachWithin writing P = (event : Event Pick) → within_of event ≡ Some writing → P event
 
 -- these events have come to this end
 abbrev pub HasLivedTo : {D : Type 0} → (D → List ℕ → Type 0) → First → List (Event Pick) → Rehearsal D → Type 0

@@ -18,6 +18,9 @@ impl<D: Disk> Keeper<D> {
     /// stop takes that version back.
     ///
     /// The one error is want of memory for a row. A query that is refused takes none, nor does one from a landmark or for a bound.
+    ///
+    /// On a new store of `examples/six.gr`, `Dist { source: 1, target: 6 }` is `Length(15)` at version 0. With `Close { arc: 7 }` accepted and flushed
+    /// it still is; once the view of version 1 is shown it is `Length(22)` at version 1.
     pub fn ask<R: Threads>(&mut self, rt: &R, query: Query) -> Result<Answer, OutOfMemory>
         ensures step { Asks self.old.machine query (or_out_of_memory result) self.new.machine }
         ensures same { self.new ≡ self.old }

@@ -28,6 +28,9 @@ impl<D: Disk> Ledger<D> {
     ///
     /// Refused is a broken store (45); then want of memory (11), where one would begin, before any call of the disk; then a disk that failed
     /// (43), after which the store is broken. After each other refusal nothing is changed.
+    ///
+    /// A slot of `examples/six.gr` has one word page: with version 1 durable a step answers `Done(1)`, and no page is unchecked then. Where it has
+    /// three, a step of 1 page answers `Going`, and one of 64 after it `Done(1)`, also where version 2 has become durable in between.
     pub fn checkpoint_step(&mut self, pages: u32) -> Result<Part, Refusal>
         requires some { 1 ≤ pages }
         requires few { pages ≤ 64 }
@@ -58,6 +61,8 @@ impl<D: Disk> Ledger<D> {
     /// Steps of 64 pages until the checkpoint is done: the one that is going, or else one that begins. Answers the version that it holds.
     ///
     /// Refused as a step is. After 45 and 11 nothing is changed.
+    ///
+    /// With versions 1 and 2 made durable by a flush each and no checkpoint going, it answers 2.
     pub fn checkpoint(&mut self) -> Result<u64, Refusal>
         ensures does { Checkpoints self.old.machine result self.new.machine }
         ensures same { IfErr result (λ refusal. refusal ≢ device → self.new ≡ self.old) }

@@ -36,6 +36,8 @@ impl<D: Disk> Ledger<D> {
     /// Refused, the first that holds, is a broken store (45), that nothing is pending (53), and a journal without a free page (44); then want of
     /// memory (11), before any call of the disk; then a disk that failed (43), after which the store is broken. After each other refusal
     /// nothing is changed.
+    ///
+    /// On a new store, with one command accepted it answers 1, and a second call is `NothingPending`; with 254 it answers 253, and then 254.
     pub fn flush(&mut self) -> Result<u64, Refusal>
         ensures step { Flushes self.old.machine result self.new.machine }
         ensures same { IfErr result (λ refusal. refusal ≢ device → self.new ≡ self.old) }

@@ -77,6 +77,8 @@ impl<D: Disk> Keeper<D> {
     /// A receipt, where the ticket's command is durable: no stop takes it back. The ticket is one of this life.
     ///
     /// Refused is a number that is not durable: with 45 where the store is broken, else with 54.
+    ///
+    /// Of the first ticket of a new store it is `NotYet` before a flush, and behind it the receipt of number 1 with its command.
     pub fn receipt(&self, ticket: &Ticket) -> Result<Receipt, Refusal>
         requires { IsTicketOf self.now.machine ticket.now }
         ensures { result ≡ receipt_for self.now.machine ticket.now }

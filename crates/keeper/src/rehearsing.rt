@@ -13,10 +13,9 @@ ghost use Rattle.store.specs.Opening.{IsPassing, StandsForSome};
 ghost use Rattle.machine.specs.declared.events.Event.{Event as ScriptEvent};
 ghost use Rattle.machine.specs.declared.events.Event.TheVariants.{Stop};
 ghost use Rattle.machine.specs.declared.events.Replied.TheVariants.{Refused, Opened, Stopped};
-ghost use Rattle.machine.specs.Machine.{Machine};
 ghost use Rattle.keeper.specs.Failures.{EndsAsTold};
-ghost use Rattle.keeper.specs.Rehearsing.{within_of, BeginsAfter, first_of};
-ghost use Rattle.keeper.specs.Running.{Continues, LeavesDurable, HasLivedTo, IsCut, CutsBy, HaveCut, picks_taken, picks_of, IsToldOrFailed, IsPassingEnd, OfEachLeft, OfEachHalted, HasHaltedSo, FailsAtEnd, GoesOnWith, EndsWith, FailsWith};
+ghost use Rattle.keeper.specs.Rehearsing.{HasPagesOfNetwork, BeginsAfter, first_of};
+ghost use Rattle.keeper.specs.Running.{Continues, LeavesDurable, HasLivedTo, IsCut, CutsBy, HaveCut, picks_taken, picks_of, IsToldOrFailed, IsPassingEnd, OfEachLeft, OfEachHalted, OfEachWithin, HasHaltedSo, FailsAtEnd, GoesOnWith, EndsWith, FailsWith};
 
 use crate::halted::Halted;
 use crate::lives::Life;
@@ -135,14 +134,14 @@ impl<D: Stoppable> Halted<D> {
         requires durable { self.durable ≤ self.opened + vec_len self.commands }
         requires room { vec_len self.history + vec_len self.commands ≤ vec_capacity self.history }
         requires reply { vec_len self.replies < vec_capacity self.replies }
-        ensures begins { OfEachHalted D.honest D.content D.left self (λ m. IfOk result (λ run. BeginsAfter m run.life.keeper.machine)) }
-        ensures history { OfEachHalted D.honest D.content D.left self (λ m. IfOk result (Continues m self.history.items)) }
-        ensures came { OfEachHalted D.honest D.content D.left self (λ _. IfOk result (λ run. CameTidy D.honest D.content run.life.keeper.given)) }
+        ensures begins { OfEachHalted D.honest D.content D.left self (λ m. HasPagesOfNetwork m → IfOk result (λ run. BeginsAfter m run.life.keeper.machine)) }
+        ensures history { OfEachHalted D.honest D.content D.left self (λ m. HasPagesOfNetwork m → IfOk result (Continues m self.history.items)) }
+        ensures came { OfEachHalted D.honest D.content D.left self (λ m. HasPagesOfNetwork m → IfOk result (λ run. CameTidy D.honest D.content run.life.keeper.given)) }
         ensures content { D.honest self.disk → IfOk result (λ run. D.content run.life.keeper.disk ≡ D.content self.disk) }
         ensures told { IfOk result (λ run. run.replies.items ≡ self.replies.items ++ Opened run.life.keeper.machine.base_version ∷ []) }
         ensures room { IfOk result (λ run. vec_len run.history + length run.life.keeper.machine.accepted ≤ vec_capacity run.history) }
-        ensures ended { (m : Machine) → D.honest self.disk → HasHaltedSo D.content D.left m self → IfErr result (λ ended. IsPassingEnd ended.ended) }
-        ensures left { (m : Machine) → D.honest self.disk → HasHaltedSo D.content D.left m self → IfErr result (λ ended. LeavesDurable D.left ended.disk m) }
+        ensures ended { OfEachHalted D.honest D.content D.left self (λ _. IfErr result (λ ended. IsPassingEnd ended.ended)) }
+        ensures left { OfEachHalted D.honest D.content D.left self (λ m. IfErr result (λ ended. LeavesDurable D.left ended.disk m)) }
         ensures counted { FailsAtEnd D.failures self.disk result }
         ensures delta { MatchResult result (λ run. run.life.delta ≡ self.delta) (λ ended. ended.delta ≡ self.delta) }
         ensures stopped { IfErr result (λ ended. ended.replies.items ≡ self.replies.items ++ Stopped ∷ []) }
@@ -282,11 +281,11 @@ impl<D: Stoppable> Run<D> {
         ensures room { IfOk result (λ run. vec_len run.history + length run.life.keeper.machine.accepted ≤ vec_capacity run.history) }
         ensures delta { MatchResult result (λ run. run.life.delta ≡ self.life.delta) (λ ended. ended.delta ≡ self.life.delta) }
         // It has run this event too.
-        ensures goes { (event : ScriptEvent StopPick) → within_of event ≡ Some writing → GoesOnWith D.honest D.content event self result }
+        ensures goes { OfEachWithin writing (λ event. GoesOnWith D.honest D.content event self result) }
         // It has ended with the event.
-        ensures ends { (event : ScriptEvent StopPick) → within_of event ≡ Some writing → EndsWith D.honest D.content D.left event self result }
+        ensures ends { OfEachWithin writing (λ event. EndsWith D.honest D.content D.left event self result) }
         // The disk failed as the replies tell.
-        ensures counted { (event : ScriptEvent StopPick) → within_of event ≡ Some writing → FailsWith D.failures event self result }
+        ensures counted { OfEachWithin writing (λ event. FailsWith D.failures event self result) }
         // It has cut the disk by its picks.
         ensures cut { (event : ScriptEvent StopPick) → picks_of event ≡ Some (picks_taken picks.now) → CameTidy D.honest D.content self.life.keeper.given
             → CutsBy D.synced D.is_unsynced D.content event result }
@@ -372,6 +371,9 @@ impl<D: Stoppable> Run<D> {
 /// Each event has one reply, and a stop that comes behind its event has a second one. A view that is kept aside and all pending commands are
 /// lost by a stop. The run ends before an event for want of memory (11), or with a stop whose store is not opened, or whose first view is not
 /// built (43 or 11).
+///
+/// On a new store of `examples/six.gr`, `Close { arc: 7 }` and a flush that is cut at its third write or sync are replied to with `Accepted { number: 1 }`
+/// and with `Opened { version: 0 }` where the picks are old, `Opened { version: 1 }` where they are new; the history has no command then, or that one.
 pub fn rehearse<R: Threads, D: Stoppable>(
     rt: &R,
     alloc: Global,

@@ -60,6 +60,9 @@ impl<D: Disk> Ledger<D> {
     ///
     /// The outline of the accepted network is changed in place: beyond the command itself this takes O(1), and for a landmark a copy or
     /// a shift of the others.
+    ///
+    /// On a new store of `examples/six.gr`, `Close { arc: 7 }` is accepted as number 1; the same once more is `AlreadyClosed`, though nothing is
+    /// durable yet.
     pub fn submit(&mut self, command: Command) -> Result<Ticket, Refusal>
         ensures step { Submits self.old.machine command result self.new.machine }
         ensures disk { self.new.disk ≡ self.old.disk }

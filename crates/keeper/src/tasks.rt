@@ -47,6 +47,9 @@ impl<D: Disk> Keeper<D> {
     /// while a task is out, and where the durable version is shown.
     ///
     /// The one error is want of memory, and then nothing has changed. The network is copied once.
+    ///
+    /// Of a new keeper there is none, since its version is shown. Behind a flush of `Close { arc: 7 }` there is the task of version 1, in whose network
+    /// arc 7 is closed; a second call, while it is out, gives none.
     pub fn take_task(&mut self) -> Result<Option<Task>, OutOfMemory>
         ensures step { TakesTask self.old.machine (or_out_of_memory (result_map (option_map (λ t. (t.version, t.network.value))) result)) self.new.machine }
         ensures disk { self.new.disk ≡ self.old.disk }
@@ -99,6 +102,9 @@ impl<D: Disk> Keeper<D> {
     /// Shows the view of the task that is out: answers are given from it, and no task is out then. Answers the version that is shown.
     ///
     /// Refused, as `may_publish` tells, the view is handed back and nothing has changed. It takes no memory.
+    ///
+    /// With the task of version 1 out, the view of its network at version 1 is shown, and it answers 1; the view of version 0 is `OtherNetwork`.
+    /// With no task out each view is `NoTask`.
     pub fn publish(&mut self, view: Arc<View>) -> Result<u64, (Refusal, Arc<View>)>
         ensures step { Publishes self.old.machine view.value.version view.value.network (refusal_alone result) self.new.machine }
         ensures handed_back { IfErr result (λ refused. refused.1 ≡ view) }

@@ -1,5 +1,5 @@
 -- Lists that are cut into chunks, worked on chunk by chunk, and put together again.
-use Rattle.std.proofs.Common.{◌≡◌, ℕ, zero, suc, ◌<◌, List, [], ◌∷◌, ◌++◌, length, map, take, drop, max, flat_map, refl, sym, ap, ap₂, ◌∙◌, arith, Ok, Err, IfOk, MatchResult, Result}
+use Rattle.std.proofs.Common.{◌≡◌, ℕ, zero, suc, ◌<◌, List, [], ◌∷◌, ◌++◌, length, map, take, drop, flat_map, refl, sym, ap, ap₂, ◌∙◌, Ok, Err, IfOk, MatchResult, Result}
 use Rattle.std.specs.Global.{Vec}
 use Rattle.std.specs.List.{All, AllZip, Contains}
 use Rattle.std.specs.Borrow.{Bor}

@@ -73,7 +73,8 @@ not_member : (y : ℕ) (xs : List ℕ) (x : ℕ) → (y ≡ x → ⊥) → (Cont
 not_member y xs x ne not_in (zero, within, e) = ne e
 not_member y xs x ne not_in (suc k, within, e) = not_in (k, omega arith, e)
 
-decide_member : (xs : List ℕ) (x : ℕ) → Contains xs x ⊎ (Contains xs x → ⊥)
+-- a number is a member of a list, or is not
+pub decide_member : (xs : List ℕ) (x : ℕ) → Contains xs x ⊎ (Contains xs x → ⊥)
 decide_member [] x = inr (λ c. Contains-nil x c)
 decide_member (y ∷ xs) x = elim (cases_eq y x) as (λ _. Contains (y ∷ xs) x ⊎ (Contains (y ∷ xs) x → ⊥)) [
   | inl e ↦ inl (subst (λ z. Contains (y ∷ xs) z) e (Contains-head y xs))

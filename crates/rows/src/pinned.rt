@@ -173,6 +173,9 @@ impl<'a> Pinned<'a> {
 
     /// The reply to a query. The one error is want of memory for the row of `Dist`, and then what the cache keeps stays as it was; a refused
     /// query takes none.
+    ///
+    /// In the network of `examples/six.gr` with the landmark 3, `Dist { source: 1, target: 6 }` is `Length(15)`, `From { landmark: 3, target: 4 }`
+    /// `Length(2)` and `Lower { source: 5, target: 6 }` `AtLeast(5)`.
     pub fn answer<R: Threads>(
         &mut self,
         rt: &R,

@@ -1,5 +1,5 @@
 -- What a session knows by its reader, and what it tells.
-use Rattle.std.proofs.Common.{◌≡◌, ◌∙◌, ◌⊎◌, inl, inr, ℕ, ◌+◌, List, [], ◌++◌, Option, None, Some, length, refl, sym, ap, subst}
+use Rattle.std.proofs.Common.{◌≡◌, ◌∙◌, ◌⊎◌, inl, inr, ℕ, ◌+◌, List, [], Option, None, Some, length, refl, sym, subst}
 use Rattle.std.proofs.KnownBytes.{Appends-nil}
 use Rattle.std.specs.Prelude.{Result, Ok, Err, IfOk, IfErr, OnOk}
 use Rattle.std.specs.Io.KnownBytes.{Appends}
@@ -9,9 +9,8 @@ use Rattle.roadnet.specs.declared.commands.Command.{Command}
 use Rattle.rows.specs.declared.queries.Query.{Query}
 use Rattle.rows.specs.declared.queries.Reply.{Reply}
 use Rattle.rows.specs.Replies.{IsRight}
-use Rattle.machine.specs.Laws.{IsAt}
 use Rattle.history.specs.Origins.{Origin, Beginning}
-use Rattle.history.proofs.Beginnings.{at_more, prefix_trans}
+use Rattle.history.proofs.Beginnings.{at_more}
 use Rattle.desk.specs.Readings.{Reading, IsViewAfter}
 use Rattle.dimacs.specs.declared.fault.Code.{Code}
 use Rattle.machine.specs.declared.events.Replied.{Replied}

@@ -10,7 +10,7 @@ use Rattle.dimacs.specs.Lines.{fields}
 use Rattle.sessions.specs.declared.lines.Line.{Line}
 use Rattle.sessions.specs.declared.lines.LineSoFar.{LineSoFar}
 use Rattle.sessions.specs.Judging.{IsSoFar}
-use Rattle.sessions.specs.Reads.{IsFirstLine, ReadsOne, FailsInLine, ReadsLine}
+use Rattle.sessions.specs.Reads.{ReadsOne, ReadsLine}
 use Rattle.sessions.specs.SessionLines.{IsLine}
 
 -- these bytes of the first line were taken

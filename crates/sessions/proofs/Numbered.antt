@@ -1,10 +1,9 @@
 -- Fields where numbers stand, with one more byte.
-use Rattle.std.proofs.Common.{◌≡◌, ◌≢◌, ◌∙◌, ℕ, ◌+◌, ◌-◌, ◌*◌, ◌^◌, ◌<◌, ◌≤◌, min, Bool, true, false, ◌&&◌, cond, eqb, ltb, List, [], ◌∷◌, ◌++◌, Option, None, Some, length, drop, refl, sym, ap, subst, inl, inr, arith, append_assoc}
+use Rattle.std.proofs.Common.{◌≡◌, ◌≢◌, ◌∙◌, ℕ, ◌+◌, ◌-◌, ◌*◌, ◌^◌, ◌<◌, ◌≤◌, min, Bool, true, false, ◌&&◌, ltb, List, [], ◌∷◌, ◌++◌, Option, None, Some, length, refl, sym, ap, subst, arith, append_assoc}
 use Rattle.std.specs.List.{list_all}
-use Rattle.std.specs.Option.{option_map}
-use Rattle.std.specs.Char.{digit_value, is_digit}
+use Rattle.std.specs.Char.{digit_value}
 use Rattle.std.specs.Str.Parse.{starts_with_minus, digits_value}
-use Rattle.std.proofs.lemmas.Bool.{cases_Bool, cond-true, cond-false, lt-ltb, ltb-true, le-ltb, ne_eqb, and_from, false_from_ne_true}
+use Rattle.std.proofs.lemmas.Bool.{lt-ltb, ltb-true, le-ltb, ne_eqb, false_from_ne_true}
 use Rattle.std.proofs.lemmas.Str.Parse.{digit_from_value}
 use Rattle.std.proofs.lemmas.List.{append-nil, length-append}
 use Rattle.std.proofs.lemmas.List.Folds.{list_all-append}
@@ -12,11 +11,11 @@ use Rattle.std.proofs.lemmas.Int.Digits.{digits_value_push}
 use Rattle.dimacs.specs.declared.numeral.Numeral.{Numeral}
 use Rattle.dimacs.specs.Digits.{is_decimal, are_digits}
 use Rattle.dimacs.specs.Faults.{Row}
-use Rattle.dimacs.specs.Numerals.{numeral, signed, kept}
+use Rattle.dimacs.specs.Numerals.{numeral}
 use Rattle.sessions.specs.declared.fields.Field.{Field}
-use Rattle.sessions.specs.declared.fields.Field.TheVariants.{Unbegun, Minus, Number, Other}
+use Rattle.sessions.specs.declared.fields.Field.TheVariants.{Minus, Number, Other}
 use Rattle.sessions.specs.declared.fields.Numbers.{Numbers}
-use Rattle.sessions.specs.declared.fields.Numbers.TheVariants.{Nothing, One, Two, TooMany}
+use Rattle.sessions.specs.declared.fields.Numbers.TheVariants.{One, Two, TooMany}
 use Rattle.sessions.specs.Fields.{HasDigits, IsField, IsNumber, IsNumbers, as_row, number_of, signed_field}
 
 decimal_value : (c : ℕ) → 48 ≤ c → c ≤ 57 → digit_value c ≡ c - 48

@@ -2,9 +2,7 @@
 use Rattle.std.proofs.Common.{◌≡◌, ℕ, false, List, [], ◌∷◌, ◌++◌, Option, None, Some, refl, sym, subst}
 use Rattle.std.proofs.KnownBytes.{Appends-nil, Appends-trans}
 use Rattle.std.specs.Prelude.{⊤, Ok, IfSome}
-use Rattle.std.specs.Io.KnownBytes.{Appends}
 use mathlib.Core.List.{IsPrefix}
-use Rattle.roadnet.specs.declared.commands.Command.{Command}
 use Rattle.history.specs.Origins.{Origin}
 use Rattle.desk.specs.Readings.{Reading}
 use Rattle.sessions.specs.declared.answers.Accepted.{Accepted}

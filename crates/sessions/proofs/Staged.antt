@@ -1,6 +1,5 @@
 -- What is known of a line with one more byte.
-use Rattle.std.proofs.Common.{◌≡◌, ◌≢◌, ◌∙◌, ℕ, ◌+◌, ◌<◌, Bool, true, false, ◌||◌, List, [], ◌∷◌, ◌++◌, Option, None, Some, length, take, refl, sym, ap, subst, inl, inr, arith, append_assoc}
-use Rattle.std.specs.Io.BufRead.{strip_last}
+use Rattle.std.proofs.Common.{◌≡◌, ◌≢◌, ◌∙◌, ℕ, ◌<◌, Bool, true, false, ◌||◌, List, [], ◌∷◌, ◌++◌, None, Some, length, refl, sym, ap, subst, arith, append_assoc}
 use Rattle.std.proofs.lemmas.List.{append-nil, length-append, length-take}
 use Rattle.dimacs.specs.declared.fault.Code.TheVariants.{BadLine}
 use Rattle.dimacs.specs.Faults.{Row, is_empty, is_remark}
@@ -17,7 +16,7 @@ use Rattle.sessions.specs.declared.lines.Stage.{Stage}
 use Rattle.sessions.specs.declared.lines.Stage.TheVariants.{Blank, Beginning, Remark, Unknown, Behind}
 use Rattle.sessions.specs.declared.words.Word.{Word}
 use Rattle.sessions.specs.Fields.{IsField, IsNumbers, as_row}
-use Rattle.sessions.specs.Judging.{BeginsWith, GoesOnBehind, IsOneField, IsSoFar, IsStage, letters_of}
+use Rattle.sessions.specs.Judging.{IsOneField, IsSoFar, IsStage, letters_of}
 use Rattle.sessions.specs.SessionLines.{session_code, IsLine}
 use Rattle.sessions.specs.Spelled.{spelling, word_from}
 use Rattle.sessions.proofs.Fieldwise.{blank_first, ended_by_blank, ended_by_line, one_byte, one_more, first_field, remark_first, without_return, no_return}

@@ -1,11 +1,10 @@
 -- What a line asks for, by its word and the numbers behind it.
-use Rattle.std.proofs.Common.{◌≡◌, ◌≢◌, ◌∙◌, ℕ, ◌<◌, ◌≤◌, Bool, true, false, ◌||◌, cond, eqb, ltb, List, [], ◌∷◌, ◌++◌, Option, None, Some, length, refl, sym, ap, subst, inl, inr, arith}
+use Rattle.std.proofs.Common.{◌≡◌, ◌≢◌, ◌∙◌, ℕ, ◌<◌, Bool, true, false, ◌||◌, cond, eqb, ltb, List, [], ◌∷◌, Option, None, Some, length, refl, sym, ap, subst, inl, inr, arith}
 use Rattle.std.specs.List.{find}
 use Rattle.std.specs.Str.{bytes_eq}
 use Rattle.std.proofs.lemmas.Bool.{or_parts, lt-ltb, ne_eqb, false_from_ne_true}
 use Rattle.std.proofs.lemmas.Slice.Eq.{bytes_eq-Decides}
 use lib.Chars.{codes}
-use Rattle.dimacs.specs.declared.fault.Code.{Code}
 use Rattle.dimacs.specs.declared.fault.Code.TheVariants.{BadLine, NumberRange}
 use Rattle.dimacs.specs.declared.numeral.Numeral.{Numeral}
 use Rattle.dimacs.specs.Commands.{form, form_of, is_refused, command_code}
@@ -25,7 +24,7 @@ use Rattle.sessions.specs.declared.words.Word.TheVariants.{WithNone, WithOne, Wi
 use Rattle.sessions.specs.declared.lines.Line.TheVariants.{Refused}
 use Rattle.sessions.specs.declared.fields.Numbers.{Numbers}
 use Rattle.sessions.specs.declared.fields.Numbers.TheVariants.{Nothing, One, Two, TooMany}
-use Rattle.sessions.specs.Fields.{IsNumbers, IsOne, AreTwo, number_of, has_one, has_two}
+use Rattle.sessions.specs.Fields.{IsNumbers, AreTwo, number_of, has_one, has_two}
 use Rattle.sessions.specs.SessionLines.{forms, session_code, line_of, AsksFor, IsLine}
 use Rattle.sessions.specs.Spelled.{spelling, words, word_from}
 use Rattle.sessions.specs.Words.{bare_line, one_line, two_line}

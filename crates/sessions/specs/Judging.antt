@@ -1,6 +1,5 @@
 -- What is known of a line before it ends, without its bytes.
-use Rattle.std.specs.Prelude.{◌≡◌, ℕ, ◌<◌, true, false, List, [], ◌∷◌, ◌++◌, All, length, take, Some, ◌≢◌, if◌then◌else◌}
-use Rattle.std.specs.List.{list_all}
+use Rattle.std.specs.Prelude.{◌≡◌, ℕ, true, false, List, [], ◌∷◌, ◌++◌, All, take, Some, ◌≢◌, if◌then◌else◌}
 use Rattle.std.specs.Io.BufRead.{strip_last}
 use Rattle.dimacs.specs.declared.fault.Code.TheVariants.{BadLine}
 use Rattle.dimacs.specs.Faults.{Row, is_remark}

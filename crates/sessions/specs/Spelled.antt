@@ -3,11 +3,8 @@ use Rattle.std.specs.Prelude.{ℕ, List, [], ◌∷◌, Option}
 use Rattle.std.specs.List.{find}
 use Rattle.std.specs.Str.{bytes_eq}
 use lib.Chars.{codes}
-use Rattle.sessions.specs.declared.words.Bare.{Bare}
 use Rattle.sessions.specs.declared.words.Bare.TheVariants.{Wait, Quit}
-use Rattle.sessions.specs.declared.words.OneNumber.{OneNumber}
 use Rattle.sessions.specs.declared.words.OneNumber.TheVariants.{Close, Reopen, Mark, Unmark}
-use Rattle.sessions.specs.declared.words.TwoNumbers.{TwoNumbers}
 use Rattle.sessions.specs.declared.words.TwoNumbers.TheVariants.{Set, Dist, From, Lower}
 use Rattle.sessions.specs.declared.words.Word.{Word}
 use Rattle.sessions.specs.declared.words.Word.TheVariants.{WithNone, WithOne, WithTwo}

@@ -1,6 +1,5 @@
 -- What a session is told by its desk, and what it tells.
 use Rattle.std.specs.Prelude.{◌≡◌, ◌⊎◌, ℕ, ◌+◌, List, [], length, Option, None, Some, Result, Ok, Err, ⊤}
-use mathlib.Core.List.{IsPrefix}
 use Rattle.roadnet.specs.declared.commands.Command.{Command}
 use Rattle.roadnet.specs.declared.refusals.Refusal.{Refusal}
 use Rattle.roadnet.specs.declared.refusals.Refusal.TheVariants.{Read, Write}
@@ -18,7 +17,7 @@ use Rattle.desk.specs.Readings.{Reading, IsNoReader}
 use Rattle.desk.specs.Turns.{IsUnserved}
 use Rattle.dimacs.specs.Counts.{one_more_failed}
 use Rattle.printing.specs.declared.failed.Failed.{Failed}
-use Rattle.printing.specs.declared.failed.Failed.TheVariants.{Text, Code}
+use Rattle.printing.specs.declared.failed.Failed.TheVariants.{Code}
 use Rattle.sessions.specs.declared.answers.Accepted.{Accepted}
 use Rattle.sessions.specs.declared.answers.Accepted.TheVariants.{Settled, Unsettled}
 

@@ -1,7 +1,6 @@
-use Rattle.std.proofs.Common.{rules, ◌≡◌, ℕ, ◌+◌, ◌≤◌, ◌<◌, ◌^◌, length, flat_map, max, IfOk, IsSome, All, List, Bor, subst, sym, arith, ◌∙◌}
+use Rattle.std.proofs.Common.{◌≡◌, ℕ, ◌≤◌, ◌<◌, ◌^◌, flat_map, max, IsSome, All, List, subst, sym, arith}
 use Rattle.relax.specs.Values.{value_at, value_or}
 use Rattle.relax.specs.Requests.{requests_of, requests_from}
-use Rattle.rayon.specs.Lists.{chunks_of}
 use Rattle.relax.proofs.Chunked.{All-chunks, lists_of_chunks, from_collected}
 use Rattle.relax.proofs.crew.in_chunks.Goals as goal
 

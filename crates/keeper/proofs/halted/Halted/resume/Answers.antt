@@ -4,12 +4,12 @@ use Rattle.machine.proofs.Kept.{left_between}
 use Rattle.keeper.proofs.halted.Halted.resume.Goals as goal
 
 pub returns-in-Ok-clause-begins : goal.returns-in-Ok-clause-begins
-returns-in-Ok-clause-begins g c m slot honest halted = c.in-Ok.ensures.begins m halted.state slot honest halted.held
+returns-in-Ok-clause-begins g c m honest halted pages = c.in-Ok.ensures.begins m halted.state pages honest halted.held
 
 pub returns-in-Ok-clause-history : goal.returns-in-Ok-clause-history
-returns-in-Ok-clause-history g c m slot honest halted =
+returns-in-Ok-clause-history g c m honest halted pages =
     let next = c.in-Ok.life.keeper.machine in
-    let b = c.in-Ok.ensures.begins m halted.state slot honest halted.held in
+    let b = c.in-Ok.ensures.begins m halted.state pages honest halted.held in
     let between = left_between m halted.state next.base_version b.left in
     let many : length c.args.self.commands.items ≡ length m.accepted = ap length halted.commands_are in
     let kept : c.min-kept.result ≡ next.base_version - m.base_version =

@@ -27,8 +27,8 @@ returns-clause-goes g c first done going =
     (t ∙ ap (λ (rs : List Replied). rs ++ Opened x.life.keeper.machine.base_version ∷ []) replies)
     (h ∙ ap (λ (cs : List Command). cs ++ commands_to m x.life.keeper.machine.base_version) history)
     (opened_by_stop first done self.replies.items self.history.items m run x.life.keeper.machine c.args.self.life.living.state b))
-    (c.resume.ensures.begins m run.pages there is) (c.resume.ensures.history m run.pages there is) c.resume.ensures.told in
-    if_ok_both c.resume.result _ _ _ _ (λ x ran came _. record { came = came; run = ran }) runs (c.resume.ensures.came m run.pages there is) runs
+    (c.resume.ensures.begins m there is run.pages) (c.resume.ensures.history m there is run.pages) c.resume.ensures.told in
+    if_ok_both c.resume.result _ _ _ _ (λ x ran came _. record { came = came; run = ran }) runs (c.resume.ensures.came m there is run.pages) runs
 
 pub returns-clause-ends : goal.returns-clause-ends
 returns-clause-ends g c first done going rest =

@@ -43,8 +43,8 @@ returns-clause-goes g c event within first done going =
     (λ x b h t. run_as first _ _ x.replies.items _ x.history.items x.life.keeper.machine t
     (h ∙ ap (λ (cs : List Command). cs ++ commands_to mid x.life.keeper.machine.base_version) history)
     (opened_told first done self.replies.items self.history.items m run mid later event c.args.writing c.tell_write.new.replies.items x.life.keeper.machine within told b))
-    (c.resume.ensures.begins mid slot there is) (c.resume.ensures.history mid slot there is) c.resume.ensures.told in
-    if_ok_both c.resume.result _ _ _ _ (λ x ran came _. record { came = came; run = ran }) runs (c.resume.ensures.came mid slot there is) runs
+    (c.resume.ensures.begins mid there is slot) (c.resume.ensures.history mid there is slot) c.resume.ensures.told in
+    if_ok_both c.resume.result _ _ _ _ (λ x ran came _. record { came = came; run = ran }) runs (c.resume.ensures.came mid there is slot) runs
 
 pub returns-clause-ends : goal.returns-clause-ends
 returns-clause-ends g c event within first done going rest =

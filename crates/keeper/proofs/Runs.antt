@@ -19,7 +19,7 @@ use Rattle.machine.specs.declared.events.Event.{Event}
 use Rattle.machine.specs.declared.events.Event.TheVariants.{Submit, Flush, Checkpoint, CheckpointStep, Task, Publish, Ask, Stop, StopWithin}
 use Rattle.machine.specs.declared.events.Replied.{Replied}
 use Rattle.machine.specs.declared.events.Replied.TheVariants.{Refused, Opened, Stopped}
-use Rattle.machine.specs.Machine.{Sizes, Machine, IsState, start, commands_to}
+use Rattle.machine.specs.Machine.{Sizes, Machine, IsState, start, most_versions, commands_to}
 use Rattle.machine.specs.Calls.{StopsAndOpens}
 use Rattle.machine.specs.LifeInRun.{within}
 use Rattle.machine.specs.Lives.{Writes, StopComes, Does, StopsFor, Lives, HoldsDurable}
@@ -94,6 +94,7 @@ module _ {P : Type 0} (first : First) (events : List (Event P)) (replies : List 
         events_are = all.events_are;
         replies_are = all.replies_are;
         passes = all.passes;
+        version_to = r.version_to;
         unchecked_to = r.unchecked_to;
         there = r.there ∙ ap Some (sym later.later.base);
         begun = later.later.base_version ∙ r.begun;
@@ -126,6 +127,7 @@ module _ {P : Type 0} (first : First) (events : List (Event P)) (replies : List 
           events_are = all.events_are;
           replies_are = all.replies_are;
           passes = all.passes;
+          version_to = r.version_to;
           unchecked_to = r.unchecked_to;
           there = there_after first.network first.version history mid next begun_then l.state b there_then;
           begun = begun_after first.network first.version history mid next begun_then l.state b;
@@ -141,6 +143,7 @@ module _ {P : Type 0} (first : First) (events : List (Event P)) (replies : List 
         → ((c : List ℕ) → left c → IsDurableIn mid c)
         → HasLived left first ((events ++ e ∷ []) ++ rest) (replies ++ now) ended (history ++ take (mid.durable - mid.base_version) mid.accepted)
     run_not_opened left e now rest ended stops why each = record {
+      version_to = r.version_to;
       unchecked_to = r.unchecked_to;
       last = in_run mid;
       lives = subst (λ (h : List Command). Lives (start first.sizes first.network first.version first.unchecked) ((events ++ e ∷ []) ++ rest) (replies ++ now) ended h (in_run mid))
@@ -237,6 +240,7 @@ module _ {P : Type 0} (first : First) (events : List (Event P)) (replies : List 
   module _ (left : List ℕ → Type 0) (s : IsState m) (each : (c : List ℕ) → left c → IsDurableIn m c) where
     pub run_whole : HasLived left first events replies None (history ++ m.accepted)
     run_whole = record {
+      version_to = r.version_to;
       unchecked_to = r.unchecked_to;
       last = in_run m;
       lives = lives_whole _ _ events replies ran;
@@ -245,6 +249,7 @@ module _ {P : Type 0} (first : First) (events : List (Event P)) (replies : List 
 
     pub run_no_memory : (rest : List (Event P)) → HasLived left first (events ++ rest) replies (Some OutOfMemory) (history ++ m.accepted)
     run_no_memory rest = record {
+      version_to = r.version_to;
       unchecked_to = r.unchecked_to;
       last = in_run m;
       lives = lives_no_memory _ _ events replies ran rest;
@@ -252,13 +257,14 @@ module _ {P : Type 0} (first : First) (events : List (Event P)) (replies : List 
     }
 
 -- a run that begins
-pub run_none : {P : Type 0} (first : First) → first.unchecked ≤ first.sizes.journal_pages → HasPagesOfNetwork (start first.sizes first.network first.version first.unchecked)
+pub run_none : {P : Type 0} (first : First) → first.version ≤ most_versions → first.unchecked ≤ first.sizes.journal_pages → HasPagesOfNetwork (start first.sizes first.network first.version first.unchecked)
     → HasRun {P = P} first [] [] [] (start first.sizes first.network first.version first.unchecked)
-run_none first few slot = record {
+run_none first low few slot = record {
   turns = [];
   events_are = refl;
   replies_are = refl;
   passes = refl;
+  version_to = low;
   unchecked_to = few;
   there = refl;
   begun = omega arith;

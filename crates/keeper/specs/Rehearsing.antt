@@ -12,7 +12,7 @@ use Rattle.machine.specs.declared.events.Event.{Event}
 use Rattle.machine.specs.declared.events.Event.TheVariants.{Stop, StopWithin}
 use Rattle.machine.specs.declared.events.Replied.{Replied}
 use Rattle.machine.specs.declared.events.Writing.{Writing}
-use Rattle.machine.specs.Machine.{Sizes, Machine, IsState, start, network_at}
+use Rattle.machine.specs.Machine.{Sizes, Machine, IsState, start, most_versions, network_at}
 use Rattle.machine.specs.Calls.{IsLeft}
 use Rattle.machine.specs.LifeInRun.{within}
 use Rattle.machine.specs.Lives.{Turn, Passes, LivesOn}
@@ -59,6 +59,7 @@ pub record HasRun {P : Type 0} (first : First) (events : List (Event P)) (replie
   pub events_are : events ≡ map (λ turn. turn.0) turns
   pub replies_are : replies ≡ flat_map (λ turn. turn.1) turns
   pub passes : Passes (start first.sizes first.network first.version first.unchecked) turns (within first.network first.version history m)
+  pub version_to : first.version ≤ most_versions
   pub unchecked_to : first.unchecked ≤ first.sizes.journal_pages
   pub there : after first.network history ≡ Some m.base
   pub begun : m.base_version ≡ first.version + length history

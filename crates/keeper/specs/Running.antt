@@ -9,12 +9,14 @@ use Rattle.disk.specs.declared.stoppable.Stoppable.{Ghosts as StoppableGhosts}
 use Rattle.disk.specs.declared.stoppable.Pick.{Pick}
 use Rattle.disk.specs.declared.stoppable.Pick.TheVariants.{Old}
 use Rattle.disk.specs.Stop.{TakesPicks}
+use Rattle.storefile.specs.StoreFile.{StandsTidyFor}
 use Rattle.machine.specs.declared.events.Event.{Event}
 use Rattle.machine.specs.declared.events.Event.TheVariants.{Stop, StopWithin}
 use Rattle.machine.specs.declared.events.Replied.{Replied}
 use Rattle.machine.specs.declared.events.Replied.TheVariants.{Refused}
 use Rattle.machine.specs.declared.events.Writing.{Writing}
 use Rattle.machine.specs.Machine.{Machine, IsState, commands_to}
+use Rattle.machine.specs.Headline.{ToldForGood}
 use Rattle.keeper.specs.declared.rehearsing.Rehearsal.{Rehearsal}
 use Rattle.keeper.specs.declared.rehearsing.Run.{Run}
 use Rattle.keeper.specs.declared.halted.Halted.{Halted}
@@ -98,6 +100,11 @@ OfEachWithin writing P = (event : Event Pick) → within_of event ≡ Some writi
 -- these events have come to this end
 abbrev pub HasLivedTo : {D : Type 0} → (D → List ℕ → Type 0) → First → List (Event Pick) → Rehearsal D → Type 0
 HasLivedTo left first events ended = HasLived (left ended.disk) first events ended.replies.items ended.ended ended.history.items
+
+-- what was told of these events stays, whatever a stop leaves
+abbrev pub HasToldForGood : {D : Type 0} → (D → List ℕ → Type 0) → First → List (Event Pick) → Rehearsal D → Type 0
+HasToldForGood left first events ended =
+    ToldForGood (StandsTidyFor first.sizes.journal_pages) (left ended.disk) first.network first.version events ended.replies.items ended.history.items
 
 -- the run has come to this with these events
 abbrev pub HasCome : {D : Type 0} {s : StoppableGhosts D} {d : Ghosts D} → (D → Type 0) → (D → List ℕ) → First → List (Event Pick) → Run D s d → Type 0

@@ -15,7 +15,7 @@ ghost use Rattle.machine.specs.declared.events.Event.TheVariants.{Stop};
 ghost use Rattle.machine.specs.declared.events.Replied.TheVariants.{Refused, Opened, Stopped};
 ghost use Rattle.keeper.specs.Failures.{EndsAsTold};
 ghost use Rattle.keeper.specs.Rehearsing.{HasPagesOfNetwork, BeginsAfter, first_of};
-ghost use Rattle.keeper.specs.Running.{Continues, LeavesDurable, HasLivedTo, IsCut, CutsBy, HaveCut, picks_taken, picks_of, IsToldOrFailed, IsPassingEnd, OfEachLeft, OfEachHalted, OfEachWithin, HasHaltedSo, FailsAtEnd, GoesOnWith, EndsWith, FailsWith};
+ghost use Rattle.keeper.specs.Running.{Continues, LeavesDurable, HasLivedTo, IsCut, CutsBy, HaveCut, HasToldForGood, picks_taken, picks_of, IsToldOrFailed, IsPassingEnd, OfEachLeft, OfEachHalted, OfEachWithin, HasHaltedSo, FailsAtEnd, GoesOnWith, EndsWith, FailsWith};
 
 use crate::halted::Halted;
 use crate::lives::Life;
@@ -385,6 +385,9 @@ pub fn rehearse<R: Threads, D: Stoppable>(
     requires width { ForSome delta IsWidth }
     // The run is one of the lives of the store's network and version, and a stop now leaves of the disk what its last state says.
     ensures lives { CameTidy D.honest D.content store.given → HasLivedTo D.left (first_of store) events.now result }
+    // Of each content that a stop leaves: it stands for the network after a beginning of the accepted commands, in which each acknowledged one has
+    // its number; and each answered query names a version up to it, and is right in that version's network.
+    ensures told { CameTidy D.honest D.content store.given → HasToldForGood D.left (first_of store) events.now result }
     // Each stop of the events that were run cut the disk by its picks: the i-th byte, ascending, that was not synced took pick i mod n.
     ensures cut { CameTidy D.honest D.content store.given → HaveCut D.synced D.is_unsynced D.content events.now result.ended }
     // A given width is that of each view.

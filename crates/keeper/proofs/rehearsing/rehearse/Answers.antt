@@ -6,6 +6,7 @@ use Rattle.store.specs.State.{CameTidy}
 use Rattle.machine.specs.declared.events.Event.{Event}
 use Rattle.machine.specs.Machine.{Machine, start}
 use Rattle.machine.proofs.Kept.{started}
+use Rattle.machine.proofs.ForGood.{told_for_good}
 use Rattle.keeper.specs.declared.lives.Life.{Life}
 use Rattle.keeper.specs.Keeping.{IsDurableIn}
 use Rattle.keeper.specs.Rehearsing.{First, first_of, IsGoing, HasRun}
@@ -24,7 +25,7 @@ returns-in-Err-clause-lives g c came =
     let slot = tells.checkpoint_pages came in
     let there : c.close.result ≡ store.disk = (let back = c.in-Err.ensures.handed_back in let shut = c.close.ensures in cc) in
     rw (there, c.new-in-Err.ensures.items, c.new.ensures.items)
-    (run_no_memory first [] [] [] m (run_none {P = Pick} first tells.room.unchecked_to slot) (g.D.Disk.left store.disk)
+    (run_no_memory first [] [] [] m (run_none {P = Pick} first tells.room.version_to tells.room.unchecked_to slot) (g.D.Disk.left store.disk)
     (started first.sizes first.network first.version first.unchecked tells.room.version_to tells.room.unchecked_to)
     (held_at_start store (g.D.Disk.content store.disk) (g.D.Disk.left store.disk) (tells.only came) (tells.stands came))
     c.args.events.now)
@@ -42,7 +43,7 @@ loop-event-init g c =
           record {
             came = subst (λ (d : g.row.D.Denot). CameTidy g.D.Disk.honest g.D.Disk.content d) (sym c.in-Ok.ensures.given) came;
             run = run_as first [] [] c.new-3.result.items [] c.new-2.result.items c.in-Ok.life.keeper.machine c.new-3.ensures.items c.new-2.ensures.items
-                (subst (λ (m : Machine). HasRun {P = Pick} first [] [] [] m) (sym begins) (run_none {P = Pick} first c.in-Ok.ensures.room.unchecked_to slot));
+                (subst (λ (m : Machine). HasRun {P = Pick} first [] [] [] m) (sym begins) (run_none {P = Pick} first c.in-Ok.ensures.room.version_to c.in-Ok.ensures.room.unchecked_to slot));
           };
       cut = λ came. tt;
       delta = c.in-Ok.ensures.delta;
@@ -116,6 +117,19 @@ returns-clause-lives g c came =
     rw (c.end-2.ensures.disk, c.end-2.ensures.replies, c.end-2.ensures.ended, c.end-2.ensures.history)
     (lives_of {P = Pick} (g.D.Disk.left run.life.keeper.disk) first (take i events) events run.replies.items _ _ (take_all i events past)
     (run_whole first (take i events) run.replies.items run.history.items run.life.keeper.machine was.run (g.D.Disk.left run.life.keeper.disk) run.life.living.state (c.end-2.ensures.left was.came)))
+
+-- ---- what was told stays
+pub returns-in-Err-clause-told : goal.returns-in-Err-clause-told
+returns-in-Err-clause-told g c came = told_for_good {P = Pick} _ _ _ _ _ _ _ _ _ _ (returns-in-Err-clause-lives g c came)
+
+pub returns-then-is_err-clause-told : goal.returns-then-is_err-clause-told
+returns-then-is_err-clause-told g c came = told_for_good {P = Pick} _ _ _ _ _ _ _ _ _ _ (returns-then-is_err-clause-lives g c came)
+
+pub returns-in-Err-next-clause-told : goal.returns-in-Err-next-clause-told
+returns-in-Err-next-clause-told g c came = told_for_good {P = Pick} _ _ _ _ _ _ _ _ _ _ (returns-in-Err-next-clause-lives g c came)
+
+pub returns-clause-told : goal.returns-clause-told
+returns-clause-told g c came = told_for_good {P = Pick} _ _ _ _ _ _ _ _ _ _ (returns-clause-lives g c came)
 
 -- ---- the count of the disk's failures
 pub returns-in-Err-clause-failed : goal.returns-in-Err-clause-failed

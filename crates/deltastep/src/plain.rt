@@ -12,6 +12,8 @@ use std::alloc::Global;
 /// It goes over all arcs in rounds and lowers what is nearer by way of an open arc, until a round lowers nothing: at most as many
 /// rounds as there are nodes, fewer where the arcs stand in the order of the walks. It is the slow member that others are compared
 /// with. Its one error is want of memory, for 8 bytes a node.
+///
+/// Of the network of `examples/six.gr`, the row of node 1 has the lengths 0, 10, 10, 12, 10 and 15, as that of `row`.
 pub fn plain_row(alloc: Global, network: &Network, source: u32) -> Result<Distances, RowError>
     requires { IsNode network.now source }
     ensures { IfOk result (λ row. RowOf network.now source row) }

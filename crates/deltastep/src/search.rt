@@ -90,6 +90,9 @@ impl<Q: BucketQueue> Search<Q> {
     /// Takes the least bucket that is not empty: gives its number, or nothing where no node is queued, and puts its nodes, ascending, into
     /// the given list in place of what was there. All values that are queued lie in `ceil(L / delta) + 1` buckets in a row then, from the one
     /// that is taken on, with L the greatest length of a leg.
+    ///
+    /// In the network of `examples/six.gr`, from node 1 with buckets of width 5, it gives bucket 0 with node 1, then 2 with node 3, then 3 with
+    /// node 6, and then nothing; `settle` of bucket 2 takes nodes 5, 2 and 4 in between.
     #[inline(always)]
     pub fn take_bucket(
         &mut self,

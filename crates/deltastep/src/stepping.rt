@@ -61,6 +61,8 @@ fn row_by<Q: BucketQueue + Drop, T: Team>(
 
 /// Whether a search of this snapshot can begin with this queue: no node is queued, a node of value 0 fits, its buckets are as wide as
 /// the snapshot's delta, and as many of them fit as hold the values that live at once. It takes no memory.
+///
+/// A new ring of 5 buckets of width 5 suits the network of `examples/six.gr` grouped by 5, whose longest arc has 20; one of 4 does not.
 pub fn suits<Q: BucketQueue>(queue: &Q, snapshot: &Snapshot) -> bool
     ensures { IsTrue result ↔ Suits snapshot.now (Q.entries queue.now) (Q.accepts queue.now) (Q.width queue.now) (Q.span queue.now) }
 {

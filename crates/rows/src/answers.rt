@@ -57,6 +57,9 @@ fn plain_distance(
 /// The reply to a query, by rows of plain relaxation that are made for it alone: slow, for comparison with faster ways.
 ///
 /// Its one error is want of memory for a row; a refused query takes none.
+///
+/// In the network of `examples/six.gr` without landmarks, `Dist { source: 1, target: 6 }` is `Length(15)`, `Lower { source: 1, target: 6 }`
+/// `AtLeast(0)`, and `From { landmark: 3, target: 4 }` `Refused(NotALandmark)`.
 pub fn answer_plain(alloc: Global, network: &Network, query: &Query) -> Result<Reply, OutOfMemory>
     ensures right { IfOk result (IsRight network.now query.now) }
     ensures refused { IsSome (refusal_of network.now query.now) → IsOk result }

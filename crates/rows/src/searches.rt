@@ -79,6 +79,8 @@ impl Searches {
     /// The reply to `Dist`, by the row of its source, if it is kept, else by a new one, which is then kept where memory is there for it.
     ///
     /// All queries are of one network. The one error is want of memory for groups or row; a refused query takes none.
+    ///
+    /// In the network of `examples/six.gr`, from 1 to 6 it is `Length(15)`, and then from 1 to 2 `Length(10)`, by the row that is kept.
     pub fn dist<R: Threads>(
         &mut self,
         rt: &R,

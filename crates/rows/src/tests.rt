@@ -2,8 +2,8 @@ use crate::{Query, Reply, answer_plain};
 use roadnet::{Command, Network, Refusal, RoadArc};
 use std::alloc::{AllocError, Global};
 
-/// The network of the worked rows: six nodes and eight arcs.
-fn six(alloc: Global) -> Result<Network, Refusal> {
+/// The network of the worked rows: six nodes and eight arcs, with these landmarks.
+pub(crate) fn six(alloc: Global, landmarks: &[u32]) -> Result<Network, Refusal> {
     let table = [
         (1, 2, 17),
         (1, 3, 10),
@@ -24,12 +24,12 @@ fn six(alloc: Global) -> Result<Network, Refusal> {
         })
         .map_err(AllocError::from)?;
     }
-    Network::new(alloc, 6, arcs, &[3])
+    Network::new(alloc, 6, arcs, landmarks)
 }
 
 #[test]
 fn no_walk_itself_no_node(rt: HostRuntime) -> Result<(), Refusal> {
-    let mut network = six(rt.alloc())?;
+    let mut network = six(rt.alloc(), &[3])?;
     let table = [
         (1, 6, Reply::Length(15)),
         (6, 1, Reply::NoWalk),
@@ -53,7 +53,7 @@ fn no_walk_itself_no_node(rt: HostRuntime) -> Result<(), Refusal> {
 
 #[test]
 fn rows_from_landmarks(rt: HostRuntime) -> Result<(), Refusal> {
-    let network = six(rt.alloc())?;
+    let network = six(rt.alloc(), &[3])?;
     let table = [
         (3, 4, Reply::Length(2)),
         (3, 1, Reply::NoWalk),
@@ -70,7 +70,7 @@ fn rows_from_landmarks(rt: HostRuntime) -> Result<(), Refusal> {
 
 #[test]
 fn bounds_by_plain_rows(rt: HostRuntime) -> Result<(), Refusal> {
-    let mut network = six(rt.alloc())?;
+    let mut network = six(rt.alloc(), &[3])?;
     let table = [
         (5, 6, Reply::AtLeast(5)),
         (5, 1, Reply::NoWalk),

@@ -1,36 +1,12 @@
 ghost use Rattle.std.specs.Prelude.{◌≡◌, ◌≢◌, ◌≤◌, []};
 ghost use Rattle.rows.specs.Cached.{HasRowsOf, KeepsOthers, rows_of};
 
+use crate::tests::six;
 use crate::{Query, Reply, Row, RowCache, Searches, View, answer_plain};
 use relax::Solo;
-use roadnet::{Command, Network, OutOfMemory, Refusal, RoadArc};
-use std::alloc::{AllocError, Global};
+use roadnet::{Command, Network, OutOfMemory, Refusal};
+use std::alloc::Global;
 use std::thread::Threads;
-
-/// The network of the worked rows: six nodes and eight arcs, with these landmarks.
-fn six(alloc: Global, landmarks: &[u32]) -> Result<Network, Refusal> {
-    let table = [
-        (1, 2, 17),
-        (1, 3, 10),
-        (2, 4, 2),
-        (3, 5, 0),
-        (4, 3, 0),
-        (4, 6, 3),
-        (5, 2, 0),
-        (5, 6, 20),
-    ];
-    let mut arcs = Vec::new(alloc);
-    for (tail, head, length) in table {
-        arcs.push(RoadArc {
-            tail,
-            head,
-            length,
-            opened: true,
-        })
-        .map_err(AllocError::from)?;
-    }
-    Network::new(alloc, 6, arcs, landmarks)
-}
 
 #[test]
 fn bounds_and_rows(rt: HostRuntime) -> Result<(), Refusal> {

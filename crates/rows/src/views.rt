@@ -85,6 +85,9 @@ impl View {
     /// to 2147483647, is the width of the buckets; where none is given it is the network's default.
     ///
     /// The one error is want of memory, and then the network is dropped with what was made of it.
+    ///
+    /// Of the network of `examples/six.gr` with the landmarks 3 and 6 it has two rows: that of 3 has 2 for node 4 and nothing for node 1, that of 6
+    /// has nothing but 0 for node 6.
     pub fn build<T: Team>(
         alloc: Global,
         version: u64,

@@ -51,6 +51,9 @@ impl<D: Disk> Store<D> {
 /// Looks at the file of a store: it is synced, judged and read as by `open`, and refused as there. Nothing is written.
 ///
 /// It takes the memory of `open`, and gives it back.
+///
+/// Of a new store of `examples/six.gr` it finds version 0, slot A of epoch 1, and no unchecked page. Behind a commit the version is 1 and one page is
+/// unchecked; behind a checkpoint then slot B of epoch 2 is current, and no page is unchecked.
 pub fn inspect<D: Disk>(alloc: Global, disk: &mut D) -> Result<Inspected, Refusal>
     // The content stands for a network at this version, and so.
     ensures stands { D.honest disk.old → IfOk result (λ found. (net : Net) × StandsThus (D.content disk.old) net found.version found.standing) }

@@ -55,8 +55,9 @@ fn with_landmarks(network: Network, landmarks: &[u32]) -> Result<Network, Refusa
 /// and the first fault decides: `which` is 0 for the network and 1 for the landmarks. Nodes of the landmarks are judged by the network's
 /// number of nodes.
 ///
-/// More than 1,000 landmarks are refused with 27; where they are not, want of memory outside the texts with 11. A failed read is fault 10 of the text and
-/// line being read: it is told only where the count of that reader's failed calls rose. After an `Err` the readers are not used again.
+/// More than 1,000 landmarks are refused with 27; where they are not, want of memory outside the texts with 11. A failed read is fault
+/// 10 of the text and line being read: it is told only where the count of that reader's failed calls rose. After an `Err` the readers are
+/// not used again.
 pub fn read_planned<R: BufRead, Q: BufRead>(
     alloc: Global,
     gr: &mut Counted<'_, R>,

@@ -10,5 +10,5 @@ returns-in-Ok-clause-all g c net version commands have =
     let same : c.tell.new.self.outcomes.items ≡ c.flush-flushed.new.self.outcomes.items = search rules in
     let came = subst (λ (l : List Outcome). HaveCome net version commands l c.args.self.now.told c.args.self.now.ledger.machine) (sym items) have in
     settle_all net version c.args.self.now.told c.tell.new.self.told commands c.flush-flushed.new.self.outcomes.items c.args.self.now.ledger.machine c.flush-flushed.new.self.ledger.machine
-    c.flush-flushed.ensures.kept c.flush-flushed.ensures.steady c.in-Ok.ensures.done c.tell.ensures.told_to c.in_default.ensures.next came
+    c.flush-flushed.ensures.kept c.flush-flushed.ensures.steady c.in-Ok.ensures.done c.tell.ensures.told_to c.in_ok-tell.ensures.next came
     ∙ ap length (sym same)

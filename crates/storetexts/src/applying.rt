@@ -207,10 +207,7 @@ impl<D: Disk> Applying<D> {
         let flushed = self.flush();
         self.tell(out)?;
         out.flush()?;
-        match flushed {
-            Ok(()) => Ok(()),
-            Err(refusal) => Err(Failed::Code(refusal)),
-        }
+        flushed.map_err(Failed::Code)
     }
 
     /// Takes the next command, and settles what is pending where that is as much as a page holds.
@@ -398,11 +395,7 @@ fn apply_commands<D: Disk, W: Write>(
         told: 0,
     };
     let ended = applying.run(commands, out);
-    let left = applying.close();
-    match ended {
-        Ok(()) => (Ok(()), left),
-        Err(failed) => (Err(failed), left),
-    }
+    (ended, applying.close())
 }
 
 /// The same over any writer, whose failed calls nobody counts.

@@ -75,10 +75,7 @@ pub fn read_planned<R: BufRead, Q: BufRead>(
 {
     let network = of_text(NETWORK, read_gr_counted(alloc, gr))?;
     let landmarks = of_text(LANDMARKS, read_ss_counted(alloc, ss, network.nodes()))?;
-    match with_landmarks(network, &landmarks) {
-        Ok(marked) => Ok(marked),
-        Err(refusal) => Err(Failed::Code(refusal)),
-    }
+    with_landmarks(network, &landmarks).map_err(Failed::Code)
 }
 
 /// The same for texts in memory.
@@ -88,10 +85,7 @@ fn parse_planned(alloc: Global, gr: &[u8], ss: &[u8]) -> Result<Network, Failed>
 {
     let network = of_text(NETWORK, parse_gr(alloc, gr))?;
     let landmarks = of_text(LANDMARKS, parse_ss(alloc, ss, network.nodes()))?;
-    match with_landmarks(network, &landmarks) {
-        Ok(marked) => Ok(marked),
-        Err(refusal) => Err(Failed::Code(refusal)),
-    }
+    with_landmarks(network, &landmarks).map_err(Failed::Code)
 }
 
 /// Makes a store of the network on an empty disk, with so many journal pages, 1 to 65,536, at version 0; then writes `ok 0` and sends it

@@ -1,7 +1,7 @@
 -- What a call of a reader does to how far its text is read.
 use Rattle.std.proofs.Common.{◌≡◌, ℕ, ◌+◌, ◌≤◌, Bool, true, false, List, [], ◌++◌, length, drop, Option, Some, None, Result, Ok, Err, refl, sym, ap, ◌∙◌, arith, inl, take-append-drop, ◌≢◌}
 use Rattle.std.proofs.Math.Seq.{drop-length}
-use Rattle.std.specs.Prelude.{IfSome, MatchBool}
+use Rattle.std.specs.Prelude.{IfSome, IfOk, MatchBool}
 use Rattle.std.specs.Io.{StartsWith}
 use Rattle.std.specs.Io.KnownBytes.{Keeps}
 use Rattle.std.specs.Io.BufRead.{DropsConsumable}
@@ -15,9 +15,10 @@ use Rattle.dimacs.specs.declared.fault.Fault.{Fault}
 use Rattle.dimacs.specs.declared.fault.Code.TheVariants.{Read}
 use Rattle.dimacs.specs.Lines.{rows}
 use Rattle.dimacs.specs.Faults.{Row, Judge, fault_at}
-use Rattle.dimacs.specs.Ends.{ReadsLines}
+use Rattle.dimacs.specs.Joint.{taken_of}
+use Rattle.dimacs.specs.Ends.{HasTakenSome, ReadsLines}
 use Rattle.dimacs.specs.Progress.{Within, BeforeRun, Feeds}
-use Rattle.dimacs.specs.Turns.{FarFrom, RunFrom, EndsFrom, StopsFrom}
+use Rattle.dimacs.specs.Turns.{WithinSome, FarFrom, RunFrom, EndsFrom, StopsFrom}
 use Rattle.dimacs.proofs.Far.{run_reads, stop_told, clean_front, front_within}
 
 -- the bytes that are shown are the front of what is left
@@ -36,9 +37,15 @@ module _ {S : Type 0} (judge : Judge) (has_taken : List Row → S → Type 0) (m
   relabel_run : (text left : List ℕ) (feed : Feed S) (n : ℕ) → BeforeRun judge has_taken text left feed → BeforeRun judge has_taken text left (record feed { left = n })
   relabel_run text left feed n at = record { earlier = at.earlier; row = at.row; lines = at.lines; is = at.is; until = at.until; count = at.count; clean = at.clean; no_run = at.no_run; taken = at.taken }
 
+  pub far_on : (known a b : Option (List ℕ)) (feed : Feed S) (n : ℕ) → FarFrom judge has_taken mark known a feed → Keeps a b → FarFrom judge has_taken mark known b (record feed { left = n })
+  far_on None a b feed n far kept = λ left. let some = far left in (some.0, relabel some.0 left feed n some.1)
+  far_on (Some text) None b feed n far kept = absurd far
+  far_on (Some text) (Some a) None feed n far kept = absurd kept
+  far_on (Some text) (Some a) (Some b) feed n far kept = rw kept (relabel text a feed n far)
+
   pub far_at_end : (known a b : Option (List ℕ)) (shown : List ℕ) (feed : Feed S) → FarFrom judge has_taken mark known a feed → Keeps a b → IfSome a (λ xs. length shown ≡ 0 → xs ≡ []) → length shown ≡ 0
       → EndsFrom judge has_taken mark known b feed
-  far_at_end None a b shown feed far kept end none = tt
+  far_at_end None a b shown feed far kept end none = far
   far_at_end (Some text) None b shown feed far kept end none = absurd far
   far_at_end (Some text) (Some a) None shown feed far kept end none = absurd kept
   far_at_end (Some text) (Some a) (Some b) shown feed far kept end none =
@@ -68,15 +75,28 @@ module _ {S : Type 0} (judge : Judge) (has_taken : List Row → S → Type 0) (m
           let nothing : drop part.count shown ++ drop (length shown) a ≡ drop (length shown) a = rw (p.0, drop-length shown) refl in
           rw (e, nothing) (relabel text (drop (length shown) a) new n p.1)
 
+  -- the same whatever follows what was shown
+  fed_some : (shown : List ℕ) (old new : Feed S) (part : TakenBytes) (n : ℕ) (c : Option (List ℕ)) → WithinSome judge has_taken mark old
+      → ((text more : List ℕ) → Within judge has_taken mark text (shown ++ more) old → Feeds judge has_taken mark text shown more new (Ok part))
+      → MatchBool part.at_run (RunFrom judge has_taken None c (record new { left = n })) (FarFrom judge has_taken mark None c (record new { left = n }))
+  fed_some shown old new part n c far feeds = go part.at_run feeds
+    where
+      go : (b : Bool) → ((text more : List ℕ) → Within judge has_taken mark text (shown ++ more) old → MatchBool b (BeforeRun judge has_taken text (drop part.count shown ++ more) new) ((part.count ≡ length shown) × Within judge has_taken mark text more new))
+          → MatchBool b (RunFrom judge has_taken None c (record new { left = n })) (FarFrom judge has_taken mark None c (record new { left = n }))
+      go true fed =
+          let some = far (shown ++ []) in
+          let rest = drop part.count shown ++ [] in
+          (some.0, rest, relabel_run some.0 rest new n (fed some.0 [] some.1))
+      go false fed = λ left.
+          let some = far (shown ++ left) in
+          let on = fed some.0 left some.1 in
+          (some.0, relabel some.0 left new n on.1)
+
   pub far_fed : (known a b c : Option (List ℕ)) (buffered : Option ℕ) (shown : List ℕ) (old new : Feed S) (part : TakenBytes) (n : ℕ) → FarFrom judge has_taken mark known a old
       → IfSome a (λ xs. StartsWith xs shown) → Keeps a b → IfSome a (λ _. IfSome buffered (λ k. length shown ≤ k)) → DropsConsumable b c buffered part.count → part.count ≤ length shown
       → ((text more : List ℕ) → Within judge has_taken mark text (shown ++ more) old → Feeds judge has_taken mark text shown more new (Ok part))
       → MatchBool part.at_run (RunFrom judge has_taken known c (record new { left = n })) (FarFrom judge has_taken mark known c (record new { left = n }))
-  far_fed None a b c buffered shown old new part n far front kept fits drops le feeds = either part.at_run
-    where
-      either : (b : Bool) → MatchBool b (RunFrom judge has_taken None c (record new { left = n })) (FarFrom judge has_taken mark None c (record new { left = n }))
-      either true = tt
-      either false = tt
+  far_fed None a b c buffered shown old new part n far front kept fits drops le feeds = fed_some shown old new part n c far feeds
   far_fed (Some text) None b c buffered shown old new part n far front kept fits drops le feeds = absurd far
   far_fed (Some text) (Some a) None c buffered shown old new part n far front kept fits drops le feeds = absurd kept
   far_fed (Some text) (Some a) (Some b) c buffered shown old new part n far front kept fits drops le feeds =
@@ -85,9 +105,8 @@ module _ {S : Type 0} (judge : Judge) (has_taken : List Row → S → Type 0) (m
 
   -- What a reading answers.
 
-  pub begins : (known : Option (List ℕ)) (feed : Feed S) → has_taken [] feed.taker → feed.kept.items ≡ [] → feed.lines ≡ 0 → FarFrom judge has_taken mark known known feed
-  begins None feed taken none zero = tt
-  begins (Some text) feed taken none zero =
+  at_first : (text : List ℕ) (feed : Feed S) → has_taken [] feed.taker → feed.kept.items ≡ [] → feed.lines ≡ 0 → Within judge has_taken mark text text feed
+  at_first text feed taken none zero =
       record {
         earlier = [];
         front = [];
@@ -102,6 +121,10 @@ module _ {S : Type 0} (judge : Judge) (has_taken : List Row → S → Type 0) (m
         read = refl;
         feeds = sym zero;
       }
+
+  pub begins : (known : Option (List ℕ)) (feed : Feed S) → has_taken [] feed.taker → feed.kept.items ≡ [] → feed.lines ≡ 0 → FarFrom judge has_taken mark known known feed
+  begins None feed taken none zero = λ left. (left, at_first left feed taken none zero)
+  begins (Some text) feed taken none zero = at_first text feed taken none zero
 
   pub fails_at : (known left : Option (List ℕ)) (until : Bool) (feed : Feed S) (line : ℕ) → FarFrom judge has_taken mark known left feed → feed.until_run ≡ until → line ≡ feed.lines + 1
       → IfSome known (λ text. ReadsLines judge has_taken until text left (Err (fault_at line Read)))
@@ -134,6 +157,25 @@ module _ {S : Type 0} (judge : Judge) (has_taken : List Row → S → Type 0) (m
   ended_at None left until feed result far same ends = tt
   ended_at (Some text) None until feed result far same ends = absurd far
   ended_at (Some text) (Some left) until feed result far same ends = rw (far.1, ← same) (ends text far.0)
+
+  -- The lines that were taken, whether or not somebody knows the bytes.
+  some_lines : (until : Bool) (text : List ℕ) (left : Option (List ℕ)) (ended : Ended S) → ReadsLines judge has_taken until text left (Ok ended) → HasTakenSome judge has_taken ended
+  some_lines until text left ended read = (taken_of until (rows text), read.lines)
+
+  pub ran_lines : (known left : Option (List ℕ)) (until : Bool) (feed : Feed S) (ended : Ended S) → RunFrom judge has_taken known left feed → feed.until_run ≡ until
+      → ended.taker ≡ feed.taker → ended.lines ≡ feed.lines → ended.at_run ≡ true → HasTakenSome judge has_taken ended
+  ran_lines None left until feed ended run same taker lines at = some_lines until run.0 (Some run.1) ended (run_reads judge has_taken until run.0 run.1 feed ended run.2 same taker lines at)
+  ran_lines (Some text) None until feed ended run same taker lines at = absurd run
+  ran_lines (Some text) (Some left) until feed ended run same taker lines at = some_lines until text (Some left) ended (run_reads judge has_taken until text left feed ended run same taker lines at)
+
+  pub ended_lines : (known left : Option (List ℕ)) (feed : Feed S) (result : Result (Ended S) Fault) → EndsFrom judge has_taken mark known left feed
+      → ((text : List ℕ) → Within judge has_taken mark text [] feed → ReadsLines judge has_taken feed.until_run text (Some []) result) → IfOk result (HasTakenSome judge has_taken)
+  ended_lines known left feed (Err fault) far ends = tt
+  ended_lines None left feed (Ok ended) far ends =
+      let some = far [] in
+      some_lines feed.until_run some.0 (Some []) ended (ends some.0 some.1)
+  ended_lines (Some text) None feed (Ok ended) far ends = absurd far
+  ended_lines (Some text) (Some left) feed (Ok ended) far ends = some_lines feed.until_run text (Some []) ended (ends text far.0)
 
 -- one side of a test
 pub if_so : (P Q : Type 0) (b : Bool) → b ≡ true → MatchBool b P Q → P

@@ -13,6 +13,7 @@ pub mod Fitting
 pub mod TextEnds
 pub mod NodeRows
 mod NodeItems
+mod TextNodes
 pub mod Sets
 pub mod CommandRows
 mod Words

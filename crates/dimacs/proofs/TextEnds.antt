@@ -1,13 +1,13 @@
 -- The content of lines that were taken, or their fault: of any kind of text.
 use Rattle.std.proofs.Common.{◌≡◌, ℕ, false, List, [], length, Option, Some, None, Result, Ok, Err, refl, sym, ap}
-use Rattle.std.specs.Prelude.{IfSome}
+use Rattle.std.specs.Prelude.{IfSome, IfOk}
 use Rattle.dimacs.specs.declared.feed.Ended.{Ended}
 use Rattle.dimacs.specs.declared.fault.Fault.{Fault}
 use Rattle.dimacs.specs.Lines.{rows}
 use Rattle.dimacs.specs.Faults.{Row, first_fault, fault_at, fault_of}
 use Rattle.dimacs.specs.Taking.{ByMemory}
-use Rattle.dimacs.specs.Ends.{TakenAll, BreaksOff, FailsIn, ReadsLines}
-use Rattle.dimacs.specs.Texts.{TextKind, unless_fault, content_by, Parses, Reads, Ends}
+use Rattle.dimacs.specs.Ends.{TakenAll, HasTakenSome, BreaksOff, FailsIn, ReadsLines}
+use Rattle.dimacs.specs.Texts.{TextKind, unless_fault, content_by, IsSaid, Parses, Reads, Ends, map_ok}
 use Rattle.dimacs.proofs.Items.{by_code_of, by_memory_of}
 use Rattle.dimacs.proofs.Networks.{same_code, no_rows}
 
@@ -50,6 +50,13 @@ module _ {X S : Type 0} (kind : TextKind X) (has_taken : List Row → S → Type
   read_ended (Some text) (Some rest) ended (Err fault) read ends =
       let end = ends (rows text) read.lines.taken read.lines.count in
       by_code_of (FailsIn kind.judge text (rows text) (Some rest) fault.line) fault.code end.0 (λ e. content_ends (rows text) fault read.lines.clean e end.1) (λ none. absurd none)
+
+  pub said_by_lines : {Y : Type 0} (value : Y → X) (ended : Ended S) (result : Result Y Fault) → HasTakenSome kind.judge has_taken ended
+      → ((lines : List Row) → has_taken lines ended.taker → ended.lines ≡ length lines → Ends kind lines (map_ok value result)) → IfOk result (λ y. IsSaid kind (value y))
+  said_by_lines value ended (Err fault) some ends = tt
+  said_by_lines value ended (Ok y) some ends =
+      let end = ends some.0 some.1.taken some.1.count in
+      (some.0, content_is some.0 (value y) some.1.clean end.0 end.1)
 
 -- A kind of text that says f of what another says.
 ok_of : {X Y : Type 0} (f : X → Y) (o : Option Fault) (a x : X) → unless_fault o a ≡ Ok x → unless_fault o (f a) ≡ Ok (f x)

@@ -14,6 +14,10 @@ pub record TakenAll {S : Type 0} (judge : Judge) (has_taken : List Row → S →
   pub taken : has_taken lines ended.taker
   pub count : ended.lines ≡ length lines
 
+-- some lines were taken, in none of which there is a fault
+abbrev pub HasTakenSome : {S : Type 0} → Judge → (List Row → S → Type 0) → Ended S → Type 0
+HasTakenSome judge has_taken ended = (lines : List Row) × TakenAll judge has_taken lines ended
+
 -- this is one of all lines, and no line before it has a fault or is left out
 pub record BreaksOff (judge : Judge) (all lines : List Row) (line : ℕ) : Type 0 where
   pub first : 0 < line

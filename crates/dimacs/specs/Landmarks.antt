@@ -1,5 +1,5 @@
 -- What a `.ss` text says.
-use Rattle.std.specs.Prelude.{ℕ, List}
+use Rattle.std.specs.Prelude.{ℕ, ◌≤◌, List, All}
 use Rattle.roadnet.specs.Members.{set_of}
 use Rattle.dimacs.specs.Format.{ss}
 use Rattle.dimacs.specs.Content.{size_at}
@@ -17,3 +17,7 @@ landmarks_in n rs = set_of (items_in (ss n) node_from rs)
 
 abbrev pub ss_text : ℕ → TextKind (List ℕ)
 ss_text n = record { judge = code_of (ss n); end = end_code (ss n); says = landmarks_in n }
+
+-- each of these is one of so many nodes
+abbrev pub AreNodes : ℕ → List ℕ → Type 0
+AreNodes n nodes = All (λ x. (1 ≤ x) × (x ≤ n)) nodes

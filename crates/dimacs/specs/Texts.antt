@@ -21,6 +21,10 @@ unless_fault (Some fault) x = Err fault
 abbrev pub content_by : {X : Type 0} → TextKind X → List Row → Result X Fault
 content_by kind rs = unless_fault (fault_of kind.judge kind.end rs) (kind.says rs)
 
+-- this is what some lines say in which there is no fault
+abbrev pub IsSaid : {X : Type 0} → TextKind X → X → Type 0
+IsSaid kind x = (lines : List Row) × (content_by kind lines ≡ Ok x)
+
 -- these lines of a reader's text have their fault told; or the reader failed, or memory ran out, in a line before which there is none
 abbrev pub FaultOfLines : {X : Type 0} → TextKind X → List ℕ → List Row → Option (List ℕ) → Fault → Type 0
 FaultOfLines kind text lines left fault = ByCode fault.code (content_by kind lines ≡ Err fault) (FailsIn kind.judge text lines left fault.line) (BreaksOff kind.judge (rows text) lines fault.line)

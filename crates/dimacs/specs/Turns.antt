@@ -9,14 +9,18 @@ use Rattle.dimacs.specs.Faults.{Row, Judge}
 use Rattle.dimacs.specs.Counts.{one_more_failed}
 use Rattle.dimacs.specs.Progress.{Within, BeforeRun, StopsAt}
 
--- how far a reader's text is read, where its bytes are known
+-- Whatever is left, it is left of some text. This is so of a reader whose bytes nobody knows.
+abbrev pub WithinSome : {S : Type 0} → Judge → (List Row → S → Type 0) → ℕ → Feed S → Type 0
+WithinSome judge has_taken mark feed = (left : List ℕ) → (text : List ℕ) × Within judge has_taken mark text left feed
+
+-- how far a reader's text is read, or a text of which nobody knows the bytes
 abbrev pub FarFrom : {S : Type 0} → Judge → (List Row → S → Type 0) → ℕ → Option (List ℕ) → Option (List ℕ) → Feed S → Type 0
-FarFrom judge has_taken mark None left feed = ⊤
+FarFrom judge has_taken mark None left feed = WithinSome judge has_taken mark feed
 FarFrom judge has_taken mark (Some text) None feed = ⊥
 FarFrom judge has_taken mark (Some text) (Some left) feed = Within judge has_taken mark text left feed
 
 abbrev pub RunFrom : {S : Type 0} → Judge → (List Row → S → Type 0) → Option (List ℕ) → Option (List ℕ) → Feed S → Type 0
-RunFrom judge has_taken None left feed = ⊤
+RunFrom judge has_taken None left feed = (text : List ℕ) × (rest : List ℕ) × BeforeRun judge has_taken text rest feed
 RunFrom judge has_taken (Some text) None feed = ⊥
 RunFrom judge has_taken (Some text) (Some left) feed = BeforeRun judge has_taken text left feed
 
@@ -25,7 +29,7 @@ StopsFrom judge None feed code = ⊤
 StopsFrom judge (Some text) feed code = StopsAt judge text feed code
 
 abbrev pub EndsFrom : {S : Type 0} → Judge → (List Row → S → Type 0) → ℕ → Option (List ℕ) → Option (List ℕ) → Feed S → Type 0
-EndsFrom judge has_taken mark None left feed = ⊤
+EndsFrom judge has_taken mark None left feed = WithinSome judge has_taken mark feed
 EndsFrom judge has_taken mark (Some text) None feed = ⊥
 EndsFrom judge has_taken mark (Some text) (Some left) feed = Within judge has_taken mark text [] feed × (left ≡ [])
 

@@ -4,7 +4,7 @@ ghost use Rattle.std.specs.Io.BufRead.{strip_last};
 ghost use Rattle.dimacs.specs.Lines.{fields, rows};
 ghost use Rattle.dimacs.specs.Faults.{Row};
 ghost use Rattle.dimacs.specs.Progress.{StandsFor, Within, Feeds, TakesOrRuns};
-ghost use Rattle.dimacs.specs.Ends.{ParsesLines, ReadsLines};
+ghost use Rattle.dimacs.specs.Ends.{HasTakenSome, ParsesLines, ReadsLines};
 ghost use Rattle.dimacs.specs.Counts.{CountsFailures, IsSameReader, failed_calls, reader_of};
 
 use crate::counted::{Counted, Turn};
@@ -224,6 +224,7 @@ pub fn read_lines<T: TakeLines, R: BufRead>(
     requires { T.has_taken [] taker }
     ensures read { IfSome (R.remaining (reader_of counted.old))
         (λ text. ReadsLines T.judge T.has_taken until_run text (R.remaining (reader_of counted.new)) result) }
+    ensures lines { IfOk result (HasTakenSome T.judge T.has_taken) }
     ensures counts { CountsFailures (failed_calls counted.old) (failed_calls counted.new) result }
     ensures same { IsSameReader counted.old counted.new }
 {

@@ -1,5 +1,5 @@
 //! The texts of networks.
-ghost use Rattle.std.specs.Prelude.{◌≡◌, ◌≢◌, List, length, true, IfErr, IfSome};
+ghost use Rattle.std.specs.Prelude.{◌≡◌, ◌≢◌, List, [], length, true, IfOk, IfErr, IfSome};
 ghost use Rattle.dimacs.specs.Counts.{CountsFailures, IsSameReader, failed_calls, reader_of};
 ghost use Rattle.dimacs.specs.Gr.{ParsesGr, ReadsGr, ReadsUntil};
 ghost use Rattle.dimacs.specs.Faults.{Row};
@@ -16,6 +16,7 @@ use std::io::BufRead;
 /// What the lines that were taken give.
 fn network_at_end(alloc: Global, ended: Ended<GrLines>) -> Result<(Network, bool), Fault>
     ensures reads_nothing { IfErr result (λ fault. fault.code ≢ Code.Read) }
+    ensures bare { IfOk result (λ found. found.0.landmarks ≡ []) }
     ensures ends { (lines : List Row) → HasTaken lines ended.taker → ended.lines ≡ length lines → AtEnd lines ended.at_run result }
 {
     let Ended {
@@ -48,6 +49,7 @@ fn read_until<R: BufRead>(
 ) -> Result<(Network, bool), Fault>
     ensures read { IfSome (R.remaining (reader_of counted.old))
         (λ text. ReadsUntil until_run text (R.remaining (reader_of counted.new)) result) }
+    ensures bare { IfOk result (λ found. found.0.landmarks ≡ []) }
     ensures counts { CountsFailures (failed_calls counted.old) (failed_calls counted.new) result }
     ensures same { IsSameReader counted.old counted.new }
 {
@@ -63,6 +65,7 @@ pub fn read_gr_counted<R: BufRead>(
 ) -> Result<Network, Fault>
     ensures read { IfSome (R.remaining (reader_of counted.old))
         (λ text. ReadsGr text (R.remaining (reader_of counted.new)) result) }
+    ensures bare { IfOk result (λ network. network.landmarks ≡ []) }
     ensures counts { CountsFailures (failed_calls counted.old) (failed_calls counted.new) result }
     ensures same { IsSameReader counted.old counted.new }
 {
@@ -78,6 +81,7 @@ pub fn read_gr_before_run<R: BufRead>(
 ) -> Result<(Network, bool), Fault>
     ensures read { IfSome (R.remaining (reader_of counted.old))
         (λ text. ReadsUntil true text (R.remaining (reader_of counted.new)) result) }
+    ensures bare { IfOk result (λ found. found.0.landmarks ≡ []) }
     ensures counts { CountsFailures (failed_calls counted.old) (failed_calls counted.new) result }
     ensures same { IsSameReader counted.old counted.new }
 {

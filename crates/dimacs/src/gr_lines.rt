@@ -1,5 +1,5 @@
 //! The lines of the text of a network, taken one after another.
-ghost use Rattle.std.specs.Prelude.{◌≡◌, ◌≢◌, IfErr, length};
+ghost use Rattle.std.specs.Prelude.{◌≡◌, ◌≢◌, IfOk, IfErr, length};
 ghost use Rattle.std.specs.Option.{ForNone, ForSome};
 ghost use Rattle.dimacs.specs.Fits.{Fits};
 
@@ -65,6 +65,7 @@ impl GrLines {
     /// Ends the text. Of what the lines gave a network can be made, so that only its memory may be wanting.
     pub(crate) fn finish(self, alloc: Global) -> Result<Network, Code>
         ensures reads_nothing { IfErr result (λ code. code ≢ Code.Read) }
+        ensures bare { IfOk result (λ network. network.landmarks ≡ []) }
         ensures ends { (lines : List Row) → HasTaken lines self → Ends lines result }
     {
         let GrLines { problem, arcs } = self;

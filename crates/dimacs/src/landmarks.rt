@@ -66,7 +66,7 @@ impl NodeItem for u32 {
     ghost letter_is_no_problem = { refl };
 }
 
-ghost use Rattle.dimacs.specs.Landmarks.{ss_text};
+ghost use Rattle.dimacs.specs.Landmarks.{ss_text, AreNodes};
 ghost use Rattle.dimacs.specs.Texts.{Parses, Reads, map_ok};
 ghost use Rattle.dimacs.specs.Counts.{CountsFailures, IsSameReader, failed_calls, reader_of};
 
@@ -88,6 +88,7 @@ fn as_set(nodes: Vec<u32>) -> Vec<u32>
 pub fn parse_ss(alloc: Global, bytes: &[u8], nodes: u32) -> Result<Vec<u32>, Fault>
     ensures text { Parses (ss_text nodes) bytes.now (map_ok vec_items result) }
     ensures ascending { IfOk result (λ landmarks. IsStrictlyIncreasing landmarks.items) }
+    ensures nodes { IfOk result (λ landmarks. AreNodes nodes landmarks.items) }
 {
     match parse_items::<u32, Brand>(alloc, bytes, nodes) {
         Ok(landmarks) => Ok(as_set(landmarks)),
@@ -105,6 +106,7 @@ pub fn read_ss_counted<R: BufRead>(
     ensures read { IfSome (R.remaining (reader_of counted.old))
         (λ text. Reads (ss_text nodes) text (R.remaining (reader_of counted.new)) (map_ok vec_items result)) }
     ensures ascending { IfOk result (λ landmarks. IsStrictlyIncreasing landmarks.items) }
+    ensures nodes { IfOk result (λ landmarks. AreNodes nodes landmarks.items) }
     ensures counts { CountsFailures (failed_calls counted.old) (failed_calls counted.new) result }
     ensures same { IsSameReader counted.old counted.new }
 {
@@ -118,6 +120,7 @@ pub fn read_ss_counted<R: BufRead>(
 pub fn read_ss<R: BufRead>(alloc: Global, reader: &mut R, nodes: u32) -> Result<Vec<u32>, Fault>
     ensures read { IfSome (R.remaining reader.old) (λ text. Reads (ss_text nodes) text (R.remaining reader.new) (map_ok vec_items result)) }
     ensures ascending { IfOk result (λ landmarks. IsStrictlyIncreasing landmarks.items) }
+    ensures nodes { IfOk result (λ landmarks. AreNodes nodes landmarks.items) }
 {
     let mut counted = Counted::new(reader);
     read_ss_counted(alloc, &mut counted, nodes)

@@ -1,5 +1,5 @@
 //! Texts that list nodes, or items made of nodes, of a network: `p aux sp WORD K` and K item lines.
-ghost use Rattle.std.specs.Prelude.{◌≡◌, ◌≢◌, ◌∷◌, [], ℕ, List, Some, IfErr, IfSome, MatchOption, length, drop, true, false, vec_items, ◌==◌};
+ghost use Rattle.std.specs.Prelude.{◌≡◌, ◌≢◌, ◌∷◌, [], ℕ, List, Some, IfErr, IfSome, MatchOption, length, drop, true, false, IfOk, vec_items, ◌==◌};
 ghost use Rattle.std.specs.List.{starts_with};
 ghost use Rattle.std.specs.Str.{bytes_eq};
 ghost use lib.Chars.{codes};
@@ -9,7 +9,7 @@ ghost use Rattle.dimacs.specs.Faults.{Row, code_of};
 ghost use Rattle.dimacs.specs.Taking.{Takes};
 ghost use Rattle.dimacs.specs.Listed.{kind_words, listed, text_of_items, ReadsItem, HasItems};
 ghost use Rattle.dimacs.specs.ListedReading.{count_after, count_of_numeral};
-ghost use Rattle.dimacs.specs.Texts.{Ends, Parses, Reads, map_ok};
+ghost use Rattle.dimacs.specs.Texts.{Ends, IsSaid, Parses, Reads, map_ok};
 ghost use Rattle.dimacs.specs.Counts.{CountsFailures, IsSameReader, failed_calls, reader_of};
 
 use crate::counted::Counted;
@@ -268,6 +268,7 @@ pub(crate) fn read_items<I: NodeItem, K: NodeCount, R: BufRead>(
     requires { nodes ≡ K.nodes }
     ensures read { IfSome (R.remaining (reader_of counted.old))
         (λ text. Reads (text_of_items (listed I.word I.LETTER I.quantities K.nodes) I.says) text (R.remaining (reader_of counted.new)) (map_ok vec_items result)) }
+    ensures said { IfOk result (λ items. IsSaid (text_of_items (listed I.word I.LETTER I.quantities K.nodes) I.says) items.items) }
     ensures counts { CountsFailures (failed_calls counted.old) (failed_calls counted.new) result }
     ensures same { IsSameReader counted.old counted.new }
 {

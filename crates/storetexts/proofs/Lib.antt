@@ -1,4 +1,5 @@
 pub mod Marked
+pub mod Markable
 pub mod Meanwhile
 pub mod Made
 pub mod Judged

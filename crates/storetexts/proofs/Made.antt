@@ -1,15 +1,17 @@
 -- A store made of two readers' texts, and the refusals of these.
-use Rattle.std.proofs.Common.{◌⊎◌, inl, inr, ℕ, List, Option, None, Some, Result, Ok, Err, refl}
+use Rattle.std.proofs.Common.{◌≡◌, ◌⊎◌, inl, inr, ℕ, List, Option, None, Some, Result, Ok, Err, refl}
 use Rattle.std.specs.Prelude.{IfSome, IfErr}
+use Rattle.roadnet.specs.declared.refusals.Refusal.{Refusal}
 use Rattle.roadnet.specs.declared.refusals.Refusal.TheVariants.{Write, Device, NotEmpty, OutOfMemory}
 use Rattle.roadnet.specs.Net.{Net}
 use Rattle.disk.specs.Contents.{Only}
 use Rattle.storefile.specs.StoreFile.{StandsTidyFor}
+use Rattle.dimacs.specs.Content.{content}
 use Rattle.dimacs.specs.Texts.{Source}
 use Rattle.printing.specs.declared.failed.Failed.{Failed}
 use Rattle.printing.specs.declared.failed.Failed.TheVariants.{Code}
 use Rattle.printing.specs.Failing.{CountsWrites}
-use Rattle.storetexts.specs.Created.{IsNetworkOf, IsOfNetwork, IsOfMaking, IsRefusedNetwork, GiveNetwork, IsRefusedCreate, IsNewStore, IsNewStoreOf}
+use Rattle.storetexts.specs.Created.{landmarks_of, with_landmarks, IsNetworkOf, IsRefusedMarking, IsOfNetwork, IsOfMaking, IsRefusedNetwork, GiveNetwork, IsRefusedCreate, IsNewStore, IsNewStoreOf}
 use Rattle.storetexts.specs.Refused.{IfDone, IfNotEmpty, IfNoMemory, IfDevice}
 
 done_weaker : (r : Result (Unit {0}) Failed) (P Q : Type 0) → (P → Q) → IfDone r P → IfDone r Q
@@ -62,8 +64,28 @@ making_refused : (n l : List ℕ) (ns ls : Source) (failed : Failed) → GiveNet
 making_refused n l ns ls (Code NotEmpty) give h = give
 making_refused n l ns ls (Code Device) give h = give
 making_refused n l ns ls (Code Write) give h = give
-making_refused n l ns ls (Code OutOfMemory) give h = tt
+making_refused n l ns ls (Code OutOfMemory) give h = give
 making_refused n l ns ls _ give h = absurd h
+
+-- both texts were read, and the landmarks cannot be marked
+marking_refused : (n l : List ℕ) (ns ls : Source) (net : Net) (marks : List ℕ) (refusal : Refusal) → content n ≡ Ok net → landmarks_of net l ≡ Ok marks → IsRefusedMarking marks refusal
+    → IsRefusedNetwork n l ns ls (Code refusal)
+marking_refused n l ns ls net marks refusal network marks_are (inl many) = rw many.0 (record { net = net; network_is = network; refused = (marks, marks_are, many.1) })
+marking_refused n l ns ls net marks refusal network marks_are (inr memory) =
+    rw memory.0 (with_landmarks net marks, record { net = net; network_is = network; marks = marks; marks_are = marks_are; few = memory.1; marked_is = refl })
+
+-- the same of what marking them answers
+pub marking_told : {X : Type 0} (r : Result X Refusal) (n l : List ℕ) (ns ls : Source) (net : Net) (marks : List ℕ) → content n ≡ Ok net → landmarks_of net l ≡ Ok marks
+    → IfErr r (IsRefusedMarking marks) → IfErr r (λ refusal. IsRefusedNetwork n l ns ls (Code refusal))
+marking_told (Ok marked) n l ns ls net marks network marks_are why = tt
+marking_told (Err refusal) n l ns ls net marks network marks_are why = marking_refused n l ns ls net marks refusal network marks_are why
+
+pub marking_told_known : {X : Type 0} (r : Result X Refusal) (a b : Option (List ℕ)) (ns ls : Source) (net : Net) (marks : List ℕ) → IfSome a (λ n. content n ≡ Ok net)
+    → IfSome b (λ l. landmarks_of net l ≡ Ok marks) → IfErr r (IsRefusedMarking marks) → IfErr r (λ refusal. IfSome a (λ n. IfSome b (λ l. IsRefusedNetwork n l ns ls (Code refusal))))
+marking_told_known (Ok marked) a b ns ls net marks network marks_are why = tt
+marking_told_known (Err refusal) None b ns ls net marks network marks_are why = tt
+marking_told_known (Err refusal) (Some n) None ns ls net marks network marks_are why = tt
+marking_told_known (Err refusal) (Some n) (Some l) ns ls net marks network marks_are why = marking_refused n l ns ls net marks refusal network marks_are why
 
 pub network_refused : (n l : List ℕ) (ns ls : Source) (failed : Failed) → IsRefusedNetwork n l ns ls failed → IsRefusedCreate n l ns ls failed
 network_refused n l ns ls (Code NotEmpty) h = absurd h

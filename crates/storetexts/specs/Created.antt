@@ -28,19 +28,24 @@ pub record IsNetworkOf (network landmarks : List ℕ) (marked : Net) : Type 0 wh
   pub network_is : content network ≡ Ok net
   pub marks : List ℕ
   pub marks_are : landmarks_of net landmarks ≡ Ok marks
+  pub few : length marks ≤ most_landmarks
   pub marked_is : marked ≡ with_landmarks net marks
+
+-- both texts have no fault, and their landmarks are not too many
+abbrev pub GiveNetwork : List ℕ → List ℕ → Type 0
+GiveNetwork network landmarks = (marked : Net) × IsNetworkOf network landmarks marked
 
 -- the landmarks of a text are too many
 abbrev pub HasTooMany : List ℕ → Net → Type 0
 HasTooMany landmarks net = (marks : List ℕ) × (landmarks_of net landmarks ≡ Ok marks) × (most_landmarks < length marks)
 
 -- The fault of the first text is told, or, where that has none, that of the second; or a reader failed in its text; or the landmarks are
--- too many, or memory ran out.
+-- too many. Where nothing of this is so, memory ran out.
 abbrev pub IsRefusedNetwork : List ℕ → List ℕ → Source → Source → Failed → Type 0
 IsRefusedNetwork network landmarks network_source landmarks_source (Text zero fault) = FaultOf gr_text network network_source fault
 IsRefusedNetwork network landmarks network_source landmarks_source (Text (suc zero) fault) = AfterNetwork network (λ net. FaultOf (ss_text net.nodes) landmarks landmarks_source fault)
 IsRefusedNetwork network landmarks network_source landmarks_source (Code TooManyLandmarks) = AfterNetwork network (HasTooMany landmarks)
-IsRefusedNetwork network landmarks network_source landmarks_source (Code OutOfMemory) = ⊤
+IsRefusedNetwork network landmarks network_source landmarks_source (Code OutOfMemory) = GiveNetwork network landmarks
 IsRefusedNetwork network landmarks network_source landmarks_source failed = ⊥
 
 -- one of the two texts is refused, its landmarks are too many, or memory ran out
@@ -58,13 +63,9 @@ IsOfMaking (Code OutOfMemory) = ⊤
 IsOfMaking (Code Write) = ⊤
 IsOfMaking failed = ⊥
 
--- these landmarks cannot be marked: they are too many, or memory ran out
+-- these landmarks cannot be marked: they are too many, or they are not, and memory ran out
 abbrev pub IsRefusedMarking : List ℕ → Refusal → Type 0
-IsRefusedMarking landmarks refusal = ((refusal ≡ TooManyLandmarks) × (most_landmarks < length landmarks)) ⊎ (refusal ≡ OutOfMemory)
-
--- both texts have no fault, and their landmarks are not too many
-abbrev pub GiveNetwork : List ℕ → List ℕ → Type 0
-GiveNetwork network landmarks = (marked : Net) × IsNetworkOf network landmarks marked
+IsRefusedMarking landmarks refusal = ((refusal ≡ TooManyLandmarks) × (most_landmarks < length landmarks)) ⊎ ((refusal ≡ OutOfMemory) × (length landmarks ≤ most_landmarks))
 
 -- The texts come first: the disk or the writer is told of only where they give a network; else they are refused.
 abbrev pub IsRefusedCreate : List ℕ → List ℕ → Source → Source → Failed → Type 0

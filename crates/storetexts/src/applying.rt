@@ -90,10 +90,8 @@ impl<D: Disk> Applying<D> {
         ensures given { self.new.ledger.given ≡ self.old.ledger.given }
         ensures honest { D.honest self.new.ledger.disk ↔ D.honest self.old.ledger.disk }
     {
-        match self.ledger.checkpoint() {
-            Ok(_) => Ok(()),
-            Err(refusal) => Err(refusal),
-        }
+        self.ledger.checkpoint()?;
+        Ok(())
     }
 
     /// A checkpoint, and then a flush of the pending commands, of which there are some.
@@ -114,13 +112,9 @@ impl<D: Disk> Applying<D> {
         ensures given { self.new.ledger.given ≡ self.old.ledger.given }
         ensures honest { D.honest self.new.ledger.disk ↔ D.honest self.old.ledger.disk }
     {
-        if let Err(refusal) = self.checkpoint() {
-            return Err(refusal);
-        }
-        match self.ledger.flush() {
-            Ok(_) => Ok(()),
-            Err(refusal) => Err(refusal),
-        }
+        self.checkpoint()?;
+        self.ledger.flush()?;
+        Ok(())
     }
 
     /// Makes the pending commands durable, at most 253. Where the journal is full a checkpoint is written first.
@@ -178,9 +172,7 @@ impl<D: Disk> Applying<D> {
             if !self.is_settled(&outcome) {
                 return Ok(());
             }
-            if let Err(failed) = put_reply(out, &reply_of(outcome)) {
-                return Err(failed);
-            }
+            put_reply(out, &reply_of(outcome))?;
             self.told = index + 1;
         }
         Ok(())
@@ -213,16 +205,9 @@ impl<D: Disk> Applying<D> {
         ensures honest { D.honest self.new.ledger.disk ↔ D.honest self.old.ledger.disk }
     {
         let flushed = self.flush();
-        if let Err(failed) = self.tell(out) {
-            return Err(failed);
-        }
-        if let Err(failed) = out.flush() {
-            return Err(failed);
-        }
-        match flushed {
-            Ok(()) => Ok(()),
-            Err(refusal) => Err(Failed::Code(refusal)),
-        }
+        self.tell(out)?;
+        out.flush()?;
+        flushed.map_err(Failed::Code)
     }
 
     /// Takes the next command, and settles what is pending where that is as much as a page holds.
@@ -294,9 +279,7 @@ impl<D: Disk> Applying<D> {
         ensures honest { D.honest self.new.ledger.disk ↔ D.honest self.old.ledger.disk }
     {
         for index in 0..commands.len() {
-            if let Err(failed) = self.advance(commands[index], out) {
-                return Err(failed);
-            }
+            self.advance(commands[index], out)?;
         }
         Ok(())
     }
@@ -332,10 +315,8 @@ impl<D: Disk> Applying<D> {
         ensures given { self.new.ledger.given ≡ self.old.ledger.given }
         ensures honest { D.honest self.new.ledger.disk ↔ D.honest self.old.ledger.disk }
     {
-        match self.take_all(commands, out) {
-            Ok(()) => self.settle(out),
-            Err(failed) => Err(failed),
-        }
+        self.take_all(commands, out)?;
+        self.settle(out)
     }
 
     /// The disk, of which no call is made.
@@ -370,10 +351,7 @@ fn ledger_on<D: Disk>(alloc: Global, disk: D) -> Result<Ledger<D>, (Refusal, D)>
         (λ refused. D.failures refused.1 ≡ failures_with refused.0 (D.failures disk)) }
     ensures honest { (IfOk result (λ ledger. D.honest ledger.disk ↔ D.honest disk)) × (IfErr result (λ refused. D.honest refused.1 ↔ D.honest disk)) }
 {
-    let store = match open(alloc, disk) {
-        Ok(store) => store,
-        Err(refused) => return Err(refused),
-    };
+    let store = open(alloc, disk)?;
     match Ledger::new(alloc, store) {
         Ok(ledger) => Ok(ledger),
         Err((_, store)) => Err((Refusal::OutOfMemory, store.close())),
@@ -417,11 +395,7 @@ fn apply_commands<D: Disk, W: Write>(
         told: 0,
     };
     let ended = applying.run(commands, out);
-    let left = applying.close();
-    match ended {
-        Ok(()) => (Ok(()), left),
-        Err(failed) => (Err(failed), left),
-    }
+    (ended, applying.close())
 }
 
 /// The same over any writer, whose failed calls nobody counts.

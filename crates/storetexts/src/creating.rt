@@ -1,15 +1,17 @@
 // A store made from two texts.
-ghost use Rattle.std.specs.Prelude.{◌≡◌, ◌≢◌, ◌⊎◌, ◌≤◌, ◌↔◌, [], OnOk, IfOk, IfErr, IfSome};
+ghost use Rattle.std.specs.Prelude.{◌≡◌, ◌≢◌, ◌⊎◌, ◌≤◌, ◌↔◌, [], length, OnOk, IfOk, IfErr, IfSome};
 ghost use Rattle.std.specs.Io.KnownBytes.{Appends};
 ghost use Rattle.std.specs.List.Sorted.{IsStrictlyIncreasing};
 ghost use lib.Chars.{codes};
 ghost use Rattle.dimacs.specs.Counts.{failed_calls, reader_of, IsSameReader};
+ghost use Rattle.dimacs.specs.Landmarks.{AreNodes};
 ghost use Rattle.dimacs.specs.Texts.{InMemory, OfReader};
 ghost use Rattle.disk.specs.Contents.{Rose};
 ghost use Rattle.disk.specs.Moments.{StaysSame};
 ghost use Rattle.printing.specs.Counting.{failed_writes, writer_of, IsSameWriter};
 ghost use Rattle.printing.specs.Failing.{CountsFirst, CountsSecond, CountsWrites, LeavesUnwritten};
 ghost use Rattle.printing.specs.Replied.{number_line};
+ghost use Rattle.roadnet.specs.Net.{most_landmarks};
 ghost use Rattle.storetexts.specs.Created.{with_landmarks, IsNetworkOf, IsRefusedMarking, IsRefusedNetwork, IsOfNetwork, IsOfMaking};
 ghost use Rattle.storetexts.specs.Created.{IsRefusedCreate, IsNewStore, IsNewStoreOf};
 ghost use Rattle.storetexts.specs.Refused.{IfDone, IfNoDevice, IfOfTexts, IfNotEmpty, IfNoMemory, IfDevice};
@@ -27,10 +29,14 @@ const NETWORK: u8 = 0;
 
 const LANDMARKS: u8 = 1;
 
-/// The network with these landmarks, ascending, in place of none. More than 1,000 are refused with 27, and want of memory with 11.
+/// The network, which has no landmark, with these of its nodes as landmarks, which ascend. More than 1,000 are refused with 27, and want
+/// of memory with 11.
 fn with_landmarks(network: Network, landmarks: &[u32]) -> Result<Network, Refusal>
-    requires { IsStrictlyIncreasing landmarks.now }
-    ensures marked { network.landmarks ≡ [] → IfOk result (λ marked. marked ≡ with_landmarks network landmarks.now) }
+    requires bare { network.landmarks ≡ [] }
+    requires ascending { IsStrictlyIncreasing landmarks.now }
+    requires nodes { AreNodes network.nodes landmarks.now }
+    ensures marked { IfOk result (λ marked. marked ≡ with_landmarks network landmarks.now) }
+    ensures few { OnOk result (length landmarks.now ≤ most_landmarks) }
     ensures refused { IfErr result (IsRefusedMarking landmarks.now) }
 {
     if landmarks.len() > MOST_LANDMARKS {
@@ -38,13 +44,9 @@ fn with_landmarks(network: Network, landmarks: &[u32]) -> Result<Network, Refusa
     }
     let mut marked = network;
     for node in landmarks {
-        let mark = Command::Mark {
+        marked.apply(Command::Mark {
             node: u64::from(*node),
-        };
-        match marked.apply(mark) {
-            Ok(()) => {}
-            Err(_) => return Err(Refusal::OutOfMemory),
-        }
+        })?;
     }
     Ok(marked)
 }
@@ -53,8 +55,9 @@ fn with_landmarks(network: Network, landmarks: &[u32]) -> Result<Network, Refusa
 /// and the first fault decides: `which` is 0 for the network and 1 for the landmarks. Nodes of the landmarks are judged by the network's
 /// number of nodes.
 ///
-/// More than 1,000 landmarks are refused with 27, and want of memory outside the texts with 11. A failed read is fault 10 of the text and
-/// line being read: it is told only where the count of that reader's failed calls rose. After an `Err` the readers are not used again.
+/// More than 1,000 landmarks are refused with 27; where they are not, want of memory outside the texts with 11. A failed read is fault
+/// 10 of the text and line being read: it is told only where the count of that reader's failed calls rose. After an `Err` the readers are
+/// not used again.
 pub fn read_planned<R: BufRead, Q: BufRead>(
     alloc: Global,
     gr: &mut Counted<'_, R>,
@@ -72,10 +75,7 @@ pub fn read_planned<R: BufRead, Q: BufRead>(
 {
     let network = of_text(NETWORK, read_gr_counted(alloc, gr))?;
     let landmarks = of_text(LANDMARKS, read_ss_counted(alloc, ss, network.nodes()))?;
-    match with_landmarks(network, &landmarks) {
-        Ok(marked) => Ok(marked),
-        Err(refusal) => Err(Failed::Code(refusal)),
-    }
+    with_landmarks(network, &landmarks).map_err(Failed::Code)
 }
 
 /// The same for texts in memory.
@@ -85,10 +85,7 @@ fn parse_planned(alloc: Global, gr: &[u8], ss: &[u8]) -> Result<Network, Failed>
 {
     let network = of_text(NETWORK, parse_gr(alloc, gr))?;
     let landmarks = of_text(LANDMARKS, parse_ss(alloc, ss, network.nodes()))?;
-    match with_landmarks(network, &landmarks) {
-        Ok(marked) => Ok(marked),
-        Err(refusal) => Err(Failed::Code(refusal)),
-    }
+    with_landmarks(network, &landmarks).map_err(Failed::Code)
 }
 
 /// Makes a store of the network on an empty disk, with so many journal pages, 1 to 65,536, at version 0; then writes `ok 0` and sends it

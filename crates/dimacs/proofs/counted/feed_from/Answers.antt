@@ -1,7 +1,13 @@
 use Rattle.std.proofs.Common.{◌-◌, subst, rules}
 use Rattle.std.specs.Io.BufRead.{FillKeeps}
-use Rattle.dimacs.proofs.Calls.{far_at_end, far_fed, far_refused}
+use Rattle.dimacs.proofs.Calls.{far_on, far_at_end, far_fed, far_refused}
 use Rattle.dimacs.proofs.counted.feed_from.Goals as goal
+
+pub returns-then-eq-clause-turns : goal.returns-then-eq-clause-turns
+returns-then-eq-clause-turns g c known far =
+    let rested = c.fill_buf.follows.lender-at-none in
+    let kept = subst (FillKeeps _ (g.R.Read.remaining rested) (g.R.BufRead.consumable_len rested)) c.in-Err.is c.fill_buf.follows.holds-at-none in
+    far_on g.T.TakeLines.judge g.T.TakeLines.has_taken g.T.TakeLines.COMMENT known _ _ c.args.feed.now (c.args.feed.now.left - 1) far kept.0
 
 pub returns-then-is_empty-clause-turns : goal.returns-then-is_empty-clause-turns
 returns-then-is_empty-clause-turns g c known far =

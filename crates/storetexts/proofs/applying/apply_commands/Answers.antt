@@ -1,4 +1,4 @@
-use Rattle.std.proofs.Common.{[], Ok, Err, sym, subst, arith}
+use Rattle.std.proofs.Common.{[], sym, subst, arith}
 use Rattle.std.specs.Io.KnownBytes.{Appends}
 use Rattle.std.proofs.KnownBytes.{Appends-nil}
 use Rattle.roadnet.specs.declared.refusals.Refusal.TheVariants.{OutOfMemory}
@@ -18,39 +18,32 @@ returns-in-Err-clause-cut_off g c came net version begun =
     (applies_some net version c.args.commands.now [] 0 c.args.ledger.machine (g.D.Disk.content c.args.ledger.disk) (g.D.Disk.left c.args.ledger.disk) _ _ (Code OutOfMemory)
     (record { taken = 0; come = begun }) c.requires.steady (omega (arith, c.requires.none)) (c.close-disk.ensures.holds came) unwritten tt)
 
-pub returns-in-Ok-ended-clause-applied : goal.returns-in-Ok-ended-clause-applied
-returns-in-Ok-ended-clause-applied g c was net version begun =
+pub returns-clause-applied : goal.returns-clause-applied
+returns-clause-applied g c was net version begun =
     let disk = c.run-ended.new.self.ledger.disk in
     let came = subst (λ (d : g.row.D.Denot). CameTidy g.D.Disk.honest g.D.Disk.content d) (sym c.run-ended.ensures.given) was in
-    rw c.close-left.ensures.disk
+    rw c.close.ensures.disk
     (ended_all net version c.args.ledger.machine c.run-ended.new.self.ledger.machine c.args.commands.now c.run-ended.new.self.outcomes.items c.run-ended.new.self.told
-    (g.D.Disk.content disk) (g.D.Disk.left disk) _ _ begun c.run-ended.ensures.steady (c.close-left.ensures.holds came)
-    (Ok tt) c.in-Ok-ended.ensures.come c.in-Ok-ended.ensures.calm c.in-Ok-ended.ensures.all c.in-Ok-ended.ensures.lines (g.met.D.Disk.leaves_content disk (c.close-left.ensures.honest came)))
+    (g.D.Disk.content disk) (g.D.Disk.left disk) _ _ begun c.run-ended.ensures.steady (c.close.ensures.holds came)
+    c.run-ended.result c.run-ended.ensures.come c.run-ended.ensures.calm c.run-ended.ensures.all c.run-ended.ensures.lines (g.met.D.Disk.leaves_content disk (c.close.ensures.honest came)))
 
-pub returns-in-Err-ended-clause-cut_off : goal.returns-in-Err-ended-clause-cut_off
-returns-in-Err-ended-clause-cut_off g c was net version begun =
+pub returns-clause-cut_off : goal.returns-clause-cut_off
+returns-clause-cut_off g c was net version begun =
     let disk = c.run-ended.new.self.ledger.disk in
     let came = subst (λ (d : g.row.D.Denot). CameTidy g.D.Disk.honest g.D.Disk.content d) (sym c.run-ended.ensures.given) was in
-    rw c.close-left.ensures.disk
+    rw c.close.ensures.disk
     (ended_some net version c.args.ledger.machine c.run-ended.new.self.ledger.machine c.args.commands.now c.run-ended.new.self.outcomes.items c.run-ended.new.self.told
-    (g.D.Disk.content disk) (g.D.Disk.left disk) _ _ begun c.run-ended.ensures.steady (c.close-left.ensures.holds came)
-    (Err c.in-Err-ended.failed) c.run-ended.ensures.some c.run-ended.ensures.waiting c.in-Err-ended.ensures.lines c.in-Err-ended.ensures.next)
+    (g.D.Disk.content disk) (g.D.Disk.left disk) _ _ begun c.run-ended.ensures.steady (c.close.ensures.holds came)
+    c.run-ended.result c.run-ended.ensures.some c.run-ended.ensures.waiting c.run-ended.ensures.lines c.run-ended.ensures.next)
 
-pub returns-in-Ok-ended-clause-told : goal.returns-in-Ok-ended-clause-told
-returns-in-Ok-ended-clause-told g c net version begun =
+pub returns-clause-told : goal.returns-clause-told
+returns-clause-told g c net version begun =
     told_all net version c.args.ledger.machine c.run-ended.new.self.ledger.machine c.args.commands.now c.run-ended.new.self.outcomes.items c.run-ended.new.self.told _ _ begun
-    (Ok tt) c.in-Ok-ended.ensures.come c.in-Ok-ended.ensures.all c.in-Ok-ended.ensures.lines
+    c.run-ended.result c.run-ended.ensures.come c.run-ended.ensures.all c.run-ended.ensures.lines
 
-pub returns-in-Ok-ended-clause-any_moment : goal.returns-in-Ok-ended-clause-any_moment
-returns-in-Ok-ended-clause-any_moment g c was net version begun =
-    rw c.close-left.ensures.disk
-    (adds_weaker g.D.Disk.moment g.D.Disk.left_since c.args.ledger.disk c.run-ended.new.self.ledger.disk (StandsIn c.run-ended.new.self.ledger.machine) (StandsAmong net version c.args.commands.now)
-    (among net version c.args.commands.now c.run-ended.new.self.outcomes.items c.run-ended.new.self.told c.run-ended.new.self.ledger.machine (c.run-ended.ensures.some net version begun))
-    (c.run-ended.ensures.leaves was))
-
-pub returns-in-Err-ended-clause-any_moment : goal.returns-in-Err-ended-clause-any_moment
-returns-in-Err-ended-clause-any_moment g c was net version begun =
-    rw c.close-left.ensures.disk
+pub returns-clause-any_moment : goal.returns-clause-any_moment
+returns-clause-any_moment g c was net version begun =
+    rw c.close.ensures.disk
     (adds_weaker g.D.Disk.moment g.D.Disk.left_since c.args.ledger.disk c.run-ended.new.self.ledger.disk (StandsIn c.run-ended.new.self.ledger.machine) (StandsAmong net version c.args.commands.now)
     (among net version c.args.commands.now c.run-ended.new.self.outcomes.items c.run-ended.new.self.told c.run-ended.new.self.ledger.machine (c.run-ended.ensures.some net version begun))
     (c.run-ended.ensures.leaves was))

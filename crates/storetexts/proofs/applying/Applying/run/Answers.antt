@@ -3,18 +3,18 @@ use Rattle.storetexts.proofs.Meanwhile.{leaves_both}
 use Rattle.storetexts.proofs.Remaining.{on_ok_any, on_ok_too}
 use Rattle.storetexts.proofs.applying.Applying.run.Goals as goal
 
-pub returns-in-Ok-clause-some : goal.returns-in-Ok-clause-some
-returns-in-Ok-clause-some g c net version have =
-    let some = c.in-Ok.ensures.some net version have in
+pub returns-clause-some : goal.returns-clause-some
+returns-clause-some g c net version have =
+    let some = c.in_ok-take_all.ensures.some net version have in
     record { taken = some.taken; come = c.settle.ensures.come net version (take some.taken c.args.commands.now) some.come }
 
-pub returns-in-Ok-clause-come : goal.returns-in-Ok-clause-come
-returns-in-Ok-clause-come g c = on_ok_any c.settle.result _ (λ net version have. c.settle.ensures.come net version c.args.commands.now (c.in-Ok.ensures.come net version have))
+pub returns-clause-come : goal.returns-clause-come
+returns-clause-come g c = on_ok_any c.settle.result _ (λ net version have. c.settle.ensures.come net version c.args.commands.now (c.in_ok-take_all.ensures.come net version have))
 
-pub returns-in-Ok-clause-all : goal.returns-in-Ok-clause-all
-returns-in-Ok-clause-all g c = on_ok_too c.settle.result _ _ c.settle.ensures.all (λ all net version have. all net version c.args.commands.now (c.in-Ok.ensures.come net version have))
+pub returns-clause-all : goal.returns-clause-all
+returns-clause-all g c = on_ok_too c.settle.result _ _ c.settle.ensures.all (λ all net version have. all net version c.args.commands.now (c.in_ok-take_all.ensures.come net version have))
 
-pub returns-in-Ok-clause-leaves : goal.returns-in-Ok-clause-leaves
-returns-in-Ok-clause-leaves g c =
+pub returns-clause-leaves : goal.returns-clause-leaves
+returns-clause-leaves g c =
     leaves_both g.D.Disk.honest g.D.Disk.content g.D.Disk.moment g.D.Disk.left_since c.args.self.now.ledger c.take_all.new.self.ledger c.settle.new.self.ledger c.take_all.ensures.given c.settle.ensures.grows
     c.take_all.ensures.leaves c.settle.ensures.leaves

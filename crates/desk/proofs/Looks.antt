@@ -1,6 +1,6 @@
 -- Views of one desk.
 use Rattle.std.proofs.Common.{◌≡◌, ◌∙◌, ℕ, List, length, Option, Some, sym, ap, subst, arith, [], Contains}
-use Rattle.std.specs.Prelude.{unwrap_or, Result, Ok, Err, IfOk}
+use Rattle.std.specs.Prelude.{unwrap_or}
 use mathlib.Core.List.{IsPrefix}
 use Rattle.roadnet.specs.declared.commands.Command.{Command}
 use Rattle.roadnet.specs.Net.{Net}
@@ -29,11 +29,6 @@ still_seen known now view same begins has = record {
   begins = prefix_trans has.seen known.commands now.commands has.begins begins;
   after_seen = subst (λ (o : Origin). IsViewAfter o has.seen view) (sym same) has.after_seen;
 }
-
--- what holds of an answer holds of it in another form
-pub ok_map : {X E : Type 0} (answer : Result X E) (P Q : X → Type 0) → ((x : X) → P x → Q x) → IfOk answer P → IfOk answer Q
-ok_map (Ok x) P Q turn holds = turn x holds
-ok_map (Err e) P Q turn holds = tt
 
 -- a cache that keeps nothing keeps rows of any network
 pub none_kept : (version : ℕ) (net : Net) (cache : RowCache) → rows_of cache ≡ [] → HasRowsOf version net cache

@@ -1,10 +1,10 @@
 -- What the threads of a desk are to do, and who has to wait, by the machine's numbers.
-use Rattle.std.specs.Prelude.{◌≡◌, ◌≢◌, ◌⊎◌, ℕ, ◌*◌, ◌+◌, Bool, true, false, ◌&&◌, not, if◌then◌else◌, nat_le, nat_lt, ◌==◌, min, Err}
+use Rattle.std.specs.Prelude.{◌≡◌, ◌≢◌, ◌⊎◌, ℕ, List, ◌*◌, ◌+◌, Bool, true, false, ◌&&◌, not, if◌then◌else◌, nat_le, nat_lt, ◌==◌, min, Err}
 use Rattle.roadnet.specs.declared.commands.Command.{Command}
 use Rattle.roadnet.specs.declared.refusals.Refusal.{Refusal}
 use Rattle.roadnet.specs.declared.refusals.Refusal.TheVariants.{OutOfMemory, Device, Broken, Closed}
 use Rattle.history.specs.Origins.{Origin}
-use Rattle.machine.specs.Machine.{Machine, pending}
+use Rattle.machine.specs.Machine.{Machine, pending, commands_to}
 use Rattle.machine.specs.Calls.{Submits}
 use Rattle.office.specs.Offices.{RunsFrom}
 use Rattle.desk.specs.declared.attempts.Attempt.{Attempt}
@@ -66,6 +66,10 @@ is_unseen m builder_ended number = nat_lt m.shown number && (not (is_lost m numb
 -- for what one who waited is refused: the store broke, or the thread that was waited for has ended
 abbrev pub IsUnserved : Refusal → Type 0
 IsUnserved refusal = (refusal ≡ Broken) ⊎ (refusal ≡ Closed)
+
+-- A state in the desk's run shows the version after these commands.
+abbrev pub WereShown : Origin → List Command → Type 0
+WereShown origin commands = (m : Machine) × RunsFrom origin m × (commands ≡ commands_to m m.shown)
 
 -- for what a command is refused: the desk is halted, or else a state in the desk's run refuses this command so
 abbrev pub IsUntaken : Origin → Command → Refusal → Type 0

@@ -1,13 +1,14 @@
-ghost use Rattle.std.specs.Prelude.{◌≡◌, ◌≤◌, ℕ, true, List, IfOk, IfErr};
+ghost use Rattle.std.specs.Prelude.{◌≡◌, ◌≤◌, true, IfOk, IfErr};
 ghost use Rattle.std.specs.Option.{ForSome};
 ghost use Rattle.roadnet.specs.declared.refusals.Refusal.TheVariants.{Closed as closed};
 ghost use Rattle.rows.specs.Kept.{IsWidth};
 ghost use Rattle.store.specs.State.{CameTidy, is_calm};
 ghost use Rattle.machine.specs.Laws.{IsAt};
 ghost use Rattle.office.specs.Left.{KeepsDesk};
+ghost use Rattle.disk.specs.Contents.{AreAmong};
 ghost use Rattle.desk.specs.Openings.{IsNewDesk, IsUnstarted};
-ghost use Rattle.desk.specs.Readings.{IsNoReader};
-ghost use Rattle.desk.specs.Turns.{IsUnserved, IsUntaken};
+ghost use Rattle.desk.specs.Readings.{IsNoReader, IsViewAfter};
+ghost use Rattle.desk.specs.Turns.{IsUnserved, IsUntaken, WereShown};
 
 use crate::building::build_views;
 use crate::flushing::flush_pending;
@@ -145,16 +146,19 @@ impl<
         requires { ticket.now.origin ≡ N.origin }
         ensures origin { IfOk result (λ shown. shown.origin ≡ N.origin) }
         ensures there { IfOk result (λ shown. IsAt N.origin.version shown.commands ticket.now.ticket) }
+        ensures state { IfOk result (λ shown. WereShown N.origin shown.commands) }
         ensures causes { IfErr result IsUnserved }
     {
         self.handle.wait_shown(ticket)
     }
 
-    /// A reader of the views that are shown.
+    /// A reader of the views that are shown. It has looked once, and knows the commands after which it saw the view.
     ///
     /// Refused is a place for it that is not found (60): there are 64, and while readers come and go a free one may be missed. Then want of
     /// memory (11), and a copy that can't be entered (61), which doesn't come while there is the desk.
     pub fn reader(&self) -> Result<Reader<N>, Refusal>
+        ensures origin { IfOk result (λ reader. reader.known.origin ≡ N.origin) }
+        ensures view { IfOk result (λ reader. IsViewAfter N.origin reader.known.commands reader.view) }
         ensures causes { IfErr result IsNoReader }
     {
         self.handle.reader()
@@ -179,7 +183,7 @@ impl<
         ensures origin { IfOk result (λ closed. closed.whole.origin ≡ N.origin) }
         ensures causes { IfErr result (λ refusal. refusal ≡ closed) }
         // What a stop may leave of the disk stands for the network after a beginning of the history, with all that was acknowledged or shown.
-        ensures left { N.came_tidy → IfOk result (λ closed. (pages : ℕ) × ((c : List ℕ) → D.left closed.disk c → KeepsDesk closed.whole closed.shown pages c)) }
+        ensures left { N.came_tidy → IfOk result (λ closed. AreAmong (D.left closed.disk) (KeepsDesk closed.whole closed.shown closed.journal_pages)) }
     {
         let Desk { handle, threads } = self;
         handle.close(threads)

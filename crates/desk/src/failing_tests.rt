@@ -91,6 +91,7 @@ fn left_of<
         history,
         shown: _,
         disk,
+        journal_pages: _,
         whole: _,
     } = closed;
     Ok(Left {

@@ -1,10 +1,11 @@
 // What the callers of a desk share.
-ghost use Rattle.std.specs.Prelude.{◌≡◌, ℕ, List, IfOk, IfErr};
+ghost use Rattle.std.specs.Prelude.{◌≡◌, IfOk, IfErr};
 ghost use Rattle.roadnet.specs.declared.refusals.Refusal.TheVariants.{Closed as closed};
 ghost use Rattle.machine.specs.Laws.{IsAt};
 ghost use Rattle.office.specs.Left.{KeepsDesk};
-ghost use Rattle.desk.specs.Readings.{IsNoReader};
-ghost use Rattle.desk.specs.Turns.{IsUnserved, IsUntaken};
+ghost use Rattle.disk.specs.Contents.{AreAmong};
+ghost use Rattle.desk.specs.Readings.{IsNoReader, IsViewAfter};
+ghost use Rattle.desk.specs.Turns.{IsUnserved, IsUntaken, WereShown};
 
 use crate::gates::Gate;
 use crate::readers::Reader;
@@ -57,16 +58,19 @@ impl<N: Naming, D: Disk + Drop, G: Gate + Drop, R: Wait + Copy> Handle<N, D, G, 
         requires { ticket.now.origin ≡ N.origin }
         ensures origin { IfOk result (λ shown. shown.origin ≡ N.origin) }
         ensures there { IfOk result (λ shown. IsAt N.origin.version shown.commands ticket.now.ticket) }
+        ensures state { IfOk result (λ shown. WereShown N.origin shown.commands) }
         ensures causes { IfErr result IsUnserved }
     {
         self.shared.wait_shown(&self.rt, ticket)
     }
 
-    /// A reader of the views that are shown.
+    /// A reader of the views that are shown. It has looked once, and knows the commands after which it saw the view.
     ///
     /// Refused is a place for it that is not found (60): there are 64, and while readers come and go a free one may be missed. Then want of
     /// memory (11), and a copy that can't be entered (61), which doesn't come while there is the desk.
     pub fn reader(&self) -> Result<Reader<N>, Refusal>
+        ensures origin { IfOk result (λ reader. reader.known.origin ≡ N.origin) }
+        ensures view { IfOk result (λ reader. IsViewAfter N.origin reader.known.commands reader.view) }
         ensures causes { IfErr result IsNoReader }
     {
         let reader = self.shared.reader(&self.rt)?;
@@ -88,7 +92,7 @@ impl<N: Naming, D: Disk + Drop, G: Gate + Drop, R: Threads + Wait + Copy> Handle
         ensures origin { IfOk result (λ closed. closed.whole.origin ≡ N.origin) }
         ensures causes { IfErr result (λ refusal. refusal ≡ closed) }
         // What a stop may leave of the disk stands for the network after a beginning of the history, with all that was acknowledged or shown.
-        ensures left { N.came_tidy → IfOk result (λ closed. (pages : ℕ) × ((c : List ℕ) → D.left closed.disk c → KeepsDesk closed.whole closed.shown pages c)) }
+        ensures left { N.came_tidy → IfOk result (λ closed. AreAmong (D.left closed.disk) (KeepsDesk closed.whole closed.shown closed.journal_pages)) }
     {
         let Handle {
             rt,

@@ -2,7 +2,7 @@
 ghost use Rattle.std.specs.Prelude.{◌≡◌, ◌≢◌, ◌≤◌, ◌<◌, ◌*◌, false, true, IfOk, IfErr, OnOk};
 ghost use Rattle.roadnet.specs.declared.refusals.Refusal.TheVariants.{Closed as closed, Broken as broken};
 ghost use Rattle.machine.specs.Laws.{IsAt};
-ghost use Rattle.desk.specs.Turns.{is_checkpoint_due, flusher_turn_of, builder_turn_of, is_unsettled, is_lost, is_unseen, IsUnserved};
+ghost use Rattle.desk.specs.Turns.{is_checkpoint_due, flusher_turn_of, builder_turn_of, is_unsettled, is_lost, is_unseen, IsUnserved, WereShown};
 
 use disk::Disk;
 use office::{Naming, Office, Receipt, Ticket};
@@ -149,11 +149,13 @@ impl<N: Naming, D: Disk> Locked<Office<N, D>> {
         requires { ticket.now.origin ≡ N.origin }
         ensures origin { IfOk result (λ shown. shown.origin ≡ N.origin) }
         ensures there { IfOk result (λ shown. IsAt N.origin.version shown.commands ticket.now.ticket) }
+        ensures state { IfOk result (λ shown. WereShown N.origin shown.commands) }
         ensures refused { IfErr result (λ _. self.now.office.machine.shown < ticket.now.ticket.number) }
         ensures lost { IfErr result (λ refusal. refusal ≢ closed → (refusal ≡ broken) × (is_lost self.now.office.machine ticket.now.ticket.number ≡ true)) }
         ensures causes { IfErr result IsUnserved }
         ensures ended { IfErr result (λ refusal. refusal ≡ closed → is_lost self.now.office.machine ticket.now.ticket.number ≡ false) }
     {
+        let _ = self.office.durable();
         match self.office.shown_since(ticket) {
             Some(shown) => Ok(shown),
             None => {

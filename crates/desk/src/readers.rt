@@ -4,7 +4,7 @@ ghost use Rattle.rows.specs.declared.queries.Query.TheVariants.{Dist};
 ghost use Rattle.rows.specs.Replies.{refusal_of, IsRight};
 ghost use Rattle.rows.specs.Views.{AreRight};
 ghost use Rattle.published.specs.Showing.{IsUnseen};
-ghost use Rattle.desk.specs.Readings.{Reading, IsViewAfter};
+ghost use Rattle.desk.specs.Readings.{Reading, IsViewAfter, HasSeen};
 
 use crate::pins::Pinned;
 use crate::sights::Sight;
@@ -43,6 +43,8 @@ impl<N: Naming> Reader<N> {
     /// A reader that looks for the first time.
     pub(crate) fn new(alloc: Global, mut reader: published::Reader) -> Result<Reader<N>, Refusal>
         requires { reader.origin ≡ N.origin }
+        ensures origin { IfOk result (λ made. made.known.origin ≡ N.origin) }
+        ensures view { IfOk result (λ made. IsViewAfter N.origin made.known.commands made.view) }
         ensures causes { IfErr result IsUnseen }
     {
         let view = reader.look()?;
@@ -68,11 +70,14 @@ impl<N: Naming> Reader<N> {
         Ok(())
     }
 
-    /// The view that it looked at last, for queries.
+    /// The view that it looked at last, for queries. It is of the desk's network after commands with which those begin that the reader knows.
     pub fn pinned(&mut self) -> Pinned<'_, N>
         ensures reader { result.reader.now ≡ self.old }
+        ensures origin { result.reader.now.known.origin ≡ N.origin }
+        ensures seen { HasSeen result.reader.now }
         ensures same { result.reader.ghost_name ≡ self.entry.ghost_name }
     {
+        let _ = self.sight.version();
         Pinned::new(self)
     }
 

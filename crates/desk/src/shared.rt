@@ -2,7 +2,7 @@
 ghost use Rattle.std.specs.Prelude.{◌≡◌, IfOk, IfErr};
 ghost use Rattle.roadnet.specs.declared.refusals.Refusal.TheVariants.{NoReaderPlace as no_reader_place};
 ghost use Rattle.machine.specs.Laws.{IsAt};
-ghost use Rattle.desk.specs.Turns.{IsUnserved, IsUntaken};
+ghost use Rattle.desk.specs.Turns.{IsUnserved, IsUntaken, WereShown};
 
 use crate::gates::Gate;
 use crate::locked::{BuilderTurn, FlusherTurn, Locked};
@@ -94,6 +94,7 @@ impl<N: Naming, D: Disk + Drop, G: Gate + Drop> Shared<Office<N, D>, G> {
         requires { ticket.now.origin ≡ N.origin }
         ensures origin { IfOk result (λ shown. shown.origin ≡ N.origin) }
         ensures there { IfOk result (λ shown. IsAt N.origin.version shown.commands ticket.now.ticket) }
+        ensures state { IfOk result (λ shown. WereShown N.origin shown.commands) }
         ensures causes { IfErr result IsUnserved }
     {
         let number = ticket.ticket().number;

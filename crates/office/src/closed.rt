@@ -17,13 +17,15 @@ use published::{Reader, Shown};
 use roadnet::{Command, Refusal};
 use std::sync::Wait;
 
-/// What is left of a desk: the commands that it accepted, in order, what was shown last, and the disk. What was shown last is a beginning of
-/// the history.
+/// What is left of a desk: the commands that it accepted, in order, what was shown last, and the disk, whose journal has so many pages. What
+/// was shown last is a beginning of the history.
 #[derive(Drop)]
 pub struct Closed<D: Disk> {
     pub history: Vec<Command>,
     pub shown: Shown,
     pub disk: D,
+    /// How many pages the journal on the disk has.
+    pub journal_pages: u32,
     /// The history as tokens are compared with it.
     pub whole: Whole,
     ghost listed: { whole.commands ≡ history.items },
@@ -44,11 +46,13 @@ impl<N: Naming, D: Disk> Office<N, D> {
         ensures shown { IfOk result (λ closed. closed.shown.commands ≡ commands_to self.machine self.machine.shown) }
         ensures acknowledged { IfOk result (λ closed. closed.whole.acknowledged ≤ self.machine.durable) }
         ensures disk { IfOk result (λ closed. closed.disk ≡ self.disk) }
+        ensures pages { IfOk result (λ closed. closed.journal_pages ≡ self.machine.sizes.journal_pages) }
         ensures causes { IfErr result (λ refusal. refusal ≡ history_closed) }
         // What a stop may leave of the disk stands for the network after a beginning of the history, with all that was acknowledged or shown.
-        ensures left { N.came_tidy → IfOk result (λ closed. AreAmong (D.left closed.disk) (KeepsDesk closed.whole closed.shown self.machine.sizes.journal_pages)) }
+        ensures left { N.came_tidy → IfOk result (λ closed. AreAmong (D.left closed.disk) (KeepsDesk closed.whole closed.shown closed.journal_pages)) }
     {
         let _ = self.keeper.opened();
+        let journal_pages = self.keeper.journal_pages();
         let Office {
             keeper,
             history,
@@ -65,6 +69,7 @@ impl<N: Naming, D: Disk> Office<N, D> {
             history,
             shown,
             disk,
+            journal_pages,
             whole,
         })
     }

@@ -383,6 +383,7 @@ pub(crate) fn left_by(alloc: Global, closed: Closed<MemDisk>) -> Result<(u64, u6
         history,
         shown: _,
         disk,
+        journal_pages: _,
         whole: _,
     } = closed;
     match open(alloc, disk) {

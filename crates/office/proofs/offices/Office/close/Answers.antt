@@ -1,6 +1,5 @@
-use Rattle.std.proofs.Common.{◌≡◌, sym, subst}
+use Rattle.std.proofs.Common.{◌≡◌, ℕ, sym, subst}
 use Rattle.history.specs.Origins.{Beginning}
-use Rattle.keeper.specs.Keeping.{Keeping}
 use Rattle.office.specs.Left.{KeepsDesk}
 use Rattle.office.proofs.Kept.{keeps}
 use Rattle.office.proofs.offices.Office.close.Goals as goal
@@ -12,6 +11,6 @@ returns-clause-left g c came content was =
     let held = c.close-history.ensures.holds (c.self.invariant.1 came) in
     let kept : KeepsDesk c.self.inside.history c.self.inside.publisher.shown keeper.machine.sizes.journal_pages content = keeps _ _ _ _ _ c.self.invariant.0 c.opened.ensures.state content (held.each_left content here) in
     let whole : c.in-Some.whole ≡ c.self.inside.history = c.in-Some.ensures in
-    subst (λ (k : Keeping g.row.D.Denot). KeepsDesk c.in-Some.whole c.tell-shown.result k.machine.sizes.journal_pages content) c.self.view_is
+    subst (λ (n : ℕ). KeepsDesk c.in-Some.whole c.tell-shown.result n content) (sym c.journal_pages-journal_pages.ensures)
     (subst (λ (b : Beginning). KeepsDesk b c.tell-shown.result keeper.machine.sizes.journal_pages content) (sym whole)
     (subst (λ (b : Beginning). KeepsDesk c.self.inside.history b keeper.machine.sizes.journal_pages content) (sym c.tell-shown.ensures) kept))

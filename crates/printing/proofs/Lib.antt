@@ -1,1 +1,2 @@
 pub mod ReplyLines
+pub mod ReadTexts

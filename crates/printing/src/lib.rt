@@ -10,7 +10,7 @@ mod writer;
 
 pub use done::Done;
 pub use failed::{Failed, FaultLine, fault_line, of_text, status};
-pub use printed::{put_answer, put_lines, put_number, put_refusal, put_version};
+pub use printed::{put_answer, put_lines, put_number, put_numbered, put_refusal, put_version};
 pub use replied::{put_replies, put_reply};
 pub use writer::CountedWriter;
 

@@ -4,6 +4,7 @@ ghost use Rattle.std.specs.Io.KnownBytes.{Appends};
 ghost use lib.Chars.{codes};
 ghost use Rattle.printing.specs.Counting.{failed_writes, writer_of, IsSameWriter, CountsFailure};
 ghost use Rattle.printing.specs.Printed.{version_line, with_nodes, refusal_line, answer_line, lines_of};
+ghost use Rattle.printing.specs.Replied.{number_line};
 
 use crate::failed::Failed;
 use crate::writer::CountedWriter;
@@ -22,6 +23,22 @@ pub fn put_number<W: Write>(out: &mut CountedWriter<'_, W>, number: u64) -> Resu
     out.write_all(buffer.format(number).as_bytes())
 }
 
+/// A word with a blank behind it, and a number.
+pub fn put_numbered<W: Write>(
+    out: &mut CountedWriter<'_, W>,
+    word: &[u8],
+    number: u64,
+) -> Result<(), Failed>
+    ensures ok { OnOk result (Appends (W.contents (writer_of out.old)) (W.contents (writer_of out.new)) (number_line word.now number)) }
+    ensures refused { IfErr result (λ failed. failed ≡ Failed.Code Refusal.Write) }
+    ensures counts { CountsFailure (failed_writes out.old) (failed_writes out.new) result }
+    ensures same { IsSameWriter out.old out.new }
+{
+    out.write_all(word)?;
+    put_number(out, number)?;
+    out.write_all(b"\n")
+}
+
 /// `v V`
 pub fn put_version<W: Write>(out: &mut CountedWriter<'_, W>, version: u64) -> Result<(), Failed>
     ensures ok { OnOk result (Appends (W.contents (writer_of out.old)) (W.contents (writer_of out.new)) (version_line version)) }
@@ -29,9 +46,7 @@ pub fn put_version<W: Write>(out: &mut CountedWriter<'_, W>, version: u64) -> Re
     ensures counts { CountsFailure (failed_writes out.old) (failed_writes out.new) result }
     ensures same { IsSameWriter out.old out.new }
 {
-    out.write_all(b"v ")?;
-    put_number(out, version)?;
-    out.write_all(b"\n")
+    put_numbered(out, b"v ", version)
 }
 
 /// A letter with a blank behind it, and the two nodes of a query.
@@ -58,43 +73,24 @@ pub fn put_refusal<W: Write>(out: &mut CountedWriter<'_, W>, code: u8) -> Result
     ensures counts { CountsFailure (failed_writes out.old) (failed_writes out.new) result }
     ensures same { IsSameWriter out.old out.new }
 {
-    out.write_all(b"no ")?;
-    put_number(out, u64::from(code))?;
-    out.write_all(b"\n")
+    put_numbered(out, b"no ", u64::from(code))
 }
 
-/// `d S T L`
+/// The letter with its blank, the nodes and a length: `d S T L` or `b S T L`
+#[tactic(auto, using(crate::proofs::ReplyLines::line_end))]
 fn put_length<W: Write>(
     out: &mut CountedWriter<'_, W>,
+    letter: &[u8],
     query: &Query,
     length: u64,
 ) -> Result<(), Failed>
-    ensures ok { OnOk result (Appends (W.contents (writer_of out.old)) (W.contents (writer_of out.new)) (answer_line query.now (Reply.Length length))) }
+    ensures ok { OnOk result (Appends (W.contents (writer_of out.old)) (W.contents (writer_of out.new)) (with_nodes letter.now query.now ++ codes " " ++ decimal length ++ codes "\n")) }
     ensures refused { IfErr result (λ failed. failed ≡ Failed.Code Refusal.Write) }
     ensures counts { CountsFailure (failed_writes out.old) (failed_writes out.new) result }
     ensures same { IsSameWriter out.old out.new }
 {
-    put_nodes(out, b"d ", query)?;
-    out.write_all(b" ")?;
-    put_number(out, length)?;
-    out.write_all(b"\n")
-}
-
-/// `b S T L`
-fn put_bound<W: Write>(
-    out: &mut CountedWriter<'_, W>,
-    query: &Query,
-    bound: u64,
-) -> Result<(), Failed>
-    ensures ok { OnOk result (Appends (W.contents (writer_of out.old)) (W.contents (writer_of out.new)) (answer_line query.now (Reply.AtLeast bound))) }
-    ensures refused { IfErr result (λ failed. failed ≡ Failed.Code Refusal.Write) }
-    ensures counts { CountsFailure (failed_writes out.old) (failed_writes out.new) result }
-    ensures same { IsSameWriter out.old out.new }
-{
-    put_nodes(out, b"b ", query)?;
-    out.write_all(b" ")?;
-    put_number(out, bound)?;
-    out.write_all(b"\n")
+    put_nodes(out, letter, query)?;
+    put_numbered(out, b" ", length)
 }
 
 /// `x S T`
@@ -120,9 +116,9 @@ pub fn put_answer<W: Write>(
     ensures same { IsSameWriter out.old out.new }
 {
     match reply {
-        Reply::Length(length) => put_length(out, query, length),
+        Reply::Length(length) => put_length(out, b"d ", query, length),
         Reply::NoWalk => put_no_walk(out, query),
-        Reply::AtLeast(bound) => put_bound(out, query, bound),
+        Reply::AtLeast(bound) => put_length(out, b"b ", query, bound),
         Reply::Refused(refusal) => put_refusal(out, refusal.number()),
     }
 }

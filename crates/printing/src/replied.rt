@@ -2,30 +2,14 @@
 ghost use Rattle.std.specs.Prelude.{◌≡◌, OnOk, IfErr};
 ghost use Rattle.std.specs.Io.KnownBytes.{Appends};
 ghost use Rattle.printing.specs.Counting.{failed_writes, writer_of, IsSameWriter, CountsFailure};
-ghost use Rattle.printing.specs.Replied.{number_line, printed_reply, printed_replies};
+ghost use Rattle.printing.specs.Replied.{printed_reply, printed_replies};
 
 use crate::failed::Failed;
-use crate::printed::{put_lines, put_number, put_refusal, put_version};
+use crate::printed::{put_lines, put_numbered, put_refusal, put_version};
 use crate::writer::CountedWriter;
 use machine::Replied;
 use roadnet::Refusal;
 use std::io::Write;
-
-/// A word with a blank behind it, and a number.
-fn put_numbered<W: Write>(
-    out: &mut CountedWriter<'_, W>,
-    word: &[u8],
-    number: u64,
-) -> Result<(), Failed>
-    ensures ok { OnOk result (Appends (W.contents (writer_of out.old)) (W.contents (writer_of out.new)) (number_line word.now number)) }
-    ensures refused { IfErr result (λ failed. failed ≡ Failed.Code Refusal.Write) }
-    ensures counts { CountsFailure (failed_writes out.old) (failed_writes out.new) result }
-    ensures same { IsSameWriter out.old out.new }
-{
-    out.write_all(word)?;
-    put_number(out, number)?;
-    out.write_all(b"\n")
-}
 
 /// `stopped` and `v V`
 fn put_opened<W: Write>(out: &mut CountedWriter<'_, W>, version: u64) -> Result<(), Failed>

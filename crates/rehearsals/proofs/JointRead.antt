@@ -1,12 +1,19 @@
--- A text without a line `run` has no script.
-use Rattle.std.proofs.Common.{◌≡◌, ◌∙◌, ℕ, Bool, true, false, ◌||◌, List, [], ◌∷◌, Option, None, Some, Ok, IfSome, refl, sym, true≢false}
+-- A joint text that was read. Without a line `run` it has no script.
+use Rattle.std.proofs.Common.{◌≡◌, ◌∙◌, ℕ, Bool, true, false, ◌||◌, List, [], ◌∷◌, Option, None, Some, Result, Ok, Err, IfSome, refl, sym, subst, true≢false}
 use Rattle.roadnet.specs.Net.{Net}
+use Rattle.dimacs.specs.declared.fault.Fault.{Fault}
 use Rattle.dimacs.specs.Faults.{Row}
 use Rattle.dimacs.specs.Joint.{is_run, after_run, has_run}
 use Rattle.dimacs.specs.Lines.{rows}
 use Rattle.dimacs.specs.Gr.{ReadsUntil}
+use Rattle.dimacs.specs.Texts.{Reads, map_ok}
+use Rattle.scripts.specs.ScriptTexts.{ScriptLine, script_text}
+use Rattle.printing.specs.Failing.{told_of}
+use Rattle.printing.specs.declared.failed.Failed.{Failed}
+use Rattle.printing.specs.declared.failed.Failed.TheVariants.{Text}
+use Rattle.printing.proofs.ReadTexts.{value_read}
 use Rattle.rehearsals.specs.declared.joint.Joint.{Joint}
-use Rattle.rehearsals.specs.Joint.{Says}
+use Rattle.rehearsals.specs.Joint.{Says, IsTextRefused, ReadsJoint}
 
 run_here : (b c : Bool) → b ≡ true → (b || c) ≡ true
 run_here b c e = rw e refl
@@ -27,3 +34,18 @@ says_network text left found joint network none same empty =
 pub says_no_events : (known left : Option (List ℕ)) (found : Net × Bool) (joint : Joint) → IfSome known (λ text. ReadsUntil true text left (Ok found)) → found.1 ≡ false → joint.network ≡ found.0 → joint.events.items ≡ [] → IfSome known (λ text. Says text joint)
 says_no_events None left found joint network none same empty = tt
 says_no_events (Some text) left found joint network none same empty = says_network text left found joint network none same empty
+
+-- the network of lines that were read
+pub network_read : (known left : Option (List ℕ)) (r : Result (Net × Bool) Fault) (found : Net × Bool) → ◌≡◌ {A = Result (Net × Bool) Failed} (Ok found) (told_of 0 r) → IfSome known (λ text. ReadsUntil true text left r) → IfSome known (λ text. ReadsUntil true text left (Ok found))
+network_read known left r found is said = value_read 0 r found is (λ answer. IfSome known (λ text. ReadsUntil true text left answer)) said
+
+-- the script behind them has a fault
+pub script_refused : {Y : Type 0} (known mid left : Option (List ℕ)) (found : Net × Bool) (items : Y → List ScriptLine) (r : Result Y Fault) (failed : Failed) → ◌≡◌ {A = Result Y Failed} (Err failed) (told_of 1 r)
+    → IfSome known (λ text. ReadsUntil true text mid (Ok found)) → IfSome mid (λ script. Reads script_text script left (map_ok items r)) → IfSome known (λ text. ReadsJoint text left (Err failed))
+script_refused None mid left found items r failed is network script = tt
+script_refused (Some text) mid left found items (Ok y) failed is network script = absurd cc
+script_refused (Some text) None left found items (Err fault) failed is network script = absurd network.rest
+script_refused (Some text) (Some rest) left found items (Err fault) failed is network script =
+    let same : failed ≡ Text 1 fault = cc in
+    let told : IsTextRefused 1 text left fault = record { net = found.0; network_is = network.network; told = record { script = rest; script_is = network.rest; told = script } } in
+    subst (λ (f : Failed). ReadsJoint text left (Err f)) (sym same) told

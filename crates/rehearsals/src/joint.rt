@@ -42,15 +42,7 @@ fn read_joint<R: BufRead>(alloc: Global, reader: &mut Counted<'_, R>) -> Result<
     ensures counts { CountsReads (failed_calls reader.old) (failed_calls reader.new) result }
     ensures same { IsSameReader reader.old reader.new }
 {
-    let (network, at_run) = match read_gr_before_run(alloc, reader) {
-        Ok(found) => found,
-        Err(fault) => {
-            return Err(Failed::Text {
-                which: NETWORK,
-                fault,
-            });
-        }
-    };
+    let (network, at_run) = of_text(NETWORK, read_gr_before_run(alloc, reader))?;
     if !at_run {
         let events = Vec::new(alloc);
         return Ok(Joint { network, events });

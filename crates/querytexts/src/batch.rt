@@ -1,10 +1,9 @@
 //! The pairs of a text.
-ghost use Rattle.std.specs.Prelude.{◌≡◌, ℕ, length, OnOk, IfOk, IfErr, IfSome};
+ghost use Rattle.std.specs.Prelude.{◌≡◌, length, OnOk, IfOk, IfErr, IfSome};
 ghost use Rattle.std.specs.Option.{ForSome};
 ghost use Rattle.rows.specs.Kept.{AreOf, IsWidth, given_width};
 ghost use Rattle.rows.specs.Replies.{IsRight};
 ghost use Rattle.std.specs.Io.KnownBytes.{Appends};
-ghost use Rattle.roadnet.specs.Net.{IsNetwork};
 ghost use Rattle.dimacs.specs.Texts.{InMemory, OfReader};
 ghost use Rattle.dimacs.specs.Counts.{failed_calls, reader_of, IsSameReader};
 ghost use Rattle.printing.specs.Counting.{failed_writes, writer_of, IsSameWriter, CountsFailure};

@@ -6,11 +6,7 @@ use Rattle.printing.specs.Failing.{told_of}
 use Rattle.printing.specs.declared.failed.Failed.{Failed}
 use Rattle.printing.specs.declared.failed.Failed.TheVariants.{Text}
 
--- what holds of the answer holds of its value, and of a fault
-pub value_of : {X Y : Type 0} (items : Y → X) (which : ℕ) (r : Result Y Fault) (y : Y) → ◌≡◌ {A = Result Y Failed} (Ok y) (told_of which r) → (K : Result X Fault → Type 0) → K (map_ok items r) → K (Ok (items y))
-value_of items which (Ok x) y is K said = let same : y ≡ x = cc in subst (λ v. K (Ok (items v))) (sym same) said
-value_of items which (Err fault) y is K said = absurd cc
-
+-- what holds of the answer holds of a fault
 pub fault_of : {X Y : Type 0} (items : Y → X) (which : ℕ) (r : Result Y Fault) (failed : Failed) → ◌≡◌ {A = Result Y Failed} (Err failed) (told_of which r) → (K : Result X Fault → Type 0) → K (map_ok items r)
     → (P : Failed → Type 0) → ((fault : Fault) → K (Err fault) → P (Text which fault)) → P failed
 fault_of items which (Ok x) failed is K said P f = absurd cc

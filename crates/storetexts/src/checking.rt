@@ -4,33 +4,16 @@ ghost use Rattle.std.specs.Io.KnownBytes.{Appends};
 ghost use Rattle.disk.specs.Moments.{StaysSame};
 ghost use Rattle.printing.specs.Counting.{failed_writes, writer_of, IsSameWriter, CountsFailure};
 ghost use Rattle.printing.specs.Failing.{CountsWrites, LeavesUnwritten};
-ghost use Rattle.printing.specs.Replied.{number_line};
 ghost use Rattle.storetexts.specs.Checked.{slot_line, standing_lines, IsChecked, IsRefusedCheck};
 ghost use Rattle.storetexts.specs.Refused.{CountsDevice};
 
 use disk::Disk;
 use pages::Slot;
-use printing::{CountedWriter, Failed, put_number, put_version};
+use printing::{CountedWriter, Failed, put_numbered, put_version};
 use roadnet::Refusal;
 use std::alloc::Global;
 use std::io::Write;
 use store::{Standing, inspect};
-
-/// A word with a blank behind it, and a number.
-fn put_numbered<W: Write>(
-    out: &mut CountedWriter<'_, W>,
-    word: &[u8],
-    number: u64,
-) -> Result<(), Failed>
-    ensures ok { OnOk result (Appends (W.contents (writer_of out.old)) (W.contents (writer_of out.new)) (number_line word.now number)) }
-    ensures refused { IfErr result (λ failed. failed ≡ Failed.Code Refusal.Write) }
-    ensures counts { CountsFailure (failed_writes out.old) (failed_writes out.new) result }
-    ensures same { IsSameWriter out.old out.new }
-{
-    out.write_all(word)?;
-    put_number(out, number)?;
-    out.write_all(b"\n")
-}
 
 /// `slot A E` or `slot B E`
 fn put_slot<W: Write>(out: &mut CountedWriter<'_, W>, slot: Slot, epoch: u64) -> Result<(), Failed>

@@ -11,7 +11,8 @@ use Rattle.storetexts.proofs.Meanwhile.{counts_code, counts_from}
 use Rattle.storetexts.proofs.RefusedFirst.{text_or_file_refused, cut_off_later}
 use Rattle.storetexts.proofs.Remaining.{if_known, applied_known, cut_off_known}
 use Rattle.storetexts.proofs.TextApplied.{fault_known, told_known, nothing_since, known_since}
-use Rattle.storetexts.proofs.Read.{value_of, fault_of}
+use Rattle.printing.proofs.ReadTexts.{value_of}
+use Rattle.storetexts.proofs.Read.{fault_of}
 use Rattle.storetexts.proofs.applying.apply_counted.Goals as goal
 
 pub returns-in-Err-clause-cut_off : goal.returns-in-Err-clause-cut_off

@@ -9,7 +9,8 @@ use Rattle.storetexts.proofs.Meanwhile.{counts_code, counts_from}
 use Rattle.storetexts.proofs.RefusedFirst.{text_or_file_refused, cut_off_later}
 use Rattle.storetexts.proofs.Remaining.{applied_text, cut_off_text}
 use Rattle.storetexts.proofs.TextApplied.{fault_of as fault_of_commands, told_text, nothing_since, text_since}
-use Rattle.storetexts.proofs.Read.{value_of, fault_of}
+use Rattle.printing.proofs.ReadTexts.{value_of}
+use Rattle.storetexts.proofs.Read.{fault_of}
 use Rattle.storetexts.proofs.applying.apply_text.Goals as goal
 
 pub returns-in-Err-clause-any_moment : goal.returns-in-Err-clause-any_moment

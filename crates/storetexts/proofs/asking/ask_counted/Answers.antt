@@ -8,7 +8,8 @@ use Rattle.storetexts.specs.Asked.{IsRefusedAsk}
 use Rattle.storetexts.proofs.Judged.{opening_counts, opening_of_store, ask_refused_known}
 use Rattle.storetexts.proofs.Meanwhile.{counts_code}
 use Rattle.storetexts.proofs.Answered.{asked_of, fault_known, refused_known, kind_unanswered, counts_unanswered}
-use Rattle.storetexts.proofs.Read.{value_of, fault_of}
+use Rattle.printing.proofs.ReadTexts.{value_of}
+use Rattle.storetexts.proofs.Read.{fault_of}
 use Rattle.storetexts.proofs.asking.ask_counted.Goals as goal
 
 pub returns-in-Err-clause-writes : goal.returns-in-Err-clause-writes

@@ -7,7 +7,8 @@ use Rattle.storetexts.specs.Asked.{IsRefusedAsk}
 use Rattle.storetexts.proofs.Judged.{ask_refused}
 use Rattle.storetexts.proofs.Meanwhile.{counts_code}
 use Rattle.storetexts.proofs.Answered.{asked, fault_of as fault_of_pairs, refused_so, counts_unanswered}
-use Rattle.storetexts.proofs.Read.{value_of, fault_of}
+use Rattle.printing.proofs.ReadTexts.{value_of}
+use Rattle.storetexts.proofs.Read.{fault_of}
 use Rattle.storetexts.proofs.asking.ask_text.Goals as goal
 
 pub returns-in-Err-clause-refused : goal.returns-in-Err-clause-refused

@@ -86,10 +86,13 @@ impl<D: Disk> Store<D> {
         self.pages.calm()
     }
 
-    /// The disk, of which no call is made.
+    /// The disk, of which no call is made. Where the store came tidy, over a disk that keeps the disk model, and is not broken, its content
+    /// is all that a stop may leave, and stands for the store's network and version: opened, it gives both again.
     pub fn close(self) -> D
         ensures disk { result ≡ self.disk }
         ensures honest { CameTidy D.honest D.content self.given → D.honest result }
+        ensures only { D.honest result → self.broken ≡ false → Only (D.content result) (D.left result) }
+        ensures stands { CameTidy D.honest D.content self.given → self.broken ≡ false → IsDurable self (D.content result) }
     {
         self.pages.close()
     }

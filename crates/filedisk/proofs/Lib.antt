@@ -1,3 +1,4 @@
+pub mod MemDisks
 pub mod Pieces
 pub mod Steps
 pub mod Tearing

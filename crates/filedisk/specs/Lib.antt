@@ -1,4 +1,5 @@
 pub mod Files
+pub mod MemFiles
 pub mod Noted
 pub mod SystemFiles
 pub mod Whole

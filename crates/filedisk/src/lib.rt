@@ -2,6 +2,7 @@
 #![tactic(auto)]
 
 mod file_disk;
+mod mem_file;
 mod names;
 mod notes;
 mod opened;
@@ -11,6 +12,7 @@ mod system_file;
 mod whole;
 
 pub use file_disk::FileDisk;
+pub use mem_file::MemFile;
 pub use opened::{MadeFile, NewFile, OpenError, create_file, open_file, open_to_read};
 pub use raw_file::RawFile;
 pub use system_file::SystemFile;

@@ -179,7 +179,8 @@ fn sync_name<R: Files<File = File>>(
 
 /// Opens a file as `open_file`, and makes an empty one where there is none; a link that leads to no file yet is followed, and the file made
 /// where it leads. Then the file's name is durable: the file and its folder are synced, once it is known to be a file and locked. What the
-/// file has stays. After an `Err` a file that was made is removed again.
+/// file has stays. After an `Err` a file that was made is removed again, but where it could not be locked: it may be another's by then, so
+/// it stays, empty as it was made, and a later call takes it again.
 pub fn create_file<R: AllocGlobal + Files<File = File>>(
     rt: &R,
     path: &str,

@@ -16,7 +16,7 @@ pub(crate) struct NotedFile {
 }
 
 /// What a call answered that tells nothing.
-fn as_done<'a>(answer: &io::Result<()>) -> Answer<'a>
+pub(crate) fn as_done<'a>(answer: &io::Result<()>) -> Answer<'a>
     ensures { outcome_of result ≡ done answer.now }
 {
     match answer {

@@ -100,7 +100,8 @@ pub fn open_store_to_read<R: Files<File = File>>(
 }
 
 /// The file for a new store, which is made where there is none. It is refused as by `open_store`, with 43 where its name is not made
-/// durable, and with 11 where there is no memory for the name; after a refusal no file is there that was not there before.
+/// durable, and with 11 where there is no memory for the name; after a refusal no file is there that was not there before, but where its
+/// lock is refused: then an empty file may stay, which `create` takes again.
 pub fn create_store_file<R: AllocGlobal + Files<File = File>>(
     rt: &R,
     name: &str,

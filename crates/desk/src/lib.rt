@@ -35,4 +35,6 @@ mod failing_tests;
 #[cfg(test)]
 mod holding_tests;
 #[cfg(test)]
+mod limit_tests;
+#[cfg(test)]
 mod tests;

@@ -33,6 +33,8 @@ struct Signals {
     stepping: AtomicBool,
     /// What is held may go on.
     released: AtomicBool,
+    /// A row worker was called for another landmark than its own.
+    misplaced: AtomicBool,
     /// A holding ended by itself.
     expired: AtomicBool,
 }
@@ -45,6 +47,7 @@ impl Signals {
             second_called: AtomicBool::new(false),
             stepping: AtomicBool::new(false),
             released: AtomicBool::new(false),
+            misplaced: AtomicBool::new(false),
             expired: AtomicBool::new(false),
         }
     }
@@ -88,7 +91,10 @@ impl<R: Clock> Held<R> {
 }
 
 impl<R: Clock> Gate for Held<R> {
-    fn before_row(&self, worker: u32, _landmark: u32) {
+    fn before_row(&self, worker: u32, landmark: u32) {
+        if !matches!((worker, landmark), (1, 3) | (2, 6)) {
+            self.signals.misplaced.store(true, Ordering::SeqCst);
+        }
         self.meet(worker);
         self.hold(&self.signals.released);
     }
@@ -173,27 +179,26 @@ fn submit_and_watch<
     comes_to(rt, alloc, reader, version)
 }
 
-/// Versions come one after the other, without a call of the desk that asks for them.
+/// Whether the distance is 14 in each version: they come one after the other, without a call of the desk that asks for them.
 fn watch_on<
     N: Naming + Send + Sync + 'static,
     D: Disk + Drop + Send + 'static,
     G: Gate + Drop + Send + Sync + 'static,
     R: Threads + Wait + Clock + Copy + Send + Sync + 'static,
->(
-    rt: &R,
-    alloc: Global,
-    desk: &Desk<N, D, G, R>,
-    reader: &mut Reader<N>,
-) -> Result<Reply, Refusal> {
-    let mut last = comes_to(rt, alloc, reader, 2)?;
-    for version in 3..13u64 {
-        last = submit_and_watch(rt, alloc, desk, reader, version)?;
+>(rt: &R, alloc: Global, desk: &Desk<N, D, G, R>, reader: &mut Reader<N>) -> Result<bool, Refusal> {
+    if comes_to(rt, alloc, reader, 2)? != Reply::Length(14) {
+        return Ok(false);
     }
-    Ok(last)
+    for version in 3..13u64 {
+        if submit_and_watch(rt, alloc, desk, reader, version)? != Reply::Length(14) {
+            return Ok(false);
+        }
+    }
+    Ok(true)
 }
 
-/// What a reader sees while the rows are held, and the last distance that comes behind.
-type Watched = ((u64, Reply), Reply);
+/// What a reader sees while the rows are held, and whether the distance is 14 in each version that comes behind.
+type Watched = ((u64, Reply), bool);
 
 /// The reader sees the version before while the rows are held, and later ones when they are let go.
 fn watch_by<
@@ -210,8 +215,8 @@ fn watch_by<
 ) -> Result<Watched, Refusal> {
     let held = seen(rt, alloc, reader)?;
     signals.released.store(true, Ordering::SeqCst);
-    let last = watch_on(rt, alloc, desk, reader)?;
-    Ok((held, last))
+    let behind = watch_on(rt, alloc, desk, reader)?;
+    Ok((held, behind))
 }
 
 /// The same by a reader that came first.
@@ -260,7 +265,8 @@ fn views_come_unasked(rt: HostRuntime) -> Result<(), Fail> {
     let store = store_of_six(alloc, &[3, 6], 64)?;
     let history = History::new(store.network(), store.version());
     let told = watch_views::<Brand, _, _, _>(rt, alloc, history, store, &signals, gate)?;
-    assert_eq!(rt; told, (((0, Reply::Length(15)), Reply::Length(14)), 12));
+    assert_eq!(rt; told, (((0, Reply::Length(15)), true), 12));
+    assert!(rt; !signals.misplaced.load(Ordering::SeqCst));
     assert!(rt;
         !signals.expired.load(Ordering::SeqCst),
         "no holding ended by itself"

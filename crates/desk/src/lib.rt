@@ -35,4 +35,8 @@ mod failing_tests;
 #[cfg(test)]
 mod holding_tests;
 #[cfg(test)]
+mod keeping_tests;
+#[cfg(test)]
+mod limit_tests;
+#[cfg(test)]
 mod tests;

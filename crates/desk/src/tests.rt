@@ -441,35 +441,40 @@ pub(crate) fn short_gate(flushes: [bool; 3], tasks: [bool; 3], steps: [bool; 3])
     }
 }
 
-#[test]
-fn threads_try_again_twice(rt: HostRuntime) -> Result<(), Fail> {
-    let alloc = rt.alloc();
+/// What is answered of one command by a desk of a new store, whose flushes and tasks find memory as these flags say; and how many the desk
+/// had when it was closed.
+fn try_beside<R: Threads + Wait + Copy + Send + Sync + 'static>(
+    rt: R,
+    alloc: Global,
+    flushes: [bool; 3],
+    tasks: [bool; 3],
+) -> Result<(Told, usize), Refusal> {
     let store = store_of_six(alloc, &[3], 64)?;
     let history = History::new(store.network(), store.version());
-    let gate = short_gate([false, false, true], [false, false, true], [true; 3]);
-    let told = try_one::<Brand, _, _, _>(rt, alloc, history, store, gate)?;
-    assert_eq!(rt; told, ((Ok(1), Ok(())), 1));
+    let gate = short_gate(flushes, tasks, [true; 3]);
+    try_one::<Brand, _, _, _>(rt, alloc, history, store, gate)
+}
+
+#[test]
+fn threads_try_again(rt: HostRuntime) -> Result<(), Fail> {
+    let alloc = rt.alloc();
+    for flags in [[false, true, true], [false, false, true]] {
+        let told = try_beside(rt, alloc, flags, flags)?;
+        assert_eq!(rt; told, ((Ok(1), Ok(())), 1));
+    }
     Ok(())
 }
 
 #[test]
 fn flusher_ends_after_three_misses(rt: HostRuntime) -> Result<(), Fail> {
-    let alloc = rt.alloc();
-    let store = store_of_six(alloc, &[3], 64)?;
-    let history = History::new(store.network(), store.version());
-    let gate = short_gate([false; 3], [true; 3], [true; 3]);
-    let told = try_one::<Brand, _, _, _>(rt, alloc, history, store, gate)?;
+    let told = try_beside(rt, rt.alloc(), [false; 3], [true; 3])?;
     assert_eq!(rt; told, ((Err(Refusal::Closed), Err(Refusal::Closed)), 1));
     Ok(())
 }
 
 #[test]
 fn builder_ends_after_three_misses(rt: HostRuntime) -> Result<(), Fail> {
-    let alloc = rt.alloc();
-    let store = store_of_six(alloc, &[3], 64)?;
-    let history = History::new(store.network(), store.version());
-    let gate = short_gate([true; 3], [false; 3], [true; 3]);
-    let told = try_one::<Brand, _, _, _>(rt, alloc, history, store, gate)?;
+    let told = try_beside(rt, rt.alloc(), [true; 3], [false; 3])?;
     assert_eq!(rt; told, ((Ok(1), Err(Refusal::Closed)), 1));
     Ok(())
 }

@@ -1,4 +1,4 @@
-use Rattle.desk.proofs.tests.builder_ends_after_three_misses.Given as goal
+use Rattle.desk.proofs.tests.try_beside.Given as goal
 
 -- the desk of the store that was just made; nothing is claimed of its disk
 abbrev pub ghosts-try_one : goal.ghosts-try_one

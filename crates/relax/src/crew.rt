@@ -89,14 +89,20 @@ fn in_chunks<R: Threads + Sync>(
         .collect::<Result<Vec<Vec<(u32, u64)>>, OutOfMemory>>(rt, alloc)?
 }
 
-/// The lists one after another, with one copy of each request.
-fn joined(alloc: Global, lists: &[Vec<(u32, u64)>]) -> Result<Vec<(u32, u64)>, OutOfMemory>
-    ensures { IfOk result (λ list. list.items ≡ flat_map (λ list. list.items) lists.now) }
-{
+/// How many requests the lists have together, up to the greatest number there is.
+fn count_of(lists: &[Vec<(u32, u64)>]) -> usize {
     let mut count: usize = 0;
     for list in lists {
         count = count.saturating_add(list.len());
     }
+    count
+}
+
+/// The lists one after another, with one copy of each request.
+fn joined(alloc: Global, lists: &[Vec<(u32, u64)>]) -> Result<Vec<(u32, u64)>, OutOfMemory>
+    ensures { IfOk result (λ list. list.items ≡ flat_map (λ list. list.items) lists.now) }
+{
+    let count = count_of(lists);
     let mut all = Vec::with_capacity(alloc, count)?;
     for list in lists {
         all.extend_from_slice(list)?;

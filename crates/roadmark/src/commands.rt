@@ -81,6 +81,9 @@ const P2P_HELP: &str = "File of the pairs, a .p2p text";
 
 const STORE_HELP: &str = "File of the store";
 
+const UNUSED_DELTA: &str =
+    "Width of the search's buckets, 1 to 2147483647. Taken and not used: apply computes no row";
+
 /// An option `--delta D`.
 fn delta_option<'w>(alloc: Global) -> Arg<'w> {
     Arg::new(alloc, DELTA)
@@ -175,7 +178,7 @@ fn apply_command<'w>(alloc: Global) -> Result<Command<'w>, AllocError> {
         .after_help("Example: roadmark apply six.store examples/six.commands")
         .arg(required_word(alloc, STORE, STORE_HELP))?
         .arg(required_word(alloc, COMMANDS, "File of the commands"))?
-        .arg(delta_option(alloc))
+        .arg(delta_option(alloc).help(UNUSED_DELTA))
 }
 
 fn ask_command<'w>(alloc: Global) -> Result<Command<'w>, AllocError> {

@@ -1,15 +1,20 @@
 //! The session of the program, on standard input and output.
-ghost use Rattle.std.specs.Prelude.{◌≡◌, true, IfOk, OnOk};
+ghost use Rattle.std.specs.Prelude.{◌≡◌, ◌⊎◌, ◌↔◌, ℕ, true, List, IfOk, IfErr, IfSome};
 ghost use Rattle.std.specs.Option.{ForSome};
+ghost use Rattle.roadnet.specs.declared.refusals.Refusal.TheVariants.{Closed as closed};
 ghost use Rattle.rows.specs.Kept.{IsWidth};
-ghost use Rattle.dimacs.specs.Counts.{failed_calls};
-ghost use Rattle.printing.specs.Counting.{failed_writes};
-ghost use Rattle.store.specs.State.{CameTidy, is_calm};
-ghost use Rattle.desk.specs.Openings.{IsNewDesk};
+ghost use Rattle.dimacs.specs.Counts.{failed_calls, reader_of};
+ghost use Rattle.printing.specs.Counting.{failed_writes, writer_of};
+ghost use Rattle.printing.specs.Failing.{CountsWrites};
+ghost use Rattle.store.specs.State.{CameTidy, StandsAt, is_calm};
+ghost use Rattle.office.specs.Left.{KeepsDesk};
+ghost use Rattle.desk.specs.Openings.{IsNewDesk, IsUnstarted};
+ghost use Rattle.sessions.specs.Told.{CountsRead};
+ghost use Rattle.sessions.specs.Turns.{Serves};
 ghost use Rattle.roadmark.specs.Words.{IsWorkers};
 
 use crate::files::{BUFFER, buffered, open_store};
-use desk::{Desk, History, Naming, NoGate, Setup};
+use desk::{Closed, Desk, History, Naming, NoGate, Setup};
 use dimacs::Counted;
 use disk::Disk;
 use printing::{CountedWriter, Done, Failed};
@@ -24,7 +29,9 @@ use std::sync::Wait;
 use std::thread::Threads;
 use store::{Store, open};
 
-/// A session over an opened store. The desk is closed behind it, however it ended; what closing it was refused for is told first.
+/// A session over an opened store: what it came to, and what is left of its desk, which is closed behind it however it ended.
+///
+/// Refused is what no desk is started for: want of memory (11) and of threads (63). A desk that can't be closed (61) doesn't come.
 fn serve_store<
     N: Naming + Send + Sync + 'static,
     D: Disk + Drop + Send + 'static,
@@ -39,26 +46,59 @@ fn serve_store<
     setup: Setup,
     reader: &mut Counted<'_, I>,
     writer: &mut CountedWriter<'_, W>,
-) -> Result<(), Failed>
+) -> Result<(Result<(), Failed>, Closed<D>), Refusal>
     requires calm { is_calm store ≡ true }
     requires width { ForSome setup.delta IsWidth }
     requires workers { IsWorkers setup.workers }
     requires new { IsNewDesk N.origin history store }
-    requires came_tidy { N.came_tidy → CameTidy D.honest D.content store.given }
-    ensures reads { OnOk result (failed_calls reader.new ≡ failed_calls reader.old) }
-    ensures writes { OnOk result (failed_writes writer.new ≡ failed_writes writer.old) }
+    requires came_tidy { N.came_tidy ↔ CameTidy D.honest D.content store.given }
+    ensures answered { IfOk result (λ ended. IfSome (I.remaining (reader_of reader.old)) (λ text. Serves N.origin text (I.remaining (reader_of reader.new)) (W.contents (writer_of writer.old)) (W.contents (writer_of writer.new)) ended.0)) }
+    ensures reads { IfOk result (λ ended. CountsRead (failed_calls reader.old) (failed_calls reader.new) ended.0) }
+    ensures writes { IfOk result (λ ended. CountsWrites (failed_writes writer.old) (failed_writes writer.new) ended.0) }
+    ensures origin { IfOk result (λ ended. ended.1.whole.origin ≡ N.origin) }
+    // Where the store came tidy, what a stop may leave of the disk stands for the network after a beginning of the history, with all that was
+    // acknowledged or shown.
+    ensures left { CameTidy D.honest D.content store.given → IfOk result (λ ended. (pages : ℕ) × ((c : List ℕ) → D.left ended.1.disk c → KeepsDesk ended.1.whole ended.1.shown pages c)) }
+    ensures causes { IfErr result (λ refusal. IsUnstarted refusal ⊎ (refusal ≡ closed)) }
 {
-    let desk: Desk<N, D, NoGate, T> = match Desk::start(
-        threads, alloc, history, store, NoGate, setup,
-    ) {
-        Ok(desk) => desk,
-        Err(refusal) => return Err(Failed::Code(refusal)),
+    let desk: Desk<N, D, NoGate, T> = Desk::start(threads, alloc, history, store, NoGate, setup)?;
+    let outcome = serve(&threads, alloc, &desk, reader, writer);
+    let closed = desk.close()?;
+    Ok((outcome, closed))
+}
+
+/// A session over the store of a disk: what it came to, and what is left of its desk, which is closed behind it however it ended.
+///
+/// Refused is a store that can't be opened (11, 40 to 43), then what no desk is started for.
+fn serve_disk<
+    D: Disk + Drop + Send + 'static,
+    T: Threads + Wait + Copy + Send + Sync + 'static,
+    I: BufRead,
+    W: Write,
+>(
+    threads: T,
+    alloc: Global,
+    disk: D,
+    setup: Setup,
+    reader: &mut Counted<'_, I>,
+    writer: &mut CountedWriter<'_, W>,
+) -> Result<(Result<(), Failed>, Closed<D>), Refusal>
+    requires width { ForSome setup.delta IsWidth }
+    requires workers { IsWorkers setup.workers }
+    ensures reads { IfOk result (λ ended. CountsRead (failed_calls reader.old) (failed_calls reader.new) ended.0) }
+    ensures writes { IfOk result (λ ended. CountsWrites (failed_writes writer.old) (failed_writes writer.new) ended.0) }
+    // The history is of the network and version that the disk's content stood for.
+    ensures opened { D.honest disk → IfOk result (λ ended. StandsAt (D.content disk) ended.1.whole.origin.base ended.1.whole.origin.version) }
+    // Where that content was tidy, what a stop may leave of the closed disk stands for the network after a beginning of the history, with all
+    // that was acknowledged or shown.
+    ensures left { CameTidy D.honest D.content disk → IfOk result (λ ended. (pages : ℕ) × ((c : List ℕ) → D.left ended.1.disk c → KeepsDesk ended.1.whole ended.1.shown pages c)) }
+{
+    let store = match open(alloc, disk) {
+        Ok(store) => store,
+        Err((refusal, _)) => return Err(refusal),
     };
-    let served = serve(&threads, alloc, &desk, reader, writer);
-    match desk.close() {
-        Ok(_) => served,
-        Err(refusal) => Err(Failed::Code(refusal)),
-    }
+    let history = History::new(store.network(), store.version());
+    serve_store::<Brand, _, _, _, _>(threads, alloc, history, store, setup, reader, writer)
 }
 
 /// A session over the store of a file, which nobody else has meanwhile.
@@ -71,28 +111,16 @@ pub fn run_serve<
     ensures { IfOk result (λ done. done.delta ≡ delta) }
 {
     let disk = open_store(rt, store)?;
-    let store = match open(rt.alloc(), disk) {
-        Ok(store) => store,
-        Err((refusal, _)) => return Err(Failed::Code(refusal)),
-    };
     let mut reader = buffered(rt.alloc(), rt.reader())?;
     let Ok(mut writer) = BufWriter::with_capacity(rt.alloc(), BUFFER, io::writer(rt)) else {
         return Err(Failed::Code(Refusal::OutOfMemory));
     };
     let mut reader = Counted::new(&mut reader);
     let mut writer = CountedWriter::new(&mut writer);
-    let history = History::new(store.network(), store.version());
     let setup = Setup { delta, workers };
-    match serve_store::<Brand, _, _, _, _>(
-        threads,
-        rt.alloc(),
-        history,
-        store,
-        setup,
-        &mut reader,
-        &mut writer,
-    ) {
-        Ok(()) => Ok(Done { delta }),
-        Err(failed) => Err(failed),
+    match serve_disk(threads, rt.alloc(), disk, setup, &mut reader, &mut writer) {
+        Ok((Ok(()), _closed)) => Ok(Done { delta }),
+        Ok((Err(failed), _closed)) => Err(failed),
+        Err(refusal) => Err(Failed::Code(refusal)),
     }
 }

@@ -276,8 +276,7 @@ fn help_of_words(rt: HostRuntime) {
     }
 }
 
-/// A help that finds no memory gives up: it has no text then, and the status is 1. Each allocation is made to fail in turn by the tool that
-/// runs the test.
+/// A help that finds no memory gives up: it has no text then, and the status is 1. To be run with each allocation failing in turn.
 #[test]
 fn help_that_gives_up(rt: HostRuntime) {
     let table: [&[&str]; 4] = [

@@ -1,0 +1,30 @@
+-- The store is that of the disk, as it was opened, and the closed desk is that of this store.
+use Rattle.std.proofs.Common.{◌≡◌, ◌∙◌, ℕ, List, Result, Ok, Err, IfOk, sym, subst}
+use Rattle.roadnet.specs.declared.refusals.Refusal.{Refusal}
+use Rattle.roadnet.specs.Net.{Net}
+use Rattle.store.specs.State.{CameTidy, StandsAt, IsTidy}
+use Rattle.history.specs.Origins.{Origin}
+use Rattle.roadmark.proofs.serve_jobs.serve_disk.Goals as goal
+
+stands_for_origin : {X : Type 0} (content : List ℕ) (answer : Result X Refusal) (origin_of : X → Origin) (origin : Origin)
+    → StandsAt content origin.base origin.version → IfOk answer (λ x. origin_of x ≡ origin)
+    → IfOk answer (λ x. StandsAt content (origin_of x).base (origin_of x).version)
+stands_for_origin content (Ok x) origin_of origin stands same = subst (λ (o : Origin). StandsAt content o.base o.version) (sym same) stands
+stands_for_origin content (Err e) origin_of origin stands same = tt
+
+pub returns-clause-opened : goal.returns-clause-opened
+returns-clause-opened g c honest =
+    let content = g.D.Disk.content c.args.disk in
+    let origin = c.new-history.result.origin in
+    let base = c.new-history.ensures.base.0 ∙ c.network.ensures in
+    let version = c.new-history.ensures.base.1 ∙ c.version.ensures.version in
+    stands_for_origin content c.serve_store.result (λ ended. ended.1.whole.origin) origin
+    (subst (λ (v : ℕ). StandsAt content origin.base v) (sym version)
+    (subst (λ (n : Net). StandsAt content n c.in-Ok.store.version) (sym base) (c.in-Ok.ensures.stands honest)))
+    c.serve_store.ensures.origin
+
+pub returns-clause-left : goal.returns-clause-left
+returns-clause-left g c came =
+    let same = c.in-Ok.ensures.same came.0 in
+    c.serve_store.ensures.left (subst (CameTidy g.D.Disk.honest g.D.Disk.content) (sym c.in-Ok.ensures.given)
+    (c.in-Ok.ensures.honest.0.1 came.0, subst IsTidy (sym same.same_content) came.1))

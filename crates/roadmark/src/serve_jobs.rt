@@ -1,11 +1,12 @@
 //! The session of the program, on standard input and output.
-ghost use Rattle.std.specs.Prelude.{◌≡◌, ◌⊎◌, ◌↔◌, ℕ, true, List, IfOk, IfErr, IfSome};
+ghost use Rattle.std.specs.Prelude.{◌≡◌, ◌⊎◌, ◌↔◌, true, IfOk, IfErr, IfSome};
 ghost use Rattle.std.specs.Option.{ForSome};
 ghost use Rattle.roadnet.specs.declared.refusals.Refusal.TheVariants.{Closed as closed};
 ghost use Rattle.rows.specs.Kept.{IsWidth};
 ghost use Rattle.dimacs.specs.Counts.{failed_calls, reader_of};
 ghost use Rattle.printing.specs.Counting.{failed_writes, writer_of};
 ghost use Rattle.printing.specs.Failing.{CountsWrites};
+ghost use Rattle.disk.specs.Contents.{AreAmong};
 ghost use Rattle.store.specs.State.{CameTidy, StandsAt, is_calm};
 ghost use Rattle.office.specs.Left.{KeepsDesk};
 ghost use Rattle.desk.specs.Openings.{IsNewDesk, IsUnstarted};
@@ -58,7 +59,7 @@ fn serve_store<
     ensures origin { IfOk result (λ ended. ended.1.whole.origin ≡ N.origin) }
     // Where the store came tidy, what a stop may leave of the disk stands for the network after a beginning of the history, with all that was
     // acknowledged or shown.
-    ensures left { CameTidy D.honest D.content store.given → IfOk result (λ ended. (pages : ℕ) × ((c : List ℕ) → D.left ended.1.disk c → KeepsDesk ended.1.whole ended.1.shown pages c)) }
+    ensures left { CameTidy D.honest D.content store.given → IfOk result (λ ended. AreAmong (D.left ended.1.disk) (KeepsDesk ended.1.whole ended.1.shown ended.1.journal_pages)) }
     ensures causes { IfErr result (λ refusal. IsUnstarted refusal ⊎ (refusal ≡ closed)) }
 {
     let desk: Desk<N, D, NoGate, T> = Desk::start(threads, alloc, history, store, NoGate, setup)?;
@@ -91,7 +92,7 @@ fn serve_disk<
     ensures opened { D.honest disk → IfOk result (λ ended. StandsAt (D.content disk) ended.1.whole.origin.base ended.1.whole.origin.version) }
     // Where that content was tidy, what a stop may leave of the closed disk stands for the network after a beginning of the history, with all
     // that was acknowledged or shown.
-    ensures left { CameTidy D.honest D.content disk → IfOk result (λ ended. (pages : ℕ) × ((c : List ℕ) → D.left ended.1.disk c → KeepsDesk ended.1.whole ended.1.shown pages c)) }
+    ensures left { CameTidy D.honest D.content disk → IfOk result (λ ended. AreAmong (D.left ended.1.disk) (KeepsDesk ended.1.whole ended.1.shown ended.1.journal_pages)) }
 {
     let store = match open(alloc, disk) {
         Ok(store) => store,

@@ -150,7 +150,7 @@ task_same (Err r) old new step = ap (λ (m : Machine). m.accepted) step.2
 
 asks_same : (query : Query) (result : Result Answer Refusal) (old new : Machine) → Asks old query result new → new.accepted ≡ old.accepted
 asks_same query (Ok answer) old new step = ap (λ (m : Machine). m.accepted) step.2
-asks_same query (Err r) old new step = ap (λ (m : Machine). m.accepted) step.1
+asks_same query (Err r) old new step = ap (λ (m : Machine). m.accepted) step.2
 
 one_size : (old new : Machine) → new.accepted ≡ old.accepted → length new.accepted ≤ length old.accepted + 1
 one_size old new same = let sizes : length new.accepted ≡ length old.accepted = ap length same in omega (arith, sizes)

@@ -1,10 +1,10 @@
 // Commands accepted and made durable, and checkpoints: the ledger's calls, which leave the view and the task as they are.
-ghost use Rattle.std.specs.Prelude.{◌≡◌, ◌≢◌, ◌≤◌, ◌↔◌, true, None, IfErr};
+ghost use Rattle.std.specs.Prelude.{◌≡◌, ◌≢◌, ◌≤◌, ◌↔◌, true, false, None, IfErr};
 ghost use Rattle.disk.specs.Contents.{Rose};
 ghost use Rattle.pagereader.specs.Outcomes.{failures_told};
 ghost use Rattle.disk.specs.Moments.{LeavesOnly, AddsNothing};
 ghost use Rattle.roadnet.specs.declared.refusals.Refusal.TheVariants.{Device as device, OutOfMemory as out_of_memory};
-ghost use Rattle.machine.specs.Calls.{Submits, Flushes, StepsCheckpoint};
+ghost use Rattle.machine.specs.Calls.{Submits, Flushes, StepsCheckpoint, has_nothing_unchecked};
 ghost use Rattle.machine.specs.Lives.{Checkpoints};
 ghost use Rattle.keeper.specs.Keeping.{IsDurableIn, IsLeftByFlush, WhenSound};
 ghost use Rattle.keeper.specs.Parts.{told_as};
@@ -72,6 +72,8 @@ impl<D: Disk> Keeper<D> {
         requires some { 1 ≤ pages }
         requires few { pages ≤ 64 }
         ensures step { StepsCheckpoint self.old.machine pages (told_as result) self.new.machine }
+        // Where none is going and no page is unchecked, nothing is changed, the disk neither.
+        ensures nothing { self.old.machine.broken ≡ false → has_nothing_unchecked self.old.machine ≡ true → self.new ≡ self.old }
         ensures same { IfErr result (λ refusal. refusal ≢ device → self.new ≡ self.old) }
         ensures memory { IfErr result (λ refusal. refusal ≡ out_of_memory → self.old.machine.checkpoint ≡ None) }
         // The count of failures rises by one where 43 is told, and else not at all: none is passed over.

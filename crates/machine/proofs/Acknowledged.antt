@@ -143,7 +143,7 @@ ticket_by_step old new (GaveUp number) t h calm at = let p = same_given_up old n
 ticket_by_step old new (Published version network (Ok shown)) t h calm at = same_ticket old (with_shown old version) new t h.2 refl refl at
 ticket_by_step old new (Published version network (Err refusal)) t h calm at = same_ticket old old new t h.1 refl refl at
 ticket_by_step old new (Asked query (Ok answer)) t h calm at = same_ticket old old new t h.2 refl refl at
-ticket_by_step old new (Asked query (Err refusal)) t h calm at = same_ticket old old new t h.1 refl refl at
+ticket_by_step old new (Asked query (Err refusal)) t h calm at = same_ticket old old new t h.2 refl refl at
 ticket_by_step old new (Received ticket result) t h calm at = same_ticket old old new t h.2 refl refl at
 ticket_by_step old new (Stopped version) t h calm at = cc
 

@@ -66,7 +66,7 @@ goes_but (suc n) old new g =
 pub no_refusal : (mid new : Machine) (pages : ℕ) (refusal : Refusal) → StepsCheckpoint mid pages (Err refusal) new → mid.broken ≡ false → (mid.checkpoint ≡ None → ⊥) → (refusal ≡ OutOfMemory → mid.checkpoint ≡ None)
     → (refusal ≡ Device → ⊥) → ⊥
 no_refusal mid new pages refusal step calm going memory other = ⊎_elim
-    (λ refused. ⊎_elim (λ told. by_cause mid.broken calm told) (λ none. going (memory none.1)) refused.0)
+    (λ refused. ⊎_elim (λ told. by_cause mid.broken calm told) (λ none. going (memory none.2)) refused.0)
     (λ failed. other failed.2)
     step
   where

@@ -136,7 +136,7 @@ life_steps base version before old new (Flushed (Err refusal)) there begun s h =
     h
 life_steps base version before old new (Checkpointed pages (Ok part)) there begun s h = (h.0, h.1, ap (within base version before) h.2 ∙ part_in base version before old pages)
 life_steps base version before old new (Checkpointed pages (Err refusal)) there begun s h =
-    ⊎_elim (λ r. inl (refused_in base version before old new refusal _ _ refl r)) (λ f. inr (f.0, f.1, f.2, ap (within base version before) f.3)) h
+    ⊎_elim (λ r. inl (r.0, ap (within base version before) r.1)) (λ f. inr (f.0, f.1, f.2, ap (within base version before) f.3)) h
 life_steps base version before old new (TookTask (Ok None)) there begun s h = (h.0, ap (within base version before) h.1)
 life_steps base version before old new (TookTask (Ok (Some task))) there begun s h =
     (h.0, h.1, network_in base version before old begun there old.durable (omega arith) ∙ h.2, ap (within base version before) h.3)
@@ -148,7 +148,8 @@ life_steps base version before old new (Published v network (Err refusal)) there
     (⊎_elim (λ a. inl a) (λ b. inr (b.0, b.1, λ t. b.2 (t.0, sym (network_in base version before old begun there v (task_version old s v t.0)) ∙ t.1))) h.0, ap (within base version before) h.1)
 life_steps base version before old new (Asked query (Ok answer)) there begun s h =
     (h.0, (h.1.0, network_in base version before old begun there old.shown (omega arith) ∙ h.1.1, h.1.2), ap (within base version before) h.2)
-life_steps base version before old new (Asked query (Err refusal)) there begun s h = (h.0, ap (within base version before) h.1)
+life_steps base version before old new (Asked query (Err refusal)) there begun s h =
+    (h.0, (h.1.0, network_in base version before old begun there old.shown (omega arith) ∙ h.1.1, h.1.2), ap (within base version before) h.2)
 life_steps base version before old new (Received ticket result) there begun s h =
     let from : old.base_version + 1 ≤ ticket.number = h.0.0 in
     let place : ticket.number - version ≡ length before + (ticket.number - old.base_version) = omega arith in

@@ -233,7 +233,7 @@ states_kept old new (GaveUp number) s h = moved (without_task old number) new h 
 states_kept old new (Published version network (Ok shown)) s h = moved (record old { task = None; shown = version }) new h.2 (published old s version h.0.0)
 states_kept old new (Published version network (Err refusal)) s h = moved old new h.1 s
 states_kept old new (Asked query (Ok answer)) s h = moved old new h.2 s
-states_kept old new (Asked query (Err refusal)) s h = moved old new h.1 s
+states_kept old new (Asked query (Err refusal)) s h = moved old new h.2 s
 states_kept old new (Received ticket result) s h = moved old new h.2 s
 states_kept old new (Stopped version) s h = moved (reopened old version h.1.0) new h.1.2 (cut old s version h.1.0 h.0 h.1.1)
 

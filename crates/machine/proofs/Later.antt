@@ -97,7 +97,7 @@ later_by_step old new (GaveUp number) s h = moved old (without_task old number) 
 later_by_step old new (Published version network (Ok shown)) s h = moved old (record old { task = None; shown = version }) new h.2 (with_task old s None version)
 later_by_step old new (Published version network (Err refusal)) s h = moved old old new h.1 (later_same old)
 later_by_step old new (Asked query (Ok answer)) s h = moved old old new h.2 (later_same old)
-later_by_step old new (Asked query (Err refusal)) s h = moved old old new h.1 (later_same old)
+later_by_step old new (Asked query (Err refusal)) s h = moved old old new h.2 (later_same old)
 later_by_step old new (Received ticket result) s h = moved old old new h.2 (later_same old)
 later_by_step old new (Stopped version) s h = moved old (reopened old version h.1.0) new h.1.2 (cut old s version h.1.0 h.0)
 

@@ -1,13 +1,14 @@
 -- The steps of the machine: for each call the answers that it may give, and the state that it leaves. Refusals come in the
 -- order in which they stand.
-use Rattle.std.specs.Prelude.{◌≡◌, ◌⊎◌, ℕ, ◌+◌, ◌-◌, ◌≤◌, Bool, true, false, [], ◌∷◌, ◌++◌, ◌==◌, nat_le, nat_lt, ◌&&◌, ◌||◌, if◌then◌else◌, Option, None, Some, is_some, is_none, unwrap_or, option_map, option_and_then, Result, Ok, Err}
+use Rattle.std.specs.Prelude.{◌≡◌, ◌⊎◌, ℕ, ◌+◌, ◌-◌, ◌≤◌, Bool, true, false, [], ◌∷◌, ◌++◌, ◌==◌, nat_le, nat_lt, ◌&&◌, ◌||◌, if◌then◌else◌, Option, None, Some, is_some, is_none, not, unwrap_or, option_map, option_and_then, Result, Ok, Err}
 use Rattle.roadnet.specs.declared.commands.Command.{Command}
 use Rattle.roadnet.specs.declared.refusals.Refusal.{Refusal}
 use Rattle.roadnet.specs.declared.refusals.Refusal.TheVariants.{OutOfMemory, Device, JournalFull, Broken, VersionsExhausted, QueueFull, NoTask, OtherNetwork, NothingPending, NotYet, HistoryFull}
 use Rattle.roadnet.specs.Net.{Net}
 use Rattle.roadnet.specs.Step.{refusal_of}
 use Rattle.rows.specs.declared.queries.Query.{Query}
-use Rattle.rows.specs.Replies.{IsRight}
+use Rattle.rows.specs.declared.queries.Query.TheVariants.{Dist}
+use Rattle.rows.specs.Replies.{IsRight, refusal_of as refusal_of_query}
 use Rattle.machine.specs.declared.calls.Ticket.{Ticket}
 use Rattle.machine.specs.declared.calls.Receipt.{Receipt}
 use Rattle.machine.specs.declared.calls.Answer.{Answer}
@@ -16,6 +17,10 @@ use Rattle.machine.specs.Machine.{Checkpoint, Machine, most_versions, most_pendi
 -- Refused for this cause, or else for want of memory. Nothing changes.
 abbrev pub IsRefused : Option Refusal → Refusal → Machine → Machine → Type 0
 IsRefused cause refusal old new = ((cause ≡ Some refusal) ⊎ ((cause ≡ None) × (refusal ≡ OutOfMemory))) × (new ≡ old)
+
+-- The same of a call that takes memory only where this is true.
+abbrev pub IsRefusedTaking : Bool → Option Refusal → Refusal → Machine → Machine → Type 0
+IsRefusedTaking takes cause refusal old new = ((cause ≡ Some refusal) ⊎ ((cause ≡ None) × (takes ≡ true) × (refusal ≡ OutOfMemory))) × (new ≡ old)
 
 -- The disk failed, with so many commands in flight. Nothing is written from then on.
 abbrev pub failed : Machine → ℕ → Machine
@@ -90,10 +95,14 @@ with_part m pages =
     if nat_lt pages (checkpoint_of m).left then record m { checkpoint = Some (with_pages_written (checkpoint_of m) pages) } else
     record m { checkpoint = None; unchecked = (checkpoint_of m).flushed }
 
+-- a checkpoint begins with the step
+abbrev pub begins_checkpoint : Machine → Bool
+begins_checkpoint m = is_none m.checkpoint && not (m.unchecked == 0)
+
 abbrev pub StepsCheckpoint : Machine → ℕ → Result (Option ℕ) Refusal → Machine → Type 0
 StepsCheckpoint old pages (Ok done) new = (refusal_of_checkpoint old ≡ None) × (done ≡ done_by old pages) × (new ≡ with_part old pages)
 StepsCheckpoint old pages (Err refusal) new =
-    IsRefused (refusal_of_checkpoint old) refusal old new
+    IsRefusedTaking (begins_checkpoint old) (refusal_of_checkpoint old) refusal old new
     ⊎ ((refusal_of_checkpoint old ≡ None) × (has_nothing_unchecked old ≡ false) × (refusal ≡ Device) × (new ≡ failed old 0))
 
 -- TASKS AND VIEWS
@@ -136,11 +145,20 @@ Publishes old version network (Err refusal) new = RefusesView old version networ
 
 -- QUERIES AND RECEIPTS
 
--- an answer names the version that is shown, and is right in its network
+-- The query takes a row: it is a distance, which the network does not refuse.
+abbrev pub TakesRow : Query → Net → Type 0
+TakesRow (Dist source target) net = refusal_of_query net (Dist source target) ≡ None
+TakesRow query net = ⊥
+
+-- P of the network at the version that is shown
+abbrev pub AtShown : Machine → (Net → Type 0) → Type 0
+AtShown m P = (net : Net) × (network_at m m.shown ≡ Some net) × P net
+
+-- An answer names the version that is shown, and is right in its network. Want of memory is for a row.
 abbrev pub Asks : Machine → Query → Result Answer Refusal → Machine → Type 0
 Asks old query (Ok answer) new =
-    (answer.version ≡ old.shown) × ((net : Net) × (network_at old old.shown ≡ Some net) × IsRight net query answer.reply) × (new ≡ old)
-Asks old query (Err refusal) new = (refusal ≡ OutOfMemory) × (new ≡ old)
+    (answer.version ≡ old.shown) × AtShown old (λ net. IsRight net query answer.reply) × (new ≡ old)
+Asks old query (Err refusal) new = (refusal ≡ OutOfMemory) × AtShown old (TakesRow query) × (new ≡ old)
 
 -- the ticket's command was accepted as its number, and since the base
 abbrev pub IsTicketOf : Machine → Ticket → Type 0

@@ -1,4 +1,4 @@
-ghost use Rattle.std.specs.Prelude.{◌≡◌, ◌≤◌, length, IfOk, IfErr};
+ghost use Rattle.std.specs.Prelude.{◌≡◌, ◌<◌, ◌≤◌, length, IfOk, IfErr};
 ghost use Rattle.std.specs.IoError.{error_kind};
 ghost use Rattle.std.specs.declared.io.ErrorKind.TheVariants.{BrokenPipe};
 ghost use Rattle.filedisk.specs.Noted.{has_failed_sync};
@@ -6,8 +6,8 @@ ghost use Rattle.filedisk.specs.Noted.{has_failed_sync};
 use crate::names::{folder_of, resolve};
 use crate::notes::{Answer, Asked, Note, Notes};
 use crate::system::NotedFile;
-use crate::{FileDisk, OpenError, RawFile, create_file, open_file, open_to_read};
-use disk::Disk;
+use crate::{FileDisk, MemFile, OpenError, RawFile, create_file, open_file, open_to_read};
+use disk::{Disk, DiskError, Pick};
 use std::fs::File;
 use std::io::ErrorKind;
 use std::os::unix::fs::{FileExt, symlink};
@@ -414,5 +414,87 @@ fn syncs_reach_the_system(rt: HostRuntime) -> Result<(), Fail> {
     assert!(rt; file.sync_all().is_err());
     assert!(rt; file.sync_data().is_err());
     assert!(rt; file.sync_folder(&device).is_err());
+    Ok(())
+}
+
+/// Writes at an offset within the content.
+fn put<D: Disk>(disk: &mut D, at: u64, bytes: &[u8]) -> Result<(), DiskError> {
+    if at > disk.len()? {
+        return Err(DiskError);
+    }
+    disk.write_at(at, bytes)
+}
+
+/// Reads from an offset, as far as the content goes.
+fn get<D: Disk>(disk: &mut D, at: u64, into: &mut [u8]) -> Result<(), DiskError> {
+    let length = disk.len()?;
+    if at > length || into.len() as u64 > length - at {
+        return Err(DiskError);
+    }
+    disk.read(at, into)
+}
+
+/// A disk over a file in memory, which was written and synced, and then written again.
+fn written_again(file: MemFile) -> Result<FileDisk<MemFile>, DiskError> {
+    let mut disk = FileDisk::new(file);
+    put(&mut disk, 0, b"abcdefgh")?;
+    disk.sync()?;
+    put(&mut disk, 3, b"XYZ")?;
+    put(&mut disk, 8, b"ij")?;
+    Ok(disk)
+}
+
+/// The first bytes of the file after a stop, and its length then.
+fn after_stop(file: MemFile, picks: &[Pick], into: &mut [u8]) -> Result<u64, DiskError>
+    requires { 0 < length picks.now }
+{
+    let mut file = file;
+    file.stop(picks);
+    let mut disk = FileDisk::new(file);
+    get(&mut disk, 0, into)?;
+    disk.len()
+}
+
+/// What is read again after a stop: what was synced, and of the rest what the picks say.
+#[test]
+fn a_file_in_memory_is_stopped(rt: HostRuntime) -> Result<(), Fail> {
+    let rows = [
+        ([Pick::Old, Pick::Old], b"abcdefgh\0\0"),
+        ([Pick::New, Pick::New], b"abcXYZghij"),
+        ([Pick::New, Pick::Byte(b'-')], b"abcX-Zgh-j"),
+    ];
+    for most in 1..4 {
+        for (picks, left) in rows.iter() {
+            let mut disk = written_again(MemFile::new(rt.alloc(), most, 0))?;
+            let mut into = [0u8; 10];
+            get(&mut disk, 0, &mut into)?;
+            assert!(rt; into.as_slice() == b"abcXYZghij".as_slice());
+            assert_eq!(rt; disk.failed_calls(), 0);
+            assert_eq!(rt;
+                after_stop(disk.into_file(), picks.as_slice(), &mut into)?,
+                10
+            );
+            assert!(rt; into.as_slice() == left.as_slice());
+        }
+    }
+    Ok(())
+}
+
+/// Each of the ten calls of a file in memory fails in turn: what was told as synced is there after a stop.
+#[test]
+fn a_file_in_memory_fails(rt: HostRuntime) -> Result<(), Fail> {
+    for k in 1..11 {
+        let mut disk = FileDisk::new(MemFile::new(rt.alloc(), 3, k));
+        let written = put(&mut disk, 0, b"abcdefgh");
+        let synced = disk.sync();
+        let later = put(&mut disk, 3, b"XYZ");
+        let failed = written.is_err() || synced.is_err() || later.is_err();
+        assert!(rt; failed && disk.failed_calls() == 1, "{k}");
+        if written.is_ok() && synced.is_ok() {
+            let mut into = [0u8; 8];
+            assert_eq!(rt; after_stop(disk.into_file(), &[Pick::Old], &mut into)?, 8);
+            assert!(rt; into.as_slice() == b"abcdefgh".as_slice(), "{k}");
+        }
+    }
     Ok(())
 }

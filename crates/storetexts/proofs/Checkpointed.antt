@@ -4,7 +4,7 @@ use Rattle.std.specs.Prelude.{IfErr, option_map}
 use Rattle.roadnet.specs.declared.refusals.Refusal.{Refusal}
 use Rattle.roadnet.specs.declared.refusals.Refusal.TheVariants.{Broken, OutOfMemory, Device}
 use Rattle.machine.specs.Machine.{Machine, IsState, pending}
-use Rattle.machine.specs.Calls.{Flushes, with_page_flushed}
+use Rattle.machine.specs.Calls.{Flushes, begins_checkpoint, with_page_flushed}
 use Rattle.machine.specs.Runs.Happened.{Flushed}
 use Rattle.machine.specs.Lives.{Checkpoints}
 use Rattle.machine.proofs.Checkpoints.{but_checkpoint, state_checkpoint, done_behind, calm_checkpoint, calm_goes}
@@ -12,13 +12,13 @@ use Rattle.machine.proofs.Kept.{states_kept}
 use Rattle.storetexts.specs.Applying.{IsSteady, KeepsAccepted}
 use Rattle.store.specs.Opening.{IsPassing}
 
-memory : (b : Bool) (refusal : Refusal) → b ≡ false → (cond b (Some Broken) None ≡ Some refusal) ⊎ ((cond b (Some Broken) None ≡ None) × (refusal ≡ OutOfMemory)) → refusal ≡ OutOfMemory
-memory true refusal calm h = cc
-memory false refusal calm h = ⊎_elim (λ told. absurd cc) (λ other. other.1) h
+memory : (b takes : Bool) (refusal : Refusal) → b ≡ false → (cond b (Some Broken) None ≡ Some refusal) ⊎ ((cond b (Some Broken) None ≡ None) × (takes ≡ true) × (refusal ≡ OutOfMemory)) → refusal ≡ OutOfMemory
+memory true takes refusal calm h = cc
+memory false takes refusal calm h = ⊎_elim (λ told. absurd cc) (λ other. other.2) h
 
 why : (old new : Machine) (refusal : Refusal) → Checkpoints old (Err refusal) new → old.broken ≡ false → (refusal ≡ OutOfMemory) ⊎ ((refusal ≡ Device) × (new.broken ≡ true))
 why old new refusal w calm =
-    ⊎_elim (λ refused. inl (memory w.1.broken refusal (calm_goes w.0 old w.1 w.2 calm) refused.0)) (λ failed. inr (failed.2, ap (λ (m : Machine). m.broken) failed.3)) w.3
+    ⊎_elim (λ refused. inl (memory w.1.broken (begins_checkpoint w.1) refusal (calm_goes w.0 old w.1 w.2 calm) refused.0)) (λ failed. inr (failed.2, ap (λ (m : Machine). m.broken) failed.3)) w.3
 
 pub refused_of_device : (old new : Machine) (refusal : Refusal) → Checkpoints old (Err refusal) new → old.broken ≡ false → IsPassing refusal
 refused_of_device old new refusal w calm = ⊎_elim (λ none. inl none) (λ device. inr device.0) (why old new refusal w calm)

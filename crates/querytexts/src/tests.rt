@@ -8,7 +8,7 @@ use roadnet::{Network, Refusal};
 use rows::{Query, Reply, Searches, answer_plain};
 use std::alloc::Global;
 use std::io;
-use std::io::{ErrorKind, Write};
+use std::io::{BufReader, ErrorKind, Read, Write};
 use std::process::Abort;
 use std::test::Fail;
 use std::thread::Threads;
@@ -16,6 +16,9 @@ use std::thread::Threads;
 /// The network of the worked rows.
 const SIX: &[u8] =
     b"c S6\np sp 6 8\na 1 2 17\na 1 3 10\na 2 4 2\na 3 5 0\na 4 3 0\na 4 6 3\na 5 2 0\na 5 6 20\n";
+
+/// The pairs of the worked rows.
+const PAIRS: &[u8] = b"p aux sp p2p 2\nq 1 6\nq 6 1\n";
 
 #[test]
 fn one_query_of_a_text(rt: HostRuntime) {
@@ -96,6 +99,86 @@ fn a_writer_fails_at_each_write(rt: HostRuntime) {
             assert!(rt; failed == 1, "write {writes}");
         }
     }
+}
+
+#[test]
+fn a_writer_of_a_batch_fails(rt: HostRuntime) {
+    for writes in 1..20 {
+        let mut failing = FailingWriter { writes };
+        let (mut six, mut pairs) = (SIX, PAIRS);
+        let mut writer = CountedWriter::new(&mut failing);
+        let outcome = batch_counted(
+            &rt,
+            rt.alloc(),
+            &mut Counted::new(&mut six),
+            &mut Counted::new(&mut pairs),
+            Some(5),
+            &mut writer,
+        );
+        let failed = writer.failed_writes();
+        if outcome == Ok(Done { delta: Some(5) }) {
+            assert!(rt; failed == 0 && writes > 8, "write {writes}");
+        } else {
+            assert!(rt;
+                outcome == Err(Failed::Code(Refusal::Write)),
+                "write {writes}"
+            );
+            assert!(rt; failed == 1, "write {writes}");
+        }
+    }
+}
+
+/// A reader whose n-th read fails.
+#[derive(Drop)]
+struct FailingReader<'a> {
+    bytes: &'a [u8],
+    reads: u32,
+}
+
+impl Read for FailingReader<'_> {
+    fn read(&mut self, buf: &mut [u8]) -> io::Result<usize> {
+        self.reads = self.reads.wrapping_sub(1);
+        if self.reads == 0 {
+            return Err(io::Error::from(ErrorKind::BrokenPipe));
+        }
+        self.bytes.read(buf)
+    }
+}
+
+#[test]
+fn a_reader_of_pairs_fails(rt: HostRuntime) -> Result<(), Fail> {
+    for reads in 1..10 {
+        let mut gr = SIX;
+        let failing = FailingReader {
+            bytes: PAIRS,
+            reads,
+        };
+        let mut reader = BufReader::with_capacity(rt.alloc(), 8, failing)?;
+        let mut pairs = Counted::new(&mut reader);
+        let mut out = Vec::new(rt.alloc());
+        let mut writer = CountedWriter::new(&mut out);
+        let outcome = batch_counted(
+            &rt,
+            rt.alloc(),
+            &mut Counted::new(&mut gr),
+            &mut pairs,
+            None,
+            &mut writer,
+        );
+        let failed = pairs.failed_calls();
+        if let Err(Failed::Text { which, fault }) = outcome {
+            assert!(rt;
+                which == 1 && fault.code == Code::Read && failed == 1,
+                "read {reads}"
+            );
+            assert!(rt; out.is_empty(), "read {reads}");
+        } else {
+            assert!(rt; outcome.is_ok() && failed == 0, "read {reads}");
+            assert!(rt; out.as_slice() == b"v 0\nd 1 6 15\nx 6 1\n".as_slice());
+            assert!(rt; reads > 3);
+        }
+    }
+    Ok(())
 }
 
 /// The calls that count, with ample memory: each writes its bytes, and no call of a reader or of the writer fails.

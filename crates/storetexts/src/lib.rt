@@ -17,4 +17,6 @@ pub use outcomes::Outcome;
 #[cfg(test)]
 mod check_tests;
 #[cfg(test)]
+mod failing_tests;
+#[cfg(test)]
 mod tests;

@@ -413,6 +413,58 @@ fn a_reader_of_a_script_fails(rt: HostRuntime) -> Result<(), Fail> {
     Ok(())
 }
 
+/// A writer whose n-th call fails.
+#[derive(Drop)]
+struct FailingWriter {
+    writes: u32,
+}
+
+impl Write for FailingWriter {
+    fn write(&mut self, buf: &[u8]) -> io::Result<usize> {
+        self.writes = self.writes.wrapping_sub(1);
+        if self.writes == 0 {
+            return Err(io::Error::from(ErrorKind::BrokenPipe));
+        }
+        Ok(buf.len())
+    }
+
+    fn flush(&mut self) -> io::Result<()> {
+        self.writes = self.writes.wrapping_sub(1);
+        if self.writes == 0 {
+            return Err(io::Error::from(ErrorKind::BrokenPipe));
+        }
+        Ok(())
+    }
+}
+
+#[test]
+fn a_writer_fails_at_each_write(rt: HostRuntime) {
+    for writes in 1..20 {
+        let mut failing = FailingWriter { writes };
+        let (mut six, mut script) = (SIX, b"dist 1 6\ndist 6 1\n".as_slice());
+        let mut writer = CountedWriter::new(&mut failing);
+        let outcome = rehearse_counted(
+            &rt,
+            rt.alloc(),
+            &mut Counted::new(&mut six),
+            &mut Counted::new(&mut script),
+            64,
+            None,
+            &mut writer,
+        );
+        let failed = writer.failed_writes();
+        if outcome.is_ok() {
+            assert!(rt; failed == 0 && writes > 8, "write {writes}");
+        } else {
+            assert!(rt;
+                outcome == Err(Failed::Code(Refusal::Write)),
+                "write {writes}"
+            );
+            assert!(rt; failed == 1, "write {writes}");
+        }
+    }
+}
+
 /// A writer of 96 bytes at most, which takes no memory.
 #[derive(Drop)]
 struct Page {

@@ -1,13 +1,7 @@
 #!/usr/bin/env bash
 # Runs every word of the program with each of its standard streams closed, and compares a store, byte for byte, before and after. Needs a built program.
 set -u
-top=$(cd "$(dirname "${BASH_SOURCE[0]}")/.." && pwd)
-program=$(realpath "${1:-$top/crates/roadmark/out/roadmark}")
-folder=$(mktemp -d)
-trap 'rm -rf "$folder"' EXIT
-cd "$folder" || exit 1
-cp "$top"/examples/six.* .
-"$program" create six.store six.gr six.ss > /dev/null || exit 1
+. "$(dirname "${BASH_SOURCE[0]}")/store_of_six.sh"
 cp six.store before.store
 wrong=0
 

@@ -1,13 +1,7 @@
 #!/usr/bin/env bash
 # Kills the program (-9) at a hundred moments of a session, and asks the store each time: what was told is there, and at most one command more. Needs a built program.
 set -u
-top=$(cd "$(dirname "${BASH_SOURCE[0]}")/.." && pwd)
-program=$(realpath "${1:-$top/crates/roadmark/out/roadmark}")
-folder=$(mktemp -d)
-trap 'rm -rf "$folder"' EXIT
-cd "$folder" || exit 1
-cp "$top"/examples/six.* .
-"$program" create six.store six.gr six.ss > /dev/null || exit 1
+. "$(dirname "${BASH_SOURCE[0]}")/store_of_six.sh"
 # The lines of a session that would not end by itself soon.
 for length in $(seq 1 20000); do
   printf 'set 8 %s\nset 7 %s\ndist 1 6\nwait\n' "$length" "$length"

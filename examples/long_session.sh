@@ -1,13 +1,7 @@
 #!/usr/bin/env bash
 # A session of ten thousand commands over a store's file, beside which nobody else opens the file; behind it the store is asked. Needs a built program.
 set -u
-top=$(cd "$(dirname "${BASH_SOURCE[0]}")/.." && pwd)
-program=$(realpath "${1:-$top/crates/roadmark/out/roadmark}")
-folder=$(mktemp -d)
-trap 'rm -rf "$folder"' EXIT
-cd "$folder" || exit 1
-cp "$top"/examples/six.* .
-"$program" create six.store six.gr six.ss > /dev/null || exit 1
+. "$(dirname "${BASH_SOURCE[0]}")/store_of_six.sh"
 fail() { echo "$1"; exit 1; }
 
 # Arc 8 gets the length of the command's number, at last 10,000; behind it the session waits until that is shown, and asks.

@@ -67,10 +67,10 @@ is_unseen m builder_ended number = nat_lt m.shown number && (not (is_lost m numb
 abbrev pub IsUnserved : Refusal → Type 0
 IsUnserved refusal = (refusal ≡ Broken) ⊎ (refusal ≡ Closed)
 
--- A state in the desk's run shows the version after these commands.
+-- Some state of the machine over the desk's network and version shows the version after these commands.
 abbrev pub WereShown : Origin → List Command → Type 0
 WereShown origin commands = (m : Machine) × RunsFrom origin m × (commands ≡ commands_to m m.shown)
 
--- for what a command is refused: the desk is halted, or else a state in the desk's run refuses this command so
+-- for what a command is refused: the desk is halted, or else some state of the machine over the desk's network and version refuses this command so
 abbrev pub IsUntaken : Origin → Command → Refusal → Type 0
 IsUntaken origin command refusal = refusal ≢ Closed → (m : Machine) × RunsFrom origin m × Submits m command (Err refusal) m

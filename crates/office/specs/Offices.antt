@@ -21,7 +21,7 @@ pub record IsOffice (origin : Origin) (m : Machine) (width : ℕ) (history : Beg
   pub view_network : network_at m m.shown ≡ Some published.view.network
   pub view_width : published.view.delta ≡ width
 
--- a state of the machine, in a run from the network and version that the desk was opened with
+-- a state of the machine over the network and version that the desk was opened with
 pub record RunsFrom (origin : Origin) (m : Machine) : Type 0 where
   pub state : IsState m
   pub base : m.base ≡ origin.base

@@ -153,7 +153,7 @@ impl<'a> Pinned<'a> {
     }
 
     /// The replies to `Dist` for pairs of a source and a target, in their order, each as `dist` gives it. The one error is want of
-    /// memory, for 16 bytes a pair and a row.
+    /// memory, for 16 bytes a pair and a row; rows that were made by then may be kept.
     ///
     /// In the network of `examples/six.gr`, the pairs (1, 6) and (6, 1) give `Length(15)` and `NoWalk`.
     pub fn batch<R: Threads>(

@@ -14,7 +14,7 @@ use Rattle.machine.specs.Laws.{IsAt}
 use Rattle.history.specs.Claims.{Claimed}
 use Rattle.history.specs.Origins.{Origin, Beginning}
 use Rattle.desk.specs.Readings.{Reading, IsNoReader}
-use Rattle.desk.specs.Turns.{IsUnserved}
+use Rattle.desk.specs.Turns.{IsUnserved, IsUntaken}
 use Rattle.dimacs.specs.Counts.{one_more_failed}
 use Rattle.printing.specs.declared.failed.Failed.{Failed}
 use Rattle.printing.specs.declared.failed.Failed.TheVariants.{Code}
@@ -37,11 +37,15 @@ abbrev pub IsUnsettled : Origin → Option Accepted → Command → Type 0
 IsUnsettled origin (Some (Unsettled ticket)) command = (ticket.origin ≡ origin) × (ticket.ticket.command ≡ command)
 IsUnsettled origin other command = ⊥
 
--- what a command is told: its number, of which the session has a receipt; or a refusal, where it was not accepted, or was accepted and not settled
--- (45, 61)
+-- for what a command that was not accepted, or was accepted and not settled (45, 61), is refused
+abbrev pub IsRefusedFor : Origin → Option Accepted → Option Accepted → Command → Refusal → Type 0
+IsRefusedFor origin before last command refusal =
+    ((last ≡ before) × IsUntaken origin command refusal) ⊎ (IsUnsettled origin last command × IsUnserved refusal)
+
+-- what a command is told: its number, of which the session has a receipt; or for what it was refused
 abbrev pub Settles : Origin → Option Accepted → Option Accepted → Command → Replied → Type 0
 Settles origin before last command (Durable number) = HasReceipt origin last number command
-Settles origin before last command (Refused refusal) = (last ≡ before) ⊎ (IsUnsettled origin last command × IsUnserved refusal)
+Settles origin before last command (Refused refusal) = IsRefusedFor origin before last command refusal
 Settles origin before last command other = ⊥
 
 -- the answer is right in the desk's network after these commands, and names the version after them

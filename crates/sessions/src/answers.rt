@@ -6,7 +6,7 @@ ghost use Rattle.published.specs.Showing.{IsUnseen};
 ghost use Rattle.desk.specs.Readings.{IsNoReader};
 ghost use Rattle.desk.specs.Turns.{IsUnserved};
 ghost use Rattle.printing.specs.Counting.{failed_writes, writer_of, IsSameWriter, CountsFailure};
-ghost use Rattle.sessions.specs.Told.{claim_of, HasReceipt, HasShown, AnswersAfter, known_to, IsUnsettled, IsUnshown, Settles, Replies, ShowsLast};
+ghost use Rattle.sessions.specs.Told.{claim_of, HasReceipt, HasShown, AnswersAfter, known_to, IsRefusedFor, IsUnshown, Settles, Replies, ShowsLast};
 ghost use Rattle.sessions.specs.Turns.{Tells};
 
 use crate::lines::Line;
@@ -135,7 +135,7 @@ impl<N: Naming + Send + Sync + 'static> Session<N> {
         R: Threads + Wait + Copy + Send + Sync + 'static,
     >(&mut self, desk: &Desk<N, D, G, R>, command: Command) -> Result<u64, Refusal>
         ensures receipt { IfOk result (λ number. HasReceipt N.origin self.new.last number command) }
-        ensures refused { IfErr result (λ refusal. (self.new.last ≡ self.old.last) ⊎ (IsUnsettled N.origin self.new.last command × IsUnserved refusal)) }
+        ensures refused { IfErr result (IsRefusedFor N.origin self.old.last self.new.last command) }
         ensures reader { self.new.reader ≡ self.old.reader }
     {
         let ticket = desk.submit(command)?;

@@ -78,18 +78,21 @@ impl NextCheckpoint {
         self.slot
     }
 
+    /// The epoch that the slot gets: one above the current one's.
     pub fn epoch(&self) -> u64
         ensures { result ≡ self.now.epoch }
     {
         self.epoch
     }
 
+    /// The version of the network that is written.
     pub fn version(&self) -> u64
         ensures { result ≡ self.now.version }
     {
         self.version
     }
 
+    /// The sequence of the first journal page that the slot does not make needless.
     pub fn next_sequence(&self) -> u64
         ensures { result ≡ self.now.next_sequence }
     {

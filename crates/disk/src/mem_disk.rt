@@ -10,7 +10,7 @@ ghost use Rattle.disk.specs.declared.mem_disk.Recorded.TheVariants.{Wrote, Synce
 use crate::{Disk, DiskError, Pick, Stoppable};
 use std::alloc::{AllocError, Global};
 
-// A write, with what it takes to undo it.
+/// A write, with what it takes to undo it.
 #[derive(Drop)]
 pub struct Write {
     pub at: usize,
@@ -19,6 +19,7 @@ pub struct Write {
     pub replaced: Vec<u8>,
 }
 
+/// A write or a sync that was made, as the disk's record has it.
 #[derive(Drop)]
 pub enum Recorded {
     Wrote(Write),

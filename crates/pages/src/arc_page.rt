@@ -28,6 +28,7 @@ impl Model for ArcPage {
 }
 
 impl ArcPage {
+    /// The ends of the page's arcs, in the order of the arcs' numbers: at most 511.
     pub fn ends(&self) -> &[Ends]
         ensures { result.now ≡ self.now }
     {

@@ -33,18 +33,21 @@ impl Model for JournalPage {
 }
 
 impl JournalPage {
+    /// The page's sequence: pages have 0, 1, and so on.
     pub fn sequence(&self) -> u64
         ensures { result ≡ self.now.sequence }
     {
         self.sequence
     }
 
+    /// The number of its first command.
     pub fn first_number(&self) -> u64
         ensures { result ≡ self.now.first_number }
     {
         self.first_number
     }
 
+    /// Its commands, 1 to 253, in the order of their numbers.
     pub fn commands(&self) -> &[Command]
         ensures { result.now ≡ self.now.commands }
     {

@@ -35,24 +35,28 @@ impl Model for SlotHead {
 }
 
 impl SlotHead {
+    /// The slot's epoch, at least 1: of two open slots the one of the greater epoch is current.
     pub fn epoch(&self) -> u64
         ensures { result ≡ self.now.epoch }
     {
         self.epoch
     }
 
+    /// The version of the slot's network, at most 2^48.
     pub fn version(&self) -> u64
         ensures { result ≡ self.now.version }
     {
         self.version
     }
 
+    /// The sequence of the first journal page behind the slot, at most the version.
     pub fn next_sequence(&self) -> u64
         ensures { result ≡ self.now.next_sequence }
     {
         self.next_sequence
     }
 
+    /// The landmarks of the slot's network, ascending, each once: at most 1,000.
     pub fn landmarks(&self) -> &[u32]
         ensures { result.now ≡ self.now.landmarks }
     {

@@ -30,6 +30,7 @@ impl Model for WordPage {
 }
 
 impl WordPage {
+    /// The page's words, one an arc in the order of the arcs' numbers: at most 1,023.
     pub fn words(&self) -> &[Word]
         ensures { result.now ≡ self.now }
     {

@@ -13,6 +13,7 @@ use roadnet::Refusal;
 use rows::{Query, Reply};
 use std::io::Write;
 
+/// A number in decimal digits.
 pub fn put_number<W: Write>(out: &mut CountedWriter<'_, W>, number: u64) -> Result<(), Failed>
     ensures ok { OnOk result (Appends (W.contents (writer_of out.old)) (W.contents (writer_of out.new)) (decimal number)) }
     ensures refused { IfErr result (λ failed. failed ≡ Failed.Code Refusal.Write) }

@@ -1,9 +1,11 @@
--- What a store is to those who call it: numbers and a network, and nothing of its pages but how many are unchecked and how many there are.
+-- What a store is to those who call it: numbers and a network, and nothing of its pages but how many are unchecked, how many there are, and which slot
+-- is current.
 use Rattle.std.specs.Prelude.{◌≡◌, ℕ, Bool, not, ◌&&◌, ◌==◌, ◌≤◌, is_none, unwrap_or, List, length, Option, Some}
 use Rattle.disk.specs.declared.disk.Disk.{Ghosts}
 use Rattle.roadnet.specs.declared.commands.Command.{Command}
 use Rattle.roadnet.specs.declared.refusals.Refusal.{Refusal}
 use Rattle.roadnet.specs.Net.{Net}
+use Rattle.pages.specs.declared.content.Slot.{Slot}
 use Rattle.pages.specs.Layout.{word_pages, pages_for}
 use Rattle.pages.specs.Limits.{most_versions}
 use Rattle.storefile.specs.StoreFile.{StandsFor, StandsTidyFor}
@@ -20,6 +22,9 @@ pub record StoreState (D : Type 0) : Type 0 where
   -- the durable network, and its version
   pub network : Net
   pub version : ℕ
+  -- the slot that is current, which holds the last checkpoint, and its epoch
+  pub slot : Slot
+  pub epoch : ℕ
   -- how many pages of the journal no checkpoint has made needless, and how many it has
   pub unchecked : ℕ
   pub journal_pages : ℕ
@@ -47,6 +52,8 @@ state_of pages given = record {
   given = given;
   network = pages.network;
   version = pages.version;
+  slot = pages.slot;
+  epoch = pages.epoch;
   unchecked = pages.unchecked;
   journal_pages = pages.header.journal_pages;
   checkpoint_pages = word_pages pages.header;
@@ -68,15 +75,17 @@ CameTidy honest content given = honest given × IsTidy (content given)
 pub record Told : Type 0 where
   pub network : Net
   pub version : ℕ
+  pub slot : Slot
+  pub epoch : ℕ
   pub unchecked : ℕ
   pub journal_pages : ℕ
   pub checkpoint_pages : ℕ
 
 abbrev pub told : {D : Type 0} → StoreState D → Told
-told s = record { network = s.network; version = s.version; unchecked = s.unchecked; journal_pages = s.journal_pages; checkpoint_pages = s.checkpoint_pages }
+told s = record { network = s.network; version = s.version; slot = s.slot; epoch = s.epoch; unchecked = s.unchecked; journal_pages = s.journal_pages; checkpoint_pages = s.checkpoint_pages }
 
 abbrev pub told_of : Standing → Told
-told_of x = record { network = x.network; version = x.version; unchecked = x.unchecked; journal_pages = x.header.journal_pages; checkpoint_pages = word_pages x.header }
+told_of x = record { network = x.network; version = x.version; slot = x.slot; epoch = x.epoch; unchecked = x.unchecked; journal_pages = x.header.journal_pages; checkpoint_pages = word_pages x.header }
 
 -- the content stands for this network at this version
 abbrev pub StandsAt : List ℕ → Net → ℕ → Type 0

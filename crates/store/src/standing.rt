@@ -34,9 +34,11 @@ pub struct Inspected {
 }
 
 impl<D: Disk> Store<D> {
-    /// How the store stands in its file. No call of the disk is made, and no memory is taken. Where the store came tidy, over a disk that
-    /// keeps the disk model, and is not broken, this is how the content stands, whatever was called since.
+    /// How the store stands in its file: just behind `open`, as its content did. No call of the disk is made, and no memory is taken. Where the
+    /// store came tidy, over a disk that keeps the disk model, and is not broken, this is how the content stands, whatever was called since.
     pub fn standing(&self) -> Standing
+        ensures slot { result.slot ≡ self.now.slot }
+        ensures epoch { result.epoch ≡ self.now.epoch }
         ensures unchecked { result.unchecked ≡ self.now.unchecked }
         ensures stands { CameTidy D.honest D.content self.now.given → self.now.broken ≡ false → StandsThus (D.content self.now.disk) self.now.network self.now.version result }
     {

@@ -8,7 +8,8 @@ ghost use Rattle.pages.specs.Limits.{most_commands};
 ghost use Rattle.pagereader.specs.Outcomes.{failures_told};
 ghost use Rattle.store.specs.Committing.{MayRefuseCommit};
 ghost use Rattle.store.specs.Checkpointing.{refusal_of_checkpoint, MayRefuseCheckpoint};
-ghost use Rattle.store.specs.Going.{part_by, progress_by, unchecked_by, with_page_committed};
+ghost use Rattle.pages.specs.Layout.{other};
+ghost use Rattle.store.specs.Going.{part_by, progress_by, slot_by, epoch_by, unchecked_by, with_page_committed};
 ghost use Rattle.store.specs.State.{CameTidy, HasRoom, HasCheckpointPages, IsDurable, IsDurableOrAfter, commit_refusal, is_calm, checkpoint_of, has_all_checked};
 
 use crate::paged::Paged;
@@ -117,6 +118,7 @@ impl<D: Disk> Store<D> {
         ensures network { OnOk result (after self.old.network commands.now ≡ Some self.new.network) }
         ensures unchecked { OnOk result (self.new.unchecked ≡ self.old.unchecked + 1) }
         ensures works { OnOk result (self.new.broken ≡ false) }
+        ensures slot { (self.new.slot ≡ self.old.slot) × (self.new.epoch ≡ self.old.epoch) }
         // A checkpoint that is going goes on, and counts the page.
         ensures going { OnOk result (self.new.going ≡ option_map with_page_committed self.old.going) }
         ensures given { self.new.given ≡ self.old.given }
@@ -167,6 +169,9 @@ impl<D: Disk> Store<D> {
         ensures answers { has_all_checked self.old ≡ false → IfOk result (λ part. part ≡ part_by (checkpoint_of self.old) pages) }
         ensures going { has_all_checked self.old ≡ false → OnOk result (self.new.going ≡ progress_by (checkpoint_of self.old) pages) }
         ensures unchecked { has_all_checked self.old ≡ false → OnOk result (self.new.unchecked ≡ unchecked_by (checkpoint_of self.old) self.old.unchecked pages) }
+        // Once all are written the slot is current, with an epoch above the one before.
+        ensures slot { has_all_checked self.old ≡ false → OnOk result (self.new.slot ≡ slot_by (checkpoint_of self.old) self.old.slot pages) }
+        ensures epoch { has_all_checked self.old ≡ false → OnOk result (self.new.epoch ≡ epoch_by (checkpoint_of self.old) self.old.epoch pages) }
         ensures works { OnOk result (self.new.broken ≡ false) }
         // It refuses where the store is broken; and where it is not, for want of memory where a checkpoint would begin, or where the disk failed in this call.
         ensures refused { MatchResult result (λ _. refusal_of_checkpoint self.old.broken ≡ None) (MayRefuseCheckpoint (refusal_of_checkpoint self.old.broken)) }
@@ -206,6 +211,7 @@ impl<D: Disk> Store<D> {
         ensures answers { IfOk result (λ version. version ≡ (checkpoint_of self.old).version) }
         ensures going { OnOk result (self.new.going ≡ None) }
         ensures unchecked { OnOk result (self.new.unchecked ≡ (checkpoint_of self.old).committed) }
+        ensures slot { has_all_checked self.old ≡ false → OnOk result ((self.new.slot ≡ other self.old.slot) × (self.new.epoch ≡ self.old.epoch + 1)) }
         ensures works { OnOk result (self.new.broken ≡ false) }
         // It refuses where the store is broken; and where it is not, for want of memory where a checkpoint would begin, or where the disk failed in this call.
         ensures refused { MatchResult result (λ _. refusal_of_checkpoint self.old.broken ≡ None) (MayRefuseCheckpoint (refusal_of_checkpoint self.old.broken)) }

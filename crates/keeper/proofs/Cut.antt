@@ -1,20 +1,26 @@
--- A stop takes its picks, and the old bytes where it has none.
-use Rattle.std.proofs.Common.{◌≡◌, ◌≤◌, ℕ, Bool, List, [], ◌∷◌, ◌++◌, length, Option, None, Some, refl, false, arith}
-use Rattle.std.specs.Prelude.{IfSome}
-use Rattle.std.specs.List.{AllByRecursion}
+-- A stop takes its picks, and the old bytes where it has none; and what a run has of its stops, so far and in the end.
+use Rattle.std.proofs.Common.{◌≡◌, ◌⊎◌, ⊎_elim, inl, inr, ◌≤◌, ℕ, Bool, true, List, [], ◌∷◌, ◌++◌, length, Option, None, Some, refl, sym, ◌∙◌, ap, subst, false, arith, length-append}
+use Rattle.std.proofs.lemmas.List.{append-nil}
+use Rattle.std.specs.Prelude.{IsTrue, IfSome, map}
+use Rattle.std.specs.List.{flat_map}
 use Rattle.roadnet.specs.declared.refusals.Refusal.{Refusal}
 use Rattle.disk.specs.declared.stoppable.Pick.{Pick}
 use Rattle.disk.specs.declared.stoppable.Pick.TheVariants.{Old}
 use Rattle.machine.specs.declared.events.Event.{Event}
 use Rattle.machine.specs.declared.events.Event.TheVariants.{Submit, Flush, Checkpoint, CheckpointStep, Task, Publish, Ask, Stop, StopWithin}
-use Rattle.keeper.specs.Rehearsing.{is_stop}
-use Rattle.keeper.specs.Running.{IsCut, HasCut, HaveCut, picks_taken, picks_of}
+use Rattle.machine.specs.declared.events.Replied.{Replied}
+use Rattle.machine.specs.Machine.{Machine}
+use Rattle.machine.specs.Lives.{Turn, Passes}
+use Rattle.machine.proofs.OverLives.{passes_more}
+use Rattle.machine.proofs.Rehearsing.{events_more, replies_more}
+use Rattle.keeper.specs.Cutting.{IsCut, HasCut, TurnHasCut, EachHasCut, HaveCut, TurnsTo, TurnsLast, first_state, picks_taken, picks_of}
+use Rattle.keeper.specs.Rehearsing.{is_stop, First}
 
-pub cut_by_taken : {D : Type 0} (synced : D → List ℕ) (is_unsynced : D → ℕ → Bool) (content : D → List ℕ) (picks : List Pick) (old new : D)
-    → (1 ≤ length picks → IsCut synced is_unsynced content picks old new) → (picks ≡ [] → IsCut synced is_unsynced content (Old ∷ []) old new)
-    → IsCut synced is_unsynced content (picks_taken picks) old new
-cut_by_taken synced is_unsynced content [] old new some none = none refl
-cut_by_taken synced is_unsynced content (pick ∷ picks) old new some none = some (omega arith)
+pub cut_by_taken : {D : Type 0} (synced : D → List ℕ) (is_unsynced : D → ℕ → Bool) (content : D → List ℕ) (picks : List Pick) (disk : D) (cut : List ℕ)
+    → (1 ≤ length picks → IsCut synced is_unsynced content picks disk cut) → (picks ≡ [] → IsCut synced is_unsynced content (Old ∷ []) disk cut)
+    → IsCut synced is_unsynced content (picks_taken picks) disk cut
+cut_by_taken synced is_unsynced content [] disk cut some none = none refl
+cut_by_taken synced is_unsynced content (pick ∷ picks) disk cut some none = some (omega arith)
 
 pub no_picks : (event : Event Pick) → is_stop event ≡ false → picks_of event ≡ None
 no_picks (Submit c) calm = refl
@@ -27,23 +33,102 @@ no_picks (Ask query) calm = refl
 no_picks Stop calm = cc
 no_picks (StopWithin call picks writing) calm = cc
 
-without : {D : Type 0} (o : Option (List Pick)) (A : List Pick → D → D → Type 0) (B : D → Type 0) → IfSome o (λ picks. (before : D) × (after : D) × A picks before after × B after) → IfSome o (λ picks. (before : D) × (after : D) × A picks before after)
-without None A B cut = tt
-without (Some picks) A B cut = (cut.0, cut.1, cut.2)
+-- where the stop's own reply is the only one, the event's was not told
+pub came_alone : (came : Bool) (A : Type 0) (replies replies' told : List Replied) (written last : Replied) → (IsTrue came → A) → (came ≡ false → replies' ≡ replies ++ written ∷ []) → replies' ≡ replies ++ told
+    → told ++ last ∷ [] ≡ last ∷ [] → A
+came_alone true A replies replies' told written last come behind is alone = come refl
+came_alone false A replies replies' told written last come behind is alone =
+    let one = length-append replies (written ∷ []) in
+    let some = length-append replies told in
+    let same : length (replies ++ written ∷ []) ≡ length (replies ++ told) = ap length (sym (behind refl) ∙ is) in
+    let two = length-append told (last ∷ []) in
+    let none : length (told ++ last ∷ []) ≡ 1 = ap length alone in
+    absurd (omega (arith, one, some, same, two, none))
 
--- what began with the content that was left apart
-pub has_cut : {D : Type 0} (synced : D → List ℕ) (is_unsynced : D → ℕ → Bool) (content : D → List ℕ) (event : Event Pick) (B : D → Type 0)
-    → IfSome (picks_of event) (λ picks. (before : D) × (after : D) × IsCut synced is_unsynced content picks before after × B after) → HasCut synced is_unsynced content event
-has_cut synced is_unsynced content event B cut = without (picks_of event) (IsCut synced is_unsynced content) B cut
+-- ---- the last of some turns
+split_last : {X : Type 0} (xs before behind : List X) (x y : X) → xs ++ x ∷ [] ≡ before ++ y ∷ behind → ((rest : List X) × (xs ≡ before ++ y ∷ rest)) ⊎ ((before ≡ xs) × (y ≡ x))
+split_last [] [] behind x y is = inr (refl, cc)
+split_last [] (b ∷ before) behind x y is =
+    let sizes = length-append before (y ∷ behind) in
+    let same : 1 ≡ length (b ∷ (before ++ y ∷ behind)) = ap length is in
+    absurd (omega (arith, sizes, same))
+split_last (u ∷ xs) [] behind x y is = inl (xs, cc)
+split_last (u ∷ xs) (b ∷ before) behind x y is =
+    let heads : u ≡ b = cc in
+    let tails : xs ++ x ∷ [] ≡ before ++ y ∷ behind = cc in
+    ⊎_elim (λ l. let more : xs ≡ before ++ y ∷ l.0 = l.1 in inl (l.0, cc)) (λ r. let all : before ≡ xs = r.0 in inr (cc, r.1)) (split_last xs before behind x y tails)
 
-pub all_more : {X : Type 0} (P : X → Type 0) (xs : List X) (x : X) → AllByRecursion P xs → P x → AllByRecursion P (xs ++ x ∷ [])
-all_more P [] x all one = (one, tt)
-all_more P (y ∷ ys) x all one = (all.0, all_more P ys x all.1 one)
+-- ---- a run so far, which has come to this state
+pub record CutSoFar {D : Type 0} (Has : D → Machine → Type 0) (armed : D → Option ℕ) (Cuts : List Pick → D → List ℕ → Type 0) (first : First) (events : List (Event Pick)) (replies : List Replied) (m : Machine) : Type 0 where
+  pub turns : List (Turn Pick)
+  pub events_are : events ≡ map (λ turn. turn.0) turns
+  pub replies_are : replies ≡ flat_map (λ turn. turn.1) turns
+  pub passes : Passes (first_state first) turns m
+  pub each : EachHasCut Has armed Cuts (first_state first) turns
 
-pub cut_early : {D : Type 0} (synced : D → List ℕ) (is_unsynced : D → ℕ → Bool) (content : D → List ℕ) (events run rest : List (Event Pick)) (ended : Option Refusal) → events ≡ run ++ rest
-    → AllByRecursion (HasCut synced is_unsynced content) run → (ended ≡ None → ⊥) → HaveCut synced is_unsynced content events ended
-cut_early synced is_unsynced content events run rest ended are each early = record { run = run; rest = rest; events_are = are; each = each; whole = λ none. absurd (early none) }
+module _ {D : Type 0} (Has : D → Machine → Type 0) (armed : D → Option ℕ) (Cuts : List Pick → D → List ℕ → Type 0) where
+  each_none : (first : Machine) → EachHasCut Has armed Cuts first []
+  each_none first before turn behind is =
+      let sizes = length-append before (turn ∷ behind) in
+      let same : 0 ≡ length (before ++ turn ∷ behind) = ap length is in
+      absurd (omega (arith, sizes, same))
 
-pub cut_whole : {D : Type 0} (synced : D → List ℕ) (is_unsynced : D → ℕ → Bool) (content : D → List ℕ) (events run : List (Event Pick)) (ended : Option Refusal) → events ≡ run ++ []
-    → AllByRecursion (HasCut synced is_unsynced content) run → HaveCut synced is_unsynced content events ended
-cut_whole synced is_unsynced content events run ended are each = record { run = run; rest = []; events_are = are; each = each; whole = λ _. refl }
+  each_more : (first m : Machine) (turns : List (Turn Pick)) (turn : Turn Pick) → Passes first turns m → EachHasCut Has armed Cuts first turns → TurnHasCut Has armed Cuts m turn → EachHasCut Has armed Cuts first (turns ++ turn ∷ [])
+  each_more first m turns turn passes each cut before other behind is =
+      ⊎_elim (λ l. each before other l.0 l.1)
+      (λ r. subst (λ (b : List (Turn Pick)). (old : Machine) × Passes first b old × TurnHasCut Has armed Cuts old other) (sym r.0)
+      (subst (λ (x : Turn Pick). (old : Machine) × Passes first turns old × TurnHasCut Has armed Cuts old x) (sym r.1) (m, passes, cut)))
+      (split_last turns before behind turn other is)
+
+  of_turn : (event : Event Pick) (told : List Replied) (m : Machine) (cut : List ℕ) (o : Option (List Pick)) → IfSome o (λ picks. HasCut Has armed Cuts m event told picks cut)
+      → IfSome o (λ picks. (left : List ℕ) × HasCut Has armed Cuts m event told picks left)
+  of_turn event told m cut None h = tt
+  of_turn event told m cut (Some picks) h = (cut, h)
+
+  pub cut_none : (first : First) (replies : List Replied) (m : Machine) → replies ≡ [] → m ≡ first_state first → CutSoFar Has armed Cuts first [] replies m
+  cut_none first replies m none begins = record { turns = []; events_are = refl; replies_are = none; passes = begins; each = each_none (first_state first) }
+
+  module _ (first : First) (events : List (Event Pick)) (replies : List Replied) (m : Machine) (s : CutSoFar Has armed Cuts first events replies m) (event : Event Pick) (now : List Replied) where
+    pub cut_more : (new : Machine) (cut : List ℕ) → TurnsTo Has armed Cuts m event replies now new cut → CutSoFar Has armed Cuts first (events ++ event ∷ []) now new
+    cut_more new cut t = record {
+      turns = s.turns ++ (event, t.told) ∷ [];
+      events_are = events_more s.turns events event t.told s.events_are;
+      replies_are = t.replies_are ∙ replies_more s.turns replies event t.told s.replies_are;
+      passes = passes_more s.turns (event, t.told) (first_state first) m new s.passes t.does;
+      each = each_more (first_state first) m s.turns (event, t.told) s.passes s.each (of_turn event t.told m cut (picks_of event) t.has_cut);
+    }
+
+    -- with the turn that ends it
+    pub cut_last : (rest : List (Event Pick)) (ended : Option Refusal) → TurnsLast Has armed Cuts m event replies now → (ended ≡ None → ⊥) → HaveCut Has armed Cuts first ((events ++ event ∷ []) ++ rest) now ended
+    cut_last rest ended t early = record {
+      turns = s.turns ++ (event, t.told) ∷ [];
+      rest = rest;
+      events_are = ap (λ (es : List (Event Pick)). es ++ rest) (events_more s.turns events event t.told s.events_are);
+      replies_are = t.replies_are ∙ replies_more s.turns replies event t.told s.replies_are;
+      each = each_more (first_state first) m s.turns (event, t.told) s.passes s.each t.has_cut;
+      whole = λ none. absurd (early none);
+    }
+
+  module _ (first : First) (events : List (Event Pick)) (replies : List Replied) (m : Machine) (s : CutSoFar Has armed Cuts first events replies m) where
+    pub cut_early : (rest : List (Event Pick)) (ended : Option Refusal) → (ended ≡ None → ⊥) → HaveCut Has armed Cuts first (events ++ rest) replies ended
+    cut_early rest ended early = record {
+      turns = s.turns;
+      rest = rest;
+      events_are = ap (λ (es : List (Event Pick)). es ++ rest) s.events_are;
+      replies_are = s.replies_are;
+      each = s.each;
+      whole = λ none. absurd (early none);
+    }
+
+    pub cut_whole : (ended : Option Refusal) → HaveCut Has armed Cuts first events replies ended
+    cut_whole ended = record {
+      turns = s.turns;
+      rest = [];
+      events_are = s.events_are ∙ sym (append-nil (map (λ turn. turn.0) s.turns));
+      replies_are = s.replies_are;
+      each = s.each;
+      whole = λ _. refl;
+    }
+
+  pub cut_of : (first : First) (events events' : List (Event Pick)) (replies : List Replied) (ended : Option Refusal) → events ≡ events' → HaveCut Has armed Cuts first events replies ended → HaveCut Has armed Cuts first events' replies ended
+  cut_of first events events' replies ended same h = subst (λ (es : List (Event Pick)). HaveCut Has armed Cuts first es replies ended) same h

@@ -10,6 +10,7 @@ pub mod LivesInRun
 pub mod Runs
 pub mod Answering
 pub mod Stopped
+pub mod Stops
 pub mod RefusedByNetwork
 pub mod Ticketed
 pub mod Whole

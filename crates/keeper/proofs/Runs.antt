@@ -13,7 +13,8 @@ use Rattle.disk.specs.Contents.{Only}
 use Rattle.store.specs.State.{StoreState, IsDurable}
 use Rattle.store.proofs.StateKept.{left_durable}
 use Rattle.keeper.proofs.Held.{at_base}
-use Rattle.keeper.specs.Keeping.{IsDurableIn, sizes_of}
+use Rattle.keeper.specs.Cutting.{StandsAsTold}
+use Rattle.keeper.specs.Keeping.{IsDurableIn, Holds, sizes_of}
 use Rattle.machine.specs.declared.events.Writing.{Writing}
 use Rattle.machine.specs.declared.events.Event.{Event}
 use Rattle.machine.specs.declared.events.Event.TheVariants.{Submit, Flush, Checkpoint, CheckpointStep, Task, Publish, Ask, Stop, StopWithin}
@@ -23,7 +24,8 @@ use Rattle.machine.specs.Machine.{Sizes, Machine, IsState, start, most_versions,
 use Rattle.machine.specs.Calls.{StopsAndOpens}
 use Rattle.machine.specs.LifeInRun.{within}
 use Rattle.machine.specs.Lives.{Writes, StopComes, Does, StopsFor, Lives, HoldsDurable}
-use Rattle.machine.proofs.InRun.{holds_in, commands_in}
+use Rattle.machine.proofs.InRun.{holds_in, commands_in, network_in}
+use Rattle.machine.proofs.Kept.{left_between}
 use Rattle.machine.proofs.Rehearsing.{Ran, ran_more, lives_whole, lives_no_memory, lives_not_opened}
 use Rattle.keeper.specs.Rehearsing.{is_stop, within_of, First, HasRun, HasLived, HasPagesOfNetwork, BeginsAfter}
 use Rattle.keeper.proofs.LivesInRun.{Later, later_none, does_later, does_in, writes_in}
@@ -39,6 +41,14 @@ pub record Told (old mid : Machine) (w : Writing) (replies replies' : List Repli
 pub if_ok_both : {T E : Type 0} (r : Result T E) (A B C X : T → Type 0) → ((x : T) → A x → B x → C x → X x) → IfOk r A → IfOk r B → IfOk r C → IfOk r X
 if_ok_both (Ok x) A B C X f a b c = f x a b c
 if_ok_both (Err e) A B C X f a b c = tt
+
+pub if_ok_five : {T E : Type 0} (r : Result T E) (A B C F G X : T → Type 0) → ((x : T) → A x → B x → C x → F x → G x → X x) → IfOk r A → IfOk r B → IfOk r C → IfOk r F → IfOk r G → IfOk r X
+if_ok_five (Ok x) A B C F G X go a b c f g = go x a b c f g
+if_ok_five (Err e) A B C F G X go a b c f g = tt
+
+pub if_err_map : {T E : Type 0} (r : Result T E) (A X : E → Type 0) → ((x : E) → A x → X x) → IfErr r A → IfErr r X
+if_err_map (Ok x) A X go a = tt
+if_err_map (Err e) A X go a = go e a
 
 pub if_err_both : {T E : Type 0} (r : Result T E) (A B C D X : E → Type 0) → ((x : E) → A x → B x → C x → D x → X x) → IfErr r A → IfErr r B → IfErr r C → IfErr r D → IfErr r X
 if_err_both (Ok x) A B C D X f a b c d = tt
@@ -119,6 +129,27 @@ module _ {P : Type 0} (first : First) (events : List (Event P)) (replies : List 
     pub opens_then : (next : Machine) → BeginsAfter mid next → StopsAndOpens (in_run mid) next.base_version (within first.network first.version (history_with next) next)
     opens_then next b = opens_in first.network first.version history mid next begun_then l.state b
 
+    -- what the disk holds for the life, it holds for the run
+    pub durable_then : (c : List ℕ) → IsDurableIn mid c → IsDurableIn (in_run mid) c
+    durable_then c held = holds_in (StandsTidyFor mid.sizes.journal_pages) first.network first.version history mid c begun_then there_then l.state held
+
+    pub holds_then : (content : List ℕ) (left : List ℕ → Type 0) → Holds content left mid → Holds content left (in_run mid)
+    holds_then content left h = record { only = h.only; each_left = λ c was. durable_then c (h.each_left c was) }
+
+    pub opened_then : (version : ℕ) (c : List ℕ) → StandsAsTold mid (Opened version) c → StandsAsTold (in_run mid) (Opened version) c
+    opened_then version c h =
+        let between = left_between mid l.state h.0.version h.0.left in
+        let later : mid.base_version ≤ h.0.version = omega (arith, between.0, between.1, l.state.base_opened, l.state.opened_shown, l.state.shown_durable) in (
+          record {
+            version = h.0.version;
+            left = h.0.left;
+            network = h.0.network;
+            network_is = network_in first.network first.version history mid begun_then there_then h.0.version later ∙ h.0.network_is;
+            stands = h.0.stands;
+          },
+          h.1,
+        )
+
     pub run_opened : (e : Event P) (now : List Replied) (next : Machine) → BeginsAfter mid next → Does (in_run m) e now (within first.network first.version (history_with next) next) → HasRun first (events ++ e ∷ []) (replies ++ now) (history_with next) next
     run_opened e now next b does =
         let all = ran_more _ _ events replies ran (within first.network first.version (history_with next) next) e now does in
@@ -169,11 +200,9 @@ module _ {P : Type 0} (first : First) (events : List (Event P)) (replies : List 
     pub tells_answer : (w : Writing) (reply : Replied) → IsState m → Writes m w reply mid → TellsBefore w (reply ∷ [])
     tells_answer w reply s writes final = cut_behind w reply final writes s
 
-    pub opened_within : (e : Event P) (w : Writing) (told : List Replied) (next : Machine) → within_of e ≡ Some w → TellsBefore w told → BeginsAfter mid next
-        → HasRun first (events ++ e ∷ []) ((replies ++ told) ++ Opened next.base_version ∷ []) (history_with next) next
-    opened_within e w told next is tells b =
-        subst (λ (rs : List Replied). HasRun first (events ++ e ∷ []) rs (history_with next) next) (sym (append_assoc replies told (Opened next.base_version ∷ [])))
-        (run_opened e (told ++ Opened next.base_version ∷ []) next b (does e is))
+    pub does_within : (e : Event P) (w : Writing) (told : List Replied) (next : Machine) → within_of e ≡ Some w → TellsBefore w told → BeginsAfter mid next
+        → Does (in_run m) e (told ++ Opened next.base_version ∷ []) (within first.network first.version (history_with next) next)
+    does_within e w told next is tells b = does e is
       where
         does : (x : Event P) → within_of x ≡ Some w → Does (in_run m) x (told ++ Opened next.base_version ∷ []) (within first.network first.version (history_with next) next)
         does (StopWithin call picks w') is =
@@ -187,6 +216,12 @@ module _ {P : Type 0} (first : First) (events : List (Event P)) (replies : List 
         does Publish is = cc
         does (Ask query) is = cc
         does Stop is = cc
+
+    pub opened_within : (e : Event P) (w : Writing) (told : List Replied) (next : Machine) → within_of e ≡ Some w → TellsBefore w told → BeginsAfter mid next
+        → HasRun first (events ++ e ∷ []) ((replies ++ told) ++ Opened next.base_version ∷ []) (history_with next) next
+    opened_within e w told next is tells b =
+        subst (λ (rs : List Replied). HasRun first (events ++ e ∷ []) rs (history_with next) next) (sym (append_assoc replies told (Opened next.base_version ∷ [])))
+        (run_opened e (told ++ Opened next.base_version ∷ []) next b (does_within e w told next is tells b))
 
     pub not_opened_within : (left : List ℕ → Type 0) (e : Event P) (w : Writing) (told : List Replied) (rest : List (Event P)) (ended : Option Refusal) → within_of e ≡ Some w → TellsBefore w told → (ended ≡ Some OutOfMemory) ⊎ (ended ≡ Some Device)
         → ((c : List ℕ) → left c → IsDurableIn mid c)

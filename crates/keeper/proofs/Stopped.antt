@@ -18,6 +18,8 @@ use Rattle.machine.proofs.Kept.{left_between}
 use Rattle.store.proofs.Afterwards.{reopened}
 use Rattle.store.proofs.ArcsKept.{same_arcs, arcs_of_header}
 use Rattle.store.specs.State.{Told, told_of}
+use Rattle.machine.specs.declared.events.Replied.TheVariants.{Opened}
+use Rattle.keeper.specs.Cutting.{StandsAsTold}
 use Rattle.keeper.specs.Keeping.{IsDurableIn}
 use Rattle.keeper.specs.Rehearsing.{HasPagesOfNetwork, BeginsAfter}
 
@@ -70,6 +72,11 @@ module _ (m : Machine) (content : List ℕ) (x : Standing) (s : IsState m) (held
         begins = ap (λ (z : Sizes). start z x.network x.version x.unchecked) same_sizes;
         unchecked_to = omega (arith, o.pages_are, few);
       })
+
+  -- the content stands at the version that is opened
+  pub stands_as_told : (next : Machine) (t : Told) → told_of x ≡ t → next ≡ start_of t → StandsAsTold m (Opened next.base_version) content
+  stands_as_told next t same begins =
+      (held, sym (ap (λ (z : Machine). z.base_version) begins ∙ (ap (λ (y : Told). y.version) (sym same) ∙ o.version_is)))
 
   pub stands_after : StandsTidily content x
   stands_after = o.stands

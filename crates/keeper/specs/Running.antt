@@ -1,62 +1,26 @@
 -- What the calls of a run do to it: it goes on with one event more, or ends.
-use Rattle.std.specs.Prelude.{◌≡◌, ◌⊎◌, ℕ, Bool, List, [], ◌∷◌, ◌++◌, Option, None, Some, Result, IfOk, IfErr, IfSome, MatchResult}
-use Rattle.std.specs.List.{AllByRecursion}
+use Rattle.std.specs.Prelude.{◌≡◌, ◌⊎◌, ℕ, List, [], ◌∷◌, ◌++◌, Option, Some, Result, IfOk, IfErr, MatchResult}
 use Rattle.roadnet.specs.declared.commands.Command.{Command}
 use Rattle.roadnet.specs.declared.refusals.Refusal.{Refusal}
 use Rattle.roadnet.specs.declared.refusals.Refusal.TheVariants.{OutOfMemory, Device}
 use Rattle.disk.specs.declared.disk.Disk.{Ghosts}
 use Rattle.disk.specs.declared.stoppable.Stoppable.{Ghosts as StoppableGhosts}
 use Rattle.disk.specs.declared.stoppable.Pick.{Pick}
-use Rattle.disk.specs.declared.stoppable.Pick.TheVariants.{Old}
-use Rattle.disk.specs.Stop.{TakesPicks}
 use Rattle.storefile.specs.StoreFile.{StandsTidyFor}
 use Rattle.machine.specs.declared.events.Event.{Event}
-use Rattle.machine.specs.declared.events.Event.TheVariants.{Stop, StopWithin}
 use Rattle.machine.specs.declared.events.Replied.{Replied}
 use Rattle.machine.specs.declared.events.Replied.TheVariants.{Refused}
 use Rattle.machine.specs.declared.events.Writing.{Writing}
 use Rattle.machine.specs.Machine.{Machine, IsState, commands_to}
 use Rattle.machine.specs.Headline.{ToldForGood}
+use Rattle.machine.specs.LifeInRun.{within}
 use Rattle.keeper.specs.declared.rehearsing.Rehearsal.{Rehearsal}
 use Rattle.keeper.specs.declared.rehearsing.Run.{Run}
 use Rattle.keeper.specs.declared.halted.Halted.{Halted}
+use Rattle.keeper.specs.Cutting.{TurnsTo, TurnsLast}
 use Rattle.keeper.specs.Failures.{failures_at_end, FailsAsTold, EndsAsTold}
 use Rattle.keeper.specs.Keeping.{IsDurableIn}
 use Rattle.keeper.specs.Rehearsing.{within_of, First, HasPagesOfNetwork, IsGoing, HasLived, HasHalted}
-
--- ---- a stop
-
--- a stop of the old disk leaves the new one, as these picks say
-abbrev pub IsCut : {D : Type 0} → (D → List ℕ) → (D → ℕ → Bool) → (D → List ℕ) → List Pick → D → D → Type 0
-IsCut synced is_unsynced content picks old new = TakesPicks picks (synced old) (is_unsynced old) (content old) (content new)
-
--- the picks of a stop: one without any takes the old bytes
-abbrev pub picks_taken : List Pick → List Pick
-picks_taken [] = Old ∷ []
-picks_taken (pick ∷ picks) = pick ∷ picks
-
--- the picks of an event with a stop
-abbrev pub picks_of : Event Pick → Option (List Pick)
-picks_of Stop = Some (Old ∷ [])
-picks_of (StopWithin call picks writing) = Some (picks_taken picks.items)
-picks_of _ = None
-
--- An event with a stop has cut a disk by its picks: the i-th byte, ascending, of those written since the last sync has taken pick i mod n. Where
--- the run goes on, its next life began with that content.
-abbrev pub CutsBy : {D : Type 0} {s : StoppableGhosts D} {d : Ghosts D} → (D → List ℕ) → (D → ℕ → Bool) → (D → List ℕ) → Event Pick → Result (Run D s d) (Rehearsal D) → Type 0
-CutsBy {D = D} synced is_unsynced content event result =
-    IfSome (picks_of event) (λ picks. (before : D) × (after : D) × IsCut synced is_unsynced content picks before after × IfOk result (λ next. content next.life.keeper.disk ≡ content after))
-
-abbrev pub HasCut : {D : Type 0} → (D → List ℕ) → (D → ℕ → Bool) → (D → List ℕ) → Event Pick → Type 0
-HasCut {D = D} synced is_unsynced content event = IfSome (picks_of event) (λ picks. (before : D) × (after : D) × IsCut synced is_unsynced content picks before after)
-
--- Each event with a stop, of those that were run, has cut a disk by its picks. All were run, but where the run ended early.
-pub record HaveCut {D : Type 0} (synced : D → List ℕ) (is_unsynced : D → ℕ → Bool) (content : D → List ℕ) (events : List (Event Pick)) (ended : Option Refusal) : Type 0 where
-  pub run : List (Event Pick)
-  pub rest : List (Event Pick)
-  pub events_are : events ≡ run ++ rest
-  pub each : AllByRecursion (HasCut synced is_unsynced content) run
-  pub whole : ended ≡ None → rest ≡ []
 
 -- the reply to an event that writes is told, or it is the disk's failure and is not
 abbrev pub IsToldOrFailed : List Replied → Replied → List Replied → Type 0
@@ -127,3 +91,19 @@ FailsWith failures event run result =
     (before : ℕ) (done : List (Event Pick)) → FailsAsTold done run.replies.items before (failures run.life.keeper.disk)
     → MatchResult result (λ next. FailsAsTold (done ++ event ∷ []) next.replies.items before (failures next.life.keeper.disk))
     (λ ended. (rest : List (Event Pick)) → EndsAsTold ((done ++ event ∷ []) ++ rest) ended.replies.items ended.ended before (failures ended.disk))
+
+-- the state of the run: that of its life, behind the commands that the lives before left
+abbrev pub state_in : {D : Type 0} {s : StoppableGhosts D} {d : Ghosts D} → First → Run D s d → Machine
+state_in first run = within first.network first.version run.history.items run.life.keeper.machine
+
+-- Where it goes on, the event was one turn of the run more. With a stop it has cut the disk, and the next life began with what it left.
+abbrev pub CutsWith : {D : Type 0} {s : StoppableGhosts D} {d : Ghosts D} → (D → Type 0) → (D → List ℕ) → (D → Machine → Type 0) → (D → Option ℕ) → (List Pick → D → List ℕ → Type 0) → Event Pick → Run D s d → Result (Run D s d) (Rehearsal D) → Type 0
+CutsWith honest content Has armed Cuts event run result =
+    (first : First) (done : List (Event Pick)) → HasCome honest content first done run
+    → IfOk result (λ next. TurnsTo Has armed Cuts (state_in first run) event run.replies.items next.replies.items (state_in first next) (content next.life.keeper.disk))
+
+-- where it ends, the event was its last turn, and has cut the disk
+abbrev pub CutsLast : {D : Type 0} {s : StoppableGhosts D} {d : Ghosts D} → (D → Type 0) → (D → List ℕ) → (D → Machine → Type 0) → (D → Option ℕ) → (List Pick → D → List ℕ → Type 0) → Event Pick → Run D s d → Result (Run D s d) (Rehearsal D) → Type 0
+CutsLast honest content Has armed Cuts event run result =
+    (first : First) (done : List (Event Pick)) → HasCome honest content first done run
+    → IfErr result (λ ended. TurnsLast Has armed Cuts (state_in first run) event run.replies.items ended.replies.items)

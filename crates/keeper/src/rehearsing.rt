@@ -3,19 +3,18 @@ ghost use Rattle.std.specs.Prelude.{◌≡◌, ◌≢◌, ◌+◌, ◌<◌, ◌�
 ghost use Rattle.std.specs.Option.{ForSome};
 ghost use Rattle.std.specs.Vec.{vec_len, vec_capacity};
 ghost use Rattle.disk.specs.Contents.{Only, AreAmong};
-ghost use Rattle.disk.specs.declared.stoppable.Pick.{Pick as StopPick};
 ghost use Rattle.disk.specs.declared.stoppable.Pick.TheVariants.{Old};
 ghost use Rattle.pagereader.specs.Outcomes.{failures_with};
 ghost use Rattle.rows.specs.Kept.{IsWidth};
 ghost use Rattle.roadnet.specs.declared.refusals.Refusal.TheVariants.{OutOfMemory as out_of_memory, Device as device};
 ghost use Rattle.store.specs.State.{CameTidy, is_calm};
 ghost use Rattle.store.specs.Opening.{IsPassing, StandsForSome};
-ghost use Rattle.machine.specs.declared.events.Event.{Event as ScriptEvent};
 ghost use Rattle.machine.specs.declared.events.Event.TheVariants.{Stop};
 ghost use Rattle.machine.specs.declared.events.Replied.TheVariants.{Refused, Opened, Stopped};
+ghost use Rattle.keeper.specs.Cutting.{IsCut, picks_taken, picks_of, HoldsFor, StandsAsTold, HaveCut};
 ghost use Rattle.keeper.specs.Failures.{EndsAsTold};
 ghost use Rattle.keeper.specs.Rehearsing.{HasPagesOfNetwork, BeginsAfter, first_of};
-ghost use Rattle.keeper.specs.Running.{Continues, LeavesDurable, HasLivedTo, IsCut, CutsBy, HaveCut, HasToldForGood, picks_taken, picks_of, IsToldOrFailed, IsPassingEnd, OfEachLeft, OfEachHalted, OfEachWithin, HasHaltedSo, FailsAtEnd, GoesOnWith, EndsWith, FailsWith};
+ghost use Rattle.keeper.specs.Running.{Continues, LeavesDurable, HasLivedTo, HasToldForGood, IsToldOrFailed, IsPassingEnd, OfEachLeft, OfEachHalted, OfEachWithin, HasHaltedSo, FailsAtEnd, GoesOnWith, EndsWith, FailsWith, CutsWith, CutsLast};
 
 use crate::halted::Halted;
 use crate::lives::Life;
@@ -71,8 +70,8 @@ fn stop_disk<D: Stoppable>(disk: &mut D, picks: &[Pick]) -> bool
     ensures honest { D.honest disk.old → D.honest disk.new }
     ensures failures { D.failures disk.new ≡ D.failures disk.old }
     ensures came { IsTrue result ↔ (D.armed disk.old ≡ Some 0) }
-    ensures picks { D.honest disk.old → 1 ≤ length picks.now → IsCut D.synced D.is_unsynced D.content picks.now disk.old disk.new }
-    ensures no_picks { D.honest disk.old → picks.now ≡ [] → IsCut D.synced D.is_unsynced D.content (Old ∷ []) disk.old disk.new }
+    ensures picks { D.honest disk.old → 1 ≤ length picks.now → IsCut D.synced D.is_unsynced D.content picks.now disk.old (D.content disk.new) }
+    ensures no_picks { D.honest disk.old → picks.now ≡ [] → IsCut D.synced D.is_unsynced D.content (Old ∷ []) disk.old (D.content disk.new) }
 {
     if picks.is_empty() {
         disk.stop(&[Pick::Old])
@@ -109,6 +108,8 @@ fn reopen<R: Threads, D: Stoppable>(
     requires width { ForSome delta IsWidth }
     ensures begins { OfEachLeft D.honest D.content disk (λ m. IfOk result (λ life. BeginsAfter m life.keeper.machine)) }
     ensures came { OfEachLeft D.honest D.content disk (λ _. IfOk result (λ life. CameTidy D.honest D.content life.keeper.given)) }
+    // What the disk holds stands for the network at the version that is opened.
+    ensures stands { OfEachLeft D.honest D.content disk (λ m. IfOk result (λ life. StandsAsTold m (Opened life.keeper.machine.base_version) (D.content disk))) }
     ensures empty { IfOk result (λ life. life.keeper.machine.accepted ≡ []) }
     ensures content { D.honest disk → IfOk result (λ life. D.content life.keeper.disk ≡ D.content disk) }
     ensures delta { IfOk result (λ life. life.delta ≡ delta) }
@@ -138,6 +139,7 @@ impl<D: Stoppable> Halted<D> {
         ensures history { OfEachHalted D.honest D.content D.left self (λ m. HasPagesOfNetwork m → IfOk result (Continues m self.history.items)) }
         ensures came { OfEachHalted D.honest D.content D.left self (λ m. HasPagesOfNetwork m → IfOk result (λ run. CameTidy D.honest D.content run.life.keeper.given)) }
         ensures content { D.honest self.disk → IfOk result (λ run. D.content run.life.keeper.disk ≡ D.content self.disk) }
+        ensures stands { OfEachHalted D.honest D.content D.left self (λ m. HasPagesOfNetwork m → IfOk result (λ run. StandsAsTold m (Opened run.life.keeper.machine.base_version) (D.content self.disk))) }
         ensures told { IfOk result (λ run. run.replies.items ≡ self.replies.items ++ Opened run.life.keeper.machine.base_version ∷ []) }
         ensures room { IfOk result (λ run. vec_len run.history + length run.life.keeper.machine.accepted ≤ vec_capacity run.history) }
         ensures ended { OfEachHalted D.honest D.content D.left self (λ _. IfErr result (λ ended. IsPassingEnd ended.ended)) }
@@ -219,7 +221,9 @@ impl<D: Stoppable> Run<D> {
         ensures failures { D.failures result.0.disk ≡ D.failures self.life.keeper.disk }
         ensures came { IsTrue result.1 ↔ (D.armed self.life.keeper.disk ≡ Some 0) }
         ensures cut { CameTidy D.honest D.content self.life.keeper.given
-            → IsCut D.synced D.is_unsynced D.content (picks_taken picks.now) self.life.keeper.disk result.0.disk }
+            → IsCut D.synced D.is_unsynced D.content (picks_taken picks.now) self.life.keeper.disk (D.content result.0.disk) }
+        // What the disk held before the stop.
+        ensures held { CameTidy D.honest D.content self.life.keeper.given → HoldsFor D.honest D.content D.left self.life.keeper.disk self.life.keeper.machine }
     {
         let Run {
             history,
@@ -260,7 +264,8 @@ impl<D: Stoppable> Run<D> {
         // The disk failed as the replies tell.
         ensures counted { FailsWith D.failures Stop self result }
         // It has cut the disk by its picks.
-        ensures cut { CameTidy D.honest D.content self.life.keeper.given → CutsBy D.synced D.is_unsynced D.content Stop result }
+        ensures cut { CutsWith D.honest D.content (HoldsFor D.honest D.content D.left) D.armed (IsCut D.synced D.is_unsynced D.content) Stop self result }
+        ensures cut_last { CutsLast D.honest D.content (HoldsFor D.honest D.content D.left) D.armed (IsCut D.synced D.is_unsynced D.content) Stop self result }
         ensures early { IfErr result (λ ended. ended.ended ≢ None) }
     {
         let (halted, _) = self.halt(&[Pick::Old]);
@@ -287,8 +292,10 @@ impl<D: Stoppable> Run<D> {
         // The disk failed as the replies tell.
         ensures counted { OfEachWithin writing (λ event. FailsWith D.failures event self result) }
         // It has cut the disk by its picks.
-        ensures cut { (event : ScriptEvent StopPick) → picks_of event ≡ Some (picks_taken picks.now) → CameTidy D.honest D.content self.life.keeper.given
-            → CutsBy D.synced D.is_unsynced D.content event result }
+        ensures cut { OfEachWithin writing (λ event. picks_of event ≡ Some (picks_taken picks.now)
+            → CutsWith D.honest D.content (HoldsFor D.honest D.content D.left) D.armed (IsCut D.synced D.is_unsynced D.content) event self result) }
+        ensures cut_last { OfEachWithin writing (λ event. picks_of event ≡ Some (picks_taken picks.now)
+            → CutsLast D.honest D.content (HoldsFor D.honest D.content D.left) D.armed (IsCut D.synced D.is_unsynced D.content) event self result) }
         ensures early { IfErr result (λ ended. ended.ended ≢ None) }
     {
         let mut run = self;
@@ -317,7 +324,8 @@ impl<D: Stoppable> Run<D> {
         // The disk failed as the replies tell.
         ensures counted { FailsWith D.failures event.now self result }
         // With a stop it has cut the disk by its picks.
-        ensures cut { CameTidy D.honest D.content self.life.keeper.given → CutsBy D.synced D.is_unsynced D.content event.now result }
+        ensures cut { CutsWith D.honest D.content (HoldsFor D.honest D.content D.left) D.armed (IsCut D.synced D.is_unsynced D.content) event.now self result }
+        ensures cut_last { CutsLast D.honest D.content (HoldsFor D.honest D.content D.left) D.armed (IsCut D.synced D.is_unsynced D.content) event.now self result }
         ensures early { IfErr result (λ ended. ended.ended ≢ None) }
     {
         match event {
@@ -388,8 +396,10 @@ pub fn rehearse<R: Threads, D: Stoppable>(
     // Of each content that a stop leaves: it stands for the network after a beginning of the accepted commands, in which each acknowledged one has
     // its number; and each answered query names a version up to it, and is right in that version's network.
     ensures told { CameTidy D.honest D.content store.given → HasToldForGood D.left (first_of store) events.now result }
-    // Each stop of the events that were run cut the disk by its picks: the i-th byte, ascending, that was not synced took pick i mod n.
-    ensures cut { CameTidy D.honest D.content store.given → HaveCut D.synced D.is_unsynced D.content events.now result.ended }
+    // Each stop of the events that were run cut a disk that held what the run's state there allows, by its picks: the i-th byte, ascending, that was not
+    // synced took pick i mod n. What it left stands for the network at the version that the stop's own reply tells.
+    ensures cut { CameTidy D.honest D.content store.given
+        → HaveCut (HoldsFor D.honest D.content D.left) D.armed (IsCut D.synced D.is_unsynced D.content) (first_of store) events.now result.replies.items result.ended }
     // A given width is that of each view.
     ensures width { result.delta ≡ delta }
     // Over any disk its count of failures rises by one for each failure that the replies tell, with 43 or by a stop that came within an event,

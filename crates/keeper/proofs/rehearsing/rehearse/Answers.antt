@@ -4,14 +4,16 @@ use Rattle.disk.specs.declared.stoppable.Pick.{Pick}
 use Rattle.roadnet.specs.declared.refusals.Refusal.TheVariants.{OutOfMemory}
 use Rattle.store.specs.State.{CameTidy}
 use Rattle.machine.specs.declared.events.Event.{Event}
+use Rattle.roadnet.specs.declared.commands.Command.{Command}
 use Rattle.machine.specs.Machine.{Machine, start}
+use Rattle.machine.specs.LifeInRun.{within as in_life}
 use Rattle.machine.proofs.Kept.{started}
 use Rattle.machine.proofs.ForGood.{told_for_good}
 use Rattle.keeper.specs.declared.lives.Life.{Life}
 use Rattle.keeper.specs.Keeping.{IsDurableIn}
 use Rattle.keeper.specs.Rehearsing.{First, first_of, IsGoing, HasRun}
-use Rattle.keeper.specs.Running.{HasCut}
-use Rattle.keeper.proofs.Cut.{has_cut, all_more, cut_early, cut_whole}
+use Rattle.keeper.specs.Cutting.{HoldsFor, IsCut, first_state}
+use Rattle.keeper.proofs.Cut.{CutSoFar, cut_none, cut_more, cut_last, cut_early, cut_whole, cut_of}
 use Rattle.keeper.proofs.Failing.{fails_none, fails_as, ends_told, ends_as}
 use Rattle.keeper.proofs.Runs.{run_as, lives_of, held_at_start, run_none, run_no_memory, run_whole}
 use Rattle.keeper.proofs.rehearsing.rehearse.Goals as goal
@@ -45,7 +47,9 @@ loop-event-init g c =
             run = run_as first [] [] c.new-3.result.items [] c.new-2.result.items c.in-Ok.life.keeper.machine c.new-3.ensures.items c.new-2.ensures.items
                 (subst (λ (m : Machine). HasRun {P = Pick} first [] [] [] m) (sym begins) (run_none {P = Pick} first c.in-Ok.ensures.room.version_to c.in-Ok.ensures.room.unchecked_to slot));
           };
-      cut = λ came. tt;
+      cut = λ came.
+          cut_none _ _ _ first c.new-3.result.items _ c.new-3.ensures.items
+          (ap (λ (cs : List Command). in_life first.network first.version cs c.in-Ok.life.keeper.machine) c.new-2.ensures.items ∙ ap (in_life first.network first.version []) begins);
       delta = c.in-Ok.ensures.delta;
       counted = fails_as {P = Pick} [] [] c.new-3.result.items (g.D.Disk.failures store.disk) _ c.new-3.ensures.items (rw c.in-Ok.ensures.disk (fails_none {P = Pick} (g.D.Disk.failures store.disk)));
     }
@@ -68,9 +72,12 @@ loop-event-preserved g c =
           rw more (c.in-Ok-next.ensures.goes first (take i events) now);
       cut = λ came.
           let was = c.loop-event.invariant.goes came in
-          let tidy : CameTidy g.D.Disk.honest g.D.Disk.content c.grow.new.self.life.keeper.given = rw c.grow.ensures.life was.came in
-          rw more (all_more (HasCut g.D.Stoppable.synced g.D.Stoppable.is_unsynced g.D.Disk.content) (take i events) item (c.loop-event.invariant.cut came)
-          (has_cut g.D.Stoppable.synced g.D.Stoppable.is_unsynced g.D.Disk.content item _ (c.in-Ok-next.ensures.cut tidy)));
+          let now : IsGoing {P = Pick} g.D.Disk.honest g.D.Disk.content first (take i events) c.grow.new.self.replies.items c.grow.new.self.history.items c.grow.new.self.life.keeper =
+          rw (c.grow.ensures.life, c.grow.ensures.replies, c.grow.ensures.history) was in
+          let so_far : CutSoFar (HoldsFor g.D.Disk.honest g.D.Disk.content g.D.Disk.left) g.D.Stoppable.armed (IsCut g.D.Stoppable.synced g.D.Stoppable.is_unsynced g.D.Disk.content) first (take i events) c.grow.new.self.replies.items
+          (in_life first.network first.version c.grow.new.self.history.items c.grow.new.self.life.keeper.machine) =
+          rw (c.grow.ensures.life, c.grow.ensures.replies, c.grow.ensures.history) (c.loop-event.invariant.cut came) in
+          rw more (cut_more _ _ _ first (take i events) c.grow.new.self.replies.items _ so_far item _ _ _ (c.in-Ok-next.ensures.cut first (take i events) now));
       delta = c.in-Ok-next.ensures.delta ∙ ap (λ l. l.delta) c.grow.ensures.life ∙ c.loop-event.invariant.delta;
       counted =
           rw more (c.in-Ok-next.ensures.counted (g.D.Disk.failures store.disk) (take i events) (rw (c.grow.ensures.life, c.grow.ensures.replies) c.loop-event.invariant.counted));
@@ -177,32 +184,44 @@ returns-clause-failed g c =
 -- ---- the picks
 pub returns-in-Err-clause-cut : goal.returns-in-Err-clause-cut
 returns-in-Err-clause-cut g c came =
-    cut_early g.D.Stoppable.synced g.D.Stoppable.is_unsynced g.D.Disk.content c.args.events.now [] c.args.events.now (Some OutOfMemory) refl tt (λ never. cc)
+    let first : First = first_of c.args.store in
+    rw c.new-in-Err.ensures.items (cut_early _ _ _ first [] [] (first_state first) (cut_none _ _ _ first [] (first_state first) refl refl) c.args.events.now (Some OutOfMemory) (λ never. cc))
 
 pub returns-then-is_err-clause-cut : goal.returns-then-is_err-clause-cut
 returns-then-is_err-clause-cut g c came =
+    let first : First = first_of c.args.store in
     let events = c.args.events.now in
     let i = c.loop-event.event-index in
-    rw c.end.ensures.ended
-    (cut_early g.D.Stoppable.synced g.D.Stoppable.is_unsynced g.D.Disk.content events (take i events) (drop i events) (Some OutOfMemory) (sym (take-append-drop i events)) (c.loop-event.invariant.cut came) (λ never. cc))
+    let run = c.loop-event.run in
+    rw (c.end.ensures.ended, c.end.ensures.replies, c.grow.ensures.replies)
+    (cut_of _ _ _ first (take i events ++ drop i events) events run.replies.items (Some OutOfMemory) (take-append-drop i events)
+    (cut_early _ _ _ first (take i events) run.replies.items _ (c.loop-event.invariant.cut came) (drop i events) (Some OutOfMemory) (λ never. cc)))
 
 pub returns-in-Err-next-clause-cut : goal.returns-in-Err-next-clause-cut
 returns-in-Err-next-clause-cut g c came =
+    let first : First = first_of c.args.store in
     let events = c.args.events.now in
     let i = c.loop-event.event-index in
     let item = c.event-item.result in
     let within : i < length events = c.loop-event-test.true in
     let more : take (i + 1) events ≡ take i events ++ item ∷ [] = take_more events i item within ∙ ap (λ (x : Event Pick). take i events ++ x ∷ []) (sym c.event-item.is) in
     let was = c.loop-event.invariant.goes came in
-    let tidy : CameTidy g.D.Disk.honest g.D.Disk.content c.grow.new.self.life.keeper.given = rw c.grow.ensures.life was.came in
+    let now : IsGoing {P = Pick} g.D.Disk.honest g.D.Disk.content first (take i events) c.grow.new.self.replies.items c.grow.new.self.history.items c.grow.new.self.life.keeper =
+    rw (c.grow.ensures.life, c.grow.ensures.replies, c.grow.ensures.history) was in
+    let so_far : CutSoFar (HoldsFor g.D.Disk.honest g.D.Disk.content g.D.Disk.left) g.D.Stoppable.armed (IsCut g.D.Stoppable.synced g.D.Stoppable.is_unsynced g.D.Disk.content) first (take i events) c.grow.new.self.replies.items
+    (in_life first.network first.version c.grow.new.self.history.items c.grow.new.self.life.keeper.machine) =
+    rw (c.grow.ensures.life, c.grow.ensures.replies, c.grow.ensures.history) (c.loop-event.invariant.cut came) in
     let all : (take i events ++ item ∷ []) ++ drop (i + 1) events ≡ events = ap (λ (es : List (Event Pick)). es ++ drop (i + 1) events) (sym more) ∙ take-append-drop (i + 1) events in
-    cut_early g.D.Stoppable.synced g.D.Stoppable.is_unsynced g.D.Disk.content events (take i events ++ item ∷ []) (drop (i + 1) events) c.in-Err-next.rehearsal.ended (sym all)
-    (all_more (HasCut g.D.Stoppable.synced g.D.Stoppable.is_unsynced g.D.Disk.content) (take i events) item (c.loop-event.invariant.cut came)
-    (has_cut g.D.Stoppable.synced g.D.Stoppable.is_unsynced g.D.Disk.content item _ (c.in-Err-next.ensures.cut tidy))) c.in-Err-next.ensures.early
+    let ended = c.in-Err-next.rehearsal in
+    cut_of _ _ _ first ((take i events ++ item ∷ []) ++ drop (i + 1) events) events ended.replies.items ended.ended all
+    (cut_last _ _ _ first (take i events) c.grow.new.self.replies.items _ so_far item ended.replies.items (drop (i + 1) events) ended.ended (c.in-Err-next.ensures.cut_last first (take i events) now) c.in-Err-next.ensures.early)
 
 pub returns-clause-cut : goal.returns-clause-cut
 returns-clause-cut g c came =
+    let first : First = first_of c.args.store in
     let events = c.args.events.now in
     let i = c.loop-event.event-index in
+    let run = c.loop-event.run in
     let past : length events ≤ i = c.loop-event-test.false in
-    cut_whole g.D.Stoppable.synced g.D.Stoppable.is_unsynced g.D.Disk.content events (take i events) _ (sym (append-nil (take i events) ∙ take_all i events past)) (c.loop-event.invariant.cut came)
+    rw c.end-2.ensures.replies
+    (cut_of _ _ _ first (take i events) events run.replies.items _ (take_all i events past) (cut_whole _ _ _ first (take i events) run.replies.items _ (c.loop-event.invariant.cut came) _))

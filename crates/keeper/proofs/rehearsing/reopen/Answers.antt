@@ -1,13 +1,18 @@
 use Rattle.std.proofs.Common.{ℕ, List, sym, ◌∙◌, ap, subst}
 use Rattle.store.specs.Committing.{StandsTidily}
 use Rattle.store.specs.State.{CameTidy}
-use Rattle.keeper.proofs.Stopped.{begins_after, stands_after}
+use Rattle.keeper.proofs.Stopped.{begins_after, stands_after, stands_as_told}
 use Rattle.keeper.proofs.rehearsing.reopen.Goals as goal
 
 pub returns-in-Ok-begin-clause-begins : goal.returns-in-Ok-begin-clause-begins
 returns-in-Ok-begin-clause-begins g c m s slot honest held =
     let stands = c.in-Ok.ensures.told honest in
     begins_after m (g.D.Disk.content c.args.disk) stands.standing s held stands.is slot c.in-Ok-begin.life.keeper.machine _ stands.told_is c.in-Ok-begin.ensures.begins
+
+pub returns-in-Ok-begin-clause-stands : goal.returns-in-Ok-begin-clause-stands
+returns-in-Ok-begin-clause-stands g c m s slot honest held =
+    let stands = c.in-Ok.ensures.told honest in
+    stands_as_told m (g.D.Disk.content c.args.disk) stands.standing s held stands.is slot c.in-Ok-begin.life.keeper.machine _ stands.told_is c.in-Ok-begin.ensures.begins
 
 pub returns-in-Ok-begin-clause-came : goal.returns-in-Ok-begin-clause-came
 returns-in-Ok-begin-clause-came g c m s slot honest held =

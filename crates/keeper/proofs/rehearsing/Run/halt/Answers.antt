@@ -1,5 +1,5 @@
 use Rattle.std.proofs.Common.{sym, subst}
-use Rattle.keeper.specs.Running.{IsCut, picks_taken}
+use Rattle.keeper.specs.Cutting.{IsCut, picks_taken}
 use Rattle.keeper.proofs.Cut.{cut_by_taken}
 use Rattle.keeper.proofs.rehearsing.Run.halt.Goals as goal
 
@@ -24,5 +24,8 @@ returns-clause-cut g c = λ came.
     let kept = subst g.D.Disk.honest (sym c.close-commands.ensures.disk) (c.close-commands.ensures.honest came) in
     let picks = c.args.picks.now in
     let now = c.stop_disk-came.new.disk in
-    subst (λ (d : g.row.D.Denot). IsCut g.D.Stoppable.synced g.D.Stoppable.is_unsynced g.D.Disk.content (picks_taken picks) d now) c.close-commands.ensures.disk
-    (cut_by_taken g.D.Stoppable.synced g.D.Stoppable.is_unsynced g.D.Disk.content picks _ now (c.stop_disk-came.ensures.picks kept) (c.stop_disk-came.ensures.no_picks kept))
+    subst (λ (d : g.row.D.Denot). IsCut g.D.Stoppable.synced g.D.Stoppable.is_unsynced g.D.Disk.content (picks_taken picks) d (g.D.Disk.content now)) c.close-commands.ensures.disk
+    (cut_by_taken g.D.Stoppable.synced g.D.Stoppable.is_unsynced g.D.Disk.content picks _ (g.D.Disk.content now) (c.stop_disk-came.ensures.picks kept) (c.stop_disk-came.ensures.no_picks kept))
+
+pub returns-clause-held : goal.returns-clause-held
+returns-clause-held g c = λ came. (c.close-commands.ensures.honest came, c.close-commands.ensures.holds came)

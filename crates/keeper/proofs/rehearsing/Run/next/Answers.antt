@@ -2,10 +2,10 @@ use Rattle.std.proofs.Common.{◌≡◌, ◌++◌, ◌∷◌, [], false, refl, s
 use Rattle.disk.specs.declared.stoppable.Pick.{Pick}
 use Rattle.store.specs.State.{CameTidy}
 use Rattle.keeper.specs.Rehearsing.{is_stop, within_of}
-use Rattle.keeper.specs.Running.{picks_of}
+use Rattle.keeper.specs.Cutting.{picks_of}
 use Rattle.keeper.proofs.Cut.{no_picks}
 use Rattle.keeper.proofs.Failing.{fails_more, fails_as, one_reply}
-use Rattle.keeper.proofs.LivesInRun.{does_size}
+use Rattle.keeper.proofs.LivesInRun.{does_size, does_in}
 use Rattle.keeper.proofs.Runs.{run_as, run_more}
 use Rattle.keeper.proofs.rehearsing.Run.next.Goals as goal
 
@@ -28,12 +28,20 @@ pub returns-in-StopWithin-clause-counted : goal.returns-in-StopWithin-clause-cou
 returns-in-StopWithin-clause-counted g c before done f = c.stop_within.ensures.counted c.args.event.now (ap (within_of {P = Pick}) c.in-StopWithin.is) before done f
 
 pub returns-in-Stop-clause-cut : goal.returns-in-Stop-clause-cut
-returns-in-Stop-clause-cut g c came = rw c.in-Stop.is (c.stop.ensures.cut came)
+returns-in-Stop-clause-cut g c first done going = rw c.in-Stop.is (c.stop.ensures.cut first done going)
+
+pub returns-in-Stop-clause-cut_last : goal.returns-in-Stop-clause-cut_last
+returns-in-Stop-clause-cut_last g c first done going = rw c.in-Stop.is (c.stop.ensures.cut_last first done going)
 
 pub returns-in-StopWithin-clause-cut : goal.returns-in-StopWithin-clause-cut
-returns-in-StopWithin-clause-cut g c came =
+returns-in-StopWithin-clause-cut g c first done going =
     let list : c.deref.result.now ≡ c.in-StopWithin.picks.items = search rules in
-    c.stop_within.ensures.cut c.args.event.now (rw list (ap picks_of c.in-StopWithin.is)) came
+    c.stop_within.ensures.cut c.args.event.now (ap (within_of {P = Pick}) c.in-StopWithin.is) (rw list (ap picks_of c.in-StopWithin.is)) first done going
+
+pub returns-in-StopWithin-clause-cut_last : goal.returns-in-StopWithin-clause-cut_last
+returns-in-StopWithin-clause-cut_last g c first done going =
+    let list : c.deref.result.now ≡ c.in-StopWithin.picks.items = search rules in
+    c.stop_within.ensures.cut_last c.args.event.now (ap (within_of {P = Pick}) c.in-StopWithin.is) (rw list (ap picks_of c.in-StopWithin.is)) first done going
 
 pub returns-in_default : goal.returns-in_default
 returns-in_default g c =
@@ -54,6 +62,12 @@ returns-in_default g c =
       counted = λ before done f.
           fails_as (done ++ c.args.event.now ∷ []) (self.replies.items ++ told) c.push_reserved.new.self.items before _ c.push_reserved.ensures.items
           (fails_more done self.replies.items before _ _ c.args.event.now told f (one_reply {P = Pick} c.args.event.now c.reply-told.result calm) c.reply-told.ensures.counted);
-      cut = λ came. rw (no_picks c.args.event.now calm) tt;
+      cut = λ first done going. record {
+        told = told;
+        replies_are = c.push_reserved.ensures.items;
+        does = does_in first.network first.version self.history.items m new going.run.there going.run.begun c.args.self.life.living.state c.args.event.now told calm c.reply-told.ensures.does;
+        has_cut = rw (no_picks c.args.event.now calm) tt;
+      };
+      cut_last = λ first done going. tt;
       early = tt;
     }

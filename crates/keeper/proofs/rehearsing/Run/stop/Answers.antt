@@ -5,10 +5,12 @@ use Rattle.machine.specs.declared.events.Replied.{Replied}
 use Rattle.machine.specs.declared.events.Replied.TheVariants.{Opened, Stopped}
 use Rattle.machine.specs.Machine.{commands_to}
 use Rattle.machine.specs.declared.events.Event.TheVariants.{Stop}
+use Rattle.keeper.specs.Cutting.{IsCut}
 use Rattle.keeper.specs.Failures.{failures_at_end}
 use Rattle.keeper.specs.Rehearsing.{HasRun}
 use Rattle.keeper.proofs.Failing.{match_both, fails_more, fails_as, ends_told}
-use Rattle.keeper.proofs.Runs.{if_ok_both, if_err_both, run_as, lives_as, durable_front, opened_by_stop, not_opened_by_stop}
+use Rattle.keeper.proofs.Stops.{stop_turn, stop_last}
+use Rattle.keeper.proofs.Runs.{if_ok_both, if_ok_five, if_err_both, if_err_map, run_as, lives_as, durable_front, opened_by_stop, not_opened_by_stop}
 use Rattle.keeper.proofs.rehearsing.Run.stop.Goals as goal
 
 pub returns-clause-goes : goal.returns-clause-goes
@@ -62,4 +64,32 @@ returns-clause-counted g c before done f =
     c.resume.ensures.counted c.resume.ensures.told c.resume.ensures.stopped
 
 pub returns-clause-cut : goal.returns-clause-cut
-returns-clause-cut g c came = (c.args.self.life.keeper.disk, c.halt-halted.result.0.disk, c.halt-halted.ensures.cut came, c.resume.ensures.content (c.halt-halted.ensures.honest came))
+returns-clause-cut g c first done going =
+    let self = c.args.self in
+    let m = self.life.keeper.machine in
+    let halted = c.halt-halted.result.0 in
+    let run = going.run in
+    let is = c.halt-halted.ensures.halted going.came in
+    let there = c.halt-halted.ensures.honest going.came in
+    let replies : halted.replies.items ≡ self.replies.items = (let e = c.halt-halted.ensures.replies in cc) in
+    let history : halted.history.items ≡ self.history.items = (let e = c.halt-halted.ensures.history in cc) in
+    if_ok_five c.resume.result _ _ _ _ _ _
+    (λ x b h t stands same. stop_turn g.D.Disk.honest g.D.Disk.content g.D.Disk.left g.D.Stoppable.armed (IsCut g.D.Stoppable.synced g.D.Stoppable.is_unsynced g.D.Disk.content)
+    first done self.replies.items self.history.items m run c.args.self.life.living.state self.life.keeper.disk (c.halt-halted.ensures.held going.came) (g.D.Disk.content halted.disk) (c.halt-halted.ensures.cut going.came)
+    x.life.keeper.machine x.replies.items x.history.items (g.D.Disk.content x.life.keeper.disk) b stands
+    (t ∙ ap (λ (rs : List Replied). rs ++ Opened x.life.keeper.machine.base_version ∷ []) replies)
+    (h ∙ ap (λ (cs : List Command). cs ++ commands_to m x.life.keeper.machine.base_version) history) same)
+    (c.resume.ensures.begins m there is run.pages) (c.resume.ensures.history m there is run.pages) c.resume.ensures.told (c.resume.ensures.stands m there is run.pages) (c.resume.ensures.content there)
+
+pub returns-clause-cut_last : goal.returns-clause-cut_last
+returns-clause-cut_last g c first done going =
+    let self = c.args.self in
+    let m = self.life.keeper.machine in
+    let halted = c.halt-halted.result.0 in
+    let is = c.halt-halted.ensures.halted going.came in
+    let replies : halted.replies.items ≡ self.replies.items = (let e = c.halt-halted.ensures.replies in cc) in
+    if_err_map c.resume.result _ _
+    (λ x t. stop_last g.D.Disk.honest g.D.Disk.content g.D.Disk.left g.D.Stoppable.armed (IsCut g.D.Stoppable.synced g.D.Stoppable.is_unsynced g.D.Disk.content)
+    first done self.replies.items self.history.items m going.run c.args.self.life.living.state self.life.keeper.disk (c.halt-halted.ensures.held going.came) (g.D.Disk.content halted.disk) (c.halt-halted.ensures.cut going.came)
+    x.replies.items is.held (t ∙ ap (λ (rs : List Replied). rs ++ Stopped ∷ []) replies))
+    c.resume.ensures.stopped

@@ -1,15 +1,19 @@
-use Rattle.std.proofs.Common.{◌≡◌, ℕ, ◌-◌, take, ◌++◌, ◌∷◌, [], List, length, refl, sym, ◌∙◌, ap, subst, arith}
+use Rattle.std.proofs.Common.{◌≡◌, ℕ, ◌-◌, take, ◌++◌, ◌∷◌, [], List, length, Some, refl, sym, ◌∙◌, ap, subst, arith}
 use Rattle.std.specs.Prelude.{IfOk}
+use Rattle.machine.specs.declared.events.Replied.{Replied}
 use Rattle.machine.specs.declared.events.Replied.TheVariants.{Opened, Stopped}
 use Rattle.store.specs.State.{CameTidy}
 use Rattle.roadnet.specs.declared.commands.Command.{Command}
 use Rattle.machine.specs.Machine.{Machine, commands_to}
 use Rattle.machine.specs.Lives.{Writes}
 use Rattle.keeper.specs.Rehearsing.{HasRun}
+use Rattle.keeper.specs.Cutting.{IsCut}
 use Rattle.keeper.specs.Failures.{failures_by}
 use Rattle.keeper.proofs.Failing.{match_both, fails_as, ends_told, no_stop_written, stop_told}
 use Rattle.keeper.proofs.LivesInRun.{writes_later, writes_same}
-use Rattle.keeper.proofs.Runs.{if_ok_both, if_err_both, run_as, lives_as, durable_front, slot_then, told_of, opened_told, not_opened_told}
+use Rattle.keeper.proofs.Cut.{came_alone}
+use Rattle.keeper.proofs.Stops.{within_turn, within_last}
+use Rattle.keeper.proofs.Runs.{if_ok_both, if_ok_five, if_err_both, if_err_map, run_as, lives_as, durable_front, slot_then, told_of, opened_told, not_opened_told}
 use Rattle.keeper.proofs.rehearsing.Run.stop_within.Goals as goal
 
 pub resume-requires-clause-room : goal.resume-requires-clause-room
@@ -89,6 +93,50 @@ returns-clause-counted g c event within before done f =
     c.resume.ensures.counted c.resume.ensures.told c.resume.ensures.stopped
 
 pub returns-clause-cut : goal.returns-clause-cut
-returns-clause-cut g c event is tidy =
-    let came = subst (λ (d : g.row.D.Denot). CameTidy g.D.Disk.honest g.D.Disk.content d) (sym (c.write-written.ensures.given ∙ c.arm.ensures.given)) tidy in
-    rw is (c.write-written.new.self.keeper.disk, c.halt-halted.result.0.disk, c.halt-halted.ensures.cut came, c.resume.ensures.content (c.halt-halted.ensures.honest came))
+returns-clause-cut g c event within picks first done going =
+    let self = c.args.self in
+    let m = self.life.keeper.machine in
+    let mid = c.write-written.new.self.keeper.machine in
+    let disk = c.write-written.new.self.keeper.disk in
+    let wrote = subst (λ (x : Machine). Writes x c.args.writing c.write-written.result mid) c.arm.ensures.machine c.write-written.ensures.does in
+    let later = writes_later c.args.writing c.write-written.result m mid c.args.self.life.living.state wrote in
+    let run = going.run in
+    let came = subst (λ (d : g.row.D.Denot). CameTidy g.D.Disk.honest g.D.Disk.content d) (sym (c.write-written.ensures.given ∙ c.arm.ensures.given)) going.came in
+    let halted = c.halt-halted.result.0 in
+    let is = c.halt-halted.ensures.halted came in
+    let there = c.halt-halted.ensures.honest came in
+    let replies : halted.replies.items ≡ self.replies.items = (let e = c.halt-halted.ensures.replies in cc) in
+    let history : halted.history.items ≡ self.history.items = (let e = c.halt-halted.ensures.history in cc) in
+    let told = told_of first done self.replies.items self.history.items m run mid later c.args.writing c.write-written.result c.tell_write.new.replies.items c.args.self.life.living.state wrote (rw replies at c.tell_write.ensures.told) in
+    let alone : (last : Replied) → told.told ++ last ∷ [] ≡ last ∷ [] → g.D.Stoppable.armed disk ≡ Some 0 =
+    λ last only. came_alone c.halt-halted.result.1 _ self.replies.items c.tell_write.new.replies.items told.told c.write-written.result last c.halt-halted.ensures.came.0
+    (λ no. c.tell_write.ensures.behind no ∙ ap (λ (rs : List Replied). rs ++ c.write-written.result ∷ []) replies) told.is only in
+    let slot = slot_then first done self.replies.items self.history.items m run mid later in
+    if_ok_five c.resume.result _ _ _ _ _ _
+    (λ x b h t stands same. within_turn g.D.Disk.honest g.D.Disk.content g.D.Disk.left g.D.Stoppable.armed (IsCut g.D.Stoppable.synced g.D.Stoppable.is_unsynced g.D.Disk.content)
+    first done self.replies.items self.history.items m run mid later event c.args.writing _ within picks c.tell_write.new.replies.items told disk (c.halt-halted.ensures.held came) (g.D.Disk.content halted.disk) (c.halt-halted.ensures.cut came) alone
+    x.life.keeper.machine x.replies.items x.history.items (g.D.Disk.content x.life.keeper.disk) b stands t
+    (h ∙ ap (λ (cs : List Command). cs ++ commands_to mid x.life.keeper.machine.base_version) history) same)
+    (c.resume.ensures.begins mid there is slot) (c.resume.ensures.history mid there is slot) c.resume.ensures.told (c.resume.ensures.stands mid there is slot) (c.resume.ensures.content there)
+
+pub returns-clause-cut_last : goal.returns-clause-cut_last
+returns-clause-cut_last g c event within picks first done going =
+    let self = c.args.self in
+    let m = self.life.keeper.machine in
+    let mid = c.write-written.new.self.keeper.machine in
+    let disk = c.write-written.new.self.keeper.disk in
+    let wrote = subst (λ (x : Machine). Writes x c.args.writing c.write-written.result mid) c.arm.ensures.machine c.write-written.ensures.does in
+    let later = writes_later c.args.writing c.write-written.result m mid c.args.self.life.living.state wrote in
+    let run = going.run in
+    let came = subst (λ (d : g.row.D.Denot). CameTidy g.D.Disk.honest g.D.Disk.content d) (sym (c.write-written.ensures.given ∙ c.arm.ensures.given)) going.came in
+    let halted = c.halt-halted.result.0 in
+    let is = c.halt-halted.ensures.halted came in
+    let there = c.halt-halted.ensures.honest came in
+    let replies : halted.replies.items ≡ self.replies.items = (let e = c.halt-halted.ensures.replies in cc) in
+    let told = told_of first done self.replies.items self.history.items m run mid later c.args.writing c.write-written.result c.tell_write.new.replies.items c.args.self.life.living.state wrote (rw replies at c.tell_write.ensures.told) in
+    let alone : (last : Replied) → told.told ++ last ∷ [] ≡ last ∷ [] → g.D.Stoppable.armed disk ≡ Some 0 =
+    λ last only. came_alone c.halt-halted.result.1 _ self.replies.items c.tell_write.new.replies.items told.told c.write-written.result last c.halt-halted.ensures.came.0
+    (λ no. c.tell_write.ensures.behind no ∙ ap (λ (rs : List Replied). rs ++ c.write-written.result ∷ []) replies) told.is only in
+    if_err_map c.resume.result _ _ (λ x t. within_last g.D.Disk.honest g.D.Disk.content g.D.Disk.left g.D.Stoppable.armed (IsCut g.D.Stoppable.synced g.D.Stoppable.is_unsynced g.D.Disk.content)
+    first done self.replies.items self.history.items m run mid later event c.args.writing _ within picks c.tell_write.new.replies.items told disk (c.halt-halted.ensures.held came) (g.D.Disk.content halted.disk) (c.halt-halted.ensures.cut came) alone
+    x.replies.items is.held t) c.resume.ensures.stopped

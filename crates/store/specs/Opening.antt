@@ -1,6 +1,6 @@
 -- The parts of opening a file.
 use Rattle.std.specs.Prelude.{◌≡◌, ◌⊎◌, Some, ℕ, ◌+◌, ◌*◌, nat_le, ◌==◌, List, length, Result, Ok}
-use Rattle.storefile.specs.StoreFile.{joined, StandsFor}
+use Rattle.storefile.specs.StoreFile.{page, joined, StandsFor}
 use Rattle.roadnet.specs.declared.commands.Command.{Command}
 use Rattle.roadnet.specs.declared.refusals.Refusal.{Refusal}
 use Rattle.roadnet.specs.declared.refusals.Refusal.TheVariants.{NotAStore, WrongFormat, Damaged, OutOfMemory, Device}
@@ -22,6 +22,10 @@ header_from size page = do
   h ← spelled_at 0 (header_in page)
   _ ← unless_so (size == 4096 * page_count h) (Damaged 0)
   Ok h
+
+-- the file begins with the header of a store, and is as long as the header announces
+abbrev pub HeaderFits : List ℕ → Type 0
+HeaderFits file = (header : Header) × (header_from (length file) (page file 0) ≡ Ok header)
 
 -- what the current slot holds
 pub record Current : Type 0 where

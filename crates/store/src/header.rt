@@ -1,5 +1,6 @@
-ghost use Rattle.std.specs.Prelude.{◌≡◌, ◌*◌, ◌↔◌, Ok, length, take, IfOk, IfErr};
+ghost use Rattle.std.specs.Prelude.{◌≡◌, ◌≢◌, ◌*◌, ◌↔◌, Ok, length, take, IfOk, IfErr};
 ghost use Rattle.std.specs.Str.{bytes_eq};
+ghost use Rattle.roadnet.specs.declared.refusals.Refusal.TheVariants.{OutOfMemory as out_of_memory};
 ghost use Rattle.disk.specs.Moments.{StaysSame};
 ghost use Rattle.pages.specs.Spelling.{IsHeader};
 ghost use Rattle.pages.specs.Layout.{page_count};
@@ -56,6 +57,7 @@ fn judge_header(page: &[u8; PAGE_SIZE], length: u64) -> Result<Header, Refusal>
     ensures fits { IfOk result IsHeader }
     ensures size { IfOk result (λ header. length ≡ 4096 * page_count header) }
     ensures causes { IfErr result MayEndOpening }
+    ensures memory { IfErr result (λ refusal. refusal ≢ out_of_memory) }
     ensures quiet { IsQuiet result }
 {
     if !begins_as_store(page, length) {
@@ -73,13 +75,14 @@ fn judge_header(page: &[u8; PAGE_SIZE], length: u64) -> Result<Header, Refusal>
     Ok(header)
 }
 
-/// The header of the store on the disk, whose sizes are those of the file. Nothing is changed.
+/// The header of the store on the disk, whose sizes are those of the file. Nothing is changed, and no memory is asked for.
 pub fn read_header<D: Disk>(disk: &mut D) -> Result<Header, Refusal>
     ensures header { D.honest disk.old → IfOk result (λ header. header_from (length (D.content disk.old)) (page (D.content disk.old) 0) ≡ Ok header) }
     ensures fits { IfOk result IsHeader }
     ensures size { D.honest disk.old → IfOk result (λ header. length (D.content disk.old) ≡ 4096 * page_count header) }
     ensures refused { D.honest disk.old → IfErr result (λ refusal. MayRefuse (header_from (length (D.content disk.old)) (page (D.content disk.old) 0)) refusal) }
     ensures causes { IfErr result MayEndOpening }
+    ensures memory { IfErr result (λ refusal. refusal ≢ out_of_memory) }
     ensures same { D.honest disk.old → StaysSame D.content D.left D.moment D.left_since disk.old disk.new }
     ensures counted { D.failures disk.new ≡ failures_told result (D.failures disk.old) }
     ensures honest { D.honest disk.new ↔ D.honest disk.old }

@@ -5,7 +5,7 @@ ghost use Rattle.disk.specs.Contents.{Only, Rose};
 ghost use Rattle.disk.specs.Moments.{StaysSame};
 ghost use Rattle.pagereader.specs.Outcomes.{failures_with, MayEndOpening};
 ghost use Rattle.storefile.specs.StoreFile.{StandsTidyFor};
-ghost use Rattle.store.specs.Opening.{IsPassing, MayRefuseToOpen, StandsForSome};
+ghost use Rattle.store.specs.Opening.{HeaderFits, IsPassing, MayRefuseToOpen, StandsForSome};
 ghost use Rattle.store.specs.State.{HasCheckpointPages, IsTidy, StandsAs, StandsAt, told};
 
 use crate::creation::create_paged;
@@ -64,8 +64,8 @@ pub fn create<D: Disk>(
 }
 
 /// Opens the store on a disk. It syncs, and then judges and reads the whole file in the order of the format; nothing is written. The first
-/// refusal ends it, and hands the disk back: no store (40), another format (41), a page that is damaged (42), and at each step that the
-/// disk failed (43) or that no memory was given (11).
+/// refusal ends it, and hands the disk back: no store (40), another format (41), a page that is damaged (42), at each step that the disk
+/// failed (43), and behind the header that no memory was given (11).
 ///
 /// It takes a pass over the arc pages and the current slot, the network, and 256 KiB for pages.
 ///
@@ -84,6 +84,8 @@ pub fn open<D: Disk>(alloc: Global, disk: D) -> Result<Store<D>, (Refusal, D)>
     ensures handed_back { D.honest disk → IfErr result (λ refused. StaysSame D.content D.left D.moment D.left_since disk refused.1) }
     // It refuses what the format refuses. Other refusals come for want of memory, or where the disk failed in this call.
     ensures judged { D.honest disk → IfErr result (λ refused. MayRefuseToOpen (D.content disk) refused.0) }
+    // Want of memory is told only where the header fits the file.
+    ensures order { D.honest disk → IfErr result (λ refused. refused.0 ≡ out_of_memory → HeaderFits (D.content disk)) }
     // Whatever the disk, it refuses with 11 or 40 to 43. Its count of failures rises by one where 43 is told, and else not at all.
     ensures causes { IfErr result (λ refused. MayEndOpening refused.0) }
     ensures counted { MatchResult result (λ store. D.failures store.disk ≡ D.failures disk) (λ refused. D.failures refused.1 ≡ failures_with refused.0 (D.failures disk)) }

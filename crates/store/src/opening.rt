@@ -1,5 +1,5 @@
 ghost use Rattle.std.specs.Prelude.{◌≡◌, ◌+◌, ◌*◌, ◌↔◌, false, ℕ, List, Ok, Some, length, IfOk, IfErr, OnOk, MatchResult};
-ghost use Rattle.roadnet.specs.declared.refusals.Refusal.TheVariants.{Device as device};
+ghost use Rattle.roadnet.specs.declared.refusals.Refusal.TheVariants.{OutOfMemory as out_of_memory, Device as device};
 ghost use Rattle.disk.specs.Contents.{Only, Rose};
 ghost use Rattle.disk.specs.Moments.{StaysSame};
 ghost use Rattle.pages.specs.Spelling.{IsHeader, IsHead};
@@ -10,7 +10,7 @@ ghost use Rattle.storefile.specs.Standing.{HasFitNumbers, standing_of};
 ghost use Rattle.pagereader.specs.Outcomes.{failures_told, MayRefuse, MayEndOpening, failures_with};
 ghost use Rattle.checkpoint.specs.Loading.{head_of};
 ghost use Rattle.store.specs.Durable.{told_by, going_of};
-ghost use Rattle.store.specs.Opening.{header_from, current_from, AreCarriedOut, IsPassing, MayRefuseToOpen, StandsForSome};
+ghost use Rattle.store.specs.Opening.{header_from, HeaderFits, current_from, AreCarriedOut, IsPassing, MayRefuseToOpen, StandsForSome};
 
 use crate::header::read_header;
 use crate::paged::Paged;
@@ -153,6 +153,7 @@ fn read_synced<D: Disk>(alloc: Global, disk: &mut D) -> Result<Found, Refusal>
     ensures standing { D.honest disk.old → IfOk result (λ found. standing_of (D.content disk.old) ≡ Some (record { header = found.header; slot = found.slot; epoch = found.epoch; network = found.network; version = found.version; next = found.next_sequence; unchecked = found.unchecked })) }
     ensures numbers { IfOk result (λ found. HasFitNumbers found.header found.epoch found.version found.next_sequence found.unchecked) }
     ensures refused { D.honest disk.old → IfErr result (λ refusal. MayRefuse (opened (D.content disk.old)) refusal) }
+    ensures order { D.honest disk.old → IfErr result (λ refusal. refusal ≡ out_of_memory → HeaderFits (D.content disk.old)) }
     ensures causes { IfErr result MayEndOpening }
     ensures same { D.honest disk.old → StaysSame D.content D.left D.moment D.left_since disk.old disk.new }
     ensures counted { D.failures disk.new ≡ failures_told result (D.failures disk.old) }
@@ -169,12 +170,13 @@ fn read_synced<D: Disk>(alloc: Global, disk: &mut D) -> Result<Found, Refusal>
 }
 
 /// Syncs, and then judges and reads the whole file, in the order of the format. Nothing is written. The first refusal ends it: no store (40),
-/// another format (41), a damaged page (42); the disk failed (43) or no memory was given (11) may come at each step.
+/// another format (41), a damaged page (42). That the disk failed (43) may come at each step, that no memory was given (11) behind the header.
 pub fn find<D: Disk>(alloc: Global, disk: &mut D) -> Result<Found, Refusal>
     ensures standing { D.honest disk.old → IfOk result (λ found. standing_of (D.content disk.old) ≡ Some (record { header = found.header; slot = found.slot; epoch = found.epoch; network = found.network; version = found.version; next = found.next_sequence; unchecked = found.unchecked })) }
     ensures numbers { IfOk result (λ found. HasFitNumbers found.header found.epoch found.version found.next_sequence found.unchecked) }
     ensures refused { D.honest disk.old → IfErr result (λ refusal. MayRefuse (opened (D.content disk.old)) refusal) }
     ensures at_rest { D.honest disk.old → OnOk result (Only (D.content disk.new) (D.left disk.new)) }
+    ensures order { D.honest disk.old → IfErr result (λ refusal. refusal ≡ out_of_memory → HeaderFits (D.content disk.old)) }
     ensures causes { IfErr result MayEndOpening }
     ensures same { D.honest disk.old → StaysSame D.content D.left D.moment D.left_since disk.old disk.new }
     ensures counted { D.failures disk.new ≡ failures_told result (D.failures disk.old) }
@@ -202,6 +204,8 @@ pub fn open_paged<D: Disk>(alloc: Global, disk: D) -> Result<Paged<D>, (Refusal,
     ensures handed_back { D.honest disk → IfErr result (λ refused. StaysSame D.content D.left D.moment D.left_since disk refused.1) }
     // It refuses what the format refuses. Other refusals come for want of memory, or where the disk failed in this call.
     ensures judged { D.honest disk → IfErr result (λ refused. MayRefuseToOpen (D.content disk) refused.0) }
+    // Want of memory is told only where the header fits the file.
+    ensures order { D.honest disk → IfErr result (λ refused. refused.0 ≡ out_of_memory → HeaderFits (D.content disk)) }
     // Whatever the disk, it refuses with 11 or 40 to 43. Its count of failures rises by one where 43 is told, and else not at all.
     ensures causes { IfErr result (λ refused. MayEndOpening refused.0) }
     ensures counted { MatchResult result (λ store. D.failures store.disk ≡ D.failures disk) (λ refused. D.failures refused.1 ≡ failures_with refused.0 (D.failures disk)) }

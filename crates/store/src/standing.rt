@@ -1,10 +1,11 @@
 // How a store stands in its file: told of a store, and of a file that is only looked at.
 ghost use Rattle.std.specs.Prelude.{◌≡◌, ◌↔◌, false, IfOk, IfErr};
 ghost use Rattle.disk.specs.Moments.{StaysSame};
+ghost use Rattle.roadnet.specs.declared.refusals.Refusal.TheVariants.{OutOfMemory as out_of_memory};
 ghost use Rattle.roadnet.specs.Net.{Net};
 ghost use Rattle.pagereader.specs.Outcomes.{failures_told, MayEndOpening};
 ghost use Rattle.store.specs.Inspecting.{StandsThus};
-ghost use Rattle.store.specs.Opening.{MayRefuseToOpen};
+ghost use Rattle.store.specs.Opening.{HeaderFits, MayRefuseToOpen};
 ghost use Rattle.store.specs.State.{CameTidy};
 
 use crate::opening::find;
@@ -61,6 +62,8 @@ pub fn inspect<D: Disk>(alloc: Global, disk: &mut D) -> Result<Inspected, Refusa
     ensures stands { D.honest disk.old → IfOk result (λ found. (net : Net) × StandsThus (D.content disk.old) net found.version found.standing) }
     // It refuses what the format refuses. Other refusals come for want of memory, or where the disk failed in this call.
     ensures judged { D.honest disk.old → IfErr result (MayRefuseToOpen (D.content disk.old)) }
+    // Want of memory is told only where the header fits the file.
+    ensures order { D.honest disk.old → IfErr result (λ refusal. refusal ≡ out_of_memory → HeaderFits (D.content disk.old)) }
     // Whatever the disk, it refuses with 11 or 40 to 43. Its count of failures rises by one where 43 is told, and else not at all.
     ensures causes { IfErr result MayEndOpening }
     ensures counted { D.failures disk.new ≡ failures_told result (D.failures disk.old) }

@@ -47,6 +47,55 @@ kept_refused n = ap (λ b. n.has_minus || b) (unreadable_kept n)
 pub kept_number : (n : Numeral) → is_refused n ≡ false → kept n ≡ n
 kept_number n e = kept_is n (or_parts _ _ e).1
 
+-- What is right of the fields behind a word, whether they are no numeral, one that is refused or one that is not, is right of what they are read as.
+module _ (Right : Row → Result ℕ Code → Type 0) (malformed : (numbers : Row) → is_malformed 1 numbers ≡ true → Right numbers (Err BadLine))
+    (refused : (u : List ℕ) (a : Numeral) → numeral u ≡ Some a → is_refused a ≡ true → Right (u ∷ []) (Err NumberRange))
+    (plain : (u : List ℕ) (a : Numeral) → numeral u ≡ Some a → is_refused a ≡ false → Right (u ∷ []) (Ok (size_at (u ∷ []) 0))) where
+  of_numeral : (u : List ℕ) (a : Numeral) → numeral u ≡ Some a → (b : Bool) → is_refused a ≡ b → Right (u ∷ []) (cond b (Err NumberRange) (Ok (kept a).size))
+  of_numeral u a e true is = refused u a e is
+  of_numeral u a e false is =
+      let size : size_at (u ∷ []) 0 ≡ (kept a).size = rw e (sym (ap (λ (n : Numeral). n.size) (kept_number a is))) in
+      subst (λ (n : ℕ). Right (u ∷ []) (Ok n)) size (plain u a e is)
+
+  pub number_right : (numbers : Row) → Right numbers (number_read (one_numeral numbers))
+  number_right numbers =
+      elim (one_cases numbers) [
+        | inl bad ↦ rw bad.0 (malformed numbers bad.1)
+        | inr one ↦
+            let read : one_numeral (one.field ∷ []) ≡ Some (kept one.a) = rw one.field_is refl in
+            let result : number_read (one_numeral (one.field ∷ [])) ≡ cond (is_refused one.a) (Err NumberRange) (Ok (kept one.a).size) =
+            ap number_read read ∙ ap (λ (x : Bool). cond x (Err NumberRange) (Ok (kept one.a).size)) (kept_refused one.a) in
+            rw one.fields (subst (Right (one.field ∷ [])) (sym result) (of_numeral one.field one.a one.field_is (is_refused one.a) refl))
+      ]
+
+-- the same of two numbers
+module _ (Right : Row → Result (ℕ × ℕ) Code → Type 0) (malformed : (numbers : Row) → is_malformed 2 numbers ≡ true → Right numbers (Err BadLine))
+    (refused : (u v : List ℕ) (a b : Numeral) → numeral u ≡ Some a → numeral v ≡ Some b → (is_refused a || is_refused b) ≡ true → Right (u ∷ v ∷ []) (Err NumberRange))
+    (plain : (u v : List ℕ) (a b : Numeral) → numeral u ≡ Some a → numeral v ≡ Some b → (is_refused a || is_refused b) ≡ false
+    → Right (u ∷ v ∷ []) (Ok (size_at (u ∷ v ∷ []) 0, size_at (u ∷ v ∷ []) 1))) where
+  of_numerals : (u v : List ℕ) (a b : Numeral) → numeral u ≡ Some a → numeral v ≡ Some b → (c : Bool) → (is_refused a || is_refused b) ≡ c
+      → Right (u ∷ v ∷ []) (cond c (Err NumberRange) (Ok ((kept a).size, (kept b).size)))
+  of_numerals u v a b d e true is = refused u v a b d e is
+  of_numerals u v a b d e false is =
+      let parts = or_parts _ _ is in
+      let first : size_at (u ∷ v ∷ []) 0 ≡ (kept a).size = rw d (sym (ap (λ (n : Numeral). n.size) (kept_number a parts.0))) in
+      let second : size_at (u ∷ v ∷ []) 1 ≡ (kept b).size = rw e (sym (ap (λ (n : Numeral). n.size) (kept_number b parts.1))) in
+      subst (λ (m : ℕ). Right (u ∷ v ∷ []) (Ok ((kept a).size, m))) second
+      (subst (λ (n : ℕ). Right (u ∷ v ∷ []) (Ok (n, size_at (u ∷ v ∷ []) 1))) first (plain u v a b d e is))
+
+  pub numbers_right : (numbers : Row) → Right numbers (numbers_read (two_numerals numbers))
+  numbers_right numbers =
+      elim (two_cases numbers) [
+        | inl bad ↦ rw bad.0 (malformed numbers bad.1)
+        | inr two ↦
+            let read : two_numerals (two.nodes ∷ two.items ∷ []) ≡ Some (kept two.a, kept two.b) = rw (two.nodes_is, two.items_is) refl in
+            let same : (is_refused (kept two.a) || is_refused (kept two.b)) ≡ (is_refused two.a || is_refused two.b) =
+            ap (λ (x : Bool). x || is_refused (kept two.b)) (kept_refused two.a) ∙ ap (λ (y : Bool). is_refused two.a || y) (kept_refused two.b) in
+            let result : numbers_read (two_numerals (two.nodes ∷ two.items ∷ [])) ≡ cond (is_refused two.a || is_refused two.b) (Err NumberRange) (Ok ((kept two.a).size, (kept two.b).size)) =
+            ap numbers_read read ∙ ap (λ (x : Bool). cond x (Err NumberRange) (Ok ((kept two.a).size, (kept two.b).size))) same in
+            rw two.fields (subst (Right (two.nodes ∷ two.items ∷ [])) (sym result) (of_numerals two.nodes two.items two.a two.b two.nodes_is two.items_is (is_refused two.a || is_refused two.b) refl))
+      ]
+
 -- a word with one number
 module _ (word : List ℕ) (make : ℕ → Command) (plain : (numbers : Row) → (is_empty (word ∷ numbers) || is_remark 35 (word ∷ numbers)) ≡ false)
     (formed : (numbers : Row) → form_of commands (word ∷ numbers) ≡ Some (form word 1)) (made : (numbers : Row) → command_of (word ∷ numbers) ≡ Some (make (size_at numbers 0))) where
@@ -62,22 +111,12 @@ module _ (word : List ℕ) (make : ℕ → Command) (plain : (numbers : Row) →
   RightNumber numbers (Ok x) = ReadsLine (word ∷ numbers) (Ok (Some (make x)))
   RightNumber numbers (Err code) = ReadsLine (word ∷ numbers) (Err code)
 
-  number_is : (u : List ℕ) (a : Numeral) → numeral u ≡ Some a → (refused : Bool) → is_refused a ≡ refused → RightNumber (u ∷ []) (cond refused (Err NumberRange) (Ok (kept a).size))
-  number_is u a e true is = λ earlier. code_of_number earlier u a e ∙ rw is refl
-  number_is u a e false is =
-      let size : size_at (u ∷ []) 0 ≡ a.size = rw e refl in
-      ((λ earlier. code_of_number earlier u a e ∙ rw is refl), made (u ∷ []) ∙ ap (λ (x : ℕ). Some (make x)) (size ∙ sym (ap (λ (n : Numeral). n.size) (kept_number a is))))
-
   number_row : (numbers : Row) → RightNumber numbers (number_read (one_numeral numbers))
-  number_row numbers =
-      elim (one_cases numbers) [
-        | inl bad ↦ rw bad.0 (λ earlier. malformed_number earlier numbers bad.1)
-        | inr one ↦
-            let read : one_numeral (one.field ∷ []) ≡ Some (kept one.a) = rw one.field_is refl in
-            let result : number_read (one_numeral (one.field ∷ [])) ≡ cond (is_refused one.a) (Err NumberRange) (Ok (kept one.a).size) =
-            ap number_read read ∙ ap (λ (x : Bool). cond x (Err NumberRange) (Ok (kept one.a).size)) (kept_refused one.a) in
-            rw one.fields (subst (RightNumber (one.field ∷ [])) (sym result) (number_is one.field one.a one.field_is (is_refused one.a) refl))
-      ]
+  number_row =
+      number_right RightNumber
+      (λ numbers bad earlier. malformed_number earlier numbers bad)
+      (λ u a e bad earlier. code_of_number earlier u a e ∙ rw bad refl)
+      (λ u a e good. ((λ earlier. code_of_number earlier u a e ∙ rw good refl), made (u ∷ [])))
 
   pub number_says : (row numbers : Row) (x : ℕ) → row ≡ word ∷ numbers → Ok x ≡ number_read (one_numeral numbers) → ReadsLine row (Ok (Some (make x)))
   number_says row numbers x e is = rw e (subst (RightNumber numbers) (sym is) (number_row numbers))
@@ -99,28 +138,12 @@ abbrev RightNumbers : Row → Result (ℕ × ℕ) Code → Type 0
 RightNumbers numbers (Ok x) = ReadsLine (codes "set" ∷ numbers) (Ok (Some (Set x.0 x.1)))
 RightNumbers numbers (Err code) = ReadsLine (codes "set" ∷ numbers) (Err code)
 
-numbers_are : (u v : List ℕ) (a b : Numeral) → numeral u ≡ Some a → numeral v ≡ Some b → (refused : Bool) → (is_refused a || is_refused b) ≡ refused
-    → RightNumbers (u ∷ v ∷ []) (cond refused (Err NumberRange) (Ok ((kept a).size, (kept b).size)))
-numbers_are u v a b e f true is = λ earlier. code_of_numbers earlier u v a b e f ∙ rw is refl
-numbers_are u v a b e f false is =
-    let parts = or_parts _ _ is in
-    let a_is : a.size ≡ (kept a).size = sym (ap (λ (n : Numeral). n.size) (kept_number a parts.0)) in
-    let b_is : b.size ≡ (kept b).size = sym (ap (λ (n : Numeral). n.size) (kept_number b parts.1)) in
-    let says : command_of (codes "set" ∷ u ∷ v ∷ []) ≡ Some (Set a.size b.size) = rw (e, f) refl in
-    ((λ earlier. code_of_numbers earlier u v a b e f ∙ rw is refl), says ∙ ap (λ (x : ℕ). Some (Set x b.size)) a_is ∙ ap (λ (y : ℕ). Some (Set (kept a).size y)) b_is)
-
 numbers_row : (numbers : Row) → RightNumbers numbers (numbers_read (two_numerals numbers))
-numbers_row numbers =
-    elim (two_cases numbers) [
-      | inl bad ↦ rw bad.0 (λ earlier. malformed_numbers earlier numbers bad.1)
-      | inr two ↦
-          let read : two_numerals (two.nodes ∷ two.items ∷ []) ≡ Some (kept two.a, kept two.b) = rw (two.nodes_is, two.items_is) refl in
-          let same : (is_refused (kept two.a) || is_refused (kept two.b)) ≡ (is_refused two.a || is_refused two.b) =
-          ap (λ (x : Bool). x || is_refused (kept two.b)) (kept_refused two.a) ∙ ap (λ (y : Bool). is_refused two.a || y) (kept_refused two.b) in
-          let result : numbers_read (two_numerals (two.nodes ∷ two.items ∷ [])) ≡ cond (is_refused two.a || is_refused two.b) (Err NumberRange) (Ok ((kept two.a).size, (kept two.b).size)) =
-          ap numbers_read read ∙ ap (λ (x : Bool). cond x (Err NumberRange) (Ok ((kept two.a).size, (kept two.b).size))) same in
-          rw two.fields (subst (RightNumbers (two.nodes ∷ two.items ∷ [])) (sym result) (numbers_are two.nodes two.items two.a two.b two.nodes_is two.items_is (is_refused two.a || is_refused two.b) refl))
-    ]
+numbers_row =
+    numbers_right RightNumbers
+    (λ numbers bad earlier. malformed_numbers earlier numbers bad)
+    (λ u v a b d e bad earlier. code_of_numbers earlier u v a b d e ∙ rw bad refl)
+    (λ u v a b d e good. ((λ earlier. code_of_numbers earlier u v a b d e ∙ rw good refl), refl))
 
 pub set_says : (row numbers : Row) (x y : ℕ) → row ≡ codes "set" ∷ numbers → Ok (x, y) ≡ numbers_read (two_numerals numbers) → ReadsLine row (Ok (Some (Set x y)))
 set_says row numbers x y e is = rw e (subst (RightNumbers numbers) (sym is) (numbers_row numbers))

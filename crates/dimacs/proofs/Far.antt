@@ -126,17 +126,17 @@ some_row text some =
       | inr (i, e) ↦ (fields (strip_last 13 (take i text)), rows (drop (i + 1) text), ap (map fields) (first_line text i e))
     ]
 
+rest_is : (rest piece more after : List ℕ) → rest ≡ piece ++ 10 ∷ more → rest ++ after ≡ piece ++ 10 ∷ (more ++ after)
+rest_is rest piece more after e = rw e (append_assoc piece (10 ∷ more) after)
+
+-- the row of the next line
+pub next_row : (front rest piece more after : List ℕ) → All (λ b. b ≢ 10) front → All (λ b. b ≢ 10) piece → rest ≡ piece ++ 10 ∷ more
+    → rows (front ++ (rest ++ after)) ≡ fields (strip_last 13 (front ++ piece)) ∷ rows (more ++ after)
+next_row front rest piece more after in_front in_piece e = rw (rest_is rest piece more after e) (row_next front piece (more ++ after) in_front in_piece)
+
 -- One line is taken, and the rest of the bytes that are shown are left.
 
 module _ {S : Type 0} (judge : Judge) (has_taken : List Row → S → Type 0) (mark : ℕ) (text : List ℕ) where
-  rest_is : (rest piece more after : List ℕ) → rest ≡ piece ++ 10 ∷ more → rest ++ after ≡ piece ++ 10 ∷ (more ++ after)
-  rest_is rest piece more after e = rw e (append_assoc piece (10 ∷ more) after)
-
-  -- the row of the next line
-  next_row : (front rest piece more after : List ℕ) → All (λ b. b ≢ 10) front → All (λ b. b ≢ 10) piece → rest ≡ piece ++ 10 ∷ more
-      → rows (front ++ (rest ++ after)) ≡ fields (strip_last 13 (front ++ piece)) ∷ rows (more ++ after)
-  next_row front rest piece more after in_front in_piece e = rw (rest_is rest piece more after e) (row_next front piece (more ++ after) in_front in_piece)
-
   feeds_none : (bytes : List ℕ) → All (λ b. b ≢ 10) bytes → count_by is_line_feed bytes ≡ 0
   feeds_none [] none = refl
   feeds_none (b ∷ bs) none =
@@ -172,16 +172,15 @@ module _ {S : Type 0} (judge : Judge) (has_taken : List Row → S → Type 0) (m
         feeds = feeds_line at.before piece in_piece ∙ omega (arith, at.feeds, lines);
       }
 
-  pub met_run : (rest piece more after : List ℕ) (old new : Feed S) → (at : Within judge has_taken mark text (rest ++ after) old)
-      → rest ≡ piece ++ 10 ∷ more → All (λ b. b ≢ 10) piece
-      → old.until_run ≡ true → is_run (fields (strip_last 13 (at.front ++ piece))) ≡ true → has_taken at.earlier new.taker
-      → new.until_run ≡ old.until_run → new.lines ≡ old.lines
-      → BeforeRun judge has_taken text (more ++ after) new
-  met_run rest piece more after old new at e in_piece until is taken same lines =
+  -- the next line is `run`
+  pub met_run : (left after : List ℕ) (row : Row) (old new : Feed S) → (at : Within judge has_taken mark text left old) → rows (at.front ++ left) ≡ row ∷ rows after
+      → old.until_run ≡ true → is_run row ≡ true → has_taken at.earlier new.taker → new.until_run ≡ old.until_run → new.lines ≡ old.lines
+      → BeforeRun judge has_taken text after new
+  met_run left after row old new at next until is taken same lines =
       record {
         earlier = at.earlier;
-        row = fields (strip_last 13 (at.front ++ piece));
-        lines = at.lines ∙ ap (λ (l : List Row). at.earlier ++ l) (next_row at.front rest piece more after at.in_line in_piece e);
+        row = row;
+        lines = at.lines ∙ ap (λ (l : List Row). at.earlier ++ l) next;
         is = is;
         until = same ∙ until;
         count = at.count ∙ sym lines;
@@ -190,17 +189,17 @@ module _ {S : Type 0} (judge : Judge) (has_taken : List Row → S → Type 0) (m
         taken = taken;
       }
 
-  pub met_fault : (rest piece more after : List ℕ) (old new : Feed S) (code : Code) → (at : Within judge has_taken mark text (rest ++ after) old)
-      → rest ≡ piece ++ 10 ∷ more → All (λ b. b ≢ 10) piece
-      → ByMemory code ((judge at.earlier (fields (strip_last 13 (at.front ++ piece))) ≡ Some code) × (old.until_run ≡ true → is_run (fields (strip_last 13 (at.front ++ piece))) ≡ false)) ⊤
-      → new.until_run ≡ old.until_run → new.lines ≡ old.lines
-      → StopsAt judge text new code
-  met_fault rest piece more after old new code at e in_piece why same lines =
+  -- the next line has a fault, or memory ran out in it
+  pub met_fault : (left : List ℕ) (row : Row) (later : List Row) (old new : Feed S) (code : Code) → (at : Within judge has_taken mark text left old)
+      → rows (at.front ++ left) ≡ row ∷ later
+      → ByMemory code ((judge at.earlier row ≡ Some code) × (old.until_run ≡ true → is_run row ≡ false)) ⊤
+      → new.until_run ≡ old.until_run → new.lines ≡ old.lines → StopsAt judge text new code
+  met_fault left row later old new code at next why same lines =
       record {
         earlier = at.earlier;
-        row = fields (strip_last 13 (at.front ++ piece));
-        later = rows (more ++ after);
-        lines = at.lines ∙ ap (λ (l : List Row). at.earlier ++ l) (next_row at.front rest piece more after at.in_line in_piece e);
+        row = row;
+        later = later;
+        lines = at.lines ∙ ap (λ (l : List Row). at.earlier ++ l) next;
         count = at.count ∙ sym lines;
         clean = at.clean;
         no_run = λ u. at.no_run (sym same ∙ u);
@@ -231,16 +230,7 @@ module _ {S : Type 0} (judge : Judge) (has_taken : List Row → S → Type 0) (m
       → new.until_run ≡ old.until_run → new.lines ≡ old.lines → StopsAt judge text new OutOfMemory
   refused_front rest after old new at some same lines =
       let next = some_row (at.front ++ (rest ++ after)) (omega (arith, length-append at.front (rest ++ after), length-append rest after)) in
-      record {
-        earlier = at.earlier;
-        row = next.0;
-        later = next.1;
-        lines = at.lines ∙ ap (λ (l : List Row). at.earlier ++ l) next.2;
-        count = at.count ∙ sym lines;
-        clean = at.clean;
-        no_run = λ u. at.no_run (sym same ∙ u);
-        why = tt;
-      }
+      met_fault (rest ++ after) next.0 next.1 old new OutOfMemory at next.2 tt same lines
 
 -- how far a feed is in the bytes that it was shown
 pub record Gone {S : Type 0} (judge : Judge) (has_taken : List Row → S → Type 0) (mark : ℕ) (bytes rest : List ℕ) (old new : Feed S) : Type 0 where
@@ -340,37 +330,6 @@ module _ {S : Type 0} (judge : Judge) (has_taken : List Row → S → Type 0) wh
       let last : rows text ≡ at.earlier ++ row ∷ [] = at.lines ∙ ap (λ (l : List Row). at.earlier ++ l) (last_row at.front at.in_line some) in
       whole_reads old.until_run text (at.earlier ++ row ∷ []) ended last (clean_more judge at.earlier row at.clean none) (λ u. no_run_more at.earlier row (at.no_run u) (other u)) (rw taker taken)
       (omega (arith, length-append at.earlier (row ∷ []), at.count, lines)) run
-
-  pub last_run : (mark : ℕ) (text : List ℕ) (old new : Feed S) → (at : Within judge has_taken mark text [] old) → 0 < length at.front
-      → old.until_run ≡ true → is_run (fields (strip_last 13 (at.front ++ []))) ≡ true → has_taken at.earlier new.taker
-      → new.until_run ≡ old.until_run → new.lines ≡ old.lines → BeforeRun judge has_taken text [] new
-  last_run mark text old new at some until is taken same lines =
-      record {
-        earlier = at.earlier;
-        row = fields (strip_last 13 (at.front ++ []));
-        lines = at.lines ∙ ap (λ (l : List Row). at.earlier ++ l) (last_row at.front at.in_line some);
-        is = is;
-        until = same ∙ until;
-        count = at.count ∙ sym lines;
-        clean = at.clean;
-        no_run = at.no_run until;
-        taken = taken;
-      }
-
-  pub last_fault : (mark : ℕ) (text : List ℕ) (old new : Feed S) (code : Code) → (at : Within judge has_taken mark text [] old) → 0 < length at.front
-      → ByMemory code ((judge at.earlier (fields (strip_last 13 (at.front ++ []))) ≡ Some code) × (old.until_run ≡ true → is_run (fields (strip_last 13 (at.front ++ []))) ≡ false)) ⊤
-      → new.until_run ≡ old.until_run → new.lines ≡ old.lines → StopsAt judge text new code
-  last_fault mark text old new code at some why same lines =
-      record {
-        earlier = at.earlier;
-        row = fields (strip_last 13 (at.front ++ []));
-        later = [];
-        lines = at.lines ∙ ap (λ (l : List Row). at.earlier ++ l) (last_row at.front at.in_line some);
-        count = at.count ∙ sym lines;
-        clean = at.clean;
-        no_run = λ u. at.no_run (sym same ∙ u);
-        why = by_memory_of code why (λ p. (p.0, λ u. p.1 (sym same ∙ u))) (λ t. tt);
-      }
 
   pub all_reads : (mark : ℕ) (text : List ℕ) (old : Feed S) (ended : Ended S) → (at : Within judge has_taken mark text [] old) → at.front ≡ []
       → ended.taker ≡ old.taker → ended.lines ≡ old.lines → ended.at_run ≡ false → ReadAll judge has_taken old.until_run text (Some []) ended

@@ -16,6 +16,7 @@ mod NodeItems
 mod TextNodes
 pub mod Sets
 pub mod CommandRows
-mod Words
+pub mod Spelled
+mod SixBytes
 mod FirstFaultLemmas
 mod NextBytes

@@ -6,6 +6,7 @@ pub mod Faults
 pub mod Kinds
 pub mod FirstFault
 pub mod Commands
+pub mod Spelling
 pub mod Reading
 pub mod Content
 pub mod Joint

@@ -16,6 +16,7 @@ pub mod pairs;
 pub mod problem;
 pub mod reading;
 pub mod taking;
+pub mod words;
 
 pub use commands::{number, parse_commands, read_commands, read_commands_counted, two_numbers};
 pub use counted::Counted;
@@ -29,6 +30,7 @@ pub use numeral::Numeral;
 pub use pairs::{Pair, parse_p2p, read_p2p, read_p2p_counted};
 pub use reading::{split_one, split_two};
 pub use taking::TakeLines;
+pub use words::{OneNumber, TwoNumbers, word_of_one, word_of_two};
 
 #[cfg(test)]
 mod other_tests;

@@ -1,6 +1,6 @@
 -- What a call that failed counts, and what it leaves unwritten.
 use Rattle.std.specs.Prelude.{◌≡◌, ℕ, zero, suc, Result, Ok, Err, ⊤}
-use Rattle.roadnet.specs.declared.refusals.Refusal.TheVariants.{Write}
+use Rattle.roadnet.specs.declared.refusals.Refusal.TheVariants.{Write, Device}
 use Rattle.dimacs.specs.declared.fault.Fault.{Fault}
 use Rattle.dimacs.specs.Taking.{ByCode}
 use Rattle.dimacs.specs.Counts.{one_more_failed}
@@ -45,3 +45,8 @@ CountsFirst old new result = new ≡ old
 abbrev pub CountsSecond : {X : Type 0} → ℕ → ℕ → Result X Failed → Type 0
 CountsSecond old new (Err (Text (suc zero) fault)) = ByCode fault.code (new ≡ old) (new ≡ one_more_failed old) (new ≡ old)
 CountsSecond old new result = new ≡ old
+
+-- what holds where the disk failed
+abbrev pub IfDevice : Failed → Type 0 → Type 0
+IfDevice (Code Device) failed = failed
+IfDevice other failed = ⊤

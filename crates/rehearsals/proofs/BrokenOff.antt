@@ -18,11 +18,11 @@ use Rattle.machine.specs.declared.events.Replied.TheVariants.{Refused}
 use Rattle.machine.specs.Machine.{start}
 use Rattle.machine.specs.Lives.{Turn, NoMemory}
 use Rattle.keeper.specs.Failures.{failures_by, failures_of_write, failures_of_stop, failures_after, failures_in, EndsAsTold}
-use Rattle.printing.specs.Failing.{CountsWrites}
+use Rattle.printing.specs.Failing.{CountsWrites, IfDevice}
 use Rattle.printing.specs.Replied.{printed_replies}
 use Rattle.printing.specs.declared.failed.Failed.{Failed}
 use Rattle.printing.specs.declared.failed.Failed.TheVariants.{Code}
-use Rattle.rehearsals.specs.Rehearsed.{sizes_of, RepliesTo, Rehearses, IsBrokenOff, IfDevice}
+use Rattle.rehearsals.specs.Rehearsed.{sizes_of, RepliesTo, Rehearses, IsBrokenOff}
 
 -- ---- a store that could not be made
 pub unmade_passing : (refusal : Refusal) → (refusal ≡ NotEmpty → ⊥) → (refusal ≡ NotEmpty) ⊎ ((refusal ≡ Device) ⊎ (refusal ≡ OutOfMemory)) → IsPassing refusal

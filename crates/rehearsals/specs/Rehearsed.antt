@@ -39,8 +39,3 @@ IsBrokenOff net journal_pages events old new (Code Write) = ⊤
 IsBrokenOff net journal_pages events old new (Code OutOfMemory) = Rehearses net journal_pages events (Some OutOfMemory) old new
 IsBrokenOff net journal_pages events old new (Code Device) = (new ≡ old) ⊎ Rehearses net journal_pages events (Some Device) old new
 IsBrokenOff net journal_pages events old new failed = ⊥
-
--- what holds where the disk failed
-abbrev pub IfDevice : Failed → Type 0 → Type 0
-IfDevice (Code Device) failed = failed
-IfDevice other failed = ⊤

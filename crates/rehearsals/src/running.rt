@@ -7,8 +7,8 @@ ghost use Rattle.rows.specs.Kept.{IsWidth};
 ghost use Rattle.store.specs.Opening.{IsPassing};
 ghost use Rattle.keeper.specs.Failures.{EndsAsTold};
 ghost use Rattle.printing.specs.Counting.{failed_writes, writer_of, IsSameWriter};
-ghost use Rattle.printing.specs.Failing.{CountsWrites};
-ghost use Rattle.rehearsals.specs.Rehearsed.{RepliesTo, Rehearses, IsBrokenOff, IfDevice};
+ghost use Rattle.printing.specs.Failing.{CountsWrites, IfDevice};
+ghost use Rattle.rehearsals.specs.Rehearsed.{RepliesTo, Rehearses, IsBrokenOff};
 
 use disk::{MemDisk, Pick, Stoppable};
 use keeper::{Rehearsal, rehearse};

@@ -1,10 +1,14 @@
 -- One line of a script, read from left to right.
 use Rattle.std.specs.Prelude.{◌≡◌, ◌⊎◌, ◌<◌, ℕ, Bool, true, false, ◌||◌, not, List, [], ◌∷◌, ◌++◌, length, Option, None, Some, option_map, Result, Ok, Err, map, if◌then◌else◌, ⊤}
-use Rattle.std.specs.List.{find, prefix_len}
+use Rattle.std.specs.List.{prefix_len}
 use Rattle.std.specs.Str.{bytes_eq}
 use lib.Chars.{codes}
 use Rattle.roadnet.specs.declared.commands.Command.TheVariants.{Set as set_arc, Close as close_arc, Reopen as reopen_arc, Mark as mark_node, Unmark as unmark_node}
 use Rattle.dimacs.specs.declared.numeral.Numeral.{Numeral}
+use Rattle.dimacs.specs.declared.words.OneNumber.{OneNumber}
+use Rattle.dimacs.specs.declared.words.OneNumber.TheVariants.{Close, Reopen, Mark, Unmark}
+use Rattle.dimacs.specs.declared.words.TwoNumbers.{TwoNumbers}
+use Rattle.dimacs.specs.declared.words.TwoNumbers.TheVariants.{Set, Dist, From, Lower}
 use Rattle.dimacs.specs.declared.fault.Code.{Code}
 use Rattle.dimacs.specs.declared.fault.Code.TheVariants.{BadLine, NumberRange}
 use Rattle.dimacs.specs.Commands.{form_of}
@@ -12,6 +16,7 @@ use Rattle.dimacs.specs.Faults.{Row, has_first, is_empty, is_remark, some_numera
 use Rattle.dimacs.specs.Lines.{fields}
 use Rattle.dimacs.specs.Numerals.{numeral, kept}
 use Rattle.dimacs.specs.Reading.{one_numeral}
+use Rattle.dimacs.specs.Spelling.{spelled_word, one_spelling, one_words, two_spelling, two_words}
 use Rattle.dimacs.specs.Taking.{ByMemory}
 use Rattle.disk.specs.declared.stoppable.Pick.{Pick}
 use Rattle.disk.specs.declared.stoppable.Pick.TheVariants.{Old, New, Byte}
@@ -19,10 +24,6 @@ use Rattle.rows.specs.declared.queries.Query.TheVariants.{Dist as distance, From
 use Rattle.machine.specs.declared.events.Event.{Event}
 use Rattle.scripts.specs.declared.script_words.Bare.{Bare}
 use Rattle.scripts.specs.declared.script_words.Bare.TheVariants.{Flush, Checkpoint, Task, Publish}
-use Rattle.scripts.specs.declared.script_words.OneNumber.{OneNumber}
-use Rattle.scripts.specs.declared.script_words.OneNumber.TheVariants.{Close, Reopen, Mark, Unmark}
-use Rattle.scripts.specs.declared.script_words.TwoNumbers.{TwoNumbers}
-use Rattle.scripts.specs.declared.script_words.TwoNumbers.TheVariants.{Set, Dist, From, Lower}
 use Rattle.scripts.specs.declared.script_words.Word.{Word}
 use Rattle.scripts.specs.declared.script_words.Word.TheVariants.{WithNone, WithOne, WithTwo, Stop, Step}
 use Rattle.scripts.specs.declared.script_stops.PicksRead.{PicksRead}
@@ -40,23 +41,17 @@ spelling (WithNone Flush) = codes "flush"
 spelling (WithNone Checkpoint) = codes "checkpoint"
 spelling (WithNone Task) = codes "task"
 spelling (WithNone Publish) = codes "publish"
-spelling (WithOne Close) = codes "close"
-spelling (WithOne Reopen) = codes "reopen"
-spelling (WithOne Mark) = codes "mark"
-spelling (WithOne Unmark) = codes "unmark"
-spelling (WithTwo Set) = codes "set"
-spelling (WithTwo Dist) = codes "dist"
-spelling (WithTwo From) = codes "from"
-spelling (WithTwo Lower) = codes "lower"
+spelling (WithOne word) = one_spelling word
+spelling (WithTwo word) = two_spelling word
 spelling Stop = codes "stop"
 spelling Step = codes "step"
 
 abbrev pub words : List Word
-words = WithNone Flush ∷ WithNone Checkpoint ∷ WithNone Task ∷ WithNone Publish ∷ WithOne Close ∷ WithOne Reopen ∷ WithOne Mark ∷ WithOne Unmark ∷ WithTwo Set ∷ WithTwo Dist ∷ WithTwo From ∷ WithTwo Lower ∷ Stop ∷ Step ∷ []
+words = WithNone Flush ∷ WithNone Checkpoint ∷ WithNone Task ∷ WithNone Publish ∷ [] ++ map WithOne one_words ++ map WithTwo two_words ++ Stop ∷ Step ∷ []
 
 -- the word that a field spells
 abbrev pub word_from : List ℕ → Option Word
-word_from field = find (λ word. bytes_eq field (spelling word)) words
+word_from field = spelled_word spelling words field
 
 abbrev pub IsKind : Row → Kind → Type 0
 IsKind row Ignored = (is_empty row || is_remark 35 row) ≡ true

@@ -8,12 +8,10 @@ ghost use Rattle.scripts.specs.ScriptReading.{IsKind, spelling, ReadsEvent, Read
 
 use crate::script_steps::step_event;
 use crate::script_stops::stop_event;
-use crate::script_words::{
-    Bare, OneNumber, TwoNumbers, Word, bare_event, one_event, two_event, word_of,
-};
+use crate::script_words::{Bare, Word, bare_event, one_event, two_event, word_of};
 use dimacs::{
-    Code, Counted, Ended, Fault, TakeLines, number, parse_lines, read_lines, split_field,
-    two_numbers,
+    Code, Counted, Ended, Fault, OneNumber, TakeLines, TwoNumbers, number, parse_lines, read_lines,
+    split_field, two_numbers,
 };
 use disk::Pick;
 use machine::Event;

@@ -3,6 +3,7 @@ ghost use Rattle.std.specs.Prelude.{◌≡◌};
 ghost use Rattle.scripts.specs.ScriptTexts.{as_line};
 ghost use Rattle.scripts.specs.ScriptReading.{word_from, bare_line, one_line, two_line};
 
+use dimacs::{OneNumber, TwoNumbers, word_of_one, word_of_two};
 use disk::Pick;
 use machine::Event;
 use roadnet::Command;
@@ -15,24 +16,6 @@ pub(crate) enum Bare {
     Checkpoint,
     Task,
     Publish,
-}
-
-/// A word with one number behind it.
-#[derive(Clone, Copy)]
-pub(crate) enum OneNumber {
-    Close,
-    Reopen,
-    Mark,
-    Unmark,
-}
-
-/// A word with two numbers behind it.
-#[derive(Clone, Copy)]
-pub(crate) enum TwoNumbers {
-    Set,
-    Dist,
-    From,
-    Lower,
 }
 
 /// A word by what stands behind it.
@@ -61,29 +44,11 @@ pub(crate) fn word_of(field: &[u8]) -> Option<Word>
     if field == b"publish".as_slice() {
         return Some(Word::WithNone(Bare::Publish));
     }
-    if field == b"close".as_slice() {
-        return Some(Word::WithOne(OneNumber::Close));
+    if let Some(word) = word_of_one(field) {
+        return Some(Word::WithOne(word));
     }
-    if field == b"reopen".as_slice() {
-        return Some(Word::WithOne(OneNumber::Reopen));
-    }
-    if field == b"mark".as_slice() {
-        return Some(Word::WithOne(OneNumber::Mark));
-    }
-    if field == b"unmark".as_slice() {
-        return Some(Word::WithOne(OneNumber::Unmark));
-    }
-    if field == b"set".as_slice() {
-        return Some(Word::WithTwo(TwoNumbers::Set));
-    }
-    if field == b"dist".as_slice() {
-        return Some(Word::WithTwo(TwoNumbers::Dist));
-    }
-    if field == b"from".as_slice() {
-        return Some(Word::WithTwo(TwoNumbers::From));
-    }
-    if field == b"lower".as_slice() {
-        return Some(Word::WithTwo(TwoNumbers::Lower));
+    if let Some(word) = word_of_two(field) {
+        return Some(Word::WithTwo(word));
     }
     if field == b"stop".as_slice() {
         return Some(Word::Stop);

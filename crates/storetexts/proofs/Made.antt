@@ -10,9 +10,9 @@ use Rattle.dimacs.specs.Content.{content}
 use Rattle.dimacs.specs.Texts.{Source}
 use Rattle.printing.specs.declared.failed.Failed.{Failed}
 use Rattle.printing.specs.declared.failed.Failed.TheVariants.{Code}
-use Rattle.printing.specs.Failing.{CountsWrites}
+use Rattle.printing.specs.Failing.{CountsWrites, IfDevice}
 use Rattle.storetexts.specs.Created.{landmarks_of, with_landmarks, IsNetworkOf, IsRefusedMarking, IsOfNetwork, IsOfMaking, IsRefusedNetwork, GiveNetwork, IsRefusedCreate, IsNewStore, IsNewStoreOf}
-use Rattle.storetexts.specs.Refused.{IfDone, IfNotEmpty, IfNoMemory, IfDevice}
+use Rattle.storetexts.specs.Refused.{IfDone, IfNotEmpty, IfNoMemory}
 
 done_weaker : (r : Result (Unit {0}) Failed) (P Q : Type 0) → (P → Q) → IfDone r P → IfDone r Q
 done_weaker (Ok done) P Q f h = f h

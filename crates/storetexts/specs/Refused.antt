@@ -28,11 +28,6 @@ abbrev pub IfNotEmpty : Failed → Type 0 → Type 0
 IfNotEmpty (Code NotEmpty) some = some
 IfNotEmpty failed some = ⊤
 
--- the disk failed
-abbrev pub IfDevice : Failed → Type 0 → Type 0
-IfDevice (Code Device) failed = failed
-IfDevice other failed = ⊤
-
 -- no memory was given
 abbrev pub IfNoMemory : Failed → Type 0 → Type 0
 IfNoMemory (Code OutOfMemory) made = made

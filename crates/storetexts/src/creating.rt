@@ -9,12 +9,12 @@ ghost use Rattle.dimacs.specs.Texts.{InMemory, OfReader};
 ghost use Rattle.disk.specs.Contents.{Rose};
 ghost use Rattle.disk.specs.Moments.{StaysSame};
 ghost use Rattle.printing.specs.Counting.{failed_writes, writer_of, IsSameWriter};
-ghost use Rattle.printing.specs.Failing.{CountsFirst, CountsSecond, CountsWrites, LeavesUnwritten};
+ghost use Rattle.printing.specs.Failing.{CountsFirst, CountsSecond, CountsWrites, IfDevice, LeavesUnwritten};
 ghost use Rattle.printing.specs.Replied.{number_line};
 ghost use Rattle.roadnet.specs.Net.{most_landmarks};
 ghost use Rattle.storetexts.specs.Created.{with_landmarks, IsNetworkOf, IsRefusedMarking, IsRefusedNetwork, IsOfNetwork, IsOfMaking};
 ghost use Rattle.storetexts.specs.Created.{IsRefusedCreate, IsNewStore, IsNewStoreOf};
-ghost use Rattle.storetexts.specs.Refused.{IfDone, IfNoDevice, IfOfTexts, IfNotEmpty, IfNoMemory, IfDevice};
+ghost use Rattle.storetexts.specs.Refused.{IfDone, IfNoDevice, IfOfTexts, IfNotEmpty, IfNoMemory};
 
 use dimacs::{Counted, parse_gr, parse_ss, read_gr_counted, read_ss_counted};
 use disk::Disk;

@@ -1,7 +1,7 @@
 use Rattle.std.proofs.Common.{◌≡◌, ◌∷◌, ◌∙◌, ap, rules, List, ℕ}
 use lib.Chars.{codes}
 use Rattle.dimacs.specs.Lines.{fields}
-use Rattle.dimacs.proofs.Words.{six}
+use Rattle.dimacs.proofs.SixBytes.{six}
 use Rattle.dimacs.proofs.commands.kind_of.Goals as goal
 
 pub returns-in-Some-reopen-default : goal.returns-in-Some-reopen-default

@@ -1,6 +1,6 @@
 use Rattle.std.proofs.Common.{◌++◌, ◌∷◌, [], refl, true, false, rules, arith, length, length-append, ap}
 use Rattle.std.proofs.lemmas.Result.{err_from_is_err_and}
-use Rattle.dimacs.proofs.Far.{took_line, met_run, met_fault, kept_front, refused_front, suffix_is, suffix_next, answered}
+use Rattle.dimacs.proofs.Far.{next_row, took_line, met_run, met_fault, kept_front, refused_front, suffix_is, suffix_next, answered}
 use Rattle.dimacs.proofs.feed.Feed.take.Goals as goal
 
 pub returns-in_err-take_whole-clause-feeds : goal.returns-in_err-take_whole-clause-feeds
@@ -8,7 +8,8 @@ returns-in_err-take_whole-clause-feeds g c text more within =
     let at = c.loop-piece.invariant.within text more within in
     let split = c.in-Some.ensures in
     let p = err_from_is_err_and c.from_residual.result c.from_residual.ensures.1 in
-    rw (p.1, p.2) (met_fault _ _ _ text _ _ _ more _ c.take_whole.new.self _ at split.0 split.1 (c.in_err-take_whole.ensures.taken at.earlier at.front at.taken at.kept) c.take_whole.ensures.until c.take_whole.ensures.lines)
+    let next = next_row at.front _ _ _ more at.in_line split.1 split.0 in
+    rw (p.1, p.2) (met_fault _ _ _ text _ _ _ _ c.take_whole.new.self _ at next (c.in_err-take_whole.ensures.taken at.earlier at.front at.taken at.kept) c.take_whole.ensures.until c.take_whole.ensures.lines)
 
 pub returns-then-branch-clause-feeds : goal.returns-then-branch-clause-feeds
 returns-then-branch-clause-feeds g c text more within =
@@ -16,7 +17,8 @@ returns-then-branch-clause-feeds g c text more within =
     let split = c.in-Some.ensures in
     let ran = answered g.T.TakeLines.judge g.T.TakeLines.has_taken _ _ _ _ _ true (search rules) (c.in_ok-take_whole.ensures.taken at.earlier at.front at.taken at.kept) in
     let left = suffix_is c.args.bytes.now _ c.in-Some.more.now _ (suffix_next _ _ _ _ _ c.loop-piece.invariant.split split.0) refl in
-    rw left (met_run _ _ _ text _ _ _ more _ c.take_whole.new.self at split.0 split.1 ran.0 ran.1 ran.2 c.take_whole.ensures.until c.take_whole.ensures.lines)
+    let next = next_row at.front _ _ _ more at.in_line split.1 split.0 in
+    rw left (met_run _ _ _ text _ _ _ _ c.take_whole.new.self at next ran.0 ran.1 ran.2 c.take_whole.ensures.until c.take_whole.ensures.lines)
 
 pub loop-piece-preserved : goal.loop-piece-preserved
 loop-piece-preserved g c =

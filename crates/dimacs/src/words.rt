@@ -1,0 +1,59 @@
+//! The words of commands and of queries, with which lines of more than one kind of text begin.
+ghost use Rattle.std.specs.Prelude.{◌≡◌};
+ghost use Rattle.dimacs.specs.Spelling.{spelled_word, one_spelling, one_words, two_spelling, two_words};
+
+/// A word with one number behind it, each of a command.
+#[derive(Clone, Copy)]
+pub enum OneNumber {
+    Close,
+    Reopen,
+    Mark,
+    Unmark,
+}
+
+/// A word with two numbers behind it: `set` of a command, the others of queries.
+#[derive(Clone, Copy)]
+pub enum TwoNumbers {
+    Set,
+    Dist,
+    From,
+    Lower,
+}
+
+/// The word with one number that a field spells: `close`, `reopen`, `mark` or `unmark`.
+pub fn word_of_one(field: &[u8]) -> Option<OneNumber>
+    ensures { result ≡ spelled_word one_spelling one_words field.now }
+{
+    if field == b"close".as_slice() {
+        return Some(OneNumber::Close);
+    }
+    if field == b"reopen".as_slice() {
+        return Some(OneNumber::Reopen);
+    }
+    if field == b"mark".as_slice() {
+        return Some(OneNumber::Mark);
+    }
+    if field == b"unmark".as_slice() {
+        return Some(OneNumber::Unmark);
+    }
+    None
+}
+
+/// The word with two numbers that a field spells: `set`, `dist`, `from` or `lower`.
+pub fn word_of_two(field: &[u8]) -> Option<TwoNumbers>
+    ensures { result ≡ spelled_word two_spelling two_words field.now }
+{
+    if field == b"set".as_slice() {
+        return Some(TwoNumbers::Set);
+    }
+    if field == b"dist".as_slice() {
+        return Some(TwoNumbers::Dist);
+    }
+    if field == b"from".as_slice() {
+        return Some(TwoNumbers::From);
+    }
+    if field == b"lower".as_slice() {
+        return Some(TwoNumbers::Lower);
+    }
+    None
+}

@@ -12,12 +12,12 @@ use std::test::Fail;
 use std::thread::Threads;
 
 /// The network of the worked rows.
-const SIX: &[u8] =
+pub const SIX: &[u8] =
     b"c S6\np sp 6 8\na 1 2 17\na 1 3 10\na 2 4 2\na 3 5 0\na 4 3 0\na 4 6 3\na 5 2 0\na 5 6 20\n";
 
 const PARALLEL: &[u8] = b"p sp 2 3\na 1 2 5\na 1 2 3\na 1 1 0\n";
 
-const CLOSED: &[u8] = b"close 7\nflush\ndist 1 6\ntask\npublish\ndist 1 6\n";
+pub const CLOSED: &[u8] = b"close 7\nflush\ndist 1 6\ntask\npublish\ndist 1 6\n";
 
 /// A script on a new store of the network is told of with just these bytes.
 fn is_rehearsed(
@@ -461,60 +461,6 @@ fn a_writer_fails_at_each_write(rt: HostRuntime) {
                 "write {writes}"
             );
             assert!(rt; failed == 1, "write {writes}");
-        }
-    }
-}
-
-/// A writer of 96 bytes at most, which takes no memory.
-#[derive(Drop)]
-struct Page {
-    bytes: [u8; 96],
-    len: usize,
-}
-
-impl Write for Page {
-    fn write(&mut self, buf: &[u8]) -> io::Result<usize> {
-        for &byte in buf {
-            if self.len < 96 {
-                self.bytes[self.len] = byte;
-                self.len += 1;
-            }
-        }
-        Ok(buf.len())
-    }
-
-    fn flush(&mut self) -> io::Result<()> {
-        Ok(())
-    }
-}
-
-/// With enough memory all is told. Where an allocation fails, 11 is told as a text's fault or in place of one reply, or the disk fails, or
-/// the run ends with the replies so far; and no answer is wrong.
-#[test]
-fn allocations_fail_in_turn(rt: HostRuntime) {
-    let whole: [&[u8]; 7] = [
-        b"t 1\nok 1\nv 0\nd 1 6 15\ntask 1\nshown 1\nv 1\nd 1 6 22\n",
-        b"no 11\nno 53\nv 0\nd 1 6 15\nno 51\nno 51\nv 0\nd 1 6 15\n",
-        b"t 1\nno 11\nv 0\nd 1 6 15\nno 51\nno 51\nv 0\nd 1 6 15\n",
-        b"t 1\nno 43\nv 0\nd 1 6 15\nno 51\nno 51\nv 0\nd 1 6 15\n",
-        b"t 1\nok 1\nno 11\ntask 1\nshown 1\nv 1\nd 1 6 22\n",
-        b"t 1\nok 1\nv 0\nd 1 6 15\nno 11\nno 51\nv 0\nd 1 6 15\n",
-        b"t 1\nok 1\nv 0\nd 1 6 15\ntask 1\nshown 1\nno 11\n",
-    ];
-    let mut page = Page {
-        bytes: [0; 96],
-        len: 0,
-    };
-    let outcome = rehearse_text(&rt, rt.alloc(), SIX, CLOSED, 64, None, &mut page);
-    let told = &page.bytes[..page.len.min(96)];
-    match outcome {
-        Ok(_) => assert!(rt; whole.iter().any(|want| *want == told)),
-        Err(Failed::Text { which: _, fault }) => {
-            assert!(rt; fault.code == Code::OutOfMemory && told.is_empty());
-        }
-        Err(Failed::Code(refusal)) => {
-            assert!(rt; refusal == Refusal::OutOfMemory || refusal == Refusal::Device);
-            assert!(rt; whole[0].starts_with(told));
         }
     }
 }

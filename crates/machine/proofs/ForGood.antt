@@ -11,8 +11,9 @@ use Rattle.machine.specs.declared.events.Replied.{Replied}
 use Rattle.machine.specs.Machine.{Sizes, Machine, start}
 use Rattle.machine.specs.Laws.{IsAt}
 use Rattle.machine.specs.Lives.{Turn, Ends, Whole, NoMemory, NotOpened, LivesOn, HoldsDurable}
-use Rattle.machine.specs.Headline.{HoldsTold, ToldForGood, IsRightReply, acknowledged_in}
+use Rattle.machine.specs.Headline.{HoldsTold, ToldForGood, IsRightReply, acknowledged_in, accepted_in}
 use Rattle.machine.proofs.Kept.{started, left_between}
+use Rattle.machine.proofs.Accepted.{accepted_at_end}
 use Rattle.machine.proofs.OverLives.{Ended, end_of, stops_leave_acknowledged, stops_leave_answers}
 
 front_again : {X : Type 0} (n : ℕ) (xs : List X) → take (length (take n xs)) xs ≡ take n xs
@@ -34,13 +35,16 @@ begins first last turns rest ended history (NotOpened before turn mid whole pass
 pub told_for_good : {P : Type 0} (StandsFor : List ℕ → Net → ℕ → Type 0) (left : List ℕ → Type 0) (sizes : Sizes) (base : Net) (version unchecked : ℕ) (events : List (Event P)) (replies : List Replied) (ended : Option Refusal) (history : List Command)
     → LivesOn StandsFor left sizes base version unchecked events replies ended history → ToldForGood StandsFor left base version events replies history
 told_for_good {P} StandsFor left sizes base version unchecked events replies ended history r = record {
-  accepted = last.accepted;
-  history_begins = begins (start sizes base version unchecked) last r.lives.turns r.lives.rest ended history r.lives.ends;
   turns = r.lives.turns;
   rest = r.lives.rest;
   events_are = r.lives.events_are;
   replies_are = r.lives.replies_are;
-  each_left = λ content was. held content (r.each_left content was);
+  history_begins =
+      subst (λ (accepted : List Command). history ≡ take (length history) accepted) (sym accepted_is)
+      (begins (start sizes base version unchecked) last r.lives.turns r.lives.rest ended history r.lives.ends);
+  each_left = λ content was.
+      subst (λ (accepted : List Command). HoldsTold StandsFor base version accepted (acknowledged_in [] r.lives.turns) replies content) (sym accepted_is)
+      (held content (r.each_left content was));
 }
   where
     last : Machine
@@ -48,6 +52,9 @@ told_for_good {P} StandsFor left sizes base version unchecked events replies end
 
     end : Ended (start sizes base version unchecked) r.lives.turns history last
     end = end_of (start sizes base version unchecked) last r.lives.turns r.lives.rest ended history (started sizes base version unchecked r.version_to r.unchecked_to) r.lives.ends
+
+    accepted_is : accepted_in version [] r.lives.turns ≡ last.accepted
+    accepted_is = accepted_at_end (start sizes base version unchecked) last r.lives.turns r.lives.rest ended history (started sizes base version unchecked r.version_to r.unchecked_to) r.lives.ends
 
     base_is : last.base ≡ base
     base_is = end.later.base

@@ -1,3 +1,4 @@
+pub mod Accepted
 pub mod Acknowledged
 pub mod Checkpoints
 pub mod Examples

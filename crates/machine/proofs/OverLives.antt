@@ -284,7 +284,7 @@ end_later e a last replies s stops = let run = end_run e a last replies stops in
 abbrev replies_of : {P : Type 0} → List (Turn P) → List Replied
 replies_of turns = flat_map (λ turn. turn.1) turns
 
-later_by_turn : {P : Type 0} (turn : Turn P) (a b : Machine) → IsState a → Does a turn.0 turn.1 b → IsState b × IsLater a b
+pub later_by_turn : {P : Type 0} (turn : Turn P) (a b : Machine) → IsState a → Does a turn.0 turn.1 b → IsState b × IsLater a b
 later_by_turn turn a b s d = let run = event_run turn.0 a b turn.1 d in later_by_run a b run.0 s run.1
 
 passes_run : {P : Type 0} (turns : List (Turn P)) (a b : Machine) → Passes a turns b → RunsTo a b

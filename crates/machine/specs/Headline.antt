@@ -1,5 +1,5 @@
 -- What holds of each script, wherever it is stopped and however early its run ends.
-use Rattle.std.specs.Prelude.{◌≡◌, ℕ, ◌+◌, ◌≤◌, List, [], ◌∷◌, ◌++◌, Option, Some, length, map, take}
+use Rattle.std.specs.Prelude.{◌≡◌, ℕ, ◌+◌, ◌-◌, ◌≤◌, List, [], ◌∷◌, ◌++◌, Option, None, Some, length, map, take}
 use Rattle.std.specs.List.{AllByRecursion, flat_map}
 use Rattle.roadnet.specs.declared.commands.Command.{Command}
 use Rattle.roadnet.specs.declared.refusals.Refusal.{Refusal}
@@ -46,6 +46,25 @@ abbrev pub acknowledged_in : {P : Type 0} → List Ticket → List (Turn P) → 
 acknowledged_in held [] = []
 acknowledged_in held (turn ∷ turns) = acknowledged_with held turn.0 turn.1 ++ acknowledged_in (held_behind held turn.0 turn.1) turns
 
+-- what a stop with these replies leaves of these commands, which follow the version: those up to the version that is opened, and all where
+-- none is, since nothing follows then
+abbrev pub commands_left : ℕ → List Command → List Replied → List Command
+commands_left version accepted [] = accepted
+commands_left version accepted (Opened opened ∷ replies) = take (opened - version) accepted
+commands_left version accepted (_ ∷ replies) = commands_left version accepted replies
+
+-- the accepted commands behind this event with these replies, where these were before
+abbrev pub accepted_behind : {P : Type 0} → ℕ → List Command → Event P → List Replied → List Command
+accepted_behind version accepted (Submit command) (Accepted number ∷ replies) = accepted ++ command ∷ []
+accepted_behind version accepted Stop replies = commands_left version accepted replies
+accepted_behind version accepted (StopWithin call picks writing) replies = commands_left version accepted replies
+accepted_behind version accepted _ replies = accepted
+
+-- the accepted commands behind these turns, of a run that began with this version
+abbrev pub accepted_in : {P : Type 0} → ℕ → List Command → List (Turn P) → List Command
+accepted_in version accepted [] = accepted
+accepted_in version accepted (turn ∷ turns) = accepted_in version (accepted_behind version accepted turn.0 turn.1) turns
+
 -- an answer is right after so many of these commands; of other replies nothing is asked
 abbrev pub IsRightReply : Net → ℕ → List Command → Replied → Type 0
 IsRightReply base version commands (Answered query answer) = IsRightAfter base version commands query answer
@@ -56,6 +75,14 @@ abbrev pub ScriptsAreRuns : Type 0 → Type 0
 ScriptsAreRuns P =
     (first : Machine) (events : List (Event P)) (replies : List Replied) (ended : Option Refusal) (history : List Command) (last : Machine)
     → Lives first events replies ended history last → (happened : List Happened) × Run first happened last
+
+-- The history of a run that is whole is the accepted commands.
+abbrev pub WholeHistoriesAreAccepted : Type 0 → Type 0
+WholeHistoriesAreAccepted P =
+    (sizes : Sizes) (base : Net) (version unchecked : ℕ) (events : List (Event P)) (replies : List Replied) (history : List Command) (last : Machine)
+    → version ≤ most_versions → unchecked ≤ sizes.journal_pages
+    → (lives : Lives (start sizes base version unchecked) events replies None history last)
+    → history ≡ accepted_in version [] lives.turns
 
 -- Each acknowledged command has its number in the history.
 abbrev pub AcknowledgedAreInHistory : Type 0 → Type 0
@@ -105,13 +132,13 @@ pub record HoldsTold (StandsFor : List ℕ → Net → ℕ → Type 0) (base : N
   pub each_answer : AllByRecursion (IsRightReply base version (take count accepted)) replies
 
 -- THE HEADLINE, of a run of these events that began with this network and version: whatever content a stop leaves, it holds what was told.
--- The history begins the accepted commands; in the end some may be in flight, and then it has just those that are durable.
+-- The accepted commands are what the turns themselves say. The history begins them; in the end some may be in flight, and then it has just
+-- those that are durable.
 pub record ToldForGood {P : Type 0} (StandsFor : List ℕ → Net → ℕ → Type 0) (left : List ℕ → Type 0) (base : Net) (version : ℕ) (events : List (Event P)) (replies : List Replied) (history : List Command) : Type 0 where
-  pub accepted : List Command
-  pub history_begins : history ≡ take (length history) accepted
   -- the events that were run, each with its replies, and those that were not
   pub turns : List (Turn P)
   pub rest : List (Event P)
   pub events_are : events ≡ map (λ turn. turn.0) turns ++ rest
   pub replies_are : replies ≡ flat_map (λ turn. turn.1) turns
-  pub each_left : (content : List ℕ) → left content → HoldsTold StandsFor base version accepted (acknowledged_in [] turns) replies content
+  pub history_begins : history ≡ take (length history) (accepted_in version [] turns)
+  pub each_left : (content : List ℕ) → left content → HoldsTold StandsFor base version (accepted_in version [] turns) (acknowledged_in [] turns) replies content

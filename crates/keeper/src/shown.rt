@@ -5,14 +5,11 @@ ghost use Rattle.rows.specs.declared.queries.Query.TheVariants.{From, Lower};
 
 use machine::Answer;
 use roadnet::OutOfMemory;
-use rows::{Query, RowCache, View};
+use rows::{DEFAULT_ROWS, Query, RowCache, View};
 use std::alloc::Global;
 use std::marker::Model;
 use std::sync::Arc;
 use std::thread::Threads;
-
-/// How many rows are kept.
-const ROWS: u32 = 16;
 
 /// The view that answers are given from, with rows that they made: up to 16, of 8 bytes a node.
 #[derive(Drop)]
@@ -39,7 +36,7 @@ impl Shown {
     {
         Shown {
             view,
-            cache: RowCache::new(alloc, ROWS),
+            cache: RowCache::new(alloc, DEFAULT_ROWS),
         }
     }
 

@@ -14,7 +14,7 @@ ghost use Rattle.querytexts.specs.Batch.{AreRight, query_of, answer_lines, Answe
 use dimacs::{Counted, Pair, parse_gr, parse_p2p, read_gr_counted, read_p2p_counted};
 use printing::{CountedWriter, Done, Failed, of_text, put_answer, put_version};
 use roadnet::{Network, OutOfMemory, Refusal};
-use rows::{Query, Reply, Searches};
+use rows::{DEFAULT_ROWS, Query, Reply, Searches};
 use std::alloc::Global;
 use std::io::{BufRead, Write};
 use std::thread::Threads;
@@ -22,9 +22,6 @@ use std::thread::Threads;
 const NETWORK: u8 = 0;
 
 const PAIRS: u8 = 1;
-
-/// How many rows are kept while pairs are answered.
-const ROWS: u32 = 16;
 
 /// The query that a pair asks.
 fn query_of(pair: Pair) -> Query
@@ -157,7 +154,7 @@ pub fn answer_pairs<T: Threads, W: Write>(
     ensures writes { CountsWrites (failed_writes out.old) (failed_writes out.new) result }
     ensures same { IsSameWriter out.old out.new }
 {
-    let mut searches = Searches::new(alloc, delta, ROWS);
+    let mut searches = Searches::new(alloc, delta, DEFAULT_ROWS);
     answer_by(rt, alloc, network, version, &mut searches, pairs, out)
 }
 

@@ -13,6 +13,9 @@ use std::alloc::Global;
 use std::num::NonZeroUsize;
 use std::thread::Threads;
 
+/// How many rows a cache keeps by default: 16, of 8 bytes a node each. 1 to 64 are allowed.
+pub const DEFAULT_ROWS: u32 = 16;
+
 /// Rows that queries made, by version and source, up to a number of them: where it is full, the row that was not used for the longest
 /// time gives way. It takes 8 bytes a node for each row. What a search takes beside its row is kept for the next one.
 #[derive(Drop)]

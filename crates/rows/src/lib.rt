@@ -12,7 +12,7 @@ mod searches;
 mod views;
 
 pub use answers::answer_plain;
-pub use caches::RowCache;
+pub use caches::{DEFAULT_ROWS, RowCache};
 pub use landmark_rows::Row;
 pub use laws::{laws_of_bounds, laws_of_replies};
 pub use pinned::Pinned;

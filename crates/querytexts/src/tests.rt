@@ -344,6 +344,44 @@ fn answers_are_sent_out(rt: HostRuntime) {
     assert!(rt; out.sent.as_slice() == [13, 19].as_slice() && out.waiting == 0);
 }
 
+/// All is written; or want of memory is told, of a text or of the call, and nothing is.
+fn is_answered_or_starved(
+    rt: &impl Abort,
+    outcome: Result<Done, Failed>,
+    out: &[u8],
+    want: &[u8],
+) -> bool {
+    match outcome {
+        Ok(_) => {
+            assert!(rt; out == want);
+            true
+        }
+        Err(Failed::Text { which: _, fault }) => {
+            assert!(rt; fault.code == Code::OutOfMemory && out.is_empty());
+            false
+        }
+        Err(Failed::Code(refusal)) => {
+            assert!(rt; refusal == Refusal::OutOfMemory && out.is_empty());
+            false
+        }
+    }
+}
+
+/// To be run with each allocation failing in turn: then one of the calls is refused at most.
+#[test]
+fn allocations_fail_in_turn(rt: HostRuntime) {
+    let alloc = rt.alloc();
+    let (Ok(mut one), Ok(mut all)) = (Vec::with_capacity(alloc, 32), Vec::with_capacity(alloc, 32))
+    else {
+        return;
+    };
+    let once = once_text(&rt, alloc, SIX, 1, 6, None, &mut one);
+    let once = is_answered_or_starved(&rt, once, &one, b"v 0\nd 1 6 15\n");
+    let batch = batch_text(&rt, alloc, SIX, PAIRS, None, &mut all);
+    let batch = is_answered_or_starved(&rt, batch, &all, b"v 0\nd 1 6 15\nx 6 1\n");
+    assert!(rt; once || batch);
+}
+
 /// The next of a row of numbers that look random, from 1 up to `most`.
 fn next_of(state: &mut u64, most: u64) -> u64
     requires { 1 ≤ most }

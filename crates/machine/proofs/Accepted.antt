@@ -3,7 +3,7 @@ use Rattle.std.proofs.Common.{◌≡◌, ⊎_elim, ℕ, ◌-◌, List, [], ◌�
 use Rattle.std.proofs.lemmas.List.{append-nil}
 use Rattle.roadnet.specs.declared.commands.Command.{Command}
 use Rattle.roadnet.specs.declared.refusals.Refusal.{Refusal}
-use Rattle.roadnet.specs.declared.refusals.Refusal.TheVariants.{Device, OutOfMemory}
+use Rattle.roadnet.specs.declared.refusals.Refusal.TheVariants.{Device}
 use Rattle.roadnet.specs.Net.{Net}
 use Rattle.rows.specs.declared.queries.Query.{Query}
 use Rattle.machine.specs.declared.calls.Ticket.{Ticket}

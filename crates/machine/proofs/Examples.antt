@@ -18,11 +18,12 @@ use Rattle.machine.specs.declared.events.Event.{Event}
 use Rattle.machine.specs.declared.events.Event.TheVariants.{Submit, Flush, Checkpoint, Task, Publish, Ask, Stop, StopWithin}
 use Rattle.machine.specs.declared.events.Writing.TheVariants.{Flush as a_flush, Checkpoint as a_checkpoint}
 use Rattle.machine.specs.declared.events.Replied.{Replied}
-use Rattle.machine.specs.declared.events.Replied.TheVariants.{Accepted, Durable, Task as TaskOf, Shown, Answered, Refused, Opened}
+use Rattle.machine.specs.declared.events.Replied.TheVariants.{Accepted, Durable, Task as TaskOf, Shown, Answered, Refused, Opened, Stopped}
 use Rattle.machine.specs.Machine.{Machine, start, latest, batch, network_at}
 use Rattle.machine.specs.Calls.{refusal_of_submit, with_command, refusal_of_flush, with_batch, failed, refusal_of_checkpoint, has_nothing_unchecked, done_by, with_part, has_no_task, with_shown, reopened}
 use Rattle.machine.specs.Lives.{pages_of_step, Does, Turn, Passes, Lives}
 use Rattle.machine.specs.Lives.Ends.{Whole}
+use Rattle.machine.specs.Headline.{accepted_in}
 
 -- from m these events may be replied to so
 record Plays (P : Type 0) (m : Machine) (events : List (Event P)) (replies : List Replied) : Type 0 where
@@ -171,6 +172,10 @@ module _ (P : Type 0) where
       (submit_then _ _ _ _ (Reopen 7) refl (flush_then _ _ _ _ refl
       (task_then _ _ _ _ six_reopened refl refl (publish_then _ _ _ _ 3 six_reopened refl refl (dist_then _ _ _ _ 1 6 (Length 14) six_reopened refl (refl, at3) (done _))))))))))))))))
 
+  -- two accepted commands, the first one durable
+  abbrev two_accepted : List (Turn P)
+  two_accepted = (Submit (Close 7), Accepted 1 ∷ []) ∷ (Flush, Durable 1 ∷ []) ∷ (Submit (Set 8 4), Accepted 2 ∷ []) ∷ []
+
   module _ (picks : Vec P _) where
     -- a stop within a flush: before the gate, with the gate open, behind the flush
     stop_before_the_gate : Plays P (store 64) (Submit (Close 7) ∷ StopWithin 1 picks a_flush ∷ []) (Accepted 1 ∷ Opened 0 ∷ [])
@@ -200,3 +205,17 @@ module _ (P : Type 0) where
         (stop_before_flush_then _ _ _ _ 3 picks 0 (lit≤ tt) refl (dist_then _ _ _ _ 1 2 (Length 2) six_set refl (refl, least)
         (submit_then _ _ _ _ (Set 1 9) refl (stop_before_flush_then _ _ _ _ 1 picks 0 (lit≤ tt) refl
         (dist_then _ _ _ _ 1 2 (Length 2) six_set refl (refl, least) (done _))))))))))))
+
+    -- what is accepted behind a flush of the second that is cut: opened without it, opened with it, or not opened, which cuts nothing
+    opened_without_it : accepted_in 0 [] (two_accepted ++ (StopWithin 3 picks a_flush, Opened 1 ∷ []) ∷ []) ≡ Close 7 ∷ []
+    opened_without_it = refl
+
+    opened_with_it : accepted_in 0 [] (two_accepted ++ (StopWithin 3 picks a_flush, Opened 2 ∷ []) ∷ []) ≡ Close 7 ∷ Set 8 4 ∷ []
+    opened_with_it = refl
+
+    not_opened : accepted_in 0 [] (two_accepted ++ (StopWithin 3 picks a_flush, Stopped ∷ []) ∷ []) ≡ Close 7 ∷ Set 8 4 ∷ []
+    not_opened = refl
+
+    -- a command that is refused is not among them, and a later life's comes behind those that were left
+    next_life : accepted_in 0 [] (two_accepted ++ (StopWithin 3 picks a_flush, Opened 1 ∷ []) ∷ (Submit (Close 7), Refused AlreadyClosed ∷ []) ∷ (Submit (Reopen 7), Accepted 2 ∷ []) ∷ []) ≡ Close 7 ∷ Reopen 7 ∷ []
+    next_life = refl

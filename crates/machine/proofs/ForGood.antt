@@ -14,6 +14,7 @@ use Rattle.machine.specs.Lives.{Turn, Ends, Whole, NoMemory, NotOpened, LivesOn,
 use Rattle.machine.specs.Headline.{HoldsTold, ToldForGood, IsRightReply, acknowledged_in, accepted_in}
 use Rattle.machine.proofs.Kept.{started, left_between}
 use Rattle.machine.proofs.Accepted.{accepted_at_end}
+use Rattle.machine.proofs.Turns.{each_has_replies}
 use Rattle.machine.proofs.OverLives.{Ended, end_of, stops_leave_acknowledged, stops_leave_answers}
 
 front_again : {X : Type 0} (n : ℕ) (xs : List X) → take (length (take n xs)) xs ≡ take n xs
@@ -39,6 +40,7 @@ told_for_good {P} StandsFor left sizes base version unchecked events replies end
   rest = r.lives.rest;
   events_are = r.lives.events_are;
   replies_are = r.lives.replies_are;
+  each_replied = each_has_replies (start sizes base version unchecked) last r.lives.turns r.lives.rest ended history r.lives.ends;
   history_begins =
       subst (λ (accepted : List Command). history ≡ take (length history) accepted) (sym accepted_is)
       (begins (start sizes base version unchecked) last r.lives.turns r.lives.rest ended history r.lives.ends);

@@ -9,3 +9,4 @@ pub mod Kept
 pub mod Later
 pub mod OverLives
 pub mod Rehearsing
+pub mod Turns

@@ -1,5 +1,5 @@
 -- What holds of each script, wherever it is stopped and however early its run ends.
-use Rattle.std.specs.Prelude.{◌≡◌, ℕ, ◌+◌, ◌-◌, ◌≤◌, List, [], ◌∷◌, ◌++◌, Option, None, Some, length, map, take}
+use Rattle.std.specs.Prelude.{◌≡◌, ◌⊎◌, ℕ, ◌+◌, ◌-◌, ◌≤◌, Bool, true, false, List, [], ◌∷◌, ◌++◌, Option, None, Some, length, map, take}
 use Rattle.std.specs.List.{AllByRecursion, flat_map}
 use Rattle.roadnet.specs.declared.commands.Command.{Command}
 use Rattle.roadnet.specs.declared.refusals.Refusal.{Refusal}
@@ -10,7 +10,7 @@ use Rattle.machine.specs.declared.events.Event.{Event}
 use Rattle.machine.specs.declared.events.Event.TheVariants.{Submit, Flush, Stop, StopWithin}
 use Rattle.machine.specs.declared.events.Writing.TheVariants.{Flush as a_flush}
 use Rattle.machine.specs.declared.events.Replied.{Replied}
-use Rattle.machine.specs.declared.events.Replied.TheVariants.{Accepted, Durable, Answered, Opened}
+use Rattle.machine.specs.declared.events.Replied.TheVariants.{Accepted, Durable, Answered, Opened, Stopped}
 use Rattle.machine.specs.Machine.{Sizes, Machine, start, most_versions, commands_to}
 use Rattle.machine.specs.Calls.{IsLeft}
 use Rattle.machine.specs.Runs.{Happened, Run, up_to}
@@ -65,6 +65,26 @@ abbrev pub accepted_in : {P : Type 0} → ℕ → List Command → List (Turn P)
 accepted_in version accepted [] = accepted
 accepted_in version accepted (turn ∷ turns) = accepted_in version (accepted_behind version accepted turn.0 turn.1) turns
 
+-- whether the reply is a stop's own
+abbrev pub is_of_stop : Replied → Bool
+is_of_stop (Opened version) = true
+is_of_stop Stopped = true
+is_of_stop _ = false
+
+-- the replies of a stop within an event: its own alone, or that event's before it
+abbrev pub TellsStop : List Replied → Type 0
+TellsStop replies =
+    (own : Replied) × (is_of_stop own ≡ true)
+    × ((replies ≡ own ∷ []) ⊎ ((reply : Replied) × (is_of_stop reply ≡ false) × (replies ≡ reply ∷ own ∷ [])))
+
+-- the event has so many replies as its kind: each other one has one
+abbrev pub HasReplies : {P : Type 0} → Event P → List Replied → Type 0
+HasReplies (StopWithin call picks writing) replies = TellsStop replies
+HasReplies _ replies = (reply : Replied) × (replies ≡ reply ∷ [])
+
+abbrev pub EachHasReplies : {P : Type 0} → List (Turn P) → Type 0
+EachHasReplies turns = AllByRecursion (λ turn. HasReplies turn.0 turn.1) turns
+
 -- an answer is right after so many of these commands; of other replies nothing is asked
 abbrev pub IsRightReply : Net → ℕ → List Command → Replied → Type 0
 IsRightReply base version commands (Answered query answer) = IsRightAfter base version commands query answer
@@ -75,6 +95,14 @@ abbrev pub ScriptsAreRuns : Type 0 → Type 0
 ScriptsAreRuns P =
     (first : Machine) (events : List (Event P)) (replies : List Replied) (ended : Option Refusal) (history : List Command) (last : Machine)
     → Lives first events replies ended history last → (happened : List Happened) × Run first happened last
+
+-- Which replies are whose is told by the events and the replies alone.
+abbrev pub TurnsAreTold : Type 0 → Type 0
+TurnsAreTold P =
+    (turns others : List (Turn P)) (rest other_rest : List (Event P))
+    → map (λ turn. turn.0) turns ++ rest ≡ map (λ turn. turn.0) others ++ other_rest
+    → flat_map (λ turn. turn.1) turns ≡ flat_map (λ turn. turn.1) others
+    → EachHasReplies turns → EachHasReplies others → turns ≡ others
 
 -- The history of a run that is whole is the accepted commands.
 abbrev pub WholeHistoriesAreAccepted : Type 0 → Type 0
@@ -140,5 +168,6 @@ pub record ToldForGood {P : Type 0} (StandsFor : List ℕ → Net → ℕ → Ty
   pub rest : List (Event P)
   pub events_are : events ≡ map (λ turn. turn.0) turns ++ rest
   pub replies_are : replies ≡ flat_map (λ turn. turn.1) turns
+  pub each_replied : EachHasReplies turns
   pub history_begins : history ≡ take (length history) (accepted_in version [] turns)
   pub each_left : (content : List ℕ) → left content → HoldsTold StandsFor base version (accepted_in version [] turns) (acknowledged_in [] turns) replies content

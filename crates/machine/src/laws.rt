@@ -1,4 +1,4 @@
-ghost use Rattle.machine.specs.Headline.{AcknowledgedAreInHistory, AnswersAreRight, ScriptsAreRuns, StopsLeaveAcknowledged, StopsLeaveAnswers, WholeHistoriesAreAccepted};
+ghost use Rattle.machine.specs.Headline.{AcknowledgedAreInHistory, AnswersAreRight, ScriptsAreRuns, StopsLeaveAcknowledged, StopsLeaveAnswers, TurnsAreTold, WholeHistoriesAreAccepted};
 ghost use Rattle.machine.specs.Laws.{StepsKeepStates, StartsAreStates, StepsTakeNothingBack, VersionsAreNetworks, AcknowledgedStay, AnswersStayRight};
 ghost use Rattle.machine.specs.LifeInRun.{LifeStepsAreRunSteps, StopsBeginLives};
 
@@ -19,6 +19,7 @@ pub fn laws_of_runs()
 /// What holds of each script, wherever it is stopped and however early its run ends.
 pub fn laws_of_lives<P>()
     ensures runs { ScriptsAreRuns P }
+    ensures turns { TurnsAreTold P }
     ensures history { WholeHistoriesAreAccepted P }
     ensures acknowledged { AcknowledgedAreInHistory P }
     ensures left { StopsLeaveAcknowledged P }

@@ -1,6 +1,5 @@
 -- A turn with a stop, in one life of a run, has cut the disk of that life.
 use Rattle.std.proofs.Common.{◌≡◌, ℕ, List, [], ◌∷◌, ◌++◌, Option, Some, refl, ◌∙◌, ap, subst, append_assoc}
-use Rattle.std.specs.Prelude.{IfSome}
 use Rattle.roadnet.specs.declared.commands.Command.{Command}
 use Rattle.disk.specs.declared.stoppable.Pick.{Pick}
 use Rattle.disk.specs.declared.stoppable.Pick.TheVariants.{Old}
@@ -16,7 +15,7 @@ use Rattle.keeper.specs.Cutting.{HoldsFor, StopsOn, StandsAsTold, HasCut, TurnsT
 use Rattle.keeper.specs.Keeping.{IsDurableIn}
 use Rattle.keeper.specs.Rehearsing.{within_of, First, HasRun, BeginsAfter}
 use Rattle.keeper.proofs.LivesInRun.{Later, later_none}
-use Rattle.keeper.proofs.Runs.{Told, in_run, opens_then, holds_then, durable_then, opened_then, does_within}
+use Rattle.keeper.proofs.Runs.{Told, opens_then, holds_then, durable_then, opened_then, does_within}
 
 -- the event's own reply, if one came, and the stop's
 stops_on : {D : Type 0} (armed : D → Option ℕ) (old m : Machine) (event : Event Pick) (w : Writing) (replies : List Replied) (last : Replied) (disk : D) → within_of event ≡ Some w → StopComes old w replies last m

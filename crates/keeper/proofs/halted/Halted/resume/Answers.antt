@@ -6,6 +6,9 @@ use Rattle.keeper.proofs.halted.Halted.resume.Goals as goal
 pub returns-in-Ok-clause-begins : goal.returns-in-Ok-clause-begins
 returns-in-Ok-clause-begins g c m honest halted pages = c.in-Ok.ensures.begins m halted.state pages honest halted.held
 
+pub returns-in-Ok-clause-came : goal.returns-in-Ok-clause-came
+returns-in-Ok-clause-came g c m honest halted pages = c.in-Ok.ensures.came m halted.state pages honest halted.held
+
 pub returns-in-Ok-clause-history : goal.returns-in-Ok-clause-history
 returns-in-Ok-clause-history g c m honest halted pages =
     let next = c.in-Ok.life.keeper.machine in

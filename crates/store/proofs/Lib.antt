@@ -7,6 +7,7 @@ pub mod Checkpointed
 pub mod Committed
 pub mod GoingOn
 pub mod Growing
+pub mod InFlight
 pub mod LaidOut
 pub mod NewStore
 pub mod Refused

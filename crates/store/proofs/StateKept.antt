@@ -13,7 +13,7 @@ use Rattle.pages.specs.Layout.{word_pages}
 use Rattle.storefile.specs.StoreFile.{StandsTidyFor}
 use Rattle.storefile.specs.Standing.{Standing, standing_of}
 use Rattle.store.specs.declared.paged.Paged.{Paged}
-use Rattle.store.specs.Committing.{StandsTidily, refusal_of_commit}
+use Rattle.store.specs.Committing.{StandsTidily, MayRefuseCommit, refusal_of_commit}
 use Rattle.store.specs.Checkpointing.{refusal_of_checkpoint}
 use Rattle.store.specs.Durable.{told_by}
 use Rattle.store.specs.Going.{Progress}
@@ -64,7 +64,7 @@ tidily content x tidy told =
 
 -- ---- a call of a store
 
-pub works_at_commit : (broken : Bool) (version unchecked journal_pages : ℕ) (net : Net) (commands : List Command) → refusal_of_commit broken version unchecked journal_pages net commands ≡ None → broken ≡ false
+works_at_commit : (broken : Bool) (version unchecked journal_pages : ℕ) (net : Net) (commands : List Command) → refusal_of_commit broken version unchecked journal_pages net commands ≡ None → broken ≡ false
 works_at_commit true version unchecked journal_pages net commands none = cc
 works_at_commit false version unchecked journal_pages net commands none = refl
 
@@ -76,6 +76,11 @@ works_at_checkpoint false none = refl
 pub at_ok : {T X Y : Type 0} (Q : Refusal → Type 0) (result : Result T Refusal) → MatchResult result (λ _. X) Q → (X → Y) → OnOk result Y
 at_ok Q (Ok v) told f = f told
 at_ok Q (Err e) told f = tt
+
+pub worked_at_commit : {T : Type 0} (result : Result T Refusal) (broken : Bool) (version unchecked journal_pages : ℕ) (net : Net) (commands : List Command)
+    → MatchResult result (λ _. refusal_of_commit broken version unchecked journal_pages net commands ≡ None) (MayRefuseCommit (refusal_of_commit broken version unchecked journal_pages net commands)) → OnOk result (broken ≡ false)
+worked_at_commit (Ok v) broken version unchecked journal_pages net commands none = works_at_commit broken version unchecked journal_pages net commands none
+worked_at_commit (Err e) broken version unchecked journal_pages net commands told = tt
 
 pub at_ok_with : {T Y : Type 0} (Z : Type 0) (result : Result T Refusal) → OnOk result Y → (Y → OnOk result Z) → OnOk result Z
 at_ok_with Z (Ok v) there f = f there

@@ -34,6 +34,8 @@ pub record StoreState (D : Type 0) : Type 0 where
   pub broken : Bool
   -- the checkpoint that is going
   pub going : Option Progress
+  -- the commands in flight: those of the commit that failed, where one did
+  pub in_flight : List Command
 
 -- none of its numbers is past what a store has room for
 pub record HasRoom {D : Type 0} (s : StoreState D) : Type 0 where
@@ -45,9 +47,9 @@ pub record HasRoom {D : Type 0} (s : StoreState D) : Type 0 where
 abbrev pub HasCheckpointPages : {D : Type 0} → StoreState D → Type 0
 HasCheckpointPages s = s.checkpoint_pages ≡ pages_for 1023 (length s.network.arcs)
 
--- the state of a store with these pages, that was given this disk
-abbrev pub state_of : {D : Type 0} {disk : Ghosts D} → Paged D disk → D → StoreState D
-state_of pages given = record {
+-- the state of a store with these pages, that was given this disk and has these commands in flight
+abbrev pub state_of : {D : Type 0} {disk : Ghosts D} → Paged D disk → D → List Command → StoreState D
+state_of pages given in_flight = record {
   disk = pages.disk;
   given = given;
   network = pages.network;
@@ -59,6 +61,7 @@ state_of pages given = record {
   checkpoint_pages = word_pages pages.header;
   broken = pages.broken;
   going = going_of pages;
+  in_flight = in_flight;
 }
 
 -- ---- what the disk holds

@@ -53,6 +53,7 @@ impl<D: Stoppable> Store<D> {
         ensures given { self.new.given ≡ self.old.given }
         ensures going { self.new.going ≡ self.old.going }
         ensures broken { self.new.broken ≡ self.old.broken }
+        ensures in_flight { self.new.in_flight ≡ self.old.in_flight }
     {
         self.pages.arm(k);
     }

@@ -9,6 +9,7 @@ mod commit;
 mod creation;
 mod going;
 mod header;
+mod in_flight;
 mod making;
 mod opening;
 mod paged;

@@ -9,6 +9,7 @@ ghost use Rattle.store.specs.Opening.{HeaderFits, IsPassing, MayRefuseToOpen, St
 ghost use Rattle.store.specs.State.{HasCheckpointPages, IsTidy, StandsAs, StandsAt, told};
 
 use crate::creation::create_paged;
+use crate::in_flight::InFlight;
 use crate::opening::open_paged;
 use crate::store::Store;
 use disk::Disk;
@@ -37,6 +38,7 @@ pub fn create<D: Disk>(
     ensures unchecked { IfOk result (λ store. store.unchecked ≡ 0) }
     ensures works { IfOk result (λ store. store.broken ≡ false) }
     ensures none_going { IfOk result (λ store. store.going ≡ None) }
+    ensures none_in_flight { IfOk result (λ store. store.in_flight ≡ []) }
     ensures given { IfOk result (λ store. store.given ≡ store.disk) }
     // The content stands for the network at version 0, is tidy, has so many journal pages, and is all that a stop may leave.
     ensures stands { D.honest disk → IfOk result (λ store. StandsTidyFor journal_pages (D.content store.disk) network.now 0) }
@@ -57,7 +59,12 @@ pub fn create<D: Disk>(
     match create_paged(alloc, disk, network, journal_pages) {
         Ok(pages) => {
             let given = Snapshot::of(&pages.disk);
-            Ok(Store { pages, given })
+            let in_flight = InFlight::none();
+            Ok(Store {
+                pages,
+                given,
+                in_flight,
+            })
         }
         Err(refused) => Err(refused),
     }
@@ -78,6 +85,7 @@ pub fn open<D: Disk>(alloc: Global, disk: D) -> Result<Store<D>, (Refusal, D)>
     ensures at_rest { D.honest disk → IfOk result (λ store. Only (D.content store.disk) (D.left store.disk)) }
     ensures works { IfOk result (λ store. store.broken ≡ false) }
     ensures none_going { IfOk result (λ store. store.going ≡ None) }
+    ensures none_in_flight { IfOk result (λ store. store.in_flight ≡ []) }
     ensures given { IfOk result (λ store. store.given ≡ store.disk) }
     // Nothing is written, and what a stop may leave is no more than it was.
     ensures same { D.honest disk → IfOk result (λ store. StaysSame D.content D.left D.moment D.left_since disk store.disk) }
@@ -96,7 +104,12 @@ pub fn open<D: Disk>(alloc: Global, disk: D) -> Result<Store<D>, (Refusal, D)>
     match open_paged(alloc, disk) {
         Ok(pages) => {
             let given = Snapshot::of(&pages.disk);
-            Ok(Store { pages, given })
+            let in_flight = InFlight::none();
+            Ok(Store {
+                pages,
+                given,
+                in_flight,
+            })
         }
         Err(refused) => Err(refused),
     }

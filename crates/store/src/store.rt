@@ -1,5 +1,5 @@
 // A store, as its callers see it.
-ghost use Rattle.std.specs.Prelude.{◌≡◌, ◌≢◌, ◌+◌, ◌≤◌, ◌↔◌, true, false, List, ℕ, None, Some, Ok, length, IfOk, OnOk, OnErr, IfErr, MatchResult, option_map};
+ghost use Rattle.std.specs.Prelude.{◌≡◌, ◌≢◌, ◌+◌, ◌≤◌, ◌↔◌, true, false, List, [], ℕ, None, Some, Ok, length, IfOk, OnOk, OnErr, IfErr, MatchResult, option_map};
 ghost use Rattle.disk.specs.Contents.{Only, Rose};
 ghost use Rattle.disk.specs.Moments.{LeavesOnly, AddsNothing};
 ghost use Rattle.roadnet.specs.Step.{after};
@@ -12,6 +12,7 @@ ghost use Rattle.pages.specs.Layout.{other};
 ghost use Rattle.store.specs.Going.{part_by, progress_by, slot_by, epoch_by, unchecked_by, with_page_committed};
 ghost use Rattle.store.specs.State.{CameTidy, HasRoom, HasCheckpointPages, IsDurable, IsDurableOrAfter, commit_refusal, is_calm, checkpoint_of, has_all_checked};
 
+use crate::in_flight::{InFlight, Made, has_failed};
 use crate::paged::Paged;
 use crate::parts::Part;
 use disk::Disk;
@@ -27,21 +28,28 @@ pub struct Store<D: Disk> {
     pub(crate) pages: Paged<D>,
     /// The disk as it was when the store was made or opened.
     pub(crate) given: Snapshot<D>,
+    /// The commands of the commit that failed, where one did.
+    pub(crate) in_flight: InFlight,
 }
 
 impl<D: Disk> Model for Store<D> {
-    ghost use Rattle.std.specs.Prelude.{◌≡◌, false};
+    ghost use Rattle.std.specs.Prelude.{◌≡◌, true, false, List, [], ℕ};
     ghost use Rattle.disk.specs.Contents.{Only};
     ghost use Rattle.store.specs.Committing.{StandsTidily};
     ghost use Rattle.store.specs.Durable.{told_by};
+    ghost use Rattle.storefile.specs.Standing.{IsBeforeOrAfter};
     ghost use Rattle.store.specs.State.{StoreState, CameTidy, state_of};
 
     ghost Value = { StoreState D };
 
-    ghost view = { λ s. state_of s.pages s.given.value };
+    ghost view = { λ s. state_of s.pages s.given.value s.in_flight.commands };
 
-    ghost invariant = { λ s. CameTidy D.honest D.content s.given.value
-        → D.honest s.pages.disk × (s.pages.broken ≡ false → Only (D.content s.pages.disk) (D.left s.pages.disk) × StandsTidily (D.content s.pages.disk) (told_by s.pages)) };
+    ghost invariant = { λ s.
+        (s.pages.broken ≡ false → s.in_flight.commands ≡ [])
+        × (CameTidy D.honest D.content s.given.value
+        → D.honest s.pages.disk
+        × (s.pages.broken ≡ false → Only (D.content s.pages.disk) (D.left s.pages.disk) × StandsTidily (D.content s.pages.disk) (told_by s.pages))
+        × (s.pages.broken ≡ true → (c : List ℕ) → D.left s.pages.disk c → IsBeforeOrAfter s.pages.header.journal_pages s.pages.network s.pages.version s.in_flight.commands c)) };
 }
 
 impl<D: Disk> Store<D> {
@@ -54,13 +62,16 @@ impl<D: Disk> Store<D> {
 
     /// The version of the durable network: how many commands were ever made durable. Where the store came tidy, over a disk that keeps the disk
     /// model, and is not broken, a stop leaves the content alone, and it stands for this network and version: a fact of the store,
-    /// whatever was called since.
+    /// whatever was called since. Where it is broken, each content that a stop may leave stands for them, or for those after the
+    /// commands in flight, which are those of the commit that failed, or none.
     pub fn version(&self) -> u64
         ensures version { result ≡ self.now.version }
         ensures honest { CameTidy D.honest D.content self.now.given → D.honest self.now.disk }
         ensures room { HasRoom self.now }
         ensures only { D.honest self.now.disk → self.now.broken ≡ false → Only (D.content self.now.disk) (D.left self.now.disk) }
         ensures stands { CameTidy D.honest D.content self.now.given → self.now.broken ≡ false → IsDurable self.now (D.content self.now.disk) }
+        ensures left { CameTidy D.honest D.content self.now.given → (c : List ℕ) → D.left self.now.disk c → IsDurableOrAfter self.now self.now.in_flight c }
+        ensures none_in_flight { self.now.broken ≡ false → self.now.in_flight ≡ [] }
         ensures checkpoint_pages { CameTidy D.honest D.content self.now.given → self.now.broken ≡ false → HasCheckpointPages self.now }
     {
         self.pages.version()
@@ -88,12 +99,14 @@ impl<D: Disk> Store<D> {
     }
 
     /// The disk, of which no call is made. Where the store came tidy, over a disk that keeps the disk model, and is not broken, its content
-    /// is all that a stop may leave, and stands for the store's network and version: opened, it gives both again.
+    /// is all that a stop may leave, and stands for the store's network and version: opened, it gives both again. Where it is
+    /// broken, each content that a stop may leave stands for them, or for those after the commands in flight.
     pub fn close(self) -> D
         ensures disk { result ≡ self.disk }
         ensures honest { CameTidy D.honest D.content self.given → D.honest result }
         ensures only { D.honest result → self.broken ≡ false → Only (D.content result) (D.left result) }
         ensures stands { CameTidy D.honest D.content self.given → self.broken ≡ false → IsDurable self (D.content result) }
+        ensures left { CameTidy D.honest D.content self.given → (c : List ℕ) → D.left result c → IsDurableOrAfter self self.in_flight c }
     {
         self.pages.close()
     }
@@ -136,12 +149,18 @@ impl<D: Disk> Store<D> {
         // A stop at any moment of the call, or after it, leaves what stands for the network before the commands, or after them.
         ensures any_moment { CameTidy D.honest D.content self.old.given → self.old.broken ≡ false → LeavesOnly D.moment D.left_since self.old.disk self.new.disk (IsDurableOrAfter self.old commands.now) }
         ensures in_flight { CameTidy D.honest D.content self.old.given → self.old.broken ≡ false → (c : List ℕ) → D.left self.new.disk c → IsDurableOrAfter self.old commands.now c }
+        // Where the disk failed in it, these commands are in flight.
+        ensures failed_in_flight { IfErr result (λ refusal. refusal ≡ device → self.new.in_flight ≡ commands.now) }
+        ensures none_in_flight { OnOk result (self.new.in_flight ≡ []) }
         // After Ok it leaves the content alone, which stands for the network after them.
         ensures only { D.honest self.old.disk → OnOk result (Only (D.content self.new.disk) (D.left self.new.disk)) }
         ensures durable { CameTidy D.honest D.content self.old.given → OnOk result ((c : List ℕ) → D.left self.new.disk c → IsDurable self.new c) }
         ensures honest { D.honest self.new.disk ↔ D.honest self.old.disk }
     {
-        self.pages.commit(commands)
+        let made = self.pages.commit(commands);
+        let failed = has_failed(&made);
+        self.in_flight = self.in_flight.after(&Made { commands, failed });
+        made
     }
 
     /// Writes a part of a checkpoint: of the one that is going, or else of one that begins. A checkpoint holds the network as it was when it
@@ -162,6 +181,7 @@ impl<D: Disk> Store<D> {
         ensures network { self.new.network ≡ self.old.network }
         ensures version { self.new.version ≡ self.old.version }
         ensures given { self.new.given ≡ self.old.given }
+        ensures same_in_flight { self.new.in_flight ≡ self.old.in_flight }
         ensures sizes { (self.new.journal_pages ≡ self.old.journal_pages) × (self.new.checkpoint_pages ≡ self.old.checkpoint_pages) }
         // Where none is going and no page is unchecked, nothing is changed, the disk neither.
         ensures nothing { self.old.broken ≡ false → has_all_checked self.old ≡ true → (result ≡ Ok (Part.Done self.old.version)) × (self.new ≡ self.old) }
@@ -205,6 +225,7 @@ impl<D: Disk> Store<D> {
         ensures network { self.new.network ≡ self.old.network }
         ensures version { self.new.version ≡ self.old.version }
         ensures given { self.new.given ≡ self.old.given }
+        ensures same_in_flight { self.new.in_flight ≡ self.old.in_flight }
         ensures sizes { (self.new.journal_pages ≡ self.old.journal_pages) × (self.new.checkpoint_pages ≡ self.old.checkpoint_pages) }
         // Where none is going and no page is unchecked, nothing is changed, the disk neither.
         ensures nothing { self.old.broken ≡ false → has_all_checked self.old ≡ true → (result ≡ Ok self.old.version) × (self.new ≡ self.old) }

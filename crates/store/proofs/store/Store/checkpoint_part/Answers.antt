@@ -1,19 +1,26 @@
+use Rattle.store.proofs.InFlight.{worked_before, left_after_checkpoint}
 use Rattle.store.proofs.StateKept.{works_at_checkpoint, at_ok, rests_after}
 use Rattle.store.proofs.store.Store.checkpoint_part.Goals as goal
 
 pub invariant_of-self : goal.invariant_of-self
-invariant_of-self g c = λ came.
-    let held = c.self.invariant came in
+invariant_of-self g c =
     let p = c.self.inside.pages in
-    let worked = at_ok _ c.checkpoint_part.result c.checkpoint_part.ensures.refused (works_at_checkpoint p.broken) in (
-      c.checkpoint_part.ensures.honest.1 held.0,
-      rests_after c.checkpoint_part.result p c.checkpoint_part.new.self c.checkpoint_part.ensures.same c.checkpoint_part.ensures.breaks worked (c.checkpoint_part.ensures.only held.0) (c.checkpoint_part.ensures.stands held.0) held.1,
+    let n = c.checkpoint_part.new.self in
+    let e = c.checkpoint_part.ensures in
+    let worked = at_ok _ c.checkpoint_part.result e.refused (works_at_checkpoint p.broken) in (
+      λ works. c.self.invariant.0 (worked_before c.checkpoint_part.result p n e.same e.breaks worked works),
+      λ came.
+          let held = c.self.invariant.1 came in (
+            e.honest.1 held.0,
+            rests_after c.checkpoint_part.result p n e.same e.breaks worked (e.only held.0) (e.stands held.0) held.1,
+            left_after_checkpoint c.checkpoint_part.result p n c.self.inside.in_flight.commands e.refused e.same e.works e.header e.network e.version (λ works. e.left works held.0 (held.1 works).1) held.2,
+          ),
     )
 
 pub returns-clause-any_moment : goal.returns-clause-any_moment
 returns-clause-any_moment g c = rw (← c.self.view_is) (λ came works.
-    let held = c.self.invariant came in c.checkpoint_part.ensures.any_moment works held.0 (held.1 works).1)
+    let held = c.self.invariant.1 came in c.checkpoint_part.ensures.any_moment works held.0 (held.1 works).1)
 
 pub returns-clause-left : goal.returns-clause-left
 returns-clause-left g c = rw (← c.self.view_is) (λ came works.
-    let held = c.self.invariant came in c.checkpoint_part.ensures.left works held.0 (held.1 works).1)
+    let held = c.self.invariant.1 came in c.checkpoint_part.ensures.left works held.0 (held.1 works).1)

@@ -5,4 +5,4 @@ use Rattle.store.proofs.store.Store.standing.Goals as goal
 pub returns-clause-stands : goal.returns-clause-stands
 returns-clause-stands g c = rw (← c.self.view_is) (λ came works.
     let p = c.self.inside.pages in
-    record { header = p.header; next = p.next_sequence; stored = stored_as (g.D.Disk.content p.disk) (told_by p) ((c.self.invariant came).1 works).1.0 })
+    record { header = p.header; next = p.next_sequence; stored = stored_as (g.D.Disk.content p.disk) (told_by p) ((c.self.invariant.1 came).1 works).1.0 })

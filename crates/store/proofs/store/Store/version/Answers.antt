@@ -2,11 +2,12 @@ use Rattle.std.proofs.Common.{ap}
 use Rattle.pages.specs.Layout.{pages_for}
 use Rattle.store.specs.Durable.{told_by}
 use Rattle.store.proofs.ArcsKept.{arcs_of_header}
+use Rattle.store.proofs.InFlight.{left_always}
 use Rattle.store.proofs.StateKept.{few_pages, durable_of}
 use Rattle.store.proofs.store.Store.version.Goals as goal
 
 pub returns-clause-honest : goal.returns-clause-honest
-returns-clause-honest g c = rw (← c.self.view_is) (λ came. (c.self.invariant came).0)
+returns-clause-honest g c = rw (← c.self.view_is) (λ came. (c.self.invariant.1 came).0)
 
 pub returns-clause-room : goal.returns-clause-room
 returns-clause-room g c =
@@ -17,8 +18,14 @@ pub returns-clause-only : goal.returns-clause-only
 returns-clause-only g c = rw (← c.self.view_is) (λ honest works. (c.self.inside.pages.rests works honest).0)
 
 pub returns-clause-stands : goal.returns-clause-stands
-returns-clause-stands g c = rw (← c.self.view_is) (λ came works. durable_of c.self.inside.pages (g.D.Disk.content c.self.inside.pages.disk) ((c.self.invariant came).1 works).1)
+returns-clause-stands g c = rw (← c.self.view_is) (λ came works. durable_of c.self.inside.pages (g.D.Disk.content c.self.inside.pages.disk) ((c.self.invariant.1 came).1 works).1)
 
 pub returns-clause-checkpoint_pages : goal.returns-clause-checkpoint_pages
 returns-clause-checkpoint_pages g c =
-    rw (← c.self.view_is) (λ came works. ap (pages_for 1023) (arcs_of_header (g.D.Disk.content c.self.inside.pages.disk) (told_by c.self.inside.pages) ((c.self.invariant came).1 works).1.0))
+    rw (← c.self.view_is) (λ came works. ap (pages_for 1023) (arcs_of_header (g.D.Disk.content c.self.inside.pages.disk) (told_by c.self.inside.pages) ((c.self.invariant.1 came).1 works).1.0))
+
+pub returns-clause-left : goal.returns-clause-left
+returns-clause-left g c = rw (← c.self.view_is) (λ came. let held = c.self.invariant.1 came in left_always c.self.inside.pages c.self.inside.in_flight.commands held.1 held.2)
+
+pub returns-clause-none_in_flight : goal.returns-clause-none_in_flight
+returns-clause-none_in_flight g c = rw (← c.self.view_is) c.self.invariant.0

@@ -6,7 +6,6 @@ use Rattle.roadnet.specs.Net.{Net}
 use Rattle.roadnet.specs.Step.{after}
 use Rattle.roadnet.specs.declared.refusals.Refusal.{Refusal}
 use Rattle.disk.specs.Contents.{Only}
-use Rattle.pages.specs.Layout.{pages_for}
 use Rattle.storefile.specs.StoreFile.{StandsTidyFor}
 use Rattle.machine.specs.declared.events.Event.{Event}
 use Rattle.machine.specs.declared.events.Event.TheVariants.{Stop, StopWithin}
@@ -16,7 +15,7 @@ use Rattle.machine.specs.Machine.{Sizes, Machine, IsState, start, most_versions,
 use Rattle.machine.specs.Calls.{IsLeft}
 use Rattle.machine.specs.LifeInRun.{within}
 use Rattle.machine.specs.Lives.{Turn, Passes, LivesOn}
-use Rattle.store.specs.State.{StoreState, CameTidy}
+use Rattle.store.specs.State.{StoreState, CameTidy, checkpoint_pages_of}
 use Rattle.keeper.specs.Keeping.{Keeping, IsDurableIn, sizes_of}
 
 -- an event with a stop
@@ -40,7 +39,7 @@ pub record IsLife (m : Machine) (opened : ℕ) (aside : Option (ℕ × Net)) : T
 
 -- the checkpoint of this machine's store writes as many pages as its network's arcs need
 abbrev pub HasPagesOfNetwork : Machine → Type 0
-HasPagesOfNetwork m = m.sizes.checkpoint_pages ≡ pages_for 1023 (length m.base.arcs)
+HasPagesOfNetwork m = m.sizes.checkpoint_pages ≡ checkpoint_pages_of m.base
 
 -- the store that a run began with
 pub record First : Type 0 where

@@ -1,23 +1,23 @@
 -- A run of events on a new store, and what is written of it.
-use Rattle.std.specs.Prelude.{◌≡◌, ◌⊎◌, ℕ, List, length, Option, Some, ⊤}
+use Rattle.std.specs.Prelude.{◌≡◌, ◌⊎◌, ℕ, List, Option, Some, ⊤}
 use Rattle.std.specs.Io.KnownBytes.{Appends}
 use Rattle.roadnet.specs.Net.{Net}
 use Rattle.roadnet.specs.declared.commands.Command.{Command}
 use Rattle.roadnet.specs.declared.refusals.Refusal.{Refusal}
 use Rattle.roadnet.specs.declared.refusals.Refusal.TheVariants.{OutOfMemory, Device, Write}
 use Rattle.disk.specs.declared.stoppable.Pick.{Pick}
-use Rattle.pages.specs.Layout.{pages_for}
 use Rattle.machine.specs.declared.events.Event.{Event}
 use Rattle.machine.specs.declared.events.Replied.{Replied}
 use Rattle.machine.specs.Machine.{Sizes, Machine, start}
 use Rattle.machine.specs.Lives.{Lives}
+use Rattle.store.specs.State.{checkpoint_pages_of}
 use Rattle.printing.specs.Replied.{printed_replies}
 use Rattle.printing.specs.declared.failed.Failed.{Failed}
 use Rattle.printing.specs.declared.failed.Failed.TheVariants.{Code}
 
 -- the sizes of a new store of this network: a checkpoint writes a page for each 1,023 arcs
 abbrev pub sizes_of : Net → ℕ → Sizes
-sizes_of net journal_pages = record { journal_pages = journal_pages; checkpoint_pages = pages_for 1023 (length net.arcs) }
+sizes_of net journal_pages = record { journal_pages = journal_pages; checkpoint_pages = checkpoint_pages_of net }
 
 -- The events may be replied to so over lives with stops, of which the first begins with a new store of this network. Where the run ends
 -- early, it ends for this refusal.

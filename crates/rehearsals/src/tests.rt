@@ -190,17 +190,17 @@ fn stop_within_flush(rt: HostRuntime) -> Result<(), Fail> {
     Ok(())
 }
 
-/// The i-th byte that was not synced takes pick i mod n. At the third call of a flush these are the eight bytes of a gate, whose last one opens it.
+/// The i-th byte that was not synced takes pick i mod n. At the third call of a flush that is the gate's one byte, which takes the first pick.
 #[test]
 fn stop_with_several_picks(rt: HostRuntime) {
     let table: [(&str, &[u8], &[u8]); 6] = [
         (
-            "the gate's last byte is old",
+            "the gate takes the first pick, the new byte",
             b"close 7\nstop 3 new old flush\n",
             b"t 1\nstopped\nv 1\n",
         ),
         (
-            "the gate's first byte is old",
+            "the gate takes the first pick, the old byte",
             b"close 7\nstop 3 old new flush\n",
             b"t 1\nstopped\nv 0\n",
         ),

@@ -1,5 +1,5 @@
 //! What a session answers, by its desk.
-ghost use Rattle.std.specs.Prelude.{◌≡◌, ◌⊎◌, ◌+◌, length, None, IfOk, IfErr, OnOk};
+ghost use Rattle.std.specs.Prelude.{◌≡◌, ◌+◌, length, None, IfOk, IfErr, OnOk};
 ghost use Rattle.std.specs.Option.{ForSome};
 ghost use mathlib.Core.List.{IsPrefix};
 ghost use Rattle.published.specs.Showing.{IsUnseen};

@@ -43,9 +43,13 @@ pub record HasRoom {D : Type 0} (s : StoreState D) : Type 0 where
   pub unchecked_to : s.unchecked ≤ s.journal_pages
   pub checkpoint_pages_to : s.checkpoint_pages ≤ 65602
 
+-- how many pages a checkpoint of this network has to write: one for each 1,023 arcs
+abbrev pub checkpoint_pages_of : Net → ℕ
+checkpoint_pages_of net = pages_for 1023 (length net.arcs)
+
 -- a checkpoint has as many pages to write as the network's arcs need
 abbrev pub HasCheckpointPages : {D : Type 0} → StoreState D → Type 0
-HasCheckpointPages s = s.checkpoint_pages ≡ pages_for 1023 (length s.network.arcs)
+HasCheckpointPages s = s.checkpoint_pages ≡ checkpoint_pages_of s.network
 
 -- the state of a store with these pages, that was given this disk and has these commands in flight
 abbrev pub state_of : {D : Type 0} {disk : Ghosts D} → Paged D disk → D → List Command → StoreState D

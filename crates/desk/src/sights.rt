@@ -5,14 +5,11 @@ ghost use Rattle.rows.specs.Replies.{refusal_of, IsRight};
 ghost use Rattle.rows.specs.Views.{AreRight};
 
 use roadnet::OutOfMemory;
-use rows::{Reply, RowCache, View};
+use rows::{DEFAULT_ROWS, Reply, RowCache, View};
 use std::alloc::Global;
 use std::marker::Model;
 use std::sync::Arc;
 use std::thread::Threads;
-
-/// How many rows are kept.
-const ROWS: u32 = 16;
 
 /// A view with rows that were made for it: up to 16, of 8 bytes a node.
 #[derive(Drop)]
@@ -41,7 +38,7 @@ impl Sight {
         Sight {
             alloc,
             view,
-            cache: RowCache::new(alloc, ROWS),
+            cache: RowCache::new(alloc, DEFAULT_ROWS),
         }
     }
 

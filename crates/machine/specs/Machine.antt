@@ -1,5 +1,6 @@
 -- The state of the machine that a keeper of a store is: the accepted commands, and counts. Nothing of it is a byte of the disk.
-use Rattle.std.specs.Prelude.{◌≡◌, ℕ, ◌+◌, ◌-◌, ◌≤◌, ◌^◌, min, Bool, false, List, length, take, [], Option, None, IfSome, IsSome}
+use Rattle.std.specs.Prelude.{◌≡◌, ℕ, ◌+◌, ◌-◌, ◌≤◌, min, Bool, false, List, length, take, [], Option, None, IfSome, IsSome}
+pub use Rattle.roadnet.specs.Versions.{most_versions}
 use Rattle.roadnet.specs.declared.commands.Command.{Command}
 use Rattle.roadnet.specs.Net.{Net, nth}
 use Rattle.roadnet.specs.Step.{after}
@@ -43,9 +44,6 @@ pub record Machine : Type 0 where
   pub task : Option ℕ
   -- the checkpoint that is going
   pub checkpoint : Option Checkpoint
-
-abbrev pub most_versions : ℕ
-most_versions = 2 ^ 48
 
 abbrev pub most_pending : ℕ
 most_pending = 4096

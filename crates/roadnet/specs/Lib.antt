@@ -10,3 +10,4 @@ pub mod Outlines
 pub mod Step
 pub mod WalkLaws
 pub mod Walks
+pub mod Versions

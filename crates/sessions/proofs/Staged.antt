@@ -18,9 +18,9 @@ use Rattle.sessions.specs.declared.words.Word.{Word}
 use Rattle.sessions.specs.Fields.{IsField, IsNumbers, as_row}
 use Rattle.sessions.specs.Judging.{IsOneField, IsSoFar, IsStage, letters_of}
 use Rattle.sessions.specs.SessionLines.{session_code, IsLine}
-use Rattle.sessions.specs.Spelled.{spelling, word_from}
+use Rattle.sessions.specs.Spelled.{spelling, words, word_from}
 use Rattle.sessions.proofs.Fieldwise.{blank_first, ended_by_blank, ended_by_line, one_byte, one_more, first_field, remark_first, without_return, no_return}
-use Rattle.sessions.proofs.Worded.{spelled, unknown_row, long_field}
+use Rattle.sessions.proofs.Worded.{unknown_row, long_field}
 
 -- ---- blanks and the first byte behind them
 pub more_blanks : (front : List ℕ) (b : ℕ) → is_blank b ≡ true → IsStage front Blank → IsStage (front ++ b ∷ []) Blank
@@ -98,7 +98,7 @@ word_ended front b letters word blank is_word is = record {
   numbers_are = refl;
   field_is = refl;
   no_blank = no_bytes;
-  goes_on = λ more. first_whole front b letters more blank is ∙ ap (λ (l : List ℕ). l ∷ fields more) (spelled (letters_of letters) word (sym is_word));
+  goes_on = λ more. first_whole front b letters more blank is ∙ ap (λ (l : List ℕ). l ∷ fields more) (spelled spelling words (letters_of letters) word (sym is_word));
 }
 
 -- ---- behind the word
@@ -157,7 +157,7 @@ unknown_alone front letters none is =
 pub word_alone : (front : List ℕ) (letters : Letters) (word : Word) (line : Line) → Some word ≡ word_from (letters_of letters)
     → ((row : Row) → IsNumbers row Nothing → IsLine (spelling word ∷ row) line) → IsStage front (Beginning letters) → IsLine (fields front) line
 word_alone front letters word line is_word reads is =
-    rw (first_alone front letters is, spelled (letters_of letters) word (sym is_word)) (reads [] refl)
+    rw (first_alone front letters is, spelled spelling words (letters_of letters) word (sym is_word)) (reads [] refl)
 
 pub whole_line : (front : List ℕ) (word : Word) (numbers ended : Numbers) (field : Field) (line : Line)
     → ((row : Row) (last : List ℕ) → IsNumbers row numbers → IsField last field → IsNumbers (row ++ as_row last) ended)

@@ -7,18 +7,19 @@ use Rattle.std.proofs.lemmas.Slice.Eq.{bytes_eq-Decides}
 use lib.Chars.{codes}
 use Rattle.dimacs.specs.declared.fault.Code.TheVariants.{BadLine, NumberRange}
 use Rattle.dimacs.specs.declared.numeral.Numeral.{Numeral}
+use Rattle.dimacs.specs.declared.words.OneNumber.{OneNumber}
+use Rattle.dimacs.specs.declared.words.OneNumber.TheVariants.{Close, Reopen, Mark, Unmark}
+use Rattle.dimacs.specs.declared.words.TwoNumbers.{TwoNumbers}
+use Rattle.dimacs.specs.declared.words.TwoNumbers.TheVariants.{Set, Dist, From, Lower}
 use Rattle.dimacs.specs.Commands.{form, form_of, is_refused, command_code}
 use Rattle.dimacs.specs.Content.{size_at}
 use Rattle.dimacs.specs.Faults.{Row, is_empty, is_remark, is_malformed}
 use Rattle.dimacs.specs.Numerals.{numeral, kept}
 use Rattle.dimacs.proofs.CommandRows.{kept_refused, kept_number}
 use Rattle.dimacs.proofs.Items.{known, or-false}
+use Rattle.dimacs.proofs.Spelled.{unformed}
 use Rattle.sessions.specs.declared.words.Bare.{Bare}
 use Rattle.sessions.specs.declared.words.Bare.TheVariants.{Wait, Quit}
-use Rattle.sessions.specs.declared.words.OneNumber.{OneNumber}
-use Rattle.sessions.specs.declared.words.OneNumber.TheVariants.{Close, Reopen, Mark, Unmark}
-use Rattle.sessions.specs.declared.words.TwoNumbers.{TwoNumbers}
-use Rattle.sessions.specs.declared.words.TwoNumbers.TheVariants.{Set, Dist, From, Lower}
 use Rattle.sessions.specs.declared.words.Word.{Word}
 use Rattle.sessions.specs.declared.words.Word.TheVariants.{WithNone, WithOne, WithTwo}
 use Rattle.sessions.specs.declared.lines.Line.TheVariants.{Refused}
@@ -30,42 +31,13 @@ use Rattle.sessions.specs.Spelled.{spelling, words, word_from}
 use Rattle.sessions.specs.Words.{bare_line, one_line, two_line}
 
 -- ---- the word of a field
-found_passes : {X : Type 0} (test : X → Bool) (xs : List X) (x : X) → find test xs ≡ Some x → test x ≡ true
-found_passes test [] x e = absurd (let absurdity : ⊥ = cc in absurdity)
-found_passes test (y ∷ ys) x e = at (test y) refl (found_passes test ys x) e
-  where
-    at : (b : Bool) → test y ≡ b → (find test ys ≡ Some x → test x ≡ true) → cond b (Some y) (find test ys) ≡ Some x → test x ≡ true
-    at true is later e = let same : y ≡ x = cc in subst (λ z. test z ≡ true) same is
-    at false is later e = later e
-
-pub spelled : (field : List ℕ) (word : Word) → word_from field ≡ Some word → field ≡ spelling word
-spelled field word e = (bytes_eq-Decides field (spelling word)).0 (found_passes (λ w. bytes_eq field (spelling w)) words word e)
-
-none_first : {X : Type 0} (b : Bool) (x : X) (o : Option X) → cond b (Some x) o ≡ None → (b ≡ false) × (o ≡ None)
-none_first true x o e = absurd (let absurdity : ⊥ = cc in absurdity)
-none_first false x o e = (refl, e)
-
-unformed : (field : List ℕ) (others : Row) → word_from field ≡ None → form_of forms (field ∷ others) ≡ None
-unformed field others e =
-    let n1 = none_first (bytes_eq field (codes "close")) _ _ e in
-    let n2 = none_first (bytes_eq field (codes "reopen")) _ _ n1.1 in
-    let n3 = none_first (bytes_eq field (codes "mark")) _ _ n2.1 in
-    let n4 = none_first (bytes_eq field (codes "unmark")) _ _ n3.1 in
-    let n5 = none_first (bytes_eq field (codes "set")) _ _ n4.1 in
-    let n6 = none_first (bytes_eq field (codes "dist")) _ _ n5.1 in
-    let n7 = none_first (bytes_eq field (codes "from")) _ _ n6.1 in
-    let n8 = none_first (bytes_eq field (codes "lower")) _ _ n7.1 in
-    let n9 = none_first (bytes_eq field (codes "wait")) _ _ n8.1 in
-    let n10 = none_first (bytes_eq field (codes "quit")) _ _ n9.1 in
-    rw (n1.0, n2.0, n3.0, n4.0, n5.0, n6.0, n7.0, n8.0, n9.0, n10.0) refl
-
 -- a field that is no word and begins no comment
 pub unknown_row : (first : ℕ) (w : List ℕ) (others : Row) → first ≢ 35 → word_from (first ∷ w) ≡ None → session_code ((first ∷ w) ∷ others) ≡ Some BadLine
 unfolding command_code
 unknown_row first w others plain none =
     let some : ltb 0 (length (first ∷ w)) ≡ true = lt-ltb _ _ (omega arith) in
     let mark : eqb first 35 ≡ false = ne_eqb first 35 plain in
-    rw (some, mark, unformed (first ∷ w) others none) refl
+    rw (some, mark, unformed spelling words (first ∷ w) others forms none refl) refl
 
 -- more bytes than a word has
 other_bytes : (field word : List ℕ) → length word < length field → bytes_eq field word ≡ false

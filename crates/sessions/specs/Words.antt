@@ -6,10 +6,10 @@ use Rattle.roadnet.specs.declared.commands.Command.TheVariants.{Set as set_arc, 
 use Rattle.rows.specs.declared.queries.Query.TheVariants.{Dist as distance, From as distance_from, Lower as lower_bound}
 use Rattle.sessions.specs.declared.words.Bare.{Bare}
 use Rattle.sessions.specs.declared.words.Bare.TheVariants.{Wait, Quit}
-use Rattle.sessions.specs.declared.words.OneNumber.{OneNumber}
-use Rattle.sessions.specs.declared.words.OneNumber.TheVariants.{Close, Reopen, Mark, Unmark}
-use Rattle.sessions.specs.declared.words.TwoNumbers.{TwoNumbers}
-use Rattle.sessions.specs.declared.words.TwoNumbers.TheVariants.{Set, Dist, From, Lower}
+use Rattle.dimacs.specs.declared.words.OneNumber.{OneNumber}
+use Rattle.dimacs.specs.declared.words.OneNumber.TheVariants.{Close, Reopen, Mark, Unmark}
+use Rattle.dimacs.specs.declared.words.TwoNumbers.{TwoNumbers}
+use Rattle.dimacs.specs.declared.words.TwoNumbers.TheVariants.{Set, Dist, From, Lower}
 
 -- what a word asks for with its numbers
 abbrev pub bare_line : Bare → Line

@@ -12,8 +12,8 @@ ghost use Rattle.sessions.specs.Turns.{is_quit};
 
 use crate::fields::{Field, Numbers, one_of, two_of};
 use crate::letters::Letters;
-use crate::words::{Bare, OneNumber, TwoNumbers, Word};
-use dimacs::Code;
+use crate::words::{Bare, Word};
+use dimacs::{Code, OneNumber, TwoNumbers};
 use roadnet::Command;
 use rows::Query;
 

@@ -2,29 +2,13 @@
 ghost use Rattle.std.specs.Prelude.{◌≡◌};
 ghost use Rattle.sessions.specs.Spelled.{word_from};
 
+use dimacs::{OneNumber, TwoNumbers, word_of_one, word_of_two};
+
 /// A word with no field behind it.
 #[derive(Clone, Copy)]
 pub(crate) enum Bare {
     Wait,
     Quit,
-}
-
-/// A word with one number behind it.
-#[derive(Clone, Copy)]
-pub(crate) enum OneNumber {
-    Close,
-    Reopen,
-    Mark,
-    Unmark,
-}
-
-/// A word with two numbers behind it.
-#[derive(Clone, Copy)]
-pub(crate) enum TwoNumbers {
-    Set,
-    Dist,
-    From,
-    Lower,
 }
 
 /// A word by what stands behind it.
@@ -39,29 +23,11 @@ pub(crate) enum Word {
 pub(crate) fn word_of(field: &[u8]) -> Option<Word>
     ensures { result ≡ word_from field.now }
 {
-    if field == b"close".as_slice() {
-        return Some(Word::WithOne(OneNumber::Close));
+    if let Some(word) = word_of_one(field) {
+        return Some(Word::WithOne(word));
     }
-    if field == b"reopen".as_slice() {
-        return Some(Word::WithOne(OneNumber::Reopen));
-    }
-    if field == b"mark".as_slice() {
-        return Some(Word::WithOne(OneNumber::Mark));
-    }
-    if field == b"unmark".as_slice() {
-        return Some(Word::WithOne(OneNumber::Unmark));
-    }
-    if field == b"set".as_slice() {
-        return Some(Word::WithTwo(TwoNumbers::Set));
-    }
-    if field == b"dist".as_slice() {
-        return Some(Word::WithTwo(TwoNumbers::Dist));
-    }
-    if field == b"from".as_slice() {
-        return Some(Word::WithTwo(TwoNumbers::From));
-    }
-    if field == b"lower".as_slice() {
-        return Some(Word::WithTwo(TwoNumbers::Lower));
+    if let Some(word) = word_of_two(field) {
+        return Some(Word::WithTwo(word));
     }
     if field == b"wait".as_slice() {
         return Some(Word::WithNone(Bare::Wait));

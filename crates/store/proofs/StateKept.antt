@@ -1,7 +1,7 @@
 -- What a store tells of its disk.
 use Rattle.std.proofs.Common.{◌≡◌, ℕ, ◌≤◌, Bool, true, false, List, Option, Some, None, refl, sym, ◌∙◌, subst, arith}
 use Rattle.std.specs.Prelude.{not, is_none, ◌&&◌, Result, Ok, Err, OnOk, IfErr, MatchResult}
-use Rattle.std.proofs.Math.Nat.{div-le_of_le-mul}
+use Rattle.std.proofs.Math.Nat.{div-lt_iff_lt-mul}
 use Rattle.disk.specs.Contents.{Only}
 use Rattle.disk.specs.declared.disk.Disk.{Ghosts}
 use Rattle.roadnet.specs.declared.commands.Command.{Command}
@@ -46,8 +46,8 @@ calm_if s works none = both s.broken s.going works none
 pub left_durable : {D : Type 0} (s : StoreState D) (content : List ℕ) (left : List ℕ → Type 0) → Only content left → IsDurable s content → (c : List ℕ) → left c → IsDurable s c
 left_durable s content left only stands c was = subst (IsDurable s) (sym (only c was)) stands
 
-pub few_pages : (h : Header) → h.arcs ≤ 67108864 → word_pages h ≤ 65602
-few_pages h few = div-le_of_le-mul 1023 (omega (arith, few))
+pub few_pages : (h : Header) → h.arcs ≤ 67108864 → word_pages h ≤ 65601
+few_pages h few = let below : word_pages h < 65602 = (div-lt_iff_lt-mul (omega arith)).1 (omega (arith, few)) in omega (arith, below)
 
 pub durable_of : {D : Type 0} {disk : Ghosts D} (pages : Paged D disk) (content : List ℕ) → StandsTidily content (told_by pages) → StandsTidyFor pages.header.journal_pages content pages.network pages.version
 durable_of pages content stands = left_stands content (λ c. c ≡ content) (told_by pages) (λ c is. is) stands content refl

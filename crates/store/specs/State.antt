@@ -41,7 +41,7 @@ pub record StoreState (D : Type 0) : Type 0 where
 pub record HasRoom {D : Type 0} (s : StoreState D) : Type 0 where
   pub version_to : s.version ≤ most_versions
   pub unchecked_to : s.unchecked ≤ s.journal_pages
-  pub checkpoint_pages_to : s.checkpoint_pages ≤ 65602
+  pub checkpoint_pages_to : s.checkpoint_pages ≤ 65601
 
 -- how many pages a checkpoint of this network has to write: one for each 1,023 arcs
 abbrev pub checkpoint_pages_of : Net → ℕ

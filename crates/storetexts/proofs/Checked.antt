@@ -1,9 +1,9 @@
 -- A store that is only looked at: its lines, or why there are none.
-use Rattle.std.proofs.Common.{◌≡◌, ℕ, List, Option, Result, Ok, Err, sym, subst}
+use Rattle.std.proofs.Common.{◌≡◌, ℕ, List, Option, Result, Ok, Err, refl, sym, subst}
 use Rattle.std.specs.Prelude.{OnOk, IfErr}
 use Rattle.std.specs.Io.KnownBytes.{Appends}
 use Rattle.roadnet.specs.declared.refusals.Refusal.{Refusal}
-use Rattle.roadnet.specs.declared.refusals.Refusal.TheVariants.{Write}
+use Rattle.roadnet.specs.declared.refusals.Refusal.TheVariants.{OutOfMemory, Write}
 use Rattle.roadnet.specs.Net.{Net}
 use Rattle.printing.specs.Counting.{CountsFailure}
 use Rattle.printing.specs.Failing.{CountsWrites, LeavesUnwritten}
@@ -13,11 +13,15 @@ use Rattle.store.specs.declared.standing.Standing.{Standing}
 use Rattle.store.specs.Inspecting.{StandsThus}
 use Rattle.storetexts.specs.Asked.{IsUnopened}
 use Rattle.storetexts.specs.Checked.{standing_lines, IsChecked, IsRefusedCheck}
-use Rattle.storetexts.specs.Refused.{CountsDevice}
+use Rattle.storetexts.specs.Refused.{IfNoMemory, CountsDevice}
 
 pub unopened : (Honest : Type 0) (file : List ℕ) (refusal : Refusal) → IsUnopened Honest file refusal → IsRefusedCheck Honest file (Code refusal)
 unopened Honest file Write may = tt
 unopened Honest file _ may = may
+
+pub memory_told : (refusal : Refusal) (P : Type 0) → (refusal ≡ OutOfMemory → P) → IfNoMemory (Code refusal) P
+memory_told OutOfMemory P told = told refl
+memory_told _ P told = tt
 
 pub told_so : (r : Result (Unit {0}) Failed) (Honest : Type 0) (file : List ℕ) (version : ℕ) (told : Standing) (old new : Option (List ℕ)) → (Honest → (net : Net) × StandsThus file net version told)
     → OnOk r (Appends old new (standing_lines version told)) → OnOk r (IsChecked Honest file old new)
@@ -32,6 +36,9 @@ by_write P (Err failed) p is = subst P (sym is) p
 
 pub write_refused : (r : Result (Unit {0}) Failed) (Honest : Type 0) (file : List ℕ) → IfErr r (λ failed. failed ≡ Code Write) → IfErr r (IsRefusedCheck Honest file)
 write_refused r Honest file is = by_write (IsRefusedCheck Honest file) r tt is
+
+pub write_memory : (r : Result (Unit {0}) Failed) (P : Type 0) → IfErr r (λ failed. failed ≡ Code Write) → IfErr r (λ failed. IfNoMemory failed P)
+write_memory r P is = by_write (λ (failed : Failed). IfNoMemory failed P) r tt is
 
 pub write_unwritten : {W : Type 0} (r : Result (Unit {0}) Failed) (old new : W) → IfErr r (λ failed. failed ≡ Code Write) → IfErr r (LeavesUnwritten old new)
 write_unwritten r old new is = by_write (LeavesUnwritten old new) r tt is

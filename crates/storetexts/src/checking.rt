@@ -4,8 +4,9 @@ ghost use Rattle.std.specs.Io.KnownBytes.{Appends};
 ghost use Rattle.disk.specs.Moments.{StaysSame};
 ghost use Rattle.printing.specs.Counting.{failed_writes, writer_of, IsSameWriter, CountsFailure};
 ghost use Rattle.printing.specs.Failing.{CountsWrites, LeavesUnwritten};
+ghost use Rattle.store.specs.Opening.{HeaderFits};
 ghost use Rattle.storetexts.specs.Checked.{slot_line, standing_lines, IsChecked, IsRefusedCheck};
-ghost use Rattle.storetexts.specs.Refused.{CountsDevice};
+ghost use Rattle.storetexts.specs.Refused.{IfNoMemory, CountsDevice};
 
 use disk::Disk;
 use pages::Slot;
@@ -50,7 +51,7 @@ fn put_standing<W: Write>(
 /// is written to the disk, which is handed back.
 ///
 /// Refused is what is refused on opening: no store (40), another format (41), a damaged page (42), a disk that fails (43), want of memory
-/// (11). Nothing is written then. 43 is told only where the disk's count of failures rose. A failed write is 12, told only where the count
+/// (11), that only behind a header that fits the file. Nothing is written then. 43 is told only where the disk's count of failures rose. A failed write is 12, told only where the count
 /// of the writer's failed calls rose; the writer is not used again then.
 pub fn check_counted<D: Disk, W: Write>(
     alloc: Global,
@@ -60,6 +61,7 @@ pub fn check_counted<D: Disk, W: Write>(
     // The lines are those of what the content stands for.
     ensures answered { OnOk result.0 (IsChecked (D.honest disk) (D.content disk) (W.contents (writer_of out.old)) (W.contents (writer_of out.new))) }
     ensures refused { IfErr result.0 (IsRefusedCheck (D.honest disk) (D.content disk)) }
+    ensures order { D.honest disk → IfErr result.0 (λ failed. IfNoMemory failed (HeaderFits (D.content disk))) }
     // The disk's count of failures rises where 43 is told, and else not at all.
     ensures failed { CountsDevice (D.failures disk) (D.failures result.1) result.0 }
     // Nothing is written to the disk.
@@ -82,6 +84,7 @@ pub fn check_counted<D: Disk, W: Write>(
 pub fn check_text<D: Disk, W: Write>(alloc: Global, disk: D, out: &mut W) -> (Result<(), Failed>, D)
     ensures answered { OnOk result.0 (IsChecked (D.honest disk) (D.content disk) (W.contents out.old) (W.contents out.new)) }
     ensures refused { IfErr result.0 (IsRefusedCheck (D.honest disk) (D.content disk)) }
+    ensures order { D.honest disk → IfErr result.0 (λ failed. IfNoMemory failed (HeaderFits (D.content disk))) }
     ensures failed { CountsDevice (D.failures disk) (D.failures result.1) result.0 }
     ensures untouched { D.honest disk → StaysSame D.content D.left D.moment D.left_since disk result.1 }
     ensures honest { D.honest result.1 ↔ D.honest disk }

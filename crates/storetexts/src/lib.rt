@@ -19,4 +19,6 @@ mod check_tests;
 #[cfg(test)]
 mod failing_tests;
 #[cfg(test)]
+mod growth_tests;
+#[cfg(test)]
 mod tests;

@@ -1,10 +1,13 @@
 use Rattle.storetexts.proofs.Judged.{opening_counts}
 use Rattle.storetexts.proofs.Meanwhile.{counts_code}
-use Rattle.storetexts.proofs.Checked.{unopened, told_so, write_refused, write_unwritten, write_counts, write_device}
+use Rattle.storetexts.proofs.Checked.{unopened, memory_told, told_so, write_refused, write_memory, write_unwritten, write_counts, write_device}
 use Rattle.storetexts.proofs.checking.check_counted.Goals as goal
 
 pub returns-in-Err-clause-refused : goal.returns-in-Err-clause-refused
 returns-in-Err-clause-refused g c = unopened (g.D.Disk.honest c.args.disk) (g.D.Disk.content c.args.disk) c.in-Err.refusal (c.in-Err.ensures.causes, c.in-Err.ensures.judged)
+
+pub returns-in-Err-clause-order : goal.returns-in-Err-clause-order
+returns-in-Err-clause-order g c honest = memory_told c.in-Err.refusal _ (c.in-Err.ensures.order honest)
 
 pub returns-in-Err-clause-failed : goal.returns-in-Err-clause-failed
 returns-in-Err-clause-failed g c = counts_code (Unit {0}) c.in-Err.refusal _ _ c.in-Err.ensures.counted
@@ -17,6 +20,9 @@ returns-clause-answered g c = told_so c.put_standing-told.result (g.D.Disk.hones
 
 pub returns-clause-refused : goal.returns-clause-refused
 returns-clause-refused g c = write_refused c.put_standing-told.result (g.D.Disk.honest c.args.disk) (g.D.Disk.content c.args.disk) c.put_standing-told.ensures.refused
+
+pub returns-clause-order : goal.returns-clause-order
+returns-clause-order g c honest = write_memory c.put_standing-told.result _ c.put_standing-told.ensures.refused
 
 pub returns-clause-failed : goal.returns-clause-failed
 returns-clause-failed g c = write_device c.put_standing-told.result _ _ c.put_standing-told.ensures.refused c.in-Ok.ensures.counted

@@ -1,56 +1,11 @@
 ghost use Rattle.std.specs.Prelude.{◌≤◌, length};
 
-use crate::{Store, create, open};
+use crate::Store;
+use crate::worked::{arc, created, is_page, opened, six};
 use disk::{Disk, FuseDisk, MemDisk, Pick, Stoppable};
 use roadnet::{Command, Network, Refusal, RoadArc};
 use std::alloc::Global;
 use std::test::Fail;
-
-fn arc(tail: u32, head: u32, length: u32) -> RoadArc {
-    RoadArc {
-        tail,
-        head,
-        length,
-        opened: true,
-    }
-}
-
-// The disk of a new store of this network.
-fn created(alloc: Global, network: &Network, journal_pages: u32) -> Result<MemDisk, Refusal>
-    requires some { 1 ≤ journal_pages }
-    requires few { journal_pages ≤ 65536 }
-{
-    match create(alloc, MemDisk::new(alloc), network, journal_pages) {
-        Ok(store) => Ok(store.close()),
-        Err((refusal, _)) => Err(refusal),
-    }
-}
-
-// The disk of a new store of six nodes and eight arcs.
-pub fn six(alloc: Global, journal_pages: u32) -> Result<MemDisk, Refusal>
-    requires some { 1 ≤ journal_pages }
-    requires few { journal_pages ≤ 65536 }
-{
-    let arcs = [
-        arc(1, 2, 17),
-        arc(1, 3, 10),
-        arc(2, 4, 2),
-        arc(3, 5, 0),
-        arc(4, 3, 0),
-        arc(4, 6, 3),
-        arc(5, 2, 0),
-        arc(5, 6, 20),
-    ];
-    let network = Network::new(alloc, 6, Vec::from_slice(alloc, &arcs)?, &[])?;
-    created(alloc, &network, journal_pages)
-}
-
-pub fn opened<D: Disk + Drop>(alloc: Global, disk: D) -> Result<Store<D>, Refusal> {
-    match open(alloc, disk) {
-        Ok(store) => Ok(store),
-        Err((refusal, _)) => Err(refusal),
-    }
-}
 
 // Opens over a fuse that passes the sync of the opening and k writes and syncs more.
 pub fn fused(alloc: Global, disk: MemDisk, k: u64) -> Result<Store<FuseDisk<MemDisk>>, Refusal> {
@@ -77,29 +32,6 @@ fn told<D: Disk>(store: &Store<D>) -> (Option<u32>, u64, u32) {
         None => None,
     };
     (length, store.version(), store.unchecked())
-}
-
-// Whether the page of this number begins so, has this gate, and is zero between.
-fn is_page(disk: &mut MemDisk, number: u64, front: &[u8], gate: u8) -> Result<bool, Refusal>
-    requires few { length front.now ≤ 4095 }
-    requires number { number ≤ 100 }
-{
-    let Ok(length) = disk.len() else {
-        return Err(Refusal::Device);
-    };
-    let at = 4096 * number;
-    if length < at + 4096 {
-        return Ok(false);
-    }
-    let mut page = [0; 4096];
-    let Ok(()) = disk.read(at, &mut page) else {
-        return Err(Refusal::Device);
-    };
-    Ok(
-        page.starts_with(front)
-            && page[front.len()..4095].iter().all(|&byte| byte == 0)
-            && page[4095] == gate,
-    )
 }
 
 // Heads without landmarks: of slot B after `close 7` and a checkpoint, and of slot A after two checkpoints, the second at version 3 with

@@ -1,48 +1,11 @@
 ghost use Rattle.std.specs.Prelude.{◌≤◌};
 
-use crate::{Store, create, open};
+use crate::Store;
+use crate::worked::{arc, is_page, opened, six};
 use disk::{Disk, FuseDisk, MemDisk, Pick, Stoppable};
 use roadnet::{Command, Network, Refusal, RoadArc};
 use std::alloc::Global;
 use std::test::Fail;
-
-fn arc(tail: u32, head: u32, length: u32) -> RoadArc {
-    RoadArc {
-        tail,
-        head,
-        length,
-        opened: true,
-    }
-}
-
-// A store of six nodes and eight arcs.
-pub(crate) fn six(alloc: Global, journal_pages: u32) -> Result<MemDisk, Refusal>
-    requires some { 1 ≤ journal_pages }
-    requires few { journal_pages ≤ 65536 }
-{
-    let arcs = [
-        arc(1, 2, 17),
-        arc(1, 3, 10),
-        arc(2, 4, 2),
-        arc(3, 5, 0),
-        arc(4, 3, 0),
-        arc(4, 6, 3),
-        arc(5, 2, 0),
-        arc(5, 6, 20),
-    ];
-    let network = Network::new(alloc, 6, Vec::from_slice(alloc, &arcs)?, &[])?;
-    match create(alloc, MemDisk::new(alloc), &network, journal_pages) {
-        Ok(store) => Ok(store.close()),
-        Err((refusal, _)) => Err(refusal),
-    }
-}
-
-pub(crate) fn opened<D: Disk + Drop>(alloc: Global, disk: D) -> Result<Store<D>, Refusal> {
-    match open(alloc, disk) {
-        Ok(store) => Ok(store),
-        Err((refusal, _)) => Err(refusal),
-    }
-}
 
 // Whether arc 7 is closed, and the version.
 fn told<D: Disk>(store: &Store<D>) -> (bool, u64) {
@@ -159,5 +122,19 @@ fn journal_fills_up(rt: HostRuntime) -> Result<(), Fail> {
     assert!(rt; told(&store) == (true, 5) && store.unchecked() == 2);
     assert!(rt; store.network().landmarks() == [3].as_slice());
     assert!(rt; store.network().arc(1) == Some(arc(1, 2, 1)));
+    Ok(())
+}
+
+// Bytes 0 to 47 of the journal page of `close 7` alone: sequence 0, first number 1, one command, and its record.
+const CLOSED_7: [u8; 48] =
+    *b"\x00\x00\x00\x00\x00\x00\x00\x00\x00\x00\x00\x00\x00\x00\x00\x01\x00\x01\x00\x00\x00\x00\x00\x00\x00\x00\x00\x00\x00\x00\x00\x00\x02\x00\x00\x00\x00\x00\x00\x07\x00\x00\x00\x00\x00\x00\x00\x00";
+
+#[test]
+fn committed_page_is_spelled(rt: HostRuntime) -> Result<(), Fail> {
+    let alloc = rt.alloc();
+    let mut store = opened(alloc, six(alloc, 64)?)?;
+    assert_eq!(rt; store.commit(&[Command::Close { arc: 7 }]), Ok(1));
+    let mut disk = store.close();
+    assert!(rt; is_page(&mut disk, 6, &CLOSED_7, 165)?);
     Ok(())
 }

@@ -2,6 +2,7 @@
 ghost use Rattle.std.specs.Prelude.{◌≤◌, ◌<◌};
 
 use crate::judge::{Judged, judge};
+use crate::worked::{arc, network_of_six, opened};
 use crate::{Store, create, open};
 use disk::{Disk, MemDisk};
 use roadnet::{Command, Network, Refusal, RoadArc};
@@ -16,30 +17,6 @@ const HEAD_B: [u8; 40] =
 
 const WORDS_B: [u8; 32] =
     *b"\x00\x00\x00\x11\x00\x00\x00\x0a\x00\x00\x00\x02\x00\x00\x00\x00\x00\x00\x00\x00\x00\x00\x00\x03\x80\x00\x00\x00\x00\x00\x00\x04";
-
-fn arc(tail: u32, head: u32, length: u32) -> RoadArc {
-    RoadArc {
-        tail,
-        head,
-        length,
-        opened: true,
-    }
-}
-
-// Six nodes and eight arcs, with landmarks 3 and 6.
-pub fn six(alloc: Global) -> Result<Network, Refusal> {
-    let arcs = [
-        arc(1, 2, 17),
-        arc(1, 3, 10),
-        arc(2, 4, 2),
-        arc(3, 5, 0),
-        arc(4, 3, 0),
-        arc(4, 6, 3),
-        arc(5, 2, 0),
-        arc(5, 6, 20),
-    ];
-    Network::new(alloc, 6, Vec::from_slice(alloc, &arcs)?, &[6, 3])
-}
 
 fn put(file: &mut [u8], at: usize, bytes: &[u8]) {
     for (i, &byte) in bytes.iter().enumerate() {
@@ -73,7 +50,12 @@ pub fn bytes_of(alloc: Global, disk: &mut MemDisk) -> Result<Vec<u8>, Refusal> {
 
 // The file of a new store with two journal pages: eight pages.
 pub fn new_file(alloc: Global) -> Result<Vec<u8>, Refusal> {
-    match create(alloc, MemDisk::new(alloc), &six(alloc)?, 2) {
+    match create(
+        alloc,
+        MemDisk::new(alloc),
+        &network_of_six(alloc, &[6, 3])?,
+        2,
+    ) {
         Ok(store) => bytes_of(alloc, &mut store.close()),
         Err((refusal, _)) => Err(refusal),
     }
@@ -111,13 +93,6 @@ fn tells<D: Disk>(store: &Store<D>, judged: &Judged) -> bool {
         && store.version() == judged.version
         && u64::from(store.unchecked()) == judged.unchecked
         && store.calm()
-}
-
-pub fn opened<D: Disk + Drop>(alloc: Global, disk: D) -> Result<Store<D>, Refusal> {
-    match open(alloc, disk) {
-        Ok(store) => Ok(store),
-        Err((refusal, _)) => Err(refusal),
-    }
 }
 
 // Whether opening this disk answers what the judge answers of these bytes.
@@ -200,7 +175,7 @@ fn judge_is_right(rt: HostRuntime) -> Result<(), Refusal> {
     let judged = judge(alloc, &new_file(alloc)?)?;
     assert!(rt; judged.version == 0 && judged.unchecked == 0);
     assert!(rt; judged.landmarks.as_slice() == [3, 6].as_slice());
-    assert!(rt; judged.arcs.as_slice() == six(alloc)?.arcs());
+    assert!(rt; judged.arcs.as_slice() == network_of_six(alloc, &[6, 3])?.arcs());
     let judged = judge(alloc, &flushed_file(alloc)?)?;
     assert!(rt; judged.version == 5 && judged.unchecked == 2);
     assert!(rt; judged.landmarks.as_slice() == [1, 6].as_slice());

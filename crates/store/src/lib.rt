@@ -49,3 +49,5 @@ mod standing_tests;
 mod sweep_tests;
 #[cfg(test)]
 mod tests;
+#[cfg(test)]
+mod worked;

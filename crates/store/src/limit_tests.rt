@@ -1,5 +1,5 @@
 // Commits at the last version, and one that fails at its last sync.
-use crate::commit_tests::{opened, six};
+use crate::worked::{opened, six};
 use disk::{Disk, FailOnce, MemDisk, Pick, Stoppable};
 use roadnet::{Command, Refusal};
 use std::alloc::Global;

@@ -1,10 +1,11 @@
 // Calls of the disk that fail, and growths that are refused, at each place of creating and opening.
-ghost use Rattle.std.specs.Prelude.{◌≡◌, [], ℕ, min, ◌+◌, ◌-◌, ◌^◌};
+ghost use Rattle.std.specs.Prelude.{◌≡◌, [], min, ◌+◌, ◌-◌, ◌^◌};
 
 use crate::judge::judge;
 use crate::judge_tests::{
-    bytes_of, flushed_file, new_file, opened, opens_as_judged, six, two_slot_file, with_bytes,
+    bytes_of, flushed_file, new_file, opens_as_judged, two_slot_file, with_bytes,
 };
+use crate::worked::{network_of_six, opened};
 use crate::{create, open};
 use disk::{Disk, DiskError, FailOnce, MemDisk};
 use roadnet::{OutOfMemory, Refusal};
@@ -17,7 +18,7 @@ const PAGE: usize = 4096;
 #[test]
 fn failed_creation_is_opened(rt: HostRuntime) -> Result<(), Refusal> {
     let alloc = rt.alloc();
-    let network = six(alloc)?;
+    let network = network_of_six(alloc, &[6, 3])?;
     for k in 1..=7 {
         let disk = FailOnce::new(MemDisk::new(alloc), k);
         let Err((refusal, disk)) = create(alloc, disk, &network, 2) else {
@@ -171,7 +172,7 @@ impl Disk for FixedDisk {
 #[test]
 fn allocations_fail_in_turn(rt: HostRuntime) -> Result<(), Refusal> {
     let alloc = rt.alloc();
-    let network = six(alloc)?;
+    let network = network_of_six(alloc, &[6, 3])?;
     let empty = FixedDisk::new(alloc, 8 * PAGE)?;
     let disk = match create(alloc, empty, &network, 2) {
         Ok(store) => {

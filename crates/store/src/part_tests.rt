@@ -1,7 +1,8 @@
 ghost use Rattle.std.specs.Prelude.{◌≤◌, length};
 
-use crate::checkpoint_tests::{fused, opened, stopped};
+use crate::checkpoint_tests::{fused, stopped};
 use crate::opening_tests::FixedDisk;
+use crate::worked::opened;
 use crate::{Part, Store, create};
 use disk::{Disk, FuseDisk, MemDisk, Pick};
 use roadnet::{Command, Network, Refusal, RoadArc};

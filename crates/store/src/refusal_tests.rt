@@ -4,8 +4,9 @@ ghost use Rattle.std.specs.Prelude.{IfErr, IfOk};
 ghost use Rattle.store.specs.Opening.{MayRefuseToOpen};
 ghost use Rattle.store.specs.State.{StandsAs, told};
 
-use crate::checkpoint_tests::{full, opened, reused, set};
+use crate::checkpoint_tests::{full, reused, set};
 use crate::part_tests::one_closed;
+use crate::worked::opened;
 use crate::{Store, open};
 use disk::{Disk, FailOnce, MemDisk};
 use roadnet::Refusal;

@@ -11,7 +11,6 @@ ghost use Rattle.store.specs.Opening.{entry_from, IsCarriedOut, AreCarriedOut};
 ghost use Rattle.pages.specs.Limits.{most_versions};
 
 use disk::Disk;
-use journal::Ring;
 use pagereader::read_page;
 use pages::{Header, MOST_VERSIONS, PAGE_SIZE, decode_journal_page};
 use roadnet::{Command, Network, OutOfMemory, Refusal};

@@ -2,7 +2,8 @@
 ghost use Rattle.std.specs.Prelude.{◌≤◌, length};
 
 use crate::Store;
-use crate::checkpoint_tests::{fused, opened, set, six, stopped};
+use crate::checkpoint_tests::{fused, set, stopped};
+use crate::worked::{opened, six};
 use disk::{Disk, MemDisk, Pick};
 use roadnet::Refusal;
 use std::alloc::Global;

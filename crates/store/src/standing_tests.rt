@@ -1,6 +1,7 @@
 // How stores stand, and their files: told of changed files, along a store's life, and as the judge has it.
 use crate::judge::judge;
-use crate::judge_tests::{flushed_file, new_file, opened, six, two_slot_file, with_bytes};
+use crate::judge_tests::{flushed_file, new_file, two_slot_file, with_bytes};
+use crate::worked::{network_of_six, opened};
 use crate::{Inspected, Standing, Store, create, inspect};
 use disk::{Disk, DiskError, MemDisk};
 use pages::Slot;
@@ -24,7 +25,12 @@ fn found(version: u64, slot: Slot, epoch: u64, unchecked: u32) -> Inspected {
 
 // The file of a new store with 64 journal pages.
 fn file_of_64(alloc: Global) -> Result<Vec<u8>, Refusal> {
-    let mut disk = match create(alloc, MemDisk::new(alloc), &six(alloc)?, 64) {
+    let mut disk = match create(
+        alloc,
+        MemDisk::new(alloc),
+        &network_of_six(alloc, &[6, 3])?,
+        64,
+    ) {
         Ok(store) => store.close(),
         Err((refusal, _)) => return Err(refusal),
     };

@@ -2,7 +2,7 @@
 ghost use Rattle.std.specs.Prelude.{◌<◌, length};
 
 use crate::Store;
-use crate::commit_tests::{opened, six};
+use crate::worked::{opened, six};
 use disk::{Disk, FuseDisk, MemDisk, Pick, Stoppable};
 use roadnet::{Command, Network, Refusal};
 use std::alloc::Global;

@@ -4,6 +4,7 @@ use Rattle.std.proofs.lemmas.List.{append-nil, length-append, length-take}
 use Rattle.dimacs.specs.declared.fault.Code.TheVariants.{BadLine}
 use Rattle.dimacs.specs.Faults.{Row, is_empty, is_remark}
 use Rattle.dimacs.specs.Lines.{is_blank, fields}
+use Rattle.dimacs.proofs.Spelled.{spelled}
 use Rattle.sessions.specs.declared.fields.Field.{Field}
 use Rattle.sessions.specs.declared.fields.Field.TheVariants.{Unbegun}
 use Rattle.sessions.specs.declared.fields.Numbers.{Numbers}

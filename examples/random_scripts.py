@@ -1,6 +1,6 @@
 #!/usr/bin/env python3
-"""Runs random scripts by `rehearse`, and compares each line that the program prints with a model of it: a second store, written after
-docs/STORE_FORMAT.md and docs/DISK.md, whose pages are bytes on a disk that can be stopped, and whose distances are found by another search.
+"""Runs random scripts by `rehearse`, and compares each line that the program prints with a model of it: a second store, with the format
+of docs/STORE_FORMAT.md and the disk of docs/DISK.md, whose pages are bytes on a disk that can be stopped, and whose distances are found by another search.
 
     examples/random_scripts.py [COUNT [SEED [PROGRAM]]]
 

@@ -7,10 +7,10 @@ use mathlib.Core.List.{IsPrefix}
 use Rattle.logbook.specs.Pages.{Book}
 use Rattle.history.specs.declared.entries.Entry.{Entry}
 use Rattle.history.specs.declared.entries.Entry.TheVariants.{Opened, Accepted, Acknowledged, Closed}
-use Rattle.history.specs.Entries.{accepted, acknowledged, is_endless, is_legal, IsOpen, IsClosed, origin_of, beginning}
+use Rattle.history.specs.Entries.{accepted, acknowledged, is_endless, is_legal, IsBegun, IsOpen, IsClosed, origin_of, beginning}
 use Rattle.history.specs.Written.{counted, with_entry}
 use Rattle.history.specs.Origins.{Beginning}
-use Rattle.history.specs.Claims.{EndsWith}
+use Rattle.history.specs.Claims.{EndsWith, IsAcknowledgedIn}
 use Rattle.machine.specs.declared.calls.Ticket.{Ticket}
 use Rattle.machine.specs.Laws.{IsAt}
 use Rattle.machine.proofs.Acknowledged.{nth_of_more}
@@ -208,6 +208,17 @@ pub at_more : (version : ℕ) (xs ys : List Command) (ticket : Ticket) → IsPre
 at_more version xs ys ticket p h =
     (h.0, subst (λ (l : List Command). nth l (ticket.number - version) ≡ Some ticket.command) p.1 (nth_of_more xs p.0 (ticket.number - version) ticket.command h.1))
 
+take_front : {X : Type 0} (xs more : List X) → take (length xs) (xs ++ more) ≡ xs
+take_front [] more = refl
+take_front (x ∷ xs) more = ap (λ l. x ∷ l) (take_front xs more)
+
+-- what has its number in a list has it in each beginning of that which is long enough
+pub at_less : (version : ℕ) (xs ys : List Command) (ticket : Ticket) → IsPrefix xs ys → ticket.number ≤ version + length xs → IsAt version ys ticket → IsAt version xs ticket
+at_less version xs ys ticket p le h =
+    let n = length xs in
+    let front : take n ys ≡ xs = ap (take n) (sym p.1) ∙ take_front xs p.0 in
+    (h.0, subst (λ (l : List Command). nth l (ticket.number - version) ≡ Some ticket.command) front (nth_in_take n ys (ticket.number - version) (omega (arith, le)) ∙ h.1))
+
 -- the commands up to a ticket's end with its command
 pub ends_there : (b : Beginning) (ticket : Ticket) → IsAt b.origin.version b.commands ticket
     → EndsWith (record b { commands = take (ticket.number - b.origin.version) b.commands }) ticket
@@ -218,3 +229,28 @@ ends_there b ticket h =
       at = (h.0, nth_in_take n b.commands n (omega arith) ∙ h.1);
       last = omega (arith, take_length n b.commands within, h.0);
     }
+
+-- ---- a log that has begun
+pub begun : (log : List Entry) → IsOpen log → IsBegun log
+begun log o = record { base = o.base; rest = o.rest; log_is = o.log_is }
+
+pub begun_more : (a both : List Entry) → IsPrefix a both → IsBegun a → IsBegun both
+begun_more a both p b = record { base = b.base; rest = b.rest ++ p.0; log_is = sym p.1 ∙ ap (λ (l : List Entry). l ++ p.0) b.log_is }
+
+-- a longer log has the commands of each that begins it
+pub fits_longer : (a both : List Entry) (m : ℕ) → IsPrefix a both → m ≤ length (accepted a) → m ≤ length (accepted both)
+fits_longer a both m p fits =
+    let q = accepted_prefix a both p in
+    omega (arith, fits, ap length q.1, length-append (accepted a) q.0)
+
+pub taken_of_longer : (a both : List Entry) (m n : ℕ) → IsPrefix a both → m ≤ n → m ≤ length (accepted a) → n ≤ length (accepted both)
+    → IsPrefix (take m (accepted a)) (take n (accepted both))
+taken_of_longer a both m n p le fits fits' = taken_shorter a both both m n p (prefix_self both) le fits fits'
+
+-- what was acknowledged in a beginning was acknowledged in each longer one
+pub acknowledged_more : (front longer : Beginning) (ticket : Ticket) → longer.origin ≡ front.origin → IsPrefix front.commands longer.commands
+    → front.acknowledged ≤ longer.acknowledged → IsAcknowledgedIn front ticket → IsAcknowledgedIn longer ticket
+acknowledged_more front longer ticket same begins le is = record {
+  at = rw same (at_more front.origin.version front.commands longer.commands ticket begins is.at);
+  acknowledged = let told = is.acknowledged in omega (arith, told, le);
+}

@@ -1,5 +1,5 @@
 -- What the tokens of a ticket and of a receipt say.
-use Rattle.std.specs.Prelude.{◌≡◌, ◌+◌, length}
+use Rattle.std.specs.Prelude.{◌≡◌, ◌≤◌, ◌+◌, length}
 use Rattle.machine.specs.declared.calls.Ticket.{Ticket}
 use Rattle.machine.specs.Laws.{IsAt}
 use Rattle.history.specs.Origins.{Origin, Beginning}
@@ -13,3 +13,8 @@ pub record Claimed : Type 0 where
 pub record EndsWith (front : Beginning) (ticket : Ticket) : Type 0 where
   pub at : IsAt front.origin.version front.commands ticket
   pub last : front.origin.version + length front.commands ≡ ticket.number
+
+-- the ticket's command has its number in this beginning of its desk's history, and was acknowledged by then
+pub record IsAcknowledgedIn (front : Beginning) (ticket : Ticket) : Type 0 where
+  pub at : IsAt front.origin.version front.commands ticket
+  pub acknowledged : ticket.number ≤ front.acknowledged

@@ -40,6 +40,12 @@ is_legal (Acknowledged number ∷ entries) = is_legal entries
 is_legal (Closed ∷ []) = true
 is_legal (Closed ∷ entry ∷ entries) = false
 
+-- the desk's opening comes first
+pub record IsBegun (log : List Entry) : Type 0 where
+  pub base : Base
+  pub rest : List Entry
+  pub log_is : log ≡ Opened base ∷ rest
+
 -- the desk's opening, and then no end
 pub record IsOpen (log : List Entry) : Type 0 where
   pub base : Base

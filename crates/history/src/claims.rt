@@ -1,5 +1,5 @@
 ghost use Rattle.std.specs.Prelude.{◌≡◌};
-ghost use Rattle.history.specs.Claims.{EndsWith};
+ghost use Rattle.history.specs.Claims.{EndsWith, IsAcknowledgedIn};
 
 use crate::fronts::Front;
 use machine::Ticket;
@@ -27,18 +27,19 @@ impl Model for Claim {
 #[derive(Drop)]
 pub struct Settled {
     pub(crate) claim: Claim,
+    /// A beginning of the history that has the command, and in which it is acknowledged.
     pub(crate) front: Front,
 }
 
 impl Model for Settled {
-    ghost use Rattle.std.specs.Prelude.{◌≡◌, ◌≤◌};
-    ghost use Rattle.history.specs.Claims.{Claimed};
+    ghost use Rattle.std.specs.Prelude.{◌≡◌};
+    ghost use Rattle.history.specs.Claims.{Claimed, IsAcknowledgedIn};
 
     ghost Value = { Claimed };
 
     ghost view = { λ s. s.claim };
 
-    ghost invariant = { λ s. (s.front.origin ≡ s.claim.origin) × (s.claim.ticket.number ≤ s.front.acknowledged) };
+    ghost invariant = { λ s. (s.front.origin ≡ s.claim.origin) × IsAcknowledgedIn s.front s.claim.ticket };
 }
 
 impl Claim {
@@ -64,5 +65,13 @@ impl Settled {
         ensures { result.now ≡ self.now }
     {
         &self.claim
+    }
+
+    /// A beginning of the history in which the command has its number and is acknowledged.
+    pub fn front(&self) -> &Front
+        ensures origin { result.now.origin ≡ self.now.origin }
+        ensures acknowledged { IsAcknowledgedIn result.now self.now.ticket }
+    {
+        &self.front
     }
 }

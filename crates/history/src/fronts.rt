@@ -15,6 +15,7 @@ pub struct Front {
 
 impl Model for Front {
     ghost use Rattle.std.specs.Prelude.{◌≤◌, length, take};
+    ghost use Rattle.history.specs.Entries.{IsBegun};
     ghost use Rattle.history.specs.Origins.{Beginning};
 
     ghost Value = { Beginning };
@@ -23,7 +24,7 @@ impl Model for Front {
 
     ghost view = { λ f. record { origin = origin_of f.seen.book f.seen.log; commands = take f.count (accepted f.seen.log); acknowledged = acknowledged f.seen.log } };
 
-    ghost invariant = { λ f. f.count ≤ length (accepted f.seen.log) };
+    ghost invariant = { λ f. IsBegun f.seen.log × (f.count ≤ length (accepted f.seen.log)) };
 }
 
 impl Front {
@@ -63,6 +64,22 @@ impl Front {
         let mut both = self.seen.again();
         both.learn(&other.seen);
         self.count <= other.count
+    }
+
+    /// A beginning of their history with which both begin: it has the commands of the longer, and all that either knows to be acknowledged.
+    pub fn joined(&self, other: &Front) -> Front
+        requires { other.now.origin ≡ self.now.origin }
+        ensures origin { result.origin ≡ self.now.origin }
+        ensures this { IsPrefix self.now.commands result.commands }
+        ensures that { IsPrefix other.now.commands result.commands }
+        ensures acknowledged { (self.now.acknowledged ≤ result.acknowledged) × (other.now.acknowledged ≤ result.acknowledged) }
+    {
+        let mut both = self.seen.again();
+        both.learn(&other.seen);
+        Front {
+            count: self.count.max(other.count),
+            seen: both,
+        }
     }
 
     /// The longer of two beginnings of one history, which the other begins.

@@ -192,7 +192,7 @@ impl History {
         ensures { result ≡ claim }
     {
         Settled {
-            front: self.front(0),
+            front: self.front(self.count).joined(&claim.front),
             claim,
         }
     }
@@ -251,7 +251,6 @@ impl Whole {
         ensures there { IsAt self.now.origin.version self.now.commands settled.now.ticket }
         ensures acknowledged { settled.now.ticket.number ≤ self.now.acknowledged }
     {
-        self.holds(&settled.claim.front);
         self.holds(&settled.front);
         settled.claim.ticket.command
     }

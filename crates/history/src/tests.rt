@@ -57,6 +57,7 @@ fn a_receipt_is_confirmed(rt: HostRuntime) -> Result<(), Fail> {
     }
     let settled = history.settled(claim);
     assert_eq!(rt; settled.ticket().ticket(), ticket);
+    assert_eq!(rt; (settled.front().len(), one.joined(&two).len()), (2, 2));
     let Some(whole) = history.close() else {
         return Err(Fail::from("nobody closed it"));
     };

@@ -72,8 +72,8 @@ fn enter_behind(reader: &mut SeatedReader, seen: &Front) -> Result<Published, Re
 }
 
 impl Reader {
-    /// All that it has seen and was told of.
-    fn known(&self) -> &Front
+    /// The beginning of the history that it has seen or was told of.
+    pub fn known(&self) -> &Front
         ensures { result.now ≡ self.now }
     {
         match &self.learned {

@@ -1,3 +1,5 @@
+ghost use Rattle.std.specs.Prelude.{◌≡◌};
+
 use history::Front;
 use std::marker::Model;
 
@@ -15,4 +17,13 @@ impl Model for Shown {
     ghost view = { λ s. s.commands };
 
     ghost invariant = { λ _. Unit {0} };
+}
+
+impl Shown {
+    /// The beginning of the history after which it was shown.
+    pub fn commands(&self) -> &Front
+        ensures { result.now ≡ self.now }
+    {
+        &self.commands
+    }
 }

@@ -1,6 +1,6 @@
 -- What a keeper's disk holds, from one call to the next.
 use Rattle.std.proofs.Common.{◌≡◌, ◌⊎◌, ⊎_elim, inl, inr, ℕ, ◌≤◌, Bool, true, false, List, [], ◌∷◌, ◌++◌, length, take, Some, Result, Ok, Err, refl, sym, ◌∙◌, ap, subst, arith}
-use Rattle.std.specs.Prelude.{OnOk, IfErr}
+use Rattle.std.specs.Prelude.{OnOk, IfErr, MatchResult}
 use Rattle.std.specs.Bool.{Decides}
 use Rattle.std.proofs.Math.Seq.{take-nil}
 use Rattle.std.proofs.lemmas.List.{take-append-le}
@@ -88,6 +88,11 @@ at_base base net n items same none = ap (after base) (take_none n items none) �
 pub why : (broken : Bool) (refusal : Refusal) → broken ≡ false → MayRefuseCheckpoint (refusal_of_checkpoint broken) refusal → (refusal ≡ OutOfMemory) ⊎ (refusal ≡ Device)
 why true refusal works may = cc
 why false refusal works may = ⊎_elim (λ told. absurd cc) (λ other. other.1) may
+
+-- what holds after each outcome of a call holds
+pub by_outcome : {T : Type 0} (r : Result T Refusal) (A B D : Refusal → Type 0) (C : T → Type 0) (X : Type 0) → OnOk r X → IfErr r A → IfErr r B → MatchResult r C D → ((refusal : Refusal) → A refusal → B refusal → D refusal → X) → X
+by_outcome (Ok v) A B D C X ok a b d f = ok
+by_outcome (Err e) A B D C X ok a b d f = f e a b d
 
 pub not_memory : (refusal : Refusal) → refusal ≡ OutOfMemory → refusal ≡ Device → ⊥
 not_memory refusal is device = let never : OutOfMemory ≡ Device = sym is ∙ device in absurd cc

@@ -54,10 +54,7 @@ impl<D: Disk> Ledger<D> {
         self.written = Snapshot::of(&0);
         let written = self.store.checkpoint_part(pages);
         self.broken = has_failed(&written);
-        match written {
-            Ok(part) => Ok(part),
-            Err(refusal) => Err(refusal),
-        }
+        written
     }
 
     /// Steps of 64 pages until the checkpoint is done: the one that is going, or else one that begins. Answers the version that it holds.
@@ -76,10 +73,9 @@ impl<D: Disk> Ledger<D> {
         ensures honest { D.honest self.new.disk ↔ D.honest self.old.disk }
     {
         for _ in 0..self.most_steps() {
-            match self.checkpoint_step(PAGES_OF_STEP) {
-                Ok(Part::Going) => {}
-                Ok(Part::Done(version)) => return Ok(version),
-                Err(refusal) => return Err(refusal),
+            match self.checkpoint_step(PAGES_OF_STEP)? {
+                Part::Going => {}
+                Part::Done(version) => return Ok(version),
             }
         }
         unreachable!()

@@ -50,9 +50,7 @@ impl<D: Disk> Ledger<D> {
         ensures any_moment { OfSoundLedger D.honest D.content self.old (LeavesOnly D.moment D.left_since self.old.disk self.new.disk (IsLeftByFlush self.old.machine)) }
         ensures honest { D.honest self.new.disk ↔ D.honest self.old.disk }
     {
-        if let Err(refusal) = self.may_flush() {
-            return Err(refusal);
-        }
+        self.may_flush()?;
         let first = (self.store.version() - self.opened) as usize;
         let count = (self.history.len() - first).min(MOST_COMMANDS);
         self.written = Snapshot::of(&count);

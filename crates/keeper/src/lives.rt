@@ -1,11 +1,10 @@
 // One life of a keeper in a rehearsal: what each event of a script does in it.
-ghost use Rattle.std.specs.Prelude.{◌≡◌, ◌≤◌, ◌∷◌, [], false, true, None, Some, length, option_map, unwrap_or, ℕ, IfOk, IfErr};
+ghost use Rattle.std.specs.Prelude.{◌≡◌, ◌≤◌, ◌∷◌, [], false, true, None, Some, length, option_map, ℕ, IfOk, IfErr};
 ghost use Rattle.std.specs.Option.{ForSome};
 ghost use Rattle.std.proofs.Props.{props};
 ghost use Rattle.disk.specs.Stop.{armed_at};
 ghost use Rattle.disk.specs.declared.stoppable.Pick.{Pick as StopPick};
 ghost use Rattle.rows.specs.Kept.{IsWidth};
-ghost use Rattle.snapshot.specs.Groups.{default_width};
 ghost use Rattle.disk.specs.Contents.{Only};
 ghost use Rattle.store.specs.State.{CameTidy, HasRoom, HasCheckpointPages, IsDurable, is_calm};
 ghost use Rattle.machine.specs.declared.events.Event.TheVariants.{Submit, Task as TaskEvent, Publish, Ask};
@@ -18,11 +17,10 @@ ghost use Rattle.keeper.specs.Parts.{told_as};
 ghost use Rattle.keeper.specs.Rehearsing.{is_stop, IsLife};
 
 use crate::keepers::Keeper;
-use crate::tasks::Task;
+use crate::starting::view_of;
 use disk::{Pick, Stoppable};
 use machine::{Event, Replied, StepPages, Writing};
-use relax::{CHUNK, Crew};
-use roadnet::{Command, OutOfMemory, Refusal};
+use roadnet::{Command, Refusal};
 use rows::{Query, View};
 use std::alloc::Global;
 use std::sync::Arc;
@@ -63,30 +61,6 @@ fn told_part(stepped: &Result<Part, Refusal>) -> Replied
         Ok(Part::Going) => Replied::Stepped,
         Ok(Part::Done(version)) => Replied::Durable { version: *version },
         Err(refusal) => Replied::Refused { refusal: *refusal },
-    }
-}
-
-/// The view of a task.
-fn view_of<R: Threads>(
-    rt: &R,
-    alloc: Global,
-    task: &Task,
-    delta: Option<u32>,
-) -> Result<Arc<View>, OutOfMemory>
-    requires { ForSome delta IsWidth }
-    ensures version { IfOk result (λ view. view.value.version ≡ task.now.version) }
-    ensures network { IfOk result (λ view. view.value.network ≡ task.now.network.value) }
-    ensures width { IfOk result (λ view. view.value.delta ≡ unwrap_or delta (default_width task.now.network.value)) }
-{
-    let Ok(network) = task.network.copy() else {
-        return Err(OutOfMemory);
-    };
-    let Ok(view) = View::build(alloc, task.version, network, delta, &Crew::new(rt, CHUNK)) else {
-        return Err(OutOfMemory);
-    };
-    match Arc::new(alloc, view) {
-        Ok(view) => Ok(view),
-        Err(_) => Err(OutOfMemory),
     }
 }
 
@@ -190,7 +164,7 @@ impl<D: Stoppable> Life<D> {
             }
         };
         let version = task.version;
-        match view_of(rt, alloc, &task, self.delta) {
+        match view_of(rt, alloc, version, &task.network, self.delta) {
             Ok(view) => {
                 self.aside = Some(view);
                 Replied::Task { version }

@@ -30,12 +30,8 @@ fn accept_into(
     ensures unwritten { OnErr result (log.new ≡ log.old) }
     ensures refused { IfErr result (λ refusal. refusal ≢ closed → refusal ≡ out_of_memory) }
 {
-    if history.reserve(1).is_err() {
-        return Err(Refusal::OutOfMemory);
-    }
-    let Ok(room) = accepted.prepare(&command) else {
-        return Err(Refusal::OutOfMemory);
-    };
+    history.reserve(1)?;
+    let room = accepted.prepare(&command)?;
     if !log.write(command) {
         return Err(Refusal::Closed);
     }
@@ -65,14 +61,10 @@ impl<D: Disk> Ledger<D> {
         ensures disk { self.new.disk ≡ self.old.disk }
         ensures given { self.new.given ≡ self.old.given }
     {
-        if let Err(refusal) = self.may_submit(&command) {
-            return Err(refusal);
-        }
+        self.may_submit(&command)?;
         let number = self.opened + self.history.len() as u64 + 1;
-        match accept_into(log, &mut self.history, &mut self.accepted, command) {
-            Ok(()) => Ok(Ticket { number, command }),
-            Err(refusal) => Err(refusal),
-        }
+        accept_into(log, &mut self.history, &mut self.accepted, command)?;
+        Ok(Ticket { number, command })
     }
 }
 

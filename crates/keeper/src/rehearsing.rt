@@ -113,15 +113,13 @@ fn reopen<R: Threads, D: Stoppable>(
     ensures empty { IfOk result (λ life. life.keeper.machine.accepted ≡ []) }
     ensures content { D.honest disk → IfOk result (λ life. D.content life.keeper.disk ≡ D.content disk) }
     ensures delta { IfOk result (λ life. life.delta ≡ delta) }
+    ensures honest { D.honest disk → IfErr result (λ refused. D.honest refused.1) }
     ensures passing { D.honest disk → ((c : List ℕ) → D.left disk c → StandsForSome c) → IfErr result (λ refused. IsPassing refused.0) }
     ensures among { D.honest disk → IfErr result (λ refused. AreAmong (D.left refused.1) (D.left disk)) }
     // The count of failures rises by one where 43 is told, and else not at all.
     ensures counted { MatchResult result (λ life. D.failures life.keeper.disk ≡ D.failures disk) (λ why. D.failures why.1 ≡ failures_with why.0 (D.failures disk)) }
 {
-    let store = match open(alloc, disk) {
-        Ok(store) => store,
-        Err(refused) => return Err(refused),
-    };
+    let store = open(alloc, disk)?;
     match Life::begin(rt, alloc, store, delta) {
         Ok(life) => Ok(life),
         Err(store) => Err((Refusal::OutOfMemory, store.close())),
@@ -146,6 +144,7 @@ impl<D: Stoppable> Halted<D> {
         ensures left { OfEachHalted D.honest D.content D.left self (λ m. IfErr result (λ ended. LeavesDurable D.left ended.disk m)) }
         ensures counted { FailsAtEnd D.failures self.disk result }
         ensures delta { MatchResult result (λ run. run.life.delta ≡ self.delta) (λ ended. ended.delta ≡ self.delta) }
+        ensures honest { D.honest self.disk → IfErr result (λ ended. D.honest ended.disk) }
         ensures stopped { IfErr result (λ ended. ended.replies.items ≡ self.replies.items ++ Stopped ∷ []) }
         ensures early { IfErr result (λ ended. ended.ended ≢ None) }
         ensures durable { IfErr result (λ ended. ended.history.items ≡ self.history.items ++ take (self.durable - self.opened) self.commands.items) }
@@ -267,6 +266,7 @@ impl<D: Stoppable> Run<D> {
         ensures cut { CutsWith D.honest D.content (HoldsFor D.honest D.content D.left) D.armed (IsCut D.synced D.is_unsynced D.content) Stop self result }
         ensures cut_last { CutsLast D.honest D.content (HoldsFor D.honest D.content D.left) D.armed (IsCut D.synced D.is_unsynced D.content) Stop self result }
         ensures early { IfErr result (λ ended. ended.ended ≢ None) }
+        ensures honest { CameTidy D.honest D.content self.life.keeper.given → IfErr result (λ ended. D.honest ended.disk) }
     {
         let (halted, _) = self.halt(&[Pick::Old]);
         halted.resume(rt, alloc)
@@ -297,6 +297,7 @@ impl<D: Stoppable> Run<D> {
         ensures cut_last { OfEachWithin writing (λ event. picks_of event ≡ Some (picks_taken picks.now)
             → CutsLast D.honest D.content (HoldsFor D.honest D.content D.left) D.armed (IsCut D.synced D.is_unsynced D.content) event self result) }
         ensures early { IfErr result (λ ended. ended.ended ≢ None) }
+        ensures honest { CameTidy D.honest D.content self.life.keeper.given → IfErr result (λ ended. D.honest ended.disk) }
     {
         let mut run = self;
         run.life.arm(call);
@@ -327,6 +328,7 @@ impl<D: Stoppable> Run<D> {
         ensures cut { CutsWith D.honest D.content (HoldsFor D.honest D.content D.left) D.armed (IsCut D.synced D.is_unsynced D.content) event.now self result }
         ensures cut_last { CutsLast D.honest D.content (HoldsFor D.honest D.content D.left) D.armed (IsCut D.synced D.is_unsynced D.content) event.now self result }
         ensures early { IfErr result (λ ended. ended.ended ≢ None) }
+        ensures honest { CameTidy D.honest D.content self.life.keeper.given → IfErr result (λ ended. D.honest ended.disk) }
     {
         match event {
             Event::Stop => self.stop(rt, alloc),
@@ -352,6 +354,7 @@ impl<D: Stoppable> Run<D> {
         ensures ended { result.ended ≡ ended }
         ensures disk { result.disk ≡ self.life.keeper.disk }
         ensures left { CameTidy D.honest D.content self.life.keeper.given → LeavesDurable D.left self.life.keeper.disk self.life.keeper.machine }
+        ensures honest { CameTidy D.honest D.content self.life.keeper.given → D.honest self.life.keeper.disk }
         ensures delta { result.delta ≡ self.life.delta }
     {
         let Run {
@@ -400,7 +403,9 @@ pub fn rehearse<R: Threads, D: Stoppable>(
     // synced took pick i mod n. What it left stands for the network at the version that the stop's own reply tells.
     ensures cut { CameTidy D.honest D.content store.given
         → HaveCut (HoldsFor D.honest D.content D.left) D.armed (IsCut D.synced D.is_unsynced D.content) (first_of store) events.now result.replies.items result.ended }
-    // A given width is that of each view.
+    // The disk that is handed back keeps the disk model.
+    ensures honest { CameTidy D.honest D.content store.given → D.honest result.disk }
+    // The width that was given is told back.
     ensures width { result.delta ≡ delta }
     // Over any disk its count of failures rises by one for each failure that the replies tell, with 43 or by a stop that came within an event,
     // and by one more where the run ended with 43, whose last stop left a disk that then failed. A stop leaves the count as it is.

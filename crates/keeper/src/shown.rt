@@ -78,9 +78,7 @@ impl Shown {
     {
         let version = self.view.version();
         let mut pinned = self.view.pinned(&mut self.cache);
-        match pinned.answer(rt, alloc, query) {
-            Ok(reply) => Ok(Answer { version, reply }),
-            Err(error) => Err(error),
-        }
+        let reply = pinned.answer(rt, alloc, query)?;
+        Ok(Answer { version, reply })
     }
 }

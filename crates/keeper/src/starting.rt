@@ -21,7 +21,7 @@ use std::thread::Threads;
 use store::Store;
 
 /// A view of a copy of the network.
-fn first_view<R: Threads>(
+pub(crate) fn view_of<R: Threads>(
     rt: &R,
     alloc: Global,
     version: u64,
@@ -33,12 +33,13 @@ fn first_view<R: Threads>(
     ensures network { IfOk result (λ view. view.value.network ≡ network.now) }
     ensures width { IfOk result (λ view. view.value.delta ≡ unwrap_or delta (default_width network.now)) }
 {
-    let Ok(copy) = network.copy() else {
-        return Err(OutOfMemory);
-    };
-    let Ok(view) = View::build(alloc, version, copy, delta, &Crew::new(rt, CHUNK)) else {
-        return Err(OutOfMemory);
-    };
+    let view = View::build(
+        alloc,
+        version,
+        network.copy()?,
+        delta,
+        &Crew::new(rt, CHUNK),
+    )?;
     match Arc::new(alloc, view) {
         Ok(view) => Ok(view),
         Err(_) => Err(OutOfMemory),
@@ -65,7 +66,7 @@ impl<D: Disk> Keeper<D> {
         ensures given { IfOk result (λ keeper. keeper.given ≡ store.given) }
         ensures handed_back { IfErr result (λ refused. refused.1 ≡ store) }
     {
-        match first_view(rt, alloc, store.version(), store.network(), delta) {
+        match view_of(rt, alloc, store.version(), store.network(), delta) {
             Ok(view) => Keeper::showing(alloc, store, view),
             Err(error) => Err((error, store)),
         }
@@ -88,15 +89,13 @@ impl<D: Disk> Keeper<D> {
         ensures given { IfOk result (λ keeper. keeper.given ≡ store.given) }
         ensures handed_back { IfErr result (λ refused. refused.1 ≡ store) }
     {
-        match Ledger::new(alloc, store) {
-            Ok(ledger) => Ok(Keeper {
-                alloc,
-                ledger,
-                shown: Shown::new(alloc, view),
-                task: None,
-            }),
-            Err(refused) => Err(refused),
-        }
+        let ledger = Ledger::new(alloc, store)?;
+        Ok(Keeper {
+            alloc,
+            ledger,
+            shown: Shown::new(alloc, view),
+            task: None,
+        })
     }
 
     /// The commands accepted in this life, in order, and the disk, of which no call is made. It takes no memory.

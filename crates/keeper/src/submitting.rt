@@ -21,12 +21,8 @@ fn accept(
     ensures same_history { OnErr result (history.new.items ≡ history.old.items) }
     ensures same_accepted { OnErr result (accepted.new ≡ accepted.old) }
 {
-    if history.reserve(1).is_err() {
-        return Err(OutOfMemory);
-    }
-    let Ok(room) = accepted.prepare(&command) else {
-        return Err(OutOfMemory);
-    };
+    history.reserve(1)?;
+    let room = accepted.prepare(&command)?;
     accepted.carry_out(command, room);
     history.push_reserved(command);
     Ok(())
@@ -68,13 +64,9 @@ impl<D: Disk> Ledger<D> {
         ensures disk { self.new.disk ≡ self.old.disk }
         ensures given { self.new.given ≡ self.old.given }
     {
-        if let Err(refusal) = self.may_submit(&command) {
-            return Err(refusal);
-        }
+        self.may_submit(&command)?;
         let number = self.opened + self.history.len() as u64 + 1;
-        match accept(&mut self.history, &mut self.accepted, command) {
-            Ok(()) => Ok(Ticket { number, command }),
-            Err(_) => Err(Refusal::OutOfMemory),
-        }
+        accept(&mut self.history, &mut self.accepted, command)?;
+        Ok(Ticket { number, command })
     }
 }

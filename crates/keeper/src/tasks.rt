@@ -25,10 +25,7 @@ fn shared_task(alloc: Global, version: u64, network: &Network) -> Result<(Task, 
     ensures versions { IfOk result (λ tasks. (tasks.0.version ≡ version) × (tasks.1.version ≡ version)) }
     ensures networks { IfOk result (λ tasks. (tasks.0.network.value ≡ network.now) × (tasks.1.network.value ≡ network.now)) }
 {
-    let Ok(copy) = network.copy() else {
-        return Err(OutOfMemory);
-    };
-    let Ok(network) = Arc::new(alloc, copy) else {
+    let Ok(network) = Arc::new(alloc, network.copy()?) else {
         return Err(OutOfMemory);
     };
     let Ok(shared) = Arc::try_clone(&network) else {
@@ -59,14 +56,7 @@ impl<D: Disk> Keeper<D> {
         if self.task.is_some() || self.shown.version() == self.ledger.durable() {
             return Ok(None);
         }
-        let (kept, given) = match shared_task(
-            self.alloc,
-            self.ledger.durable(),
-            self.ledger.network(),
-        ) {
-            Ok(tasks) => tasks,
-            Err(error) => return Err(error),
-        };
+        let (kept, given) = shared_task(self.alloc, self.ledger.durable(), self.ledger.network())?;
         self.task = Some(kept);
         Ok(Some(given))
     }

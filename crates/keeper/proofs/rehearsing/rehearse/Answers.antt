@@ -225,3 +225,16 @@ returns-clause-cut g c came =
     let past : length events ≤ i = c.loop-event-test.false in
     rw c.end-2.ensures.replies
     (cut_of _ _ _ first (take i events) events run.replies.items _ (take_all i events past) (cut_whole _ _ _ first (take i events) run.replies.items _ (c.loop-event.invariant.cut came) _))
+
+-- ---- the disk model
+pub returns-then-is_err-clause-honest : goal.returns-then-is_err-clause-honest
+returns-then-is_err-clause-honest g c came =
+    let was = c.loop-event.invariant.goes came in
+    let there = subst (λ (l : Life g.row.D.Denot g.D.Stoppable g.D.Disk). CameTidy g.D.Disk.honest g.D.Disk.content l.keeper.given → g.D.Disk.honest l.keeper.disk) c.grow.ensures.life c.end.ensures.honest was.came in
+    rw (c.end.ensures.disk, c.grow.ensures.life) there
+
+pub returns-in-Err-next-clause-honest : goal.returns-in-Err-next-clause-honest
+returns-in-Err-next-clause-honest g c came = c.in-Err-next.ensures.honest (rw c.grow.ensures.life (c.loop-event.invariant.goes came).came)
+
+pub returns-clause-honest : goal.returns-clause-honest
+returns-clause-honest g c came = rw c.end-2.ensures.disk (c.end-2.ensures.honest (c.loop-event.invariant.goes came).came)

@@ -32,7 +32,7 @@ loop-preserved g c =
     let mid = c.loop.self in
     let new = c.checkpoint_step.new.self in
     let i = c.loop.invariant in
-    let step = rw c.in-Ok-Going.field-0-is at c.in-Ok-Going.ensures.step in
+    let step = rw c.in-Going.is at c.in_ok-checkpoint_step.ensures.step in
     let goes : GoesOn (suc c.loop.counter) old.machine new.machine = goes_on_more c.loop.counter old.machine mid.machine new.machine i.goes step in
     let next : suc c.loop.counter ≡ c.loop.counter + 1 = omega arith in
     let calm_old : old.machine.broken ≡ false = calm_at_first c.loop.counter old.machine mid.machine i.goes (calm_before mid.machine new.machine 64 step) in
@@ -42,7 +42,7 @@ loop-preserved g c =
       sizes = ap (λ (m : Machine). m.sizes) (stepped_is mid.machine new.machine 64 step) ∙ i.sizes;
       first = λ none. absurd (omega (arith, none));
       later = λ some. (calm_old, calm_behind mid.machine new.machine 64 step, λ none. let never : Some _ ≡ None = sym (going_behind mid.machine new.machine 64 step) ∙ none in cc);
-      counted = c.in-Ok-Going.ensures.counted ∙ i.counted;
+      counted = c.in_ok-checkpoint_step.ensures.counted ∙ i.counted;
       given = c.checkpoint_step.ensures.given ∙ i.given;
       run = λ came calm.
           and_then g.D.Disk.moment g.D.Disk.left_since old.disk mid.disk new.disk (IsDurableIn old.machine) (IsDurableIn mid.machine) (i.run came calm)
@@ -51,8 +51,8 @@ loop-preserved g c =
       honest = (λ h. i.honest.0 (c.checkpoint_step.ensures.honest.0 h), λ h. c.checkpoint_step.ensures.honest.1 (i.honest.1 h));
     }
 
-pub returns-in-Ok-Done-clause-any_moment : goal.returns-in-Ok-Done-clause-any_moment
-returns-in-Ok-Done-clause-any_moment g c came calm =
+pub returns-in-Done-clause-any_moment : goal.returns-in-Done-clause-any_moment
+returns-in-Done-clause-any_moment g c came calm =
     let old = c.args.self.now in
     let mid = c.loop.self in
     let new = c.checkpoint_step.new.self in
@@ -61,8 +61,8 @@ returns-in-Ok-Done-clause-any_moment g c came calm =
     (c.checkpoint_step.ensures.any_moment (subst (λ (d : g.row.D.Denot). CameTidy g.D.Disk.honest g.D.Disk.content d) (sym i.given) came) (calm_goes c.loop.counter old.machine mid.machine i.goes calm))
     (durable_before c.loop.counter old.machine mid.machine i.goes)
 
-pub returns-in-Err-clause-any_moment : goal.returns-in-Err-clause-any_moment
-returns-in-Err-clause-any_moment g c came calm =
+pub returns-in_err-checkpoint_step-clause-any_moment : goal.returns-in_err-checkpoint_step-clause-any_moment
+returns-in_err-checkpoint_step-clause-any_moment g c came calm =
     let old = c.args.self.now in
     let mid = c.loop.self in
     let new = c.checkpoint_step.new.self in

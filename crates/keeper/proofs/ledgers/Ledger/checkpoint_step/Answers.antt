@@ -3,9 +3,8 @@ use Rattle.disk.specs.Contents.{Only}
 use Rattle.disk.proofs.Steps.{weaker}
 use Rattle.store.specs.State.{StoreState, CameTidy, IsDurable}
 use Rattle.keeper.proofs.Flushed.{if_err_with}
-use Rattle.keeper.proofs.Held.{why, not_memory, same_flag}
+use Rattle.keeper.proofs.Held.{why, not_memory, same_flag, by_outcome}
 use Rattle.keeper.proofs.ledgers.Ledger.checkpoint_step.Goals as goal
-use Rattle.keeper.proofs.ledgers.Ledger.checkpoint_step.Goals.{in-Ok, in-Err}
 
 pub returns-clause-any_moment : goal.returns-clause-any_moment
 returns-clause-any_moment g c =
@@ -28,17 +27,13 @@ invariant_of-self g c = (
         c.checkpoint_part-written.ensures.honest.1 honest,
         record {
           only = λ works.
-              elim c.match-written.branch [
-                | in-Ok w ↦ rw w.in-Ok.is at c.checkpoint_part-written.ensures.only honest
-                | in-Err w ↦ (
-                    let flag = same_flag c.checkpoint_part-written.result c.has_failed-self-inside.result c.self.inside.store.broken c.checkpoint_part-written.new.self.broken c.has_failed-self-inside.ensures works_then c.checkpoint_part-written.ensures.works c.checkpoint_part-written.ensures.breaks (if_err_with _ _ c.checkpoint_part-written.result (λ refusal same not. let e = same not in cc) c.checkpoint_part-written.ensures.same) in
-                    let same = rw w.in-Err.is at c.checkpoint_part-written.ensures.same in
-                    let breaks = rw w.in-Err.is at c.checkpoint_part-written.ensures.breaks in
-                    ⊎_elim
-                    (λ memory. subst (λ (s : StoreState g.row.D.Denot). Only (g.D.Disk.content s.disk) (g.D.Disk.left s.disk)) (sym (same (not_memory w.in-Err.refusal memory))) (old.only calm))
-                    (λ device. absurd (let never : true ≡ false = sym (breaks device) ∙ (sym flag ∙ works) in cc))
-                    (why c.self.inside.store.broken w.in-Err.refusal works_then (rw w.in-Err.is at c.checkpoint_part-written.ensures.refused)))
-              ];
+              let flag = same_flag c.checkpoint_part-written.result c.has_failed-self-inside.result c.self.inside.store.broken c.checkpoint_part-written.new.self.broken c.has_failed-self-inside.ensures works_then c.checkpoint_part-written.ensures.works c.checkpoint_part-written.ensures.breaks (if_err_with _ _ c.checkpoint_part-written.result (λ refusal same not. let e = same not in cc) c.checkpoint_part-written.ensures.same) in
+              by_outcome c.checkpoint_part-written.result _ _ _ _ _ (c.checkpoint_part-written.ensures.only honest) c.checkpoint_part-written.ensures.same c.checkpoint_part-written.ensures.breaks c.checkpoint_part-written.ensures.refused
+              (λ refusal same breaks refused.
+              ⊎_elim
+              (λ memory. subst (λ (s : StoreState g.row.D.Denot). Only (g.D.Disk.content s.disk) (g.D.Disk.left s.disk)) (sym (same (not_memory refusal memory))) (old.only calm))
+              (λ device. absurd (let never : true ≡ false = sym (breaks device) ∙ (sym flag ∙ works) in cc))
+              (why c.self.inside.store.broken refusal works_then refused));
           each_left = λ d was. record {
             version = c.self.inside.store.version;
             left = inl (sym c.checkpoint_part-written.ensures.version);

@@ -15,7 +15,7 @@ invariant_of-self g c =
     let commands = slice_of c.deref.result.now (c.version.result - c.self.inside.opened) c.min-count.result in
     let f : Flushing _ (changed_by c.self.inside.base.value c.self.inside.history.items) c.self.inside.store.network c.self.inside.base.value _ commands c.of.result.value = record {
       kept = c.self.invariant.0;
-      clear = rw (← c.self.view_is) at c.in_default.ensures;
+      clear = rw (← c.self.view_is) at c.in_ok-may_flush.ensures;
       taken = slice_is c.deref.result.now c.self.inside.history.items c.version.result c.self.inside.opened c.min-count.result _ _ c.deref.ensures.value c.version.ensures.version (omega (arith, c.min-count.ensures));
       count_is = omega (arith, c.of.ensures, c.min-count.ensures, c.len.ensures, c.version.ensures.version);
     } in
@@ -62,7 +62,7 @@ returns-clause-step g c =
     let commands = slice_of c.deref.result.now (c.version.result - c.self.inside.opened) c.min-count.result in
     let f : Flushing _ (changed_by c.self.inside.base.value c.self.inside.history.items) c.self.inside.store.network c.self.inside.base.value _ commands c.of.result.value = record {
       kept = c.self.invariant.0;
-      clear = rw (← c.self.view_is) at c.in_default.ensures;
+      clear = rw (← c.self.view_is) at c.in_ok-may_flush.ensures;
       taken = slice_is c.deref.result.now c.self.inside.history.items c.version.result c.self.inside.opened c.min-count.result _ _ c.deref.ensures.value c.version.ensures.version (omega (arith, c.min-count.ensures));
       count_is = omega (arith, c.of.ensures, c.min-count.ensures, c.len.ensures, c.version.ensures.version);
     } in
@@ -89,7 +89,7 @@ returns-clause-any_moment g c =
     let commands = slice_of c.deref.result.now (c.version.result - c.self.inside.opened) c.min-count.result in
     let f : Flushing _ (changed_by c.self.inside.base.value c.self.inside.history.items) c.self.inside.store.network c.self.inside.base.value _ commands c.of.result.value = record {
       kept = c.self.invariant.0;
-      clear = rw (← c.self.view_is) at c.in_default.ensures;
+      clear = rw (← c.self.view_is) at c.in_ok-may_flush.ensures;
       taken = slice_is c.deref.result.now c.self.inside.history.items c.version.result c.self.inside.opened c.min-count.result _ _ c.deref.ensures.value c.version.ensures.version (omega (arith, c.min-count.ensures));
       count_is = omega (arith, c.of.ensures, c.min-count.ensures, c.len.ensures, c.version.ensures.version);
     } in
@@ -97,8 +97,8 @@ returns-clause-any_moment g c =
     (c.commit-written.ensures.any_moment came (sym c.self.invariant.1 ∙ calm))
     (λ d way. held _ (changed_by c.self.inside.base.value c.self.inside.history.items) c.self.inside.store.network c.self.inside.base.value _ commands c.of.result.value f d way))
 
-pub returns-in-Err-clause-any_moment : goal.returns-in-Err-clause-any_moment
-returns-in-Err-clause-any_moment g c =
+pub returns-in_err-may_flush-clause-any_moment : goal.returns-in_err-may_flush-clause-any_moment
+returns-in_err-may_flush-clause-any_moment g c =
     rw (← c.self.view_is) (λ came calm.
     let held = c.self.invariant.2 came in
     no_call g.D.Disk.left g.D.Disk.moment g.D.Disk.left_since c.self.inside.store.disk _ (λ d since. g.met.D.Disk.only_now c.self.inside.store.disk d held.0 since)

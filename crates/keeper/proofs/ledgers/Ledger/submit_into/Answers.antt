@@ -5,13 +5,26 @@ use Rattle.keeper.specs.Keeping.{machine_of}
 use Rattle.keeper.proofs.Accepted.{admits, kept_as, kept_with, listed_as, listed_with}
 use Rattle.keeper.proofs.Held.{holds_on, same_before, same_commands}
 use Rattle.keeper.proofs.ledgers.Ledger.submit_into.Goals as goal
-use Rattle.keeper.proofs.ledgers.Ledger.submit_into.Goals.{in-Ok, in-Err-accept_into}
 
 pub accept_into-requires : goal.accept_into-requires
 accept_into-requires g c =
     let k = c.self.inside in
     let m : Machine = machine_of k.store k.base.value k.opened k.history.items k.opened k.broken k.written.value None in
-    admits m k.store.network k.base.value None k.history.items k.accepted k.accepted c.self.invariant.0 c.self.invariant.3 c.args.command (rw (← c.self.view_is) at c.in_default.ensures)
+    admits m k.store.network k.base.value None k.history.items k.accepted k.accepted c.self.invariant.0 c.self.invariant.3 c.args.command (rw (← c.self.view_is) at c.in_ok-may_submit.ensures)
+
+pub invariant_of-self-2 : goal.invariant_of-self-2
+invariant_of-self-2 g c =
+    let k = c.self.inside in
+    let m : Machine = machine_of k.store k.base.value k.opened k.history.items k.opened k.broken k.written.value None in
+    let items = c.accept_into.new.history.items in
+    let new = c.accept_into.new.accepted in
+    let none = rw (← c.self.view_is) at c.in_ok-may_submit.ensures in
+    let told = c.in_ok-accept_into.ensures in (
+      kept_with m k.store.network k.base.value None items k.accepted new c.self.invariant.0 c.self.invariant.3 c.args.command none told.history,
+      c.self.invariant.1,
+      λ came. let held = c.self.invariant.2 came in (held.0, holds_on (g.D.Disk.content k.store.disk) (g.D.Disk.left k.store.disk) _ _ refl refl refl refl (λ v le. same_before _ _ k.history.items items c.args.command told.history (omega (arith, le))) c.self.invariant.0.state held.1),
+      listed_with m k.store.network k.base.value None items k.accepted new c.self.invariant.0 c.self.invariant.3 c.args.command none told.history told.accepted,
+    )
 
 pub invariant_of-self : goal.invariant_of-self
 invariant_of-self g c =
@@ -19,8 +32,9 @@ invariant_of-self g c =
     let m : Machine = machine_of k.store k.base.value k.opened k.history.items k.opened k.broken k.written.value None in
     let items = c.accept_into.new.history.items in
     let new = c.accept_into.new.accepted in
-    let none = rw (← c.self.view_is) at c.in_default.ensures in
-    elim c.match-accept_into.branch [
-      | in-Ok w ↦ (kept_with m k.store.network k.base.value None items k.accepted new c.self.invariant.0 c.self.invariant.3 c.args.command none w.in-Ok.ensures.history, c.self.invariant.1, λ came. let held = c.self.invariant.2 came in (held.0, holds_on (g.D.Disk.content k.store.disk) (g.D.Disk.left k.store.disk) _ _ refl refl refl refl (λ v le. same_before _ _ k.history.items items c.args.command w.in-Ok.ensures.history (omega (arith, le))) c.self.invariant.0.state held.1), listed_with m k.store.network k.base.value None items k.accepted new c.self.invariant.0 c.self.invariant.3 c.args.command none w.in-Ok.ensures.history w.in-Ok.ensures.accepted)
-      | in-Err-accept_into w ↦ (kept_as m k.store.network k.base.value None items k.accepted new c.self.invariant.0 c.self.invariant.3 w.in-Err-accept_into.ensures.same_history, c.self.invariant.1, λ came. let held = c.self.invariant.2 came in (held.0, holds_on (g.D.Disk.content k.store.disk) (g.D.Disk.left k.store.disk) _ _ refl refl refl refl (λ v le. same_commands _ _ k.history.items items w.in-Err-accept_into.ensures.same_history) c.self.invariant.0.state held.1), listed_as m k.store.network k.base.value None items k.accepted new c.self.invariant.0 c.self.invariant.3 w.in-Err-accept_into.ensures.same_history w.in-Err-accept_into.ensures.same_accepted)
-    ]
+    let told = c.in_err-accept_into.ensures in (
+      kept_as m k.store.network k.base.value None items k.accepted new c.self.invariant.0 c.self.invariant.3 told.same_history,
+      c.self.invariant.1,
+      λ came. let held = c.self.invariant.2 came in (held.0, holds_on (g.D.Disk.content k.store.disk) (g.D.Disk.left k.store.disk) _ _ refl refl refl refl (λ v le. same_commands _ _ k.history.items items told.same_history) c.self.invariant.0.state held.1),
+      listed_as m k.store.network k.base.value None items k.accepted new c.self.invariant.0 c.self.invariant.3 told.same_history told.same_accepted,
+    )

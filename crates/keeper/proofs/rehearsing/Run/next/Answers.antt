@@ -70,4 +70,5 @@ returns-in_default g c =
       };
       cut_last = λ first done going. tt;
       early = tt;
+      honest = λ came. tt;
     }

@@ -93,3 +93,6 @@ returns-clause-cut_last g c first done going =
     first done self.replies.items self.history.items m going.run c.args.self.life.living.state self.life.keeper.disk (c.halt-halted.ensures.held going.came) (g.D.Disk.content halted.disk) (c.halt-halted.ensures.cut going.came)
     x.replies.items is.held (t ∙ ap (λ (rs : List Replied). rs ++ Stopped ∷ []) replies))
     c.resume.ensures.stopped
+
+pub returns-clause-honest : goal.returns-clause-honest
+returns-clause-honest g c came = c.resume.ensures.honest (c.halt-halted.ensures.honest came)

@@ -140,3 +140,8 @@ returns-clause-cut_last g c event within picks first done going =
     if_err_map c.resume.result _ _ (λ x t. within_last g.D.Disk.honest g.D.Disk.content g.D.Disk.left g.D.Stoppable.armed (IsCut g.D.Stoppable.synced g.D.Stoppable.is_unsynced g.D.Disk.content)
     first done self.replies.items self.history.items m run mid later event c.args.writing _ within picks c.tell_write.new.replies.items told disk (c.halt-halted.ensures.held came) (g.D.Disk.content halted.disk) (c.halt-halted.ensures.cut came) alone
     x.replies.items is.held t) c.resume.ensures.stopped
+
+pub returns-clause-honest : goal.returns-clause-honest
+returns-clause-honest g c was =
+    let came = subst (λ (d : g.row.D.Denot). CameTidy g.D.Disk.honest g.D.Disk.content d) (sym (c.write-written.ensures.given ∙ c.arm.ensures.given)) was in
+    c.resume.ensures.honest (c.halt-halted.ensures.honest came)

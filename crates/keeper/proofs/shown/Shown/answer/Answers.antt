@@ -9,3 +9,7 @@ pinned-pinned-requires g c = subst (λ (v : Viewed). HasRowsOf v.version v.netwo
 pub invariant_of-self : goal.invariant_of-self
 invariant_of-self g c =
     subst (λ (v : Viewed). HasRowsOf v.version v.network c.answer.new.self.cache.now) (c.answer.ensures.same.view ∙ c.pinned-pinned.ensures.view ∙ c.deref-2.ensures) c.answer.ensures.kept
+
+pub invariant_of-self-2 : goal.invariant_of-self-2
+invariant_of-self-2 g c =
+    subst (λ (v : Viewed). HasRowsOf v.version v.network c.answer.new.self.cache.now) (c.answer.ensures.same.view ∙ c.pinned-pinned.ensures.view ∙ c.deref-2.ensures) c.answer.ensures.kept

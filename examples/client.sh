@@ -6,6 +6,8 @@ top=$(cd "$(dirname "$0")/.." && pwd)
 store=$1
 
 coproc server { "$top/roadmark" serve "$store"; }
+# Kept, since bash forgets `server_PID` as soon as the server has ended.
+server_is=$server_PID
 exec {to}>&"${server[1]}" {from}<&"${server[0]}"
 
 # Sends one line, and reads one line of its answer into `answer`.
@@ -40,4 +42,4 @@ ask 'dist 1 9'
 change 'reopen 7'
 
 printf 'quit\n' >&"$to"
-wait "$server_PID"
+wait "$server_is"

@@ -15,9 +15,11 @@ while read -r word from to _ || [ -n "${word:-}" ]; do
 done < "$1"
 
 coproc server { "$top/roadmark" serve "$2"; }
+# Kept, since bash forgets `server_PID` as soon as the server has ended.
+server_is=$server_PID
 exec {to_server}>&"${server[1]}" {from_server}<&"${server[0]}"
 
-while IFS=, read -r from to seconds; do
+while IFS=, read -r from to seconds || [ -n "${from:-}" ]; do
   if [ -z "${arcs[$from,$to]:-}" ]; then
     echo "$from to $to: no such road" >&2
     continue
@@ -31,4 +33,4 @@ while IFS=, read -r from to seconds; do
 done
 
 printf 'quit\n' >&"$to_server"
-wait "$server_PID"
+wait "$server_is"

@@ -1,10 +1,10 @@
 #!/usr/bin/env bash
-# A session of ten thousand commands over a store's file, beside which nobody else opens the file; behind it the store is asked. Needs a built program.
+# A session of ten thousand commands over a store's file, beside which nobody else opens the file; after it the store is asked. Needs a built program.
 set -u
 . "$(dirname "${BASH_SOURCE[0]}")/store_of_six.sh"
 fail() { echo "$1"; exit 1; }
 
-# Arc 8 gets the length of the command's number, at last 10,000; behind it the session waits until that is shown, and asks.
+# Arc 8 gets the length of the command's number, at last 10,000; after that the session waits until that is shown, and asks.
 { for length in $(seq 1 10000); do echo "set 8 $length"; done; echo wait; echo 'dist 1 6'; echo quit; } > lines
 { seq -f 'ok %.0f' 1 10000; echo 'v 10000'; echo 'v 10000'; echo 'd 1 6 15'; } > wanted
 mkfifo to
@@ -26,4 +26,4 @@ wait "$session" || fail "the session ended with $?"
 cmp answers wanted || exit 1
 version=$("$program" ask six.store six.p2p | head -1)
 [ "$version" = 'v 10000' ] || fail "the store opens with $version"
-echo "10000 commands in one session, each told in its turn, all there behind it; nobody else opened the file beside it"
+echo "10000 commands in one session, each told in its turn, all there after it; nobody else opened the file beside it"

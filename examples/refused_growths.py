@@ -171,7 +171,7 @@ def judge(pages, script, lines, status, fault):
         return "nothing was written: " + " ".join(map(os.path.basename, fault.split()))
     for line in script.split("/"):
         if status and machine.spare and machine.told in ([], ["stopped"]):
-            # Only an opening behind a stop ends a run with 43.
+            # Only an opening after a stop ends a run with 43.
             if fault != "roadmark: 11 OutOfMemory" and (machine.told, fault) != (["stopped"], "roadmark: 43 Device"):
                 raise Wrong(f"ended with {fault}")
             return "ended early: " + fault

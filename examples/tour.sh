@@ -1,7 +1,7 @@
 #!/usr/bin/env bash
 # Runs every tour of README.md, docs/PROGRAM.md and the man page with the built program, and compares what is printed with what stands there.
 #   examples/tour.sh [PROGRAM]
-# A tour is a code block, four blanks wide, whose first line begins with `$ `. Such a line is run, and the lines behind it are what it prints on both streams. Each heading
+# A tour is a code block, four blanks wide, whose first line begins with `$ `. Such a line is run, and the lines after it are what it prints on both streams. Each heading
 # `## ` begins in a new folder with the examples and the program as ./roadmark. Then the words and options of help are compared with those of the man page.
 set -u
 top=$(cd "$(dirname "${BASH_SOURCE[0]}")/.." && pwd)

@@ -1,9 +1,10 @@
 -- A stop takes its picks, and the old bytes where it has none; and what a run has of its stops, so far and in the end.
-use Rattle.std.proofs.Common.{◌≡◌, ◌⊎◌, ⊎_elim, inl, inr, ◌≤◌, ℕ, Bool, true, List, [], ◌∷◌, ◌++◌, length, Option, None, Some, refl, sym, ◌∙◌, ap, subst, false, arith, length-append}
-use Rattle.std.proofs.lemmas.List.{append-nil}
+use Rattle.std.proofs.Common.{◌≡◌, ◌⊎◌, ⊎_elim, inl, inr, ◌≤◌, ℕ, zero, suc, Bool, true, List, [], ◌∷◌, ◌++◌, length, Option, None, Some, refl, sym, ◌∙◌, ap, subst, false, arith, length-append}
+use Rattle.std.proofs.lemmas.List.{append-nil, append_cancel_left, append_cancel_right}
 use Rattle.std.specs.Prelude.{IsTrue, IfSome, map}
 use Rattle.std.specs.List.{flat_map}
 use Rattle.roadnet.specs.declared.refusals.Refusal.{Refusal}
+use Rattle.disk.specs.Stop.{armed_at}
 use Rattle.disk.specs.declared.stoppable.Pick.{Pick}
 use Rattle.disk.specs.declared.stoppable.Pick.TheVariants.{Old}
 use Rattle.machine.specs.declared.events.Event.{Event}
@@ -58,38 +59,65 @@ split_last (u ∷ xs) (b ∷ before) behind x y is =
     let tails : xs ++ x ∷ [] ≡ before ++ y ∷ behind = cc in
     ⊎_elim (λ l. let more : xs ≡ before ++ y ∷ l.0 = l.1 in inl (l.0, cc)) (λ r. let all : before ≡ xs = r.0 in inr (cc, r.1)) (split_last xs before behind x y tails)
 
+-- where the event's own reply tells that the disk failed, no armed call came
+pub own_failure : (came : Bool) (A : Type 0) (replies replies' told : List Replied) (written last own : Replied) → (A → IsTrue came) → (came ≡ true → written ≡ own → replies' ≡ replies) → (replies' ≡ replies ++ written ∷ []) ⊎ ((written ≡ own) × (replies' ≡ replies))
+    → replies' ≡ replies ++ told → told ++ last ∷ [] ≡ own ∷ last ∷ [] → A → ⊥
+own_failure false A replies replies' told written last own come within wrote is two armed = absurd (let never : false ≡ true = come armed in cc)
+own_failure true A replies replies' told written last own come within wrote is two armed =
+    let both : told ++ last ∷ [] ≡ (own ∷ []) ++ last ∷ [] = two in
+    let told_is : told ≡ own ∷ [] = append_cancel_right told (own ∷ []) (last ∷ []) both in
+    let now : replies' ≡ replies ++ own ∷ [] = is ∙ ap (λ (rs : List Replied). replies ++ rs) told_is in
+    let longer = length-append replies (own ∷ []) in
+    let never : replies' ≡ replies → ⊥ =
+    λ same.
+    let sizes : length replies ≡ length (replies ++ own ∷ []) = ap length (sym same ∙ now) in
+    absurd (omega (arith, longer, sizes)) in
+    ⊎_elim
+    (λ behind.
+    let tails : written ∷ [] ≡ own ∷ [] = append_cancel_left replies (written ∷ []) (own ∷ []) (sym behind ∙ now) in
+    let same : written ≡ own = cc in
+    never (within refl same))
+    (λ cut. never cut.1)
+    wrote
+
+-- what arming a call leaves armed
+pub armed_so : (call : ℕ) (was now : Option ℕ) → now ≡ armed_at call was → (now ≡ Some call) ⊎ (now ≡ Some 0)
+armed_so call None now is = inl is
+armed_so call (Some zero) now is = inr is
+armed_so call (Some (suc k)) now is = inl is
+
 -- ---- a run so far, which has come to this state
-pub record CutSoFar {D : Type 0} (Has : D → Machine → Type 0) (armed : D → Option ℕ) (Cuts : List Pick → D → List ℕ → Type 0) (first : First) (events : List (Event Pick)) (replies : List Replied) (m : Machine) : Type 0 where
+pub record CutSoFar {D : Type 0} (Has : D → Machine → Type 0) (armed : D → Option ℕ) (moment : D → ℕ) (Cuts : List Pick → D → List ℕ → Type 0) (first : First) (events : List (Event Pick)) (replies : List Replied) (m : Machine) : Type 0 where
   pub turns : List (Turn Pick)
   pub events_are : events ≡ map (λ turn. turn.0) turns
   pub replies_are : replies ≡ flat_map (λ turn. turn.1) turns
   pub passes : Passes (first_state first) turns m
-  pub each : EachHasCut Has armed Cuts (first_state first) turns
+  pub each : EachHasCut Has armed moment Cuts (first_state first) turns
 
-module _ {D : Type 0} (Has : D → Machine → Type 0) (armed : D → Option ℕ) (Cuts : List Pick → D → List ℕ → Type 0) where
-  each_none : (first : Machine) → EachHasCut Has armed Cuts first []
+module _ {D : Type 0} (Has : D → Machine → Type 0) (armed : D → Option ℕ) (moment : D → ℕ) (Cuts : List Pick → D → List ℕ → Type 0) where
+  each_none : (first : Machine) → EachHasCut Has armed moment Cuts first []
   each_none first before turn behind is =
       let sizes = length-append before (turn ∷ behind) in
       let same : 0 ≡ length (before ++ turn ∷ behind) = ap length is in
       absurd (omega (arith, sizes, same))
 
-  each_more : (first m : Machine) (turns : List (Turn Pick)) (turn : Turn Pick) → Passes first turns m → EachHasCut Has armed Cuts first turns → TurnHasCut Has armed Cuts m turn → EachHasCut Has armed Cuts first (turns ++ turn ∷ [])
+  each_more : (first m : Machine) (turns : List (Turn Pick)) (turn : Turn Pick) → Passes first turns m → EachHasCut Has armed moment Cuts first turns → TurnHasCut Has armed moment Cuts m turn → EachHasCut Has armed moment Cuts first (turns ++ turn ∷ [])
   each_more first m turns turn passes each cut before other behind is =
       ⊎_elim (λ l. each before other l.0 l.1)
-      (λ r. subst (λ (b : List (Turn Pick)). (old : Machine) × Passes first b old × TurnHasCut Has armed Cuts old other) (sym r.0)
-      (subst (λ (x : Turn Pick). (old : Machine) × Passes first turns old × TurnHasCut Has armed Cuts old x) (sym r.1) (m, passes, cut)))
+      (λ r. subst (λ (b : List (Turn Pick)). (old : Machine) × Passes first b old × TurnHasCut Has armed moment Cuts old other) (sym r.0)
+      (subst (λ (x : Turn Pick). (old : Machine) × Passes first turns old × TurnHasCut Has armed moment Cuts old x) (sym r.1) (m, passes, cut)))
       (split_last turns before behind turn other is)
 
-  of_turn : (event : Event Pick) (told : List Replied) (m : Machine) (cut : List ℕ) (o : Option (List Pick)) → IfSome o (λ picks. HasCut Has armed Cuts m event told picks cut)
-      → IfSome o (λ picks. (left : List ℕ) × HasCut Has armed Cuts m event told picks left)
+  of_turn : (event : Event Pick) (told : List Replied) (m : Machine) (cut : List ℕ) (o : Option (List Pick)) → IfSome o (λ picks. HasCut Has armed moment Cuts m event told picks cut)
+      → IfSome o (λ picks. (left : List ℕ) × HasCut Has armed moment Cuts m event told picks left)
   of_turn event told m cut None h = tt
   of_turn event told m cut (Some picks) h = (cut, h)
 
-  pub cut_none : (first : First) (replies : List Replied) (m : Machine) → replies ≡ [] → m ≡ first_state first → CutSoFar Has armed Cuts first [] replies m
+  pub cut_none : (first : First) (replies : List Replied) (m : Machine) → replies ≡ [] → m ≡ first_state first → CutSoFar Has armed moment Cuts first [] replies m
   cut_none first replies m none begins = record { turns = []; events_are = refl; replies_are = none; passes = begins; each = each_none (first_state first) }
 
-  module _ (first : First) (events : List (Event Pick)) (replies : List Replied) (m : Machine) (s : CutSoFar Has armed Cuts first events replies m) (event : Event Pick) (now : List Replied) where
-    pub cut_more : (new : Machine) (cut : List ℕ) → TurnsTo Has armed Cuts m event replies now new cut → CutSoFar Has armed Cuts first (events ++ event ∷ []) now new
+  module _ (first : First) (events : List (Event Pick)) (replies : List Replied) (m : Machine) (s : CutSoFar Has armed moment Cuts first events replies m) (event : Event Pick) (now : List Replied) where
+    pub cut_more : (new : Machine) (cut : List ℕ) → TurnsTo Has armed moment Cuts m event replies now new cut → CutSoFar Has armed moment Cuts first (events ++ event ∷ []) now new
     cut_more new cut t = record {
       turns = s.turns ++ (event, t.told) ∷ [];
       events_are = events_more s.turns events event t.told s.events_are;
@@ -99,7 +127,7 @@ module _ {D : Type 0} (Has : D → Machine → Type 0) (armed : D → Option ℕ
     }
 
     -- with the turn that ends it
-    pub cut_last : (rest : List (Event Pick)) (ended : Option Refusal) → TurnsLast Has armed Cuts m event replies now → (ended ≡ None → ⊥) → HaveCut Has armed Cuts first ((events ++ event ∷ []) ++ rest) now ended
+    pub cut_last : (rest : List (Event Pick)) (ended : Option Refusal) → TurnsLast Has armed moment Cuts m event replies now → (ended ≡ None → ⊥) → HaveCut Has armed moment Cuts first ((events ++ event ∷ []) ++ rest) now ended
     cut_last rest ended t early = record {
       turns = s.turns ++ (event, t.told) ∷ [];
       rest = rest;
@@ -109,8 +137,8 @@ module _ {D : Type 0} (Has : D → Machine → Type 0) (armed : D → Option ℕ
       whole = λ none. absurd (early none);
     }
 
-  module _ (first : First) (events : List (Event Pick)) (replies : List Replied) (m : Machine) (s : CutSoFar Has armed Cuts first events replies m) where
-    pub cut_early : (rest : List (Event Pick)) (ended : Option Refusal) → (ended ≡ None → ⊥) → HaveCut Has armed Cuts first (events ++ rest) replies ended
+  module _ (first : First) (events : List (Event Pick)) (replies : List Replied) (m : Machine) (s : CutSoFar Has armed moment Cuts first events replies m) where
+    pub cut_early : (rest : List (Event Pick)) (ended : Option Refusal) → (ended ≡ None → ⊥) → HaveCut Has armed moment Cuts first (events ++ rest) replies ended
     cut_early rest ended early = record {
       turns = s.turns;
       rest = rest;
@@ -120,7 +148,7 @@ module _ {D : Type 0} (Has : D → Machine → Type 0) (armed : D → Option ℕ
       whole = λ none. absurd (early none);
     }
 
-    pub cut_whole : (ended : Option Refusal) → HaveCut Has armed Cuts first events replies ended
+    pub cut_whole : (ended : Option Refusal) → HaveCut Has armed moment Cuts first events replies ended
     cut_whole ended = record {
       turns = s.turns;
       rest = [];
@@ -130,5 +158,5 @@ module _ {D : Type 0} (Has : D → Machine → Type 0) (armed : D → Option ℕ
       whole = λ _. refl;
     }
 
-  pub cut_of : (first : First) (events events' : List (Event Pick)) (replies : List Replied) (ended : Option Refusal) → events ≡ events' → HaveCut Has armed Cuts first events replies ended → HaveCut Has armed Cuts first events' replies ended
-  cut_of first events events' replies ended same h = subst (λ (es : List (Event Pick)). HaveCut Has armed Cuts first es replies ended) same h
+  pub cut_of : (first : First) (events events' : List (Event Pick)) (replies : List Replied) (ended : Option Refusal) → events ≡ events' → HaveCut Has armed moment Cuts first events replies ended → HaveCut Has armed moment Cuts first events' replies ended
+  cut_of first events events' replies ended same h = subst (λ (es : List (Event Pick)). HaveCut Has armed moment Cuts first es replies ended) same h

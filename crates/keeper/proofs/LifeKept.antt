@@ -1,7 +1,8 @@
 -- What each call does to a life of a rehearsal.
-use Rattle.std.proofs.Common.{◌≡◌, ⊎_elim, ℕ, ◌-◌, ◌≤◌, Bool, true, false, cond, eqb, take, Option, Some, None, Result, Ok, Err, refl, sym, ◌∙◌, ap, subst, arith, eq-eqb}
+use Rattle.std.proofs.Common.{◌≡◌, ⊎_elim, ℕ, ◌-◌, ◌≤◌, Bool, true, false, cond, eqb, take, List, Option, Some, None, Result, Ok, Err, refl, sym, ◌∙◌, ap, subst, arith, eq-eqb}
 use Rattle.std.specs.Prelude.{IfSome, OnOk, OnErr, is_some, ◌||◌, ◌==◌, nat_lt}
 use Rattle.std.proofs.lemmas.List.{take-take}
+use Rattle.disk.specs.Moments.{LeavesOnly, AddsNothing}
 use Rattle.roadnet.specs.declared.commands.Command.{Command}
 use Rattle.roadnet.specs.declared.refusals.Refusal.{Refusal}
 use Rattle.roadnet.specs.Net.{Net}
@@ -16,6 +17,11 @@ use Rattle.machine.proofs.Checkpoints.{IsBut, but_step, but_checkpoint, state_ch
 use Rattle.machine.proofs.Kept.{states_kept}
 use Rattle.machine.proofs.Later.{later_by_step, still}
 use Rattle.keeper.specs.Rehearsing.{IsLife}
+
+-- time goes on in a call that writes, whether the store was broken before or not
+pub moment_later : {D : Type 0} (moment : D → ℕ) (left_since : D → ℕ → List ℕ → Type 0) (old new : D) (P : List ℕ → Type 0) (broken : Bool) → (broken ≡ false → LeavesOnly moment left_since old new P) → (broken ≡ true → AddsNothing moment left_since old new) → moment old ≤ moment new
+moment_later moment left_since old new P false calm none = (calm refl).later
+moment_later moment left_since old new P true calm none = (none refl).later
 
 -- the network at a durable version stays
 pub network_still : (old new : Machine) (v : ℕ) → v ≤ old.durable → IsLater old new → network_at new v ≡ network_at old v

@@ -1,38 +1,41 @@
 -- A turn with a stop, in one life of a run, has cut the disk of that life.
-use Rattle.std.proofs.Common.{◌≡◌, ℕ, List, [], ◌∷◌, ◌++◌, Option, Some, refl, ◌∙◌, ap, subst, append_assoc}
+use Rattle.std.specs.Prelude.{◌≢◌}
+use Rattle.std.proofs.Common.{◌≡◌, ◌⊎◌, ◌≤◌, ℕ, List, [], ◌∷◌, ◌++◌, Option, Some, refl, ◌∙◌, ap, subst, append_assoc}
 use Rattle.roadnet.specs.declared.commands.Command.{Command}
+use Rattle.roadnet.specs.declared.refusals.Refusal.TheVariants.{Device}
 use Rattle.disk.specs.declared.stoppable.Pick.{Pick}
 use Rattle.disk.specs.declared.stoppable.Pick.TheVariants.{Old}
 use Rattle.machine.specs.declared.events.Writing.{Writing}
 use Rattle.machine.specs.declared.events.Event.{Event}
 use Rattle.machine.specs.declared.events.Event.TheVariants.{Submit, Flush, Checkpoint, CheckpointStep, Task, Publish, Ask, Stop, StopWithin}
 use Rattle.machine.specs.declared.events.Replied.{Replied}
-use Rattle.machine.specs.declared.events.Replied.TheVariants.{Opened, Stopped}
+use Rattle.machine.specs.declared.events.Replied.TheVariants.{Refused, Opened, Stopped}
 use Rattle.machine.specs.Machine.{Machine, IsState, commands_to}
 use Rattle.machine.specs.LifeInRun.{within}
 use Rattle.machine.specs.Lives.{StopComes}
-use Rattle.keeper.specs.Cutting.{HoldsFor, StopsOn, StandsAsTold, HasCut, TurnsTo, TurnsLast, picks_of}
+use Rattle.keeper.specs.Cutting.{HoldsFor, WasArmed, StopsOn, call_of, StandsAsTold, HasCut, TurnsTo, TurnsLast, picks_of}
 use Rattle.keeper.specs.Keeping.{IsDurableIn}
 use Rattle.keeper.specs.Rehearsing.{within_of, First, HasRun, BeginsAfter}
 use Rattle.keeper.proofs.LivesInRun.{Later, later_none}
 use Rattle.keeper.proofs.Runs.{Told, opens_then, holds_then, durable_then, opened_then, does_within}
 
 -- the event's own reply, if one came, and the stop's
-stops_on : {D : Type 0} (armed : D → Option ℕ) (old m : Machine) (event : Event Pick) (w : Writing) (replies : List Replied) (last : Replied) (disk : D) → within_of event ≡ Some w → StopComes old w replies last m
-    → (replies ≡ last ∷ [] → armed disk ≡ Some 0) → StopsOn armed old event replies last disk m
-stops_on armed old m (StopWithin call picks w') w replies last disk is comes alone =
+stops_on : {D : Type 0} (Has : D → Machine → Type 0) (armed : D → Option ℕ) (moment : D → ℕ) (old m : Machine) (event : Event Pick) (w : Writing) (call : ℕ) (replies : List Replied) (last : Replied) (disk : D) → within_of event ≡ Some w → call_of event ≡ Some call
+    → StopComes old w replies last m → WasArmed Has armed moment call old disk → (replies ≡ last ∷ [] → armed disk ≡ Some 0) → (replies ≡ Refused Device ∷ last ∷ [] → armed disk ≢ Some 0) → StopsOn Has armed moment old event replies last disk m
+stops_on Has armed moment old m (StopWithin call' picks w') w call replies last disk is names comes was alone own =
     let same : w ≡ w' = cc in
-    (subst (λ (v : Writing). StopComes old v replies last m) same comes, alone)
-stops_on armed old m (Submit c) w replies last disk is comes alone = cc
-stops_on armed old m Flush w replies last disk is comes alone = cc
-stops_on armed old m Checkpoint w replies last disk is comes alone = cc
-stops_on armed old m (CheckpointStep pages) w replies last disk is comes alone = cc
-stops_on armed old m Task w replies last disk is comes alone = cc
-stops_on armed old m Publish w replies last disk is comes alone = cc
-stops_on armed old m (Ask query) w replies last disk is comes alone = cc
-stops_on armed old m Stop w replies last disk is comes alone = cc
+    let number : call ≡ call' = cc in
+    (subst (λ (v : Writing). StopComes old v replies last m) same comes, subst (λ (n : ℕ). WasArmed Has armed moment n old disk) number was, alone, own)
+stops_on Has armed moment old m (Submit c) w call replies last disk is names comes was alone own = cc
+stops_on Has armed moment old m Flush w call replies last disk is names comes was alone own = cc
+stops_on Has armed moment old m Checkpoint w call replies last disk is names comes was alone own = cc
+stops_on Has armed moment old m (CheckpointStep pages) w call replies last disk is names comes was alone own = cc
+stops_on Has armed moment old m Task w call replies last disk is names comes was alone own = cc
+stops_on Has armed moment old m Publish w call replies last disk is names comes was alone own = cc
+stops_on Has armed moment old m (Ask query) w call replies last disk is names comes was alone own = cc
+stops_on Has armed moment old m Stop w call replies last disk is names comes was alone own = cc
 
-module _ {D : Type 0} (honest : D → Type 0) (content : D → List ℕ) (left : D → List ℕ → Type 0) (armed : D → Option ℕ) (Cuts : List Pick → D → List ℕ → Type 0)
+module _ {D : Type 0} (honest : D → Type 0) (content : D → List ℕ) (left : D → List ℕ → Type 0) (armed : D → Option ℕ) (moment : D → ℕ) (Cuts : List Pick → D → List ℕ → Type 0)
     (first : First) (events : List (Event Pick)) (replies : List Replied) (history : List Command) (m : Machine) (r : HasRun first events replies history m) (mid : Machine) (l : Later m mid) where
   abbrev pub Has : D → Machine → Type 0
   Has = HoldsFor honest content left
@@ -40,8 +43,8 @@ module _ {D : Type 0} (honest : D → Type 0) (content : D → List ℕ) (left :
   abbrev pub in_this : Machine → Machine
   in_this x = within first.network first.version history x
 
-  cuts : (event : Event Pick) (told : List Replied) (last : Replied) (disk : D) (picks : List Pick) (cut : List ℕ) → StopsOn armed (in_this m) event told last disk (in_this mid) → Has disk mid → Cuts picks disk cut
-      → StandsAsTold (in_this mid) last cut → HasCut Has armed Cuts (in_this m) event told picks cut
+  cuts : (event : Event Pick) (told : List Replied) (last : Replied) (disk : D) (picks : List Pick) (cut : List ℕ) → StopsOn Has armed moment (in_this m) event told last disk (in_this mid) → Has disk mid → Cuts picks disk cut
+      → StandsAsTold (in_this mid) last cut → HasCut Has armed moment Cuts (in_this m) event told picks cut
   cuts event told last disk picks cut stops h taken stands = record {
     machine = in_this mid;
     disk = disk;
@@ -52,33 +55,43 @@ module _ {D : Type 0} (honest : D → Type 0) (content : D → List ℕ) (left :
     stands = stands;
   }
 
+  -- the disk was armed in this life
+  pub was_armed : (call : ℕ) (before disk : D) → IsState m → Has before m → (1 ≤ call → (armed before ≡ Some call) ⊎ (armed before ≡ Some 0)) → moment before ≤ moment disk → WasArmed Has armed moment call (in_this m) disk
+  was_armed call before disk s h armed_then later = record {
+    before = before;
+    holds = (h.0, holds_then first events replies history m r m (later_none m s) (content before) (left before) h.1);
+    is_armed = armed_then;
+    later = later;
+  }
+
   -- ---- within an event, or behind it
-  module _ (event : Event Pick) (w : Writing) (picks : List Pick) (is : within_of event ≡ Some w) (taken_of : picks_of event ≡ Some picks) (replies' : List Replied) (t : Told (in_this m) (in_this mid) w replies replies')
-      (disk : D) (h : Has disk mid) (cut : List ℕ) (taken : Cuts picks disk cut) (alone : (last : Replied) → t.told ++ last ∷ [] ≡ last ∷ [] → armed disk ≡ Some 0) where
+  module _ (event : Event Pick) (w : Writing) (picks : List Pick) (is : within_of event ≡ Some w) (call : ℕ) (names : call_of event ≡ Some call) (taken_of : picks_of event ≡ Some picks) (replies' : List Replied) (t : Told (in_this m) (in_this mid) w replies replies')
+      (disk : D) (h : Has disk mid) (cut : List ℕ) (taken : Cuts picks disk cut) (was : WasArmed Has armed moment call (in_this m) disk)
+      (alone : (last : Replied) → t.told ++ last ∷ [] ≡ last ∷ [] → armed disk ≡ Some 0) (own : (last : Replied) → t.told ++ last ∷ [] ≡ Refused Device ∷ last ∷ [] → armed disk ≢ Some 0) where
     pub within_turn : (next : Machine) (now : List Replied) (history' : List Command) (began : List ℕ) → BeginsAfter mid next → StandsAsTold mid (Opened next.base_version) cut → now ≡ replies' ++ Opened next.base_version ∷ []
-        → history' ≡ history ++ commands_to mid next.base_version → began ≡ cut → TurnsTo Has armed Cuts (in_this m) event replies now (within first.network first.version history' next) began
+        → history' ≡ history ++ commands_to mid next.base_version → began ≡ cut → TurnsTo Has armed moment Cuts (in_this m) event replies now (within first.network first.version history' next) began
     within_turn next now history' began b stands told left_of same =
         let final : Replied = Opened next.base_version in
         rw (left_of, same) (record {
           told = t.told ++ final ∷ [];
           replies_are = told ∙ (ap (λ (rs : List Replied). rs ++ final ∷ []) t.is ∙ append_assoc replies t.told (final ∷ []));
           does = does_within first events replies history m r mid l event w t.told next is t.comes b;
-          has_cut = rw taken_of (cuts event (t.told ++ final ∷ []) final disk picks cut (stops_on armed (in_this m) (in_this mid) event w (t.told ++ final ∷ []) final disk is (t.comes final) (alone final)) h taken
+          has_cut = rw taken_of (cuts event (t.told ++ final ∷ []) final disk picks cut (stops_on Has armed moment (in_this m) (in_this mid) event w call (t.told ++ final ∷ []) final disk is names (t.comes final) was (alone final) (own final)) h taken
               (opened_then first events replies history m r mid l next.base_version cut stands));
         })
 
-    pub within_last : (now : List Replied) → IsDurableIn mid cut → now ≡ replies' ++ Stopped ∷ [] → TurnsLast Has armed Cuts (in_this m) event replies now
+    pub within_last : (now : List Replied) → IsDurableIn mid cut → now ≡ replies' ++ Stopped ∷ [] → TurnsLast Has armed moment Cuts (in_this m) event replies now
     within_last now held told = record {
       told = t.told ++ Stopped ∷ [];
       replies_are = told ∙ (ap (λ (rs : List Replied). rs ++ Stopped ∷ []) t.is ∙ append_assoc replies t.told (Stopped ∷ []));
       has_cut = rw taken_of (
         cut,
-        cuts event (t.told ++ Stopped ∷ []) Stopped disk picks cut (stops_on armed (in_this m) (in_this mid) event w (t.told ++ Stopped ∷ []) Stopped disk is (t.comes Stopped) (alone Stopped)) h taken
+        cuts event (t.told ++ Stopped ∷ []) Stopped disk picks cut (stops_on Has armed moment (in_this m) (in_this mid) event w call (t.told ++ Stopped ∷ []) Stopped disk is names (t.comes Stopped) was (alone Stopped) (own Stopped)) h taken
             (durable_then first events replies history m r mid l cut held),
       );
     }
 
-module _ {D : Type 0} (honest : D → Type 0) (content : D → List ℕ) (left : D → List ℕ → Type 0) (armed : D → Option ℕ) (Cuts : List Pick → D → List ℕ → Type 0)
+module _ {D : Type 0} (honest : D → Type 0) (content : D → List ℕ) (left : D → List ℕ → Type 0) (armed : D → Option ℕ) (moment : D → ℕ) (Cuts : List Pick → D → List ℕ → Type 0)
     (first : First) (events : List (Event Pick)) (replies : List Replied) (history : List Command) (m : Machine) (r : HasRun first events replies history m) (s : IsState m)
     (disk : D) (h : HoldsFor honest content left disk m) (cut : List ℕ) (taken : Cuts (Old ∷ []) disk cut) where
   -- ---- between two calls
@@ -89,19 +102,19 @@ module _ {D : Type 0} (honest : D → Type 0) (content : D → List ℕ) (left :
   in_now x = within first.network first.version history x
 
   pub stop_turn : (next : Machine) (now : List Replied) (history' : List Command) (began : List ℕ) → BeginsAfter m next → StandsAsTold m (Opened next.base_version) cut → now ≡ replies ++ Opened next.base_version ∷ []
-      → history' ≡ history ++ commands_to m next.base_version → began ≡ cut → TurnsTo HasNow armed Cuts (in_now m) Stop replies now (within first.network first.version history' next) began
+      → history' ≡ history ++ commands_to m next.base_version → began ≡ cut → TurnsTo HasNow armed moment Cuts (in_now m) Stop replies now (within first.network first.version history' next) began
   stop_turn next now history' began b stands told left_of same =
       rw (left_of, same) (record {
         told = Opened next.base_version ∷ [];
         replies_are = told;
         does = (next.base_version, opens_then first events replies history m r m (later_none m s) next b, refl);
-        has_cut = cuts honest content left armed Cuts first events replies history m r m (later_none m s) Stop (Opened next.base_version ∷ []) (Opened next.base_version) disk (Old ∷ []) cut (refl, refl) h taken
+        has_cut = cuts honest content left armed moment Cuts first events replies history m r m (later_none m s) Stop (Opened next.base_version ∷ []) (Opened next.base_version) disk (Old ∷ []) cut (refl, refl) h taken
             (opened_then first events replies history m r m (later_none m s) next.base_version cut stands);
       })
 
-  pub stop_last : (now : List Replied) → IsDurableIn m cut → now ≡ replies ++ Stopped ∷ [] → TurnsLast HasNow armed Cuts (in_now m) Stop replies now
+  pub stop_last : (now : List Replied) → IsDurableIn m cut → now ≡ replies ++ Stopped ∷ [] → TurnsLast HasNow armed moment Cuts (in_now m) Stop replies now
   stop_last now held told = record {
     told = Stopped ∷ [];
     replies_are = told;
-    has_cut = (cut, cuts honest content left armed Cuts first events replies history m r m (later_none m s) Stop (Stopped ∷ []) Stopped disk (Old ∷ []) cut (refl, refl) h taken (durable_then first events replies history m r m (later_none m s) cut held));
+    has_cut = (cut, cuts honest content left armed moment Cuts first events replies history m r m (later_none m s) Stop (Stopped ∷ []) Stopped disk (Old ∷ []) cut (refl, refl) h taken (durable_then first events replies history m r m (later_none m s) cut held));
   }

@@ -97,13 +97,13 @@ abbrev pub state_in : {D : Type 0} {s : StoppableGhosts D} {d : Ghosts D} → Fi
 state_in first run = within first.network first.version run.history.items run.life.keeper.machine
 
 -- Where it goes on, the event was one turn of the run more. With a stop it has cut the disk, and the next life began with what it left.
-abbrev pub CutsWith : {D : Type 0} {s : StoppableGhosts D} {d : Ghosts D} → (D → Type 0) → (D → List ℕ) → (D → Machine → Type 0) → (D → Option ℕ) → (List Pick → D → List ℕ → Type 0) → Event Pick → Run D s d → Result (Run D s d) (Rehearsal D) → Type 0
-CutsWith honest content Has armed Cuts event run result =
+abbrev pub CutsWith : {D : Type 0} {s : StoppableGhosts D} {d : Ghosts D} → (D → Type 0) → (D → List ℕ) → (D → Machine → Type 0) → (D → Option ℕ) → (D → ℕ) → (List Pick → D → List ℕ → Type 0) → Event Pick → Run D s d → Result (Run D s d) (Rehearsal D) → Type 0
+CutsWith honest content Has armed moment Cuts event run result =
     (first : First) (done : List (Event Pick)) → HasCome honest content first done run
-    → IfOk result (λ next. TurnsTo Has armed Cuts (state_in first run) event run.replies.items next.replies.items (state_in first next) (content next.life.keeper.disk))
+    → IfOk result (λ next. TurnsTo Has armed moment Cuts (state_in first run) event run.replies.items next.replies.items (state_in first next) (content next.life.keeper.disk))
 
 -- where it ends, the event was its last turn, and has cut the disk
-abbrev pub CutsLast : {D : Type 0} {s : StoppableGhosts D} {d : Ghosts D} → (D → Type 0) → (D → List ℕ) → (D → Machine → Type 0) → (D → Option ℕ) → (List Pick → D → List ℕ → Type 0) → Event Pick → Run D s d → Result (Run D s d) (Rehearsal D) → Type 0
-CutsLast honest content Has armed Cuts event run result =
+abbrev pub CutsLast : {D : Type 0} {s : StoppableGhosts D} {d : Ghosts D} → (D → Type 0) → (D → List ℕ) → (D → Machine → Type 0) → (D → Option ℕ) → (D → ℕ) → (List Pick → D → List ℕ → Type 0) → Event Pick → Run D s d → Result (Run D s d) (Rehearsal D) → Type 0
+CutsLast honest content Has armed moment Cuts event run result =
     (first : First) (done : List (Event Pick)) → HasCome honest content first done run
-    → IfErr result (λ ended. TurnsLast Has armed Cuts (state_in first run) event run.replies.items ended.replies.items)
+    → IfErr result (λ ended. TurnsLast Has armed moment Cuts (state_in first run) event run.replies.items ended.replies.items)

@@ -125,6 +125,7 @@ impl<D: Stoppable> Life<D> {
         ensures delta { self.new.delta ≡ self.old.delta }
         ensures given { self.new.keeper.given ≡ self.old.keeper.given }
         ensures counted { D.failures self.new.keeper.disk ≡ failures_by result (D.failures self.old.keeper.disk) }
+        ensures later { CameTidy D.honest D.content self.old.keeper.given → D.moment self.old.keeper.disk ≤ D.moment self.new.keeper.disk }
     {
         match writing {
             Writing::Flush => told_version(&self.keeper.flush()),
@@ -139,6 +140,7 @@ impl<D: Stoppable> Life<D> {
         ensures delta { self.new.delta ≡ self.old.delta }
         ensures given { self.new.keeper.given ≡ self.old.keeper.given }
         ensures counted { D.failures self.new.keeper.disk ≡ failures_by result (D.failures self.old.keeper.disk) }
+        ensures later { CameTidy D.honest D.content self.old.keeper.given → D.moment self.old.keeper.disk ≤ D.moment self.new.keeper.disk }
     {
         told_part(&self.keeper.checkpoint_step(pages.number()))
     }

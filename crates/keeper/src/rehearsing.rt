@@ -11,7 +11,7 @@ ghost use Rattle.store.specs.State.{CameTidy, is_calm};
 ghost use Rattle.store.specs.Opening.{IsPassing, StandsForSome};
 ghost use Rattle.machine.specs.declared.events.Event.TheVariants.{Stop};
 ghost use Rattle.machine.specs.declared.events.Replied.TheVariants.{Refused, Opened, Stopped};
-ghost use Rattle.keeper.specs.Cutting.{IsCut, picks_taken, picks_of, HoldsFor, StandsAsTold, HaveCut};
+ghost use Rattle.keeper.specs.Cutting.{IsCut, picks_taken, picks_of, call_of, HoldsFor, StandsAsTold, HaveCut};
 ghost use Rattle.keeper.specs.Failures.{EndsAsTold};
 ghost use Rattle.keeper.specs.Rehearsing.{HasPagesOfNetwork, BeginsAfter, first_of};
 ghost use Rattle.keeper.specs.Running.{Continues, LeavesDurable, HasLivedTo, HasToldForGood, IsToldOrFailed, IsPassingEnd, OfEachLeft, OfEachHalted, OfEachWithin, HasHaltedSo, FailsAtEnd, GoesOnWith, EndsWith, FailsWith, CutsWith, CutsLast};
@@ -263,8 +263,8 @@ impl<D: Stoppable> Run<D> {
         // The disk failed as the replies tell.
         ensures counted { FailsWith D.failures Stop self result }
         // It has cut the disk by its picks.
-        ensures cut { CutsWith D.honest D.content (HoldsFor D.honest D.content D.left) D.armed (IsCut D.synced D.is_unsynced D.content) Stop self result }
-        ensures cut_last { CutsLast D.honest D.content (HoldsFor D.honest D.content D.left) D.armed (IsCut D.synced D.is_unsynced D.content) Stop self result }
+        ensures cut { CutsWith D.honest D.content (HoldsFor D.honest D.content D.left) D.armed D.moment (IsCut D.synced D.is_unsynced D.content) Stop self result }
+        ensures cut_last { CutsLast D.honest D.content (HoldsFor D.honest D.content D.left) D.armed D.moment (IsCut D.synced D.is_unsynced D.content) Stop self result }
         ensures early { IfErr result (λ ended. ended.ended ≢ None) }
         ensures honest { CameTidy D.honest D.content self.life.keeper.given → IfErr result (λ ended. D.honest ended.disk) }
     {
@@ -292,15 +292,17 @@ impl<D: Stoppable> Run<D> {
         // The disk failed as the replies tell.
         ensures counted { OfEachWithin writing (λ event. FailsWith D.failures event self result) }
         // It has cut the disk by its picks.
-        ensures cut { OfEachWithin writing (λ event. picks_of event ≡ Some (picks_taken picks.now)
-            → CutsWith D.honest D.content (HoldsFor D.honest D.content D.left) D.armed (IsCut D.synced D.is_unsynced D.content) event self result) }
-        ensures cut_last { OfEachWithin writing (λ event. picks_of event ≡ Some (picks_taken picks.now)
-            → CutsLast D.honest D.content (HoldsFor D.honest D.content D.left) D.armed (IsCut D.synced D.is_unsynced D.content) event self result) }
+        ensures cut { OfEachWithin writing (λ event. call_of event ≡ Some call → picks_of event ≡ Some (picks_taken picks.now)
+            → CutsWith D.honest D.content (HoldsFor D.honest D.content D.left) D.armed D.moment (IsCut D.synced D.is_unsynced D.content) event self result) }
+        ensures cut_last { OfEachWithin writing (λ event. call_of event ≡ Some call → picks_of event ≡ Some (picks_taken picks.now)
+            → CutsLast D.honest D.content (HoldsFor D.honest D.content D.left) D.armed D.moment (IsCut D.synced D.is_unsynced D.content) event self result) }
         ensures early { IfErr result (λ ended. ended.ended ≢ None) }
         ensures honest { CameTidy D.honest D.content self.life.keeper.given → IfErr result (λ ended. D.honest ended.disk) }
     {
         let mut run = self;
         run.life.arm(call);
+        // The keeper tells what its armed disk holds.
+        let _ = run.life.keeper.durable();
         let written = run.life.write(writing);
         let (mut halted, came) = run.halt(picks);
         tell_write(&mut halted.replies, came, written);
@@ -325,8 +327,8 @@ impl<D: Stoppable> Run<D> {
         // The disk failed as the replies tell.
         ensures counted { FailsWith D.failures event.now self result }
         // With a stop it has cut the disk by its picks.
-        ensures cut { CutsWith D.honest D.content (HoldsFor D.honest D.content D.left) D.armed (IsCut D.synced D.is_unsynced D.content) event.now self result }
-        ensures cut_last { CutsLast D.honest D.content (HoldsFor D.honest D.content D.left) D.armed (IsCut D.synced D.is_unsynced D.content) event.now self result }
+        ensures cut { CutsWith D.honest D.content (HoldsFor D.honest D.content D.left) D.armed D.moment (IsCut D.synced D.is_unsynced D.content) event.now self result }
+        ensures cut_last { CutsLast D.honest D.content (HoldsFor D.honest D.content D.left) D.armed D.moment (IsCut D.synced D.is_unsynced D.content) event.now self result }
         ensures early { IfErr result (λ ended. ended.ended ≢ None) }
         ensures honest { CameTidy D.honest D.content self.life.keeper.given → IfErr result (λ ended. D.honest ended.disk) }
     {
@@ -375,9 +377,10 @@ impl<D: Stoppable> Run<D> {
     }
 }
 
-/// Runs a script's events over lives with stops, on a store that is not broken. It really drives the disk: a stop arms it, cuts it by its picks,
-/// and opens what is left. `delta`, 1 to 2147483647, is the width of the buckets of each view's searches; where none is given it is the
-/// network's default. A stop within a call of number 0 comes behind its event, and one without picks takes the old bytes.
+/// Runs a script's events over lives with stops, on a store that is not broken. It really drives the disk: a stop within an event
+/// arms it before the event, and each stop cuts it by its picks and opens what is left. `delta`, 1 to 2147483647, is the width of the buckets of
+/// each view's searches; where none is given it is the network's default. A stop within a call of number 0 arms nothing, so it comes behind its
+/// event, and one without picks takes the old bytes.
 ///
 /// Each event has one reply, and a stop that comes behind its event has a second one. A view that is kept aside and all pending commands are
 /// lost by a stop. The run ends before an event for want of memory (11), or with a stop whose store is not opened, or whose first view is not
@@ -400,9 +403,11 @@ pub fn rehearse<R: Threads, D: Stoppable>(
     // its number; and each answered query names a version up to it, and is right in that version's network.
     ensures told { CameTidy D.honest D.content store.given → HasToldForGood D.left (first_of store) events.now result }
     // Each stop of the events that were run cut a disk that held what the run's state there allows, by its picks: the i-th byte, ascending, that was not
-    // synced took pick i mod n. What it left stands for the network at the version that the stop's own reply tells.
+    // synced took pick i mod n. What it left stands for the network at the version that the stop's own reply tells. Before an event with a stop
+    // within, the call that it names was armed, on a disk that held what the state there allows. The armed call has come where no reply but the
+    // stop's own is told, and has not where the event's own is 43.
     ensures cut { CameTidy D.honest D.content store.given
-        → HaveCut (HoldsFor D.honest D.content D.left) D.armed (IsCut D.synced D.is_unsynced D.content) (first_of store) events.now result.replies.items result.ended }
+        → HaveCut (HoldsFor D.honest D.content D.left) D.armed D.moment (IsCut D.synced D.is_unsynced D.content) (first_of store) events.now result.replies.items result.ended }
     // The disk that is handed back keeps the disk model.
     ensures honest { CameTidy D.honest D.content store.given → D.honest result.disk }
     // The width that was given is told back.

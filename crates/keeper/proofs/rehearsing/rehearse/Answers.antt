@@ -48,7 +48,7 @@ loop-event-init g c =
                 (subst (λ (m : Machine). HasRun {P = Pick} first [] [] [] m) (sym begins) (run_none {P = Pick} first c.in-Ok.ensures.room.version_to c.in-Ok.ensures.room.unchecked_to slot));
           };
       cut = λ came.
-          cut_none _ _ _ first c.new-3.result.items _ c.new-3.ensures.items
+          cut_none _ _ _ _ first c.new-3.result.items _ c.new-3.ensures.items
           (ap (λ (cs : List Command). in_life first.network first.version cs c.in-Ok.life.keeper.machine) c.new-2.ensures.items ∙ ap (in_life first.network first.version []) begins);
       delta = c.in-Ok.ensures.delta;
       counted = fails_as {P = Pick} [] [] c.new-3.result.items (g.D.Disk.failures store.disk) _ c.new-3.ensures.items (rw c.in-Ok.ensures.disk (fails_none {P = Pick} (g.D.Disk.failures store.disk)));
@@ -74,10 +74,10 @@ loop-event-preserved g c =
           let was = c.loop-event.invariant.goes came in
           let now : IsGoing {P = Pick} g.D.Disk.honest g.D.Disk.content first (take i events) c.grow.new.self.replies.items c.grow.new.self.history.items c.grow.new.self.life.keeper =
           rw (c.grow.ensures.life, c.grow.ensures.replies, c.grow.ensures.history) was in
-          let so_far : CutSoFar (HoldsFor g.D.Disk.honest g.D.Disk.content g.D.Disk.left) g.D.Stoppable.armed (IsCut g.D.Stoppable.synced g.D.Stoppable.is_unsynced g.D.Disk.content) first (take i events) c.grow.new.self.replies.items
+          let so_far : CutSoFar (HoldsFor g.D.Disk.honest g.D.Disk.content g.D.Disk.left) g.D.Stoppable.armed g.D.Disk.moment (IsCut g.D.Stoppable.synced g.D.Stoppable.is_unsynced g.D.Disk.content) first (take i events) c.grow.new.self.replies.items
           (in_life first.network first.version c.grow.new.self.history.items c.grow.new.self.life.keeper.machine) =
           rw (c.grow.ensures.life, c.grow.ensures.replies, c.grow.ensures.history) (c.loop-event.invariant.cut came) in
-          rw more (cut_more _ _ _ first (take i events) c.grow.new.self.replies.items _ so_far item _ _ _ (c.in-Ok-next.ensures.cut first (take i events) now));
+          rw more (cut_more _ _ _ _ first (take i events) c.grow.new.self.replies.items _ so_far item _ _ _ (c.in-Ok-next.ensures.cut first (take i events) now));
       delta = c.in-Ok-next.ensures.delta ∙ ap (λ l. l.delta) c.grow.ensures.life ∙ c.loop-event.invariant.delta;
       counted =
           rw more (c.in-Ok-next.ensures.counted (g.D.Disk.failures store.disk) (take i events) (rw (c.grow.ensures.life, c.grow.ensures.replies) c.loop-event.invariant.counted));
@@ -185,7 +185,7 @@ returns-clause-failed g c =
 pub returns-in-Err-clause-cut : goal.returns-in-Err-clause-cut
 returns-in-Err-clause-cut g c came =
     let first : First = first_of c.args.store in
-    rw c.new-in-Err.ensures.items (cut_early _ _ _ first [] [] (first_state first) (cut_none _ _ _ first [] (first_state first) refl refl) c.args.events.now (Some OutOfMemory) (λ never. cc))
+    rw c.new-in-Err.ensures.items (cut_early _ _ _ _ first [] [] (first_state first) (cut_none _ _ _ _ first [] (first_state first) refl refl) c.args.events.now (Some OutOfMemory) (λ never. cc))
 
 pub returns-then-is_err-clause-cut : goal.returns-then-is_err-clause-cut
 returns-then-is_err-clause-cut g c came =
@@ -194,8 +194,8 @@ returns-then-is_err-clause-cut g c came =
     let i = c.loop-event.event-index in
     let run = c.loop-event.run in
     rw (c.end.ensures.ended, c.end.ensures.replies, c.grow.ensures.replies)
-    (cut_of _ _ _ first (take i events ++ drop i events) events run.replies.items (Some OutOfMemory) (take-append-drop i events)
-    (cut_early _ _ _ first (take i events) run.replies.items _ (c.loop-event.invariant.cut came) (drop i events) (Some OutOfMemory) (λ never. cc)))
+    (cut_of _ _ _ _ first (take i events ++ drop i events) events run.replies.items (Some OutOfMemory) (take-append-drop i events)
+    (cut_early _ _ _ _ first (take i events) run.replies.items _ (c.loop-event.invariant.cut came) (drop i events) (Some OutOfMemory) (λ never. cc)))
 
 pub returns-in-Err-next-clause-cut : goal.returns-in-Err-next-clause-cut
 returns-in-Err-next-clause-cut g c came =
@@ -208,13 +208,13 @@ returns-in-Err-next-clause-cut g c came =
     let was = c.loop-event.invariant.goes came in
     let now : IsGoing {P = Pick} g.D.Disk.honest g.D.Disk.content first (take i events) c.grow.new.self.replies.items c.grow.new.self.history.items c.grow.new.self.life.keeper =
     rw (c.grow.ensures.life, c.grow.ensures.replies, c.grow.ensures.history) was in
-    let so_far : CutSoFar (HoldsFor g.D.Disk.honest g.D.Disk.content g.D.Disk.left) g.D.Stoppable.armed (IsCut g.D.Stoppable.synced g.D.Stoppable.is_unsynced g.D.Disk.content) first (take i events) c.grow.new.self.replies.items
+    let so_far : CutSoFar (HoldsFor g.D.Disk.honest g.D.Disk.content g.D.Disk.left) g.D.Stoppable.armed g.D.Disk.moment (IsCut g.D.Stoppable.synced g.D.Stoppable.is_unsynced g.D.Disk.content) first (take i events) c.grow.new.self.replies.items
     (in_life first.network first.version c.grow.new.self.history.items c.grow.new.self.life.keeper.machine) =
     rw (c.grow.ensures.life, c.grow.ensures.replies, c.grow.ensures.history) (c.loop-event.invariant.cut came) in
     let all : (take i events ++ item ∷ []) ++ drop (i + 1) events ≡ events = ap (λ (es : List (Event Pick)). es ++ drop (i + 1) events) (sym more) ∙ take-append-drop (i + 1) events in
     let ended = c.in-Err-next.rehearsal in
-    cut_of _ _ _ first ((take i events ++ item ∷ []) ++ drop (i + 1) events) events ended.replies.items ended.ended all
-    (cut_last _ _ _ first (take i events) c.grow.new.self.replies.items _ so_far item ended.replies.items (drop (i + 1) events) ended.ended (c.in-Err-next.ensures.cut_last first (take i events) now) c.in-Err-next.ensures.early)
+    cut_of _ _ _ _ first ((take i events ++ item ∷ []) ++ drop (i + 1) events) events ended.replies.items ended.ended all
+    (cut_last _ _ _ _ first (take i events) c.grow.new.self.replies.items _ so_far item ended.replies.items (drop (i + 1) events) ended.ended (c.in-Err-next.ensures.cut_last first (take i events) now) c.in-Err-next.ensures.early)
 
 pub returns-clause-cut : goal.returns-clause-cut
 returns-clause-cut g c came =
@@ -224,7 +224,7 @@ returns-clause-cut g c came =
     let run = c.loop-event.run in
     let past : length events ≤ i = c.loop-event-test.false in
     rw c.end-2.ensures.replies
-    (cut_of _ _ _ first (take i events) events run.replies.items _ (take_all i events past) (cut_whole _ _ _ first (take i events) run.replies.items _ (c.loop-event.invariant.cut came) _))
+    (cut_of _ _ _ _ first (take i events) events run.replies.items _ (take_all i events past) (cut_whole _ _ _ _ first (take i events) run.replies.items _ (c.loop-event.invariant.cut came) _))
 
 -- ---- the disk model
 pub returns-then-is_err-clause-honest : goal.returns-then-is_err-clause-honest

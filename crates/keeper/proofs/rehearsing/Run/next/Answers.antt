@@ -2,7 +2,7 @@ use Rattle.std.proofs.Common.{◌≡◌, ◌++◌, ◌∷◌, [], false, refl, s
 use Rattle.disk.specs.declared.stoppable.Pick.{Pick}
 use Rattle.store.specs.State.{CameTidy}
 use Rattle.keeper.specs.Rehearsing.{is_stop, within_of}
-use Rattle.keeper.specs.Cutting.{picks_of}
+use Rattle.keeper.specs.Cutting.{picks_of, call_of}
 use Rattle.keeper.proofs.Cut.{no_picks}
 use Rattle.keeper.proofs.Failing.{fails_more, fails_as, one_reply}
 use Rattle.keeper.proofs.LivesInRun.{does_size, does_in}
@@ -36,12 +36,12 @@ returns-in-Stop-clause-cut_last g c first done going = rw c.in-Stop.is (c.stop.e
 pub returns-in-StopWithin-clause-cut : goal.returns-in-StopWithin-clause-cut
 returns-in-StopWithin-clause-cut g c first done going =
     let list : c.deref.result.now ≡ c.in-StopWithin.picks.items = search rules in
-    c.stop_within.ensures.cut c.args.event.now (ap (within_of {P = Pick}) c.in-StopWithin.is) (rw list (ap picks_of c.in-StopWithin.is)) first done going
+    c.stop_within.ensures.cut c.args.event.now (ap (within_of {P = Pick}) c.in-StopWithin.is) (ap call_of c.in-StopWithin.is) (rw list (ap picks_of c.in-StopWithin.is)) first done going
 
 pub returns-in-StopWithin-clause-cut_last : goal.returns-in-StopWithin-clause-cut_last
 returns-in-StopWithin-clause-cut_last g c first done going =
     let list : c.deref.result.now ≡ c.in-StopWithin.picks.items = search rules in
-    c.stop_within.ensures.cut_last c.args.event.now (ap (within_of {P = Pick}) c.in-StopWithin.is) (rw list (ap picks_of c.in-StopWithin.is)) first done going
+    c.stop_within.ensures.cut_last c.args.event.now (ap (within_of {P = Pick}) c.in-StopWithin.is) (ap call_of c.in-StopWithin.is) (rw list (ap picks_of c.in-StopWithin.is)) first done going
 
 pub returns-in_default : goal.returns-in_default
 returns-in_default g c =

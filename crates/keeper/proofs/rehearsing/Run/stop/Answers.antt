@@ -74,7 +74,7 @@ returns-clause-cut g c first done going =
     let replies : halted.replies.items ≡ self.replies.items = (let e = c.halt-halted.ensures.replies in cc) in
     let history : halted.history.items ≡ self.history.items = (let e = c.halt-halted.ensures.history in cc) in
     if_ok_five c.resume.result _ _ _ _ _ _
-    (λ x b h t stands same. stop_turn g.D.Disk.honest g.D.Disk.content g.D.Disk.left g.D.Stoppable.armed (IsCut g.D.Stoppable.synced g.D.Stoppable.is_unsynced g.D.Disk.content)
+    (λ x b h t stands same. stop_turn g.D.Disk.honest g.D.Disk.content g.D.Disk.left g.D.Stoppable.armed g.D.Disk.moment (IsCut g.D.Stoppable.synced g.D.Stoppable.is_unsynced g.D.Disk.content)
     first done self.replies.items self.history.items m run c.args.self.life.living.state self.life.keeper.disk (c.halt-halted.ensures.held going.came) (g.D.Disk.content halted.disk) (c.halt-halted.ensures.cut going.came)
     x.life.keeper.machine x.replies.items x.history.items (g.D.Disk.content x.life.keeper.disk) b stands
     (t ∙ ap (λ (rs : List Replied). rs ++ Opened x.life.keeper.machine.base_version ∷ []) replies)
@@ -89,7 +89,7 @@ returns-clause-cut_last g c first done going =
     let is = c.halt-halted.ensures.halted going.came in
     let replies : halted.replies.items ≡ self.replies.items = (let e = c.halt-halted.ensures.replies in cc) in
     if_err_map c.resume.result _ _
-    (λ x t. stop_last g.D.Disk.honest g.D.Disk.content g.D.Disk.left g.D.Stoppable.armed (IsCut g.D.Stoppable.synced g.D.Stoppable.is_unsynced g.D.Disk.content)
+    (λ x t. stop_last g.D.Disk.honest g.D.Disk.content g.D.Disk.left g.D.Stoppable.armed g.D.Disk.moment (IsCut g.D.Stoppable.synced g.D.Stoppable.is_unsynced g.D.Disk.content)
     first done self.replies.items self.history.items m going.run c.args.self.life.living.state self.life.keeper.disk (c.halt-halted.ensures.held going.came) (g.D.Disk.content halted.disk) (c.halt-halted.ensures.cut going.came)
     x.replies.items is.held (t ∙ ap (λ (rs : List Replied). rs ++ Stopped ∷ []) replies))
     c.resume.ensures.stopped

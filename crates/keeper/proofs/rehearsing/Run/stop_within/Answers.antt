@@ -1,18 +1,20 @@
 use Rattle.std.proofs.Common.{◌≡◌, ℕ, ◌-◌, take, ◌++◌, ◌∷◌, [], List, length, Some, refl, sym, ◌∙◌, ap, subst, arith}
-use Rattle.std.specs.Prelude.{IfOk}
+use Rattle.std.specs.Prelude.{◌≢◌, IfOk}
 use Rattle.machine.specs.declared.events.Replied.{Replied}
-use Rattle.machine.specs.declared.events.Replied.TheVariants.{Opened, Stopped}
+use Rattle.machine.specs.declared.events.Replied.TheVariants.{Refused, Opened, Stopped}
 use Rattle.store.specs.State.{CameTidy}
 use Rattle.roadnet.specs.declared.commands.Command.{Command}
+use Rattle.roadnet.specs.declared.refusals.Refusal.TheVariants.{Device}
 use Rattle.machine.specs.Machine.{Machine, commands_to}
 use Rattle.machine.specs.Lives.{Writes}
 use Rattle.keeper.specs.Rehearsing.{HasRun}
-use Rattle.keeper.specs.Cutting.{IsCut}
+use Rattle.keeper.specs.Cutting.{IsCut, HoldsFor}
+use Rattle.keeper.specs.Keeping.{Holds}
 use Rattle.keeper.specs.Failures.{failures_by}
 use Rattle.keeper.proofs.Failing.{match_both, fails_as, ends_told, no_stop_written, stop_told}
 use Rattle.keeper.proofs.LivesInRun.{writes_later, writes_same}
-use Rattle.keeper.proofs.Cut.{came_alone}
-use Rattle.keeper.proofs.Stops.{within_turn, within_last}
+use Rattle.keeper.proofs.Cut.{came_alone, own_failure, armed_so}
+use Rattle.keeper.proofs.Stops.{was_armed, within_turn, within_last}
 use Rattle.keeper.proofs.Runs.{if_ok_both, if_ok_five, if_err_both, if_err_map, run_as, lives_as, durable_front, slot_then, told_of, opened_told, not_opened_told}
 use Rattle.keeper.proofs.rehearsing.Run.stop_within.Goals as goal
 
@@ -93,7 +95,7 @@ returns-clause-counted g c event within before done f =
     c.resume.ensures.counted c.resume.ensures.told c.resume.ensures.stopped
 
 pub returns-clause-cut : goal.returns-clause-cut
-returns-clause-cut g c event within picks first done going =
+returns-clause-cut g c event within names picks first done going =
     let self = c.args.self in
     let m = self.life.keeper.machine in
     let mid = c.write-written.new.self.keeper.machine in
@@ -111,16 +113,24 @@ returns-clause-cut g c event within picks first done going =
     let alone : (last : Replied) → told.told ++ last ∷ [] ≡ last ∷ [] → g.D.Stoppable.armed disk ≡ Some 0 =
     λ last only. came_alone c.halt-halted.result.1 _ self.replies.items c.tell_write.new.replies.items told.told c.write-written.result last c.halt-halted.ensures.came.0
     (λ no. c.tell_write.ensures.behind no ∙ ap (λ (rs : List Replied). rs ++ c.write-written.result ∷ []) replies) told.is only in
+    let own : (last : Replied) → told.told ++ last ∷ [] ≡ Refused Device ∷ last ∷ [] → g.D.Stoppable.armed disk ≢ Some 0 =
+    λ last two. own_failure c.halt-halted.result.1 _ self.replies.items c.tell_write.new.replies.items told.told c.write-written.result last (Refused Device) c.halt-halted.ensures.came.1
+    (λ yes failed. c.tell_write.ensures.within yes failed ∙ replies) (rw replies at c.tell_write.ensures.told) told.is two in
+    let before = c.arm.new.self.keeper.disk in
+    let began = subst (λ (d : g.row.D.Denot). CameTidy g.D.Disk.honest g.D.Disk.content d) (sym c.arm.ensures.given) going.came in
+    let held : HoldsFor g.D.Disk.honest g.D.Disk.content g.D.Disk.left before m = (c.durable.ensures.honest began, subst (λ (x : Machine). Holds (g.D.Disk.content before) (g.D.Disk.left before) x) c.arm.ensures.machine (c.durable.ensures.holds began)) in
+    let was = was_armed g.D.Disk.honest g.D.Disk.content g.D.Disk.left g.D.Stoppable.armed g.D.Disk.moment (IsCut g.D.Stoppable.synced g.D.Stoppable.is_unsynced g.D.Disk.content)
+    first done self.replies.items self.history.items m run mid later c.args.call before disk c.args.self.life.living.state held (λ some. armed_so c.args.call _ _ (c.arm.ensures.armed some)) (c.write-written.ensures.later began) in
     let slot = slot_then first done self.replies.items self.history.items m run mid later in
     if_ok_five c.resume.result _ _ _ _ _ _
-    (λ x b h t stands same. within_turn g.D.Disk.honest g.D.Disk.content g.D.Disk.left g.D.Stoppable.armed (IsCut g.D.Stoppable.synced g.D.Stoppable.is_unsynced g.D.Disk.content)
-    first done self.replies.items self.history.items m run mid later event c.args.writing _ within picks c.tell_write.new.replies.items told disk (c.halt-halted.ensures.held came) (g.D.Disk.content halted.disk) (c.halt-halted.ensures.cut came) alone
+    (λ x b h t stands same. within_turn g.D.Disk.honest g.D.Disk.content g.D.Disk.left g.D.Stoppable.armed g.D.Disk.moment (IsCut g.D.Stoppable.synced g.D.Stoppable.is_unsynced g.D.Disk.content)
+    first done self.replies.items self.history.items m run mid later event c.args.writing _ within c.args.call names picks c.tell_write.new.replies.items told disk (c.halt-halted.ensures.held came) (g.D.Disk.content halted.disk) (c.halt-halted.ensures.cut came) was alone own
     x.life.keeper.machine x.replies.items x.history.items (g.D.Disk.content x.life.keeper.disk) b stands t
     (h ∙ ap (λ (cs : List Command). cs ++ commands_to mid x.life.keeper.machine.base_version) history) same)
     (c.resume.ensures.begins mid there is slot) (c.resume.ensures.history mid there is slot) c.resume.ensures.told (c.resume.ensures.stands mid there is slot) (c.resume.ensures.content there)
 
 pub returns-clause-cut_last : goal.returns-clause-cut_last
-returns-clause-cut_last g c event within picks first done going =
+returns-clause-cut_last g c event within names picks first done going =
     let self = c.args.self in
     let m = self.life.keeper.machine in
     let mid = c.write-written.new.self.keeper.machine in
@@ -137,8 +147,16 @@ returns-clause-cut_last g c event within picks first done going =
     let alone : (last : Replied) → told.told ++ last ∷ [] ≡ last ∷ [] → g.D.Stoppable.armed disk ≡ Some 0 =
     λ last only. came_alone c.halt-halted.result.1 _ self.replies.items c.tell_write.new.replies.items told.told c.write-written.result last c.halt-halted.ensures.came.0
     (λ no. c.tell_write.ensures.behind no ∙ ap (λ (rs : List Replied). rs ++ c.write-written.result ∷ []) replies) told.is only in
-    if_err_map c.resume.result _ _ (λ x t. within_last g.D.Disk.honest g.D.Disk.content g.D.Disk.left g.D.Stoppable.armed (IsCut g.D.Stoppable.synced g.D.Stoppable.is_unsynced g.D.Disk.content)
-    first done self.replies.items self.history.items m run mid later event c.args.writing _ within picks c.tell_write.new.replies.items told disk (c.halt-halted.ensures.held came) (g.D.Disk.content halted.disk) (c.halt-halted.ensures.cut came) alone
+    let own : (last : Replied) → told.told ++ last ∷ [] ≡ Refused Device ∷ last ∷ [] → g.D.Stoppable.armed disk ≢ Some 0 =
+    λ last two. own_failure c.halt-halted.result.1 _ self.replies.items c.tell_write.new.replies.items told.told c.write-written.result last (Refused Device) c.halt-halted.ensures.came.1
+    (λ yes failed. c.tell_write.ensures.within yes failed ∙ replies) (rw replies at c.tell_write.ensures.told) told.is two in
+    let before = c.arm.new.self.keeper.disk in
+    let began = subst (λ (d : g.row.D.Denot). CameTidy g.D.Disk.honest g.D.Disk.content d) (sym c.arm.ensures.given) going.came in
+    let held : HoldsFor g.D.Disk.honest g.D.Disk.content g.D.Disk.left before m = (c.durable.ensures.honest began, subst (λ (x : Machine). Holds (g.D.Disk.content before) (g.D.Disk.left before) x) c.arm.ensures.machine (c.durable.ensures.holds began)) in
+    let was = was_armed g.D.Disk.honest g.D.Disk.content g.D.Disk.left g.D.Stoppable.armed g.D.Disk.moment (IsCut g.D.Stoppable.synced g.D.Stoppable.is_unsynced g.D.Disk.content)
+    first done self.replies.items self.history.items m run mid later c.args.call before disk c.args.self.life.living.state held (λ some. armed_so c.args.call _ _ (c.arm.ensures.armed some)) (c.write-written.ensures.later began) in
+    if_err_map c.resume.result _ _ (λ x t. within_last g.D.Disk.honest g.D.Disk.content g.D.Disk.left g.D.Stoppable.armed g.D.Disk.moment (IsCut g.D.Stoppable.synced g.D.Stoppable.is_unsynced g.D.Disk.content)
+    first done self.replies.items self.history.items m run mid later event c.args.writing _ within c.args.call names picks c.tell_write.new.replies.items told disk (c.halt-halted.ensures.held came) (g.D.Disk.content halted.disk) (c.halt-halted.ensures.cut came) was alone own
     x.replies.items is.held t) c.resume.ensures.stopped
 
 pub returns-clause-honest : goal.returns-clause-honest

@@ -2,13 +2,13 @@
 use Rattle.std.specs.Prelude.{◌≡◌, ◌≢◌, ◌⊎◌, ℕ, List, ◌*◌, ◌+◌, Bool, true, false, ◌&&◌, not, if◌then◌else◌, nat_le, nat_lt, ◌==◌, min, Err}
 use Rattle.roadnet.specs.declared.commands.Command.{Command}
 use Rattle.roadnet.specs.declared.refusals.Refusal.{Refusal}
-use Rattle.roadnet.specs.declared.refusals.Refusal.TheVariants.{OutOfMemory, Device, Broken, Closed}
+use Rattle.roadnet.specs.declared.refusals.Refusal.TheVariants.{OutOfMemory, Device, JournalFull, Broken, Closed}
 use Rattle.history.specs.Origins.{Origin}
 use Rattle.machine.specs.Machine.{Machine, pending, commands_to}
 use Rattle.machine.specs.Calls.{Submits}
 use Rattle.office.specs.Offices.{RunsFrom}
 use Rattle.desk.specs.declared.attempts.Attempt.{Attempt}
-use Rattle.desk.specs.declared.attempts.Attempt.TheVariants.{Done, NoMemory, Failed}
+use Rattle.desk.specs.declared.attempts.Attempt.TheVariants.{Done, NoMemory, Blocked, Failed}
 use Rattle.desk.specs.declared.locked.FlusherTurn.{FlusherTurn}
 use Rattle.desk.specs.declared.locked.FlusherTurn.TheVariants.{Rest, Flush, Checkpoint, End}
 use Rattle.desk.specs.declared.locked.BuilderTurn.{BuilderTurn}
@@ -32,23 +32,26 @@ abbrev pub builder_turn_of : Machine → Bool → BuilderTurn
 builder_turn_of m flusher_ended =
     if m.shown == m.durable then (if flusher_ended then end else rest) else Build m.durable
 
--- what a call came to that was refused so: it found no memory, or the disk has failed, or there was nothing to do
+-- what a call came to that was refused so: it found no memory, or no free page of the journal, or the disk has failed, or there was nothing to do
 abbrev pub attempt_of : Refusal → Attempt
 attempt_of OutOfMemory = NoMemory
+attempt_of JournalFull = Blocked
 attempt_of Device = Failed
 attempt_of Broken = Failed
 attempt_of _ = Done
 
--- how many attempts in a row found no memory, behind this one
+-- how many attempts in a row found no memory, after this one: a full journal neither ends the row nor is one of it
 abbrev pub misses_after : ℕ → Attempt → ℕ
 misses_after misses Done = 0
 misses_after misses NoMemory = min (misses + 1) 4294967295
+misses_after misses Blocked = misses
 misses_after misses Failed = misses
 
 -- a thread goes on, unless three attempts in a row found no memory, or the disk has failed
 abbrev pub goes_on_after : ℕ → Attempt → Bool
 goes_on_after misses Done = true
 goes_on_after misses NoMemory = nat_lt (misses + 1) 3
+goes_on_after misses Blocked = true
 goes_on_after misses Failed = false
 
 -- Who settles this number waits: it is not durable, and may still become so.

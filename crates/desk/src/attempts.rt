@@ -14,6 +14,8 @@ pub(crate) enum Attempt {
     Done,
     /// No memory was found, and nothing has changed.
     NoMemory,
+    /// The journal had no free page, and nothing has changed: a step of a checkpoint comes first.
+    Blocked,
     /// The disk has failed: there is nothing more to do.
     Failed,
 }
@@ -24,6 +26,7 @@ pub(crate) fn attempt_of(refusal: Refusal) -> Attempt
 {
     match refusal {
         Refusal::OutOfMemory => Attempt::NoMemory,
+        Refusal::JournalFull => Attempt::Blocked,
         Refusal::Device | Refusal::Broken => Attempt::Failed,
         _ => Attempt::Done,
     }
@@ -43,7 +46,8 @@ impl Misses {
         Misses { count: 0 }
     }
 
-    /// Counts an attempt, and tells whether the thread goes on.
+    /// Counts an attempt, and tells whether the thread goes on. One that was blocked counts for nothing: the step behind it may find no
+    /// memory either, and then the thread is to end after three of these.
     pub(crate) fn goes_on(&mut self, attempt: Attempt) -> bool
         ensures count { self.new.count ≡ misses_after self.old.count attempt }
         ensures goes_on { result ≡ goes_on_after self.old.count attempt }
@@ -57,6 +61,7 @@ impl Misses {
                 self.count = self.count.saturating_add(1);
                 self.count < MOST_MISSES
             }
+            Attempt::Blocked => true,
             Attempt::Failed => false,
         }
     }

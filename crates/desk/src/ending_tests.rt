@@ -1,5 +1,5 @@
 // How a desk ends: let go, with a failed disk, or with a thread that gave up.
-ghost use Rattle.std.specs.Prelude.{◌≡◌, true};
+ghost use Rattle.std.specs.Prelude.{◌≡◌, ◌≤◌, true};
 ghost use Rattle.store.specs.State.{CameTidy, is_calm};
 ghost use Rattle.desk.specs.Openings.{IsNewDesk};
 
@@ -165,15 +165,30 @@ fn miss_three_steps<
     ended(desk, told)
 }
 
+/// The same of a desk of a new store with so many journal pages, whose flushes find memory as these flags say.
+fn miss_beside<R: Threads + Wait + Copy + Send + Sync + 'static>(
+    rt: R,
+    alloc: Global,
+    journal_pages: u32,
+    flushes: [bool; 3],
+) -> Result<(Told, usize), Refusal>
+    requires some { 1 ≤ journal_pages }
+    requires few { journal_pages ≤ 65536 }
+{
+    let store = store_of_six(alloc, &[3], journal_pages)?;
+    let history = History::new(store.network(), store.version());
+    let gate = short_gate(flushes, [true; 3], [false; 3]);
+    miss_three_steps::<Brand, _, _, _>(rt, alloc, history, store, gate)
+}
+
+/// The second command may come before the third step. Its flush then finds no memory either, or no free page of the journal.
 #[test]
 fn flusher_ends_after_three_missed_steps(rt: HostRuntime) -> Result<(), Fail> {
-    let alloc = rt.alloc();
-    let store = store_of_six(alloc, &[3], 2)?;
-    let history = History::new(store.network(), store.version());
-    // The second command may come before the third step: its flush finds no memory either.
-    let gate = short_gate([true, false, false], [true; 3], [false; 3]);
-    let told = miss_three_steps::<Brand, _, _, _>(rt, alloc, history, store, gate)?;
-    assert_eq!(rt; told, ((Err(Refusal::Closed), Err(Refusal::Closed)), 2));
+    let ended = ((Err(Refusal::Closed), Err(Refusal::Closed)), 2);
+    let told = miss_beside(rt, rt.alloc(), 2, [true, false, false])?;
+    assert_eq!(rt; told, ended);
+    let told = miss_beside(rt, rt.alloc(), 1, [true; 3])?;
+    assert_eq!(rt; told, ended);
     Ok(())
 }
 

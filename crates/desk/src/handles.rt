@@ -91,6 +91,8 @@ impl<N: Naming, D: Disk + Drop, G: Gate + Drop, R: Threads + Wait + Copy> Handle
     pub(crate) fn close(self, threads: Started) -> Result<Closed<D>, Refusal>
         ensures origin { IfOk result (λ closed. closed.whole.origin ≡ N.origin) }
         ensures causes { IfErr result (λ refusal. refusal ≡ closed) }
+        // The disk keeps the disk model.
+        ensures honest { N.came_tidy → IfOk result (λ closed. D.honest closed.disk) }
         // What a stop may leave of the disk stands for the network after a beginning of the history, with all that was acknowledged or shown.
         ensures left { N.came_tidy → IfOk result (λ closed. AreAmong (D.left closed.disk) (KeepsDesk closed.whole closed.shown closed.journal_pages)) }
     {

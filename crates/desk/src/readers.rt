@@ -8,6 +8,7 @@ ghost use Rattle.desk.specs.Readings.{Reading, IsViewAfter, HasSeen};
 
 use crate::pins::Pinned;
 use crate::sights::Sight;
+use history::Front;
 use office::Naming;
 use published::Shown;
 use roadnet::{OutOfMemory, Refusal};
@@ -53,6 +54,13 @@ impl<N: Naming> Reader<N> {
             sight: Sight::new(alloc, view),
             of: PhantomData,
         })
+    }
+
+    /// The beginning of the desk's history that it has seen or was told of.
+    pub fn known(&self) -> &Front
+        ensures { result.now ≡ self.now.known }
+    {
+        self.reader.known()
     }
 
     /// Looks at the view that is shown. The commands after which it stands begin with all that the reader has seen and was told of, and the

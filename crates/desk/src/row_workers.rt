@@ -5,7 +5,8 @@ ghost use Rattle.rows.specs.Views.{AreLandmarkRows, IsRowAt};
 ghost use Rattle.desk.specs.Shares.{share_of, AreRowsOf, AreDealt};
 
 use crate::gates::Gate;
-use relax::{CHUNK, Crew};
+use deltastep::{RowError, Workspace, row_in};
+use relax::{CHUNK, Crew, Team};
 use roadnet::{Network, OutOfMemory};
 use rows::Row;
 use snapshot::Snapshot;
@@ -24,6 +25,30 @@ pub(crate) struct RowJob<'a, G> {
     pub(crate) workers: u32,
 }
 
+impl<G> RowJob<'_, G> {
+    /// The row of one landmark. The search takes up what an earlier one left in the workspace, and leaves its own memory there.
+    fn row_of<T: Team>(
+        &self,
+        landmark: u32,
+        team: &T,
+        workspace: &mut Workspace,
+    ) -> Result<Row, OutOfMemory>
+        requires snapshot { IsSnapshotOf self.now.network.now self.now.snapshot.now }
+        requires node { (1 ≤ landmark) × (landmark ≤ self.now.snapshot.now.nodes) }
+        ensures landmark { IfOk result (λ row. row.landmark ≡ landmark) }
+        ensures right { IfOk result (IsRowAt self.now.version self.now.network.now) }
+    {
+        match row_in(self.alloc, self.snapshot, landmark, team, workspace) {
+            Ok(distances) => Ok(Row {
+                landmark,
+                version: self.version,
+                distances,
+            }),
+            Err(RowError::OutOfMemory) => Err(OutOfMemory),
+        }
+    }
+}
+
 impl<G: Gate> RowJob<'_, G> {
     /// The rows of one worker's landmarks, in their order: of so many workers, the one of this number, from 0 on, has the landmark at
     /// that place and each `workers`-th behind it.
@@ -34,6 +59,7 @@ impl<G: Gate> RowJob<'_, G> {
         ensures { IfOk result (λ rows. AreRowsOf self.now.version self.now.network.now (share_of self.now.workers worker self.now.network.now.landmarks) rows.items) }
     {
         let crew = Crew::new(rt, CHUNK);
+        let mut workspace = Workspace::new();
         let mut rows = VecDeque::new(self.alloc);
         let mut passed = worker;
         for landmark in self.network.landmarks() {
@@ -43,10 +69,7 @@ impl<G: Gate> RowJob<'_, G> {
             }
             passed = self.workers - 1;
             self.gate.before_row(worker + 1, *landmark);
-            let row = match Row::build(self.alloc, self.version, self.snapshot, *landmark, &crew) {
-                Ok(row) => row,
-                Err(error) => return Err(error),
-            };
+            let row = self.row_of(*landmark, &crew, &mut workspace)?;
             if rows.push_back(row).is_err() {
                 return Err(OutOfMemory);
             }

@@ -1,5 +1,5 @@
 // An office closed.
-ghost use Rattle.std.specs.Prelude.{◌≡◌, ◌≤◌, List, take, length, IfOk, IfErr};
+ghost use Rattle.std.specs.Prelude.{◌≡◌, ◌<◌, ◌≤◌, List, take, length, IfOk, IfErr, MatchBool};
 ghost use Rattle.std.proofs.Props.{props};
 ghost use Rattle.disk.specs.Contents.{AreAmong};
 ghost use mathlib.Core.List.{IsPrefix};
@@ -12,7 +12,7 @@ ghost use Rattle.office.specs.Left.{KeepsDesk, KeepsSeen};
 use crate::naming::Naming;
 use crate::offices::Office;
 use disk::Disk;
-use history::{Settled, Whole};
+use history::{Front, Settled, Whole};
 use published::{Reader, Shown};
 use roadnet::{Command, Refusal};
 use std::sync::Wait;
@@ -48,6 +48,8 @@ impl<N: Naming, D: Disk> Office<N, D> {
         ensures disk { IfOk result (λ closed. closed.disk ≡ self.disk) }
         ensures pages { IfOk result (λ closed. closed.journal_pages ≡ self.machine.sizes.journal_pages) }
         ensures causes { IfErr result (λ refusal. refusal ≡ history_closed) }
+        // The disk keeps the disk model.
+        ensures honest { N.came_tidy → IfOk result (λ closed. D.honest closed.disk) }
         // What a stop may leave of the disk stands for the network after a beginning of the history, with all that was acknowledged or shown.
         ensures left { N.came_tidy → IfOk result (λ closed. AreAmong (D.left closed.disk) (KeepsDesk closed.whole closed.shown closed.journal_pages)) }
     {
@@ -86,6 +88,14 @@ impl<D: Disk> Closed<D> {
         ensures kept { (kept : List Accepted) → KeepsSeen self.now.whole self.now.shown kept → IsAt self.now.whole.origin.version kept receipt.now.ticket }
     {
         self.whole.confirm(receipt)
+    }
+
+    /// Whether what was shown last begins with these commands, a beginning of this desk's history. Else it is shorter. It takes no memory.
+    pub fn has_shown(&self, known: &Front) -> bool
+        requires { known.now.origin ≡ self.now.whole.origin }
+        ensures { MatchBool result (IsPrefix known.now.commands self.now.shown.commands) (length self.now.shown.commands < length known.now.commands) }
+    {
+        known.begins(self.shown.commands())
     }
 
     /// Tells a reader of this desk, whose list is not longer, what was shown last. Then it knows a beginning of the history.

@@ -3,7 +3,6 @@ use Rattle.std.specs.Prelude.{All}
 use Rattle.std.proofs.Math.Seq.{append_snoc}
 use Rattle.std.proofs.lemmas.List.{map-append}
 use Rattle.std.proofs.lemmas.List.Elements.{All-push}
-use Rattle.roadnet.specs.Walks.{RowOf}
 use Rattle.rows.specs.declared.landmark_rows.Row.{Row}
 use Rattle.rows.specs.Views.{IsRowAt}
 use Rattle.desk.specs.Shares.{share_of}
@@ -31,15 +30,12 @@ loop-landmark-preserved g c =
     let none : c.loop-landmark.passed ≡ 0 = omega arith in
     let landmarks = c.landmarks-landmark-items.result.now in
     let old = c.loop-landmark.rows.items in
-    let row = c.in-Ok.row in
+    let row = c.in_ok-row.row in
     let i = c.loop-landmark.landmark-index in
     let behind : List ℕ = share_of job.workers (job.workers - 1) (drop (i + 1) landmarks) in
     let pushed : c.push_back.new.self.items ≡ old ++ row ∷ [] = search rules in
     let here : row.landmark ≡ get_or landmarks i 0 = search rules in
-    let made : IsRowAt job.version job.network.now row = record {
-      made_for = c.in-Ok.ensures.version;
-      distances = subst (λ (landmark : ℕ). RowOf job.network.now landmark row.distances) (sym c.in-Ok.ensures.landmark) (c.in-Ok.ensures.distances job.network.now c.requires.snapshot);
-    } in
+    let made : IsRowAt job.version job.network.now row = c.in_ok-row.ensures.right in
     record {
       shared = ap (λ (rows : List Row). map (λ (r : Row). r.landmark) rows ++ behind) pushed
           ∙ ap (λ (ls : List ℕ). ls ++ behind) (map-append (λ (r : Row). r.landmark) old (row ∷ []))

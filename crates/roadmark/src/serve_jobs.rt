@@ -11,7 +11,7 @@ ghost use Rattle.store.specs.State.{CameTidy, StandsAt, is_calm};
 ghost use Rattle.office.specs.Left.{KeepsDesk};
 ghost use Rattle.desk.specs.Openings.{IsNewDesk, IsUnstarted};
 ghost use Rattle.sessions.specs.Told.{CountsRead};
-ghost use Rattle.sessions.specs.Turns.{Serves};
+ghost use Rattle.sessions.specs.Turns.{Serves, IsKept};
 ghost use Rattle.roadmark.specs.Words.{IsWorkers};
 
 use crate::files::{BUFFER, buffered, open_store};
@@ -30,9 +30,10 @@ use std::sync::Wait;
 use std::thread::Threads;
 use store::{Store, open};
 
-/// A session over an opened store: what it came to, and what is left of its desk, which is closed behind it however it ended.
+/// A session over an opened store: what it came to, and what is left of its desk, which is closed after it however it ended.
 ///
-/// Refused is what no desk is started for: want of memory (11) and of threads (63). A desk that can't be closed (61) doesn't come.
+/// Refused is what no desk is started for: want of memory (11) and of threads (63). A desk that can't be closed, or showed less than the session
+/// has seen (61), doesn't come.
 fn serve_store<
     N: Naming + Send + Sync + 'static,
     D: Disk + Drop + Send + 'static,
@@ -53,22 +54,28 @@ fn serve_store<
     requires workers { IsWorkers setup.workers }
     requires new { IsNewDesk N.origin history store }
     requires came_tidy { N.came_tidy ↔ CameTidy D.honest D.content store.given }
-    ensures answered { IfOk result (λ ended. IfSome (I.remaining (reader_of reader.old)) (λ text. Serves N.origin text (I.remaining (reader_of reader.new)) (W.contents (writer_of writer.old)) (W.contents (writer_of writer.new)) ended.0)) }
+    // The lines were answered in their order. Whatever a stop leaves of the closed desk: each command that was told to be durable has its number in it,
+    // and it begins with all commands after which a query was answered.
+    ensures answered { IfOk result (λ ended. IfSome (I.remaining (reader_of reader.old)) (λ text. Serves N.origin text (I.remaining (reader_of reader.new)) (W.contents (writer_of writer.old)) (W.contents (writer_of writer.new)) (IsKept ended.1.whole ended.1.shown) ended.0)) }
     ensures reads { IfOk result (λ ended. CountsRead (failed_calls reader.old) (failed_calls reader.new) ended.0) }
     ensures writes { IfOk result (λ ended. CountsWrites (failed_writes writer.old) (failed_writes writer.new) ended.0) }
     ensures origin { IfOk result (λ ended. ended.1.whole.origin ≡ N.origin) }
-    // Where the store came tidy, what a stop may leave of the disk stands for the network after a beginning of the history, with all that was
+    // Where the store came tidy, the disk keeps the disk model, and what a stop may leave of it stands for the network after a beginning of the history, with all that was
     // acknowledged or shown.
+    ensures honest { CameTidy D.honest D.content store.given → IfOk result (λ ended. D.honest ended.1.disk) }
     ensures left { CameTidy D.honest D.content store.given → IfOk result (λ ended. AreAmong (D.left ended.1.disk) (KeepsDesk ended.1.whole ended.1.shown ended.1.journal_pages)) }
     ensures causes { IfErr result (λ refusal. IsUnstarted refusal ⊎ (refusal ≡ closed)) }
 {
     let desk: Desk<N, D, NoGate, T> = Desk::start(threads, alloc, history, store, NoGate, setup)?;
-    let outcome = serve(&threads, alloc, &desk, reader, writer);
+    let (outcome, session) = serve(&threads, alloc, &desk, reader, writer);
     let closed = desk.close()?;
+    if !session.is_kept(&closed) {
+        return Err(Refusal::Closed);
+    }
     Ok((outcome, closed))
 }
 
-/// A session over the store of a disk: what it came to, and what is left of its desk, which is closed behind it however it ended.
+/// A session over the store of a disk: what it came to, and what is left of its desk, which is closed after it however it ended.
 ///
 /// Refused is a store that can't be opened (11, 40 to 43), then what no desk is started for.
 fn serve_disk<
@@ -88,10 +95,14 @@ fn serve_disk<
     requires workers { IsWorkers setup.workers }
     ensures reads { IfOk result (λ ended. CountsRead (failed_calls reader.old) (failed_calls reader.new) ended.0) }
     ensures writes { IfOk result (λ ended. CountsWrites (failed_writes writer.old) (failed_writes writer.new) ended.0) }
+    // The lines were answered in their order, and what they were told is kept: each command that was told to be durable has its number in whatever a stop
+    // leaves of the closed desk, which begins with all commands after which a query was answered.
+    ensures answered { IfOk result (λ ended. IfSome (I.remaining (reader_of reader.old)) (λ text. Serves ended.1.whole.origin text (I.remaining (reader_of reader.new)) (W.contents (writer_of writer.old)) (W.contents (writer_of writer.new)) (IsKept ended.1.whole ended.1.shown) ended.0)) }
     // The history is of the network and version that the disk's content stood for.
     ensures opened { D.honest disk → IfOk result (λ ended. StandsAt (D.content disk) ended.1.whole.origin.base ended.1.whole.origin.version) }
-    // Where that content was tidy, what a stop may leave of the closed disk stands for the network after a beginning of the history, with all
+    // Where that content was tidy, the closed disk keeps the disk model, and what a stop may leave of it stands for the network after a beginning of the history, with all
     // that was acknowledged or shown.
+    ensures honest { CameTidy D.honest D.content disk → IfOk result (λ ended. D.honest ended.1.disk) }
     ensures left { CameTidy D.honest D.content disk → IfOk result (λ ended. AreAmong (D.left ended.1.disk) (KeepsDesk ended.1.whole ended.1.shown ended.1.journal_pages)) }
 {
     let store = match open(alloc, disk) {

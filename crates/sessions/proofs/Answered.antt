@@ -1,7 +1,9 @@
 -- What a session knows by its reader, and what it tells.
-use Rattle.std.proofs.Common.{◌≡◌, ◌∙◌, ◌⊎◌, inl, inr, ℕ, ◌+◌, List, [], Option, None, Some, length, refl, sym, subst}
+use Rattle.std.proofs.Common.{◌≡◌, ◌∙◌, ◌⊎◌, inl, inr, ℕ, ◌+◌, ◌≤◌, List, [], ◌∷◌, ◌++◌, All, Option, None, Some, length, get_or, refl, sym, subst, arith}
 use Rattle.std.proofs.KnownBytes.{Appends-nil}
-use Rattle.std.specs.Prelude.{Result, Ok, Err, IfOk, IfErr, OnOk}
+use Rattle.std.proofs.lemmas.List.{append-nil}
+use Rattle.std.proofs.lemmas.List.Elements.{All-push, All-nil}
+use Rattle.std.specs.Prelude.{Result, Ok, Err, IfOk, IfErr, IfSome, OnOk}
 use Rattle.std.specs.Io.KnownBytes.{Appends}
 use mathlib.Core.List.{IsPrefix}
 use Rattle.roadnet.specs.declared.refusals.Refusal.{Refusal}
@@ -10,17 +12,21 @@ use Rattle.rows.specs.declared.queries.Query.{Query}
 use Rattle.rows.specs.declared.queries.Reply.{Reply}
 use Rattle.rows.specs.Replies.{IsRight}
 use Rattle.history.specs.Origins.{Origin, Beginning}
-use Rattle.history.proofs.Beginnings.{at_more}
+use Rattle.history.specs.Claims.{Claimed, IsAcknowledgedIn}
+use Rattle.history.proofs.Beginnings.{at_more, at_less, acknowledged_more, prefix_trans}
+use Rattle.machine.specs.declared.calls.Ticket.{Ticket}
+use Rattle.machine.specs.Laws.{IsAt}
 use Rattle.desk.specs.Readings.{Reading, IsViewAfter}
 use Rattle.dimacs.specs.declared.fault.Code.{Code}
 use Rattle.machine.specs.declared.events.Replied.{Replied}
+use Rattle.machine.specs.declared.events.Replied.TheVariants.{Durable}
 use Rattle.printing.specs.Printed.{refusal_line}
 use Rattle.printing.specs.Replied.{printed_reply}
 use Rattle.sessions.specs.declared.answers.Accepted.{Accepted}
 use Rattle.sessions.specs.declared.lines.Line.{Line}
 use Rattle.sessions.specs.declared.lines.Line.TheVariants.{Ignored, Command as a_command, Query as a_query, Wait, Quit, Refused as a_fault}
-use Rattle.sessions.specs.Told.{AnswersAfter, HasShown, ShowsLast, Settles, Replies, IsUnshown, claim_of, known_to}
-use Rattle.sessions.specs.Turns.{Tells, fault_number, version_or_refusal}
+use Rattle.sessions.specs.Told.{AnswersAfter, HaveReceipts, HasMore, HasShown, ShowsLast, Settles, Replies, IsUnshown, claim_of, known_to, told_durable}
+use Rattle.sessions.specs.Turns.{Tells, Standing, IsSessionAt, IsKept, fault_number, version_or_refusal}
 
 -- the answer of a reader that looked at a view and is lent for queries of it
 pub answered : (origin : Origin) (commands : List Command) (lent looked : Reading) (query asked : Query) (version : ℕ) (reply : Reply) → commands ≡ lent.known.commands → lent ≡ looked → IsViewAfter origin looked.known.commands looked.view
@@ -52,30 +58,86 @@ pub ok_shows : (origin : Origin) (last : Option Accepted) (shown : Beginning) (c
 ok_shows origin last shown commands (Ok version) has begins is = shows_last origin last shown commands version has begins is
 ok_shows origin last shown commands (Err refusal) has begins is = tt
 
--- WHAT A LINE IS TOLD
+-- ---- what a session has receipts of
 
-pub told_nothing : {X E : Type 0} (origin : Origin) (line : Line) (before last : Option Accepted) (known : List Command) (written : Option (List ℕ)) (result : Result X E) → (line ≡ Ignored) ⊎ (line ≡ Quit) → last ≡ before
-    → OnOk result (Tells origin line before last known written written)
-told_nothing origin line before last known written (Ok x) (inl is) same = rw is ([], (refl, same), Appends-nil written)
-told_nothing origin line before last known written (Ok x) (inr is) same = rw is ([], (refl, same), Appends-nil written)
-told_nothing origin line before last known written (Err e) is same = tt
+-- the same beginning has the same commands
+pub nothing_more : (origin : Origin) (had has : Option Beginning) → has ≡ had → HasMore origin had has []
+nothing_more origin had has same tickets held =
+    subst (λ (ts : List Ticket). HaveReceipts origin has ts) (sym (append-nil tickets)) (subst (λ (f : Option Beginning). HaveReceipts origin f tickets) (sym same) held)
 
-pub told_command : {X E : Type 0} (origin : Origin) (command : Command) (before last : Option Accepted) (known : List Command) (old new : Option (List ℕ)) (result : Result X E) (reply : Replied)
-    → Settles origin before last command reply → OnOk result (Appends old new (printed_reply reply)) → OnOk result (Tells origin (a_command command) before last known old new)
-told_command origin command before last known old new (Ok x) reply settles appends = (printed_reply reply, (reply, settles, refl), appends)
-told_command origin command before last known old new (Err e) reply settles appends = tt
+-- a beginning that goes on from one that had some, and has a receipt more
+pub joined_receipt : (origin : Origin) (had : Option Beginning) (front own longer : Beginning) (ticket : Ticket) → had ≡ Some front → front.origin ≡ origin → own.origin ≡ origin → longer.origin ≡ front.origin
+    → IsPrefix front.commands longer.commands → IsPrefix own.commands longer.commands → (front.acknowledged ≤ longer.acknowledged) × (own.acknowledged ≤ longer.acknowledged)
+    → IsAcknowledgedIn own ticket → HasMore origin had (Some longer) (ticket ∷ [])
+joined_receipt origin had front own longer ticket some front_of own_of longer_of begins own_begins told is tickets held =
+    let before : All (IsAcknowledgedIn front) tickets = (subst (λ (f : Option Beginning). HaveReceipts origin f tickets) some held).1 in (
+      longer_of ∙ front_of,
+      All-push (IsAcknowledgedIn longer) tickets ticket
+          (λ k d lt. acknowledged_more front longer (get_or tickets k d) longer_of begins told.0 (before k d lt))
+          (acknowledged_more own longer ticket (longer_of ∙ front_of ∙ sym own_of) own_begins told.1 is),
+    )
 
-pub told_query : {X E : Type 0} (origin : Origin) (query : Query) (before last : Option Accepted) (known : List Command) (old new : Option (List ℕ)) (result : Result X E) (reply : Replied)
-    → Replies origin known query reply → last ≡ before → OnOk result (Appends old new (printed_reply reply)) → OnOk result (Tells origin (a_query query) before last known old new)
-told_query origin query before last known old new (Ok x) reply replies same appends = (printed_reply reply, (reply, replies, refl, same), appends)
-told_query origin query before last known old new (Err e) reply replies same appends = tt
+-- the first receipt
+pub first_receipt : (origin : Origin) (had : Option Beginning) (own front : Beginning) (ticket : Ticket) → had ≡ None → own.origin ≡ origin → front ≡ own → IsAcknowledgedIn own ticket
+    → HasMore origin had (Some front) (ticket ∷ [])
+first_receipt origin had own front ticket none own_of same is tickets held =
+    let empty : tickets ≡ [] = subst (λ (f : Option Beginning). HaveReceipts origin f tickets) none held in
+    rw (same, empty) (own_of, All-push (IsAcknowledgedIn own) [] ticket (All-nil (IsAcknowledgedIn own)) is)
 
-pub told_wait : {X E : Type 0} (origin : Origin) (before last : Option Accepted) (known : List Command) (old new : Option (List ℕ)) (result : Result X E) (shown : Result ℕ Refusal)
-    → IfOk shown (ShowsLast origin last known) → IfErr shown IsUnshown → last ≡ before → OnOk result (Appends old new (version_or_refusal shown)) → OnOk result (Tells origin Wait before last known old new)
-told_wait origin before last known old new (Ok x) shown shows causes same appends = (version_or_refusal shown, (shown, shows, causes, refl, same), appends)
-told_wait origin before last known old new (Err e) shown shows causes same appends = tt
+-- the receipt of a command that is told to be durable
+pub told_receipt : (origin : Origin) (receipt : Claimed) (had has : Option Beginning) (command : Command) (number : ℕ) → receipt.origin ≡ origin → receipt.ticket.number ≡ number → receipt.ticket.command ≡ command
+    → HasMore receipt.origin had has (receipt.ticket ∷ []) → HasMore origin had has (told_durable command (Durable number))
+told_receipt origin receipt had has command number of_origin is_number is_command more =
+    let same : receipt.ticket ≡ record { number = number; command = command } = λ i. record { number = is_number i; command = is_command i } in
+    subst (λ (o : Origin). HasMore o had has (record { number = number; command = command } ∷ [])) of_origin (subst (λ (t : Ticket). HasMore receipt.origin had has (t ∷ [])) same more)
 
-pub told_fault : {X E : Type 0} (origin : Origin) (code : Code) (before last : Option Accepted) (known : List Command) (old new : Option (List ℕ)) (result : Result X E)
-    → last ≡ before → OnOk result (Appends old new (refusal_line (fault_number code))) → OnOk result (Tells origin (a_fault code) before last known old new)
-told_fault origin code before last known old new (Ok x) same appends = (refusal_line (fault_number code), (refl, same), appends)
-told_fault origin code before last known old new (Err e) same appends = tt
+-- what the session has is in the closed history, and what it has seen was shown
+pub kept_in : (origin : Origin) (whole shown : Beginning) (reader : Option Reading) (receipts : Option Beginning) (last : Standing) → whole.origin ≡ origin
+    → IfSome receipts (λ front. IsPrefix front.commands whole.commands × (front.acknowledged ≤ whole.acknowledged)) → IsPrefix (known_to reader) shown.commands
+    → IsSessionAt origin reader receipts last → IsKept whole shown last
+kept_in origin whole shown reader None last same held seen is = record {
+  durable = λ kept keeps. rw is.durable (All-nil (IsAt whole.origin.version kept));
+  known = λ kept keeps. rw is.known (prefix_trans (known_to reader) shown.commands kept seen keeps.shown_too);
+}
+kept_in origin whole shown reader (Some front) last same held seen is = record {
+  durable = λ kept keeps k d lt.
+      let ticket = get_or last.durable k d in
+      let there = acknowledged_more front whole ticket (same ∙ sym is.durable.0) held.0 held.1 (is.durable.1 k d lt) in
+      at_less whole.origin.version kept whole.commands ticket keeps.begins (let all = keeps.acknowledged in let told = there.acknowledged in omega (arith, all, told)) there.at;
+  known = λ kept keeps. rw is.known (prefix_trans (known_to reader) shown.commands kept seen keeps.shown_too);
+}
+
+-- ---- what a line is told
+
+pub told_nothing : {X E : Type 0} (origin : Origin) (line : Line) (before last : Option Accepted) (known : List Command) (had has : Option Beginning) (written : Option (List ℕ)) (result : Result X E)
+    → (line ≡ Ignored) ⊎ (line ≡ Quit) → last ≡ before → has ≡ had → OnOk result (Tells origin line before last known had has written written)
+told_nothing origin line before last known had has written (Ok x) (inl is) same kept = rw is (record { told = []; durable = []; is_answer = (refl, refl, same); kept = nothing_more origin had has kept; written = Appends-nil written })
+told_nothing origin line before last known had has written (Ok x) (inr is) same kept = rw is (record { told = []; durable = []; is_answer = (refl, refl, same); kept = nothing_more origin had has kept; written = Appends-nil written })
+told_nothing origin line before last known had has written (Err e) is same kept = tt
+
+pub told_command : {X E : Type 0} (origin : Origin) (command : Command) (before last : Option Accepted) (known : List Command) (had has : Option Beginning) (old new : Option (List ℕ)) (result : Result X E) (reply : Replied)
+    → Settles origin before last command reply → HasMore origin had has (told_durable command reply) → OnOk result (Appends old new (printed_reply reply))
+    → OnOk result (Tells origin (a_command command) before last known had has old new)
+told_command origin command before last known had has old new (Ok x) reply settles more appends =
+    record { told = printed_reply reply; durable = told_durable command reply; is_answer = (reply, settles, refl, refl); kept = more; written = appends }
+told_command origin command before last known had has old new (Err e) reply settles more appends = tt
+
+pub told_query : {X E : Type 0} (origin : Origin) (query : Query) (before last : Option Accepted) (known : List Command) (had has : Option Beginning) (old new : Option (List ℕ)) (result : Result X E) (reply : Replied)
+    → Replies origin known query reply → last ≡ before → has ≡ had → OnOk result (Appends old new (printed_reply reply))
+    → OnOk result (Tells origin (a_query query) before last known had has old new)
+told_query origin query before last known had has old new (Ok x) reply replies same kept appends =
+    record { told = printed_reply reply; durable = []; is_answer = (reply, replies, refl, refl, same); kept = nothing_more origin had has kept; written = appends }
+told_query origin query before last known had has old new (Err e) reply replies same kept appends = tt
+
+pub told_wait : {X E : Type 0} (origin : Origin) (before last : Option Accepted) (known : List Command) (had has : Option Beginning) (old new : Option (List ℕ)) (result : Result X E) (shown : Result ℕ Refusal)
+    → IfOk shown (ShowsLast origin last known) → IfErr shown IsUnshown → last ≡ before → has ≡ had → OnOk result (Appends old new (version_or_refusal shown))
+    → OnOk result (Tells origin Wait before last known had has old new)
+told_wait origin before last known had has old new (Ok x) shown shows causes same kept appends =
+    record { told = version_or_refusal shown; durable = []; is_answer = (shown, shows, causes, refl, refl, same); kept = nothing_more origin had has kept; written = appends }
+told_wait origin before last known had has old new (Err e) shown shows causes same kept appends = tt
+
+pub told_fault : {X E : Type 0} (origin : Origin) (code : Code) (before last : Option Accepted) (known : List Command) (had has : Option Beginning) (old new : Option (List ℕ)) (result : Result X E)
+    → last ≡ before → has ≡ had → OnOk result (Appends old new (refusal_line (fault_number code))) → OnOk result (Tells origin (a_fault code) before last known had has old new)
+told_fault origin code before last known had has old new (Ok x) same kept appends =
+    record { told = refusal_line (fault_number code); durable = []; is_answer = (refl, refl, same); kept = nothing_more origin had has kept; written = appends }
+told_fault origin code before last known had has old new (Err e) same kept appends = tt

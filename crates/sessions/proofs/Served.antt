@@ -1,35 +1,39 @@
 -- A session as far as its lines were answered.
 use Rattle.std.proofs.Common.{◌≡◌, ℕ, false, List, [], ◌∷◌, ◌++◌, Option, None, Some, refl, sym, subst}
 use Rattle.std.proofs.KnownBytes.{Appends-nil, Appends-trans}
-use Rattle.std.specs.Prelude.{⊤, Ok, IfSome}
+use Rattle.std.specs.Prelude.{⊤, Result, Ok, Err, IfSome}
 use mathlib.Core.List.{IsPrefix}
-use Rattle.history.specs.Origins.{Origin}
+use Rattle.history.specs.Origins.{Origin, Beginning}
 use Rattle.desk.specs.Readings.{Reading}
+use Rattle.roadnet.specs.declared.refusals.Refusal.TheVariants.{Read}
+use Rattle.printing.specs.declared.failed.Failed.{Failed}
+use Rattle.printing.specs.declared.failed.Failed.TheVariants.{Code as of_code}
 use Rattle.sessions.specs.declared.answers.Accepted.{Accepted}
 use Rattle.sessions.specs.declared.lines.Line.{Line}
 use Rattle.sessions.specs.Reads.{ReadsOne, ReadsLine}
 use Rattle.sessions.specs.Told.{known_to}
-use Rattle.sessions.specs.Turns.{Tells, Standing, IsTurn, AreTurns, beginning, is_quit, HasServed}
+use Rattle.sessions.specs.Turns.{Tells, Standing, IsTurn, AreTurns, beginning, is_quit, HasServed, IsSessionAt, Serves}
 
--- the lines up to here were answered, and a session with this reader and last accepted command goes on with what is left
-pub record HasGone (origin : Origin) (text : List ℕ) (left old new : Option (List ℕ)) (reader : Option Reading) (last : Option Accepted) : Type 0 where
+-- the lines up to here were answered, and a session with this reader, these receipts and this last accepted command goes on with what is left
+pub record HasGone (origin : Origin) (text : List ℕ) (left old new : Option (List ℕ)) (reader : Option Reading) (receipts : Option Beginning) (last : Option Accepted) : Type 0 where
   pub here : Standing
   pub served : HasServed origin text old new here
   pub left_is : left ≡ Some here.left
-  pub known_is : here.known ≡ known_to reader
+  pub session : IsSessionAt origin reader receipts here
   pub last_is : here.last ≡ last
 
-abbrev pub FarServed : Origin → Option (List ℕ) → Option (List ℕ) → Option (List ℕ) → Option (List ℕ) → Option Reading → Option Accepted → Type 0
-FarServed origin None left old new reader last = ⊤
-FarServed origin (Some text) left old new reader last = HasGone origin text left old new reader last
+abbrev pub FarServed : Origin → Option (List ℕ) → Option (List ℕ) → Option (List ℕ) → Option (List ℕ) → Option Reading → Option Beginning → Option Accepted → Type 0
+FarServed origin None left old new reader receipts last = ⊤
+FarServed origin (Some text) left old new reader receipts last = HasGone origin text left old new reader receipts last
 
-pub far_begun : (origin : Origin) (known written : Option (List ℕ)) (reader : Option Reading) (last : Option Accepted) → reader ≡ None → last ≡ None → FarServed origin known known written written reader last
-far_begun origin None written reader last no_reader no_last = tt
-far_begun origin (Some text) written reader last no_reader no_last = record {
+pub far_begun : (origin : Origin) (known written : Option (List ℕ)) (reader : Option Reading) (receipts : Option Beginning) (last : Option Accepted) → reader ≡ None → receipts ≡ None → last ≡ None
+    → FarServed origin known known written written reader receipts last
+far_begun origin None written reader receipts last no_reader no_receipts no_last = tt
+far_begun origin (Some text) written reader receipts last no_reader no_receipts no_last = record {
   here = beginning text;
   served = record { turns = []; are = refl; written = Appends-nil written };
   left_is = refl;
-  known_is = rw no_reader refl;
+  session = record { known = rw no_reader refl; durable = rw no_receipts refl };
   last_is = sym no_last;
 }
 
@@ -37,28 +41,50 @@ one_more : (origin : Origin) (first : Standing) (turns : List Standing) (mid las
 one_more origin first [] mid last are turn = (subst (λ (s : Standing). IsTurn origin s last) are turn, refl)
 one_more origin first (next ∷ turns) mid last are turn = (are.0, one_more origin next turns mid last are.1 turn)
 
-turned : (origin : Origin) (text : List ℕ) (left rest old mid new : Option (List ℕ)) (r s : Option Reading) (before last : Option Accepted) (line : Line) → is_quit line ≡ false
-    → (far : HasGone origin text left old mid r before) → ReadsOne far.here.left rest line → Tells origin line before last (known_to s) mid new → IsPrefix (known_to r) (known_to s)
-    → HasGone origin text rest old new s last
-turned origin text left rest old mid new r s before last line goes_on far reads tells begins =
-    let next : Standing = record { left = reads.rest; told = far.here.told ++ tells.0; known = known_to s; last = last } in
+turned : (origin : Origin) (text : List ℕ) (left rest old mid new : Option (List ℕ)) (r s : Option Reading) (had has : Option Beginning) (before last : Option Accepted) (line : Line) → is_quit line ≡ false
+    → (far : HasGone origin text left old mid r had before) → ReadsOne far.here.left rest line → Tells origin line before last (known_to s) had has mid new → IsPrefix (known_to r) (known_to s)
+    → HasGone origin text rest old new s has last
+turned origin text left rest old mid new r s had has before last line goes_on far reads tells begins =
+    let next : Standing = record { left = reads.rest; told = far.here.told ++ tells.told; durable = far.here.durable ++ tells.durable; known = known_to s; last = last } in
     let read : ReadsOne far.here.left (Some reads.rest) line = record { bytes = reads.bytes; rest = reads.rest; first = reads.first; left_is = refl; is = reads.is } in
-    let turn : IsTurn origin far.here next = record { line = line; goes_on = goes_on; read = read; answer = tells.0; answers = rw far.last_is tells.1; told = refl; begins = rw far.known_is begins } in
+    let turn : IsTurn origin far.here next = record {
+      line = line;
+      goes_on = goes_on;
+      read = read;
+      answer = tells.told;
+      receipts = tells.durable;
+      answers = rw far.last_is tells.is_answer;
+      told = refl;
+      durable = refl;
+      begins = rw far.session.known begins;
+    } in
     record {
       here = next;
       served = record {
         turns = far.served.turns ++ next ∷ [];
         are = one_more origin (beginning text) far.served.turns far.here next far.served.are turn;
-        written = Appends-trans old mid new far.here.told tells.0 far.served.written tells.2;
+        written = Appends-trans old mid new far.here.told tells.told far.served.written tells.written;
       };
       left_is = reads.left_is;
-      known_is = refl;
+      session = record { known = refl; durable = tells.kept far.here.durable far.session.durable };
       last_is = refl;
     }
 
-pub far_turned : (origin : Origin) (known left rest old mid new : Option (List ℕ)) (r s : Option Reading) (before last : Option Accepted) (line : Line) → is_quit line ≡ false
-    → FarServed origin known left old mid r before → IfSome left (λ text. ReadsLine text rest (Ok (Some line))) → Tells origin line before last (known_to s) mid new → IsPrefix (known_to r) (known_to s)
-    → FarServed origin known rest old new s last
-far_turned origin None left rest old mid new r s before last line goes_on far reads tells begins = tt
-far_turned origin (Some text) left rest old mid new r s before last line goes_on far reads tells begins =
-    turned origin text left rest old mid new r s before last line goes_on far (rw far.left_is at reads) tells begins
+pub far_turned : (origin : Origin) (known left rest old mid new : Option (List ℕ)) (r s : Option Reading) (had has : Option Beginning) (before last : Option Accepted) (line : Line) → is_quit line ≡ false
+    → FarServed origin known left old mid r had before → IfSome left (λ text. ReadsLine text rest (Ok (Some line))) → Tells origin line before last (known_to s) had has mid new → IsPrefix (known_to r) (known_to s)
+    → FarServed origin known rest old new s has last
+far_turned origin None left rest old mid new r s had has before last line goes_on far reads tells begins = tt
+far_turned origin (Some text) left rest old mid new r s had has before last line goes_on far reads tells begins =
+    turned origin text left rest old mid new r s had has before last line goes_on far (rw far.left_is at reads) tells begins
+
+-- what holds of a session as far as it came, so does what follows from it
+serves_also : {X : Type 0} (origin : Origin) (text : List ℕ) (left old new : Option (List ℕ)) (P Q : Standing → Type 0) (result : Result X Failed)
+    → ((last : Standing) → P last → Q last) → Serves origin text left old new P result → Serves origin text left old new Q result
+serves_also origin text left old new P Q (Ok x) also s = (s.0, s.1, also s.0 s.2, s.3)
+serves_also origin text left old new P Q (Err (of_code Read)) also s = (s.0, s.1, also s.0 s.2, s.3)
+serves_also origin text left old new P Q (Err other) also s = tt
+
+pub far_also : {X : Type 0} (origin : Origin) (known left old new : Option (List ℕ)) (P Q : Standing → Type 0) (result : Result X Failed)
+    → ((last : Standing) → P last → Q last) → IfSome known (λ text. Serves origin text left old new P result) → IfSome known (λ text. Serves origin text left old new Q result)
+far_also origin None left old new P Q result also s = tt
+far_also origin (Some text) left old new P Q result also s = serves_also origin text left old new P Q result also s

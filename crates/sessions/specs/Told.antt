@@ -1,5 +1,5 @@
 -- What a session is told by its desk, and what it tells.
-use Rattle.std.specs.Prelude.{◌≡◌, ◌⊎◌, ℕ, ◌+◌, List, [], length, Option, None, Some, Result, Ok, Err, ⊤}
+use Rattle.std.specs.Prelude.{◌≡◌, ◌⊎◌, ℕ, ◌+◌, List, [], ◌∷◌, ◌++◌, length, All, Option, None, Some, Result, Ok, Err, ⊤}
 use Rattle.roadnet.specs.declared.commands.Command.{Command}
 use Rattle.roadnet.specs.declared.refusals.Refusal.{Refusal}
 use Rattle.roadnet.specs.declared.refusals.Refusal.TheVariants.{Read, Write}
@@ -8,10 +8,11 @@ use Rattle.roadnet.specs.Step.{after}
 use Rattle.rows.specs.declared.queries.Query.{Query}
 use Rattle.rows.specs.Replies.{IsRight}
 use Rattle.machine.specs.declared.calls.Answer.{Answer}
+use Rattle.machine.specs.declared.calls.Ticket.{Ticket}
 use Rattle.machine.specs.declared.events.Replied.{Replied}
 use Rattle.machine.specs.declared.events.Replied.TheVariants.{Durable, Answered, Refused}
 use Rattle.machine.specs.Laws.{IsAt}
-use Rattle.history.specs.Claims.{Claimed}
+use Rattle.history.specs.Claims.{Claimed, IsAcknowledgedIn}
 use Rattle.history.specs.Origins.{Origin, Beginning}
 use Rattle.desk.specs.Readings.{Reading, IsNoReader}
 use Rattle.desk.specs.Turns.{IsUnserved, IsUntaken}
@@ -25,6 +26,20 @@ use Rattle.sessions.specs.declared.answers.Accepted.TheVariants.{Settled, Unsett
 abbrev pub claim_of : Accepted → Claimed
 claim_of (Settled receipt) = receipt
 claim_of (Unsettled ticket) = ticket
+
+-- each of these commands has its number in this beginning of the desk's history, and was acknowledged by then; without one there is none of them
+abbrev pub HaveReceipts : Origin → Option Beginning → List Ticket → Type 0
+HaveReceipts origin None tickets = tickets ≡ []
+HaveReceipts origin (Some front) tickets = (front.origin ≡ origin) × All (IsAcknowledgedIn front) tickets
+
+-- what this reply tells to be durable
+abbrev pub told_durable : Command → Replied → List Ticket
+told_durable command (Durable number) = record { number = number; command = command } ∷ []
+told_durable command other = []
+
+-- a beginning that has some commands goes on to one that has these too
+abbrev pub HasMore : Origin → Option Beginning → Option Beginning → List Ticket → Type 0
+HasMore origin old new durable = (tickets : List Ticket) → HaveReceipts origin old tickets → HaveReceipts origin new (tickets ++ durable)
 
 -- the session has a receipt of this desk for the command, with this number
 abbrev pub HasReceipt : Origin → Option Accepted → ℕ → Command → Type 0

@@ -1,18 +1,20 @@
 //! What a session answers, by its desk.
-ghost use Rattle.std.specs.Prelude.{◌≡◌, ◌+◌, length, None, IfOk, IfErr, OnOk};
+ghost use Rattle.std.specs.Prelude.{◌≡◌, ◌+◌, ◌∷◌, [], length, true, None, Some, IfOk, IfErr, OnOk};
 ghost use Rattle.std.specs.Option.{ForSome};
 ghost use mathlib.Core.List.{IsPrefix};
 ghost use Rattle.published.specs.Showing.{IsUnseen};
 ghost use Rattle.desk.specs.Readings.{IsNoReader};
 ghost use Rattle.desk.specs.Turns.{IsUnserved};
 ghost use Rattle.printing.specs.Counting.{failed_writes, writer_of, IsSameWriter, CountsFailure};
-ghost use Rattle.sessions.specs.Told.{claim_of, HasReceipt, HasShown, AnswersAfter, known_to, IsRefusedFor, IsUnshown, Settles, Replies, ShowsLast};
-ghost use Rattle.sessions.specs.Turns.{Tells};
+ghost use Rattle.machine.specs.declared.events.Replied.TheVariants.{Durable};
+ghost use Rattle.sessions.specs.Told.{claim_of, told_durable, HasMore, HasReceipt, HasShown, AnswersAfter, known_to, IsRefusedFor, IsUnshown, Settles, Replies, ShowsLast};
+ghost use Rattle.sessions.specs.Turns.{Tells, Standing, IsSessionAt, IsKept};
 
 use crate::lines::Line;
 use crate::telling::{tell_fault, tell_reply, tell_version};
-use desk::{Desk, Gate, Naming, Reader, Receipt, Shown, Ticket};
+use desk::{Closed, Desk, Gate, Naming, Reader, Receipt, Shown, Ticket};
 use disk::Disk;
+use history::Front;
 use machine::{Answer, Replied};
 use printing::{CountedWriter, Failed};
 use roadnet::{Command, Refusal};
@@ -41,12 +43,27 @@ impl Accepted {
     }
 }
 
-/// What a session has of its desk: a reader, once a place for it was found, and the last of its commands that was accepted.
+/// What a session has of its desk: a reader, once a place for it was found; the last of its commands that was accepted; and, once a command was
+/// told to be durable, a beginning of the desk's history in which each of these is acknowledged.
 #[derive(Drop)]
-pub(crate) struct Session<N: Naming> {
+pub struct Session<N: Naming> {
     reader: Option<Reader<N>>,
     last: Option<Accepted>,
+    receipts: Option<Front>,
     ghost of_desk: { ForSome last (λ accepted. (claim_of accepted).origin ≡ N.origin) },
+    ghost receipts_of_desk: { ForSome receipts (λ front. front.origin ≡ N.origin) },
+}
+
+/// A beginning of the history that has what an earlier one had, if there was one, and this receipt.
+fn with_receipt(had: &Option<Front>, receipt: &Receipt) -> Front
+    requires { ForSome had.now (λ front. front.origin ≡ receipt.now.origin) }
+    ensures origin { result.origin ≡ receipt.now.origin }
+    ensures kept { HasMore receipt.now.origin had.now (Some result) (receipt.now.ticket ∷ []) }
+{
+    match had {
+        Some(front) => front.joined(receipt.front()),
+        None => receipt.front().again(),
+    }
 }
 
 /// The reply to a query, from the view that is shown now, with its version. Refused is a view that the reader can't look at (11, 61), and want
@@ -102,10 +119,12 @@ impl<N: Naming + Send + Sync + 'static> Session<N> {
     pub(crate) fn new() -> Session<N>
         ensures reader { result.reader ≡ None }
         ensures last { result.last ≡ None }
+        ensures receipts { result.receipts ≡ None }
     {
         Session {
             reader: None,
             last: None,
+            receipts: None,
         }
     }
 
@@ -118,6 +137,7 @@ impl<N: Naming + Send + Sync + 'static> Session<N> {
         ensures causes { IfErr result IsNoReader }
         ensures begins { IsPrefix (known_to self.old.reader) (known_to self.new.reader) }
         ensures last { self.new.last ≡ self.old.last }
+        ensures receipts { self.new.receipts ≡ self.old.receipts }
     {
         match &self.reader {
             Some(_) => Ok(()),
@@ -135,13 +155,16 @@ impl<N: Naming + Send + Sync + 'static> Session<N> {
         R: Threads + Wait + Copy + Send + Sync + 'static,
     >(&mut self, desk: &Desk<N, D, G, R>, command: Command) -> Result<u64, Refusal>
         ensures receipt { IfOk result (λ number. HasReceipt N.origin self.new.last number command) }
+        ensures receipts { IfOk result (λ number. HasMore N.origin self.old.receipts self.new.receipts (told_durable command (Durable number))) }
         ensures refused { IfErr result (IsRefusedFor N.origin self.old.last self.new.last command) }
+        ensures same { IfErr result (λ _. self.new.receipts ≡ self.old.receipts) }
         ensures reader { self.new.reader ≡ self.old.reader }
     {
         let ticket = desk.submit(command)?;
         match desk.settle(ticket) {
             Ok(receipt) => {
                 let number = receipt.ticket().ticket().number;
+                self.receipts = Some(with_receipt(&self.receipts, &receipt));
                 self.last = Some(Accepted::Settled(receipt));
                 Ok(number)
             }
@@ -159,6 +182,7 @@ impl<N: Naming + Send + Sync + 'static> Session<N> {
         R: Threads + Wait + Copy + Send + Sync + 'static,
     >(&mut self, desk: &Desk<N, D, G, R>, command: Command) -> Replied
         ensures settled { Settles N.origin self.old.last self.new.last command result }
+        ensures receipts { HasMore N.origin self.old.receipts self.new.receipts (told_durable command result) }
         ensures reader { self.new.reader ≡ self.old.reader }
     {
         match self.settle(desk, command) {
@@ -177,6 +201,7 @@ impl<N: Naming + Send + Sync + 'static> Session<N> {
         ensures right { Replies N.origin (known_to self.new.reader) query result }
         ensures begins { IsPrefix (known_to self.old.reader) (known_to self.new.reader) }
         ensures last { self.new.last ≡ self.old.last }
+        ensures receipts { self.new.receipts ≡ self.old.receipts }
     {
         if let Err(refusal) = self.find_reader(desk) {
             return Replied::Refused { refusal };
@@ -221,6 +246,7 @@ impl<N: Naming + Send + Sync + 'static> Session<N> {
         ensures causes { IfErr result IsUnshown }
         ensures begins { IsPrefix (known_to self.old.reader) (known_to self.new.reader) }
         ensures last { self.new.last ≡ self.old.last }
+        ensures receipts { self.new.receipts ≡ self.old.receipts }
     {
         let shown = self.shown(desk)?;
         self.find_reader(desk)?;
@@ -247,7 +273,7 @@ impl<N: Naming + Send + Sync + 'static> Session<N> {
         line: Line,
         out: &mut CountedWriter<'_, W>,
     ) -> Result<(), Failed>
-        ensures told { OnOk result (Tells N.origin line self.old.last self.new.last (known_to self.new.reader) (W.contents (writer_of out.old)) (W.contents (writer_of out.new))) }
+        ensures told { OnOk result (Tells N.origin line self.old.last self.new.last (known_to self.new.reader) self.old.receipts self.new.receipts (W.contents (writer_of out.old)) (W.contents (writer_of out.new))) }
         ensures begins { IsPrefix (known_to self.old.reader) (known_to self.new.reader) }
         ensures refused { IfErr result (λ failed. failed ≡ Failed.Code Refusal.Write) }
         ensures counts { CountsFailure (failed_writes out.old) (failed_writes out.new) result }
@@ -260,6 +286,23 @@ impl<N: Naming + Send + Sync + 'static> Session<N> {
             Line::Query(query) => tell_reply(out, &self.ask(rt, alloc, desk, query)),
             Line::Wait => tell_version(out, self.wait(desk)),
             Line::Refused(code) => tell_fault(out, code),
+        }
+    }
+
+    /// Compares what the session has with its desk, which is closed. Whatever a stop leaves of that: each command that the session told to be durable
+    /// has its number in it, and it begins with all that the session has seen or was told of. It takes no memory.
+    ///
+    /// The answer is false where the desk showed less than the session has seen, which never comes.
+    pub fn is_kept<D: Disk>(&self, closed: &Closed<D>) -> bool
+        requires { closed.now.whole.origin ≡ N.origin }
+        ensures { result ≡ true → (last : Standing) → IsSessionAt N.origin self.now.reader self.now.receipts last → IsKept closed.now.whole closed.now.shown last }
+    {
+        if let Some(receipts) = &self.receipts {
+            closed.whole.holds(receipts);
+        }
+        match &self.reader {
+            Some(reader) => closed.has_shown(reader.known()),
+            None => true,
         }
     }
 }

@@ -10,6 +10,7 @@ mod serving;
 mod telling;
 mod words;
 
+pub use answers::Session;
 pub use serving::serve;
 
 #[cfg(test)]

@@ -4,7 +4,7 @@ ghost use Rattle.dimacs.specs.Counts.{failed_calls, reader_of, IsSameReader};
 ghost use Rattle.printing.specs.Counting.{failed_writes, writer_of, IsSameWriter};
 ghost use Rattle.printing.specs.Failing.{CountsWrites};
 ghost use Rattle.sessions.specs.Told.{CountsRead, IsOfStream};
-ghost use Rattle.sessions.specs.Turns.{Serves};
+ghost use Rattle.sessions.specs.Turns.{Serves, IsSessionAt};
 
 use crate::answers::Session;
 use crate::lines::is_quit;
@@ -27,6 +27,8 @@ use std::thread::Threads;
 /// `quit`. Lines with no field and comments, which begin with `#`, have no answer; any other line has `no 1` or `no 5`. No line is too long:
 /// a line takes no memory.
 ///
+/// What the session has of its desk is handed out: by that `Session::is_kept` says of the closed desk what the session's answers were promises of.
+///
 /// The errors are a failed call of the reader (10) and of the writer (12), and no others: what the desk refuses is an answer, also where it
 /// has no place for the session's reader (`no 60`, at each query until there is one).
 pub fn serve<
@@ -42,26 +44,26 @@ pub fn serve<
     desk: &Desk<N, D, G, R>,
     reader: &mut Counted<'_, I>,
     writer: &mut CountedWriter<'_, W>,
-) -> Result<(), Failed>
-    ensures answered { IfSome (I.remaining (reader_of reader.old)) (λ text. Serves N.origin text (I.remaining (reader_of reader.new)) (W.contents (writer_of writer.old)) (W.contents (writer_of writer.new)) result) }
-    ensures reads { CountsRead (failed_calls reader.old) (failed_calls reader.new) result }
-    ensures writes { CountsWrites (failed_writes writer.old) (failed_writes writer.new) result }
-    ensures causes { IfErr result IsOfStream }
+) -> (Result<(), Failed>, Session<N>)
+    ensures answered { IfSome (I.remaining (reader_of reader.old)) (λ text. Serves N.origin text (I.remaining (reader_of reader.new)) (W.contents (writer_of writer.old)) (W.contents (writer_of writer.new)) (IsSessionAt N.origin result.1.reader result.1.receipts) result.0) }
+    ensures reads { CountsRead (failed_calls reader.old) (failed_calls reader.new) result.0 }
+    ensures writes { CountsWrites (failed_writes writer.old) (failed_writes writer.new) result.0 }
+    ensures causes { IfErr result.0 IsOfStream }
     ensures same_reader { IsSameReader reader.old reader.new }
     ensures same_writer { IsSameWriter writer.old writer.new }
 {
     let mut session = Session::new();
     for _ in rt.forever() {
         let line = match next_line(rt, reader) {
-            Ok(None) => return Ok(()),
+            Ok(None) => return (Ok(()), session),
             Ok(Some(line)) => line,
-            Err(_) => return Err(Failed::Code(Refusal::Read)),
+            Err(_) => return (Err(Failed::Code(Refusal::Read)), session),
         };
         if is_quit(line) {
-            return Ok(());
+            return (Ok(()), session);
         }
         if let Err(failed) = session.answer(rt, alloc, desk, line, writer) {
-            return Err(failed);
+            return (Err(failed), session);
         }
     }
     unreachable!()

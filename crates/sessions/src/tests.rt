@@ -55,6 +55,8 @@ pub(crate) struct Ended<D: Disk> {
     pub(crate) outcome: Result<(), Failed>,
     failed_reads: u64,
     failed_writes: u64,
+    /// The closed desk keeps what the session told and saw.
+    pub(crate) is_kept: bool,
     pub(crate) closed: Closed<D>,
 }
 
@@ -108,13 +110,15 @@ pub(crate) fn session_over<
     }
     let mut reader = Counted::new(input);
     let mut writer = CountedWriter::new(output);
-    let outcome = serve(&rt, alloc, &desk, &mut reader, &mut writer);
+    let (outcome, session) = serve(&rt, alloc, &desk, &mut reader, &mut writer);
     let (failed_reads, failed_writes) = (reader.failed_calls(), writer.failed_writes());
+    let closed = desk.close()?;
     Ok(Ended {
         outcome,
         failed_reads,
         failed_writes,
-        closed: desk.close()?,
+        is_kept: session.is_kept(&closed),
+        closed,
     })
 }
 
@@ -141,7 +145,8 @@ pub(crate) fn answers_of<R: Threads + Wait + Copy + Send + Sync + 'static>(
     let mut input = lines;
     let mut output = Vec::new(alloc);
     let ended = session(rt, alloc, found, &mut input, &mut output)?;
-    if ended.outcome != Ok(()) || ended.failed_reads != 0 || ended.failed_writes != 0 {
+    let has_failed = ended.failed_reads != 0 || ended.failed_writes != 0;
+    if ended.outcome != Ok(()) || has_failed || !ended.is_kept {
         return Err(Refusal::NotYet);
     }
     Ok(output)
@@ -408,6 +413,7 @@ fn reader_fails_at_each_call(rt: HostRuntime) -> Result<(), Fail> {
             outcome,
             failed_reads,
             failed_writes,
+            is_kept: _,
             closed,
         } = session(rt, alloc, Found::Serving, &mut input, &mut output)?;
         let (accepted, version) = left_by(alloc, closed)?;
@@ -443,6 +449,7 @@ fn writer_fails_at_each_call(rt: HostRuntime) -> Result<(), Fail> {
             outcome,
             failed_reads,
             failed_writes,
+            is_kept: _,
             closed,
         } = session(rt, alloc, Found::Serving, &mut input, &mut output)?;
         let (accepted, version) = left_by(alloc, closed)?;

@@ -68,7 +68,7 @@ const ABOUT_ASK: &str =
     "Answers the pairs of the file P2P in the network of the store in the file STORE, which stays as it is: the line `v V`, V the store's version, then one line a pair, in their order: `d S T LENGTH`, or `x S T` where no walk leads there.";
 
 const ABOUT_CHECK: &str =
-    "Looks at the store in the file STORE, which stays as it is, and tells how it stands: `v V`, its version; `slot A E` or `slot B E`, the slot that holds its last checkpoint, and that slot's epoch, which rises by one with each checkpoint; `journal U`, how many pages of the journal stand behind that checkpoint. The whole file is judged first: where a page is damaged, the fault line names its number, and the status is 1.";
+    "Looks at the store in the file STORE, which stays as it is, and tells how it stands: `v V`, its version; `slot A E` or `slot B E`, the slot that holds its last checkpoint, and that slot's epoch, which rises by one with each checkpoint; `journal U`, how many pages of the journal stand behind that checkpoint. The file is judged first, as each opening judges it: where a page that counts is damaged, the fault line names its number, and the status is 1.";
 
 const ABOUT_SERVE: &str =
     "Serves the store in the file STORE to one client, on standard input and output: it reads a line, carries it out, prints its answer, and then reads the next, until the line `quit` or the end of the input.

@@ -7,8 +7,9 @@ ghost use Rattle.rows.specs.Kept.{IsWidth};
 ghost use Rattle.roadmark.specs.Words.{delta_of, journal_of, workers_of, subcommand_of, HasFitNumbers, Gives, GivesOnce, GivesBatch, GivesRehearse, GivesCreate, GivesApply, GivesAsk, GivesCheck, GivesServe, GivesJoint, GivesJournal, GivesWorkers, IsJournal, IsWorkers, IsLong, IsUsage};
 
 use crate::commands::{
-    APPLY, ASK, BATCH, CHECK, COMMANDS, CREATE, DELTA, JOURNAL, LANDMARKS, NETWORK, ONCE, PAIRS,
-    REHEARSE, SCRIPT, SERVE, SOURCE, STORE, TARGET, WORKERS, program,
+    APPLY, ASK, BATCH, CHECK, COMMANDS, CREATE, DELTA, JOURNAL, LANDMARKS, MOST_JOURNAL_PAGES,
+    MOST_WIDTH, MOST_WORKERS, NETWORK, ONCE, PAIRS, REHEARSE, SCRIPT, SERVE, SOURCE, STORE, TARGET,
+    WORKERS, program,
 };
 use clap::error::ErrorKind;
 use clap::{ArgMatches, Error};
@@ -125,7 +126,7 @@ fn width_in(matches: &ArgMatches<'_>) -> Option<u32>
     ensures given { Gives (found_of matches.now) (codes "delta") IsWidth result }
 {
     match matches.get_one::<u32>(DELTA) {
-        Some(width) if 1 <= width && width <= 2147483647 => Some(width),
+        Some(width) if 1 <= width && width <= MOST_WIDTH => Some(width),
         _ => None,
     }
 }
@@ -136,7 +137,7 @@ fn journal_in(matches: &ArgMatches<'_>) -> u32
     ensures given { GivesJournal (found_of matches.now) result }
 {
     match matches.get_one::<u32>(JOURNAL) {
-        Some(pages) if 1 <= pages && pages <= 65536 => pages,
+        Some(pages) if 1 <= pages && pages <= MOST_JOURNAL_PAGES => pages,
         _ => DEFAULT_JOURNAL,
     }
 }
@@ -147,7 +148,7 @@ fn workers_in(matches: &ArgMatches<'_>) -> u32
     ensures given { GivesWorkers (found_of matches.now) result }
 {
     match matches.get_one::<u32>(WORKERS) {
-        Some(workers) if 1 <= workers && workers <= 64 => workers,
+        Some(workers) if 1 <= workers && workers <= MOST_WORKERS => workers,
         _ => DEFAULT_WORKERS,
     }
 }

@@ -164,15 +164,9 @@ fn once_in<'w>(matches: &ArgMatches<'w>) -> Option<Job<'w>>
     ensures numbers { ForSome result HasFitNumbers }
     ensures given { GivesOnce (found_of matches.now) result }
 {
-    let Some(network) = matches.get_str(NETWORK) else {
-        return None;
-    };
-    let Some(source) = node_in(matches, SOURCE) else {
-        return None;
-    };
-    let Some(target) = node_in(matches, TARGET) else {
-        return None;
-    };
+    let network = matches.get_str(NETWORK)?;
+    let source = node_in(matches, SOURCE)?;
+    let target = node_in(matches, TARGET)?;
     Some(Job::Once {
         network,
         source,
@@ -185,12 +179,8 @@ fn batch_in<'w>(matches: &ArgMatches<'w>) -> Option<Job<'w>>
     ensures numbers { ForSome result HasFitNumbers }
     ensures given { GivesBatch (found_of matches.now) result }
 {
-    let Some(network) = matches.get_str(NETWORK) else {
-        return None;
-    };
-    let Some(pairs) = matches.get_str(PAIRS) else {
-        return None;
-    };
+    let network = matches.get_str(NETWORK)?;
+    let pairs = matches.get_str(PAIRS)?;
     Some(Job::Batch {
         network,
         pairs,
@@ -202,12 +192,8 @@ fn rehearse_in<'w>(matches: &ArgMatches<'w>) -> Option<Job<'w>>
     ensures numbers { ForSome result HasFitNumbers }
     ensures given { GivesRehearse (found_of matches.now) result }
 {
-    let Some(network) = matches.get_str(NETWORK) else {
-        return None;
-    };
-    let Some(script) = matches.get_str(SCRIPT) else {
-        return None;
-    };
+    let network = matches.get_str(NETWORK)?;
+    let script = matches.get_str(SCRIPT)?;
     Some(Job::Rehearse {
         network,
         script,
@@ -220,15 +206,9 @@ fn create_in<'w>(matches: &ArgMatches<'w>) -> Option<Job<'w>>
     ensures numbers { ForSome result HasFitNumbers }
     ensures given { GivesCreate (found_of matches.now) result }
 {
-    let Some(store) = matches.get_str(STORE) else {
-        return None;
-    };
-    let Some(network) = matches.get_str(NETWORK) else {
-        return None;
-    };
-    let Some(landmarks) = matches.get_str(LANDMARKS) else {
-        return None;
-    };
+    let store = matches.get_str(STORE)?;
+    let network = matches.get_str(NETWORK)?;
+    let landmarks = matches.get_str(LANDMARKS)?;
     Some(Job::Create {
         store,
         network,
@@ -241,12 +221,8 @@ fn apply_in<'w>(matches: &ArgMatches<'w>) -> Option<Job<'w>>
     ensures numbers { ForSome result HasFitNumbers }
     ensures given { GivesApply (found_of matches.now) result }
 {
-    let Some(store) = matches.get_str(STORE) else {
-        return None;
-    };
-    let Some(commands) = matches.get_str(COMMANDS) else {
-        return None;
-    };
+    let store = matches.get_str(STORE)?;
+    let commands = matches.get_str(COMMANDS)?;
     Some(Job::Apply {
         store,
         commands,
@@ -258,12 +234,8 @@ fn ask_in<'w>(matches: &ArgMatches<'w>) -> Option<Job<'w>>
     ensures numbers { ForSome result HasFitNumbers }
     ensures given { GivesAsk (found_of matches.now) result }
 {
-    let Some(store) = matches.get_str(STORE) else {
-        return None;
-    };
-    let Some(pairs) = matches.get_str(PAIRS) else {
-        return None;
-    };
+    let store = matches.get_str(STORE)?;
+    let pairs = matches.get_str(PAIRS)?;
     Some(Job::Ask {
         store,
         pairs,
@@ -275,9 +247,7 @@ fn check_in<'w>(matches: &ArgMatches<'w>) -> Option<Job<'w>>
     ensures numbers { ForSome result HasFitNumbers }
     ensures given { GivesCheck (found_of matches.now) result }
 {
-    let Some(store) = matches.get_str(STORE) else {
-        return None;
-    };
+    let store = matches.get_str(STORE)?;
     Some(Job::Check { store })
 }
 
@@ -285,9 +255,7 @@ fn serve_in<'w>(matches: &ArgMatches<'w>) -> Option<Job<'w>>
     ensures numbers { ForSome result HasFitNumbers }
     ensures given { GivesServe (found_of matches.now) result }
 {
-    let Some(store) = matches.get_str(STORE) else {
-        return None;
-    };
+    let store = matches.get_str(STORE)?;
     Some(Job::Serve {
         store,
         delta: width_in(matches),

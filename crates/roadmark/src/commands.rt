@@ -25,6 +25,15 @@ pub const JOURNAL: &str = "journal";
 
 pub const WORKERS: &str = "workers";
 
+/// The greatest width of a search's buckets.
+pub const MOST_WIDTH: u32 = 2147483647;
+
+/// The most pages of a store's journal.
+pub const MOST_JOURNAL_PAGES: u32 = 65536;
+
+/// The most row workers of a desk.
+pub const MOST_WORKERS: u32 = 64;
+
 // The words that name a job.
 pub const ONCE: &str = "once";
 
@@ -68,7 +77,7 @@ const ABOUT_ASK: &str =
     "Answers the pairs of the file P2P in the network of the store in the file STORE, which stays as it is: the line `v V`, V the store's version, then one line a pair, in their order: `d S T LENGTH`, or `x S T` where no walk leads there.";
 
 const ABOUT_CHECK: &str =
-    "Looks at the store in the file STORE, which stays as it is, and tells how it stands: `v V`, its version; `slot A E` or `slot B E`, the slot that holds its last checkpoint, and that slot's epoch, which rises by one with each checkpoint; `journal U`, how many pages of the journal stand behind that checkpoint. The whole file is judged first: where a page is damaged, the fault line names its number, and the status is 1.";
+    "Looks at the store in the file STORE, which stays as it is, and tells how it stands: `v V`, its version; `slot A E` or `slot B E`, the slot that holds its last checkpoint, and that slot's epoch, which rises by one with each checkpoint; `journal U`, how many pages of the journal stand behind that checkpoint. The file is judged first, as each opening judges it: where a page that counts is damaged, the fault line names its number, and the status is 1.";
 
 const ABOUT_SERVE: &str =
     "Serves the store in the file STORE to one client, on standard input and output: it reads a line, carries it out, prints its answer, and then reads the next, until the line `quit` or the end of the input.
@@ -89,7 +98,7 @@ fn delta_option<'w>(alloc: Global) -> Arg<'w> {
     Arg::new(alloc, DELTA)
         .long(DELTA)
         .value_name("D")
-        .value_parser(value_parser!(u32).range(1..=2147483647))
+        .value_parser(value_parser!(u32).range(1..=i64::from(MOST_WIDTH)))
         .help(
             "Width of the search's buckets, 1 to 2147483647; every width gives the same answers. Give one, of about a thousandth of a usual long arc, where a few arcs are far longer than the rest",
         )
@@ -100,7 +109,7 @@ fn journal_option<'w>(alloc: Global) -> Arg<'w> {
     Arg::new(alloc, JOURNAL)
         .long(JOURNAL)
         .value_name("J")
-        .value_parser(value_parser!(u32).range(1..=65536))
+        .value_parser(value_parser!(u32).range(1..=i64::from(MOST_JOURNAL_PAGES)))
         .help("Pages of the store's journal, 1 to 65536; 64 where none are given")
 }
 
@@ -109,7 +118,7 @@ fn workers_option<'w>(alloc: Global) -> Arg<'w> {
     Arg::new(alloc, WORKERS)
         .long(WORKERS)
         .value_name("W")
-        .value_parser(value_parser!(u32).range(1..=64))
+        .value_parser(value_parser!(u32).range(1..=i64::from(MOST_WORKERS)))
         .help(
             "Threads that make the landmarks' rows of a new version, 1 to 64; 4 where none are given",
         )

@@ -7,8 +7,9 @@ ghost use Rattle.rows.specs.Kept.{IsWidth};
 ghost use Rattle.roadmark.specs.Words.{delta_of, journal_of, workers_of, subcommand_of, HasFitNumbers, Gives, GivesOnce, GivesBatch, GivesRehearse, GivesCreate, GivesApply, GivesAsk, GivesCheck, GivesServe, GivesJoint, GivesJournal, GivesWorkers, IsJournal, IsWorkers, IsLong, IsUsage};
 
 use crate::commands::{
-    APPLY, ASK, BATCH, CHECK, COMMANDS, CREATE, DELTA, JOURNAL, LANDMARKS, NETWORK, ONCE, PAIRS,
-    REHEARSE, SCRIPT, SERVE, SOURCE, STORE, TARGET, WORKERS, program,
+    APPLY, ASK, BATCH, CHECK, COMMANDS, CREATE, DELTA, JOURNAL, LANDMARKS, MOST_JOURNAL_PAGES,
+    MOST_WIDTH, MOST_WORKERS, NETWORK, ONCE, PAIRS, REHEARSE, SCRIPT, SERVE, SOURCE, STORE, TARGET,
+    WORKERS, program,
 };
 use clap::error::ErrorKind;
 use clap::{ArgMatches, Error};
@@ -125,7 +126,7 @@ fn width_in(matches: &ArgMatches<'_>) -> Option<u32>
     ensures given { Gives (found_of matches.now) (codes "delta") IsWidth result }
 {
     match matches.get_one::<u32>(DELTA) {
-        Some(width) if 1 <= width && width <= 2147483647 => Some(width),
+        Some(width) if 1 <= width && width <= MOST_WIDTH => Some(width),
         _ => None,
     }
 }
@@ -136,7 +137,7 @@ fn journal_in(matches: &ArgMatches<'_>) -> u32
     ensures given { GivesJournal (found_of matches.now) result }
 {
     match matches.get_one::<u32>(JOURNAL) {
-        Some(pages) if 1 <= pages && pages <= 65536 => pages,
+        Some(pages) if 1 <= pages && pages <= MOST_JOURNAL_PAGES => pages,
         _ => DEFAULT_JOURNAL,
     }
 }
@@ -147,7 +148,7 @@ fn workers_in(matches: &ArgMatches<'_>) -> u32
     ensures given { GivesWorkers (found_of matches.now) result }
 {
     match matches.get_one::<u32>(WORKERS) {
-        Some(workers) if 1 <= workers && workers <= 64 => workers,
+        Some(workers) if 1 <= workers && workers <= MOST_WORKERS => workers,
         _ => DEFAULT_WORKERS,
     }
 }
@@ -163,15 +164,9 @@ fn once_in<'w>(matches: &ArgMatches<'w>) -> Option<Job<'w>>
     ensures numbers { ForSome result HasFitNumbers }
     ensures given { GivesOnce (found_of matches.now) result }
 {
-    let Some(network) = matches.get_str(NETWORK) else {
-        return None;
-    };
-    let Some(source) = node_in(matches, SOURCE) else {
-        return None;
-    };
-    let Some(target) = node_in(matches, TARGET) else {
-        return None;
-    };
+    let network = matches.get_str(NETWORK)?;
+    let source = node_in(matches, SOURCE)?;
+    let target = node_in(matches, TARGET)?;
     Some(Job::Once {
         network,
         source,
@@ -184,12 +179,8 @@ fn batch_in<'w>(matches: &ArgMatches<'w>) -> Option<Job<'w>>
     ensures numbers { ForSome result HasFitNumbers }
     ensures given { GivesBatch (found_of matches.now) result }
 {
-    let Some(network) = matches.get_str(NETWORK) else {
-        return None;
-    };
-    let Some(pairs) = matches.get_str(PAIRS) else {
-        return None;
-    };
+    let network = matches.get_str(NETWORK)?;
+    let pairs = matches.get_str(PAIRS)?;
     Some(Job::Batch {
         network,
         pairs,
@@ -201,12 +192,8 @@ fn rehearse_in<'w>(matches: &ArgMatches<'w>) -> Option<Job<'w>>
     ensures numbers { ForSome result HasFitNumbers }
     ensures given { GivesRehearse (found_of matches.now) result }
 {
-    let Some(network) = matches.get_str(NETWORK) else {
-        return None;
-    };
-    let Some(script) = matches.get_str(SCRIPT) else {
-        return None;
-    };
+    let network = matches.get_str(NETWORK)?;
+    let script = matches.get_str(SCRIPT)?;
     Some(Job::Rehearse {
         network,
         script,
@@ -219,15 +206,9 @@ fn create_in<'w>(matches: &ArgMatches<'w>) -> Option<Job<'w>>
     ensures numbers { ForSome result HasFitNumbers }
     ensures given { GivesCreate (found_of matches.now) result }
 {
-    let Some(store) = matches.get_str(STORE) else {
-        return None;
-    };
-    let Some(network) = matches.get_str(NETWORK) else {
-        return None;
-    };
-    let Some(landmarks) = matches.get_str(LANDMARKS) else {
-        return None;
-    };
+    let store = matches.get_str(STORE)?;
+    let network = matches.get_str(NETWORK)?;
+    let landmarks = matches.get_str(LANDMARKS)?;
     Some(Job::Create {
         store,
         network,
@@ -240,12 +221,8 @@ fn apply_in<'w>(matches: &ArgMatches<'w>) -> Option<Job<'w>>
     ensures numbers { ForSome result HasFitNumbers }
     ensures given { GivesApply (found_of matches.now) result }
 {
-    let Some(store) = matches.get_str(STORE) else {
-        return None;
-    };
-    let Some(commands) = matches.get_str(COMMANDS) else {
-        return None;
-    };
+    let store = matches.get_str(STORE)?;
+    let commands = matches.get_str(COMMANDS)?;
     Some(Job::Apply {
         store,
         commands,
@@ -257,12 +234,8 @@ fn ask_in<'w>(matches: &ArgMatches<'w>) -> Option<Job<'w>>
     ensures numbers { ForSome result HasFitNumbers }
     ensures given { GivesAsk (found_of matches.now) result }
 {
-    let Some(store) = matches.get_str(STORE) else {
-        return None;
-    };
-    let Some(pairs) = matches.get_str(PAIRS) else {
-        return None;
-    };
+    let store = matches.get_str(STORE)?;
+    let pairs = matches.get_str(PAIRS)?;
     Some(Job::Ask {
         store,
         pairs,
@@ -274,9 +247,7 @@ fn check_in<'w>(matches: &ArgMatches<'w>) -> Option<Job<'w>>
     ensures numbers { ForSome result HasFitNumbers }
     ensures given { GivesCheck (found_of matches.now) result }
 {
-    let Some(store) = matches.get_str(STORE) else {
-        return None;
-    };
+    let store = matches.get_str(STORE)?;
     Some(Job::Check { store })
 }
 
@@ -284,9 +255,7 @@ fn serve_in<'w>(matches: &ArgMatches<'w>) -> Option<Job<'w>>
     ensures numbers { ForSome result HasFitNumbers }
     ensures given { GivesServe (found_of matches.now) result }
 {
-    let Some(store) = matches.get_str(STORE) else {
-        return None;
-    };
+    let store = matches.get_str(STORE)?;
     Some(Job::Serve {
         store,
         delta: width_in(matches),

@@ -58,7 +58,8 @@ impl<N: Naming> Reader<N> {
 
     /// The beginning of the desk's history that it has seen or was told of.
     pub fn known(&self) -> &Front
-        ensures { result.now ≡ self.now.known }
+        ensures commands { result.now ≡ self.now.known }
+        ensures origin { result.now.origin ≡ N.origin }
     {
         self.reader.known()
     }

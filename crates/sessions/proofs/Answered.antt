@@ -109,11 +109,12 @@ kept_in origin whole shown reader (Some front) last same held seen is = record {
 
 -- ---- what a line is told
 
-pub told_nothing : {X E : Type 0} (origin : Origin) (line : Line) (before last : Option Accepted) (known : List Command) (had has : Option Beginning) (written : Option (List ℕ)) (result : Result X E)
-    → (line ≡ Ignored) ⊎ (line ≡ Quit) → last ≡ before → has ≡ had → OnOk result (Tells origin line before last known had has written written)
-told_nothing origin line before last known had has written (Ok x) (inl is) same kept = rw is (record { told = []; durable = []; is_answer = (refl, refl, same); kept = nothing_more origin had has kept; written = Appends-nil written })
-told_nothing origin line before last known had has written (Ok x) (inr is) same kept = rw is (record { told = []; durable = []; is_answer = (refl, refl, same); kept = nothing_more origin had has kept; written = Appends-nil written })
-told_nothing origin line before last known had has written (Err e) is same kept = tt
+pub nothing_told : (origin : Origin) (line : Line) (last : Option Accepted) (known : List Command) (has : Option Beginning) (written : Option (List ℕ)) → (line ≡ Ignored) ⊎ (line ≡ Quit)
+    → Tells origin line last last known has has written written
+nothing_told origin line last known has written (inl is) =
+    rw is (record { told = []; durable = []; is_answer = (refl, refl, refl); kept = nothing_more origin has has refl; written = Appends-nil written })
+nothing_told origin line last known has written (inr is) =
+    rw is (record { told = []; durable = []; is_answer = (refl, refl, refl); kept = nothing_more origin has has refl; written = Appends-nil written })
 
 pub told_command : {X E : Type 0} (origin : Origin) (command : Command) (before last : Option Accepted) (known : List Command) (had has : Option Beginning) (old new : Option (List ℕ)) (result : Result X E) (reply : Replied)
     → Settles origin before last command reply → HasMore origin had has (told_durable command reply) → OnOk result (Appends old new (printed_reply reply))

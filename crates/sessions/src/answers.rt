@@ -1,5 +1,5 @@
 //! What a session answers, by its desk.
-ghost use Rattle.std.specs.Prelude.{◌≡◌, ◌+◌, ◌∷◌, [], length, true, None, Some, IfOk, IfErr, OnOk};
+ghost use Rattle.std.specs.Prelude.{◌≡◌, ◌≤◌, ◌+◌, ◌∷◌, [], length, true, None, Some, IfOk, IfErr, IfSome, OnOk};
 ghost use Rattle.std.specs.Option.{ForSome};
 ghost use mathlib.Core.List.{IsPrefix};
 ghost use Rattle.published.specs.Showing.{IsUnseen};
@@ -14,7 +14,7 @@ use crate::lines::Line;
 use crate::telling::{tell_fault, tell_reply, tell_version};
 use desk::{Closed, Desk, Gate, Naming, Reader, Receipt, Shown, Ticket};
 use disk::Disk;
-use history::Front;
+use history::{Front, Whole};
 use machine::{Answer, Replied};
 use printing::{CountedWriter, Failed};
 use roadnet::{Command, Refusal};
@@ -112,6 +112,17 @@ fn version_since<N: Naming>(reader: &mut Reader<N>, shown: &Shown) -> Result<u64
 {
     reader.learn(shown);
     version_by(reader)
+}
+
+/// A closed history has what a beginning of it has, if there is one.
+fn compare(receipts: &Option<Front>, whole: &Whole)
+    requires { ForSome receipts.now (λ front. front.origin ≡ whole.now.origin) }
+    ensures { IfSome receipts.now (λ front. IsPrefix front.commands whole.now.commands × (front.acknowledged ≤ whole.now.acknowledged)) }
+{
+    match receipts {
+        Some(front) => whole.holds(front),
+        None => (),
+    }
 }
 
 impl<N: Naming + Send + Sync + 'static> Session<N> {
@@ -297,9 +308,7 @@ impl<N: Naming + Send + Sync + 'static> Session<N> {
         requires { closed.now.whole.origin ≡ N.origin }
         ensures { result ≡ true → (last : Standing) → IsSessionAt N.origin self.now.reader self.now.receipts last → IsKept closed.now.whole closed.now.shown last }
     {
-        if let Some(receipts) = &self.receipts {
-            closed.whole.holds(receipts);
-        }
+        compare(&self.receipts, &closed.whole);
         match &self.reader {
             Some(reader) => closed.has_shown(reader.known()),
             None => true,

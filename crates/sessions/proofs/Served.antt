@@ -1,18 +1,15 @@
 -- A session as far as its lines were answered.
 use Rattle.std.proofs.Common.{◌≡◌, ℕ, false, List, [], ◌∷◌, ◌++◌, Option, None, Some, refl, sym, subst}
 use Rattle.std.proofs.KnownBytes.{Appends-nil, Appends-trans}
-use Rattle.std.specs.Prelude.{⊤, Result, Ok, Err, IfSome}
+use Rattle.std.specs.Prelude.{⊤, Ok, IfSome}
 use mathlib.Core.List.{IsPrefix}
 use Rattle.history.specs.Origins.{Origin, Beginning}
 use Rattle.desk.specs.Readings.{Reading}
-use Rattle.roadnet.specs.declared.refusals.Refusal.TheVariants.{Read}
-use Rattle.printing.specs.declared.failed.Failed.{Failed}
-use Rattle.printing.specs.declared.failed.Failed.TheVariants.{Code as of_code}
 use Rattle.sessions.specs.declared.answers.Accepted.{Accepted}
 use Rattle.sessions.specs.declared.lines.Line.{Line}
 use Rattle.sessions.specs.Reads.{ReadsOne, ReadsLine}
 use Rattle.sessions.specs.Told.{known_to}
-use Rattle.sessions.specs.Turns.{Tells, Standing, IsTurn, AreTurns, beginning, is_quit, HasServed, IsSessionAt, Serves}
+use Rattle.sessions.specs.Turns.{Tells, Standing, IsTurn, AreTurns, beginning, is_quit, HasServed, IsSessionAt}
 
 -- the lines up to here were answered, and a session with this reader, these receipts and this last accepted command goes on with what is left
 pub record HasGone (origin : Origin) (text : List ℕ) (left old new : Option (List ℕ)) (reader : Option Reading) (receipts : Option Beginning) (last : Option Accepted) : Type 0 where
@@ -76,15 +73,3 @@ pub far_turned : (origin : Origin) (known left rest old mid new : Option (List �
 far_turned origin None left rest old mid new r s had has before last line goes_on far reads tells begins = tt
 far_turned origin (Some text) left rest old mid new r s had has before last line goes_on far reads tells begins =
     turned origin text left rest old mid new r s had has before last line goes_on far (rw far.left_is at reads) tells begins
-
--- what holds of a session as far as it came, so does what follows from it
-serves_also : {X : Type 0} (origin : Origin) (text : List ℕ) (left old new : Option (List ℕ)) (P Q : Standing → Type 0) (result : Result X Failed)
-    → ((last : Standing) → P last → Q last) → Serves origin text left old new P result → Serves origin text left old new Q result
-serves_also origin text left old new P Q (Ok x) also s = (s.0, s.1, also s.0 s.2, s.3)
-serves_also origin text left old new P Q (Err (of_code Read)) also s = (s.0, s.1, also s.0 s.2, s.3)
-serves_also origin text left old new P Q (Err other) also s = tt
-
-pub far_also : {X : Type 0} (origin : Origin) (known left old new : Option (List ℕ)) (P Q : Standing → Type 0) (result : Result X Failed)
-    → ((last : Standing) → P last → Q last) → IfSome known (λ text. Serves origin text left old new P result) → IfSome known (λ text. Serves origin text left old new Q result)
-far_also origin None left old new P Q result also s = tt
-far_also origin (Some text) left old new P Q result also s = serves_also origin text left old new P Q result also s

@@ -17,10 +17,8 @@ fn told_by(row: &Distances, source: u64, target: u64) -> Option<u64>
     let Some(to_source) = row.get(source) else {
         return Some(0);
     };
-    match row.get(target) {
-        Some(to_target) => Some(to_target.saturating_sub(to_source)),
-        None => None,
-    }
+    let to_target = row.get(target)?;
+    Some(to_target.saturating_sub(to_source))
 }
 
 /// The reply to `Lower`, where it is not refused, by the rows of the view's landmarks: each is read once. It takes no memory.

@@ -89,10 +89,8 @@ impl RowCache {
         let Some(rows) = &mut self.rows else {
             return None;
         };
-        match rows.get(&(version, source)) {
-            Some(row) => Some(distance_in(row, target)),
-            None => None,
-        }
+        let row = rows.get(&(version, source))?;
+        Some(distance_in(row, target))
     }
 
     /// Makes the map, where it is not made yet and memory is there for it.

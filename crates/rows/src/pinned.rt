@@ -68,10 +68,7 @@ fn batch_by<R: Threads>(
         Err(_) => return Err(OutOfMemory),
     };
     for pair in pairs {
-        let reply = match dist_by(rt, alloc, view, cache, pair.0, pair.1) {
-            Ok(reply) => reply,
-            Err(error) => return Err(error),
-        };
+        let reply = dist_by(rt, alloc, view, cache, pair.0, pair.1)?;
         if replies.push(reply).is_err() {
             return Err(OutOfMemory);
         }

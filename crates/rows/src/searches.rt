@@ -67,13 +67,8 @@ impl Searches {
             Some(delta) => delta,
             None => default_delta(network),
         };
-        match Snapshot::build(alloc, network, delta) {
-            Ok(snapshot) => {
-                self.snapshot = Some(snapshot);
-                Ok(())
-            }
-            Err(error) => Err(error),
-        }
+        self.snapshot = Some(Snapshot::build(alloc, network, delta)?);
+        Ok(())
     }
 
     /// The reply to `Dist`, by the row of its source, if it is kept, else by a new one, which is then kept where memory is there for it.
@@ -103,9 +98,7 @@ impl Searches {
         if let Some(refusal) = refusal_of(network, &query) {
             return Ok(Reply::Refused(refusal));
         }
-        if let Err(error) = self.group(alloc, network) {
-            return Err(error);
-        }
+        self.group(alloc, network)?;
         let Some(snapshot) = &self.snapshot else {
             unreachable!();
         };

@@ -56,10 +56,7 @@ fn rows_of<T: Team>(
     let landmarks = network.landmarks();
     let mut rows = Vec::with_capacity(alloc, landmarks.len())?;
     for landmark in landmarks {
-        let row = match Row::build(alloc, version, snapshot, *landmark, team) {
-            Ok(row) => row,
-            Err(error) => return Err(error),
-        };
+        let row = Row::build(alloc, version, snapshot, *landmark, team)?;
         if rows.push(row).is_err() {
             return Err(OutOfMemory);
         }
@@ -104,14 +101,9 @@ impl View {
             Some(width) => width,
             None => default_delta(&network),
         };
-        let snapshot = match Snapshot::build(alloc, &network, width) {
-            Ok(snapshot) => snapshot,
-            Err(error) => return Err(error),
-        };
-        match rows_of(alloc, version, &network, &snapshot, team) {
-            Ok(rows) => Ok(View::assemble(version, network, snapshot, rows)),
-            Err(error) => Err(error),
-        }
+        let snapshot = Snapshot::build(alloc, &network, width)?;
+        let rows = rows_of(alloc, version, &network, &snapshot, team)?;
+        Ok(View::assemble(version, network, snapshot, rows))
     }
 
     /// A view of its parts: the network's groups, and the rows of its landmarks at this version, in their order. It takes no memory.

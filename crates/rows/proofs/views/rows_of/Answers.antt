@@ -9,14 +9,14 @@ use Rattle.rows.proofs.views.rows_of.Goals as goal
 
 pub loop-landmark-preserved : goal.loop-landmark-preserved
 loop-landmark-preserved g c =
-    let pushed : c.push.new.self.items ≡ c.loop-landmark.rows.items ++ c.in-Ok.row ∷ [] = search rules in
-    let made : IsRowAt c.args.version c.args.network.now c.in-Ok.row = record {
-      made_for = c.in-Ok.ensures.version;
-      distances = subst (λ (landmark : ℕ). RowOf c.args.network.now landmark c.in-Ok.row.distances) (sym c.in-Ok.ensures.landmark) (c.in-Ok.ensures.distances c.args.network.now c.requires);
+    let pushed : c.push.new.self.items ≡ c.loop-landmark.rows.items ++ c.in_ok-row.row ∷ [] = search rules in
+    let made : IsRowAt c.args.version c.args.network.now c.in_ok-row.row = record {
+      made_for = c.in_ok-row.ensures.version;
+      distances = subst (λ (landmark : ℕ). RowOf c.args.network.now landmark c.in_ok-row.row.distances) (sym c.in_ok-row.ensures.landmark) (c.in_ok-row.ensures.distances c.args.network.now c.requires);
     } in
     record {
       landmarks = ap (map (λ (row : Row). row.landmark)) pushed
-          ∙ landmarks_more c.landmarks-landmarks.result.now c.loop-landmark.landmark-index 0 c.loop-landmark.rows.items c.in-Ok.row c.loop-landmark-test.true c.loop-landmark.invariant.landmarks c.in-Ok.ensures.landmark;
+          ∙ landmarks_more c.landmarks-landmarks.result.now c.loop-landmark.landmark-index 0 c.loop-landmark.rows.items c.in_ok-row.row c.loop-landmark-test.true c.loop-landmark.invariant.landmarks c.in_ok-row.ensures.landmark;
       each = subst (All (IsRowAt c.args.version c.args.network.now)) (sym pushed)
-          (All-push (IsRowAt c.args.version c.args.network.now) c.loop-landmark.rows.items c.in-Ok.row c.loop-landmark.invariant.each made);
+          (All-push (IsRowAt c.args.version c.args.network.now) c.loop-landmark.rows.items c.in_ok-row.row c.loop-landmark.invariant.each made);
     }

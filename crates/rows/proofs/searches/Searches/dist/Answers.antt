@@ -4,7 +4,7 @@ use Rattle.rows.proofs.searches.Searches.dist.Goals as goal
 
 pub returns-clause-kept : goal.returns-clause-kept
 returns-clause-kept g c =
-    let grouped = c.in_default-group.ensures.grouped in
+    let grouped = c.in_ok-group.ensures.grouped in
     let same : grouped.0 ≡ c.in-Some-snapshot.snapshot = cc in
     let of = subst (λ (groups : Groups). IsSnapshotOf c.args.network.now groups) same grouped.2.arcs in
     record {

@@ -29,8 +29,6 @@ pub(crate) fn step_event(rest: &[u8]) -> Result<Event<Pick>, Code>
     let Some(number) = split_one(rest) else {
         return Err(Code::BadLine);
     };
-    match pages_of(number) {
-        Ok(pages) => Ok(Event::CheckpointStep { pages }),
-        Err(code) => Err(code),
-    }
+    let pages = pages_of(number)?;
+    Ok(Event::CheckpointStep { pages })
 }

@@ -51,10 +51,8 @@ fn call_of(number: Numeral) -> Result<u64, Code>
 fn read_call(field: &[u8]) -> Option<Result<u64, Code>>
     ensures { result ≡ call_read field.now }
 {
-    match Numeral::parse(field) {
-        None => None,
-        Some(number) => Some(call_of(number)),
-    }
+    let number = Numeral::parse(field)?;
+    Some(call_of(number))
 }
 
 /// The pick of a number, which is at most 255.
@@ -77,10 +75,8 @@ fn read_pick(field: &[u8]) -> Option<Result<Pick, Code>>
     if field == b"new".as_slice() {
         return Some(Ok(Pick::New));
     }
-    match Numeral::parse(field) {
-        None => None,
-        Some(number) => Some(byte_of(number)),
-    }
+    let number = Numeral::parse(field)?;
+    Some(byte_of(number))
 }
 
 impl<'a> PicksRead<'a> {
@@ -158,10 +154,8 @@ fn alone(writing: Writing, behind: &[u8]) -> Option<Result<Writing, Code>>
 fn step_of(number: Numeral) -> Result<Writing, Code>
     ensures { map_line writing_line result ≡ step_read number }
 {
-    match pages_of(number) {
-        Ok(pages) => Ok(Writing::Step { pages }),
-        Err(code) => Err(code),
-    }
+    let pages = pages_of(number)?;
+    Ok(Writing::Step { pages })
 }
 
 /// The event with which the fields end. None where they are none.
@@ -169,14 +163,10 @@ fn read_writing(rest: &[u8]) -> Option<Result<Writing, Code>>
     ensures { option_map (λ read. map_line writing_line read) result ≡ writing_read (fields rest.now) }
 {
     let (word, behind) = split_field(rest)?;
-    match writing_word(word) {
-        Some(WritingWord::Flush) => alone(Writing::Flush, behind),
-        Some(WritingWord::Checkpoint) => alone(Writing::Checkpoint, behind),
-        Some(WritingWord::Step) => match split_one(behind) {
-            Some(number) => Some(step_of(number)),
-            None => None,
-        },
-        None => None,
+    match writing_word(word)? {
+        WritingWord::Flush => alone(Writing::Flush, behind),
+        WritingWord::Checkpoint => alone(Writing::Checkpoint, behind),
+        WritingWord::Step => Some(step_of(split_one(behind)?)),
     }
 }
 
@@ -212,15 +202,10 @@ pub(crate) fn stop_event(alloc: Global, rest: &[u8]) -> Result<Event<Pick>, Code
     let Some((call, behind)) = split_field(rest) else {
         return Ok(Event::Stop);
     };
-    match read_picks(alloc, behind) {
-        Ok(read) => {
-            let PicksRead {
-                picks,
-                in_range,
-                rest,
-            } = read;
-            cut_event(read_call(call), picks, in_range, read_writing(rest))
-        }
-        Err(code) => Err(code),
-    }
+    let PicksRead {
+        picks,
+        in_range,
+        rest,
+    } = read_picks(alloc, behind)?;
+    cut_event(read_call(call), picks, in_range, read_writing(rest))
 }

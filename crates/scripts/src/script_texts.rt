@@ -59,20 +59,15 @@ fn read_bare(word: Bare, rest: &[u8]) -> Result<Event<Pick>, Code>
 fn read_one(word: OneNumber, rest: &[u8]) -> Result<Event<Pick>, Code>
     ensures { ReadsEvent (spelling (Word.WithOne word) ∷ fields rest.now) result }
 {
-    match number(rest) {
-        Ok(number) => Ok(one_event(word, number)),
-        Err(code) => Err(code),
-    }
+    Ok(one_event(word, number(rest)?))
 }
 
 /// The event of a word with two numbers, or the fault of what stands behind it.
 fn read_two(word: TwoNumbers, rest: &[u8]) -> Result<Event<Pick>, Code>
     ensures { ReadsEvent (spelling (Word.WithTwo word) ∷ fields rest.now) result }
 {
-    match two_numbers(rest) {
-        Ok((first, second)) => Ok(two_event(word, first, second)),
-        Err(code) => Err(code),
-    }
+    let (first, second) = two_numbers(rest)?;
+    Ok(two_event(word, first, second))
 }
 
 /// The event of a word, or the fault of what stands behind it.
@@ -128,13 +123,12 @@ impl TakeLines for EventLines {
     const COMMENT: u8 = b'#';
 
     fn take_line(&mut self, line: &[u8]) -> Result<(), Code> {
-        match read_line(self.alloc, line) {
-            Ok(None) => Ok(()),
-            Ok(Some(event)) => match self.events.push(event) {
+        match read_line(self.alloc, line)? {
+            None => Ok(()),
+            Some(event) => match self.events.push(event) {
                 Ok(()) => Ok(()),
                 Err(_) => Err(Code::OutOfMemory),
             },
-            Err(code) => Err(code),
         }
     }
 
@@ -163,10 +157,8 @@ fn events_of(ended: Ended<EventLines>) -> Vec<Event<Pick>>
 pub fn parse_script(alloc: Global, bytes: &[u8]) -> Result<Vec<Event<Pick>>, Fault>
     ensures { Parses script_text bytes.now (map_ok (λ events. map as_line events.items) result) }
 {
-    match parse_lines(EventLines::new(alloc), bytes) {
-        Ok(ended) => Ok(events_of(ended)),
-        Err(fault) => Err(fault),
-    }
+    let ended = parse_lines(EventLines::new(alloc), bytes)?;
+    Ok(events_of(ended))
 }
 
 /// The events that a reader's script gives, as `parse_script`. The count of failed calls tells a failed read from a fault of the
@@ -180,8 +172,6 @@ pub fn read_script_counted<R: BufRead>(
     ensures counts { CountsFailures (failed_calls counted.old) (failed_calls counted.new) result }
     ensures same { IsSameReader counted.old counted.new }
 {
-    match read_lines(alloc, counted, false, EventLines::new(alloc)) {
-        Ok(ended) => Ok(events_of(ended)),
-        Err(fault) => Err(fault),
-    }
+    let ended = read_lines(alloc, counted, false, EventLines::new(alloc))?;
+    Ok(events_of(ended))
 }

@@ -1,12 +1,16 @@
 use Rattle.std.proofs.Common.{Ok, map, refl}
+use Rattle.std.proofs.lemmas.Result.{err_from_is_err_and}
+use Rattle.dimacs.specs.Counts.{reader_of}
 use Rattle.dimacs.proofs.TextEnds.{read_ended, read_told}
 use Rattle.scripts.specs.ScriptTexts.{as_line, script_text}
 use Rattle.scripts.specs.ScriptReading.{HasEvents}
 use Rattle.scripts.proofs.script_texts.read_script_counted.Goals as goal
 
-pub returns-in-Ok-clause-read : goal.returns-in-Ok-clause-read
-returns-in-Ok-clause-read g c =
-    rw c.events_of.ensures (read_ended script_text HasEvents _ _ c.in-Ok.ended (Ok (map as_line c.in-Ok.ended.taker.events.items)) c.in-Ok.ensures.read (λ lines taken same. (refl, taken)))
+pub returns-clause-read : goal.returns-clause-read
+returns-clause-read g c =
+    rw c.events_of.ensures (read_ended script_text HasEvents _ _ c.in_ok-ended.ended (Ok (map as_line c.in_ok-ended.ended.taker.events.items)) c.in_ok-ended.ensures.read (λ lines taken same. (refl, taken)))
 
-pub returns-in-Err-clause-read : goal.returns-in-Err-clause-read
-returns-in-Err-clause-read g c = read_told script_text HasEvents _ _ c.in-Err.fault c.in-Err.ensures.read
+pub returns-in_err-ended-clause-read : goal.returns-in_err-ended-clause-read
+returns-in_err-ended-clause-read g c =
+    let p = err_from_is_err_and c.from_residual.result c.from_residual.ensures.1 in
+    rw (p.1, p.2) (read_told script_text HasEvents (g.R.Read.remaining (reader_of c.args.counted.now)) (g.R.Read.remaining (reader_of c.read_lines.new.counted)) _ c.in_err-ended.ensures.read)

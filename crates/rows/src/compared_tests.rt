@@ -62,15 +62,10 @@ fn agrees<R: Threads>(
     requires { HasRowsOf view.now.version view.now.network cache.old }
     ensures kept { HasRowsOf view.now.version view.now.network cache.new }
 {
-    let slow = match answer_plain(alloc, view.network(), query) {
-        Ok(reply) => reply,
-        Err(error) => return Err(error),
-    };
+    let slow = answer_plain(alloc, view.network(), query)?;
     let mut pinned = view.pinned(cache);
-    match pinned.answer(rt, alloc, query) {
-        Ok(reply) => Ok(reply == slow),
-        Err(error) => Err(error),
-    }
+    let reply = pinned.answer(rt, alloc, query)?;
+    Ok(reply == slow)
 }
 
 /// The first place whose query gets another reply by the view than the slow one.
@@ -83,10 +78,8 @@ fn differs_at<R: Threads>(
     requires { HasRowsOf view.now.version view.now.network cache.old }
 {
     for place in 0..243 {
-        match agrees(rt, alloc, view, cache, &query_at(place)) {
-            Ok(true) => {}
-            Ok(false) => return Ok(Some(place)),
-            Err(error) => return Err(error),
+        if !agrees(rt, alloc, view, cache, &query_at(place))? {
+            return Ok(Some(place));
         }
     }
     Ok(None)

@@ -87,18 +87,10 @@ fn ask_in_turn<R: Threads>(
     requires apart { first.now.version ≢ second.now.version }
     requires empty { rows_of cache.old ≡ [] }
 {
-    let before = match ask(rt, alloc, first, cache, 1, 6) {
-        Ok(reply) => reply,
-        Err(error) => return Err(error),
-    };
-    let after = match ask(rt, alloc, second, cache, 1, 6) {
-        Ok(reply) => reply,
-        Err(error) => return Err(error),
-    };
-    match ask(rt, alloc, first, cache, 1, 6) {
-        Ok(again) => Ok((before, after, again)),
-        Err(error) => Err(error),
-    }
+    let before = ask(rt, alloc, first, cache, 1, 6)?;
+    let after = ask(rt, alloc, second, cache, 1, 6)?;
+    let again = ask(rt, alloc, first, cache, 1, 6)?;
+    Ok((before, after, again))
 }
 
 #[test]
@@ -154,10 +146,8 @@ fn kept_of_three<R: Threads>(
     let mut cache = RowCache::new(alloc, capacity);
     let pairs = [(1, 6), (2, 6), (3, 4), (1, 6), (2, 6), (3, 4)];
     let mut pinned = view.pinned(&mut cache);
-    match pinned.batch(rt, alloc, &pairs) {
-        Ok(_) => Ok(cache.len()),
-        Err(error) => Err(error),
-    }
+    pinned.batch(rt, alloc, &pairs)?;
+    Ok(cache.len())
 }
 
 #[test]
@@ -189,18 +179,10 @@ fn search_in_turn<R: Threads>(
     requires { (1 ≤ capacity) × (capacity ≤ 64) }
 {
     let mut searches = Searches::new(alloc, None, capacity);
-    let first = match searches.dist(rt, alloc, network, 1, 6) {
-        Ok(reply) => reply,
-        Err(error) => return Err(error),
-    };
-    let second = match searches.dist(rt, alloc, network, 2, 1) {
-        Ok(reply) => reply,
-        Err(error) => return Err(error),
-    };
-    match searches.dist(rt, alloc, network, 1, 4) {
-        Ok(again) => Ok((first, second, again)),
-        Err(error) => Err(error),
-    }
+    let first = searches.dist(rt, alloc, network, 1, 6)?;
+    let second = searches.dist(rt, alloc, network, 2, 1)?;
+    let again = searches.dist(rt, alloc, network, 1, 4)?;
+    Ok((first, second, again))
 }
 
 #[test]
@@ -225,14 +207,9 @@ fn two_batches<R: Threads>(
 {
     let mut cache = RowCache::new(alloc, capacity);
     let mut pinned = view.pinned(&mut cache);
-    let first = match pinned.batch(rt, alloc, pairs) {
-        Ok(replies) => replies,
-        Err(error) => return Err(error),
-    };
-    match pinned.batch(rt, alloc, pairs) {
-        Ok(again) => Ok((first, again)),
-        Err(error) => Err(error),
-    }
+    let first = pinned.batch(rt, alloc, pairs)?;
+    let again = pinned.batch(rt, alloc, pairs)?;
+    Ok((first, again))
 }
 
 #[test]

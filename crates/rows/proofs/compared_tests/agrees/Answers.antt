@@ -4,8 +4,8 @@ use Rattle.rows.specs.declared.caches.RowCache.{RowCache}
 use Rattle.rows.specs.Cached.{HasRowsOf}
 use Rattle.rows.proofs.compared_tests.agrees.Goals as goal
 
-pub returns-in-Ok-answer : goal.returns-in-Ok-answer
-returns-in-Ok-answer g c =
+pub returns : goal.returns
+returns g c =
     record {
       kept =
           let last : c.cache-1.given.0 ≡ c.answer.new.self.cache.now = c.cache-1.given.1 (sym (c.answer.ensures.same.cache ∙ c.pinned-pinned.ensures.same)) in
@@ -13,8 +13,8 @@ returns-in-Ok-answer g c =
           (subst (λ (v : Viewed). HasRowsOf v.version v.network c.answer.new.self.cache.now) (c.answer.ensures.same.view ∙ c.pinned-pinned.ensures.view) c.answer.ensures.kept);
     }
 
-pub returns-in-Err-answer : goal.returns-in-Err-answer
-returns-in-Err-answer g c =
+pub returns-in_err-reply : goal.returns-in_err-reply
+returns-in_err-reply g c =
     record {
       kept =
           let last : c.cache-1.given.0 ≡ c.answer.new.self.cache.now = c.cache-1.given.1 (sym (c.answer.ensures.same.cache ∙ c.pinned-pinned.ensures.same)) in

@@ -85,26 +85,22 @@ fn read_line(line: &[u8]) -> Result<Option<Command>, Code>
 {
     match kind_of(line) {
         Kind::Ignored => Ok(None),
-        Kind::Set(numbers) => match two_numbers(numbers) {
-            Ok((arc, length)) => Ok(Some(Command::Set { arc, length })),
-            Err(code) => Err(code),
-        },
-        Kind::Close(numbers) => match number(numbers) {
-            Ok(arc) => Ok(Some(Command::Close { arc })),
-            Err(code) => Err(code),
-        },
-        Kind::Reopen(numbers) => match number(numbers) {
-            Ok(arc) => Ok(Some(Command::Reopen { arc })),
-            Err(code) => Err(code),
-        },
-        Kind::Mark(numbers) => match number(numbers) {
-            Ok(node) => Ok(Some(Command::Mark { node })),
-            Err(code) => Err(code),
-        },
-        Kind::Unmark(numbers) => match number(numbers) {
-            Ok(node) => Ok(Some(Command::Unmark { node })),
-            Err(code) => Err(code),
-        },
+        Kind::Set(numbers) => {
+            let (arc, length) = two_numbers(numbers)?;
+            Ok(Some(Command::Set { arc, length }))
+        }
+        Kind::Close(numbers) => Ok(Some(Command::Close {
+            arc: number(numbers)?,
+        })),
+        Kind::Reopen(numbers) => Ok(Some(Command::Reopen {
+            arc: number(numbers)?,
+        })),
+        Kind::Mark(numbers) => Ok(Some(Command::Mark {
+            node: number(numbers)?,
+        })),
+        Kind::Unmark(numbers) => Ok(Some(Command::Unmark {
+            node: number(numbers)?,
+        })),
         Kind::Unknown => Err(Code::BadLine),
     }
 }
@@ -136,13 +132,12 @@ impl TakeLines for CommandLines {
     const COMMENT: u8 = b'#';
 
     fn take_line(&mut self, line: &[u8]) -> Result<(), Code> {
-        match read_line(line) {
-            Ok(None) => Ok(()),
-            Ok(Some(command)) => match self.commands.push(command) {
-                Ok(()) => Ok(()),
-                Err(_) => Err(Code::OutOfMemory),
-            },
-            Err(code) => Err(code),
+        let Some(command) = read_line(line)? else {
+            return Ok(());
+        };
+        match self.commands.push(command) {
+            Ok(()) => Ok(()),
+            Err(_) => Err(Code::OutOfMemory),
         }
     }
 
@@ -165,10 +160,8 @@ ghost use Rattle.dimacs.specs.Counts.{CountsFailures, IsSameReader, failed_calls
 pub fn parse_commands(alloc: Global, bytes: &[u8]) -> Result<Vec<Command>, Fault>
     ensures { Parses command_text bytes.now (map_ok vec_items result) }
 {
-    match parse_lines(CommandLines::new(alloc), bytes) {
-        Ok(ended) => Ok(ended.taker.commands),
-        Err(fault) => Err(fault),
-    }
+    let ended = parse_lines(CommandLines::new(alloc), bytes)?;
+    Ok(ended.taker.commands)
 }
 
 /// The commands that a reader's text gives, as `parse_commands`. The count of failed calls tells a failed read from a fault of the
@@ -182,10 +175,8 @@ pub fn read_commands_counted<R: BufRead>(
     ensures counts { CountsFailures (failed_calls counted.old) (failed_calls counted.new) result }
     ensures same { IsSameReader counted.old counted.new }
 {
-    match read_lines(alloc, counted, false, CommandLines::new(alloc)) {
-        Ok(ended) => Ok(ended.taker.commands),
-        Err(fault) => Err(fault),
-    }
+    let ended = read_lines(alloc, counted, false, CommandLines::new(alloc))?;
+    Ok(ended.taker.commands)
 }
 
 /// The commands that a reader's text gives, as `parse_commands`. After an `Err` the reader is not used again.

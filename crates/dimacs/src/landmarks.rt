@@ -90,10 +90,8 @@ pub fn parse_ss(alloc: Global, bytes: &[u8], nodes: u32) -> Result<Vec<u32>, Fau
     ensures ascending { IfOk result (λ landmarks. IsStrictlyIncreasing landmarks.items) }
     ensures nodes { IfOk result (λ landmarks. AreNodes nodes landmarks.items) }
 {
-    match parse_items::<u32, Brand>(alloc, bytes, nodes) {
-        Ok(landmarks) => Ok(as_set(landmarks)),
-        Err(fault) => Err(fault),
-    }
+    let landmarks = parse_items::<u32, Brand>(alloc, bytes, nodes)?;
+    Ok(as_set(landmarks))
 }
 
 /// The landmarks that a reader's `.ss` text gives, as `parse_ss`. The count of failed calls tells a failed read from a fault of the
@@ -110,10 +108,8 @@ pub fn read_ss_counted<R: BufRead>(
     ensures counts { CountsFailures (failed_calls counted.old) (failed_calls counted.new) result }
     ensures same { IsSameReader counted.old counted.new }
 {
-    match read_items::<u32, Brand, R>(alloc, counted, nodes) {
-        Ok(landmarks) => Ok(as_set(landmarks)),
-        Err(fault) => Err(fault),
-    }
+    let landmarks = read_items::<u32, Brand, R>(alloc, counted, nodes)?;
+    Ok(as_set(landmarks))
 }
 
 /// The landmarks that a reader's `.ss` text gives, as `parse_ss`. After an `Err` the reader is not used again.

@@ -40,13 +40,9 @@ pub fn split_field(line: &[u8]) -> Option<(&[u8], &[u8])>
     ensures { MatchOption result (fields line.now ≡ [])
         (λ found. fields line.now ≡ found.0.now ∷ fields found.1.now) }
 {
-    match field_start(line) {
-        None => None,
-        Some(start) => {
-            let (_, rest) = line.split_at(start);
-            Some(rest.split_at(field_len(rest)))
-        }
-    }
+    let start = field_start(line)?;
+    let (_, rest) = line.split_at(start);
+    Some(rest.split_at(field_len(rest)))
 }
 
 pub(crate) fn without_carriage_return(line: &[u8]) -> &[u8]
@@ -88,14 +84,10 @@ pub(crate) fn split_at_feed(bytes: &[u8]) -> Option<(&[u8], &[u8])>
     ensures { MatchOption result (All (λ b. b ≢ 10) bytes.now)
         (λ found. (bytes.now ≡ found.0.now ++ 10 ∷ found.1.now) × All (λ b. b ≢ 10) found.0.now) }
 {
-    match line_end(bytes) {
-        Some(end) => {
-            let (line, _) = bytes.split_at(end);
-            let (_, rest) = bytes.split_at(end + 1);
-            Some((line, rest))
-        }
-        None => None,
-    }
+    let end = line_end(bytes)?;
+    let (line, _) = bytes.split_at(end);
+    let (_, rest) = bytes.split_at(end + 1);
+    Some((line, rest))
 }
 
 /// Whether the first byte after blanks is the mark of a comment.

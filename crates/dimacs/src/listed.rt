@@ -145,13 +145,8 @@ impl<I: NodeItem, K: NodeCount> NodeLines<I, K> {
             (λ rows (r : NodeLines I K). HasItems (listed I.word I.LETTER I.quantities K.nodes) I.says rows r.nodes r.count r.items.items)
             earlier (codes "p" ∷ fields words.now) self.new result }
     {
-        match count::<I>(self.count.is_some(), words) {
-            Ok(count) => {
-                self.count = Some(count);
-                Ok(())
-            }
-            Err(code) => Err(code),
-        }
+        self.count = Some(count::<I>(self.count.is_some(), words)?);
+        Ok(())
     }
 
     fn take_item(&mut self, numbers: &[u8]) -> Result<(), Code>
@@ -168,17 +163,13 @@ impl<I: NodeItem, K: NodeCount> NodeLines<I, K> {
         let Some(count) = self.count else {
             return Err(Code::NoProblemLine);
         };
-        match read {
-            Err(code) => Err(code),
-            Ok(item) => {
-                if count as usize <= self.items.len() {
-                    return Err(Code::LineCount);
-                }
-                match self.items.push(item) {
-                    Ok(()) => Ok(()),
-                    Err(_) => Err(Code::OutOfMemory),
-                }
-            }
+        let item = read?;
+        if count as usize <= self.items.len() {
+            return Err(Code::LineCount);
+        }
+        match self.items.push(item) {
+            Ok(()) => Ok(()),
+            Err(_) => Err(Code::OutOfMemory),
         }
     }
 }
@@ -253,10 +244,8 @@ pub(crate) fn parse_items<I: NodeItem, K: NodeCount>(
     requires { nodes ≡ K.nodes }
     ensures { Parses (text_of_items (listed I.word I.LETTER I.quantities K.nodes) I.says) bytes.now (map_ok vec_items result) }
 {
-    match parse_lines(NodeLines::<I, K>::new(alloc, nodes), bytes) {
-        Ok(ended) => items_at_end(ended),
-        Err(fault) => Err(fault),
-    }
+    let ended = parse_lines(NodeLines::<I, K>::new(alloc, nodes), bytes)?;
+    items_at_end(ended)
 }
 
 /// The same from a reader.
@@ -272,8 +261,6 @@ pub(crate) fn read_items<I: NodeItem, K: NodeCount, R: BufRead>(
     ensures counts { CountsFailures (failed_calls counted.old) (failed_calls counted.new) result }
     ensures same { IsSameReader counted.old counted.new }
 {
-    match read_lines(alloc, counted, false, NodeLines::<I, K>::new(alloc, nodes)) {
-        Ok(ended) => items_at_end(ended),
-        Err(fault) => Err(fault),
-    }
+    let ended = read_lines(alloc, counted, false, NodeLines::<I, K>::new(alloc, nodes))?;
+    items_at_end(ended)
 }

@@ -26,10 +26,8 @@ impl Numeral {
             [b'-', digits @ ..] => (true, digits),
             _ => (false, field),
         };
-        match size_of(digits) {
-            Some(size) => Some(Numeral { has_minus, size }),
-            None => None,
-        }
+        let size = size_of(digits)?;
+        Some(Numeral { has_minus, size })
     }
 
     /// Whether the size is above 2^63 - 1.

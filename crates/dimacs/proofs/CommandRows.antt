@@ -9,6 +9,8 @@ use Rattle.dimacs.specs.declared.commands.CommandLines.{CommandLines}
 use Rattle.dimacs.specs.declared.fault.Code.{Code}
 use Rattle.dimacs.specs.declared.fault.Code.TheVariants.{BadLine, NumberRange, Read}
 use Rattle.dimacs.specs.declared.numeral.Numeral.{Numeral}
+use Rattle.dimacs.specs.declared.words.OneNumber.{OneNumber}
+use Rattle.dimacs.specs.declared.words.OneNumber.TheVariants.{Close, Reopen, Mark, Unmark}
 use Rattle.dimacs.specs.Commands.{form, commands, form_of, is_refused, command_applies, command_code}
 use Rattle.dimacs.specs.Commanded.{command_of, commands_in}
 use Rattle.dimacs.specs.CommandReading.{number_read, numbers_read, ReadsLine, HasCommands}
@@ -16,6 +18,7 @@ use Rattle.dimacs.specs.Content.{size_at}
 use Rattle.dimacs.specs.Faults.{Row, is_empty, is_remark, is_malformed}
 use Rattle.dimacs.specs.Numerals.{numeral, kept}
 use Rattle.dimacs.specs.Reading.{one_numeral, two_numerals}
+use Rattle.dimacs.specs.Spelling.{one_spelling, one_command}
 use Rattle.dimacs.specs.Taking.{Takes}
 use Rattle.dimacs.proofs.Items.{kept_is, unreadable_kept, filter_map_push, or-false, by_memory}
 use Rattle.dimacs.proofs.NodeRows.{one_cases}
@@ -118,11 +121,36 @@ module _ (word : List ℕ) (make : ℕ → Command) (plain : (numbers : Row) →
       (λ u a e bad earlier. code_of_number earlier u a e ∙ rw bad refl)
       (λ u a e good. ((λ earlier. code_of_number earlier u a e ∙ rw good refl), made (u ∷ [])))
 
-  pub number_says : (row numbers : Row) (x : ℕ) → row ≡ word ∷ numbers → Ok x ≡ number_read (one_numeral numbers) → ReadsLine row (Ok (Some (make x)))
+  number_says : (row numbers : Row) (x : ℕ) → row ≡ word ∷ numbers → Ok x ≡ number_read (one_numeral numbers) → ReadsLine row (Ok (Some (make x)))
   number_says row numbers x e is = rw e (subst (RightNumber numbers) (sym is) (number_row numbers))
 
-  pub number_fault : (row numbers : Row) (code : Code) → row ≡ word ∷ numbers → Err code ≡ number_read (one_numeral numbers) → ReadsLine row (Err code)
+  number_fault : (row numbers : Row) (code : Code) → row ≡ word ∷ numbers → Err code ≡ number_read (one_numeral numbers) → ReadsLine row (Err code)
   number_fault row numbers code e is = rw e (subst (RightNumber numbers) (sym is) (number_row numbers))
+
+-- such a word is one of the words with one number
+one_plain : (word : OneNumber) (numbers : Row) → (is_empty (one_spelling word ∷ numbers) || is_remark 35 (one_spelling word ∷ numbers)) ≡ false
+one_plain Close numbers = refl
+one_plain Reopen numbers = refl
+one_plain Mark numbers = refl
+one_plain Unmark numbers = refl
+
+one_formed : (word : OneNumber) (numbers : Row) → form_of commands (one_spelling word ∷ numbers) ≡ Some (form (one_spelling word) 1)
+one_formed Close numbers = refl
+one_formed Reopen numbers = refl
+one_formed Mark numbers = refl
+one_formed Unmark numbers = refl
+
+one_made : (word : OneNumber) (numbers : Row) → command_of (one_spelling word ∷ numbers) ≡ Some (one_command word (size_at numbers 0))
+one_made Close numbers = refl
+one_made Reopen numbers = refl
+one_made Mark numbers = refl
+one_made Unmark numbers = refl
+
+pub one_says : (word : OneNumber) (row numbers : Row) (x : ℕ) → row ≡ one_spelling word ∷ numbers → Ok x ≡ number_read (one_numeral numbers) → ReadsLine row (Ok (Some (one_command word x)))
+one_says word = number_says (one_spelling word) (one_command word) (one_plain word) (one_formed word) (one_made word)
+
+pub one_fault : (word : OneNumber) (row numbers : Row) (code : Code) → row ≡ one_spelling word ∷ numbers → Err code ≡ number_read (one_numeral numbers) → ReadsLine row (Err code)
+one_fault word = number_fault (one_spelling word) (one_command word) (one_plain word) (one_formed word) (one_made word)
 
 -- `set` and its two numbers
 code_of_numbers : (earlier : List Row) (u v : List ℕ) (a b : Numeral) → numeral u ≡ Some a → numeral v ≡ Some b

@@ -17,6 +17,5 @@ mod TextNodes
 pub mod Sets
 pub mod CommandRows
 pub mod Spelled
-mod SixBytes
 mod FirstFaultLemmas
 mod NextBytes

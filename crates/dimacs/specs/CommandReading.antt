@@ -4,7 +4,7 @@ use lib.Chars.{codes}
 use Rattle.roadnet.specs.declared.commands.Command.{Command}
 use Rattle.dimacs.specs.declared.commands.CommandLines.{CommandLines}
 use Rattle.dimacs.specs.declared.commands.Kind.{Kind}
-use Rattle.dimacs.specs.declared.commands.Kind.TheVariants.{Ignored, Set, Close, Reopen, Mark, Unmark, Unknown}
+use Rattle.dimacs.specs.declared.commands.Kind.TheVariants.{Ignored, Set, One, Unknown}
 use Rattle.dimacs.specs.declared.numeral.Numeral.{Numeral}
 use Rattle.dimacs.specs.declared.fault.Code.{Code}
 use Rattle.dimacs.specs.declared.fault.Code.TheVariants.{BadLine, NumberRange}
@@ -12,14 +12,12 @@ use Rattle.dimacs.specs.Lines.{fields}
 use Rattle.dimacs.specs.Faults.{Row, is_empty, is_remark}
 use Rattle.dimacs.specs.Commands.{commands, command_code, form_of, is_refused}
 use Rattle.dimacs.specs.Commanded.{command_of, commands_in}
+use Rattle.dimacs.specs.Spelling.{one_spelling}
 
 abbrev pub IsKind : Row → Kind → Type 0
 IsKind row Ignored = (is_empty row || is_remark 35 row) ≡ true
 IsKind row (Set numbers) = row ≡ codes "set" ∷ fields numbers.now
-IsKind row (Close numbers) = row ≡ codes "close" ∷ fields numbers.now
-IsKind row (Reopen numbers) = row ≡ codes "reopen" ∷ fields numbers.now
-IsKind row (Mark numbers) = row ≡ codes "mark" ∷ fields numbers.now
-IsKind row (Unmark numbers) = row ≡ codes "unmark" ∷ fields numbers.now
+IsKind row (One word numbers) = row ≡ one_spelling word ∷ fields numbers.now
 IsKind row Unknown = ((is_empty row || is_remark 35 row) ≡ false) × (form_of commands row ≡ None)
 
 -- one number, and two

@@ -3,6 +3,8 @@ use Rattle.std.specs.Prelude.{ℕ, List, [], ◌∷◌, Option}
 use Rattle.std.specs.List.{find}
 use Rattle.std.specs.Str.{bytes_eq}
 use lib.Chars.{codes}
+use Rattle.roadnet.specs.declared.commands.Command.{Command}
+use Rattle.roadnet.specs.declared.commands.Command.TheVariants.{Close as close_arc, Reopen as reopen_arc, Mark as mark_node, Unmark as unmark_node}
 use Rattle.dimacs.specs.declared.words.OneNumber.{OneNumber}
 use Rattle.dimacs.specs.declared.words.OneNumber.TheVariants.{Close, Reopen, Mark, Unmark}
 use Rattle.dimacs.specs.declared.words.TwoNumbers.{TwoNumbers}
@@ -21,6 +23,13 @@ one_spelling Unmark = codes "unmark"
 
 abbrev pub one_words : List OneNumber
 one_words = Close ∷ Reopen ∷ Mark ∷ Unmark ∷ []
+
+-- the command of such a word and its number
+abbrev pub one_command : OneNumber → ℕ → Command
+one_command Close n = close_arc n
+one_command Reopen n = reopen_arc n
+one_command Mark n = mark_node n
+one_command Unmark n = unmark_node n
 
 -- words with two
 abbrev pub two_spelling : TwoNumbers → List ℕ

@@ -10,6 +10,7 @@ use crate::feed::{Ended, parse_lines, read_lines};
 use crate::line::split_field;
 use crate::reading::{split_one, split_two};
 use crate::taking::TakeLines;
+use crate::words::{OneNumber, word_of_one};
 use roadnet::Command;
 use std::alloc::Global;
 use std::io::BufRead;
@@ -25,10 +26,7 @@ enum Kind<'a> {
     /// A line with no field, or a comment.
     Ignored,
     Set(&'a [u8]),
-    Close(&'a [u8]),
-    Reopen(&'a [u8]),
-    Mark(&'a [u8]),
-    Unmark(&'a [u8]),
+    One(OneNumber, &'a [u8]),
     Unknown,
 }
 
@@ -38,11 +36,10 @@ fn kind_of(line: &[u8]) -> Kind<'_>
     match split_field(line) {
         None | Some(([b'#', ..], _)) => Kind::Ignored,
         Some((b"set", numbers)) => Kind::Set(numbers),
-        Some((b"close", numbers)) => Kind::Close(numbers),
-        Some((b"reopen", numbers)) => Kind::Reopen(numbers),
-        Some((b"mark", numbers)) => Kind::Mark(numbers),
-        Some((b"unmark", numbers)) => Kind::Unmark(numbers),
-        Some(_) => Kind::Unknown,
+        Some((word, numbers)) => match word_of_one(word) {
+            Some(word) => Kind::One(word, numbers),
+            None => Kind::Unknown,
+        },
     }
 }
 
@@ -89,18 +86,7 @@ fn read_line(line: &[u8]) -> Result<Option<Command>, Code>
             let (arc, length) = two_numbers(numbers)?;
             Ok(Some(Command::Set { arc, length }))
         }
-        Kind::Close(numbers) => Ok(Some(Command::Close {
-            arc: number(numbers)?,
-        })),
-        Kind::Reopen(numbers) => Ok(Some(Command::Reopen {
-            arc: number(numbers)?,
-        })),
-        Kind::Mark(numbers) => Ok(Some(Command::Mark {
-            node: number(numbers)?,
-        })),
-        Kind::Unmark(numbers) => Ok(Some(Command::Unmark {
-            node: number(numbers)?,
-        })),
+        Kind::One(word, numbers) => Ok(Some(word.command(number(numbers)?))),
         Kind::Unknown => Err(Code::BadLine),
     }
 }

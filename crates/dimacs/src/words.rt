@@ -1,6 +1,8 @@
 //! The words of commands and of queries, with which lines of more than one kind of text begin.
 ghost use Rattle.std.specs.Prelude.{◌≡◌};
-ghost use Rattle.dimacs.specs.Spelling.{spelled_word, one_spelling, one_words, two_spelling, two_words};
+ghost use Rattle.dimacs.specs.Spelling.{spelled_word, one_spelling, one_words, one_command, two_spelling, two_words};
+
+use roadnet::Command;
 
 /// A word with one number behind it, each of a command.
 #[derive(Clone, Copy)]
@@ -9,6 +11,20 @@ pub enum OneNumber {
     Reopen,
     Mark,
     Unmark,
+}
+
+impl OneNumber {
+    /// The command of this word with the number behind it, which is that of a node after `mark` and `unmark`, else of an arc.
+    pub fn command(self, number: u64) -> Command
+        ensures { result ≡ one_command self number }
+    {
+        match self {
+            OneNumber::Close => Command::Close { arc: number },
+            OneNumber::Reopen => Command::Reopen { arc: number },
+            OneNumber::Mark => Command::Mark { node: number },
+            OneNumber::Unmark => Command::Unmark { node: number },
+        }
+    }
 }
 
 /// A word with two numbers behind it: `set` of a command, the others of queries.

@@ -107,10 +107,8 @@ fn read_front(
 {
     let count = into.len().min(most);
     let outcome = disk.read(at, &mut into[..count]);
-    match answered(fails, outcome) {
-        Ok(()) => Ok(count),
-        Err(error) => Err(error),
-    }
+    answered(fails, outcome)?;
+    Ok(count)
 }
 
 /// Writes the first of the bytes at `at`, so many at most. Where the call fails they may be written and not told.
@@ -132,10 +130,8 @@ fn write_front(
 {
     let count = bytes.len().min(most);
     let outcome = disk.write_at(at, &bytes[..count]);
-    match answered(fails, outcome) {
-        Ok(()) => Ok(count),
-        Err(error) => Err(error),
-    }
+    answered(fails, outcome)?;
+    Ok(count)
 }
 
 /// Adds these bytes at the end, which is at `end`, or nothing.
@@ -164,10 +160,7 @@ fn grow(alloc: Global, disk: &mut MemDisk, fails: bool, size: u64) -> io::Result
     ensures keeps { AreAmong (left_of disk.old) (left_of disk.new) }
     ensures unarmed { armed_of disk.new ≡ None }
 {
-    let end = match size_of(disk, fails) {
-        Ok(end) => end,
-        Err(error) => return Err(error),
-    };
+    let end = size_of(disk, fails)?;
     match vec![in alloc; 0u8; (size - end) as usize] {
         Ok(zeros) => append(disk, end, zeros.as_slice()),
         Err(_) => Err(broken()),

@@ -148,10 +148,9 @@ fn open_or_make<R: Files<File = File>>(rt: &R, path: &str) -> Result<(File, bool
     options.read(true).write(true).create_new(true).mode(MODE);
     match options.open(rt, path) {
         Ok(file) => Ok((file, true)),
-        Err(error) if error.kind() == ErrorKind::AlreadyExists => match open_to_write(rt, path) {
-            Ok(file) => Ok((file, false)),
-            Err(error) => Err(error),
-        },
+        Err(error) if error.kind() == ErrorKind::AlreadyExists => {
+            Ok((open_to_write(rt, path)?, false))
+        }
         Err(_) => Err(OpenError::NotOpened),
     }
 }

@@ -100,8 +100,6 @@ pub(crate) fn write_whole<F: RawFile>(file: &mut F, at: u64, bytes: &[u8]) -> Re
     ensures tears { F.honest file.old → Tears at (length bytes.now) F.content F.left F.moment F.left_since file.old file.new }
     ensures honest { F.honest file.new ↔ F.honest file.old }
 {
-    match make_room(file, at, bytes.len()) {
-        Ok(()) => write_within(file, at, bytes),
-        Err(error) => Err(error),
-    }
+    make_room(file, at, bytes.len())?;
+    write_within(file, at, bytes)
 }

@@ -29,10 +29,8 @@ impl<N: Naming, D: Disk> Office<N, D> {
         ensures width { self.new.width ≡ self.old.width }
     {
         let _ = self.keeper.opened();
-        match self.keeper.submit_into(&mut self.history, command) {
-            Ok(ticket) => Ok(self.history.claim(ticket)),
-            Err(refusal) => Err(refusal),
-        }
+        let ticket = self.keeper.submit_into(&mut self.history, command)?;
+        Ok(self.history.claim(ticket))
     }
 
     /// Makes the first pending commands durable, at most 253, as the keeper's `flush` does: all of them or none, whatever a stop does at any

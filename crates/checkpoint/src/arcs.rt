@@ -47,9 +47,7 @@ pub fn read_arcs<D: Disk>(
         let Ok(()) = reader.read(disk, header.arc_page(i), end, &mut page) else {
             return Err(Refusal::Device);
         };
-        if let Err(refusal) = take_page(alloc, &page, header, i, &mut arcs) {
-            return Err(refusal);
-        }
+        take_page(alloc, &page, header, i, &mut arcs)?;
     }
     Ok(arcs)
 }

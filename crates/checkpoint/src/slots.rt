@@ -50,17 +50,9 @@ pub fn load<D: Disk>(
     ensures honest { D.honest disk.new ↔ D.honest disk.old }
 {
     let mut arcs = arcs;
-    let head = match read_head(alloc, disk, header, slot) {
-        Ok(head) => head,
-        Err(refusal) => return Err(refusal),
-    };
-    if let Err(refusal) = read_words(alloc, disk, header, slot, reader, &mut arcs) {
-        return Err(refusal);
-    }
-    let network = match network_of(alloc, header, arcs, &head) {
-        Ok(network) => network,
-        Err(refusal) => return Err(refusal),
-    };
+    let head = read_head(alloc, disk, header, slot)?;
+    read_words(alloc, disk, header, slot, reader, &mut arcs)?;
+    let network = network_of(alloc, header, arcs, &head)?;
     Ok(Checkpoint {
         epoch: head.epoch(),
         version: head.version(),
@@ -84,8 +76,5 @@ fn network_of(
     ensures network { IfOk result (λ net. net ≡ record { nodes = header.now.nodes; arcs = arcs.items; landmarks = head.now.landmarks }) }
     ensures refused { IfErr result (λ refusal. refusal ≡ out_of_memory) }
 {
-    match Network::new(alloc, header.nodes, arcs, head.landmarks()) {
-        Ok(network) => Ok(network),
-        Err(refusal) => Err(refusal),
-    }
+    Network::new(alloc, header.nodes, arcs, head.landmarks())
 }

@@ -45,9 +45,7 @@ pub fn read_words<D: Disk>(
         let Ok(()) = reader.read(disk, header.word_page(slot, i), end, &mut page) else {
             return Err(Refusal::Device);
         };
-        if let Err(refusal) = take_page(alloc, &page, header, slot, i, arcs) {
-            return Err(refusal);
-        }
+        take_page(alloc, &page, header, slot, i, arcs)?;
     }
     Ok(())
 }

@@ -92,13 +92,6 @@ impl NextCheckpoint {
         self.version
     }
 
-    /// The sequence of the first journal page that the slot does not make needless.
-    pub fn next_sequence(&self) -> u64
-        ensures { result ≡ self.now.next_sequence }
-    {
-        self.next_sequence
-    }
-
     /// How many word pages are still to be written.
     pub fn pages_left(&self, header: &Header) -> u64
         ensures { result ≡ word_pages header.now - self.now.written }

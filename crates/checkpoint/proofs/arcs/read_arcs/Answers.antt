@@ -1,6 +1,7 @@
 use Rattle.std.proofs.Common.{◌≡◌, ◌∙◌, ℕ, ◌<◌, List, [], length, ap, sym, subst, arith}
 use Rattle.std.specs.Prelude.{map}
 use Rattle.std.specs.List.{AllByRecursion}
+use Rattle.std.proofs.lemmas.Result.{err_from_is_err_and}
 use Rattle.roadnet.specs.declared.arcs.RoadArc.{RoadArc}
 use Rattle.pages.specs.Spelling.{IsEnds, ends_of}
 use Rattle.pages.specs.Layout.{Arcs, page_number, arc_pages}
@@ -22,13 +23,14 @@ loop-i-init g c = record {
   read = nothing_read g.D.Disk.content g.D.Disk.left g.D.Disk.moment g.D.Disk.left_since g.D.Disk.failures g.D.Disk.honest c.args.disk.now;
 }
 
-pub returns-in-Err-clause-refused : goal.returns-in-Err-clause-refused
-returns-in-Err-clause-refused g c h =
+pub returns-in_err-take_page-clause-refused : goal.returns-in_err-take_page-clause-refused
+returns-in_err-take_page-clause-refused g c h =
+    let p = err_from_is_err_and c.from_residual.result c.from_residual.ensures.1 in
     let then_honest = c.loop-i.invariant.read.honest_then.1 h in
     let lt : c.loop-i.i < arc_pages c.args.header.now = omega arith in
     let at : c.read.new.into ≡ page (g.D.Disk.content c.args.disk.now) (page_number c.args.header.now (Arcs c.loop-i.i)) =
     c.in-Ok-read.ensures.bytes then_honest ∙ ap (λ (file : List ℕ). page file c.arc_page.result) (c.loop-i.invariant.read.stays h).same_content ∙ ap (page (g.D.Disk.content c.args.disk.now)) c.arc_page.ensures in
-    ends_stop (g.D.Disk.content c.args.disk.now) c.args.header.now c.loop-i.arcs.items c.loop-i.i c.read.new.into c.in-Err.refusal (c.loop-i.invariant.said h) lt at c.in-Err.ensures.refused
+    rw (p.1, p.2) (ends_stop (g.D.Disk.content c.args.disk.now) c.args.header.now c.loop-i.arcs.items c.loop-i.i c.read.new.into _ (c.loop-i.invariant.said h) lt at c.in_err-take_page.ensures.refused)
 
 pub loop-i-preserved : goal.loop-i-preserved
 loop-i-preserved g c = record {
@@ -37,9 +39,9 @@ loop-i-preserved g c = record {
       let lt : c.loop-i.i < arc_pages c.args.header.now = omega arith in
       let at : c.read.new.into ≡ page (g.D.Disk.content c.args.disk.now) (page_number c.args.header.now (Arcs c.loop-i.i)) =
       c.in-Ok-read.ensures.bytes then_honest ∙ ap (λ (file : List ℕ). page file c.arc_page.result) (c.loop-i.invariant.read.stays h).same_content ∙ ap (page (g.D.Disk.content c.args.disk.now)) c.arc_page.ensures in
-      ends_more (g.D.Disk.content c.args.disk.now) c.args.header.now c.loop-i.arcs.items c.take_page.new.arcs.items c.loop-i.i c.read.new.into (c.loop-i.invariant.said h) lt at c.in_default-take_page.ensures.spelled;
-  fits = more_ends c.args.header.now c.loop-i.i c.read.new.into c.loop-i.arcs.items c.take_page.new.arcs.items c.in_default-take_page.ensures.spelled c.loop-i.invariant.fits;
-  count = c.in_default-take_page.ensures.count;
+      ends_more (g.D.Disk.content c.args.disk.now) c.args.header.now c.loop-i.arcs.items c.take_page.new.arcs.items c.loop-i.i c.read.new.into (c.loop-i.invariant.said h) lt at c.in_ok-take_page.ensures.spelled;
+  fits = more_ends c.args.header.now c.loop-i.i c.read.new.into c.loop-i.arcs.items c.take_page.new.arcs.items c.in_ok-take_page.ensures.spelled c.loop-i.invariant.fits;
+  count = c.in_ok-take_page.ensures.count;
   run = λ h. subst (λ (file : List ℕ). IsRunOf file c.read.new.self) (c.loop-i.invariant.read.stays h).same_content (c.in-Ok-read.ensures.run (c.loop-i.invariant.read.honest_then.1 h));
   read = read_more g.D.Disk.content g.D.Disk.left g.D.Disk.moment g.D.Disk.left_since g.D.Disk.failures g.D.Disk.honest c.args.disk.now c.loop-i.disk c.read.new.disk c.loop-i.invariant.read
       (record { stays = c.in-Ok-read.ensures.same; honest_then = c.in-Ok-read.ensures.honest; counted = c.in-Ok-read.ensures.counted });

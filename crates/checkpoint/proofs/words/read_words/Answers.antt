@@ -1,5 +1,6 @@
 use Rattle.std.proofs.Common.{◌≡◌, ◌∙◌, ℕ, ◌+◌, ◌*◌, ◌<◌, ◌≤◌, List, length, take, refl, ap, subst, arith}
 use Rattle.std.specs.Prelude.{min}
+use Rattle.std.proofs.lemmas.Result.{err_from_is_err_and}
 use Rattle.pages.specs.Layout.{Words, page_number, word_pages}
 use Rattle.storefile.specs.StoreFile.{page}
 use Rattle.pagereader.specs.Runs.{IsRunOf}
@@ -17,13 +18,14 @@ loop-i-init g c = record {
   read = nothing_read g.D.Disk.content g.D.Disk.left g.D.Disk.moment g.D.Disk.left_since g.D.Disk.failures g.D.Disk.honest c.args.disk.now;
 }
 
-pub returns-in-Err-clause-refused : goal.returns-in-Err-clause-refused
-returns-in-Err-clause-refused g c h =
+pub returns-in_err-take_page-clause-refused : goal.returns-in_err-take_page-clause-refused
+returns-in_err-take_page-clause-refused g c h =
+    let p = err_from_is_err_and c.from_residual.result c.from_residual.ensures.1 in
     let then_honest = c.loop-i.invariant.read.honest_then.1 h in
     let lt : c.loop-i.i < word_pages c.args.header.now = omega arith in
     let at : c.read.new.into ≡ page (g.D.Disk.content c.args.disk.now) (page_number c.args.header.now (Words c.args.slot c.loop-i.i)) =
     c.in-Ok.ensures.bytes then_honest ∙ ap (λ (file : List ℕ). page file c.word_page.result) (c.loop-i.invariant.read.stays h).same_content ∙ ap (page (g.D.Disk.content c.args.disk.now)) c.word_page.ensures in
-    words_stop (g.D.Disk.content c.args.disk.now) c.args.header.now c.args.slot c.loop-i.arcs c.loop-i.i c.read.new.into c.in-Err.refusal (c.loop-i.invariant.said h) lt at c.in-Err.ensures.refused
+    rw (p.1, p.2) (words_stop (g.D.Disk.content c.args.disk.now) c.args.header.now c.args.slot c.loop-i.arcs c.loop-i.i c.read.new.into _ (c.loop-i.invariant.said h) lt at c.in_err-take_page.ensures.refused)
 
 pub loop-i-preserved : goal.loop-i-preserved
 loop-i-preserved g c = record {
@@ -32,8 +34,8 @@ loop-i-preserved g c = record {
       let lt : c.loop-i.i < word_pages c.args.header.now = omega arith in
       let at : c.read.new.into ≡ page (g.D.Disk.content c.args.disk.now) (page_number c.args.header.now (Words c.args.slot c.loop-i.i)) =
       c.in-Ok.ensures.bytes then_honest ∙ ap (λ (file : List ℕ). page file c.word_page.result) (c.loop-i.invariant.read.stays h).same_content ∙ ap (page (g.D.Disk.content c.args.disk.now)) c.word_page.ensures in
-      words_more (g.D.Disk.content c.args.disk.now) c.args.header.now c.args.slot c.loop-i.arcs c.take_page.new.arcs c.loop-i.i c.read.new.into (c.loop-i.invariant.said h) lt at c.in_default-take_page.ensures.spelled;
-  fits = more_words c.args.header.now c.args.slot c.loop-i.i c.read.new.into (take (min (1023 * c.loop-i.i) c.args.header.now.arcs) c.loop-i.arcs) (take (min (1023 * (c.loop-i.i + 1)) c.args.header.now.arcs) c.take_page.new.arcs) c.in_default-take_page.ensures.spelled c.loop-i.invariant.fits;
+      words_more (g.D.Disk.content c.args.disk.now) c.args.header.now c.args.slot c.loop-i.arcs c.take_page.new.arcs c.loop-i.i c.read.new.into (c.loop-i.invariant.said h) lt at c.in_ok-take_page.ensures.spelled;
+  fits = more_words c.args.header.now c.args.slot c.loop-i.i c.read.new.into (take (min (1023 * c.loop-i.i) c.args.header.now.arcs) c.loop-i.arcs) (take (min (1023 * (c.loop-i.i + 1)) c.args.header.now.arcs) c.take_page.new.arcs) c.in_ok-take_page.ensures.spelled c.loop-i.invariant.fits;
   ends = c.take_page.ensures.ends ∙ c.loop-i.invariant.ends;
   run = λ h. subst (λ (file : List ℕ). IsRunOf file c.read.new.self) (c.loop-i.invariant.read.stays h).same_content (c.in-Ok.ensures.run (c.loop-i.invariant.read.honest_then.1 h));
   read = read_more g.D.Disk.content g.D.Disk.left g.D.Disk.moment g.D.Disk.left_since g.D.Disk.failures g.D.Disk.honest c.args.disk.now c.loop-i.disk c.read.new.disk c.loop-i.invariant.read

@@ -1,6 +1,6 @@
 -- Opening a file in its parts.
 use Rattle.std.proofs.Common.{◌≡◌, ℕ, ◌*◌, Bool, true, false, List, Option, None, Some, Result, Ok, Err, refl, sym, ap, ◌∙◌}
-use Rattle.std.specs.Prelude.{◌==◌}
+use Rattle.std.specs.Prelude.{◌==◌, IfOk}
 use Rattle.roadnet.specs.declared.commands.Command.{Command}
 use Rattle.roadnet.specs.declared.refusals.Refusal.{Refusal}
 use Rattle.roadnet.specs.declared.refusals.Refusal.TheVariants.{NotAStore, WrongFormat, Damaged}
@@ -16,6 +16,11 @@ use Rattle.storefile.specs.Judging.{◌>>=◌, unless_so, spelled_at, begins_as_
 use Rattle.storefile.specs.Standing.{Standing}
 use Rattle.checkpoint.specs.Loading.{head_from, loaded_from}
 use Rattle.store.specs.Opening.{header_from, Current, current_from}
+
+-- what holds of an answer that is handed on
+pub of_found : {X Y : Type 0} (r : Result X Y) (A B C D E Z : X → Type 0) → IfOk r A → IfOk r B → IfOk r C → IfOk r D → IfOk r E → ((x : X) → A x → B x → C x → D x → E x → Z x) → IfOk r Z
+of_found (Ok x) A B C D E Z a b c d e f = f x a b c d e
+of_found (Err y) A B C D E Z a b c d e f = tt
 
 bind_same : {X Y : Type 0} (r : Result X Refusal) (f f' : X → Result Y Refusal) → ((x : X) → f x ≡ f' x) → (r >>= f) ≡ (r >>= f')
 bind_same (Ok x) f f' e = e x

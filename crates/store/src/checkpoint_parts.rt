@@ -156,18 +156,12 @@ impl<D: Disk> Paged<D> {
             return Err(Refusal::Broken);
         }
         if self.going.is_some() {
-            return match self.go_on(pages) {
-                Ok(part) => Ok(part),
-                Err(refusal) => Err(refusal),
-            };
+            return self.go_on(pages);
         }
         if self.unchecked == 0 {
             return Ok(Part::Done(self.version));
         }
-        match self.begin_checkpoint() {
-            Ok(()) => {}
-            Err(refusal) => return Err(refusal),
-        }
+        self.begin_checkpoint()?;
         match self.go_on(pages) {
             Ok(part) => Ok(part),
             Err(refusal) => {

@@ -98,18 +98,12 @@ impl<D: Disk> Paged<D> {
             return Err(Refusal::Broken);
         }
         if self.going.is_some() {
-            return match self.complete_checkpoint() {
-                Ok(version) => Ok(version),
-                Err(refusal) => Err(refusal),
-            };
+            return self.complete_checkpoint();
         }
         if self.unchecked == 0 {
             return Ok(self.version);
         }
-        match self.begin_checkpoint() {
-            Ok(()) => {}
-            Err(refusal) => return Err(refusal),
-        }
+        self.begin_checkpoint()?;
         match self.complete_checkpoint() {
             Ok(version) => Ok(version),
             Err(refusal) => {

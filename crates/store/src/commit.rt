@@ -64,10 +64,7 @@ impl<D: Disk> Paged<D> {
         if self.unchecked >= self.header.journal_pages {
             return Err(Refusal::JournalFull);
         }
-        let landmarks = match self.network.prepare(commands) {
-            Ok(landmarks) => landmarks,
-            Err(refusal) => return Err(refusal),
-        };
+        let landmarks = self.network.prepare(commands)?;
         let Ok(()) = append_page(
             &mut self.disk,
             &self.header,

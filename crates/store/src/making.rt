@@ -56,18 +56,14 @@ pub fn create<D: Disk>(
     ensures same { D.honest disk → IfErr result (λ refused. refused.0 ≢ device → StaysSame D.content D.left D.moment D.left_since disk refused.1) }
     ensures honest { (IfOk result (λ store. D.honest store.disk ↔ D.honest disk)) × (IfErr result (λ refused. D.honest refused.1 ↔ D.honest disk)) }
 {
-    match create_paged(alloc, disk, network, journal_pages) {
-        Ok(pages) => {
-            let given = Snapshot::of(&pages.disk);
-            let in_flight = InFlight::none();
-            Ok(Store {
-                pages,
-                given,
-                in_flight,
-            })
-        }
-        Err(refused) => Err(refused),
-    }
+    let pages = create_paged(alloc, disk, network, journal_pages)?;
+    let given = Snapshot::of(&pages.disk);
+    let in_flight = InFlight::none();
+    Ok(Store {
+        pages,
+        given,
+        in_flight,
+    })
 }
 
 /// Opens the store on a disk. It syncs, and then judges and reads the whole file in the order of the format; nothing is written. The first
@@ -101,16 +97,12 @@ pub fn open<D: Disk>(alloc: Global, disk: D) -> Result<Store<D>, (Refusal, D)>
     ensures opens { D.honest disk → ((c : List ℕ) → D.left disk c → StandsForSome c) → IfErr result (λ refused. IsPassing refused.0) }
     ensures honest { (IfOk result (λ store. D.honest store.disk ↔ D.honest disk)) × (IfErr result (λ refused. D.honest refused.1 ↔ D.honest disk)) }
 {
-    match open_paged(alloc, disk) {
-        Ok(pages) => {
-            let given = Snapshot::of(&pages.disk);
-            let in_flight = InFlight::none();
-            Ok(Store {
-                pages,
-                given,
-                in_flight,
-            })
-        }
-        Err(refused) => Err(refused),
-    }
+    let pages = open_paged(alloc, disk)?;
+    let given = Snapshot::of(&pages.disk);
+    let in_flight = InFlight::none();
+    Ok(Store {
+        pages,
+        given,
+        in_flight,
+    })
 }

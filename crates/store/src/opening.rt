@@ -54,18 +54,10 @@ fn read_current<D: Disk>(
     let Ok(mut reader) = PageReader::new(alloc) else {
         return Err(Refusal::OutOfMemory);
     };
-    let arcs = match read_arcs(alloc, disk, header, &mut reader) {
-        Ok(arcs) => arcs,
-        Err(refusal) => return Err(refusal),
-    };
-    let slot = match choose(disk, header) {
-        Ok(slot) => slot,
-        Err(refusal) => return Err(refusal),
-    };
-    match load(alloc, disk, header, slot, &mut reader, arcs) {
-        Ok(checkpoint) => Ok((slot, checkpoint)),
-        Err(refusal) => Err(refusal),
-    }
+    let arcs = read_arcs(alloc, disk, header, &mut reader)?;
+    let slot = choose(disk, header)?;
+    let checkpoint = load(alloc, disk, header, slot, &mut reader, arcs)?;
+    Ok((slot, checkpoint))
 }
 
 // The journal behind a checkpoint: which of its pages are unchecked, and then what they hold.
@@ -102,7 +94,7 @@ fn read_journal<D: Disk>(
     };
     let unchecked = ring.unchecked();
     let mut network = network;
-    let version = match replay(
+    let version = replay(
         alloc,
         disk,
         header,
@@ -110,10 +102,7 @@ fn read_journal<D: Disk>(
         unchecked,
         version,
         &mut network,
-    ) {
-        Ok(version) => version,
-        Err(refusal) => return Err(refusal),
-    };
+    )?;
     Ok(Found {
         header: *header,
         slot,
@@ -138,14 +127,8 @@ fn read_behind<D: Disk>(alloc: Global, disk: &mut D, header: &Header) -> Result<
     ensures counted { D.failures disk.new ≡ failures_told result (D.failures disk.old) }
     ensures honest { D.honest disk.new ↔ D.honest disk.old }
 {
-    let (slot, checkpoint) = match read_current(alloc, disk, header) {
-        Ok(current) => current,
-        Err(refusal) => return Err(refusal),
-    };
-    match read_journal(alloc, disk, header, slot, checkpoint) {
-        Ok(found) => Ok(found),
-        Err(refusal) => Err(refusal),
-    }
+    let (slot, checkpoint) = read_current(alloc, disk, header)?;
+    read_journal(alloc, disk, header, slot, checkpoint)
 }
 
 // The same of a file that is synced.
@@ -159,14 +142,8 @@ fn read_synced<D: Disk>(alloc: Global, disk: &mut D) -> Result<Found, Refusal>
     ensures counted { D.failures disk.new ≡ failures_told result (D.failures disk.old) }
     ensures honest { D.honest disk.new ↔ D.honest disk.old }
 {
-    let header = match read_header(disk) {
-        Ok(header) => header,
-        Err(refusal) => return Err(refusal),
-    };
-    match read_behind(alloc, disk, &header) {
-        Ok(found) => Ok(found),
-        Err(refusal) => Err(refusal),
-    }
+    let header = read_header(disk)?;
+    read_behind(alloc, disk, &header)
 }
 
 /// Syncs, and then judges and reads the whole file, in the order of the format. Nothing is written. The first refusal ends it: no store (40),
@@ -185,10 +162,7 @@ pub fn find<D: Disk>(alloc: Global, disk: &mut D) -> Result<Found, Refusal>
     let Ok(()) = settle(disk) else {
         return Err(Refusal::Device);
     };
-    match read_synced(alloc, disk) {
-        Ok(found) => Ok(found),
-        Err(refusal) => Err(refusal),
-    }
+    read_synced(alloc, disk)
 }
 
 /// The pages of the store on a disk, as `open` finds them.

@@ -144,10 +144,7 @@ pub fn replay<D: Disk>(
 {
     let mut reached = version;
     for i in 0..count {
-        match replay_page(alloc, disk, header, from + u64::from(i), reached, network) {
-            Ok(new) => reached = new,
-            Err(refusal) => return Err(refusal),
-        }
+        reached = replay_page(alloc, disk, header, from + u64::from(i), reached, network)?;
     }
     Ok(reached)
 }

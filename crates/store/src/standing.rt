@@ -70,10 +70,7 @@ pub fn inspect<D: Disk>(alloc: Global, disk: &mut D) -> Result<Inspected, Refusa
     ensures untouched { D.honest disk.old → StaysSame D.content D.left D.moment D.left_since disk.old disk.new }
     ensures honest { D.honest disk.new ↔ D.honest disk.old }
 {
-    let found = match find(alloc, disk) {
-        Ok(found) => found,
-        Err(refusal) => return Err(refusal),
-    };
+    let found = find(alloc, disk)?;
     Ok(Inspected {
         version: found.version,
         standing: Standing {

@@ -10,16 +10,16 @@ invariant_of-result g c = (
   λ works. c.none-in_flight.ensures,
   λ was.
       let came = subst (λ (d : g.row.D.Denot). CameTidy g.D.Disk.honest g.D.Disk.content d) c.of-given.ensures was in
-      let honest = c.in-Ok.ensures.honest.0.0 came.0 in
-      let same = (c.in-Ok.ensures.same honest).same_content in (
+      let honest = c.in_ok-pages.ensures.honest.0.0 came.0 in
+      let same = (c.in_ok-pages.ensures.same honest).same_content in (
         came.0,
-        λ works. (c.in-Ok.ensures.at_rest honest, tidily (g.D.Disk.content c.in-Ok.pages.disk) (told_by c.in-Ok.pages) came.1 (ap standing_of same ∙ c.in-Ok.ensures.standing honest)),
-        λ broke. absurd (let never : true ≡ false = sym broke ∙ c.in-Ok.ensures.works in cc),
+        λ works. (c.in_ok-pages.ensures.at_rest honest, tidily (g.D.Disk.content c.in_ok-pages.pages.disk) (told_by c.in_ok-pages.pages) came.1 (ap standing_of same ∙ c.in_ok-pages.ensures.standing honest)),
+        λ broke. absurd (let never : true ≡ false = sym broke ∙ c.in_ok-pages.ensures.works in cc),
       ),
 )
 
-pub returns-in-Ok-clause-stands : goal.returns-in-Ok-clause-stands
-returns-in-Ok-clause-stands g c honest = (c.in-Ok.pages.next_sequence, c.in-Ok.ensures.stands honest)
+pub returns-clause-stands : goal.returns-clause-stands
+returns-clause-stands g c honest = (c.in_ok-pages.pages.next_sequence, c.in_ok-pages.ensures.stands honest)
 
-pub returns-in-Ok-clause-told : goal.returns-in-Ok-clause-told
-returns-in-Ok-clause-told g c honest = record { standing = told_by c.in-Ok.pages; is = c.in-Ok.ensures.standing honest; told_is = refl }
+pub returns-clause-told : goal.returns-clause-told
+returns-clause-told g c honest = record { standing = told_by c.in_ok-pages.pages; is = c.in_ok-pages.ensures.standing honest; told_is = refl }

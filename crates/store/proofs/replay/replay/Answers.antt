@@ -1,4 +1,5 @@
 use Rattle.std.proofs.Common.{◌≡◌, ◌∙◌, ℕ, ◌+◌, ◌<◌, List, refl, ap, sym, subst, arith}
+use Rattle.std.proofs.lemmas.Result.{err_from_is_err_and}
 use Rattle.storefile.specs.StoreFile.{page, journal_page_at}
 use Rattle.storefile.specs.Judging.{journal_from}
 use Rattle.pagereader.proofs.Outcomes.{may_refuse_whole}
@@ -15,22 +16,23 @@ loop-i-init g c = record {
   read = nothing_read g.D.Disk.content g.D.Disk.left g.D.Disk.moment g.D.Disk.left_since g.D.Disk.failures g.D.Disk.honest c.args.disk.now;
 }
 
-pub returns-in-Err-clause-refused : goal.returns-in-Err-clause-refused
-returns-in-Err-clause-refused g c h =
+pub returns-in_err-reached-clause-refused : goal.returns-in_err-reached-clause-refused
+returns-in_err-reached-clause-refused g c h =
+    let p = err_from_is_err_and c.from_residual.result c.from_residual.ensures.1 in
     let longest = c.requires.longest h in
     let few = longest.few in
     let lt : c.loop-i.i < c.args.count = omega arith in
     let within : c.loop-i.i < c.args.header.now.journal_pages = omega arith in
     let same = (c.loop-i.invariant.read.stays h).same_content in
-    may_refuse_whole
+    rw (p.1, p.2) (may_refuse_whole
     (entry_from (journal_page_at c.args.header.now (c.args.from + c.from.result)) (page (g.D.Disk.content c.loop-i.disk) (journal_page_at c.args.header.now (c.args.from + c.from.result))) c.loop-i.reached c.loop-i.network)
-    (journal_from (page (g.D.Disk.content c.args.disk.now)) c.args.header.now c.args.header.now.journal_pages c.args.from c.args.version c.args.network.now) c.in-Err.refusal
+    (journal_from (page (g.D.Disk.content c.args.disk.now)) c.args.header.now c.args.header.now.journal_pages c.args.from c.args.version c.args.network.now) _
     (λ e. pages_stop (journal_from (page (g.D.Disk.content c.args.disk.now)) c.args.header.now c.args.header.now.journal_pages c.args.from c.args.version c.args.network.now)
-    (page (g.D.Disk.content c.args.disk.now)) c.args.header.now c.args.from c.args.version c.loop-i.i c.loop-i.reached c.loop-i.network c.in-Err.refusal (c.loop-i.invariant.said h) within (longest.stand c.loop-i.i lt)
+    (page (g.D.Disk.content c.args.disk.now)) c.args.header.now c.args.from c.args.version c.loop-i.i c.loop-i.reached c.loop-i.network _ (c.loop-i.invariant.said h) within (longest.stand c.loop-i.i lt)
     (ap (λ (n : ℕ). entry_from (journal_page_at c.args.header.now (c.args.from + n)) (page (g.D.Disk.content c.args.disk.now) (journal_page_at c.args.header.now (c.args.from + n))) c.loop-i.reached c.loop-i.network) (sym c.from.ensures)
     ∙ ap (λ (file : List ℕ). entry_from (journal_page_at c.args.header.now (c.args.from + c.from.result)) (page file (journal_page_at c.args.header.now (c.args.from + c.from.result))) c.loop-i.reached c.loop-i.network) (sym same)
     ∙ e))
-    (c.in-Err.ensures.refused (c.loop-i.invariant.read.honest_then.1 h))
+    (c.in_err-reached.ensures.refused (c.loop-i.invariant.read.honest_then.1 h)))
 
 pub loop-i-preserved : goal.loop-i-preserved
 loop-i-preserved g c = record {
@@ -40,17 +42,17 @@ loop-i-preserved g c = record {
       let lt : c.loop-i.i < c.args.count = omega arith in
       let within : c.loop-i.i < c.args.header.now.journal_pages = omega arith in
       let same = (c.loop-i.invariant.read.stays h).same_content in
-      let out = subst (λ (n : ℕ). IsCarriedOut (entry_from (journal_page_at c.args.header.now (c.args.from + n)) (page (g.D.Disk.content c.args.disk.now) (journal_page_at c.args.header.now (c.args.from + n))) c.loop-i.reached c.loop-i.network) c.loop-i.reached c.replay_page.new.network c.in-Ok.new)
+      let out = subst (λ (n : ℕ). IsCarriedOut (entry_from (journal_page_at c.args.header.now (c.args.from + n)) (page (g.D.Disk.content c.args.disk.now) (journal_page_at c.args.header.now (c.args.from + n))) c.loop-i.reached c.loop-i.network) c.loop-i.reached c.replay_page.new.network c.in_ok-reached.reached)
       c.from.ensures
-      (subst (λ (file : List ℕ). IsCarriedOut (entry_from (journal_page_at c.args.header.now (c.args.from + c.from.result)) (page file (journal_page_at c.args.header.now (c.args.from + c.from.result))) c.loop-i.reached c.loop-i.network) c.loop-i.reached c.replay_page.new.network c.in-Ok.new)
-      same (c.in-Ok.ensures.carried_out (c.loop-i.invariant.read.honest_then.1 h))) in
+      (subst (λ (file : List ℕ). IsCarriedOut (entry_from (journal_page_at c.args.header.now (c.args.from + c.from.result)) (page file (journal_page_at c.args.header.now (c.args.from + c.from.result))) c.loop-i.reached c.loop-i.network) c.loop-i.reached c.replay_page.new.network c.in_ok-reached.reached)
+      same (c.in_ok-reached.ensures.carried_out (c.loop-i.invariant.read.honest_then.1 h))) in
       pages_more (journal_from (page (g.D.Disk.content c.args.disk.now)) c.args.header.now c.args.header.now.journal_pages c.args.from c.args.version c.args.network.now)
-      (page (g.D.Disk.content c.args.disk.now)) c.args.header.now c.args.from c.args.version c.loop-i.i c.loop-i.reached c.in-Ok.new c.loop-i.network c.replay_page.new.network
+      (page (g.D.Disk.content c.args.disk.now)) c.args.header.now c.args.from c.args.version c.loop-i.i c.loop-i.reached c.in_ok-reached.reached c.loop-i.network c.replay_page.new.network
       (page (g.D.Disk.content c.args.disk.now) (journal_page_at c.args.header.now (c.args.from + c.loop-i.i))) (c.loop-i.invariant.said h) within (longest.stand c.loop-i.i lt) refl out;
-  fits = c.in-Ok.ensures.fits;
-  later = omega (arith, c.in-Ok.ensures.later, c.loop-i.invariant.later);
+  fits = c.in_ok-reached.ensures.fits;
+  later = omega (arith, c.in_ok-reached.ensures.later, c.loop-i.invariant.later);
   read = read_more g.D.Disk.content g.D.Disk.left g.D.Disk.moment g.D.Disk.left_since g.D.Disk.failures g.D.Disk.honest c.args.disk.now c.loop-i.disk c.replay_page.new.disk c.loop-i.invariant.read
-      (record { stays = c.in-Ok.ensures.same; honest_then = c.in-Ok.ensures.honest; counted = c.in-Ok.ensures.counted });
+      (record { stays = c.in_ok-reached.ensures.same; honest_then = c.in_ok-reached.ensures.honest; counted = c.in_ok-reached.ensures.counted });
 }
 
 pub returns-clause-carried_out : goal.returns-clause-carried_out

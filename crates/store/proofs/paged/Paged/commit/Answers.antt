@@ -1,4 +1,5 @@
 use Rattle.std.proofs.Common.{◌*◌, arith}
+use Rattle.std.proofs.lemmas.Result.{err_from_is_err_and}
 use Rattle.roadnet.specs.Batches.{changed_by}
 use Rattle.disk.specs.Gated.{IsWholeOrShut}
 use Rattle.disk.proofs.Steps.{weaker}
@@ -32,14 +33,14 @@ returns-then-self-2-clause-in_flight g c works h stands =
     let x : Standing = record { header = s.header; slot = s.slot; epoch = s.epoch; network = s.network; version = s.version; next = s.next_sequence; unchecked = s.unchecked } in
     before (g.D.Disk.content s.disk) (g.D.Disk.left s.disk) x c.args.commands.now (s.rests works h).0 stands
 
-pub returns-in-Err-clause-any_moment : goal.returns-in-Err-clause-any_moment
-returns-in-Err-clause-any_moment g c works h stands =
+pub returns-in_err-landmarks-clause-any_moment : goal.returns-in_err-landmarks-clause-any_moment
+returns-in_err-landmarks-clause-any_moment g c works h stands =
     let s = c.args.self.now in
     let x : Standing = record { header = s.header; slot = s.slot; epoch = s.epoch; network = s.network; version = s.version; next = s.next_sequence; unchecked = s.unchecked } in
     no_call g.D.Disk.content g.D.Disk.left g.D.Disk.moment g.D.Disk.left_since s.disk x c.args.commands.now (s.rests works h).0 (λ d since. g.met.D.Disk.only_now s.disk d h since) stands
 
-pub returns-in-Err-clause-in_flight : goal.returns-in-Err-clause-in_flight
-returns-in-Err-clause-in_flight g c works h stands =
+pub returns-in_err-landmarks-clause-in_flight : goal.returns-in_err-landmarks-clause-in_flight
+returns-in_err-landmarks-clause-in_flight g c works h stands =
     let s = c.args.self.now in
     let x : Standing = record { header = s.header; slot = s.slot; epoch = s.epoch; network = s.network; version = s.version; next = s.next_sequence; unchecked = s.unchecked } in
     before (g.D.Disk.content s.disk) (g.D.Disk.left s.disk) x c.args.commands.now (s.rests works h).0 stands
@@ -49,7 +50,7 @@ returns-in_default-clause-any_moment g c works h stands =
     let s = c.args.self.now in
     let x : Standing = record { header = s.header; slot = s.slot; epoch = s.epoch; network = s.network; version = s.version; next = s.next_sequence; unchecked = s.unchecked } in
     let follow : Follow x (changed_by c.args.self.now.network c.args.commands.now) c.args.commands.now =
-    record { numbers = s.numbers; room = c.if-self-2.false; versions = omega (arith, c.if-self-count-gt-MOST_VERSIONS.false); some = c.requires.some; few = c.requires.few; fit = c.in-Ok.ensures.fits; goes = c.in-Ok.ensures.after } in
+    record { numbers = s.numbers; room = c.if-self-2.false; versions = omega (arith, c.if-self-count-gt-MOST_VERSIONS.false); some = c.requires.some; few = c.requires.few; fit = c.in_ok-landmarks.ensures.fits; goes = c.in_ok-landmarks.ensures.after } in
     weaker g.D.Disk.moment g.D.Disk.left_since s.disk c.append_page.new.disk (IsWholeOrShut (g.D.Disk.content s.disk) (4096 * journal_page_at s.header s.next_sequence) (page_body x c.args.commands.now)) (IsBeforeOrAfter s.header.journal_pages s.network s.version c.args.commands.now)
     (c.append_page.ensures.any_moment h)
     (λ d way. meanwhile (g.D.Disk.content s.disk) x (changed_by c.args.self.now.network c.args.commands.now) c.args.commands.now follow stands d way)
@@ -64,7 +65,7 @@ returns-clause-any_moment g c works h stands =
     let s = c.args.self.now in
     let x : Standing = record { header = s.header; slot = s.slot; epoch = s.epoch; network = s.network; version = s.version; next = s.next_sequence; unchecked = s.unchecked } in
     let follow : Follow x c.carry_out.new.self c.args.commands.now =
-    record { numbers = s.numbers; room = c.if-self-2.false; versions = omega (arith, c.if-self-count-gt-MOST_VERSIONS.false); some = c.requires.some; few = c.requires.few; fit = c.in-Ok.ensures.fits; goes = c.carry_out.ensures } in
+    record { numbers = s.numbers; room = c.if-self-2.false; versions = omega (arith, c.if-self-count-gt-MOST_VERSIONS.false); some = c.requires.some; few = c.requires.few; fit = c.in_ok-landmarks.ensures.fits; goes = c.carry_out.ensures } in
     weaker g.D.Disk.moment g.D.Disk.left_since s.disk c.append_page.new.disk (IsWholeOrShut (g.D.Disk.content s.disk) (4096 * journal_page_at s.header s.next_sequence) (page_body x c.args.commands.now)) (IsBeforeOrAfter s.header.journal_pages s.network s.version c.args.commands.now)
     (c.append_page.ensures.any_moment h)
     (λ d way. meanwhile (g.D.Disk.content s.disk) x c.carry_out.new.self c.args.commands.now follow stands d way)
@@ -79,16 +80,16 @@ invariant_of-self-2 g c =
     let s = c.args.self.now in
     let x : Standing = record { header = s.header; slot = s.slot; epoch = s.epoch; network = s.network; version = s.version; next = s.next_sequence; unchecked = s.unchecked } in
     let follow : Follow x c.carry_out.new.self c.args.commands.now =
-    record { numbers = s.numbers; room = c.if-self-2.false; versions = omega (arith, c.if-self-count-gt-MOST_VERSIONS.false); some = c.requires.some; few = c.requires.few; fit = c.in-Ok.ensures.fits; goes = c.carry_out.ensures } in
+    record { numbers = s.numbers; room = c.if-self-2.false; versions = omega (arith, c.if-self-count-gt-MOST_VERSIONS.false); some = c.requires.some; few = c.requires.few; fit = c.in_ok-landmarks.ensures.fits; goes = c.carry_out.ensures } in
     record {
       numbers = numbers_more (g.D.Disk.content s.disk) x c.carry_out.new.self c.args.commands.now follow;
       rests = λ works now.
           let h = c.append_page.ensures.honest.0 now in
-          (c.in-Ok-append_page.ensures.at_rest h, size_kept (g.D.Disk.content s.disk) x c.carry_out.new.self c.args.commands.now follow (g.D.Disk.content c.append_page.new.disk) (s.rests c.if-self.false h).1 (c.in-Ok-append_page.ensures.written h));
+          (c.in-Ok.ensures.at_rest h, size_kept (g.D.Disk.content s.disk) x c.carry_out.new.self c.args.commands.now follow (g.D.Disk.content c.append_page.new.disk) (s.rests c.if-self.false h).1 (c.in-Ok.ensures.written h));
       fits = rw c.count_page.ensures (fits_committed (g.D.Disk.content s.disk) (g.D.Disk.content c.append_page.new.disk) x c.carry_out.new.self c.args.commands.now follow s.going s.fits);
       goes_on = λ works now.
           let h = c.append_page.ensures.honest.0 now in
-          rw c.count_page.ensures (going_committed (g.D.Disk.content s.disk) (g.D.Disk.content c.append_page.new.disk) x c.carry_out.new.self c.args.commands.now follow (s.rests c.if-self.false h).1 (c.in-Ok-append_page.ensures.written h) s.going s.fits (s.goes_on c.if-self.false h));
+          rw c.count_page.ensures (going_committed (g.D.Disk.content s.disk) (g.D.Disk.content c.append_page.new.disk) x c.carry_out.new.self c.args.commands.now follow (s.rests c.if-self.false h).1 (c.in-Ok.ensures.written h) s.going s.fits (s.goes_on c.if-self.false h));
     }
 
 pub returns-clause-stands : goal.returns-clause-stands
@@ -96,24 +97,29 @@ returns-clause-stands g c h stands =
     let s = c.args.self.now in
     let x : Standing = record { header = s.header; slot = s.slot; epoch = s.epoch; network = s.network; version = s.version; next = s.next_sequence; unchecked = s.unchecked } in
     let follow : Follow x c.carry_out.new.self c.args.commands.now =
-    record { numbers = s.numbers; room = c.if-self-2.false; versions = omega (arith, c.if-self-count-gt-MOST_VERSIONS.false); some = c.requires.some; few = c.requires.few; fit = c.in-Ok.ensures.fits; goes = c.carry_out.ensures } in
-    stands_more_tidily (g.D.Disk.content s.disk) x c.carry_out.new.self c.args.commands.now follow stands (g.D.Disk.content c.append_page.new.disk) (c.in-Ok-append_page.ensures.written h)
+    record { numbers = s.numbers; room = c.if-self-2.false; versions = omega (arith, c.if-self-count-gt-MOST_VERSIONS.false); some = c.requires.some; few = c.requires.few; fit = c.in_ok-landmarks.ensures.fits; goes = c.carry_out.ensures } in
+    stands_more_tidily (g.D.Disk.content s.disk) x c.carry_out.new.self c.args.commands.now follow stands (g.D.Disk.content c.append_page.new.disk) (c.in-Ok.ensures.written h)
 
 pub returns-clause-durable : goal.returns-clause-durable
 returns-clause-durable g c h stands =
     let s = c.args.self.now in
     let x : Standing = record { header = s.header; slot = s.slot; epoch = s.epoch; network = s.network; version = s.version; next = s.next_sequence; unchecked = s.unchecked } in
     let follow : Follow x c.carry_out.new.self c.args.commands.now =
-    record { numbers = s.numbers; room = c.if-self-2.false; versions = omega (arith, c.if-self-count-gt-MOST_VERSIONS.false); some = c.requires.some; few = c.requires.few; fit = c.in-Ok.ensures.fits; goes = c.carry_out.ensures } in
-    left_stands (g.D.Disk.content c.append_page.new.disk) (g.D.Disk.left c.append_page.new.disk) (more x c.carry_out.new.self c.args.commands.now) (c.in-Ok-append_page.ensures.at_rest h)
-    (stands_more_tidily (g.D.Disk.content s.disk) x c.carry_out.new.self c.args.commands.now follow stands (g.D.Disk.content c.append_page.new.disk) (c.in-Ok-append_page.ensures.written h))
+    record { numbers = s.numbers; room = c.if-self-2.false; versions = omega (arith, c.if-self-count-gt-MOST_VERSIONS.false); some = c.requires.some; few = c.requires.few; fit = c.in_ok-landmarks.ensures.fits; goes = c.carry_out.ensures } in
+    left_stands (g.D.Disk.content c.append_page.new.disk) (g.D.Disk.left c.append_page.new.disk) (more x c.carry_out.new.self c.args.commands.now) (c.in-Ok.ensures.at_rest h)
+    (stands_more_tidily (g.D.Disk.content s.disk) x c.carry_out.new.self c.args.commands.now follow stands (g.D.Disk.content c.append_page.new.disk) (c.in-Ok.ensures.written h))
 
-pub returns-in-Err-clause-failed : goal.returns-in-Err-clause-failed
-returns-in-Err-clause-failed g c is = absurd (not_device c.args.self.now.network c.args.commands.now c.in-Err.refusal c.in-Err.ensures.refused is)
+pub returns-in_err-landmarks-clause-failed : goal.returns-in_err-landmarks-clause-failed
+returns-in_err-landmarks-clause-failed g c =
+    let p = err_from_is_err_and c.from_residual.result c.from_residual.ensures.1 in
+    rw (p.1, p.2) (λ is. absurd (not_device c.args.self.now.network c.args.commands.now _ c.in_err-landmarks.ensures.refused is))
 
-pub returns-in-Err-clause-breaks : goal.returns-in-Err-clause-breaks
-returns-in-Err-clause-breaks g c is = absurd (not_device c.args.self.now.network c.args.commands.now c.in-Err.refusal c.in-Err.ensures.refused is)
+pub returns-in_err-landmarks-clause-breaks : goal.returns-in_err-landmarks-clause-breaks
+returns-in_err-landmarks-clause-breaks g c =
+    let p = err_from_is_err_and c.from_residual.result c.from_residual.ensures.1 in
+    rw (p.1, p.2) (λ is. absurd (not_device c.args.self.now.network c.args.commands.now _ c.in_err-landmarks.ensures.refused is))
 
-pub returns-in-Err-clause-counted : goal.returns-in-Err-clause-counted
-returns-in-Err-clause-counted g c =
-    not_told c.in-Err.refusal (g.D.Disk.failures c.args.self.now.disk) (not_device c.args.self.now.network c.args.commands.now c.in-Err.refusal c.in-Err.ensures.refused)
+pub returns-in_err-landmarks-clause-counted : goal.returns-in_err-landmarks-clause-counted
+returns-in_err-landmarks-clause-counted g c =
+    let p = err_from_is_err_and c.from_residual.result c.from_residual.ensures.1 in
+    rw (p.1, p.2) (not_told _ (g.D.Disk.failures c.args.self.now.disk) (not_device c.args.self.now.network c.args.commands.now _ c.in_err-landmarks.ensures.refused))

@@ -3,10 +3,9 @@ use Rattle.std.specs.Prelude.{◌≡◌, ◌⊎◌, ◌<◌, ℕ, Bool, true, fa
 use Rattle.std.specs.List.{prefix_len}
 use Rattle.std.specs.Str.{bytes_eq}
 use lib.Chars.{codes}
-use Rattle.roadnet.specs.declared.commands.Command.TheVariants.{Set as set_arc, Close as close_arc, Reopen as reopen_arc, Mark as mark_node, Unmark as unmark_node}
+use Rattle.roadnet.specs.declared.commands.Command.TheVariants.{Set as set_arc}
 use Rattle.dimacs.specs.declared.numeral.Numeral.{Numeral}
 use Rattle.dimacs.specs.declared.words.OneNumber.{OneNumber}
-use Rattle.dimacs.specs.declared.words.OneNumber.TheVariants.{Close, Reopen, Mark, Unmark}
 use Rattle.dimacs.specs.declared.words.TwoNumbers.{TwoNumbers}
 use Rattle.dimacs.specs.declared.words.TwoNumbers.TheVariants.{Set, Dist, From, Lower}
 use Rattle.dimacs.specs.declared.fault.Code.{Code}
@@ -16,7 +15,7 @@ use Rattle.dimacs.specs.Faults.{Row, has_first, is_empty, is_remark, some_numera
 use Rattle.dimacs.specs.Lines.{fields}
 use Rattle.dimacs.specs.Numerals.{numeral, kept}
 use Rattle.dimacs.specs.Reading.{one_numeral}
-use Rattle.dimacs.specs.Spelling.{spelled_word, one_spelling, one_words, two_spelling, two_words}
+use Rattle.dimacs.specs.Spelling.{spelled_word, one_spelling, one_words, one_command, two_spelling, two_words}
 use Rattle.dimacs.specs.Taking.{ByMemory}
 use Rattle.disk.specs.declared.stoppable.Pick.{Pick}
 use Rattle.disk.specs.declared.stoppable.Pick.TheVariants.{Old, New, Byte}
@@ -66,10 +65,7 @@ bare_line Task = TaskLine
 bare_line Publish = PublishLine
 
 abbrev pub one_line : OneNumber → ℕ → ScriptLine
-one_line Close n = CommandLine (close_arc n)
-one_line Reopen n = CommandLine (reopen_arc n)
-one_line Mark n = CommandLine (mark_node n)
-one_line Unmark n = CommandLine (unmark_node n)
+one_line word n = CommandLine (one_command word n)
 
 abbrev pub two_line : TwoNumbers → ℕ → ℕ → ScriptLine
 two_line Set n m = CommandLine (set_arc n m)

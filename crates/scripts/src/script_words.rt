@@ -75,13 +75,9 @@ pub(crate) fn bare_event(word: Bare) -> Event<Pick>
 pub(crate) fn one_event(word: OneNumber, number: u64) -> Event<Pick>
     ensures { as_line result ≡ one_line word number }
 {
-    let command = match word {
-        OneNumber::Close => Command::Close { arc: number },
-        OneNumber::Reopen => Command::Reopen { arc: number },
-        OneNumber::Mark => Command::Mark { node: number },
-        OneNumber::Unmark => Command::Unmark { node: number },
-    };
-    Event::Submit { command }
+    Event::Submit {
+        command: word.command(number),
+    }
 }
 
 /// The event of a word with two numbers.

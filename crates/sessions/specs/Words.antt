@@ -2,14 +2,14 @@
 use Rattle.std.specs.Prelude.{ℕ}
 use Rattle.sessions.specs.declared.lines.Line.{Line}
 use Rattle.sessions.specs.declared.lines.Line.TheVariants.{Command as a_command, Query as a_query, Wait as a_wait, Quit as a_quit}
-use Rattle.roadnet.specs.declared.commands.Command.TheVariants.{Set as set_arc, Close as close_arc, Reopen as reopen_arc, Mark as mark_node, Unmark as unmark_node}
+use Rattle.roadnet.specs.declared.commands.Command.TheVariants.{Set as set_arc}
 use Rattle.rows.specs.declared.queries.Query.TheVariants.{Dist as distance, From as distance_from, Lower as lower_bound}
 use Rattle.sessions.specs.declared.words.Bare.{Bare}
 use Rattle.sessions.specs.declared.words.Bare.TheVariants.{Wait, Quit}
 use Rattle.dimacs.specs.declared.words.OneNumber.{OneNumber}
-use Rattle.dimacs.specs.declared.words.OneNumber.TheVariants.{Close, Reopen, Mark, Unmark}
 use Rattle.dimacs.specs.declared.words.TwoNumbers.{TwoNumbers}
 use Rattle.dimacs.specs.declared.words.TwoNumbers.TheVariants.{Set, Dist, From, Lower}
+use Rattle.dimacs.specs.Spelling.{one_command}
 
 -- what a word asks for with its numbers
 abbrev pub bare_line : Bare → Line
@@ -17,10 +17,7 @@ bare_line Wait = a_wait
 bare_line Quit = a_quit
 
 abbrev pub one_line : OneNumber → ℕ → Line
-one_line Close n = a_command (close_arc n)
-one_line Reopen n = a_command (reopen_arc n)
-one_line Mark n = a_command (mark_node n)
-one_line Unmark n = a_command (unmark_node n)
+one_line word n = a_command (one_command word n)
 
 abbrev pub two_line : TwoNumbers → ℕ → ℕ → Line
 two_line Set n m = a_command (set_arc n m)

@@ -77,12 +77,7 @@ fn bare_line(word: Bare) -> Line
 fn one_line(word: OneNumber, number: u64) -> Line
     ensures { result ≡ one_line word number }
 {
-    Line::Command(match word {
-        OneNumber::Close => Command::Close { arc: number },
-        OneNumber::Reopen => Command::Reopen { arc: number },
-        OneNumber::Mark => Command::Mark { node: number },
-        OneNumber::Unmark => Command::Unmark { node: number },
-    })
+    Line::Command(word.command(number))
 }
 
 /// What a word with two numbers asks for.

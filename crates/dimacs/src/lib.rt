@@ -1,22 +1,22 @@
 //! The texts of the server: what they say, or the first fault in them.
 #![tactic(auto)]
 
-pub mod commands;
-pub mod counted;
-pub mod fault;
-pub mod feed;
-pub mod gr;
-pub mod gr_lines;
-pub mod landmarks;
-pub mod laws;
-pub mod line;
-pub mod listed;
-pub mod numeral;
-pub mod pairs;
-pub mod problem;
-pub mod reading;
-pub mod taking;
-pub mod words;
+mod commands;
+mod counted;
+mod fault;
+mod feed;
+mod gr;
+mod gr_lines;
+mod landmarks;
+mod laws;
+mod line;
+mod listed;
+mod numeral;
+mod pairs;
+mod problem;
+mod reading;
+mod taking;
+mod words;
 
 pub use commands::{number, parse_commands, read_commands, read_commands_counted, two_numbers};
 pub use counted::Counted;
@@ -25,6 +25,7 @@ pub use feed::{Ended, parse_lines, read_lines};
 pub use gr::{parse_gr, read_gr, read_gr_before_run, read_gr_counted};
 pub use gr_lines::GrLines;
 pub use landmarks::{parse_ss, read_ss, read_ss_counted};
+pub use laws::first_fault_is_first;
 pub use line::split_field;
 pub use numeral::Numeral;
 pub use pairs::{Pair, parse_p2p, read_p2p, read_p2p_counted};

@@ -42,10 +42,8 @@ fn rehearsed<T: Threads, D: Stoppable>(
     ensures counted { IfOk result (λ run. EndsAsTold events.now run.replies.items run.ended (D.failures disk) (D.failures run.disk)) }
     ensures unmade { IfErr result (λ refused. D.failures refused.1 ≡ failures_with refused.0 (D.failures disk)) }
 {
-    match create(alloc, disk, network, journal_pages) {
-        Ok(store) => Ok(rehearse(rt, alloc, store, delta, events)),
-        Err(refused) => Err(refused),
-    }
+    let store = create(alloc, disk, network, journal_pages)?;
+    Ok(rehearse(rt, alloc, store, delta, events))
 }
 
 /// Runs the events on a new store of the network on an empty disk, with so many journal pages, and writes the lines of the replies to them,

@@ -1,5 +1,5 @@
 //! What a session answers, by its desk.
-ghost use Rattle.std.specs.Prelude.{◌≡◌, ◌≤◌, ◌+◌, ◌∷◌, [], length, true, None, Some, IfOk, IfErr, IfSome, OnOk};
+ghost use Rattle.std.specs.Prelude.{◌≡◌, ◌<◌, ◌≤◌, ◌+◌, ◌∷◌, [], length, true, false, None, Some, IfOk, IfErr, IfSome, OnOk};
 ghost use Rattle.std.specs.Option.{ForSome};
 ghost use mathlib.Core.List.{IsPrefix};
 ghost use Rattle.published.specs.Showing.{IsUnseen};
@@ -239,10 +239,7 @@ impl<N: Naming + Send + Sync + 'static> Session<N> {
     {
         match &self.last {
             None => Ok(None),
-            Some(last) => match desk.wait_shown(last.ticket()) {
-                Ok(shown) => Ok(Some(shown)),
-                Err(refusal) => Err(refusal),
-            },
+            Some(last) => Ok(Some(desk.wait_shown(last.ticket())?)),
         }
     }
 
@@ -303,10 +300,11 @@ impl<N: Naming + Send + Sync + 'static> Session<N> {
     /// Compares what the session has with its desk, which is closed. Whatever a stop leaves of that: each command that the session told to be durable
     /// has its number in it, and it begins with all that the session has seen or was told of. It takes no memory.
     ///
-    /// The answer is false where the desk showed less than the session has seen, which never comes.
+    /// The answer is false only where the desk showed fewer commands than the session has seen, which never comes.
     pub fn is_kept<D: Disk>(&self, closed: &Closed<D>) -> bool
         requires { closed.now.whole.origin ≡ N.origin }
-        ensures { result ≡ true → (last : Standing) → IsSessionAt N.origin self.now.reader self.now.receipts last → IsKept closed.now.whole closed.now.shown last }
+        ensures kept { result ≡ true → (last : Standing) → IsSessionAt N.origin self.now.reader self.now.receipts last → IsKept closed.now.whole closed.now.shown last }
+        ensures fewer { result ≡ false → length closed.now.shown.commands < length (known_to self.now.reader) }
     {
         compare(&self.receipts, &closed.whole);
         match &self.reader {

@@ -1,16 +1,25 @@
-use Rattle.std.proofs.Common.{refl, subst}
+use Rattle.std.proofs.Common.{◌<◌, length, refl, subst}
 use mathlib.Core.List.{IsPrefix}
 use Rattle.history.specs.Origins.{Beginning}
 use Rattle.sessions.proofs.Answered.{kept_in}
 use Rattle.sessions.proofs.answers.Session.is_kept.Goals as goal
 
-pub returns-in-Some : goal.returns-in-Some
-returns-in-Some g c shown last is =
+pub returns-in-Some-clause-kept : goal.returns-in-Some-clause-kept
+returns-in-Some-clause-kept g c shown last is =
     let seen : IsPrefix c.in-Some.reader.known.commands c.args.closed.now.shown.commands =
     subst (λ (b : Beginning). IsPrefix b.commands c.args.closed.now.shown.commands) c.known.ensures.commands (rw shown at c.has_shown.ensures) in
     kept_in g.N.Naming.origin c.args.closed.now.whole c.args.closed.now.shown c.args.self.now.reader c.args.self.now.receipts last c.requires c.compare.ensures (rw c.in-Some.is seen) is
 
-pub returns-in-None : goal.returns-in-None
-returns-in-None g c truth last is =
+pub returns-in-Some-clause-fewer : goal.returns-in-Some-clause-fewer
+returns-in-Some-clause-fewer g c shown =
+    let fewer : length c.args.closed.now.shown.commands < length c.in-Some.reader.known.commands =
+    subst (λ (b : Beginning). length c.args.closed.now.shown.commands < length b.commands) c.known.ensures.commands (rw shown at c.has_shown.ensures) in
+    rw c.in-Some.is fewer
+
+pub returns-in-None-clause-kept : goal.returns-in-None-clause-kept
+returns-in-None-clause-kept g c truth last is =
     kept_in g.N.Naming.origin c.args.closed.now.whole c.args.closed.now.shown c.args.self.now.reader c.args.self.now.receipts last c.requires c.compare.ensures
     (rw c.in-None.is (c.args.closed.now.shown.commands, refl)) is
+
+pub returns-in-None-clause-fewer : goal.returns-in-None-clause-fewer
+returns-in-None-clause-fewer g c ()

@@ -23,7 +23,7 @@ served_of origin (Some text) left old new P Q result also s = served origin text
 pub returns-clause-answered : goal.returns-clause-answered
 returns-clause-answered g c =
     let kept : c.is_kept.result ≡ true = search rules in
-    served_of g.N.Naming.origin _ _ _ _ _ _ _ (c.is_kept.ensures kept) c.serve-outcome.ensures.answered
+    served_of g.N.Naming.origin _ _ _ _ _ _ _ (c.is_kept.ensures.kept kept) c.serve-outcome.ensures.answered
 
 pub returns-clause-honest : goal.returns-clause-honest
 returns-clause-honest g c came = c.in_ok-closed.ensures.honest (c.requires.came_tidy.1 came)

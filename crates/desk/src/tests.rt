@@ -151,10 +151,7 @@ pub(crate) fn ended<
 >(desk: Desk<N, D, G, R>, told: Result<T, Refusal>) -> Result<(T, usize), Refusal> {
     let closed = desk.close()?;
     let count = closed.history.len();
-    match told {
-        Ok(told) => Ok((told, count)),
-        Err(refusal) => Err(refusal),
-    }
+    Ok((told?, count))
 }
 
 /// A command is settled, and what is shown with it.

@@ -72,10 +72,7 @@ fn rehearsed<R: Threads>(
     requires some { 1 ≤ journal_pages }
     requires few { journal_pages ≤ 65536 }
 {
-    let store = match six(alloc, journal_pages) {
-        Ok(store) => store,
-        Err(refusal) => return Err(refusal),
-    };
+    let store = six(alloc, journal_pages)?;
     let run = rehearse(rt, alloc, store, None, events);
     match want_of(&run) {
         Some(refusal) => Err(refusal),

@@ -133,10 +133,8 @@ fn keeper_of_six<R: Threads>(
     requires some { 1 ≤ journal_pages }
     requires few { journal_pages ≤ 65536 }
 {
-    match six(alloc) {
-        Ok(network) => keeper(rt, alloc, &network, journal_pages),
-        Err(refusal) => Err(refusal),
-    }
+    let network = six(alloc)?;
+    keeper(rt, alloc, &network, journal_pages)
 }
 
 // A keeper of what this disk has.
@@ -324,10 +322,8 @@ fn played<R: Threads, D: Disk + Drop>(
             });
         }
     };
-    match plays(rt, alloc, &mut keeper, table) {
-        Ok(()) => Ok(keeper),
-        Err(wrong) => Err(wrong),
-    }
+    plays(rt, alloc, &mut keeper, table)?;
+    Ok(keeper)
 }
 
 // The same, and the keeper is let go.
@@ -337,10 +333,8 @@ fn plays_on<R: Threads, D: Disk + Drop>(
     keeper: Result<Keeper<D>, Refusal>,
     table: &[(Call, Told)],
 ) -> Result<(), Wrong> {
-    match played(rt, alloc, keeper, table) {
-        Ok(_) => Ok(()),
-        Err(wrong) => Err(wrong),
-    }
+    let _ = played(rt, alloc, keeper, table)?;
+    Ok(())
 }
 
 fn plays_on_six<R: Threads>(rt: &R, alloc: Global, table: &[(Call, Told)]) -> Result<(), Wrong> {
@@ -374,10 +368,7 @@ type Received = (
 );
 
 fn received<D: Disk>(keeper: &mut Keeper<D>, command: Command) -> Result<Received, Refusal> {
-    let ticket = match submitted(keeper, command) {
-        Ok(ticket) => ticket,
-        Err(refusal) => return Err(refusal),
-    };
+    let ticket = submitted(keeper, command)?;
     let before = keeper.receipt(&ticket);
     let (answer, behind) = flushed(keeper, &ticket);
     Ok((before, answer, behind))
@@ -454,10 +445,8 @@ fn refusals_of_commands(rt: HostRuntime) -> Result<(), Wrong> {
 
 // A keeper of two nodes, with two arcs between them and a loop.
 fn keeper_of_two<R: Threads>(rt: &R, alloc: Global) -> Result<Keeper<MemDisk>, Refusal> {
-    match network(alloc, 2, &[(1, 2, 5), (1, 2, 3), (1, 1, 0)]) {
-        Ok(network) => keeper(rt, alloc, &network, 64),
-        Err(refusal) => Err(refusal),
-    }
+    let network = network(alloc, 2, &[(1, 2, 5), (1, 2, 3), (1, 1, 0)])?;
+    keeper(rt, alloc, &network, 64)
 }
 
 #[test]
@@ -510,10 +499,8 @@ fn queue_is_full_at_4096(rt: HostRuntime) -> Result<(), Wrong> {
 // A keeper whose first flush fails at its second sync. Opening makes nine calls of the disk; the flush reads the gate, writes the body,
 // syncs, opens the gate, and then its second sync fails.
 fn failing<R: Threads>(rt: &R, alloc: Global) -> Result<Keeper<FailOnce<MemDisk>>, Refusal> {
-    match keeper_of_six(rt, alloc, 64) {
-        Ok(keeper) => reopened(rt, alloc, FailOnce::new(keeper.close().1, 9 + 5)),
-        Err(refusal) => Err(refusal),
-    }
+    let keeper = keeper_of_six(rt, alloc, 64)?;
+    reopened(rt, alloc, FailOnce::new(keeper.close().1, 9 + 5))
 }
 
 #[test]

@@ -39,14 +39,8 @@ fn shown_after(
     requires version { version ≡ commands.origin.version + length commands.commands }
     ensures { IfOk result (λ shown. shown.shown ≡ commands) }
 {
-    let copy = match network.copy() {
-        Ok(copy) => copy,
-        Err(error) => return Err(error),
-    };
-    let view = match View::build(alloc, version, copy, None, &Solo) {
-        Ok(view) => view,
-        Err(error) => return Err(error),
-    };
+    let copy = network.copy()?;
+    let view = View::build(alloc, version, copy, None, &Solo)?;
     match Arc::new(alloc, view) {
         Ok(view) => Ok(Published::new(view, commands)),
         Err(_) => Err(OutOfMemory),

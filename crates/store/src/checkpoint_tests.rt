@@ -27,10 +27,7 @@ pub fn set(arc: u64, length: u64) -> Command {
 
 // The length of arc 1, the version, and how many pages are unchecked.
 fn told<D: Disk>(store: &Store<D>) -> (Option<u32>, u64, u32) {
-    let length = match store.network().arc(1) {
-        Some(arc) => Some(arc.length),
-        None => None,
-    };
+    let length = store.network().arc(1).map(|arc| arc.length);
     (length, store.version(), store.unchecked())
 }
 

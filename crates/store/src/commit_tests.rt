@@ -1,9 +1,7 @@
-ghost use Rattle.std.specs.Prelude.{◌≤◌};
-
 use crate::Store;
 use crate::worked::{arc, is_page, opened, six};
-use disk::{Disk, FuseDisk, MemDisk, Pick, Stoppable};
-use roadnet::{Command, Network, Refusal, RoadArc};
+use disk::{Disk, FuseDisk, Pick, Stoppable};
+use roadnet::{Command, Refusal};
 use std::alloc::Global;
 use std::test::Fail;
 

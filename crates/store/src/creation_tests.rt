@@ -1,8 +1,7 @@
 use crate::create;
 use crate::worked::{is_page, network_of_six};
 use disk::{Disk, FailOnce, MemDisk, Pick, Stoppable};
-use roadnet::{Network, Refusal, RoadArc};
-use std::alloc::Global;
+use roadnet::Refusal;
 
 const HEADER: [u8; 24] =
     *b"ROADMRK1\x00\x00\x00\x01\x00\x00\x00\x06\x00\x00\x00\x08\x00\x00\x00\x40";

@@ -1,11 +1,11 @@
 // Opening and the judge agree on each file that is made here.
-ghost use Rattle.std.specs.Prelude.{◌≤◌, ◌<◌};
+ghost use Rattle.std.specs.Prelude.{◌<◌};
 
 use crate::judge::{Judged, judge};
 use crate::worked::{arc, network_of_six, opened};
 use crate::{Store, create, open};
 use disk::{Disk, MemDisk};
-use roadnet::{Command, Network, Refusal, RoadArc};
+use roadnet::{Command, Refusal};
 use std::alloc::Global;
 
 const PAGE: usize = 4096;

@@ -2,9 +2,7 @@
 ghost use Rattle.std.specs.Prelude.{◌≡◌, [], min, ◌+◌, ◌-◌, ◌^◌};
 
 use crate::judge::judge;
-use crate::judge_tests::{
-    bytes_of, flushed_file, new_file, opens_as_judged, two_slot_file, with_bytes,
-};
+use crate::judge_tests::{bytes_of, opens_as_judged, two_slot_file, with_bytes};
 use crate::worked::{network_of_six, opened};
 use crate::{create, open};
 use disk::{Disk, DiskError, FailOnce, MemDisk};
@@ -31,10 +29,7 @@ fn failed_creation_is_opened(rt: HostRuntime) -> Result<(), Refusal> {
             opens_as_judged(alloc, with_bytes(alloc, &bytes)?, &bytes)?,
             "call {k}"
         );
-        let answer = match opened(alloc, disk) {
-            Ok(store) => Ok(store.version()),
-            Err(refusal) => Err(refusal),
-        };
+        let answer = opened(alloc, disk).map(|store| store.version());
         let wanted = if k < 7 {
             Err(Refusal::NotAStore)
         } else {

@@ -1,4 +1,4 @@
-ghost use Rattle.std.specs.Prelude.{◌≤◌, length};
+ghost use Rattle.std.specs.Prelude.{◌≤◌};
 
 use crate::checkpoint_tests::{fused, stopped};
 use crate::opening_tests::FixedDisk;

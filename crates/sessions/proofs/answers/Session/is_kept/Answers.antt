@@ -22,4 +22,4 @@ returns-in-None-clause-kept g c truth last is =
     (rw c.in-None.is (c.args.closed.now.shown.commands, refl)) is
 
 pub returns-in-None-clause-fewer : goal.returns-in-None-clause-fewer
-returns-in-None-clause-fewer g c ()
+returns-in-None-clause-fewer g c shown = absurd (let absurdity : ⊥ = cc in absurdity)

@@ -117,12 +117,12 @@ const NO_TEXT: [Option<&str>; 2] = [NAME, None];
 const ABSENT: [Option<&str>; 5] = [NAME, Some("once"), NONE, Some("1"), Some("6")];
 
 #[test]
-fn words_on_texts(rt: HostRuntime) -> Result<(), Fail> {
+fn words_on_files(rt: HostRuntime) -> Result<(), Fail> {
     let id = process::id(rt.process());
-    let name = format!(in rt.alloc(); "roadmark-texts-{id}")?;
+    let name = format!(in rt.alloc(); "roadmark-words-{id}")?;
     let folder = new_folder(&rt, name.as_str())?;
     let pairs = "v 0\nd 1 6 15\nx 6 1\n";
-    let table: [Run; 10] = [
+    let table: [Run; 18] = [
         done(
             &[NAME, Some("once"), GR, Some("1"), Some("6")],
             "v 0\nd 1 6 15\n",
@@ -164,36 +164,6 @@ fn words_on_texts(rt: HostRuntime) -> Result<(), Fail> {
             ],
             "t 1\nok 1\nt 2\nok 2\nt 3\nno 44\n",
         ),
-        Run {
-            words: &[NAME],
-            input: JOINT,
-            status: 0,
-            out: "v 0\nd 1 6 15\n",
-            err: "",
-        },
-        Run {
-            words: &[NAME, Some("--delta"), Some("7")],
-            input: JOINT,
-            status: 0,
-            out: "v 0\nd 1 6 15\n",
-            err: "",
-        },
-        done(&[NAME, Some("--version")], "roadmark 0.1.0\n"),
-    ];
-    for run in table {
-        is_run(&rt, folder.as_str(), &run);
-    }
-    fs::remove_dir_all(&rt, folder.as_str())?;
-    Ok(())
-}
-
-#[test]
-fn words_on_stores(rt: HostRuntime) -> Result<(), Fail> {
-    let id = process::id(rt.process());
-    let name = format!(in rt.alloc(); "roadmark-words-{id}")?;
-    let folder = new_folder(&rt, name.as_str())?;
-    let pairs = "v 0\nd 1 6 15\nx 6 1\n";
-    let table: [Run; 8] = [
         done(&[NAME, Some("create"), STORE, GR, Some("six.ss")], "ok 0\n"),
         refused(
             &[NAME, Some("create"), STORE, GR, Some("six.ss")],
@@ -232,6 +202,21 @@ fn words_on_stores(rt: HostRuntime) -> Result<(), Fail> {
             ],
             "ok 0\n",
         ),
+        Run {
+            words: &[NAME],
+            input: JOINT,
+            status: 0,
+            out: "v 0\nd 1 6 15\n",
+            err: "",
+        },
+        Run {
+            words: &[NAME, Some("--delta"), Some("7")],
+            input: JOINT,
+            status: 0,
+            out: "v 0\nd 1 6 15\n",
+            err: "",
+        },
+        done(&[NAME, Some("--version")], "roadmark 0.1.0\n"),
     ];
     for run in table {
         is_run(&rt, folder.as_str(), &run);
@@ -242,13 +227,13 @@ fn words_on_stores(rt: HostRuntime) -> Result<(), Fail> {
     Ok(())
 }
 
-/// A folder may be opened as a text, and its first read fails.
 #[test]
-fn faults_of_texts(rt: HostRuntime) -> Result<(), Fail> {
+fn faults_of_words(rt: HostRuntime) -> Result<(), Fail> {
     let id = process::id(rt.process());
-    let name = format!(in rt.alloc(); "roadmark-text-faults-{id}")?;
+    let name = format!(in rt.alloc(); "roadmark-faults-{id}")?;
     let folder = new_folder(&rt, name.as_str())?;
-    let table: [Run; 12] = [
+    let table: [Run; 24] = [
+        done(&[NAME, Some("create"), STORE, GR, Some("six.ss")], "ok 0\n"),
         refused(
             &[NAME, Some("once"), NONE, Some("1"), Some("6")],
             "roadmark: none: line 0: 10 Read\n",
@@ -281,43 +266,6 @@ fn faults_of_texts(rt: HostRuntime) -> Result<(), Fail> {
             &[NAME, Some("rehearse"), Some("bad.gr"), Some("bad.script")],
             "roadmark: bad.gr: line 3: 7 LengthRange\n",
         ),
-        refused(
-            &[NAME, Some("batch"), GR, Some(".")],
-            "roadmark: .: line 1: 10 Read\n",
-        ),
-        refused(
-            &[NAME, Some("rehearse"), GR, Some(".")],
-            "roadmark: .: line 1: 10 Read\n",
-        ),
-        Run {
-            words: &[NAME],
-            input: "p sp 2 1\na 1 2 -5\nrun\n",
-            status: 1,
-            out: "",
-            err: "roadmark: net: line 2: 7 LengthRange\n",
-        },
-        Run {
-            words: &[NAME],
-            input: "p sp 2 0\nrun\ndist 1\n",
-            status: 1,
-            out: "",
-            err: "roadmark: script: line 1: 1 BadLine\n",
-        },
-    ];
-    for run in table {
-        is_run(&rt, folder.as_str(), &run);
-    }
-    fs::remove_dir_all(&rt, folder.as_str())?;
-    Ok(())
-}
-
-#[test]
-fn faults_of_stores(rt: HostRuntime) -> Result<(), Fail> {
-    let id = process::id(rt.process());
-    let name = format!(in rt.alloc(); "roadmark-faults-{id}")?;
-    let folder = new_folder(&rt, name.as_str())?;
-    let table: [Run; 17] = [
-        done(&[NAME, Some("create"), STORE, GR, Some("six.ss")], "ok 0\n"),
         refused(
             &[
                 NAME,
@@ -373,58 +321,26 @@ fn faults_of_stores(rt: HostRuntime) -> Result<(), Fail> {
             &[NAME, Some("ask"), STORE, Some("bad.p2p")],
             "roadmark: bad.p2p: line 2: 1 BadLine\n",
         ),
-        refused(
-            &[NAME, Some("create"), Some("new.store"), GR, Some(".")],
-            "roadmark: .: line 1: 10 Read\n",
-        ),
-        refused(
-            &[NAME, Some("apply"), STORE, Some(".")],
-            "roadmark: .: line 1: 10 Read\n",
-        ),
-        refused(
-            &[NAME, Some("ask"), STORE, Some(".")],
-            "roadmark: .: line 1: 10 Read\n",
-        ),
+        Run {
+            words: &[NAME],
+            input: "p sp 2 1\na 1 2 -5\nrun\n",
+            status: 1,
+            out: "",
+            err: "roadmark: net: line 2: 7 LengthRange\n",
+        },
+        Run {
+            words: &[NAME],
+            input: "p sp 2 0\nrun\ndist 1\n",
+            status: 1,
+            out: "",
+            err: "roadmark: script: line 1: 1 BadLine\n",
+        },
     ];
     for run in table {
         is_run(&rt, folder.as_str(), &run);
     }
     let path = format!(in rt.alloc(); "{}/new.store", folder.as_str())?;
     assert!(rt; fs::metadata(&rt, path.as_str()).is_err());
-    fs::remove_dir_all(&rt, folder.as_str())?;
-    Ok(())
-}
-
-/// The run of these words, whose first write fails, ends with 12.
-fn is_cut<
-    R: Abort + AllocGlobal + Files<File = File> + Threads + Wait + Copy + Send + Sync + 'static,
->(rt: &R, folder: &str, words: &'static [Option<&'static str>]) {
-    let Ok(mut shell) = Shell::new(rt, folder, words) else {
-        return assert!(rt; false);
-    };
-    shell.fails_at = 1;
-    assert!(rt; program(&shell, *rt) == 1, "{words:?}");
-    assert!(rt; is_kept(&shell.err, "roadmark: 12 Write\n"), "{words:?}");
-}
-
-/// What is printed is written at once; where that fails the job ends with 12.
-#[test]
-fn outputs_that_fail(rt: HostRuntime) -> Result<(), Fail> {
-    let id = process::id(rt.process());
-    let name = format!(in rt.alloc(); "roadmark-cut-{id}")?;
-    let folder = new_folder(&rt, name.as_str())?;
-    let made = done(&[NAME, Some("create"), STORE, GR, Some("six.ss")], "ok 0\n");
-    is_run(&rt, folder.as_str(), &made);
-    let table: [&'static [Option<&'static str>]; 5] = [
-        &[NAME, Some("once"), GR, Some("1"), Some("6")],
-        &[NAME, Some("batch"), GR, P2P],
-        &[NAME, Some("rehearse"), GR, SCRIPT],
-        &[NAME, Some("apply"), STORE, Some("six.commands")],
-        &[NAME, Some("ask"), STORE, P2P],
-    ];
-    for words in table {
-        is_cut(&rt, folder.as_str(), words);
-    }
     fs::remove_dir_all(&rt, folder.as_str())?;
     Ok(())
 }

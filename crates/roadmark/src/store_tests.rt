@@ -211,22 +211,3 @@ fn a_session_over_a_file(rt: HostRuntime) -> Result<(), Fail> {
     fs::remove_dir_all(&rt, folder.as_str())?;
     Ok(())
 }
-
-/// A short session over a new store.
-#[test]
-fn a_short_session(rt: HostRuntime) -> Result<(), Fail> {
-    let id = process::id(rt.process());
-    let name = format!(in rt.alloc(); "roadmark-short-{id}")?;
-    let folder = new_folder(&rt, name.as_str())?;
-    assert_eq!(rt; program(&Shell::new(&rt, folder.as_str(), &CREATE)?, rt), 0);
-    let mut served = Shell::new(
-        &rt,
-        folder.as_str(),
-        &[NAME, Some("serve"), Some("new.store")],
-    )?;
-    served.input = b"close 7\nwait\ndist 1 6\nhello\nquit\n";
-    assert!(rt; program(&served, rt) == 0 && is_kept(&served.err, ""));
-    assert!(rt; is_kept(&served.out, "ok 1\nv 1\nv 1\nd 1 6 22\nno 1\n"));
-    fs::remove_dir_all(&rt, folder.as_str())?;
-    Ok(())
-}

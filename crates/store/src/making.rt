@@ -5,6 +5,7 @@ ghost use Rattle.disk.specs.Contents.{Only, Rose};
 ghost use Rattle.disk.specs.Moments.{StaysSame};
 ghost use Rattle.pagereader.specs.Outcomes.{failures_with, MayEndOpening};
 ghost use Rattle.storefile.specs.StoreFile.{StandsTidyFor};
+ghost use Rattle.pages.specs.declared.content.Slot.TheVariants.{A as slot_a};
 ghost use Rattle.store.specs.Opening.{HeaderFits, IsPassing, MayRefuseToOpen, StandsForSome};
 ghost use Rattle.store.specs.State.{HasCheckpointPages, IsTidy, StandsAs, StandsAt, told};
 
@@ -36,6 +37,7 @@ pub fn create<D: Disk>(
     ensures version { IfOk result (λ store. store.version ≡ 0) }
     ensures journal_pages { IfOk result (λ store. store.journal_pages ≡ journal_pages) }
     ensures unchecked { IfOk result (λ store. store.unchecked ≡ 0) }
+    ensures slot { IfOk result (λ store. (store.slot ≡ slot_a) × (store.epoch ≡ 1)) }
     ensures works { IfOk result (λ store. store.broken ≡ false) }
     ensures none_going { IfOk result (λ store. store.going ≡ None) }
     ensures none_in_flight { IfOk result (λ store. store.in_flight ≡ []) }

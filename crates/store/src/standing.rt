@@ -1,5 +1,6 @@
 // How a store stands in its file: told of a store, and of a file that is only looked at.
-ghost use Rattle.std.specs.Prelude.{◌≡◌, ◌↔◌, false, IfOk, IfErr};
+ghost use Rattle.std.specs.Prelude.{◌≡◌, ◌↔◌, false, IfOk, IfErr, OnOk};
+ghost use Rattle.disk.specs.Contents.{Only};
 ghost use Rattle.disk.specs.Moments.{StaysSame};
 ghost use Rattle.roadnet.specs.declared.refusals.Refusal.TheVariants.{OutOfMemory as out_of_memory};
 ghost use Rattle.roadnet.specs.Net.{Net};
@@ -68,6 +69,8 @@ pub fn inspect<D: Disk>(alloc: Global, disk: &mut D) -> Result<Inspected, Refusa
     ensures causes { IfErr result MayEndOpening }
     ensures counted { D.failures disk.new ≡ failures_told result (D.failures disk.old) }
     ensures untouched { D.honest disk.old → StaysSame D.content D.left D.moment D.left_since disk.old disk.new }
+    // What it found no stop takes back.
+    ensures at_rest { D.honest disk.old → OnOk result (Only (D.content disk.new) (D.left disk.new)) }
     ensures honest { D.honest disk.new ↔ D.honest disk.old }
 {
     let found = find(alloc, disk)?;

@@ -203,6 +203,7 @@ impl<D: Disk> Store<D> {
         ensures breaks { IfErr result (λ refusal. refusal ≡ device → self.new.broken ≡ true) }
         // After a refusal the checkpoint that went is as far as it was.
         ensures kept { OnErr result ((self.new.unchecked ≡ self.old.unchecked) × (self.new.going ≡ self.old.going)) }
+        ensures kept_slot { OnErr result ((self.new.slot ≡ self.old.slot) × (self.new.epoch ≡ self.old.epoch)) }
         ensures adds_nothing { self.old.broken ≡ true → AddsNothing D.moment D.left_since self.old.disk self.new.disk }
         // A stop at any moment of the call, or after it, leaves what stands for this network and version.
         ensures any_moment { CameTidy D.honest D.content self.old.given → self.old.broken ≡ false → LeavesOnly D.moment D.left_since self.old.disk self.new.disk (IsDurable self.old) }
@@ -243,6 +244,7 @@ impl<D: Disk> Store<D> {
         ensures failed { IfErr result (λ refusal. refusal ≡ device → Rose (D.failures self.old.disk) (D.failures self.new.disk)) }
         ensures breaks { IfErr result (λ refusal. refusal ≡ device → self.new.broken ≡ true) }
         ensures kept { OnErr result ((self.new.unchecked ≡ self.old.unchecked) × (self.new.going ≡ self.old.going)) }
+        ensures kept_slot { OnErr result ((self.new.slot ≡ self.old.slot) × (self.new.epoch ≡ self.old.epoch)) }
         ensures adds_nothing { self.old.broken ≡ true → AddsNothing D.moment D.left_since self.old.disk self.new.disk }
         // A stop at any moment of the call, or after it, leaves what stands for this network and version.
         ensures any_moment { CameTidy D.honest D.content self.old.given → self.old.broken ≡ false → LeavesOnly D.moment D.left_since self.old.disk self.new.disk (IsDurable self.old) }

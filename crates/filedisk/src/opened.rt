@@ -1,7 +1,8 @@
 //! Files opened for a disk.
-ghost use Rattle.std.specs.Prelude.{◌≡◌, [], ◌∷◌, false, IfOk, OnOk};
+ghost use Rattle.std.specs.Prelude.{◌≡◌, [], ◌∷◌, false, IfOk, IfErr, OnOk};
 ghost use Rattle.filedisk.specs.Files.{failures_of};
 ghost use Rattle.filedisk.specs.Noted.{Lock, SyncAll, SyncFolder, Done, has_failed_sync};
+ghost use Rattle.filedisk.specs.Opened.{IsNotHad};
 ghost use Rattle.filedisk.specs.SystemFiles.{calls_made, calls_of};
 ghost use Rattle.filedisk.specs.declared.notes.Share.TheVariants.{Alone, WithReaders};
 
@@ -63,7 +64,8 @@ pub struct NewFile {
 
 /// The file, where it is one and no other opening keeps it from this one.
 fn claim(file: File, share: Share) -> Result<NotedFile, OpenError>
-    ensures { IfOk result (λ file. calls_made file ≡ (Lock share, Done) ∷ []) }
+    ensures calls { IfOk result (λ file. calls_made file ≡ (Lock share, Done) ∷ []) }
+    ensures causes { IfErr result IsNotHad }
 {
     let Ok(metadata) = file.metadata() else {
         return Err(OpenError::NotOpened);
@@ -93,7 +95,9 @@ fn open_as<R: Files<File = File>>(
     rt: &R,
     path: &str,
     options: &OpenOptions,
-) -> Result<File, OpenError> {
+) -> Result<File, OpenError>
+    ensures causes { IfErr result IsNotHad }
+{
     let Ok(metadata) = fs::metadata(rt, path) else {
         return Err(OpenError::NotOpened);
     };
@@ -107,7 +111,9 @@ fn open_as<R: Files<File = File>>(
 }
 
 /// Opens a file that is there, to be read and written.
-fn open_to_write<R: Files<File = File>>(rt: &R, path: &str) -> Result<File, OpenError> {
+fn open_to_write<R: Files<File = File>>(rt: &R, path: &str) -> Result<File, OpenError>
+    ensures causes { IfErr result IsNotHad }
+{
     let mut options = OpenOptions::new();
     options.read(true).write(true);
     open_as(rt, path, &options)
@@ -120,6 +126,7 @@ pub fn open_file<R: Files<File = File>>(
 ) -> Result<FileDisk<SystemFile>, OpenError>
     ensures failures { IfOk result (λ disk. failures_of disk ≡ 0) }
     ensures calls { IfOk result (λ disk. calls_of disk ≡ (Lock Alone, Done) ∷ []) }
+    ensures causes { IfErr result IsNotHad }
 {
     let file = open_to_write(rt, path)?;
     let file = claim(file, Share::Alone)?;
@@ -134,6 +141,7 @@ pub fn open_to_read<R: Files<File = File>>(
 ) -> Result<FileDisk<SystemFile>, OpenError>
     ensures failures { IfOk result (λ disk. failures_of disk ≡ 0) }
     ensures calls { IfOk result (λ disk. calls_of disk ≡ (Lock WithReaders, Done) ∷ []) }
+    ensures causes { IfErr result IsNotHad }
 {
     let mut options = OpenOptions::new();
     options.read(true);

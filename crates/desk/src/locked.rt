@@ -125,12 +125,14 @@ impl<N: Naming, D: Disk> Locked<Office<N, D>> {
 
     /// A receipt for the ticket, where its command is durable.
     ///
-    /// Refused is a number that isn't: with 45 where the store is broken, else with 61. The ticket is handed back then.
+    /// Refused is a number that isn't: with 45 where the store is broken, else with 61, which so is told of no command that is lost. The ticket is
+    /// handed back then.
     pub(crate) fn settle(&mut self, ticket: Ticket) -> Result<Receipt, (Refusal, Ticket)>
         requires { ticket.origin ≡ N.origin }
         ensures receipt { IfOk result (λ receipt. receipt ≡ ticket) }
         ensures durable { OnOk result (ticket.ticket.number ≤ self.old.office.machine.durable) }
         ensures refused { IfErr result (λ refused. refused.0 ≢ closed → (refused.0 ≡ broken) × (self.old.office.machine.broken ≡ true)) }
+        ensures ended { IfErr result (λ refused. refused.0 ≡ closed → is_lost self.old.office.machine ticket.ticket.number ≡ false) }
         ensures handed_back { IfErr result (λ refused. refused.1 ≡ ticket) }
         ensures causes { IfErr result (λ refused. IsUnserved refused.0) }
         ensures same { self.new.office ≡ self.old.office }

@@ -1,10 +1,10 @@
 // What the holder of a desk's history asks of its keeper: commands that are accepted as they are written there, and the version that
 // numbers go on from.
-ghost use Rattle.std.specs.Prelude.{◌≡◌, ◌≢◌, ◌++◌, ◌∷◌, [], Ok, Err, IfOk, IfErr, OnOk, OnErr};
+ghost use Rattle.std.specs.Prelude.{◌≡◌, ◌≢◌, ◌++◌, ◌∷◌, [], None, Ok, Err, IfOk, IfErr, OnOk, OnErr};
 ghost use Rattle.roadnet.specs.declared.refusals.Refusal.TheVariants.{OutOfMemory as out_of_memory, Closed as closed};
 ghost use Rattle.roadnet.specs.Outlines.{EachAdmits, EachStepsTo};
 ghost use Rattle.machine.specs.Machine.{IsState};
-ghost use Rattle.machine.specs.Calls.{Submits};
+ghost use Rattle.machine.specs.Calls.{Submits, refusal_of_submit};
 
 use crate::keepers::Keeper;
 use crate::ledgers::Ledger;
@@ -55,6 +55,8 @@ impl<D: Disk> Ledger<D> {
     pub fn submit_into(&mut self, log: &mut History, command: Command) -> Result<Ticket, Refusal>
         ensures accepted { IfOk result (λ ticket. Submits self.old.machine command (Ok ticket) self.new.machine) }
         ensures refused { IfErr result (λ refusal. refusal ≢ closed → Submits self.old.machine command (Err refusal) self.new.machine) }
+        // 61 comes only where nothing else refuses the command.
+        ensures order { IfErr result (λ refusal. refusal ≡ closed → refusal_of_submit self.old.machine command ≡ None) }
         ensures same { OnErr result (self.new ≡ self.old) }
         ensures written { OnOk result (log.new ≡ record log.old { commands = log.old.commands ++ command ∷ [] }) }
         ensures unwritten { OnErr result (log.new ≡ log.old) }
@@ -83,6 +85,8 @@ impl<D: Disk> Keeper<D> {
     pub fn submit_into(&mut self, log: &mut History, command: Command) -> Result<Ticket, Refusal>
         ensures accepted { IfOk result (λ ticket. Submits self.old.machine command (Ok ticket) self.new.machine) }
         ensures refused { IfErr result (λ refusal. refusal ≢ closed → Submits self.old.machine command (Err refusal) self.new.machine) }
+        // 61 comes only where nothing else refuses the command.
+        ensures order { IfErr result (λ refusal. refusal ≡ closed → refusal_of_submit self.old.machine command ≡ None) }
         ensures same { OnErr result (self.new ≡ self.old) }
         ensures written { OnOk result (log.new ≡ record log.old { commands = log.old.commands ++ command ∷ [] }) }
         ensures unwritten { OnErr result (log.new ≡ log.old) }

@@ -1,10 +1,10 @@
 // A script's events over lives with stops.
-ghost use Rattle.std.specs.Prelude.{◌≡◌, ◌≢◌, ◌+◌, ◌<◌, ◌≤◌, ◌∷◌, ◌++◌, [], ℕ, true, false, List, Option, None, Some, Result, length, take, ◌-◌, ◌↔◌, IsTrue, IfOk, IfErr, OnOk, MatchResult};
+ghost use Rattle.std.specs.Prelude.{◌≡◌, ◌≢◌, ◌+◌, ◌<◌, ◌≤◌, ◌∷◌, ◌++◌, [], ℕ, true, false, List, Option, None, Some, Result, length, take, ◌-◌, ◌↔◌, IsTrue, IfOk, IfErr, IfSome, OnOk, MatchResult};
 ghost use Rattle.std.specs.Option.{ForSome};
 ghost use Rattle.std.specs.Vec.{vec_len, vec_capacity};
 ghost use Rattle.disk.specs.Contents.{Only, AreAmong};
 ghost use Rattle.disk.specs.declared.stoppable.Pick.TheVariants.{Old};
-ghost use Rattle.pagereader.specs.Outcomes.{failures_with};
+ghost use Rattle.pagereader.specs.Outcomes.{failures_with, MayEndOpening};
 ghost use Rattle.rows.specs.Kept.{IsWidth};
 ghost use Rattle.roadnet.specs.declared.refusals.Refusal.TheVariants.{OutOfMemory as out_of_memory, Device as device};
 ghost use Rattle.store.specs.State.{CameTidy, is_calm};
@@ -113,6 +113,7 @@ fn reopen<R: Threads, D: Stoppable>(
     ensures empty { IfOk result (λ life. life.keeper.machine.accepted ≡ []) }
     ensures content { D.honest disk → IfOk result (λ life. D.content life.keeper.disk ≡ D.content disk) }
     ensures delta { IfOk result (λ life. life.delta ≡ delta) }
+    ensures causes { IfErr result (λ refused. MayEndOpening refused.0) }
     ensures honest { D.honest disk → IfErr result (λ refused. D.honest refused.1) }
     ensures passing { D.honest disk → ((c : List ℕ) → D.left disk c → StandsForSome c) → IfErr result (λ refused. IsPassing refused.0) }
     ensures among { D.honest disk → IfErr result (λ refused. AreAmong (D.left refused.1) (D.left disk)) }
@@ -145,6 +146,7 @@ impl<D: Stoppable> Halted<D> {
         ensures counted { FailsAtEnd D.failures self.disk result }
         ensures delta { MatchResult result (λ run. run.life.delta ≡ self.delta) (λ ended. ended.delta ≡ self.delta) }
         ensures honest { D.honest self.disk → IfErr result (λ ended. D.honest ended.disk) }
+        ensures causes { IfErr result (λ ended. IfSome ended.ended MayEndOpening) }
         ensures stopped { IfErr result (λ ended. ended.replies.items ≡ self.replies.items ++ Stopped ∷ []) }
         ensures early { IfErr result (λ ended. ended.ended ≢ None) }
         ensures durable { IfErr result (λ ended. ended.history.items ≡ self.history.items ++ take (self.durable - self.opened) self.commands.items) }
@@ -266,6 +268,7 @@ impl<D: Stoppable> Run<D> {
         ensures cut { CutsWith D.honest D.content (HoldsFor D.honest D.content D.left) D.armed D.moment (IsCut D.synced D.is_unsynced D.content) Stop self result }
         ensures cut_last { CutsLast D.honest D.content (HoldsFor D.honest D.content D.left) D.armed D.moment (IsCut D.synced D.is_unsynced D.content) Stop self result }
         ensures early { IfErr result (λ ended. ended.ended ≢ None) }
+        ensures causes { IfErr result (λ ended. IfSome ended.ended MayEndOpening) }
         ensures honest { CameTidy D.honest D.content self.life.keeper.given → IfErr result (λ ended. D.honest ended.disk) }
     {
         let (halted, _) = self.halt(&[Pick::Old]);
@@ -297,6 +300,7 @@ impl<D: Stoppable> Run<D> {
         ensures cut_last { OfEachWithin writing (λ event. call_of event ≡ Some call → picks_of event ≡ Some (picks_taken picks.now)
             → CutsLast D.honest D.content (HoldsFor D.honest D.content D.left) D.armed D.moment (IsCut D.synced D.is_unsynced D.content) event self result) }
         ensures early { IfErr result (λ ended. ended.ended ≢ None) }
+        ensures causes { IfErr result (λ ended. IfSome ended.ended MayEndOpening) }
         ensures honest { CameTidy D.honest D.content self.life.keeper.given → IfErr result (λ ended. D.honest ended.disk) }
     {
         let mut run = self;
@@ -330,6 +334,7 @@ impl<D: Stoppable> Run<D> {
         ensures cut { CutsWith D.honest D.content (HoldsFor D.honest D.content D.left) D.armed D.moment (IsCut D.synced D.is_unsynced D.content) event.now self result }
         ensures cut_last { CutsLast D.honest D.content (HoldsFor D.honest D.content D.left) D.armed D.moment (IsCut D.synced D.is_unsynced D.content) event.now self result }
         ensures early { IfErr result (λ ended. ended.ended ≢ None) }
+        ensures causes { IfErr result (λ ended. IfSome ended.ended MayEndOpening) }
         ensures honest { CameTidy D.honest D.content self.life.keeper.given → IfErr result (λ ended. D.honest ended.disk) }
     {
         match event {
@@ -410,6 +415,8 @@ pub fn rehearse<R: Threads, D: Stoppable>(
         → HaveCut (HoldsFor D.honest D.content D.left) D.armed D.moment (IsCut D.synced D.is_unsynced D.content) (first_of store) events.now result.replies.items result.ended }
     // The disk that is handed back keeps the disk model.
     ensures honest { CameTidy D.honest D.content store.given → D.honest result.disk }
+    // Whatever the disk, it ends early with a refusal of an opening alone: 11, or 40 to 43.
+    ensures causes { IfSome result.ended MayEndOpening }
     // The width that was given is told back.
     ensures width { result.delta ≡ delta }
     // Over any disk its count of failures rises by one for each failure that the replies tell, with 43 or by a stop that came within an event,

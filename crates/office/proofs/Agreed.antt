@@ -1,20 +1,28 @@
 -- What the parts of an office agree on, from one call to the next.
-use Rattle.std.proofs.Common.{◌≡◌, ℕ, ◌-◌, ◌≤◌, Ok, List, [], ◌∷◌, ◌++◌, take, Option, Some, sym, ap, ◌∙◌, subst, arith}
+use Rattle.std.proofs.Common.{◌≡◌, ℕ, ◌+◌, ◌-◌, ◌<◌, ◌≤◌, Bool, true, false, cond, leb, Result, Ok, Err, List, [], ◌∷◌, ◌++◌, length, take, Option, Some, sym, ap, ◌∙◌, subst, arith}
+use Rattle.std.proofs.lemmas.Bool.Decides.{nat_tests}
 use Rattle.std.specs.Prelude.{IfSome}
 use Rattle.std.proofs.Math.Seq.{take-nil}
 use Rattle.std.proofs.lemmas.List.{take-append-le}
 use mathlib.Core.List.{IsPrefix}
 use Rattle.roadnet.specs.declared.commands.Command.{Command}
+use Rattle.roadnet.specs.declared.refusals.Refusal.{Refusal}
+use Rattle.roadnet.specs.declared.refusals.Refusal.TheVariants.{Broken, NotYet}
 use Rattle.roadnet.specs.Net.{Net}
 use Rattle.roadnet.specs.Step.{after}
 use Rattle.rows.specs.Views.{Viewed}
 use Rattle.history.specs.Origins.{Origin, Beginning}
 use Rattle.machine.specs.declared.calls.Ticket.{Ticket}
-use Rattle.machine.specs.Machine.{Machine, IsState, commands_to, network_at}
-use Rattle.machine.specs.Calls.{Submits, with_command, IsTask}
+use Rattle.machine.specs.declared.calls.Receipt.{Receipt}
+use Rattle.machine.specs.Machine.{Machine, IsState, commands_to, latest, network_at}
+use Rattle.machine.specs.Calls.{Submits, with_command, IsTask, receipt_for}
 use Rattle.published.specs.Showing.{Showing}
 use Rattle.office.specs.Offices.{IsOffice}
 use Rattle.office.proofs.Kept.{take_longer}
+
+told_so : (broken : Bool) (why : Refusal) → why ≡ cond broken Broken NotYet → (let refused : Result Receipt Refusal = cond broken (Err Broken) (Err NotYet) in refused) ≡ Err why
+told_so true why is = ap Err (sym is)
+told_so false why is = ap Err (sym is)
 
 module _ (origin : Origin) (m : Machine) (w : ℕ) (h : Beginning) (p : Showing) (o : IsOffice origin m w h p) where
   -- by equations alone
@@ -48,6 +56,16 @@ module _ (origin : Origin) (m : Machine) (w : ℕ) (h : Beginning) (p : Showing)
         subst (λ (n : Machine). IsOffice origin n v log p) (sym step.2)
         (subst (λ (x : ℕ). IsOffice origin (with_command m c) x log p) (sym width)
         (subst (λ (b : Beginning). IsOffice origin (with_command m c) w b p) (sym is) (office_more c)))
+
+    -- a number behind all accepted commands has no receipt
+    pub not_receivable : (ticket : Ticket) (why : Refusal) → why ≡ cond m.broken Broken NotYet → origin.version + length h.commands < ticket.number → receipt_for m ticket ≡ Err why
+    not_receivable ticket why is behind =
+        let same : length h.commands ≡ length m.accepted = ap length o.history_commands in
+        let version : m.base_version ≡ origin.version = o.base_version in
+        let last : m.durable ≤ latest m = (let a = s.durable_accepted in omega arith) in
+        let past : m.durable < ticket.number = omega (arith, same, version, last, behind) in
+        let over : leb ticket.number m.durable ≡ false = grind (arith, nat_tests) in
+        rw over (told_so m.broken why is)
 
     -- the view of the task that is out
     module _ (v : ℕ) (network : Net) (task : IsTask m v network) where

@@ -1,6 +1,6 @@
 // Receipts, and what was shown since a ticket.
-ghost use Rattle.std.specs.Prelude.{◌≡◌, ◌≢◌, ◌<◌, Ok, Err, IfSome, IfNone, IfOk, IfErr, OnOk};
-ghost use Rattle.roadnet.specs.declared.refusals.Refusal.TheVariants.{Closed as closed};
+ghost use Rattle.std.specs.Prelude.{◌≡◌, ◌≢◌, ◌<◌, if◌then◌else◌, Ok, Err, IfSome, IfNone, IfOk, IfErr, OnOk};
+ghost use Rattle.roadnet.specs.declared.refusals.Refusal.TheVariants.{Broken as broken, Closed as closed, NotYet as not_yet};
 ghost use Rattle.machine.specs.Machine.{commands_to};
 ghost use Rattle.machine.specs.Calls.{IsTicketOf, receipt_for};
 ghost use Rattle.machine.specs.Laws.{IsAt};
@@ -14,6 +14,17 @@ use published::Shown;
 use roadnet::Refusal;
 
 impl<N: Naming, D: Disk> Office<N, D> {
+    /// Why a number that is not durable has no receipt.
+    fn unmade(&self) -> Refusal
+        ensures { result ≡ (if self.now.machine.broken then broken else not_yet) }
+    {
+        if self.keeper.broken() {
+            Refusal::Broken
+        } else {
+            Refusal::NotYet
+        }
+    }
+
     /// A receipt for the ticket, which is of this desk, where its command is durable, as the keeper's: no stop takes it back.
     ///
     /// Refused is a number that is not durable: with 45 where the store is broken, else with 54; and a history that was closed (61). The ticket
@@ -24,11 +35,14 @@ impl<N: Naming, D: Disk> Office<N, D> {
         ensures there { OnOk result (IsTicketOf self.old.machine ticket.ticket) }
         ensures receipt { IfOk result (λ receipt. receipt ≡ ticket) }
         ensures refused { IfErr result (λ refused. refused.0 ≢ closed → receipt_for self.old.machine ticket.ticket ≡ Err refused.0) }
+        // 61 comes only where the command is durable.
+        ensures order { IfErr result (λ refused. refused.0 ≡ closed → receipt_for self.old.machine ticket.ticket ≡ Ok (receipt_of ticket.ticket)) }
         ensures handed_back { IfErr result (λ refused. refused.1 ≡ ticket) }
         ensures same { self.new ≡ self.old }
     {
+        let _ = self.keeper.opened();
         if !self.history.holds(&ticket) {
-            return Err((Refusal::Closed, ticket));
+            return Err((self.unmade(), ticket));
         }
         if let Err(refusal) = self.keeper.receipt(&ticket.ticket()) {
             return Err((refusal, ticket));

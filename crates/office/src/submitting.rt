@@ -1,10 +1,10 @@
 // Commands accepted and made durable.
-ghost use Rattle.std.specs.Prelude.{◌≡◌, ◌≢◌, ◌↔◌, true, Ok, Err, IfOk, IfErr, OnErr};
+ghost use Rattle.std.specs.Prelude.{◌≡◌, ◌≢◌, ◌↔◌, true, None, Ok, Err, IfOk, IfErr, OnErr};
 ghost use Rattle.disk.specs.Contents.{Rose};
 ghost use Rattle.disk.specs.Moments.{AddsNothing, LeavesOnly};
 ghost use Rattle.pagereader.specs.Outcomes.{failures_told};
 ghost use Rattle.roadnet.specs.declared.refusals.Refusal.TheVariants.{Closed as closed, Device as device};
-ghost use Rattle.machine.specs.Calls.{Submits, Flushes};
+ghost use Rattle.machine.specs.Calls.{Submits, Flushes, refusal_of_submit};
 ghost use Rattle.keeper.specs.Keeping.{IsLeftByFlush};
 ghost use Rattle.office.specs.Offices.{WhenTidy};
 
@@ -23,6 +23,8 @@ impl<N: Naming, D: Disk> Office<N, D> {
         ensures accepted { IfOk result (λ ticket. Submits self.old.machine command (Ok ticket.ticket) self.new.machine) }
         ensures origin { IfOk result (λ ticket. ticket.origin ≡ N.origin) }
         ensures refused { IfErr result (λ refusal. refusal ≢ closed → Submits self.old.machine command (Err refusal) self.new.machine) }
+        // 61 comes only where nothing else refuses the command.
+        ensures order { IfErr result (λ refusal. refusal ≡ closed → refusal_of_submit self.old.machine command ≡ None) }
         ensures same { OnErr result (self.new ≡ self.old) }
         ensures disk { self.new.disk ≡ self.old.disk }
         ensures given { self.new.given ≡ self.old.given }

@@ -70,5 +70,6 @@ returns-in_default g c =
       };
       cut_last = λ first done going. tt;
       early = tt;
+      causes = tt;
       honest = λ came. tt;
     }

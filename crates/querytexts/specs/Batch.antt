@@ -3,6 +3,7 @@ use Rattle.std.specs.Prelude.{◌≡◌, ◌≤◌, ℕ, zero, suc, List, [], �
 use Rattle.std.specs.List.{AllZip}
 use Rattle.std.specs.Io.KnownBytes.{Appends}
 use Rattle.roadnet.specs.Net.{Net}
+use Rattle.roadnet.specs.declared.refusals.Refusal.TheVariants.{Write, OutOfMemory}
 use Rattle.dimacs.specs.declared.fault.Fault.{Fault}
 use Rattle.dimacs.specs.declared.pairs.Pair.{Pair}
 use Rattle.dimacs.specs.Lines.{rows}
@@ -16,7 +17,7 @@ use Rattle.rows.specs.Replies.{IsRight}
 use Rattle.printing.specs.Printed.{version_line, answer_line}
 use Rattle.printing.specs.declared.failed.Failed.{Failed}
 use Rattle.printing.specs.declared.failed.Failed.TheVariants.{Text, Code}
-use Rattle.querytexts.specs.Once.{IsUnanswered}
+use Rattle.querytexts.specs.Once.{IsUnanswered, AfterNetwork}
 
 abbrev pub query_of : Pair → Query
 query_of pair = Dist pair.source pair.target
@@ -49,20 +50,20 @@ pub record IsAnsweredBatch (network pairs : List ℕ) (old new : Option (List �
   pub pairs_are : pairs_in net pairs ≡ Ok list
   pub answers : AnswersAll net 0 list old new
 
--- the network has no fault, and the pairs' text is refused
-pub record AfterNetwork (network : List ℕ) (Refused : Net → Type 0) : Type 0 where
-  pub net : Net
-  pub network_is : content network ≡ Ok net
-  pub refused : Refused net
+-- neither text has a fault
+abbrev pub GivePairs : List ℕ → List ℕ → Type 0
+GivePairs network pairs = AfterNetwork network (λ net. (list : List Pair) × (pairs_in net pairs ≡ Ok list))
 
 -- a fault of one of the two texts, or the writer failed, or memory ran out: nothing else
 abbrev pub IsOfBatch : Failed → Type 0
 IsOfBatch (Text which fault) = which ≤ 1
 IsOfBatch (Code refusal) = IsUnanswered (Code refusal)
 
--- the fault of the first text is told, or, where that has none, that of the second; or a reader failed in its text; or the writer failed,
--- or memory ran out
+-- The fault of the first text is told, or, where that has none, that of the second; or a reader failed in its text. Where neither has one the
+-- writer failed, or memory ran out.
 abbrev pub IsRefusedBatch : List ℕ → List ℕ → Source → Source → Failed → Type 0
 IsRefusedBatch network pairs network_source pairs_source (Text zero fault) = FaultOf gr_text network network_source fault
 IsRefusedBatch network pairs network_source pairs_source (Text (suc zero) fault) = AfterNetwork network (λ net. FaultOf (p2p_text net.nodes) pairs pairs_source fault)
-IsRefusedBatch network pairs network_source pairs_source failed = IsUnanswered failed
+IsRefusedBatch network pairs network_source pairs_source (Code Write) = GivePairs network pairs
+IsRefusedBatch network pairs network_source pairs_source (Code OutOfMemory) = GivePairs network pairs
+IsRefusedBatch network pairs network_source pairs_source failed = ⊥

@@ -1,5 +1,5 @@
 -- What one query of a text is answered with, and for what it is refused.
-use Rattle.std.specs.Prelude.{◌≡◌, ℕ, zero, List, Option, Some, Ok, ⊤}
+use Rattle.std.specs.Prelude.{◌≡◌, ℕ, zero, List, Option, None, Some, Ok, ⊤}
 use Rattle.std.specs.Io.KnownBytes.{Appends}
 use Rattle.roadnet.specs.Net.{Net}
 use Rattle.roadnet.specs.declared.refusals.Refusal.TheVariants.{Write, OutOfMemory}
@@ -7,7 +7,7 @@ use Rattle.dimacs.specs.Content.{gr_text, content}
 use Rattle.dimacs.specs.Texts.{Source, FaultOf}
 use Rattle.rows.specs.declared.queries.Query.{Query}
 use Rattle.rows.specs.declared.queries.Reply.{Reply}
-use Rattle.rows.specs.Replies.{IsRight}
+use Rattle.rows.specs.Replies.{IsRight, refusal_of}
 use Rattle.printing.specs.Printed.{lines_of}
 use Rattle.printing.specs.declared.failed.Failed.{Failed}
 use Rattle.printing.specs.declared.failed.Failed.TheVariants.{Text, Code}
@@ -35,7 +35,16 @@ abbrev pub IsOfOnce : Failed → Type 0
 IsOfOnce (Text which fault) = which ≡ 0
 IsOfOnce (Code refusal) = IsUnanswered (Code refusal)
 
--- the text has its fault told, or its reader failed in it; or the writer failed, or memory ran out
-abbrev pub IsRefusedOnce : List ℕ → Source → Failed → Type 0
-IsRefusedOnce text source (Text zero fault) = FaultOf gr_text text source fault
-IsRefusedOnce text source failed = IsUnanswered failed
+-- the text has no fault, and of its network this holds
+pub record AfterNetwork (text : List ℕ) (Holds : Net → Type 0) : Type 0 where
+  pub net : Net
+  pub network_is : content text ≡ Ok net
+  pub holds : Holds net
+
+-- The text has its fault told, or its reader failed in it. Where it has none the writer failed; or memory ran out, and the query is not refused
+-- in its network.
+abbrev pub IsRefusedOnce : List ℕ → Query → Source → Failed → Type 0
+IsRefusedOnce text query source (Text zero fault) = FaultOf gr_text text source fault
+IsRefusedOnce text query source (Code Write) = AfterNetwork text (λ net. ⊤)
+IsRefusedOnce text query source (Code OutOfMemory) = AfterNetwork text (λ net. refusal_of net query ≡ None)
+IsRefusedOnce text query source failed = ⊥

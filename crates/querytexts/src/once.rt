@@ -80,7 +80,7 @@ pub fn once_counted<T: Threads, R: BufRead, W: Write>(
         (λ text. IsAnsweredOnce text (Query.Dist s t) (W.contents (writer_of out.old)) (W.contents (writer_of out.new)))) }
     ensures width { IfOk result (λ done. done.delta ≡ delta) }
     ensures refused { IfErr result (λ failed. IfSome (R.remaining (reader_of gr.old))
-        (λ text. IsRefusedOnce text (OfReader (R.remaining (reader_of gr.new))) failed)) }
+        (λ text. IsRefusedOnce text (Query.Dist s t) (OfReader (R.remaining (reader_of gr.new))) failed)) }
     ensures codes { IfErr result IsOfOnce }
     ensures unwritten { IfErr result (LeavesUnwritten (writer_of out.old) (writer_of out.new)) }
     ensures reads { CountsReads (failed_calls gr.old) (failed_calls gr.new) result }
@@ -105,7 +105,7 @@ pub fn once_text<T: Threads, W: Write>(
     requires { ForSome delta IsWidth }
     ensures answered { OnOk result (IsAnsweredOnce gr.now (Query.Dist s t) (W.contents out.old) (W.contents out.new)) }
     ensures width { IfOk result (λ done. done.delta ≡ delta) }
-    ensures refused { IfErr result (IsRefusedOnce gr.now InMemory) }
+    ensures refused { IfErr result (IsRefusedOnce gr.now (Query.Dist s t) InMemory) }
     ensures unwritten { IfErr result (LeavesUnwritten out.old out.new) }
 {
     let network = of_text(NETWORK, parse_gr(alloc, gr))?;

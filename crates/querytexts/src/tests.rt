@@ -250,56 +250,17 @@ fn batch_of_pairs(rt: HostRuntime) -> Result<(), Fail> {
 /// The network is judged before the pairs, whose nodes are judged by it; nothing is written.
 #[test]
 fn faults_of_batches(rt: HostRuntime) {
-    let table: [(&[u8], &[u8], u8, Fault); 5] = [
-        (
-            b"p sp 0 0\n",
-            b"q",
-            0,
-            Fault {
-                line: 1,
-                code: Code::NumberRange,
-            },
-        ),
-        (
-            SIX,
-            b"",
-            1,
-            Fault {
-                line: 0,
-                code: Code::NoProblemLine,
-            },
-        ),
-        (
-            SIX,
-            b"p aux sp p2p 1\nq 1 7\n",
-            1,
-            Fault {
-                line: 2,
-                code: Code::NodeRange,
-            },
-        ),
-        (
-            SIX,
-            b"p aux sp p2p 2\nq 1 6\n",
-            1,
-            Fault {
-                line: 2,
-                code: Code::LineCount,
-            },
-        ),
-        (
-            SIX,
-            b"p aux sp ss 0\n",
-            1,
-            Fault {
-                line: 1,
-                code: Code::WrongKind,
-            },
-        ),
+    let table: [(&[u8], &[u8], u8, u64, Code); 5] = [
+        (b"p sp 0 0\n", b"q", 0, 1, Code::NumberRange),
+        (SIX, b"", 1, 0, Code::NoProblemLine),
+        (SIX, b"p aux sp p2p 1\nq 1 7\n", 1, 2, Code::NodeRange),
+        (SIX, b"p aux sp p2p 2\nq 1 6\n", 1, 2, Code::LineCount),
+        (SIX, b"p aux sp ss 0\n", 1, 1, Code::WrongKind),
     ];
-    for (gr, p2p, which, fault) in table {
+    for (gr, p2p, which, line, code) in table {
         let mut out = Vec::new(rt.alloc());
         let outcome = batch_text(&rt, rt.alloc(), gr, p2p, None, &mut out);
+        let fault = Fault { line, code };
         assert!(rt; outcome == Err(Failed::Text { which, fault }), "{fault}");
         assert!(rt; out.is_empty(), "{fault}");
     }

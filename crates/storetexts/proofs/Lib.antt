@@ -14,3 +14,4 @@ pub mod RefusedFirst
 pub mod TextApplied
 pub mod Checked
 pub mod Read
+pub mod Fitting

@@ -10,9 +10,9 @@ use Rattle.dimacs.specs.Content.{content}
 use Rattle.dimacs.specs.Texts.{Source}
 use Rattle.printing.specs.declared.failed.Failed.{Failed}
 use Rattle.printing.specs.declared.failed.Failed.TheVariants.{Code}
-use Rattle.printing.specs.Failing.{CountsWrites, IfDevice}
+use Rattle.printing.specs.Failing.{CountsWrites}
 use Rattle.storetexts.specs.Created.{landmarks_of, with_landmarks, IsNetworkOf, IsRefusedMarking, IsOfNetwork, IsOfMaking, IsRefusedNetwork, GiveNetwork, IsRefusedCreate, IsNewStore, IsNewStoreOf}
-use Rattle.storetexts.specs.Refused.{IfDone, IfNotEmpty, IfNoMemory}
+use Rattle.storetexts.specs.Refused.{IfDone, IfNotEmpty, IfNoMemory, CountsDevice}
 
 done_weaker : (r : Result (Unit {0}) Failed) (P Q : Type 0) → (P → Q) → IfDone r P → IfDone r Q
 done_weaker (Ok done) P Q f h = f h
@@ -45,12 +45,14 @@ module _ (failed : Failed) (of : IsOfNetwork failed) where
       go (Code NotEmpty) h = absurd h
       go _ h = tt
 
-  pub network_no_device : (P : Type 0) → IfDevice failed P
-  network_no_device P = go failed of
+  -- no call of the disk is made
+  pub network_device : (n : ℕ) → CountsDevice {X = Unit {0}} n n (Err failed)
+  network_device n = go failed of
     where
-      go : (f : Failed) → IsOfNetwork f → IfDevice f P
+      go : (f : Failed) → IsOfNetwork f → CountsDevice {X = Unit {0}} n n (Err f)
       go (Code Device) h = absurd h
-      go _ h = tt
+      go (Code Write) h = tt
+      go _ h = refl
 
   pub network_counts : (n : ℕ) → CountsWrites {X = Unit {0}} n n (Err failed)
   network_counts n = go failed of
@@ -70,7 +72,7 @@ making_refused n l ns ls _ give h = absurd h
 -- both texts were read, and the landmarks cannot be marked
 marking_refused : (n l : List ℕ) (ns ls : Source) (net : Net) (marks : List ℕ) (refusal : Refusal) → content n ≡ Ok net → landmarks_of net l ≡ Ok marks → IsRefusedMarking marks refusal
     → IsRefusedNetwork n l ns ls (Code refusal)
-marking_refused n l ns ls net marks refusal network marks_are (inl many) = rw many.0 (record { net = net; network_is = network; refused = (marks, marks_are, many.1) })
+marking_refused n l ns ls net marks refusal network marks_are (inl many) = rw many.0 (record { net = net; network_is = network; holds = (marks, marks_are, many.1) })
 marking_refused n l ns ls net marks refusal network marks_are (inr memory) =
     rw memory.0 (with_landmarks net marks, record { net = net; network_is = network; marks = marks; marks_are = marks_are; few = memory.1; marked_is = refl })
 

@@ -12,7 +12,7 @@ use Rattle.disk.specs.Contents.{Only}
 use Rattle.storefile.specs.StoreFile.{StandsTidyFor}
 use Rattle.printing.specs.declared.failed.Failed.{Failed}
 use Rattle.printing.specs.declared.failed.Failed.TheVariants.{Text, Code}
-use Rattle.querytexts.specs.Batch.{AfterNetwork}
+use Rattle.querytexts.specs.Once.{AfterNetwork}
 
 -- the landmarks of a text, ascending, or its fault; they are judged by the network
 abbrev pub landmarks_of : Net → List ℕ → Result (List ℕ) Fault

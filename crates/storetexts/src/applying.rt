@@ -5,6 +5,7 @@ ghost use Rattle.dimacs.specs.Counts.{failed_calls, reader_of, IsSameReader};
 ghost use Rattle.dimacs.specs.Texts.{InMemory, OfReader};
 ghost use Rattle.disk.specs.Moments.{StaysSame};
 ghost use Rattle.pagereader.specs.Outcomes.{failures_told, failures_with};
+ghost use Rattle.roadnet.specs.declared.refusals.Refusal.TheVariants.{OutOfMemory as out_of_memory};
 ghost use Rattle.keeper.specs.Keeping.{Holds};
 ghost use Rattle.machine.specs.Machine.{pending};
 ghost use Rattle.store.specs.State.{CameTidy};
@@ -15,10 +16,10 @@ ghost use Rattle.storetexts.specs.Applied.{AtAnyMoment, IsRefusedApply, IfTextOr
 ghost use Rattle.storetexts.specs.Applying.{IsSteady, HaveCome, ForBegun, ForCame, AddsOnly, Grows, Leaves, IfTold, IfEndedEarly, AreTold};
 ghost use Rattle.storetexts.specs.Applying.{progress, ComesBehind, ComesStill, ComeTo, FirstComeTo, SameTold, SettledTo, StopsAt};
 ghost use Rattle.storetexts.specs.Applying.{KeepsAccepted, TellsTo, TellsOn, AllTold, IsCutOffBy};
-ghost use Rattle.store.specs.Opening.{IsPassing};
+ghost use Rattle.store.specs.Opening.{HeaderFits, IsPassing};
 ghost use Rattle.storetexts.specs.Asked.{OfStore, IsUnopened};
 ghost use Rattle.storetexts.specs.Outcomes.{IsSettled};
-ghost use Rattle.storetexts.specs.Refused.{CountsDevice, IsOfStore};
+ghost use Rattle.storetexts.specs.Refused.{CountsDevice, IfNoMemory, IsOfStore};
 
 use crate::outcomes::{Outcome, reply_of};
 use dimacs::{Counted, parse_commands, read_commands_counted};
@@ -347,6 +348,8 @@ fn ledger_on<D: Disk>(alloc: Global, disk: D) -> Result<Ledger<D>, (Refusal, D)>
     ensures same { D.honest disk → IfOk result (λ ledger. StaysSame D.content D.left D.moment D.left_since disk ledger.disk) }
     ensures handed_back { D.honest disk → IfErr result (λ refused. StaysSame D.content D.left D.moment D.left_since disk refused.1) }
     ensures refused { IfErr result (λ refused. IsUnopened (D.honest disk) (D.content disk) refused.0) }
+    ensures order { D.honest disk → IfErr result (λ refused. refused.0 ≡ out_of_memory → HeaderFits (D.content disk)) }
+    ensures fits { D.honest disk → OnOk result (HeaderFits (D.content disk)) }
     ensures counted { MatchResult result (λ ledger. D.failures ledger.disk ≡ D.failures disk)
         (λ refused. D.failures refused.1 ≡ failures_with refused.0 (D.failures disk)) }
     ensures honest { (IfOk result (λ ledger. D.honest ledger.disk ↔ D.honest disk)) × (IfErr result (λ refused. D.honest refused.1 ↔ D.honest disk)) }
@@ -459,6 +462,8 @@ pub fn apply_counted<D: Disk, R: BufRead, W: Write>(
     ensures refused { IfErr result.0 (λ failed. IfSome (R.remaining (reader_of commands.old))
         (λ text. IsRefusedApply (D.honest disk) (D.content disk) text (OfReader (R.remaining (reader_of commands.new))) failed)) }
     ensures codes { IfErr result.0 IsOfStore }
+    // Want of memory is told only where the header fits the file.
+    ensures order { D.honest disk → IfErr result.0 (λ failed. IfNoMemory failed (HeaderFits (D.content disk))) }
     // The disk's count of failures rises where 43 is told, and for no other refusal but a failed write.
     ensures failed { CountsDevice (D.failures disk) (D.failures result.1) result.0 }
     ensures untouched { D.honest disk → IfErr result.0 (λ failed. IfTextOrFileRefused failed (StaysSame D.content D.left D.moment D.left_since disk result.1)) }
@@ -499,6 +504,7 @@ pub fn apply_text<D: Disk, W: Write>(
         AtAnyMoment D.moment D.left_since D.left disk result.1 (IsWithin net version commands.now)) }
     ensures told { OnOk result.0 (IsTold (D.honest disk) (D.content disk) commands.now (W.contents out.old) (W.contents out.new)) }
     ensures refused { IfErr result.0 (IsRefusedApply (D.honest disk) (D.content disk) commands.now InMemory) }
+    ensures order { D.honest disk → IfErr result.0 (λ failed. IfNoMemory failed (HeaderFits (D.content disk))) }
     ensures failed { CountsDevice (D.failures disk) (D.failures result.1) result.0 }
     ensures untouched { D.honest disk → IfErr result.0 (λ failed. IfTextOrFileRefused failed (StaysSame D.content D.left D.moment D.left_since disk result.1)) }
     ensures unwritten { IfErr result.0 (λ failed. IfTextOrFileRefused failed (out.new ≡ out.old)) }

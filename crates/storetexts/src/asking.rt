@@ -10,7 +10,9 @@ ghost use Rattle.printing.specs.Failing.{CountsReads, CountsWrites, LeavesUnwrit
 ghost use Rattle.querytexts.specs.Batch.{AnswersAll};
 ghost use Rattle.querytexts.specs.Once.{IsUnanswered};
 ghost use Rattle.storetexts.specs.Asked.{IsAsked, IsRefusedAsk};
-ghost use Rattle.storetexts.specs.Refused.{CountsDevice, IsOfStore};
+ghost use Rattle.disk.specs.Contents.{Only};
+ghost use Rattle.store.specs.Opening.{HeaderFits};
+ghost use Rattle.storetexts.specs.Refused.{CountsDevice, IfNoMemory, IsOfStore};
 
 use dimacs::{Counted, Pair, parse_p2p, read_p2p_counted};
 use disk::Disk;
@@ -81,6 +83,10 @@ pub fn ask_counted<T: Threads, D: Disk, R: BufRead, W: Write>(
     ensures refused { IfErr result.0 (λ failed. IfSome (R.remaining (reader_of p2p.old))
         (λ text. IsRefusedAsk (D.honest disk) (D.content disk) text (OfReader (R.remaining (reader_of p2p.new))) failed)) }
     ensures codes { IfErr result.0 IsOfStore }
+    // Want of memory is told only where the header fits the file.
+    ensures order { D.honest disk → IfErr result.0 (λ failed. IfNoMemory failed (HeaderFits (D.content disk))) }
+    // What is answered no stop takes back.
+    ensures at_rest { D.honest disk → OnOk result.0 (Only (D.content result.1) (D.left result.1)) }
     // The disk's count of failures rises where 43 is told, and else not at all.
     ensures failed { CountsDevice (D.failures disk) (D.failures result.1) result.0 }
     // Nothing is written to the disk.
@@ -117,6 +123,8 @@ pub fn ask_text<T: Threads, D: Disk, W: Write>(
     ensures width { IfOk result.0 (λ done. done.delta ≡ delta) }
     ensures answered { OnOk result.0 (IsAsked (D.honest disk) (D.content disk) p2p.now (W.contents out.old) (W.contents out.new)) }
     ensures refused { IfErr result.0 (IsRefusedAsk (D.honest disk) (D.content disk) p2p.now InMemory) }
+    ensures order { D.honest disk → IfErr result.0 (λ failed. IfNoMemory failed (HeaderFits (D.content disk))) }
+    ensures at_rest { D.honest disk → OnOk result.0 (Only (D.content result.1) (D.left result.1)) }
     ensures failed { CountsDevice (D.failures disk) (D.failures result.1) result.0 }
     ensures untouched { D.honest disk → StaysSame D.content D.left D.moment D.left_since disk result.1 }
     ensures honest { D.honest result.1 ↔ D.honest disk }

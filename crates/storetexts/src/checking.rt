@@ -1,6 +1,7 @@
 // A store that is only looked at.
 ghost use Rattle.std.specs.Prelude.{◌≡◌, ◌↔◌, OnOk, IfErr};
 ghost use Rattle.std.specs.Io.KnownBytes.{Appends};
+ghost use Rattle.disk.specs.Contents.{Only};
 ghost use Rattle.disk.specs.Moments.{StaysSame};
 ghost use Rattle.printing.specs.Counting.{failed_writes, writer_of, IsSameWriter, CountsFailure};
 ghost use Rattle.printing.specs.Failing.{CountsWrites, LeavesUnwritten};
@@ -66,6 +67,8 @@ pub fn check_counted<D: Disk, W: Write>(
     ensures failed { CountsDevice (D.failures disk) (D.failures result.1) result.0 }
     // Nothing is written to the disk.
     ensures untouched { D.honest disk → StaysSame D.content D.left D.moment D.left_since disk result.1 }
+    // What is told no stop takes back.
+    ensures at_rest { D.honest disk → OnOk result.0 (Only (D.content result.1) (D.left result.1)) }
     ensures honest { D.honest result.1 ↔ D.honest disk }
     ensures unwritten { IfErr result.0 (LeavesUnwritten (writer_of out.old) (writer_of out.new)) }
     ensures writes { CountsWrites (failed_writes out.old) (failed_writes out.new) result.0 }
@@ -87,6 +90,8 @@ pub fn check_text<D: Disk, W: Write>(alloc: Global, disk: D, out: &mut W) -> (Re
     ensures order { D.honest disk → IfErr result.0 (λ failed. IfNoMemory failed (HeaderFits (D.content disk))) }
     ensures failed { CountsDevice (D.failures disk) (D.failures result.1) result.0 }
     ensures untouched { D.honest disk → StaysSame D.content D.left D.moment D.left_since disk result.1 }
+    // What is told no stop takes back.
+    ensures at_rest { D.honest disk → OnOk result.0 (Only (D.content result.1) (D.left result.1)) }
     ensures honest { D.honest result.1 ↔ D.honest disk }
     ensures unwritten { IfErr result.0 (LeavesUnwritten out.old out.new) }
 {

@@ -6,15 +6,14 @@ ghost use lib.Chars.{codes};
 ghost use Rattle.dimacs.specs.Counts.{failed_calls, reader_of, IsSameReader};
 ghost use Rattle.dimacs.specs.Landmarks.{AreNodes};
 ghost use Rattle.dimacs.specs.Texts.{InMemory, OfReader};
-ghost use Rattle.disk.specs.Contents.{Rose};
 ghost use Rattle.disk.specs.Moments.{StaysSame};
 ghost use Rattle.printing.specs.Counting.{failed_writes, writer_of, IsSameWriter};
-ghost use Rattle.printing.specs.Failing.{CountsFirst, CountsSecond, CountsWrites, IfDevice, LeavesUnwritten};
+ghost use Rattle.printing.specs.Failing.{CountsFirst, CountsSecond, CountsWrites, LeavesUnwritten};
 ghost use Rattle.printing.specs.Replied.{number_line};
 ghost use Rattle.roadnet.specs.Net.{most_landmarks};
 ghost use Rattle.storetexts.specs.Created.{with_landmarks, IsNetworkOf, IsRefusedMarking, IsRefusedNetwork, IsOfNetwork, IsOfMaking};
 ghost use Rattle.storetexts.specs.Created.{IsRefusedCreate, IsNewStore, IsNewStoreOf};
-ghost use Rattle.storetexts.specs.Refused.{IfDone, IfNoDevice, IfOfTexts, IfNotEmpty, IfNoMemory};
+ghost use Rattle.storetexts.specs.Refused.{CountsDevice, IfDone, IfNoDevice, IfOfTexts, IfNotEmpty, IfNoMemory};
 
 use dimacs::{Counted, parse_gr, parse_ss, read_gr_counted, read_ss_counted};
 use disk::Disk;
@@ -109,7 +108,8 @@ pub fn create_store<D: Disk, W: Write>(
     ensures not_empty { D.honest disk → IfErr result.0 (λ failed. IfNotEmpty failed (D.content disk ≢ [])) }
     ensures order { D.honest disk → IfErr result.0 (λ failed. IfNoMemory failed (D.content disk ≡ [])) }
     ensures untouched { D.honest disk → IfErr result.0 (λ failed. IfNoDevice failed (StaysSame D.content D.left D.moment D.left_since disk result.1)) }
-    ensures failed { IfErr result.0 (λ failed. IfDevice failed (Rose (D.failures disk) (D.failures result.1))) }
+    // The disk's count of failures rises where 43 is told, and for no other refusal but a failed write.
+    ensures failed { CountsDevice (D.failures disk) (D.failures result.1) result.0 }
     ensures honest { D.honest result.1 ↔ D.honest disk }
     ensures told { OnOk result.0 (Appends (W.contents (writer_of out.old)) (W.contents (writer_of out.new)) (number_line (codes "ok ") 0)) }
     ensures unwritten { IfErr result.0 (LeavesUnwritten (writer_of out.old) (writer_of out.new)) }
@@ -150,7 +150,8 @@ pub fn create_counted<D: Disk, R: BufRead, Q: BufRead, W: Write>(
     ensures not_empty { D.honest disk → IfErr result.0 (λ failed. IfNotEmpty failed (D.content disk ≢ [])) }
     ensures order { D.honest disk → IfErr result.0 (λ failed. IfNoMemory failed ((D.content disk ≡ []) ⊎ (result.1 ≡ disk))) }
     ensures untouched { D.honest disk → IfErr result.0 (λ failed. IfNoDevice failed (StaysSame D.content D.left D.moment D.left_since disk result.1)) }
-    ensures failed { IfErr result.0 (λ failed. IfDevice failed (Rose (D.failures disk) (D.failures result.1))) }
+    // The disk's count of failures rises where 43 is told, and for no other refusal but a failed write.
+    ensures failed { CountsDevice (D.failures disk) (D.failures result.1) result.0 }
     ensures honest { D.honest result.1 ↔ D.honest disk }
     ensures told { OnOk result.0 (Appends (W.contents (writer_of out.old)) (W.contents (writer_of out.new)) (number_line (codes "ok ") 0)) }
     ensures unwritten { IfErr result.0 (LeavesUnwritten (writer_of out.old) (writer_of out.new)) }
@@ -186,7 +187,8 @@ pub fn create_text<D: Disk, W: Write>(
     ensures not_empty { D.honest disk → IfErr result.0 (λ failed. IfNotEmpty failed (D.content disk ≢ [])) }
     ensures order { D.honest disk → IfErr result.0 (λ failed. IfNoMemory failed ((D.content disk ≡ []) ⊎ (result.1 ≡ disk))) }
     ensures untouched { D.honest disk → IfErr result.0 (λ failed. IfNoDevice failed (StaysSame D.content D.left D.moment D.left_since disk result.1)) }
-    ensures failed { IfErr result.0 (λ failed. IfDevice failed (Rose (D.failures disk) (D.failures result.1))) }
+    // The disk's count of failures rises where 43 is told, and for no other refusal but a failed write.
+    ensures failed { CountsDevice (D.failures disk) (D.failures result.1) result.0 }
     ensures honest { D.honest result.1 ↔ D.honest disk }
     ensures told { OnOk result.0 (Appends (W.contents out.old) (W.contents out.new) (number_line (codes "ok ") 0)) }
     ensures unwritten { IfErr result.0 (LeavesUnwritten out.old out.new) }

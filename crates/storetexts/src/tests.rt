@@ -175,63 +175,48 @@ fn nothing_told_is_lost(rt: HostRuntime) -> Result<(), Refusal> {
     Ok(())
 }
 
-/// Texts are judged before the disk is written: it keeps its bytes.
+/// Texts are judged before the disk is written: it stays empty.
 #[test]
-fn faults_of_texts(rt: HostRuntime) -> Result<(), Refusal> {
+fn faults_of_new_stores(rt: HostRuntime) -> Result<(), Refusal> {
     let alloc = rt.alloc();
-    let no_node = Fault {
-        line: 2,
-        code: Code::NodeRange,
-    };
-    let bad = Fault {
-        line: 2,
-        code: Code::BadLine,
-    };
-    let none = Fault {
-        line: 0,
-        code: Code::NoProblemLine,
-    };
-    let made: [(&[u8], &[u8], u8, Fault); 3] = [
-        (b"", b"q", 0, none),
-        (SIX, b"p aux sp ss 1\ns 7\n", 1, no_node),
-        (SIX, b"", 1, none),
+    let table: [(&[u8], &[u8], u8, u64, Code); 3] = [
+        (b"", b"q", 0, 0, Code::NoProblemLine),
+        (SIX, b"p aux sp ss 1\ns 7\n", 1, 2, Code::NodeRange),
+        (SIX, b"", 1, 0, Code::NoProblemLine),
     ];
-    for (gr, ss, which, fault) in made {
+    for (gr, ss, which, line, code) in table {
         let mut out = Vec::new(alloc);
         let (outcome, mut disk) = create_text(alloc, MemDisk::new(alloc), gr, ss, 64, &mut out);
+        let fault = Fault { line, code };
         assert!(rt; outcome == Err(Failed::Text { which, fault }), "{fault}");
         assert!(rt; out.is_empty(), "{fault}");
         assert!(rt; bytes_of(alloc, &mut disk)?.is_empty(), "{fault}");
     }
+    Ok(())
+}
+
+/// Texts are judged before the disk is written: a store keeps its bytes, also where another is to be made in its place.
+#[test]
+fn faults_of_texts(rt: HostRuntime) -> Result<(), Refusal> {
+    let alloc = rt.alloc();
     let (mut disk, _) = created(alloc, 64)?;
     let before = bytes_of(alloc, &mut disk)?;
     let mut out = Vec::new(alloc);
-    let (outcome, disk) = apply_text(alloc, disk, b"close 7\nclose x\n", &mut out);
-    assert!(rt;
-        outcome
-            == Err(Failed::Text {
-                which: 0,
-                fault: bad
-            })
-    );
-    let (outcome, mut disk) = ask_text(
-        &rt,
-        alloc,
-        disk,
-        b"p aux sp p2p 1\nq 1 7\n",
-        None,
-        &mut out,
-    );
-    assert!(rt;
-        outcome
-            == Err(Failed::Text {
-                which: 0,
-                fault: no_node
-            })
-    );
-    assert!(rt; bytes_of(alloc, &mut disk)?.as_slice() == before.as_slice());
-    let (outcome, mut disk) = create_text(alloc, disk, SIX, LANDMARKS, 64, &mut out);
-    assert!(rt; outcome == Err(Failed::Code(Refusal::NotEmpty)));
+    let (applied, disk) = apply_text(alloc, disk, b"close 7\nclose x\n", &mut out);
+    let pairs = b"p aux sp p2p 1\nq 1 7\n";
+    let (asked, disk) = ask_text(&rt, alloc, disk, pairs, None, &mut out);
+    let (made, mut disk) = create_text(alloc, disk, SIX, LANDMARKS, 64, &mut out);
+    let fault = Fault {
+        line: 2,
+        code: Code::BadLine,
+    };
+    assert!(rt; applied == Err(Failed::Text { which: 0, fault }));
+    let fault = Fault {
+        line: 2,
+        code: Code::NodeRange,
+    };
+    assert!(rt; asked == Err(Failed::Text { which: 0, fault }));
+    assert!(rt; made == Err(Failed::Code(Refusal::NotEmpty)));
     assert!(rt; bytes_of(alloc, &mut disk)?.as_slice() == before.as_slice());
     assert!(rt; out.is_empty());
     Ok(())

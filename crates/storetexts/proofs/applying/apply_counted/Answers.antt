@@ -13,6 +13,8 @@ use Rattle.storetexts.proofs.Remaining.{if_known, applied_known, cut_off_known}
 use Rattle.storetexts.proofs.TextApplied.{fault_known, told_known, nothing_since, known_since}
 use Rattle.printing.proofs.ReadTexts.{value_of}
 use Rattle.storetexts.proofs.Read.{fault_of}
+use Rattle.storetexts.proofs.Checked.{memory_told}
+use Rattle.storetexts.proofs.Fitting.{if_no_memory, memory_any}
 use Rattle.storetexts.proofs.applying.apply_counted.Goals as goal
 
 pub returns-in-Err-clause-cut_off : goal.returns-in-Err-clause-cut_off
@@ -106,3 +108,12 @@ returns-clause-honest g c =
 
 pub returns-in-Err-of_text-clause-untouched : goal.returns-in-Err-of_text-clause-untouched
 returns-in-Err-of_text-clause-untouched g c honest = rw c.close-disk.ensures.disk (text_or_file_refused c.in-Err-of_text.failed _ (c.in-Ok.ensures.same honest))
+
+pub returns-in-Err-clause-order : goal.returns-in-Err-clause-order
+returns-in-Err-clause-order g c honest = memory_told c.in-Err.refusal _ (c.in-Err.ensures.order honest)
+
+pub returns-clause-order : goal.returns-clause-order
+returns-clause-order g c honest = if_no_memory c.apply_commands.result.0 _ (c.in-Ok.ensures.fits honest)
+
+pub returns-in-Err-of_text-clause-order : goal.returns-in-Err-of_text-clause-order
+returns-in-Err-of_text-clause-order g c honest = memory_any c.in-Err-of_text.failed _ (c.in-Ok.ensures.fits honest)

@@ -11,6 +11,8 @@ use Rattle.storetexts.proofs.Remaining.{applied_text, cut_off_text}
 use Rattle.storetexts.proofs.TextApplied.{fault_of as fault_of_commands, told_text, nothing_since, text_since}
 use Rattle.printing.proofs.ReadTexts.{value_of}
 use Rattle.storetexts.proofs.Read.{fault_of}
+use Rattle.storetexts.proofs.Checked.{memory_told}
+use Rattle.storetexts.proofs.Fitting.{if_no_memory, memory_any}
 use Rattle.storetexts.proofs.applying.apply_text.Goals as goal
 
 pub returns-in-Err-clause-any_moment : goal.returns-in-Err-clause-any_moment
@@ -86,3 +88,12 @@ returns-clause-honest g c =
 
 pub returns-in-Err-of_text-clause-untouched : goal.returns-in-Err-of_text-clause-untouched
 returns-in-Err-of_text-clause-untouched g c honest = rw c.close-disk.ensures.disk (text_or_file_refused c.in-Err-of_text.failed _ (c.in-Ok.ensures.same honest))
+
+pub returns-in-Err-clause-order : goal.returns-in-Err-clause-order
+returns-in-Err-clause-order g c honest = memory_told c.in-Err.refused _ (c.in-Err.ensures.order honest)
+
+pub returns-clause-order : goal.returns-clause-order
+returns-clause-order g c honest = if_no_memory c.apply_to_writer.result.0 _ (c.in-Ok.ensures.fits honest)
+
+pub returns-in-Err-of_text-clause-order : goal.returns-in-Err-of_text-clause-order
+returns-in-Err-of_text-clause-order g c honest = memory_any c.in-Err-of_text.failed _ (c.in-Ok.ensures.fits honest)

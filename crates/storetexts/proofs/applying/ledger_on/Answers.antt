@@ -4,6 +4,7 @@ use Rattle.store.specs.Committing.{StandsTidily}
 use Rattle.store.specs.State.{CameTidy, Told}
 use Rattle.keeper.proofs.Stopped.{IsOpened, is_opened}
 use Rattle.storetexts.proofs.Beginning.{none_come}
+use Rattle.storetexts.proofs.Fitting.{fits}
 use Rattle.storetexts.proofs.applying.ledger_on.Goals as goal
 
 pub returns-in-Ok-clause-begins : goal.returns-in-Ok-clause-begins
@@ -35,3 +36,18 @@ pub returns-in_err-store-clause-refused : goal.returns-in_err-store-clause-refus
 returns-in_err-store-clause-refused g c =
     let p = err_from_is_err_and c.from_residual.result c.from_residual.ensures.1 in
     rw (p.1, p.2) (c.in_err-store.ensures.causes, c.in_err-store.ensures.judged)
+
+pub returns-in-Ok-clause-fits : goal.returns-in-Ok-clause-fits
+returns-in-Ok-clause-fits g c honest =
+    let told = c.in_ok-store.ensures.told honest in
+    fits (g.D.Disk.content c.args.disk) told.standing told.is
+
+pub returns-in-Err-clause-order : goal.returns-in-Err-clause-order
+returns-in-Err-clause-order g c honest memory =
+    let told = c.in_ok-store.ensures.told honest in
+    fits (g.D.Disk.content c.args.disk) told.standing told.is
+
+pub returns-in_err-store-clause-order : goal.returns-in_err-store-clause-order
+returns-in_err-store-clause-order g c =
+    let p = err_from_is_err_and c.from_residual.result c.from_residual.ensures.1 in
+    rw (p.1, p.2) c.in_err-store.ensures.order

@@ -1,8 +1,9 @@
-use Rattle.std.proofs.Common.{rules, ◌≡◌, ◌∙◌, ap}
+use Rattle.std.proofs.Common.{rules, ◌≡◌, ◌∙◌, ap, sym, subst}
 use Rattle.std.specs.Prelude.{IfSome, vec_items}
 use Rattle.dimacs.specs.Counts.{reader_of}
 use Rattle.dimacs.specs.Pairs.{p2p_text}
 use Rattle.dimacs.specs.Texts.{OfReader, Reads}
+use Rattle.disk.specs.Contents.{Only}
 use Rattle.printing.specs.declared.done.Done.{Done}
 use Rattle.storetexts.specs.Asked.{IsRefusedAsk}
 use Rattle.storetexts.proofs.Judged.{opening_counts, opening_of_store, ask_refused_known}
@@ -10,6 +11,8 @@ use Rattle.storetexts.proofs.Meanwhile.{counts_code}
 use Rattle.storetexts.proofs.Answered.{asked_of, fault_known, refused_known, kind_unanswered, counts_unanswered}
 use Rattle.printing.proofs.ReadTexts.{value_of}
 use Rattle.storetexts.proofs.Read.{fault_of}
+use Rattle.storetexts.proofs.Checked.{memory_told}
+use Rattle.storetexts.proofs.Fitting.{fits, if_no_memory, if_ok}
 use Rattle.storetexts.proofs.asking.ask_counted.Goals as goal
 
 pub returns-in-Err-clause-writes : goal.returns-in-Err-clause-writes
@@ -51,3 +54,15 @@ returns-clause-codes g c = kind_unanswered c.ask_opened.result.0 c.ask_opened.en
 
 pub returns-clause-failed : goal.returns-clause-failed
 returns-clause-failed g c = counts_unanswered c.ask_opened.result.0 _ _ c.ask_opened.ensures.refused (ap g.D.Disk.failures c.ask_opened.ensures.disk ∙ c.in-Ok.ensures.counted)
+
+pub returns-in-Err-clause-order : goal.returns-in-Err-clause-order
+returns-in-Err-clause-order g c honest = memory_told c.in-Err.refusal _ (c.in-Err.ensures.order honest)
+
+pub returns-clause-order : goal.returns-clause-order
+returns-clause-order g c honest =
+    let told = c.in-Ok.ensures.told honest in
+    if_no_memory c.ask_opened.result.0 _ (fits (g.D.Disk.content c.args.disk) told.standing told.is)
+
+pub returns-clause-at_rest : goal.returns-clause-at_rest
+returns-clause-at_rest g c honest =
+    if_ok c.ask_opened.result.0 _ (subst (λ (d : g.row.D.Denot). Only (g.D.Disk.content d) (g.D.Disk.left d)) (sym c.ask_opened.ensures.disk) (c.in-Ok.ensures.at_rest honest))

@@ -1,7 +1,8 @@
-use Rattle.std.proofs.Common.{rules, ◌≡◌, ◌∙◌, ap}
+use Rattle.std.proofs.Common.{rules, ◌≡◌, ◌∙◌, ap, sym, subst}
 use Rattle.std.specs.Prelude.{vec_items}
 use Rattle.dimacs.specs.Pairs.{p2p_text}
 use Rattle.dimacs.specs.Texts.{InMemory, Parses}
+use Rattle.disk.specs.Contents.{Only}
 use Rattle.printing.specs.declared.done.Done.{Done}
 use Rattle.storetexts.specs.Asked.{IsRefusedAsk}
 use Rattle.storetexts.proofs.Judged.{ask_refused}
@@ -9,6 +10,8 @@ use Rattle.storetexts.proofs.Meanwhile.{counts_code}
 use Rattle.storetexts.proofs.Answered.{asked, fault_of as fault_of_pairs, refused_so, counts_unanswered}
 use Rattle.printing.proofs.ReadTexts.{value_of}
 use Rattle.storetexts.proofs.Read.{fault_of}
+use Rattle.storetexts.proofs.Checked.{memory_told}
+use Rattle.storetexts.proofs.Fitting.{fits, if_no_memory, if_ok}
 use Rattle.storetexts.proofs.asking.ask_text.Goals as goal
 
 pub returns-in-Err-clause-refused : goal.returns-in-Err-clause-refused
@@ -38,3 +41,15 @@ returns-clause-refused g c = refused_so c.ask_opened.result.0 (g.D.Disk.honest c
 
 pub returns-clause-failed : goal.returns-clause-failed
 returns-clause-failed g c = counts_unanswered c.ask_opened.result.0 _ _ c.ask_opened.ensures.refused (ap g.D.Disk.failures c.ask_opened.ensures.disk ∙ c.in-Ok.ensures.counted)
+
+pub returns-in-Err-clause-order : goal.returns-in-Err-clause-order
+returns-in-Err-clause-order g c honest = memory_told c.in-Err.refusal _ (c.in-Err.ensures.order honest)
+
+pub returns-clause-order : goal.returns-clause-order
+returns-clause-order g c honest =
+    let told = c.in-Ok.ensures.told honest in
+    if_no_memory c.ask_opened.result.0 _ (fits (g.D.Disk.content c.args.disk) told.standing told.is)
+
+pub returns-clause-at_rest : goal.returns-clause-at_rest
+returns-clause-at_rest g c honest =
+    if_ok c.ask_opened.result.0 _ (subst (λ (d : g.row.D.Denot). Only (g.D.Disk.content d) (g.D.Disk.left d)) (sym c.ask_opened.ensures.disk) (c.in-Ok.ensures.at_rest honest))

@@ -1,6 +1,7 @@
 use Rattle.storetexts.proofs.Judged.{opening_counts}
 use Rattle.storetexts.proofs.Meanwhile.{counts_code}
 use Rattle.storetexts.proofs.Checked.{unopened, memory_told, told_so, write_refused, write_memory, write_unwritten, write_counts, write_device}
+use Rattle.storetexts.proofs.Fitting.{if_ok}
 use Rattle.storetexts.proofs.checking.check_counted.Goals as goal
 
 pub returns-in-Err-clause-refused : goal.returns-in-Err-clause-refused
@@ -32,3 +33,6 @@ returns-clause-unwritten g c = write_unwritten c.put_standing-told.result _ _ c.
 
 pub returns-clause-writes : goal.returns-clause-writes
 returns-clause-writes g c = write_counts c.put_standing-told.result _ _ c.put_standing-told.ensures.refused c.put_standing-told.ensures.counts
+
+pub returns-clause-at_rest : goal.returns-clause-at_rest
+returns-clause-at_rest g c honest = if_ok c.put_standing-told.result _ (c.in-Ok.ensures.at_rest honest)

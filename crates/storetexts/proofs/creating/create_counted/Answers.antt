@@ -1,7 +1,7 @@
 use Rattle.std.proofs.Common.{inl, refl}
 use Rattle.dimacs.specs.Counts.{reader_of}
 use Rattle.dimacs.specs.Texts.{OfReader}
-use Rattle.storetexts.proofs.Made.{made_of_both, network_not_empty, network_no_device, network_counts, network_refused_known, all_making_refused_known, making_kinds, memory_first, memory_second}
+use Rattle.storetexts.proofs.Made.{made_of_both, network_not_empty, network_device, network_counts, network_refused_known, all_making_refused_known, making_kinds, memory_first, memory_second}
 use Rattle.storetexts.proofs.creating.create_counted.Goals as goal
 
 pub returns-in-Ok-clause-made : goal.returns-in-Ok-clause-made
@@ -11,7 +11,7 @@ pub returns-in-Err-clause-not_empty : goal.returns-in-Err-clause-not_empty
 returns-in-Err-clause-not_empty g c honest = network_not_empty c.in-Err.failed c.in-Err.ensures.kinds _
 
 pub returns-in-Err-clause-failed : goal.returns-in-Err-clause-failed
-returns-in-Err-clause-failed g c = network_no_device c.in-Err.failed c.in-Err.ensures.kinds _
+returns-in-Err-clause-failed g c = network_device c.in-Err.failed c.in-Err.ensures.kinds _
 
 pub returns-in-Err-clause-writes : goal.returns-in-Err-clause-writes
 returns-in-Err-clause-writes g c = network_counts c.in-Err.failed c.in-Err.ensures.kinds _

@@ -1,5 +1,5 @@
 //! What a session answers, by its desk.
-ghost use Rattle.std.specs.Prelude.{◌≡◌, ◌<◌, ◌≤◌, ◌+◌, ◌∷◌, [], length, true, false, None, Some, IfOk, IfErr, IfSome, OnOk};
+ghost use Rattle.std.specs.Prelude.{◌≡◌, ◌<◌, ◌≤◌, ◌+◌, ◌∷◌, [], length, true, false, None, Some, IfOk, IfErr, IfSome, IsOk, IsSome, OnOk};
 ghost use Rattle.std.specs.Option.{ForSome};
 ghost use mathlib.Core.List.{IsPrefix};
 ghost use Rattle.published.specs.Showing.{IsUnseen};
@@ -146,6 +146,9 @@ impl<N: Naming + Send + Sync + 'static> Session<N> {
         R: Threads + Wait + Copy + Send + Sync + 'static,
     >(&mut self, desk: &Desk<N, D, G, R>) -> Result<(), Refusal>
         ensures causes { IfErr result IsNoReader }
+        // A reader that the session has stays.
+        ensures held { IsSome self.old.reader → IsOk result }
+        ensures found { OnOk result (IsSome self.new.reader) }
         ensures begins { IsPrefix (known_to self.old.reader) (known_to self.new.reader) }
         ensures last { self.new.last ≡ self.old.last }
         ensures receipts { self.new.receipts ≡ self.old.receipts }
@@ -218,9 +221,7 @@ impl<N: Naming + Send + Sync + 'static> Session<N> {
             return Replied::Refused { refusal };
         }
         let Some(reader) = &mut self.reader else {
-            return Replied::Refused {
-                refusal: Refusal::NoReaderPlace,
-            };
+            unreachable!();
         };
         match answer_by(rt, alloc, reader, query) {
             Ok(answer) => Replied::Answered { query, answer },
@@ -259,7 +260,7 @@ impl<N: Naming + Send + Sync + 'static> Session<N> {
         let shown = self.shown(desk)?;
         self.find_reader(desk)?;
         let Some(reader) = &mut self.reader else {
-            return Err(Refusal::NoReaderPlace);
+            unreachable!();
         };
         match shown {
             None => version_by(reader),

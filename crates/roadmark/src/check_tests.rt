@@ -1,83 +1,17 @@
 //! The word `check`: what it prints of a store in a file, and what is told of a damaged one.
-use crate::program_tests::new_folder;
+use crate::program;
+use crate::program_tests::{is_done, is_refused, new_folder};
 use crate::shell::{Shell, is_kept};
-use crate::{Job, program, read_words};
-use std::fs::File;
-use std::process::Abort;
-use std::rt::Files;
-use std::sync::Wait;
 use std::test::Fail;
-use std::thread::Threads;
 use std::{fs, process};
 
-const NAME: Option<&str> = Some("roadmark");
+const CREATE: &str = "create six.store six.gr six.ss";
 
-const STORE: Option<&str> = Some("six.store");
+const APPLY: &str = "apply six.store six.commands";
 
-const CREATE: [Option<&str>; 5] = [NAME, Some("create"), STORE, Some("six.gr"), Some("six.ss")];
+const ASK: &str = "ask six.store six.p2p";
 
-const APPLY: [Option<&str>; 4] = [NAME, Some("apply"), STORE, Some("six.commands")];
-
-const ASK: [Option<&str>; 4] = [NAME, Some("ask"), STORE, Some("six.p2p")];
-
-const CHECK: [Option<&str>; 3] = [NAME, Some("check"), STORE];
-
-#[test]
-fn words_of_check(rt: HostRuntime) {
-    let words: [&str; 3] = ["roadmark", "check", "s"];
-    match read_words(rt.alloc(), &words) {
-        Ok(job) => assert!(rt; job == Job::Check { store: "s" }),
-        Err(usage) => assert!(rt; false, "{}", usage.text),
-    }
-    let table: [&[&str]; 3] = [
-        &["roadmark", "check"],
-        &["roadmark", "check", "s", "t"],
-        &["roadmark", "check", "s", "--delta", "3"],
-    ];
-    for words in table {
-        match read_words(rt.alloc(), words) {
-            Ok(job) => assert!(rt; false, "{words:?}: {job:?}"),
-            Err(usage) => assert!(rt; usage.status == 2, "{words:?}"),
-        }
-    }
-}
-
-#[test]
-fn help_of_check(rt: HostRuntime) {
-    let words: [&str; 3] = ["roadmark", "check", "--help"];
-    match read_words(rt.alloc(), &words) {
-        Ok(job) => assert!(rt; false, "{job:?}"),
-        Err(usage) => {
-            let text = usage.text.as_str();
-            assert!(rt; usage.status == 0 && text.contains("<STORE>"));
-            assert!(rt; text.contains("journal U") && text.contains("Example: roadmark check"));
-        }
-    }
-}
-
-/// A run of these words prints this and ends with 0.
-fn is_done<
-    R: Abort + AllocGlobal + Files<File = File> + Threads + Wait + Copy + Send + Sync + 'static,
->(rt: &R, folder: &str, words: &'static [Option<&'static str>], out: &str) {
-    let Ok(shell) = Shell::new(rt, folder, words) else {
-        return assert!(rt; false);
-    };
-    assert!(rt; program(&shell, *rt) == 0, "{words:?}");
-    assert!(rt; is_kept(&shell.out, out), "{words:?}");
-    assert!(rt; is_kept(&shell.err, ""), "{words:?}");
-}
-
-/// A run of these words prints this fault line alone and ends with 1.
-fn is_refused<
-    R: Abort + AllocGlobal + Files<File = File> + Threads + Wait + Copy + Send + Sync + 'static,
->(rt: &R, folder: &str, words: &'static [Option<&'static str>], err: &str) {
-    let Ok(shell) = Shell::new(rt, folder, words) else {
-        return assert!(rt; false);
-    };
-    assert!(rt; program(&shell, *rt) == 1, "{words:?}");
-    assert!(rt; is_kept(&shell.out, ""), "{words:?}");
-    assert!(rt; is_kept(&shell.err, err), "{words:?}");
-}
+const CHECK: &str = "check six.store";
 
 /// A store is looked at, and its file is read alone and has the same bytes behind it.
 #[test]
@@ -89,19 +23,19 @@ fn a_store_in_a_file(rt: HostRuntime) -> Result<(), Fail> {
     is_refused(
         &rt,
         folder.as_str(),
-        &CHECK,
+        CHECK,
         "roadmark: six.store: line 0: 10 Read\n",
     );
-    is_done(&rt, folder.as_str(), &CREATE, "ok 0\n");
-    is_done(&rt, folder.as_str(), &CHECK, "v 0\nslot A 1\njournal 0\n");
-    is_done(&rt, folder.as_str(), &APPLY, "ok 1\nno 20\nok 2\n");
+    is_done(&rt, folder.as_str(), CREATE, "ok 0\n");
+    is_done(&rt, folder.as_str(), CHECK, "v 0\nslot A 1\njournal 0\n");
+    is_done(&rt, folder.as_str(), APPLY, "ok 1\nno 20\nok 2\n");
     let before = fs::read(&rt, path.as_str())?;
-    let shell = Shell::new(&rt, folder.as_str(), &CHECK)?;
+    let shell = Shell::new(&rt, folder.as_str(), CHECK)?;
     assert!(rt; program(&shell, rt) == 0 && is_kept(&shell.out, "v 2\nslot A 1\njournal 1\n"));
     let opened = "read /dev/null\nread /dev/null\nread /dev/null\nread six.store\n";
     assert!(rt; is_kept(&shell.opened, opened));
     assert!(rt; fs::read(&rt, path.as_str())? == before);
-    let mut cut = Shell::new(&rt, folder.as_str(), &CHECK)?;
+    let mut cut = Shell::new(&rt, folder.as_str(), CHECK)?;
     cut.fails_at = 1;
     assert!(rt; program(&cut, rt) == 1 && is_kept(&cut.err, "roadmark: 12 Write\n"));
     fs::remove_dir_all(&rt, folder.as_str())?;
@@ -115,7 +49,7 @@ fn damaged_files(rt: HostRuntime) -> Result<(), Fail> {
     let name = format!(in rt.alloc(); "roadmark-damaged-{id}")?;
     let folder = new_folder(&rt, name.as_str())?;
     let path = format!(in rt.alloc(); "{}/six.store", folder.as_str())?;
-    is_done(&rt, folder.as_str(), &CREATE, "ok 0\n");
+    is_done(&rt, folder.as_str(), CREATE, "ok 0\n");
     let whole = fs::read(&rt, path.as_str())?;
     let table: [(usize, u8, &str); 8] = [
         (0, 0, "roadmark: 40 NotAStore\n"),
@@ -133,9 +67,9 @@ fn damaged_files(rt: HostRuntime) -> Result<(), Fail> {
             *place = byte;
         }
         fs::write(&rt, path.as_str(), bytes.as_slice())?;
-        is_refused(&rt, folder.as_str(), &CHECK, told);
-        is_refused(&rt, folder.as_str(), &ASK, told);
-        is_refused(&rt, folder.as_str(), &APPLY, told);
+        is_refused(&rt, folder.as_str(), CHECK, told);
+        is_refused(&rt, folder.as_str(), ASK, told);
+        is_refused(&rt, folder.as_str(), APPLY, told);
         assert!(rt; fs::read(&rt, path.as_str())? == bytes, "byte {at}");
     }
     fs::remove_dir_all(&rt, folder.as_str())?;

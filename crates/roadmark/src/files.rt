@@ -1,6 +1,6 @@
 //! The files of the program's jobs.
 ghost use Rattle.std.specs.Prelude.{◌≡◌, [], IfOk, IfErr};
-ghost use Rattle.std.specs.Io.Buffered.{reader_inner, reader_buffer};
+ghost use Rattle.std.specs.Io.Buffered.{reader_inner, reader_buffer, writer_inner, writer_buffer};
 ghost use Rattle.roadmark.specs.Failures.{unopened, IsUnopened, IsFaultOrUnopened, IsFileUnmade};
 
 use dimacs::{Code, Fault, read_gr};
@@ -9,11 +9,11 @@ use printing::Failed;
 use roadnet::Refusal;
 use std::alloc::Global;
 use std::fs::{self, File};
-use std::io::{BufReader, Read};
+use std::io::{BufReader, BufWriter, Read, Write};
 use std::rt::Files;
 
 /// The bytes that are read or written at once.
-pub const BUFFER: usize = 1 << 16;
+const BUFFER: usize = 1 << 16;
 
 /// By what number a failure names the store's file; the texts are 0 and 1.
 const STORE: u8 = 2;
@@ -26,6 +26,18 @@ pub fn buffered<F: Read + Drop>(alloc: Global, reader: F) -> Result<BufReader<F>
 {
     match BufReader::with_capacity(alloc, BUFFER, reader) {
         Ok(reader) => Ok(reader),
+        Err(_) => Err(Failed::Code(Refusal::OutOfMemory)),
+    }
+}
+
+/// A writer of larger pieces.
+pub fn buffered_writer<W: Write + Drop>(alloc: Global, writer: W) -> Result<BufWriter<W>, Failed>
+    ensures same { IfOk result (λ buffered. writer_inner buffered ≡ writer) }
+    ensures unwritten { IfOk result (λ buffered. writer_buffer buffered ≡ []) }
+    ensures refused { IfErr result (λ failed. failed ≡ Failed.Code Refusal.OutOfMemory) }
+{
+    match BufWriter::with_capacity(alloc, BUFFER, writer) {
+        Ok(writer) => Ok(writer),
         Err(_) => Err(Failed::Code(Refusal::OutOfMemory)),
     }
 }
@@ -63,10 +75,7 @@ pub fn open_texts<R: AllocGlobal + Files>(
 ) -> Result<(BufReader<R::File>, BufReader<R::File>), Failed>
     ensures { IfErr result IsFaultOrUnopened }
 {
-    let mut gr = match open_text(rt, 0, network) {
-        Ok(gr) => gr,
-        Err(failed) => return Err(failed),
-    };
+    let mut gr = open_text(rt, 0, network)?;
     match open_text(rt, 1, second) {
         Ok(second) => Ok((gr, second)),
         Err(failed) => match read_gr(rt.alloc(), &mut gr) {

@@ -4,13 +4,12 @@ ghost use Rattle.std.specs.Option.{ForSome};
 ghost use Rattle.rows.specs.Kept.{IsWidth};
 ghost use Rattle.roadmark.specs.Words.{IsJournal};
 
-use crate::files::{BUFFER, buffered, open_text, open_texts};
+use crate::files::{buffered, buffered_writer, open_text, open_texts};
 use dimacs::Counted;
 use printing::{CountedWriter, Done, Failed};
 use querytexts::{batch_counted, once_counted};
 use rehearsals::{joint_text, rehearse_counted};
-use roadnet::Refusal;
-use std::io::{self, BufWriter};
+use std::io;
 use std::rt::Files;
 use std::thread::Threads;
 
@@ -23,9 +22,7 @@ pub fn run_joint<R: AllocGlobal + Input + Print + Threads>(
     ensures { IfOk result (λ done. done.delta ≡ delta) }
 {
     let mut reader = buffered(rt.alloc(), rt.reader())?;
-    let Ok(mut writer) = BufWriter::with_capacity(rt.alloc(), BUFFER, io::writer(rt)) else {
-        return Err(Failed::Code(Refusal::OutOfMemory));
-    };
+    let mut writer = buffered_writer(rt.alloc(), io::writer(rt))?;
     joint_text(rt, rt.alloc(), &mut reader, delta, &mut writer)
 }
 
@@ -41,9 +38,7 @@ pub fn run_once<R: AllocGlobal + Files + Print + Threads>(
     ensures { IfOk result (λ done. done.delta ≡ delta) }
 {
     let mut reader = open_text(rt, 0, network)?;
-    let Ok(mut writer) = BufWriter::with_capacity(rt.alloc(), BUFFER, io::writer(rt)) else {
-        return Err(Failed::Code(Refusal::OutOfMemory));
-    };
+    let mut writer = buffered_writer(rt.alloc(), io::writer(rt))?;
     let mut reader = Counted::new(&mut reader);
     let mut writer = CountedWriter::new(&mut writer);
     once_counted(
@@ -68,9 +63,7 @@ pub fn run_batch<R: AllocGlobal + Files + Print + Threads>(
     ensures { IfOk result (λ done. done.delta ≡ delta) }
 {
     let (mut gr, mut p2p) = open_texts(rt, network, pairs)?;
-    let Ok(mut writer) = BufWriter::with_capacity(rt.alloc(), BUFFER, io::writer(rt)) else {
-        return Err(Failed::Code(Refusal::OutOfMemory));
-    };
+    let mut writer = buffered_writer(rt.alloc(), io::writer(rt))?;
     let mut gr = Counted::new(&mut gr);
     let mut p2p = Counted::new(&mut p2p);
     let mut writer = CountedWriter::new(&mut writer);
@@ -90,9 +83,7 @@ pub fn run_rehearse<R: AllocGlobal + Files + Print + Threads>(
     ensures width { IfOk result (λ done. done.delta ≡ delta) }
 {
     let (mut gr, mut script) = open_texts(rt, network, script)?;
-    let Ok(mut writer) = BufWriter::with_capacity(rt.alloc(), BUFFER, io::writer(rt)) else {
-        return Err(Failed::Code(Refusal::OutOfMemory));
-    };
+    let mut writer = buffered_writer(rt.alloc(), io::writer(rt))?;
     let mut gr = Counted::new(&mut gr);
     let mut script = Counted::new(&mut script);
     let mut writer = CountedWriter::new(&mut writer);

@@ -32,52 +32,6 @@ const FILES: [(&str, &str); 10] = [
     ("bad.script", "flush\nlook\n"),
 ];
 
-/// What a run is to print and to end with.
-#[derive(Drop)]
-struct Run {
-    words: &'static [Option<&'static str>],
-    input: &'static str,
-    status: u8,
-    out: &'static str,
-    err: &'static str,
-}
-
-/// A run without input that prints this and ends with 0.
-fn done(words: &'static [Option<&'static str>], out: &'static str) -> Run {
-    Run {
-        words,
-        input: "",
-        status: 0,
-        out,
-        err: "",
-    }
-}
-
-/// A run without input that prints this fault line alone and ends with 1.
-fn refused(words: &'static [Option<&'static str>], err: &'static str) -> Run {
-    Run {
-        words,
-        input: "",
-        status: 1,
-        out: "",
-        err,
-    }
-}
-
-/// The run of these words prints and ends so.
-fn is_run<
-    R: Abort + AllocGlobal + Files<File = File> + Threads + Wait + Copy + Send + Sync + 'static,
->(rt: &R, folder: &str, run: &Run) {
-    let Ok(mut shell) = Shell::new(rt, folder, run.words) else {
-        return assert!(rt; false);
-    };
-    shell.input = run.input.as_bytes();
-    let status = program(&shell, *rt);
-    assert!(rt; status == run.status, "{:?}: {status}", run.words);
-    assert!(rt; is_kept(&shell.out, run.out), "{:?}", run.words);
-    assert!(rt; is_kept(&shell.err, run.err), "{:?}", run.words);
-}
-
 /// A new folder with the files of a run.
 pub fn new_folder<R: AllocGlobal + Env + Files>(rt: &R, name: &str) -> Result<String, Fail> {
     let temporary = env::temp_dir(rt)?;
@@ -91,135 +45,97 @@ pub fn new_folder<R: AllocGlobal + Env + Files>(rt: &R, name: &str) -> Result<St
     Ok(folder)
 }
 
-const NAME: Option<&str> = Some("roadmark");
+/// A run of these words, with this input, prints this and ends with 0.
+fn answers<
+    'a,
+    R: Abort + AllocGlobal + Files<File = File> + Threads + Wait + Copy + Send + Sync + 'static,
+>(rt: &'a R, folder: &str, words: &'a str, input: &'a str, out: &str) {
+    let Ok(mut shell) = Shell::new(rt, folder, words) else {
+        return assert!(rt; false);
+    };
+    shell.input = input.as_bytes();
+    assert!(rt; program(&shell, *rt) == 0, "{words}");
+    assert!(rt; is_kept(&shell.out, out), "{words}");
+    assert!(rt; is_kept(&shell.err, ""), "{words}");
+}
 
-const GR: Option<&str> = Some("six.gr");
+/// A run of these words without input prints this and ends with 0.
+pub fn is_done<
+    'a,
+    R: Abort + AllocGlobal + Files<File = File> + Threads + Wait + Copy + Send + Sync + 'static,
+>(rt: &'a R, folder: &str, words: &'a str, out: &str) {
+    answers(rt, folder, words, "", out);
+}
 
-const P2P: Option<&str> = Some("six.p2p");
+/// A run of these words, with this input, prints this fault line alone and ends with 1.
+fn refuses<
+    'a,
+    R: Abort + AllocGlobal + Files<File = File> + Threads + Wait + Copy + Send + Sync + 'static,
+>(rt: &'a R, folder: &str, words: &'a str, input: &'a str, err: &str) {
+    let Ok(mut shell) = Shell::new(rt, folder, words) else {
+        return assert!(rt; false);
+    };
+    shell.input = input.as_bytes();
+    assert!(rt; program(&shell, *rt) == 1, "{words}");
+    assert!(rt; is_kept(&shell.out, ""), "{words}");
+    assert!(rt; is_kept(&shell.err, err), "{words}");
+}
 
-const SCRIPT: Option<&str> = Some("six.script");
-
-const STORE: Option<&str> = Some("six.store");
-
-const SMALL: Option<&str> = Some("small.store");
-
-const NONE: Option<&str> = Some("none");
-
-// Words of whole runs.
-const ALONE: [Option<&str>; 1] = [NAME];
-
-const HELP: [Option<&str>; 3] = [NAME, Some("ask"), Some("--help")];
-
-const MISUSED: [Option<&str>; 2] = [NAME, Some("look")];
-
-const NO_TEXT: [Option<&str>; 2] = [NAME, None];
-
-const ABSENT: [Option<&str>; 5] = [NAME, Some("once"), NONE, Some("1"), Some("6")];
+/// A run of these words without input prints this fault line alone and ends with 1.
+pub fn is_refused<
+    'a,
+    R: Abort + AllocGlobal + Files<File = File> + Threads + Wait + Copy + Send + Sync + 'static,
+>(rt: &'a R, folder: &str, words: &'a str, err: &str) {
+    refuses(rt, folder, words, "", err);
+}
 
 #[test]
-fn words_on_files(rt: HostRuntime) -> Result<(), Fail> {
+fn words_on_texts(rt: HostRuntime) -> Result<(), Fail> {
+    let id = process::id(rt.process());
+    let name = format!(in rt.alloc(); "roadmark-texts-{id}")?;
+    let folder = new_folder(&rt, name.as_str())?;
+    let pairs = "v 0\nd 1 6 15\nx 6 1\n";
+    let rehearsed = "t 1\nok 1\nt 2\nok 2\nt 3\nok 3\n";
+    let full = "t 1\nok 1\nt 2\nok 2\nt 3\nno 44\n";
+    let table = [
+        ("once six.gr 1 6", "v 0\nd 1 6 15\n"),
+        ("once six.gr 6 1", "v 0\nx 6 1\n"),
+        ("once six.gr 1 7 --delta 3", "v 0\nno 24\n"),
+        ("batch six.gr six.p2p", pairs),
+        ("batch --delta=2147483647 six.gr six.p2p", pairs),
+        ("rehearse six.gr six.script", rehearsed),
+        ("rehearse six.gr six.script --journal 2 --delta=1", full),
+        ("--version", "roadmark 0.1.0\n"),
+    ];
+    for (words, out) in table {
+        is_done(&rt, folder.as_str(), words, out);
+    }
+    answers(&rt, folder.as_str(), "", JOINT, "v 0\nd 1 6 15\n");
+    answers(&rt, folder.as_str(), "--delta 7", JOINT, "v 0\nd 1 6 15\n");
+    fs::remove_dir_all(&rt, folder.as_str())?;
+    Ok(())
+}
+
+#[test]
+fn words_on_stores(rt: HostRuntime) -> Result<(), Fail> {
     let id = process::id(rt.process());
     let name = format!(in rt.alloc(); "roadmark-words-{id}")?;
     let folder = new_folder(&rt, name.as_str())?;
-    let pairs = "v 0\nd 1 6 15\nx 6 1\n";
-    let table: [Run; 18] = [
-        done(
-            &[NAME, Some("once"), GR, Some("1"), Some("6")],
-            "v 0\nd 1 6 15\n",
-        ),
-        done(
-            &[NAME, Some("once"), GR, Some("6"), Some("1")],
-            "v 0\nx 6 1\n",
-        ),
-        done(
-            &[
-                NAME,
-                Some("once"),
-                GR,
-                Some("1"),
-                Some("7"),
-                Some("--delta"),
-                Some("3"),
-            ],
-            "v 0\nno 24\n",
-        ),
-        done(&[NAME, Some("batch"), GR, P2P], pairs),
-        done(
-            &[NAME, Some("batch"), Some("--delta=2147483647"), GR, P2P],
-            pairs,
-        ),
-        done(
-            &[NAME, Some("rehearse"), GR, SCRIPT],
-            "t 1\nok 1\nt 2\nok 2\nt 3\nok 3\n",
-        ),
-        done(
-            &[
-                NAME,
-                Some("rehearse"),
-                GR,
-                SCRIPT,
-                Some("--journal"),
-                Some("2"),
-                Some("--delta=1"),
-            ],
-            "t 1\nok 1\nt 2\nok 2\nt 3\nno 44\n",
-        ),
-        done(&[NAME, Some("create"), STORE, GR, Some("six.ss")], "ok 0\n"),
-        refused(
-            &[NAME, Some("create"), STORE, GR, Some("six.ss")],
-            "roadmark: 46 NotEmpty\n",
-        ),
-        done(&[NAME, Some("ask"), STORE, P2P], pairs),
-        done(
-            &[NAME, Some("apply"), STORE, Some("six.commands")],
-            "ok 1\nno 20\nok 2\n",
-        ),
-        done(&[NAME, Some("ask"), STORE, P2P], "v 2\nd 1 6 14\nx 6 1\n"),
-        done(
-            &[
-                NAME,
-                Some("apply"),
-                STORE,
-                Some("six.commands"),
-                Some("--delta"),
-                Some("5"),
-            ],
-            "no 22\nno 20\nok 3\n",
-        ),
-        done(
-            &[NAME, Some("ask"), Some("--delta"), Some("1"), STORE, P2P],
-            "v 3\nd 1 6 14\nx 6 1\n",
-        ),
-        done(
-            &[
-                NAME,
-                Some("create"),
-                Some("--journal"),
-                Some("2"),
-                SMALL,
-                GR,
-                Some("six.ss"),
-            ],
-            "ok 0\n",
-        ),
-        Run {
-            words: &[NAME],
-            input: JOINT,
-            status: 0,
-            out: "v 0\nd 1 6 15\n",
-            err: "",
-        },
-        Run {
-            words: &[NAME, Some("--delta"), Some("7")],
-            input: JOINT,
-            status: 0,
-            out: "v 0\nd 1 6 15\n",
-            err: "",
-        },
-        done(&[NAME, Some("--version")], "roadmark 0.1.0\n"),
+    let create = "create six.store six.gr six.ss";
+    is_done(&rt, folder.as_str(), create, "ok 0\n");
+    is_refused(&rt, folder.as_str(), create, "roadmark: 46 NotEmpty\n");
+    let ask = "ask six.store six.p2p";
+    let apply = "apply six.store six.commands --delta 5";
+    let table = [
+        (ask, "v 0\nd 1 6 15\nx 6 1\n"),
+        ("apply six.store six.commands", "ok 1\nno 20\nok 2\n"),
+        (ask, "v 2\nd 1 6 14\nx 6 1\n"),
+        (apply, "no 22\nno 20\nok 3\n"),
+        ("ask --delta 1 six.store six.p2p", "v 3\nd 1 6 14\nx 6 1\n"),
+        ("create --journal 2 small.store six.gr six.ss", "ok 0\n"),
     ];
-    for run in table {
-        is_run(&rt, folder.as_str(), &run);
+    for (words, out) in table {
+        is_done(&rt, folder.as_str(), words, out);
     }
     let path = format!(in rt.alloc(); "{}/small.store", folder.as_str())?;
     assert_eq!(rt; fs::metadata(&rt, path.as_str())?.len(), 32768);
@@ -227,117 +143,63 @@ fn words_on_files(rt: HostRuntime) -> Result<(), Fail> {
     Ok(())
 }
 
+/// A folder may be opened as a text, and its first read fails.
 #[test]
-fn faults_of_words(rt: HostRuntime) -> Result<(), Fail> {
+fn faults_of_texts(rt: HostRuntime) -> Result<(), Fail> {
     let id = process::id(rt.process());
-    let name = format!(in rt.alloc(); "roadmark-faults-{id}")?;
+    let name = format!(in rt.alloc(); "roadmark-text-faults-{id}")?;
     let folder = new_folder(&rt, name.as_str())?;
-    let table: [Run; 24] = [
-        done(&[NAME, Some("create"), STORE, GR, Some("six.ss")], "ok 0\n"),
-        refused(
-            &[NAME, Some("once"), NONE, Some("1"), Some("6")],
-            "roadmark: none: line 0: 10 Read\n",
-        ),
-        refused(
-            &[NAME, Some("once"), Some("bad.gr"), Some("1"), Some("6")],
-            "roadmark: bad.gr: line 3: 7 LengthRange\n",
-        ),
-        refused(
-            &[NAME, Some("once"), Some("."), Some("1"), Some("6")],
+    let absent = "roadmark: none: line 0: 10 Read\n";
+    let unread = "roadmark: .: line 1: 10 Read\n";
+    let bad = "roadmark: bad.gr: line 3: 7 LengthRange\n";
+    let bad_pairs = "roadmark: bad.p2p: line 2: 1 BadLine\n";
+    let bad_script = "roadmark: bad.script: line 2: 1 BadLine\n";
+    let table = [
+        ("once none 1 6", absent),
+        ("once bad.gr 1 6", bad),
+        ("once . 1 6", unread),
+        ("batch six.gr bad.p2p", bad_pairs),
+        ("batch bad.gr none", bad),
+        ("batch six.gr none", absent),
+        ("batch six.gr .", unread),
+        ("rehearse six.gr bad.script", bad_script),
+        ("rehearse bad.gr bad.script", bad),
+        ("rehearse six.gr .", unread),
+    ];
+    for (words, err) in table {
+        is_refused(&rt, folder.as_str(), words, err);
+    }
+    let net = "roadmark: net: line 2: 7 LengthRange\n";
+    refuses(&rt, folder.as_str(), "", "p sp 2 1\na 1 2 -5\nrun\n", net);
+    let script = "roadmark: script: line 1: 1 BadLine\n";
+    refuses(&rt, folder.as_str(), "", "p sp 2 0\nrun\ndist 1\n", script);
+    fs::remove_dir_all(&rt, folder.as_str())?;
+    Ok(())
+}
+
+/// A store that is not made leaves no file behind.
+#[test]
+fn faults_of_new_stores(rt: HostRuntime) -> Result<(), Fail> {
+    let id = process::id(rt.process());
+    let name = format!(in rt.alloc(); "roadmark-new-faults-{id}")?;
+    let folder = new_folder(&rt, name.as_str())?;
+    let nowhere = "roadmark: none/new.store: line 0: 10 Read\n";
+    let bad = "roadmark: bad.gr: line 3: 7 LengthRange\n";
+    let bad_landmarks = "roadmark: bad.ss: line 2: 6 NodeRange\n";
+    let device = "roadmark: /dev/null: line 0: 10 Read\n";
+    let table = [
+        ("create new.store bad.gr bad.ss", bad),
+        ("create new.store six.gr bad.ss", bad_landmarks),
+        (
+            "create new.store six.gr .",
             "roadmark: .: line 1: 10 Read\n",
         ),
-        refused(
-            &[NAME, Some("batch"), GR, Some("bad.p2p")],
-            "roadmark: bad.p2p: line 2: 1 BadLine\n",
-        ),
-        refused(
-            &[NAME, Some("batch"), Some("bad.gr"), NONE],
-            "roadmark: bad.gr: line 3: 7 LengthRange\n",
-        ),
-        refused(
-            &[NAME, Some("batch"), GR, NONE],
-            "roadmark: none: line 0: 10 Read\n",
-        ),
-        refused(
-            &[NAME, Some("rehearse"), GR, Some("bad.script")],
-            "roadmark: bad.script: line 2: 1 BadLine\n",
-        ),
-        refused(
-            &[NAME, Some("rehearse"), Some("bad.gr"), Some("bad.script")],
-            "roadmark: bad.gr: line 3: 7 LengthRange\n",
-        ),
-        refused(
-            &[
-                NAME,
-                Some("create"),
-                Some("new.store"),
-                Some("bad.gr"),
-                Some("bad.ss"),
-            ],
-            "roadmark: bad.gr: line 3: 7 LengthRange\n",
-        ),
-        refused(
-            &[NAME, Some("create"), Some("new.store"), GR, Some("bad.ss")],
-            "roadmark: bad.ss: line 2: 6 NodeRange\n",
-        ),
-        refused(
-            &[
-                NAME,
-                Some("create"),
-                Some("none/new.store"),
-                GR,
-                Some("six.ss"),
-            ],
-            "roadmark: none/new.store: line 0: 10 Read\n",
-        ),
-        refused(
-            &[NAME, Some("create"), Some("."), GR, Some("six.ss")],
-            "roadmark: .: line 0: 10 Read\n",
-        ),
-        refused(
-            &[NAME, Some("create"), Some("/dev/null"), GR, Some("six.ss")],
-            "roadmark: /dev/null: line 0: 10 Read\n",
-        ),
-        refused(
-            &[NAME, Some("apply"), NONE, Some("six.commands")],
-            "roadmark: none: line 0: 10 Read\n",
-        ),
-        refused(
-            &[NAME, Some("apply"), STORE, Some("bad.commands")],
-            "roadmark: bad.commands: line 2: 5 NumberRange\n",
-        ),
-        refused(&[NAME, Some("apply"), GR, NONE], "roadmark: 40 NotAStore\n"),
-        refused(
-            &[NAME, Some("ask"), STORE, NONE],
-            "roadmark: none: line 0: 10 Read\n",
-        ),
-        refused(&[NAME, Some("ask"), GR, NONE], "roadmark: 40 NotAStore\n"),
-        refused(
-            &[NAME, Some("serve"), NONE],
-            "roadmark: none: line 0: 10 Read\n",
-        ),
-        refused(&[NAME, Some("serve"), GR], "roadmark: 40 NotAStore\n"),
-        refused(
-            &[NAME, Some("ask"), STORE, Some("bad.p2p")],
-            "roadmark: bad.p2p: line 2: 1 BadLine\n",
-        ),
-        Run {
-            words: &[NAME],
-            input: "p sp 2 1\na 1 2 -5\nrun\n",
-            status: 1,
-            out: "",
-            err: "roadmark: net: line 2: 7 LengthRange\n",
-        },
-        Run {
-            words: &[NAME],
-            input: "p sp 2 0\nrun\ndist 1\n",
-            status: 1,
-            out: "",
-            err: "roadmark: script: line 1: 1 BadLine\n",
-        },
+        ("create none/new.store six.gr six.ss", nowhere),
+        ("create . six.gr six.ss", "roadmark: .: line 0: 10 Read\n"),
+        ("create /dev/null six.gr six.ss", device),
     ];
-    for run in table {
-        is_run(&rt, folder.as_str(), &run);
+    for (words, err) in table {
+        is_refused(&rt, folder.as_str(), words, err);
     }
     let path = format!(in rt.alloc(); "{}/new.store", folder.as_str())?;
     assert!(rt; fs::metadata(&rt, path.as_str()).is_err());
@@ -345,22 +207,95 @@ fn faults_of_words(rt: HostRuntime) -> Result<(), Fail> {
     Ok(())
 }
 
+/// A fault of the store is told before one of the text.
+#[test]
+fn faults_of_stores(rt: HostRuntime) -> Result<(), Fail> {
+    let id = process::id(rt.process());
+    let name = format!(in rt.alloc(); "roadmark-faults-{id}")?;
+    let folder = new_folder(&rt, name.as_str())?;
+    is_done(
+        &rt,
+        folder.as_str(),
+        "create six.store six.gr six.ss",
+        "ok 0\n",
+    );
+    let absent = "roadmark: none: line 0: 10 Read\n";
+    let unread = "roadmark: .: line 1: 10 Read\n";
+    let no_store = "roadmark: 40 NotAStore\n";
+    let bad_commands = "roadmark: bad.commands: line 2: 5 NumberRange\n";
+    let bad_pairs = "roadmark: bad.p2p: line 2: 1 BadLine\n";
+    let table = [
+        ("apply none six.commands", absent),
+        ("apply six.store bad.commands", bad_commands),
+        ("apply six.store .", unread),
+        ("apply six.gr none", no_store),
+        ("ask six.store none", absent),
+        ("ask six.store bad.p2p", bad_pairs),
+        ("ask six.store .", unread),
+        ("ask six.gr none", no_store),
+        ("serve none", absent),
+        ("serve six.gr", no_store),
+    ];
+    for (words, err) in table {
+        is_refused(&rt, folder.as_str(), words, err);
+    }
+    fs::remove_dir_all(&rt, folder.as_str())?;
+    Ok(())
+}
+
+/// The run of these words, whose first write fails, ends with 12.
+fn is_cut<
+    R: Abort + AllocGlobal + Files<File = File> + Threads + Wait + Copy + Send + Sync + 'static,
+>(rt: &R, folder: &str, words: &str) {
+    let Ok(mut shell) = Shell::new(rt, folder, words) else {
+        return assert!(rt; false);
+    };
+    shell.fails_at = 1;
+    assert!(rt; program(&shell, *rt) == 1, "{words}");
+    assert!(rt; is_kept(&shell.err, "roadmark: 12 Write\n"), "{words}");
+}
+
+/// What is printed is written at once; where that fails the job ends with 12.
+#[test]
+fn outputs_that_fail(rt: HostRuntime) -> Result<(), Fail> {
+    let id = process::id(rt.process());
+    let name = format!(in rt.alloc(); "roadmark-cut-{id}")?;
+    let folder = new_folder(&rt, name.as_str())?;
+    is_done(
+        &rt,
+        folder.as_str(),
+        "create six.store six.gr six.ss",
+        "ok 0\n",
+    );
+    let table = [
+        "once six.gr 1 6",
+        "batch six.gr six.p2p",
+        "rehearse six.gr six.script",
+        "apply six.store six.commands",
+        "ask six.store six.p2p",
+        "check six.store",
+    ];
+    for words in table {
+        is_cut(&rt, folder.as_str(), words);
+    }
+    fs::remove_dir_all(&rt, folder.as_str())?;
+    Ok(())
+}
+
 /// Help is printed and ends with 0, a misuse is told and ends with 2, and so is a word that is not text. An output that fails is 12.
 #[test]
 fn statuses(rt: HostRuntime) -> Result<(), Fail> {
-    let shell = Shell::new(&rt, "/", &HELP)?;
+    let shell = Shell::new(&rt, "/", "ask --help")?;
     assert!(rt; program(&shell, rt) == 0 && is_kept(&shell.err, "") && !is_kept(&shell.out, ""));
-    let mut cut = Shell::new(&rt, "/", &HELP)?;
-    cut.fails_at = 1;
-    assert!(rt; program(&cut, rt) == 1 && is_kept(&cut.err, "roadmark: 12 Write\n"));
-    let misuse = Shell::new(&rt, "/", &MISUSED)?;
+    is_cut(&rt, "/", "ask --help");
+    let misuse = Shell::new(&rt, "/", "look")?;
     assert!(rt; program(&misuse, rt) == 2 && is_kept(&misuse.out, "") && !is_kept(&misuse.err, ""));
-    let no_text = Shell::new(&rt, "/", &NO_TEXT)?;
+    let no_text = Shell::new(&rt, "/", "?")?;
     let told = "error: a word is not UTF-8\n\nFor more information, try '--help'.\n";
     assert!(rt;
         program(&no_text, rt) == 2 && is_kept(&no_text.out, "") && is_kept(&no_text.err, told)
     );
-    let mut joint = Shell::new(&rt, "/", &ALONE)?;
+    let mut joint = Shell::new(&rt, "/", "")?;
     joint.input = JOINT.as_bytes();
     joint.fails_at = 1;
     assert!(rt; program(&joint, rt) == 1 && is_kept(&joint.err, "roadmark: 12 Write\n"));
@@ -370,11 +305,11 @@ fn statuses(rt: HostRuntime) -> Result<(), Fail> {
 /// The standard streams are taken before any other file is opened, and nothing is opened where they can't be.
 #[test]
 fn streams_are_taken_first(rt: HostRuntime) -> Result<(), Fail> {
-    let shell = Shell::new(&rt, "/", &ABSENT)?;
+    let shell = Shell::new(&rt, "/", "once none 1 6")?;
     assert_eq!(rt; program(&shell, rt), 1);
     let opened = "read /dev/null\nread /dev/null\nread /dev/null\nread none\n";
     assert!(rt; is_kept(&shell.opened, opened));
-    let mut untaken = Shell::new(&rt, "/", &ABSENT)?;
+    let mut untaken = Shell::new(&rt, "/", "once none 1 6")?;
     untaken.absent = "/dev/null";
     assert_eq!(rt; program(&untaken, rt), 1);
     assert!(rt; is_kept(&untaken.opened, "read /dev/null\n"));

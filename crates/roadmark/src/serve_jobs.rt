@@ -10,11 +10,12 @@ ghost use Rattle.disk.specs.Contents.{AreAmong};
 ghost use Rattle.store.specs.State.{CameTidy, StandsAt, is_calm};
 ghost use Rattle.office.specs.Left.{KeepsDesk};
 ghost use Rattle.desk.specs.Openings.{IsNewDesk, IsUnstarted};
+ghost use Rattle.storetexts.specs.Asked.{IsUnopened};
 ghost use Rattle.sessions.specs.Told.{CountsRead};
 ghost use Rattle.sessions.specs.Turns.{Serves, IsKept};
 ghost use Rattle.roadmark.specs.Words.{IsWorkers};
 
-use crate::files::{BUFFER, buffered, open_store};
+use crate::files::{buffered, buffered_writer, open_store};
 use desk::{Closed, Desk, History, Naming, NoGate, Setup};
 use dimacs::Counted;
 use disk::Disk;
@@ -23,7 +24,7 @@ use roadnet::Refusal;
 use sessions::serve;
 use std::alloc::Global;
 use std::fs::File;
-use std::io::{self, BufRead, BufWriter, Write};
+use std::io::{self, BufRead, Write};
 use std::marker::Brand;
 use std::rt::Files;
 use std::sync::Wait;
@@ -104,6 +105,7 @@ fn serve_disk<
     // that was acknowledged or shown.
     ensures honest { CameTidy D.honest D.content disk → IfOk result (λ ended. D.honest ended.1.disk) }
     ensures left { CameTidy D.honest D.content disk → IfOk result (λ ended. AreAmong (D.left ended.1.disk) (KeepsDesk ended.1.whole ended.1.shown ended.1.journal_pages)) }
+    ensures refused { IfErr result (λ refusal. IsUnopened (D.honest disk) (D.content disk) refusal ⊎ (IsUnstarted refusal ⊎ (refusal ≡ closed))) }
 {
     let store = match open(alloc, disk) {
         Ok(store) => store,
@@ -124,9 +126,7 @@ pub fn run_serve<
 {
     let disk = open_store(rt, store)?;
     let mut reader = buffered(rt.alloc(), rt.reader())?;
-    let Ok(mut writer) = BufWriter::with_capacity(rt.alloc(), BUFFER, io::writer(rt)) else {
-        return Err(Failed::Code(Refusal::OutOfMemory));
-    };
+    let mut writer = buffered_writer(rt.alloc(), io::writer(rt))?;
     let mut reader = Counted::new(&mut reader);
     let mut writer = CountedWriter::new(&mut writer);
     let setup = Setup { delta, workers };

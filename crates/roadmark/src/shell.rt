@@ -16,8 +16,8 @@ pub struct Shell<'a, R> {
     rt: &'a R,
     /// The folder of the run: a relative name is one in it.
     folder: String,
-    /// The words of the run, the program's own name first; `None` is a word that is not text.
-    pub words: &'static [Option<&'static str>],
+    /// The words of the run after the program's own name, with blanks between them; `?` stands for a word that is not text.
+    words: &'a str,
     /// The standard input.
     pub input: &'a [u8],
     /// The standard output.
@@ -38,11 +38,7 @@ pub struct Shell<'a, R> {
 
 impl<'a, R: AllocGlobal> Shell<'a, R> {
     /// A run of these words in this folder.
-    pub fn new(
-        rt: &'a R,
-        folder: &str,
-        words: &'static [Option<&'static str>],
-    ) -> Result<Shell<'a, R>, AllocError> {
+    pub fn new(rt: &'a R, folder: &str, words: &'a str) -> Result<Shell<'a, R>, AllocError> {
         let folder = String::from_str(rt.alloc(), folder)?;
         Ok(Shell {
             rt,
@@ -157,14 +153,20 @@ impl<'a, R> Input for Shell<'a, R> {
     }
 }
 
+/// The word of this number: word 0 is the program's own name.
+fn word_at(words: &str, number: usize) -> Option<&str> {
+    match number {
+        0 => Some("roadmark"),
+        _ => words.split_whitespace().nth(number - 1),
+    }
+}
+
 impl<'a, R> Env for Shell<'a, R> {
     fn arg(&self, i: usize, buf: &mut [u8]) -> Result<usize, FillError> {
-        let Some(word) = self.words.get(i) else {
-            return Err(FillError::NotPresent);
-        };
-        let bytes = match word {
+        let bytes = match word_at(self.words, i) {
+            Some("?") => &[255u8],
             Some(word) => word.as_bytes(),
-            None => &[255u8],
+            None => return Err(FillError::NotPresent),
         };
         if bytes.len() > buf.len() {
             return Err(FillError::TooLong);

@@ -7,7 +7,7 @@ ghost use Rattle.roadmark.specs.Failures.{IsStoreMade, IsToldAfterOpening};
 ghost use Rattle.roadmark.specs.Words.{IsJournal};
 
 use crate::files::{
-    BUFFER, create_store_file, open_store, open_store_to_read, open_text, open_texts,
+    buffered_writer, create_store_file, open_store, open_store_to_read, open_text, open_texts,
 };
 use dimacs::Counted;
 use disk::Disk;
@@ -16,7 +16,7 @@ use printing::{CountedWriter, Done, Failed};
 use roadnet::Refusal;
 use std::alloc::Global;
 use std::fs::File;
-use std::io::{self, BufWriter};
+use std::io;
 use std::rt::Files;
 use std::thread::Threads;
 use store::open;
@@ -48,9 +48,7 @@ pub fn run_create<R: AllocGlobal + Files<File = File> + Print>(
     let mut gr = Counted::new(&mut gr);
     let mut ss = Counted::new(&mut ss);
     let network = read_planned(rt.alloc(), &mut gr, &mut ss)?;
-    let Ok(mut writer) = BufWriter::with_capacity(rt.alloc(), BUFFER, io::writer(rt)) else {
-        return Err(Failed::Code(Refusal::OutOfMemory));
-    };
+    let mut writer = buffered_writer(rt.alloc(), io::writer(rt))?;
     let mut writer = CountedWriter::new(&mut writer);
     let NewFile { disk, made } = create_store_file(rt, store)?;
     let (outcome, _locked) = create_store(rt.alloc(), disk, &network, journal_pages, &mut writer);
@@ -59,10 +57,8 @@ pub fn run_create<R: AllocGlobal + Files<File = File> + Print>(
     {
         let _ = made.remove(rt);
     }
-    match outcome {
-        Ok(()) => Ok(Done { delta: None }),
-        Err(failed) => Err(failed),
-    }
+    outcome?;
+    Ok(Done { delta: None })
 }
 
 /// The failure of a text that is read for a store: a refusal of the store is told before it.
@@ -91,16 +87,12 @@ pub fn run_apply<R: AllocGlobal + Files<File = File> + Print>(
         Ok(commands) => commands,
         Err(failed) => return Err(after_opening(rt.alloc(), disk, failed)),
     };
-    let Ok(mut writer) = BufWriter::with_capacity(rt.alloc(), BUFFER, io::writer(rt)) else {
-        return Err(Failed::Code(Refusal::OutOfMemory));
-    };
+    let mut writer = buffered_writer(rt.alloc(), io::writer(rt))?;
     let mut commands = Counted::new(&mut commands);
     let mut writer = CountedWriter::new(&mut writer);
     let (outcome, _disk) = apply_counted(rt.alloc(), disk, &mut commands, &mut writer);
-    match outcome {
-        Ok(()) => Ok(Done { delta }),
-        Err(failed) => Err(failed),
-    }
+    outcome?;
+    Ok(Done { delta })
 }
 
 /// The pairs of a file in the network of a store, which is read alone and stays as it is. A fault of the store is told before one of the
@@ -119,9 +111,7 @@ pub fn run_ask<R: AllocGlobal + Files<File = File> + Print + Threads>(
         Ok(p2p) => p2p,
         Err(failed) => return Err(after_opening(rt.alloc(), disk, failed)),
     };
-    let Ok(mut writer) = BufWriter::with_capacity(rt.alloc(), BUFFER, io::writer(rt)) else {
-        return Err(Failed::Code(Refusal::OutOfMemory));
-    };
+    let mut writer = buffered_writer(rt.alloc(), io::writer(rt))?;
     let mut p2p = Counted::new(&mut p2p);
     let mut writer = CountedWriter::new(&mut writer);
     let (outcome, _disk) = ask_counted(rt, rt.alloc(), disk, &mut p2p, delta, &mut writer);
@@ -136,13 +126,9 @@ pub fn run_check<R: AllocGlobal + Files<File = File> + Print>(
     ensures { IfOk result (λ done. done.delta ≡ None) }
 {
     let disk = open_store_to_read(rt, store)?;
-    let Ok(mut writer) = BufWriter::with_capacity(rt.alloc(), BUFFER, io::writer(rt)) else {
-        return Err(Failed::Code(Refusal::OutOfMemory));
-    };
+    let mut writer = buffered_writer(rt.alloc(), io::writer(rt))?;
     let mut writer = CountedWriter::new(&mut writer);
     let (outcome, _disk) = check_counted(rt.alloc(), disk, &mut writer);
-    match outcome {
-        Ok(()) => Ok(Done { delta: None }),
-        Err(failed) => Err(failed),
-    }
+    outcome?;
+    Ok(Done { delta: None })
 }

@@ -7,19 +7,13 @@ use std::os::unix::fs::symlink;
 use std::test::Fail;
 use std::{fs, process};
 
-const NAME: Option<&str> = Some("roadmark");
+const CREATE: &str = "create new.store six.gr six.ss";
 
-const CREATE: [Option<&str>; 5] = [
-    NAME,
-    Some("create"),
-    Some("new.store"),
-    Some("six.gr"),
-    Some("six.ss"),
-];
+const APPLY: &str = "apply new.store six.commands";
 
-const APPLY: [Option<&str>; 4] = [NAME, Some("apply"), Some("new.store"), Some("six.commands")];
+const ASK: &str = "ask new.store six.p2p";
 
-const ASK: [Option<&str>; 4] = [NAME, Some("ask"), Some("new.store"), Some("six.p2p")];
+const SERVE: &str = "serve new.store --workers 2";
 
 /// What each run opens before its own files.
 const STREAMS: &str = "read /dev/null\nread /dev/null\nread /dev/null\n";
@@ -31,16 +25,16 @@ fn files_are_opened_in_order(rt: HostRuntime) -> Result<(), Fail> {
     let id = process::id(rt.process());
     let name = format!(in rt.alloc(); "roadmark-order-{id}")?;
     let folder = new_folder(&rt, name.as_str())?;
-    let table: [(&'static [Option<&'static str>], &str); 3] = [
-        (&CREATE, "read six.gr\nread six.ss\nnew new.store\nread .\n"),
-        (&APPLY, "write new.store\nread six.commands\n"),
-        (&ASK, "read new.store\nread six.p2p\n"),
+    let table: [(&str, &str); 3] = [
+        (CREATE, "read six.gr\nread six.ss\nnew new.store\nread .\n"),
+        (APPLY, "write new.store\nread six.commands\n"),
+        (ASK, "read new.store\nread six.p2p\n"),
     ];
     for (words, opened) in table {
         let shell = Shell::new(&rt, folder.as_str(), words)?;
-        assert!(rt; program(&shell, rt) == 0, "{words:?}");
+        assert!(rt; program(&shell, rt) == 0, "{words}");
         let whole = format!(in rt.alloc(); "{STREAMS}{opened}")?;
-        assert!(rt; is_kept(&shell.opened, whole.as_str()), "{words:?}");
+        assert!(rt; is_kept(&shell.opened, whole.as_str()), "{words}");
     }
     fs::remove_dir_all(&rt, folder.as_str())?;
     Ok(())
@@ -53,15 +47,15 @@ fn a_store_in_use(rt: HostRuntime) -> Result<(), Fail> {
     let name = format!(in rt.alloc(); "roadmark-locks-{id}")?;
     let folder = new_folder(&rt, name.as_str())?;
     let path = format!(in rt.alloc(); "{}/new.store", folder.as_str())?;
-    assert_eq!(rt; program(&Shell::new(&rt, folder.as_str(), &CREATE)?, rt), 0);
+    assert_eq!(rt; program(&Shell::new(&rt, folder.as_str(), CREATE)?, rt), 0);
     let in_use = "roadmark: new.store: line 0: 10 Read\n";
     if let Ok(disk) = open_file(&rt, path.as_str()) {
-        let table: [&'static [Option<&'static str>]; 4] = [&CREATE, &APPLY, &ASK, &SERVE];
+        let table: [&str; 4] = [CREATE, APPLY, ASK, SERVE];
         for words in table {
             let shell = Shell::new(&rt, folder.as_str(), words)?;
             assert!(rt;
                 program(&shell, rt) == 1 && is_kept(&shell.err, in_use),
-                "{words:?}"
+                "{words}"
             );
         }
         assert_eq!(rt; disk.failed_calls(), 0);
@@ -69,15 +63,15 @@ fn a_store_in_use(rt: HostRuntime) -> Result<(), Fail> {
         assert!(rt; false, "the store is not opened");
     }
     if let Ok(disk) = open_to_read(&rt, path.as_str()) {
-        let table: [&'static [Option<&'static str>]; 2] = [&APPLY, &SERVE];
+        let table: [&str; 2] = [APPLY, SERVE];
         for words in table {
             let shell = Shell::new(&rt, folder.as_str(), words)?;
             assert!(rt;
                 program(&shell, rt) == 1 && is_kept(&shell.err, in_use),
-                "{words:?}"
+                "{words}"
             );
         }
-        let shell = Shell::new(&rt, folder.as_str(), &ASK)?;
+        let shell = Shell::new(&rt, folder.as_str(), ASK)?;
         assert!(rt; program(&shell, rt) == 0 && is_kept(&shell.out, "v 0\nd 1 6 15\nx 6 1\n"));
         assert_eq!(rt; disk.failed_calls(), 0);
     } else {
@@ -95,24 +89,24 @@ fn a_file_without_a_store(rt: HostRuntime) -> Result<(), Fail> {
     let folder = new_folder(&rt, name.as_str())?;
     let path = format!(in rt.alloc(); "{}/new.store", folder.as_str())?;
     let failed = "roadmark: 43 Device\n";
-    let mut unsynced = Shell::new(&rt, folder.as_str(), &CREATE)?;
+    let mut unsynced = Shell::new(&rt, folder.as_str(), CREATE)?;
     unsynced.absent = ".";
     assert!(rt; program(&unsynced, rt) == 1 && is_kept(&unsynced.err, failed));
     assert!(rt; fs::metadata(&rt, path.as_str()).is_err());
-    let mut blunt = Shell::new(&rt, folder.as_str(), &CREATE)?;
+    let mut blunt = Shell::new(&rt, folder.as_str(), CREATE)?;
     blunt.blunt = true;
     assert!(rt; program(&blunt, rt) == 1 && is_kept(&blunt.err, failed));
     assert!(rt; fs::metadata(&rt, path.as_str()).is_err());
     fs::write(&rt, path.as_str(), "")?;
-    let mut unsynced = Shell::new(&rt, folder.as_str(), &CREATE)?;
+    let mut unsynced = Shell::new(&rt, folder.as_str(), CREATE)?;
     unsynced.absent = ".";
     assert!(rt; program(&unsynced, rt) == 1 && is_kept(&unsynced.err, failed));
     assert_eq!(rt; fs::metadata(&rt, path.as_str())?.len(), 0);
-    let mut untold = Shell::new(&rt, folder.as_str(), &CREATE)?;
+    let mut untold = Shell::new(&rt, folder.as_str(), CREATE)?;
     untold.fails_at = 1;
     assert!(rt; program(&untold, rt) == 1 && is_kept(&untold.err, "roadmark: 12 Write\n"));
     assert_eq!(rt; fs::metadata(&rt, path.as_str())?.len(), 286720);
-    assert_eq!(rt; program(&Shell::new(&rt, folder.as_str(), &ASK)?, rt), 0);
+    assert_eq!(rt; program(&Shell::new(&rt, folder.as_str(), ASK)?, rt), 0);
     fs::remove_dir_all(&rt, folder.as_str())?;
     Ok(())
 }
@@ -130,7 +124,7 @@ fn a_link_to_a_new_store(rt: HostRuntime) -> Result<(), Fail> {
     fs::create_dir(&rt, inner.as_str())?;
     symlink(&rt, "inner/middle", link.as_str())?;
     symlink(&rt, made.as_str(), middle.as_str())?;
-    let shell = Shell::new(&rt, folder.as_str(), &CREATE)?;
+    let shell = Shell::new(&rt, folder.as_str(), CREATE)?;
     assert!(rt; program(&shell, rt) == 0 && is_kept(&shell.out, "ok 0\n"));
     let opened = format!(in rt.alloc();
         "{STREAMS}read six.gr\nread six.ss\nnew {}\nread {}\n",
@@ -139,7 +133,7 @@ fn a_link_to_a_new_store(rt: HostRuntime) -> Result<(), Fail> {
     )?;
     assert!(rt; is_kept(&shell.opened, opened.as_str()));
     assert_eq!(rt; fs::metadata(&rt, made.as_str())?.len(), 286720);
-    assert_eq!(rt; program(&Shell::new(&rt, folder.as_str(), &ASK)?, rt), 0);
+    assert_eq!(rt; program(&Shell::new(&rt, folder.as_str(), ASK)?, rt), 0);
     fs::remove_dir_all(&rt, folder.as_str())?;
     Ok(())
 }
@@ -156,26 +150,18 @@ fn lines_page_by_page(rt: HostRuntime) -> Result<(), Fail> {
         commands.push_str("set 1 17\n")?;
     }
     fs::write(&rt, path.as_str(), commands.as_str())?;
-    assert_eq!(rt; program(&Shell::new(&rt, folder.as_str(), &CREATE)?, rt), 0);
-    let shell = Shell::new(&rt, folder.as_str(), &APPLY)?;
+    assert_eq!(rt; program(&Shell::new(&rt, folder.as_str(), CREATE)?, rt), 0);
+    let shell = Shell::new(&rt, folder.as_str(), APPLY)?;
     assert_eq!(rt; program(&shell, rt), 0);
     // Of 253 lines 9 have 5 bytes, 90 have 6 and 154 have 7; 47 of 7 bytes follow.
     assert!(rt; have_sizes(&shell.writes, &[1663, 329]));
-    let mut cut = Shell::new(&rt, folder.as_str(), &APPLY)?;
+    let mut cut = Shell::new(&rt, folder.as_str(), APPLY)?;
     cut.fails_at = 2;
     assert!(rt; program(&cut, rt) == 1 && is_kept(&cut.err, "roadmark: 12 Write\n"));
     assert!(rt; !is_kept(&cut.out, ""));
     fs::remove_dir_all(&rt, folder.as_str())?;
     Ok(())
 }
-
-const SERVE: [Option<&str>; 5] = [
-    NAME,
-    Some("serve"),
-    Some("new.store"),
-    Some("--workers"),
-    Some("2"),
-];
 
 /// How many commands a long session has.
 const COMMANDS: u32 = 1000;
@@ -186,7 +172,7 @@ fn a_session_over_a_file(rt: HostRuntime) -> Result<(), Fail> {
     let id = process::id(rt.process());
     let name = format!(in rt.alloc(); "roadmark-session-{id}")?;
     let folder = new_folder(&rt, name.as_str())?;
-    assert_eq!(rt; program(&Shell::new(&rt, folder.as_str(), &CREATE)?, rt), 0);
+    assert_eq!(rt; program(&Shell::new(&rt, folder.as_str(), CREATE)?, rt), 0);
     let mut lines = String::new(rt.alloc());
     let mut answers = String::new(rt.alloc());
     for number in 1..=COMMANDS {
@@ -196,18 +182,33 @@ fn a_session_over_a_file(rt: HostRuntime) -> Result<(), Fail> {
     }
     lines.push_str("wait\ndist 1 6\nhello\nquit\nset 8 5\n")?;
     answers.push_str("v 1000\nv 1000\nd 1 6 14\nno 1\n")?;
-    let mut served = Shell::new(&rt, folder.as_str(), &SERVE)?;
+    let mut served = Shell::new(&rt, folder.as_str(), SERVE)?;
     served.input = lines.as_bytes();
     assert!(rt; program(&served, rt) == 0 && is_kept(&served.err, ""));
     assert!(rt; is_kept(&served.out, answers.as_str()));
-    let asked = Shell::new(&rt, folder.as_str(), &ASK)?;
+    let asked = Shell::new(&rt, folder.as_str(), ASK)?;
     assert!(rt; program(&asked, rt) == 0 && is_kept(&asked.out, "v 1000\nd 1 6 14\nx 6 1\n"));
-    let mut cut = Shell::new(&rt, folder.as_str(), &SERVE)?;
+    let mut cut = Shell::new(&rt, folder.as_str(), SERVE)?;
     cut.input = b"close 7\nclose 8\n";
     cut.fails_at = 1;
     assert!(rt; program(&cut, rt) == 1 && is_kept(&cut.err, "roadmark: 12 Write\n"));
-    let behind = Shell::new(&rt, folder.as_str(), &ASK)?;
+    let behind = Shell::new(&rt, folder.as_str(), ASK)?;
     assert!(rt; program(&behind, rt) == 0 && is_kept(&behind.out, "v 1001\nd 1 6 14\nx 6 1\n"));
+    fs::remove_dir_all(&rt, folder.as_str())?;
+    Ok(())
+}
+
+/// A short session over a new store.
+#[test]
+fn a_short_session(rt: HostRuntime) -> Result<(), Fail> {
+    let id = process::id(rt.process());
+    let name = format!(in rt.alloc(); "roadmark-short-{id}")?;
+    let folder = new_folder(&rt, name.as_str())?;
+    assert_eq!(rt; program(&Shell::new(&rt, folder.as_str(), CREATE)?, rt), 0);
+    let mut served = Shell::new(&rt, folder.as_str(), "serve new.store")?;
+    served.input = b"close 7\nwait\ndist 1 6\nhello\nquit\n";
+    assert!(rt; program(&served, rt) == 0 && is_kept(&served.err, ""));
+    assert!(rt; is_kept(&served.out, "ok 1\nv 1\nv 1\nd 1 6 22\nno 1\n"));
     fs::remove_dir_all(&rt, folder.as_str())?;
     Ok(())
 }

@@ -1,5 +1,5 @@
 -- The store is that of the disk, as it was opened, and the closed desk is that of this store.
-use Rattle.std.proofs.Common.{◌≡◌, ◌∙◌, ℕ, List, Result, Ok, Err, IfOk, sym, subst}
+use Rattle.std.proofs.Common.{◌≡◌, ◌∙◌, ℕ, List, Result, Ok, Err, IfOk, sym, subst, inl}
 use Rattle.std.specs.Prelude.{IfSome}
 use Rattle.roadnet.specs.declared.refusals.Refusal.{Refusal}
 use Rattle.roadnet.specs.Net.{Net}
@@ -55,3 +55,6 @@ returns-clause-left g c came =
     let same = c.in-Ok.ensures.same came.0 in
     c.serve_store.ensures.left (subst (CameTidy g.D.Disk.honest g.D.Disk.content) (sym c.in-Ok.ensures.given)
     (c.in-Ok.ensures.honest.0.1 came.0, subst IsTidy (sym same.same_content) came.1))
+
+pub returns-in-Err-clause-refused : goal.returns-in-Err-clause-refused
+returns-in-Err-clause-refused g c = inl (c.in-Err.ensures.causes, c.in-Err.ensures.judged)

@@ -55,7 +55,8 @@ fn is_alone(snapshot: &Snapshot, nodes: &[u32]) -> bool
 /// A search under way: the least value found so far for each node, and the nodes whose legs are still to be relaxed, in buckets by
 /// that value.
 ///
-/// It begins with `start`, and goes on by `take_bucket` and `settle` in turn, until no bucket is left; `run` does so.
+/// It begins with `start`, and goes on by `take_bucket` and `settle` in turn, until no bucket is left; `run` does so. After an `Err` it is not
+/// used again.
 #[derive(Drop)]
 pub struct Search<Q> {
     pub(crate) tentative: Tentative,

@@ -10,7 +10,7 @@ use std::fmt;
 #[derive(Clone, Copy, Debug, PartialEq, Eq)]
 pub enum Failed {
     /// A text has a fault. `which` is 0 for the call's first text and 1 for its second; in the joint form 0 is the network and 1 the
-    /// script.
+    /// script, and in the program 2 is the store's file.
     Text { which: u8, fault: Fault },
     /// Any other refusal.
     Code(Refusal),

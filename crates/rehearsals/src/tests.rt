@@ -72,72 +72,74 @@ fn joint_texts(rt: HostRuntime) {
     }
 }
 
+/// Scripts on new stores of 64 journal pages: a name, the network, the script and what is told.
+const DEFAULT_JOURNAL: [(&str, &[u8], &[u8], &[u8]); 11] = [
+    (
+        "no_walk_itself_no_node",
+        SIX,
+        b"dist 6 1\ndist 4 4\ndist 1 7\n",
+        b"v 0\nx 6 1\nv 0\nd 4 4 0\nv 0\nno 24\n",
+    ),
+    (
+        "closed_arc_lengthens",
+        SIX,
+        CLOSED,
+        b"t 1\nok 1\nv 0\nd 1 6 15\ntask 1\nshown 1\nv 1\nd 1 6 22\n",
+    ),
+    (
+        "shorter_length_shortens",
+        SIX,
+        b"close 7\nflush\ndist 1 6\ntask\npublish\ndist 1 6\nset 8 4\nflush\ntask\npublish\ndist 1 6\nreopen 7\nflush\ntask\npublish\ndist 1 6\n",
+        b"t 1\nok 1\nv 0\nd 1 6 15\ntask 1\nshown 1\nv 1\nd 1 6 22\nt 2\nok 2\ntask 2\nshown 2\nv 2\nd 1 6 14\nt 3\nok 3\ntask 3\nshown 3\nv 3\nd 1 6 14\n",
+    ),
+    (
+        "second_close_refused",
+        SIX,
+        b"close 7\nclose 7\nflush\nflush\n",
+        b"t 1\nno 22\nok 1\nno 53\n",
+    ),
+    (
+        "refusals_of_commands",
+        SIX,
+        b"set 9 1\nset 1 2147483648\nset 9 2147483648\nmark 7\nunmark 3\nreopen 7\n",
+        b"no 20\nno 21\nno 20\nno 24\nno 26\nno 23\n",
+    ),
+    (
+        "greatest_lengths",
+        b"p sp 4 3\na 1 2 2147483647\na 2 3 2147483647\na 3 4 2147483647\n",
+        b"dist 1 4\n",
+        b"v 0\nd 1 4 6442450941\n",
+    ),
+    (
+        "parallel_arcs_and_loops",
+        PARALLEL,
+        b"dist 1 2\nclose 2\nflush\ntask\npublish\ndist 1 2\n",
+        b"v 0\nd 1 2 3\nt 1\nok 1\ntask 1\nshown 1\nv 1\nd 1 2 5\n",
+    ),
+    (
+        "stop_within_checkpoint",
+        SIX,
+        b"close 7\nflush\nstop 4 old checkpoint\ndist 1 6\nstop 4 new checkpoint\ndist 1 6\n",
+        b"t 1\nok 1\nstopped\nv 1\nv 1\nd 1 6 22\nstopped\nv 1\nv 1\nd 1 6 22\n",
+    ),
+    (
+        "bounds_and_rows",
+        SIX,
+        b"mark 3\nflush\ntask\npublish\nlower 5 6\ndist 5 6\nlower 5 1\nfrom 3 4\nfrom 1 4\n",
+        b"t 1\nok 1\ntask 1\nshown 1\nv 1\nb 5 6 5\nv 1\nd 5 6 5\nv 1\nx 5 1\nv 1\nd 3 4 2\nv 1\nno 26\n",
+    ),
+    (
+        "bounds_of_two_landmarks",
+        SIX,
+        b"mark 1\nmark 3\nflush\ntask\npublish\nlower 1 6\nlower 5 2\nlower 4 1\n",
+        b"t 1\nt 2\nok 2\ntask 2\nshown 2\nv 2\nb 1 6 15\nv 2\nb 5 2 0\nv 2\nx 4 1\n",
+    ),
+    ("no_events", SIX, b"# none\n", b""),
+];
+
 #[test]
 fn scripts_of_the_default_journal(rt: HostRuntime) {
-    let table: [(&str, &[u8], &[u8], &[u8]); 11] = [
-        (
-            "no_walk_itself_no_node",
-            SIX,
-            b"dist 6 1\ndist 4 4\ndist 1 7\n",
-            b"v 0\nx 6 1\nv 0\nd 4 4 0\nv 0\nno 24\n",
-        ),
-        (
-            "closed_arc_lengthens",
-            SIX,
-            CLOSED,
-            b"t 1\nok 1\nv 0\nd 1 6 15\ntask 1\nshown 1\nv 1\nd 1 6 22\n",
-        ),
-        (
-            "shorter_length_shortens",
-            SIX,
-            b"close 7\nflush\ndist 1 6\ntask\npublish\ndist 1 6\nset 8 4\nflush\ntask\npublish\ndist 1 6\nreopen 7\nflush\ntask\npublish\ndist 1 6\n",
-            b"t 1\nok 1\nv 0\nd 1 6 15\ntask 1\nshown 1\nv 1\nd 1 6 22\nt 2\nok 2\ntask 2\nshown 2\nv 2\nd 1 6 14\nt 3\nok 3\ntask 3\nshown 3\nv 3\nd 1 6 14\n",
-        ),
-        (
-            "second_close_refused",
-            SIX,
-            b"close 7\nclose 7\nflush\nflush\n",
-            b"t 1\nno 22\nok 1\nno 53\n",
-        ),
-        (
-            "refusals_of_commands",
-            SIX,
-            b"set 9 1\nset 1 2147483648\nset 9 2147483648\nmark 7\nunmark 3\nreopen 7\n",
-            b"no 20\nno 21\nno 20\nno 24\nno 26\nno 23\n",
-        ),
-        (
-            "greatest_lengths",
-            b"p sp 4 3\na 1 2 2147483647\na 2 3 2147483647\na 3 4 2147483647\n",
-            b"dist 1 4\n",
-            b"v 0\nd 1 4 6442450941\n",
-        ),
-        (
-            "parallel_arcs_and_loops",
-            PARALLEL,
-            b"dist 1 2\nclose 2\nflush\ntask\npublish\ndist 1 2\n",
-            b"v 0\nd 1 2 3\nt 1\nok 1\ntask 1\nshown 1\nv 1\nd 1 2 5\n",
-        ),
-        (
-            "stop_within_checkpoint",
-            SIX,
-            b"close 7\nflush\nstop 4 old checkpoint\ndist 1 6\nstop 4 new checkpoint\ndist 1 6\n",
-            b"t 1\nok 1\nstopped\nv 1\nv 1\nd 1 6 22\nstopped\nv 1\nv 1\nd 1 6 22\n",
-        ),
-        (
-            "bounds_and_rows",
-            SIX,
-            b"mark 3\nflush\ntask\npublish\nlower 5 6\ndist 5 6\nlower 5 1\nfrom 3 4\nfrom 1 4\n",
-            b"t 1\nok 1\ntask 1\nshown 1\nv 1\nb 5 6 5\nv 1\nd 5 6 5\nv 1\nx 5 1\nv 1\nd 3 4 2\nv 1\nno 26\n",
-        ),
-        (
-            "bounds_of_two_landmarks",
-            SIX,
-            b"mark 1\nmark 3\nflush\ntask\npublish\nlower 1 6\nlower 5 2\nlower 4 1\n",
-            b"t 1\nt 2\nok 2\ntask 2\nshown 2\nv 2\nb 1 6 15\nv 2\nb 5 2 0\nv 2\nx 4 1\n",
-        ),
-        ("no_events", SIX, b"# none\n", b""),
-    ];
-    for (name, gr, script, want) in table {
+    for (name, gr, script, want) in DEFAULT_JOURNAL {
         is_rehearsed(&rt, name, gr, 64, script, want);
     }
 }

@@ -20,7 +20,7 @@ const VERSION: u64 = 0;
 /// Answers queries of one network by delta-stepping. The arcs are grouped at the first query that needs a row, and a cache keeps the
 /// rows of the sources asked last.
 ///
-/// It takes 8 bytes an open arc and 8 a node, 8 a node for each row, and while a row is made what `deltastep::row` takes.
+/// It takes 8 bytes an open arc and 8 a node, 8 a node for each row, and 14 to 27 a node that one search leaves to the next.
 #[derive(Drop)]
 pub struct Searches {
     delta: Option<u32>,

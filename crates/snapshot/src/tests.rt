@@ -53,9 +53,8 @@ fn has_parts(snapshot: &Snapshot, part: Part, want: &[&[(u32, u32)]]) -> bool {
 
 #[test]
 fn parts_of_the_six_node_network(rt: HostRuntime) -> Result<(), Refusal> {
-    let network = six(rt.alloc())?;
     let none: &[(u32, u32)] = &[];
-    let snapshot = Snapshot::build(rt.alloc(), &network, 5)?;
+    let snapshot = Snapshot::build(rt.alloc(), &six(rt.alloc())?, 5)?;
     let light: [&[(u32, u32)]; 6] = [
         none,
         &[(4, 2)],
@@ -73,7 +72,14 @@ fn parts_of_the_six_node_network(rt: HostRuntime) -> Result<(), Refusal> {
     assert!(rt;
         snapshot.light(u32::MAX).is_empty() && !snapshot.has_node(0) && !snapshot.has_node(7)
     );
+    Ok(())
+}
 
+/// By the least width the arcs of length 0 alone are light, and by the greatest all are.
+#[test]
+fn parts_by_the_least_and_greatest_width(rt: HostRuntime) -> Result<(), Refusal> {
+    let network = six(rt.alloc())?;
+    let none: &[(u32, u32)] = &[];
     let snapshot = Snapshot::build(rt.alloc(), &network, 1)?;
     let light: [&[(u32, u32)]; 6] = [none, none, &[(5, 0)], &[(3, 0)], &[(2, 0)], none];
     let heavy: [&[(u32, u32)]; 6] = [
@@ -87,7 +93,6 @@ fn parts_of_the_six_node_network(rt: HostRuntime) -> Result<(), Refusal> {
     assert!(rt;
         has_parts(&snapshot, Part::Light, &light) && has_parts(&snapshot, Part::Heavy, &heavy)
     );
-
     let snapshot = Snapshot::build(rt.alloc(), &network, 2147483647)?;
     let light: [&[(u32, u32)]; 6] = [
         &[(2, 17), (3, 10)],

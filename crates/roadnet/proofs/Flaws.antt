@@ -92,11 +92,12 @@ module _ (nodes : ℕ) (arcs : List RoadArc) (landmarks : List ℕ) where
       }
 
   -- the refusal of `collect`, where all tests before it passed
-  pub flaw-collected : is_node_count nodes ≡ true → length arcs ≤ 67108864 → has_long_arc arcs ≡ false → (has_stray_end nodes arcs || has_stray_landmark nodes landmarks) ≡ false → (refusal : Refusal) → ((refusal ≡ TooManyLandmarks) × (1000 < length (set_of landmarks))) ⊎ (refusal ≡ OutOfMemory) → MayRefuseParts nodes arcs landmarks refusal
+  pub flaw-collected : is_node_count nodes ≡ true → length arcs ≤ 67108864 → has_long_arc arcs ≡ false → (has_stray_end nodes arcs || has_stray_landmark nodes landmarks) ≡ false → (refusal : Refusal) → ((refusal ≡ TooManyLandmarks) × (1000 < length (set_of landmarks))) ⊎ ((refusal ≡ OutOfMemory) × (0 < length landmarks)) → MayRefuseParts nodes arcs landmarks refusal
   flaw-collected count few long stray refusal (inl many) = inl (rw many.0 (flaw-landmarks count few long stray many.1))
   flaw-collected count few long stray refusal (inr memory) =
       inr (
-        memory,
+        memory.0,
+        memory.1,
         ⊎_elim (λ (many : 1000 < length (set_of landmarks)). inr (flaw-landmarks count few long stray many)) (λ (fit : length (set_of landmarks) ≤ 1000). inl (flaw-none count few long stray fit))
             (cases_lt 1000 (length (set_of landmarks))),
       )

@@ -1,5 +1,5 @@
 -- Of what a network can be made.
-use Rattle.std.specs.Prelude.{◌≡◌, ◌⊎◌, Some, None, ℕ, Bool, List, [], ◌∷◌, Option, length, nat_le, nat_lt, not, ◌&&◌, ◌||◌}
+use Rattle.std.specs.Prelude.{◌≡◌, ◌⊎◌, ◌<◌, Some, None, ℕ, Bool, List, [], ◌∷◌, Option, length, nat_le, nat_lt, not, ◌&&◌, ◌||◌}
 use Rattle.std.specs.List.{list_any}
 use Rattle.roadnet.specs.declared.arcs.RoadArc.{RoadArc}
 use Rattle.roadnet.specs.declared.refusals.Refusal.{Refusal}
@@ -45,8 +45,8 @@ flaws nodes arcs landmarks =
 abbrev pub flaw_of : ℕ → List RoadArc → List ℕ → Option Refusal
 flaw_of nodes arcs landmarks = first_applying (flaws nodes arcs landmarks)
 
--- with what `Network::new` may refuse: the parts' flaw; or want of memory, where the nodes and arcs are in order
+-- with what `Network::new` may refuse: the parts' flaw; or want of memory for landmarks, where some are given and the nodes and arcs are in order
 abbrev pub MayRefuseParts : ℕ → List RoadArc → List ℕ → Refusal → Type 0
 MayRefuseParts nodes arcs landmarks refusal =
     (flaw_of nodes arcs landmarks ≡ Some refusal)
-    ⊎ ((refusal ≡ OutOfMemory) × ((flaw_of nodes arcs landmarks ≡ None) ⊎ (flaw_of nodes arcs landmarks ≡ Some TooManyLandmarks)))
+    ⊎ ((refusal ≡ OutOfMemory) × (0 < length landmarks) × ((flaw_of nodes arcs landmarks ≡ None) ⊎ (flaw_of nodes arcs landmarks ≡ Some TooManyLandmarks)))

@@ -103,7 +103,7 @@ impl Network {
     ///
     /// Refused, lowest number first, are a count of nodes that is not 1 to 33,554,432 (5), too many arcs (9), a length above
     /// 2147483647 (21), an end of an arc or a landmark that is no node (24), more than 1,000 landmarks (27); and, where none of the
-    /// first four holds, want of memory for the landmarks (11).
+    /// first four holds and a landmark is given, want of memory for the landmarks (11).
     ///
     /// With six nodes and the arcs of `examples/six.gr`, the landmarks 6, 3 and 6 make a network with the landmarks 3 and 6; the landmark 7 is
     /// refused with `NoSuchNode`, and so is an arc from 1 to 7.

@@ -102,5 +102,5 @@ pub for_memory : (h : Header) (arcs : List RoadArc) (head : Head) (refusal : Ref
 for_memory h arcs head refusal fits is count ends words may =
     ⊎_elim
     (λ (flaw : flaw_of h.nodes arcs head.landmarks ≡ Some refusal). absurd (is_not_some refusal (sym (no_flaw h arcs head fits is count ends words) ∙ flaw)))
-    (λ (memory : (refusal ≡ OutOfMemory) × ((flaw_of h.nodes arcs head.landmarks ≡ None) ⊎ (flaw_of h.nodes arcs head.landmarks ≡ Some TooManyLandmarks))). memory.0)
+    (λ (memory : (refusal ≡ OutOfMemory) × (0 < length head.landmarks) × ((flaw_of h.nodes arcs head.landmarks ≡ None) ⊎ (flaw_of h.nodes arcs head.landmarks ≡ Some TooManyLandmarks))). memory.0)
     may

@@ -1,5 +1,6 @@
 -- A line of a command text that is read from left to right has the lowest code that applies to it, or is the command that it says.
-use Rattle.std.proofs.Common.{◌≡◌, ◌∙◌, ℕ, Bool, true, false, ◌||◌, cond, List, [], ◌∷◌, ◌++◌, Option, None, Some, Result, Ok, Err, length, ltb, refl, sym, ap, subst, inl, inr, arith}
+use Rattle.std.proofs.Common.{◌≡◌, ◌∙◌, ℕ, Bool, true, false, ◌||◌, cond, List, [], ◌∷◌, ◌++◌, None, Some, Result, Ok, Err, length, ltb, refl, sym, ap, subst, inl, inr, arith}
+use Rattle.std.specs.List.{find}
 use Rattle.std.proofs.lemmas.Bool.{or_parts, eqb-true, lt-ltb}
 use Rattle.std.proofs.lemmas.List.{append-nil}
 use lib.Chars.{codes}
@@ -11,7 +12,7 @@ use Rattle.dimacs.specs.declared.fault.Code.TheVariants.{BadLine, NumberRange, R
 use Rattle.dimacs.specs.declared.numeral.Numeral.{Numeral}
 use Rattle.dimacs.specs.declared.words.OneNumber.{OneNumber}
 use Rattle.dimacs.specs.declared.words.OneNumber.TheVariants.{Close, Reopen, Mark, Unmark}
-use Rattle.dimacs.specs.Commands.{form, commands, form_of, is_refused, command_applies, command_code}
+use Rattle.dimacs.specs.Commands.{Form, form, commands, form_of, is_refused, command_applies, command_code}
 use Rattle.dimacs.specs.Commanded.{command_of, commands_in}
 use Rattle.dimacs.specs.CommandReading.{number_read, numbers_read, ReadsLine, HasCommands}
 use Rattle.dimacs.specs.Content.{size_at}
@@ -20,7 +21,7 @@ use Rattle.dimacs.specs.Numerals.{numeral, kept}
 use Rattle.dimacs.specs.Reading.{one_numeral, two_numerals}
 use Rattle.dimacs.specs.Spelling.{one_spelling, one_command}
 use Rattle.dimacs.specs.Taking.{Takes}
-use Rattle.dimacs.proofs.Items.{kept_is, unreadable_kept, filter_map_push, or-false, by_memory}
+use Rattle.dimacs.proofs.Items.{kept_is, unreadable_kept, filter_map_push, or-false, IsOfTable, found_of_table, told}
 use Rattle.dimacs.proofs.NodeRows.{one_cases}
 use Rattle.dimacs.proofs.Problems.{two_cases}
 
@@ -187,25 +188,19 @@ pub takes_command : (earlier : List Row) (row : Row) (command : Command) (old ne
     → new.commands.items ≡ old.commands.items ++ command ∷ [] → Takes (command_code commands) HasCommands earlier row new (Ok tt)
 takes_command earlier row command old new reads has pushed = (reads.0 earlier, pushed ∙ rw has (sym (filter_map_push command_of earlier row ∙ rw reads.1 refl)))
 
--- the code of a failed read is no code of the table
-other_code : (b : Bool) (c : Code) (o : Option Code) → (Some c ≡ Some Read → ⊥) → cond b (Some c) o ≡ Some Read → o ≡ Some Read
-other_code true c o other e = absurd (other e)
-other_code false c o other e = e
-
-ignored_or : (b : Bool) (o : Option Code) → cond b None o ≡ Some Read → o ≡ Some Read
-ignored_or true o e = absurd (let absurdity : ⊥ = cc in absurdity)
-ignored_or false o e = e
+pub code_of_table : (forms : List Form) (earlier : List Row) (row : Row) (code : Code) → command_code forms earlier row ≡ Some code → IsOfTable code
+unfolding command_code
+code_of_table forms earlier row code e = listed (is_empty row || is_remark 35 row) e
+  where
+    listed : (b : Bool) → cond b None (find (command_applies forms row) (BadLine ∷ NumberRange ∷ [])) ≡ Some code → IsOfTable code
+    listed true e = absurd (let absurdity : ⊥ = cc in absurdity)
+    listed false e = found_of_table (command_applies forms row) (BadLine ∷ NumberRange ∷ []) code (tt, (tt, tt)) e
 
 pub never_read : (row : Row) → command_code commands [] row ≡ Some Read → ⊥
-unfolding command_code
-never_read row e =
-    let listed = ignored_or (is_empty row || is_remark 35 row) _ e in
-    let e1 = other_code (command_applies commands row BadLine) BadLine _ (λ s. cc) listed in
-    let e2 = other_code (command_applies commands row NumberRange) NumberRange _ (λ s. cc) e1 in
-    cc
+never_read row e = code_of_table commands [] row Read e
 
 pub takes_fault : (earlier : List Row) (row : Row) (code : Code) (taken : CommandLines) → ReadsLine row (Err code) → Takes (command_code commands) HasCommands earlier row taken (Err code)
-takes_fault earlier row code taken reads = by_memory code (reads earlier) (λ e. never_read row (reads [] ∙ ap Some e)) tt
+takes_fault earlier row code taken reads = told (command_code commands) earlier row code (code_of_table commands earlier row code (reads earlier)) (reads earlier)
 
 or_right : (a b : Bool) → b ≡ true → (a || b) ≡ true
 or_right true b e = refl

@@ -1,5 +1,5 @@
 -- How far a text is read, line by line.
-use Rattle.std.proofs.Common.{◌≡◌, ◌≢◌, ℕ, suc, ◌+◌, ◌-◌, ◌<◌, ◌≤◌, ◌||◌, ◌&&◌, All, Bool, true, false, cond, inl, inr, List, [], ◌∷◌, ◌++◌, length, take, map, Option, Some, None, Ok, Err, refl, sym, ap, ◌∙◌, arith, append_assoc, drop, take-append-drop}
+use Rattle.std.proofs.Common.{◌≡◌, ◌≢◌, ℕ, suc, ◌+◌, ◌-◌, ◌<◌, ◌≤◌, ◌||◌, ◌&&◌, All, Bool, true, false, cond, inl, inr, List, [], ◌∷◌, ◌++◌, length, take, map, Option, Some, None, Ok, Err, refl, sym, ap, ◌∙◌, arith, append_assoc, drop}
 use Rattle.std.specs.Prelude.{⊤}
 use Rattle.std.specs.List.{count_by}
 use Rattle.std.specs.Option.{option_map}
@@ -14,13 +14,12 @@ use Rattle.dimacs.specs.declared.feed.Feed.{Feed}
 use Rattle.dimacs.specs.declared.feed.Ended.{Ended}
 use Rattle.dimacs.specs.declared.fault.Code.{Code}
 use Rattle.dimacs.specs.declared.fault.Code.TheVariants.{OutOfMemory}
-use Rattle.dimacs.specs.declared.fault.Fault.{Fault}
 use Rattle.dimacs.proofs.Items.{by_code_of, by_memory_of}
 use Rattle.dimacs.specs.Lines.{is_line_feed, lines, fields, rows}
 use Rattle.dimacs.specs.Faults.{Row, Judge, or_else, fault_at, first_fault}
 use Rattle.dimacs.specs.Joint.{is_run, before_run, after_run, has_run, taken_of, left_of}
 use Rattle.dimacs.specs.Taking.{Takes, ByCode, ByMemory}
-use Rattle.dimacs.specs.Ends.{TakenAll, BreaksOff, FailsIn, ReadAll}
+use Rattle.dimacs.specs.Ends.{TakenAll, RunsOut, BreaksOff, FailsIn, ReadAll}
 use Rattle.dimacs.specs.Progress.{StandsFor, TakesOrRuns, Within, BeforeRun, StopsAt}
 use Rattle.dimacs.proofs.Pieces.{line_before_feed, line_at_end, known_position, first_line, last_line}
 
@@ -103,6 +102,18 @@ breaks_off judge until earlier row later clean none =
       within = omega (arith, length-append earlier (row ∷ later));
       next = front_within until earlier (row ∷ later) none;
       clean = clean_front judge until earlier (row ∷ later) clean none;
+    }
+
+-- memory ran out for what the next line says
+pub runs_out : (judge : Judge) (earlier : List Row) (row : Row) (later : List Row) → first_fault judge [] earlier ≡ None → judge earlier row ≡ None
+    → RunsOut judge (earlier ++ row ∷ later) (length earlier + 1)
+runs_out judge earlier row later clean none =
+    let joined : earlier ++ row ∷ later ≡ (earlier ++ row ∷ []) ++ later = sym (append_assoc earlier (row ∷ []) later) in
+    let count : length earlier + 1 ≡ length (earlier ++ row ∷ []) = sym (length-append earlier (row ∷ [])) in
+    record {
+      first = omega arith;
+      within = omega (arith, length-append earlier (row ∷ later));
+      clean = rw (joined, count, take-append_seam (earlier ++ row ∷ []) later) (clean_more judge earlier row clean none);
     }
 
 -- The next line of what is left.
@@ -255,28 +266,6 @@ answered judge has_taken until earlier row new b b' e t = rw e at t
 
 -- What a text answers whose lines are taken.
 
-front_clean : (judge : Judge) (lines : List Row) (n : ℕ) → first_fault judge [] lines ≡ None → first_fault judge [] (take n lines) ≡ None
-front_clean judge lines n clean =
-    let split : first_fault judge [] (take n lines ++ drop n lines) ≡ None = ap (first_fault judge []) (take-append-drop n lines) ∙ clean in
-    first_none (first_fault judge [] (take n lines)) (first_fault judge (take n lines) (drop n lines)) (sym (first_fault-append judge [] (take n lines) (drop n lines)) ∙ split)
-  where
-    first_none : (a b : Option Fault) → or_else a b ≡ None → a ≡ None
-    first_none None b e = refl
-    first_none (Some x) b e = absurd cc
-
--- the end of the lines is one of them
-pub breaks_at_end : (judge : Judge) (all lines : List Row) → first_fault judge [] lines ≡ None → 0 < length lines → length lines ≤ length all → BreaksOff judge all lines (length lines)
-breaks_at_end judge all lines clean some within = record { first = some; within = within; next = omega arith; clean = front_clean judge lines (length lines - 1) clean }
-
-pub taken_within : (until : Bool) (lines : List Row) → length (taken_of until lines) ≤ length lines
-taken_within false lines = omega arith
-taken_within true [] = omega arith
-taken_within true (row ∷ more) = at (is_run row) (taken_within true more)
-  where
-    at : (b : Bool) → length (before_run more) ≤ length more → length (cond b [] (row ∷ before_run more)) ≤ length (row ∷ more)
-    at true h = omega arith
-    at false h = omega arith
-
 taken_all : (until : Bool) (lines : List Row) → (until ≡ true → has_run lines ≡ false) → taken_of until lines ≡ lines
 taken_all false lines none = refl
 taken_all true lines none = sym (ap before_run (append-nil lines)) ∙ before_run-append lines [] (none refl) ∙ append-nil lines
@@ -371,12 +360,12 @@ module _ {S : Type 0} (judge : Judge) (has_taken : List Row → S → Type 0) (t
 
   pub stops : (rest line more : List ℕ) (n : ℕ) (old new : S) (code : Code) → (far : SoFar judge has_taken text rest n old) → lines rest ≡ line ∷ lines more
       → Takes judge has_taken far.earlier (fields line) new (Err code)
-      → ByMemory code (first_fault judge [] (rows text) ≡ Some (fault_at (n + 1) code)) (BreaksOff judge (rows text) (rows text) (n + 1))
+      → ByMemory code (first_fault judge [] (rows text) ≡ Some (fault_at (n + 1) code)) (RunsOut judge (rows text) (n + 1))
   stops rest line more n old new code far e takes =
       let whole : rows text ≡ far.earlier ++ fields line ∷ rows more = far.whole ∙ ap (λ (l : List (List ℕ)). far.earlier ++ map fields l) e in
       by_memory_of code takes
       (λ found. rw (whole, ← far.count) (fault_next judge far.earlier (fields line) (rows more) code far.clean found))
-      (λ _. rw (whole, ← far.count) (breaks_off judge false far.earlier (fields line) (rows more) far.clean (λ u. absurd cc)))
+      (λ none. rw (whole, ← far.count) (runs_out judge far.earlier (fields line) (rows more) far.clean none))
 
   pub all_parsed : (rest : List ℕ) (n : ℕ) (taker : S) (ended : Ended S) → SoFar judge has_taken text rest n taker → lines rest ≡ [] → ended.taker ≡ taker → ended.lines ≡ n
       → TakenAll judge has_taken (rows text) ended

@@ -1,6 +1,6 @@
 -- An item line read from left to right has the lowest code that applies to it.
-use Rattle.std.proofs.Common.{◌≡◌, ℕ, ◌+◌, ◌-◌, ◌^◌, ◌≤◌, Bool, true, false, ◌||◌, cond, eqb, leb, List, [], ◌∷◌, ◌++◌, length, Option, Some, None, Result, Ok, Err, min, refl, sym, ap, ◌∙◌, arith, inl, inr, ◌⊎◌}
-use Rattle.std.specs.Prelude.{is_none}
+use Rattle.std.proofs.Common.{◌≡◌, ℕ, ◌+◌, ◌-◌, ◌^◌, ◌≤◌, Bool, true, false, ◌||◌, cond, eqb, leb, List, [], ◌∷◌, ◌++◌, length, Option, Some, None, Result, Ok, Err, min, refl, sym, ap, subst, ◌∙◌, arith, inl, inr, ◌⊎◌}
+use Rattle.std.specs.Prelude.{is_none, ⊤}
 use Rattle.std.proofs.lemmas.Bool.{cases_Bool, ne_eqb, or_parts, ltb-false}
 use Rattle.std.proofs.lemmas.Bool.Decides.{nat_tests}
 use lib.Chars.{codes}
@@ -12,10 +12,10 @@ use Rattle.dimacs.specs.declared.fault.Code.TheVariants.{BadLine, NoProblemLine,
 use Rattle.roadnet.specs.Net.{longest_arc}
 use Rattle.dimacs.specs.Format.{Format, gr}
 use Rattle.dimacs.specs.Numerals.{numeral, kept}
-use Rattle.dimacs.specs.Faults.{Row, or_else, is_item, is_problem, is_malformed, is_unreadable, problem_of, announced, announced_items, nodes_of, items_of, applies, code_of}
+use Rattle.dimacs.specs.Faults.{Row, Judge, or_else, is_item, is_problem, is_malformed, is_unreadable, problem_of, announced, announced_items, nodes_of, items_of, applies, line_codes, code_of}
 use Rattle.dimacs.specs.Reading.{three_numerals, is_outside, arc_of_numerals, item_after}
 use Rattle.dimacs.specs.Content.{arc_from, arc_of}
-use Rattle.std.specs.List.{filter_map, cons_option, find}
+use Rattle.std.specs.List.{filter_map, cons_option, find, AllByRecursion}
 use Rattle.std.proofs.lemmas.List.{length-append}
 use Rattle.std.proofs.lemmas.List.Sums.{sum_by_push}
 use Rattle.dimacs.specs.declared.gr_lines.GrLines.{GrLines}
@@ -184,12 +184,25 @@ announced_kept earlier row e = rw (problem_kept earlier row e) refl
 pub items_push : (earlier : List Row) (row : Row) → items_of gr (earlier ++ row ∷ []) ≡ items_of gr earlier + cond (is_item gr row) 1 0
 items_push earlier row = sum_by_push (λ x. cond (is_item gr x) 1 0) earlier row
 
+right_item : (earlier : List Row) (numbers : Row) (arc : RoadArc) (old : GrLines) → HasTaken earlier old
+    → item_after old.problem (length old.arcs.items) (three_numerals numbers) ≡ Ok arc → (code_of gr earlier (codes "a" ∷ numbers) ≡ None) × (arc_from numbers ≡ arc)
+right_item earlier numbers arc old taken e =
+    let read : or_code (code_of gr earlier (codes "a" ∷ numbers)) (arc_from numbers) ≡ Ok arc = item_row earlier old.problem numbers taken.problem taken.counts ∙ rw taken.items e in
+    from_code (code_of gr earlier (codes "a" ∷ numbers)) (arc_from numbers) arc read
+  where
+    from_code : (o : Option Code) (x arc : RoadArc) → or_code o x ≡ Ok arc → (o ≡ None) × (x ≡ arc)
+    from_code None x arc e = (refl, cc)
+    from_code (Some code) x arc e = absurd cc
+
+pub item_stands : (earlier : List Row) (numbers : Row) (arc : RoadArc) (old : GrLines) → HasTaken earlier old
+    → item_after old.problem (length old.arcs.items) (three_numerals numbers) ≡ Ok arc → code_of gr earlier (codes "a" ∷ numbers) ≡ None
+item_stands earlier numbers arc old taken e = (right_item earlier numbers arc old taken e).0
+
 pub takes_item : (earlier : List Row) (numbers : Row) (arc : RoadArc) (old new : GrLines) → HasTaken earlier old
     → item_after old.problem (length old.arcs.items) (three_numerals numbers) ≡ Ok arc → new.problem ≡ old.problem → new.arcs.items ≡ old.arcs.items ++ arc ∷ []
     → Takes (code_of gr) HasTaken earlier (codes "a" ∷ numbers) new (Ok tt)
 takes_item earlier numbers arc old new taken e problem arcs =
-    let read : or_code (code_of gr earlier (codes "a" ∷ numbers)) (arc_from numbers) ≡ Ok arc = item_row earlier old.problem numbers taken.problem taken.counts ∙ rw taken.items e in
-    let right = from_code (code_of gr earlier (codes "a" ∷ numbers)) (arc_from numbers) arc read in (
+    let right = right_item earlier numbers arc old taken e in (
       right.0,
       record {
         problem = rw (problem_kept earlier (codes "a" ∷ numbers) refl, problem) taken.problem;
@@ -198,10 +211,6 @@ takes_item earlier numbers arc old new taken e problem arcs =
         arcs = filter_map_push arc_of earlier (codes "a" ∷ numbers) ∙ rw (arcs, taken.arcs, right.1) refl;
       },
     )
-  where
-    from_code : (o : Option Code) (x arc : RoadArc) → or_code o x ≡ Ok arc → (o ≡ None) × (x ≡ arc)
-    from_code None x arc e = (refl, cc)
-    from_code (Some code) x arc e = absurd cc
 
 pub item_fault : (earlier : List Row) (numbers : Row) (code : Code) (old : GrLines) → HasTaken earlier old
     → item_after old.problem (length old.arcs.items) (three_numerals numbers) ≡ Err code → code_of gr earlier (codes "a" ∷ numbers) ≡ Some code
@@ -214,19 +223,6 @@ item_fault earlier numbers code old taken e =
     from_code (Some found) x code e = cc
 
 -- A fact that a code means.
-pub by_memory : {P Q : Type 0} (code : Code) → P → (code ≡ Read → ⊥) → Q → ByMemory code P Q
-by_memory BadLine p n q = p
-by_memory NoProblemLine p n q = p
-by_memory SecondProblemLine p n q = p
-by_memory WrongKind p n q = p
-by_memory NumberRange p n q = p
-by_memory NodeRange p n q = p
-by_memory LengthRange p n q = p
-by_memory LineCount p n q = p
-by_memory TooLarge p n q = p
-by_memory Read p n q = n refl
-by_memory OutOfMemory p n q = q
-
 pub by_code_of : {P P' Q Q' : Type 0} (F' : Type 0) (code : Code) → ByMemory code P Q → (P → P') → (Q → Q') → ByCode code P' F' Q'
 by_code_of F' BadLine m f g = f m
 by_code_of F' NoProblemLine m f g = f m
@@ -243,21 +239,22 @@ by_code_of F' OutOfMemory m f g = g m
 pub by_memory_of : {P P' Q Q' : Type 0} (code : Code) → ByMemory code P Q → (P → P') → (Q → Q') → ByMemory code P' Q'
 by_memory_of code m f g = by_code_of ⊥ code m f g
 
--- the code of a failed read is no code of the table
-other_code : (b : Bool) (c : Code) (o : Option Code) → (Some c ≡ Some Read → ⊥) → cond b (Some c) o ≡ Some Read → o ≡ Some Read
-other_code true c o other e = absurd (other e)
-other_code false c o other e = e
+-- A code of a table of faults: of no failed read, and not of want of memory.
+abbrev pub IsOfTable : Code → Type 0
+IsOfTable code = ByMemory code ⊤ ⊥
 
-pub never_read : (f : Format) (earlier : List Row) (row : Row) → code_of f earlier row ≡ Some Read → ⊥
+either_of_table : (b : Bool) (c : Code) (found : Option Code) (code : Code) → IsOfTable c → (found ≡ Some code → IsOfTable code) → cond b (Some c) found ≡ Some code → IsOfTable code
+either_of_table true c found code here later e = let same : c ≡ code = cc in subst IsOfTable same here
+either_of_table false c found code here later e = later e
+
+pub found_of_table : (test : Code → Bool) (codes : List Code) (code : Code) → AllByRecursion IsOfTable codes → find test codes ≡ Some code → IsOfTable code
+found_of_table test [] code all e = absurd cc
+found_of_table test (c ∷ cs) code all e = either_of_table (test c) c (find test cs) code all.0 (λ later. found_of_table test cs code all.1 later) e
+
+pub told : (judge : Judge) (earlier : List Row) (row : Row) (code : Code) → IsOfTable code → judge earlier row ≡ Some code → ByMemory code (judge earlier row ≡ Some code) (judge earlier row ≡ None)
+told judge earlier row code is found = by_memory_of code is (λ _. found) (λ never. absurd never)
+
+pub told_of_table : (f : Format) (earlier : List Row) (row : Row) (code : Code) → code_of f earlier row ≡ Some code → ByMemory code (code_of f earlier row ≡ Some code) (code_of f earlier row ≡ None)
 unfolding code_of
-never_read f earlier row e =
-    let e1 = other_code (applies f earlier row BadLine) BadLine _ (λ s. cc) e in
-    let e2 = other_code (applies f earlier row NoProblemLine) NoProblemLine _ (λ s. cc) e1 in
-    let e3 = other_code (applies f earlier row SecondProblemLine) SecondProblemLine _ (λ s. cc) e2 in
-    let e4 = other_code (applies f earlier row WrongKind) WrongKind _ (λ s. cc) e3 in
-    let e5 = other_code (applies f earlier row NumberRange) NumberRange _ (λ s. cc) e4 in
-    let e6 = other_code (applies f earlier row NodeRange) NodeRange _ (λ s. cc) e5 in
-    let e7 = other_code (applies f earlier row LengthRange) LengthRange _ (λ s. cc) e6 in
-    let e8 = other_code (applies f earlier row LineCount) LineCount _ (λ s. cc) e7 in
-    let e9 = other_code (applies f earlier row TooLarge) TooLarge _ (λ s. cc) e8 in
-    cc
+told_of_table f earlier row code e =
+    told (code_of f) earlier row code (found_of_table (applies f earlier row) line_codes code (tt, (tt, (tt, (tt, (tt, (tt, (tt, (tt, (tt, tt))))))))) e) e

@@ -1,5 +1,5 @@
 -- The network of lines that were taken, or their fault.
-use Rattle.std.proofs.Common.{◌≡◌, ℕ, Bool, false, List, [], ◌∷◌, length, Option, Some, None, Result, Ok, Err, refl, sym, ap, ◌∙◌, arith, le_refl}
+use Rattle.std.proofs.Common.{◌≡◌, ℕ, Bool, false, List, [], ◌∷◌, length, Option, Some, None, Result, Ok, Err, refl, sym, ap, ◌∙◌, arith}
 use Rattle.std.specs.Prelude.{◌≢◌, IfSome, IfErr}
 use Rattle.roadnet.specs.Net.{Net}
 use Rattle.dimacs.specs.declared.feed.Ended.{Ended}
@@ -13,12 +13,12 @@ use Rattle.dimacs.specs.Faults.{Row, code_of, first_fault, fault_at, end_code}
 use Rattle.dimacs.specs.Content.{content_of, network_of}
 use Rattle.dimacs.specs.Joint.{taken_of}
 use Rattle.dimacs.specs.Taking.{ByCode, ByMemory}
-use Rattle.dimacs.specs.Ends.{TakenAll, BreaksOff, FailsIn, ReadsLines}
+use Rattle.dimacs.specs.Ends.{TakenAll, RunsOut, BreaksOff, FailsIn, ReadsLines}
 use Rattle.dimacs.specs.Counts.{CountsFailures, one_more_failed}
 use Rattle.dimacs.specs.Gr.{ParsesGr, ReadsGr, ReadsUntil}
 use Rattle.dimacs.specs.Progress.{HasTaken, AtEnd}
 use Rattle.dimacs.proofs.Items.{by_code_of, by_memory_of}
-use Rattle.dimacs.proofs.Far.{breaks_at_end, taken_within, some_row}
+use Rattle.dimacs.proofs.Far.{some_row}
 
 content_ends : (rs : List Row) (fault : Fault) → first_fault (code_of gr) [] rs ≡ None → end_code gr rs ≡ Some fault.code → fault.line ≡ length rs → content_of rs ≡ Err fault
 content_ends rs fault clean e line = rw (clean, e) (ap (λ (n : ℕ). Err (fault_at n fault.code)) (sym line))
@@ -35,9 +35,9 @@ pub parsed_fault : (text : List ℕ) (ended : Ended GrLines) (fault : Fault) →
 parsed_fault text ended fault taken ends =
     let end = ends (rows text) taken.taken taken.count in
     by_memory_of fault.code end.0 (λ e. content_ends (rows text) fault taken.clean e end.1)
-    (λ some. rw end.1 (breaks_at_end (code_of gr) (rows text) (rows text) taken.clean some (le_refl _)))
+    (λ none. absurd none)
 
-pub told_fault : (text : List ℕ) (fault : Fault) → ByMemory fault.code (first_fault (code_of gr) [] (rows text) ≡ Some fault) (BreaksOff (code_of gr) (rows text) (rows text) fault.line) → ParsesGr text (Err fault)
+pub told_fault : (text : List ℕ) (fault : Fault) → ByMemory fault.code (first_fault (code_of gr) [] (rows text) ≡ Some fault) (RunsOut (code_of gr) (rows text) fault.line) → ParsesGr text (Err fault)
 told_fault text fault why = by_memory_of fault.code why (content_fault (rows text) fault) (λ b. b)
 
 pub parsed_net : (text : List ℕ) (ended : Ended GrLines) (found : Net × Bool) → TakenAll (code_of gr) HasTaken (rows text) ended
@@ -92,7 +92,7 @@ read_ends (Some text) left until ended (Err fault) read ends =
     let end = ends (taken_of until (rows text)) read.lines.taken read.lines.count in
     by_code_of (FailsIn (code_of gr) text (taken_of until (rows text)) left fault.line) fault.code end.0
     (λ e. content_ends (taken_of until (rows text)) fault read.lines.clean e end.1)
-    (λ some. rw end.1 (breaks_at_end (code_of gr) (rows text) (taken_of until (rows text)) read.lines.clean some (taken_within until (rows text))))
+    (λ none. absurd none)
 
 pub no_rows : (text : List ℕ) → rows text ≡ [] → text ≡ []
 no_rows [] e = refl

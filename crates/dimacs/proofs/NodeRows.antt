@@ -267,6 +267,13 @@ module _ (word : List ℕ) (letter : ℕ) (quantities : List Quantity) (n : ℕ)
         let same : nodes ≡ n = let told = taken.told in cc in
         rw same at (reads.1 earlier)
 
+    pub item_fault : (numbers : Row) (count : ℕ) (old : Option ℕ) (items : List X) (code : Code) → HasItems format says earlier nodes old items → old ≡ Some count
+        → ReadsItem (listed word letter quantities nodes) says numbers (Some (Err code)) → code_of format earlier (item_line format numbers) ≡ Some code
+    item_fault numbers count old items code taken is reads =
+        let same : nodes ≡ n = let told = taken.told in cc in
+        let some : is_none (problem_of earlier) ≡ false = taken.problem ∙ ap is_none is in
+        rw same at (reads earlier) ∙ rw some refl
+
     module _ (numbers : Row) (item : X) (count : ℕ) (old : Option ℕ) (items : List X) (taken : HasItems format says earlier nodes old items) (is : old ≡ Some count)
         (reads : ReadsItem (listed word letter quantities nodes) says numbers (Some (Ok item))) where
       code_is_of_count : code_of format earlier (item_line format numbers) ≡ cond (leb count (length items)) (Some LineCount) None
@@ -275,10 +282,13 @@ module _ (word : List ℕ) (letter : ℕ) (quantities : List Quantity) (n : ℕ)
       pub item_beyond : count ≤ length items → code_of format earlier (item_line format numbers) ≡ Some LineCount
       item_beyond beyond = code_is_of_count ∙ rw (le-leb _ _ beyond) refl
 
+      pub item_stands : length items < count → code_of format earlier (item_line format numbers) ≡ None
+      item_stands within = code_is_of_count ∙ rw (lt-leb _ _ within) refl
+
       pub takes_item : (new : List X) → length items < count → new ≡ items ++ item ∷ []
           → (code_of format earlier (item_line format numbers) ≡ None) × HasItems format says (earlier ++ item_line format numbers ∷ []) nodes old new
       takes_item new within pushed = (
-        code_is_of_count ∙ rw (lt-leb _ _ within) refl,
+        item_stands within,
         record {
           told = taken.told;
           problem = rw (problem_kept earlier (item_line format numbers) (item_is_no_problem numbers)) taken.problem;

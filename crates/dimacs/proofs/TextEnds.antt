@@ -6,7 +6,7 @@ use Rattle.dimacs.specs.declared.fault.Fault.{Fault}
 use Rattle.dimacs.specs.Lines.{rows}
 use Rattle.dimacs.specs.Faults.{Row, first_fault, fault_at, fault_of}
 use Rattle.dimacs.specs.Taking.{ByMemory}
-use Rattle.dimacs.specs.Ends.{TakenAll, HasTakenSome, BreaksOff, FailsIn, ReadsLines}
+use Rattle.dimacs.specs.Ends.{TakenAll, HasTakenSome, RunsOut, BreaksOff, FailsIn, ReadsLines}
 use Rattle.dimacs.specs.Texts.{TextKind, unless_fault, content_by, IsSaid, Parses, Reads, Ends, map_ok}
 use Rattle.dimacs.proofs.Items.{by_code_of, by_memory_of}
 use Rattle.dimacs.proofs.Networks.{same_code, no_rows}
@@ -31,7 +31,7 @@ module _ {X S : Type 0} (kind : TextKind X) (has_taken : List Row → S → Type
       let end = ends (rows text) taken.taken taken.count in
       by_memory_of fault.code end.0 (λ e. content_ends (rows text) fault taken.clean e end.1) (λ none. absurd none)
 
-  pub parse_told : (text : List ℕ) (fault : Fault) → ByMemory fault.code (first_fault kind.judge [] (rows text) ≡ Some fault) (BreaksOff kind.judge (rows text) (rows text) fault.line) → Parses kind text (Err fault)
+  pub parse_told : (text : List ℕ) (fault : Fault) → ByMemory fault.code (first_fault kind.judge [] (rows text) ≡ Some fault) (RunsOut kind.judge (rows text) fault.line) → Parses kind text (Err fault)
   parse_told text fault why = by_memory_of fault.code why (content_fault (rows text) fault) (λ b. b)
 
   -- at the end of what a reader gives

@@ -18,17 +18,24 @@ pub record TakenAll {S : Type 0} (judge : Judge) (has_taken : List Row → S →
 abbrev pub HasTakenSome : {S : Type 0} → Judge → (List Row → S → Type 0) → Ended S → Type 0
 HasTakenSome judge has_taken ended = (lines : List Row) × TakenAll judge has_taken lines ended
 
--- this is one of all lines, and no line before it has a fault or is left out
+-- memory ran out for what this line says: it is one of the lines, and neither it nor a line before it has a fault
+pub record RunsOut (judge : Judge) (lines : List Row) (line : ℕ) : Type 0 where
+  pub first : 0 < line
+  pub within : line ≤ length lines
+  pub clean : first_fault judge [] (take line lines) ≡ None
+
+-- memory ran out for this line's bytes, before it could be judged, or for what it says: it is one of all lines, and no line before it
+-- has a fault or is left out
 pub record BreaksOff (judge : Judge) (all lines : List Row) (line : ℕ) : Type 0 where
   pub first : 0 < line
   pub within : line ≤ length all
   pub next : line ≤ length lines + 1
   pub clean : first_fault judge [] (take (line - 1) lines) ≡ None
 
--- the lines were taken, or their first fault is told, or memory ran out in a line before which there is no fault
+-- the lines were taken, or their first fault is told; or memory ran out in a line, up to and with which there is no fault
 abbrev pub ParsesLines : {S : Type 0} → Judge → (List Row → S → Type 0) → List Row → Result (Ended S) Fault → Type 0
 ParsesLines judge has_taken lines (Ok ended) = TakenAll judge has_taken lines ended
-ParsesLines judge has_taken lines (Err fault) = ByMemory fault.code (first_fault judge [] lines ≡ Some fault) (BreaksOff judge lines lines fault.line)
+ParsesLines judge has_taken lines (Err fault) = ByMemory fault.code (first_fault judge [] lines ≡ Some fault) (RunsOut judge lines fault.line)
 
 -- the reader failed in this line, which its bytes up to there have as many line feeds before, and no line before it has a fault
 pub record FailsIn (judge : Judge) (text : List ℕ) (lines : List Row) (left : Option (List ℕ)) (line : ℕ) : Type 0 where
@@ -49,7 +56,8 @@ pub record ReadAll {S : Type 0} (judge : Judge) (has_taken : List Row → S → 
   pub at_run : ended.at_run ≡ (until_run && has_run (rows text))
   pub rest : HasLeft (left_of until_run (rows text)) left
 
--- the same of a reader that has this text left and may fail
+-- the same of a reader that has this text left and may fail; and memory may run out in a line that has a fault, before its bytes are
+-- at hand
 abbrev pub ReadsLines : {S : Type 0} → Judge → (List Row → S → Type 0) → Bool → List ℕ → Option (List ℕ) → Result (Ended S) Fault → Type 0
 ReadsLines judge has_taken until_run text left (Ok ended) = ReadAll judge has_taken until_run text left ended
 ReadsLines judge has_taken until_run text left (Err fault) = ByCode fault.code

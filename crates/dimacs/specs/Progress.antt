@@ -1,5 +1,5 @@
 -- How far a text is read.
-use Rattle.std.specs.Prelude.{◌≡◌, ◌≢◌, ◌⊎◌, ℕ, ◌<◌, Bool, true, false, List, [], ◌∷◌, ◌++◌, All, length, drop, count_by, Option, None, Some, Result, Ok, Err, is_none, MatchBool, ⊤}
+use Rattle.std.specs.Prelude.{◌≡◌, ◌≢◌, ◌⊎◌, ℕ, Bool, true, false, List, [], ◌∷◌, ◌++◌, All, length, drop, count_by, Option, None, Some, Result, Ok, Err, is_none, MatchBool, ⊤}
 use Rattle.std.specs.List.{filter_map}
 use Rattle.dimacs.specs.declared.fault.Code.{Code}
 use Rattle.dimacs.specs.declared.fault.Fault.{Fault}
@@ -26,15 +26,15 @@ pub record HasTaken (earlier : List Row) (r : GrLines) : Type 0 where
   pub items : items_of gr earlier ≡ length r.arcs.items
   pub arcs : filter_map arc_of earlier ≡ r.arcs.items
 
--- all lines are taken, and the end is no fault; or memory ran out after a problem line
+-- all lines are taken, and the end is no fault, or its code is told: at the end no memory is wanted
 abbrev pub Ends : List Row → Result Net Code → Type 0
 Ends lines (Ok net) = (end_code gr lines ≡ None) × (net ≡ network_of lines)
-Ends lines (Err code) = ByMemory code (end_code gr lines ≡ Some code) (0 < length lines)
+Ends lines (Err code) = ByMemory code (end_code gr lines ≡ Some code) ⊥
 
 -- the same for the lines of a text or of its front, with the line that a fault names
 abbrev pub AtEnd : List Row → Bool → Result (Net × Bool) Fault → Type 0
 AtEnd lines at_run (Ok found) = (end_code gr lines ≡ None) × (found.0 ≡ network_of lines) × (found.1 ≡ at_run)
-AtEnd lines at_run (Err fault) = ByMemory fault.code (end_code gr lines ≡ Some fault.code) (0 < length lines) × (fault.line ≡ length lines)
+AtEnd lines at_run (Err fault) = ByMemory fault.code (end_code gr lines ≡ Some fault.code) ⊥ × (fault.line ≡ length lines)
 
 -- what is kept of the front of a line: all of it, or of a comment only that it is one
 abbrev pub StandsFor : ℕ → List ℕ → List ℕ → Type 0

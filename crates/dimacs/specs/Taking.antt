@@ -1,5 +1,5 @@
 -- What a call that is given one line answers.
-use Rattle.std.specs.Prelude.{◌≡◌, List, [], ◌∷◌, ◌++◌, None, Some, Result, Ok, Err, ⊤}
+use Rattle.std.specs.Prelude.{◌≡◌, List, [], ◌∷◌, ◌++◌, None, Some, Result, Ok, Err}
 use Rattle.dimacs.specs.declared.fault.Code.{Code}
 use Rattle.dimacs.specs.declared.fault.Code.TheVariants.{BadLine, NoProblemLine, SecondProblemLine, WrongKind, NumberRange, NodeRange, LengthRange, LineCount, TooLarge, Read, OutOfMemory}
 use Rattle.dimacs.specs.Faults.{Row, Judge}
@@ -22,7 +22,7 @@ ByCode OutOfMemory fault failed refused = refused
 abbrev pub ByMemory : Code → Type 0 → Type 0 → Type 0
 ByMemory code fault refused = ByCode code fault ⊥ refused
 
--- the line has no fault after the earlier ones and is taken, or its code is told, or memory ran out
+-- the line has no fault after the earlier ones and is taken, or its code is told; or it has no fault, and memory ran out
 abbrev pub Takes : {S : Type 0} → Judge → (List Row → S → Type 0) → List Row → Row → S → Result (Unit {0}) Code → Type 0
 Takes judge has_taken earlier row new (Ok done) = (judge earlier row ≡ None) × has_taken (earlier ++ row ∷ []) new
-Takes judge has_taken earlier row new (Err code) = ByMemory code (judge earlier row ≡ Some code) ⊤
+Takes judge has_taken earlier row new (Err code) = ByMemory code (judge earlier row ≡ Some code) (judge earlier row ≡ None)

@@ -5,7 +5,7 @@ use Rattle.dimacs.specs.declared.fault.Fault.{Fault}
 use Rattle.dimacs.specs.Lines.{rows}
 use Rattle.dimacs.specs.Faults.{Row, Judge, fault_of}
 use Rattle.dimacs.specs.Taking.{ByCode, ByMemory}
-use Rattle.dimacs.specs.Ends.{BreaksOff, FailsIn}
+use Rattle.dimacs.specs.Ends.{RunsOut, BreaksOff, FailsIn}
 
 -- the code of a line after the lines before it, the code of the end after all lines, and what lines without a fault say
 pub record TextKind (X : Type 0) : Type 0 where
@@ -34,18 +34,19 @@ pub data Source : Type 0 where
   InMemory : Source
   OfReader : Option (List ℕ) → Source
 
--- the text has its fault told, or memory ran out in a line before which there is none; and no reader failed but one that gave the text
+-- the text has its fault told; or memory ran out in a line before which there is none, and which has none itself if the text is in
+-- memory; and no reader failed but one that gave the text
 abbrev pub FaultOf : {X : Type 0} → TextKind X → List ℕ → Source → Fault → Type 0
-FaultOf kind text InMemory fault = ByMemory fault.code (content_by kind (rows text) ≡ Err fault) (BreaksOff kind.judge (rows text) (rows text) fault.line)
+FaultOf kind text InMemory fault = ByMemory fault.code (content_by kind (rows text) ≡ Err fault) (RunsOut kind.judge (rows text) fault.line)
 FaultOf kind text (OfReader left) fault = FaultOfLines kind text (rows text) left fault
 
--- the content of the text, or its fault; or memory ran out in a line before which there is no fault
+-- the content of the text, or its fault; or memory ran out in a line, up to and with which there is no fault
 abbrev pub Parses : {X : Type 0} → TextKind X → List ℕ → Result X Fault → Type 0
 Parses kind text (Ok x) = content_by kind (rows text) ≡ Ok x
 Parses kind text (Err fault) = FaultOf kind text InMemory fault
 
--- the same of a reader that has this text left, all of which is read where there is no fault; or the reader failed in a line before
--- which there is none
+-- the same of a reader that has this text left, all of which is read where there is no fault; or the reader failed, or memory ran out,
+-- in a line before which there is none
 abbrev pub Reads : {X : Type 0} → TextKind X → List ℕ → Option (List ℕ) → Result X Fault → Type 0
 Reads kind text left (Ok x) = (content_by kind (rows text) ≡ Ok x) × (left ≡ Some [])
 Reads kind text left (Err fault) = FaultOf kind text (OfReader left) fault

@@ -36,7 +36,8 @@ pub enum Code {
     /// The reader failed in this line.
     #[error("10 Read")]
     Read,
-    /// A growth was refused in this line.
+    /// A growth was refused in this line, and no line before it has a fault. Nor has this line, if the text is in memory; if a reader
+    /// gives it, the line may have a fault, where there was no room for its bytes.
     #[error("11 OutOfMemory")]
     OutOfMemory,
 }

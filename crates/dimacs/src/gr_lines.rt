@@ -8,7 +8,7 @@ use crate::line::{Kind, kind_of};
 use crate::problem::Problem;
 use crate::reading::{item, problem};
 use crate::taking::TakeLines;
-use roadnet::{Network, Refusal, RoadArc};
+use roadnet::{Network, RoadArc};
 use std::alloc::Global;
 
 /// What the lines so far have given.
@@ -62,7 +62,7 @@ impl GrLines {
         }
     }
 
-    /// Ends the text. Of what the lines gave a network can be made, so that only its memory may be wanting.
+    /// Ends the text. Of what the lines gave a network can be made, and since no landmark is given, it wants no memory.
     pub(crate) fn finish(self, alloc: Global) -> Result<Network, Code>
         ensures reads_nothing { IfErr result (λ code. code ≢ Code.Read) }
         ensures bare { IfOk result (λ network. network.landmarks ≡ []) }
@@ -77,7 +77,6 @@ impl GrLines {
         }
         match Network::new(alloc, problem.nodes, arcs, &[]) {
             Ok(network) => Ok(network),
-            Err(Refusal::OutOfMemory) => Err(Code::OutOfMemory),
             Err(_) => unreachable!(),
         }
     }

@@ -20,8 +20,8 @@ pub trait TakeLines: Drop {
     /// A line whose first byte after blanks is this one is a comment.
     const COMMENT: u8;
 
-    /// Takes the next line, which is without its line feed and without one carriage return before that. After an `Err` the
-    /// value is not used again.
+    /// Takes the next line, which is without its line feed and without one carriage return before that. `OutOfMemory` is told only
+    /// of a line that has no fault. After an `Err` the value is not used again.
     fn take_line(&mut self, line: &[u8]) -> Result<(), Code>
         ensures takes { (earlier : List Row) → has_taken earlier self.old
             → Takes judge has_taken earlier (fields line.now) self.new result }

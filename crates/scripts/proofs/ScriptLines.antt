@@ -180,7 +180,7 @@ takes_event earlier row event old new reads has pushed =
     (reads.0 earlier, more ∙ sym (filter_map_push line_of earlier row ∙ rw reads.1 refl))
 
 pub takes_fault : (earlier : List Row) (row : Row) (code : Code) (taken : EventLines) → ReadsLine row (Err code) → Takes script_line_code HasEvents earlier row taken (Err code)
-takes_fault earlier row code taken reads = by_memory_of code reads (λ told. told earlier) (λ none. none)
+takes_fault earlier row code taken reads = by_memory_of code reads (λ told. told earlier) (λ none. none earlier)
 
 or_right : (a b : Bool) → b ≡ true → (a || b) ≡ true
 or_right true b e = refl

@@ -22,7 +22,7 @@ use Rattle.disk.specs.declared.stoppable.Pick.{Pick}
 use Rattle.disk.specs.declared.stoppable.Pick.TheVariants.{Old, New, Byte}
 use Rattle.scripts.specs.declared.script_stops.PicksRead.{PicksRead}
 use Rattle.scripts.specs.ScriptTexts.{pick_from, is_pick, picks_in, behind_picks, most_picks, is_some_of_most, is_no_byte}
-use Rattle.scripts.specs.ScriptReading.{byte_of_numeral, pick_read, pick_kept, is_in_range, HasPicks, ReadsPicks}
+use Rattle.scripts.specs.ScriptReading.{byte_of_numeral, pick_read, pick_kept, picks_read, is_in_range, HasPicks, ReadsPicks}
 use Rattle.dimacs.proofs.CommandRows.{kept_refused, kept_number}
 
 -- ---- one pick
@@ -93,7 +93,7 @@ says_pick field pick some = go (pick_cases field)
     go (NoByte e f g) = subst (SaysPick field) (same_as (Err NumberRange) e) (record { is = f; in_range = g; from = λ never. absurd (let absurdity : ⊥ = cc in absurdity) })
 
 -- ---- picks, one after the other
-pub no_picks_yet : (row : Row) (read : PicksRead) → read.picks.items ≡ [] → read.in_range ≡ true → fields read.rest.now ≡ row → HasPicks row [] read
+pub no_picks_yet : (row : Row) (read : PicksRead) → picks_read read ≡ [] → read.in_range ≡ true → fields read.rest.now ≡ row → HasPicks row [] read
 no_picks_yet row read none right rest = record {
   row_is = sym rest;
   are_picks = refl;
@@ -111,7 +111,7 @@ both_true true b e = (refl, e)
 both_true false b e = absurd (let absurdity : ⊥ = cc in absurdity)
 
 pub one_pick_more : (row taken : Row) (old new : PicksRead) (field : List ℕ) (pick : Result Pick Code) → HasPicks row taken old → fields old.rest.now ≡ field ∷ fields new.rest.now → Some pick ≡ pick_read field
-    → new.picks.items ≡ old.picks.items ++ pick_kept pick ∷ [] → new.in_range ≡ (old.in_range && is_in_range pick) → HasPicks row (taken ++ field ∷ []) new
+    → picks_read new ≡ picks_read old ++ pick_kept pick ∷ [] → new.in_range ≡ (old.in_range && is_in_range pick) → HasPicks row (taken ++ field ∷ []) new
 one_pick_more row taken old new field pick has behind some pushed range =
     let says = says_pick field pick some in
     let one : prefix_len is_pick (field ∷ []) ≡ 1 = rw says.is refl in
@@ -122,7 +122,7 @@ one_pick_more row taken old new field pick has behind some pushed range =
           prefix_len-append is_pick taken (field ∷ [])
           ∙ (rw (has.are_picks, eq-eqb (length taken) (length taken) refl) (ap (λ (n : ℕ). length taken + n) one)
           ∙ sym more);
-      count = ap length pushed ∙ (length-append old.picks.items (pick_kept pick ∷ []) ∙ (ap (λ (n : ℕ). n + 1) has.count ∙ sym more));
+      count = ap length pushed ∙ (length-append (picks_read old) (pick_kept pick ∷ []) ∙ (ap (λ (n : ℕ). n + 1) has.count ∙ sym more));
       in_range =
           list_any-append (λ (f : List ℕ). option_map_or is_no_byte (numeral f) false) taken (field ∷ [])
           ∙ (ap (λ (b : Bool). b || (option_map_or is_no_byte (numeral field) false || false)) has.in_range
@@ -163,9 +163,9 @@ count_least taken others picks =
 
 -- the row's own count of picks, which these are
 pub record AllPicks (row : Row) (read : PicksRead) : Type 0 where
-  pub count : prefix_len is_pick row ≡ length read.picks.items
+  pub count : prefix_len is_pick row ≡ length (picks_read read)
   pub in_range : some_numeral is_no_byte (picks_in row) ≡ not read.in_range
-  pub picks_are : read.in_range ≡ true → read.picks.items ≡ map pick_from (picks_in row)
+  pub picks_are : read.in_range ≡ true → picks_read read ≡ map pick_from (picks_in row)
   pub behind : behind_picks row ≡ fields read.rest.now
 
 pub all_picks : (row taken : Row) (read : PicksRead) → HasPicks row taken read → has_first is_pick (fields read.rest.now) ≡ false → AllPicks row read
@@ -182,12 +182,12 @@ all_picks row taken read has none =
     })
 
 -- too many
-pub many_picks : (row taken : Row) (read : PicksRead) → HasPicks row taken read → most_picks < length taken → (is_some_of_most (prefix_len is_pick row) ≡ false) × (is_some_of_most (length read.picks.items) ≡ false)
+pub many_picks : (row taken : Row) (read : PicksRead) → HasPicks row taken read → most_picks < length taken → (is_some_of_most (prefix_len is_pick row) ≡ false) × (is_some_of_most (length (picks_read read)) ≡ false)
 many_picks row taken read has many =
     let least = count_least taken (fields read.rest.now) has.are_picks in
     let there : prefix_len is_pick row ≡ prefix_len is_pick (taken ++ fields read.rest.now) = ap (prefix_len is_pick) has.row_is in
     let far : 9 ≤ length taken = many in
-    (above (prefix_len is_pick row) (omega (arith, least, there, far)), above (length read.picks.items) (omega (arith, far, has.count)))
+    (above (prefix_len is_pick row) (omega (arith, least, there, far)), above (length (picks_read read)) (omega (arith, far, has.count)))
   where
     right_false : (a b : Bool) → b ≡ false → (a && b) ≡ false
     right_false true b e = e

@@ -1,27 +1,27 @@
 -- A line `stop` that is read from left to right has the lowest code that applies to it, or is the event that it says.
-use Rattle.std.proofs.Common.{◌≡◌, ◌∙◌, ⊎_elim, ℕ, Bool, true, false, not, ◌||◌, ◌&&◌, cond, eqb, List, [], ◌∷◌, length, map, Option, None, Some, Result, Ok, Err, refl, sym, ap, subst, inl, inr, arith}
-use Rattle.std.specs.Prelude.{is_some, ⊤}
+use Rattle.std.proofs.Common.{◌≡◌, ◌∙◌, ⊎_elim, ℕ, Bool, true, false, not, ◌||◌, ◌&&◌, ◌≤◌, cond, eqb, List, [], ◌∷◌, length, map, Option, None, Some, Result, Ok, Err, refl, sym, ap, subst, inl, inr, arith}
+use Rattle.std.specs.Prelude.{is_some}
 use Rattle.std.specs.List.{prefix_len}
-use Rattle.std.specs.Option.{option_map_or}
+use Rattle.std.specs.Option.{option_map, option_map_or}
 use Rattle.std.specs.Str.{bytes_eq}
-use Rattle.std.proofs.lemmas.Bool.{cases_Bool, or_parts}
+use Rattle.std.proofs.lemmas.Bool.{cases_Bool, or_parts, le-leb}
 use Rattle.std.proofs.lemmas.Bool.Decides.{nat_tests}
 use Rattle.std.proofs.lemmas.Slice.Eq.{bytes_eq-Decides}
 use lib.Chars.{codes}
 use Rattle.dimacs.specs.declared.fault.Code.{Code}
-use Rattle.dimacs.specs.declared.fault.Code.TheVariants.{BadLine, NumberRange, OutOfMemory}
+use Rattle.dimacs.specs.declared.fault.Code.TheVariants.{BadLine, NumberRange}
 use Rattle.dimacs.specs.declared.numeral.Numeral.{Numeral}
 use Rattle.dimacs.specs.Commands.{is_refused}
 use Rattle.dimacs.specs.Faults.{Row, item_fields, size_of, some_numeral}
 use Rattle.dimacs.specs.Lines.{fields}
 use Rattle.dimacs.specs.Numerals.{numeral, kept}
-use Rattle.dimacs.specs.Taking.{ByMemory}
-use Rattle.dimacs.proofs.Items.{known}
+use Rattle.dimacs.proofs.Items.{known, by_memory_of}
 use Rattle.disk.specs.declared.stoppable.Pick.{Pick}
 use Rattle.machine.specs.declared.events.Event.{Event}
+use Rattle.machine.specs.declared.events.Writing.{Writing}
 use Rattle.scripts.specs.declared.script_stops.PicksRead.{PicksRead}
-use Rattle.scripts.specs.ScriptTexts.{ScriptLine, FlushLine, CheckpointLine, StepLine, StopLine, StopWithinLine, as_line, line_of, picks_in, behind_picks, pick_from, writing_from, is_pick, is_writing, is_some_of_most, are_of_stop, is_no_call, is_no_byte, is_no_step, has_number_outside, script_line_code}
-use Rattle.scripts.specs.ScriptReading.{call_of_numeral, call_read, step_read, writing_read, map_line, cut_within, cut_of, ReadsPicks, ReadsEvent}
+use Rattle.scripts.specs.ScriptTexts.{ScriptLine, FlushLine, CheckpointLine, StepLine, StopLine, StopWithinLine, as_line, writing_line, line_of, picks_in, behind_picks, pick_from, writing_from, is_pick, is_writing, is_some_of_most, are_of_stop, is_no_call, is_no_byte, is_no_step, has_number_outside, script_line_code}
+use Rattle.scripts.specs.ScriptReading.{call_of_numeral, call_read, step_read, writing_read, map_line, cut_within, cut_of, picks_read, IsUnlessMemory, ReadsPicks, ReadsEvent}
 use Rattle.dimacs.proofs.CommandRows.{kept_refused, kept_number}
 use Rattle.scripts.proofs.ScriptPicks.{AllPicks, all_picks, many_picks}
 use Rattle.scripts.proofs.ScriptSteps.{no_step_kept}
@@ -123,7 +123,7 @@ writing_cases (word ∷ behind) = word_case word behind
 -- what a line says, by the line of its event
 abbrev SaysLine : Row → Result ScriptLine Code → Type 0
 SaysLine row (Ok line) = ((earlier : List Row) → script_line_code earlier row ≡ None) × (line_of row ≡ Some line)
-SaysLine row (Err code) = ByMemory code ((earlier : List Row) → script_line_code earlier row ≡ Some code) ⊤
+SaysLine row (Err code) = (earlier : List Row) → script_line_code earlier row ≡ Some code
 
 bad_line : (others : Row) (earlier : List Row) → are_of_stop others ≡ false → script_line_code earlier (codes "stop" ∷ others) ≡ Some BadLine
 unfolding script_line_code
@@ -232,31 +232,38 @@ module _ (call : List ℕ) (behind : Row) where
         (subst (SaysLine whole) (sym (refused_call (Err NumberRange))) (outside true true e2 g2 e3 g3 refl)))
 
   -- what was read of the picks decides with what stands beside them
-  by_count : (read : PicksRead) → AllPicks behind read → (b : Bool) → is_some_of_most (length read.picks.items) ≡ b
-      → SaysLine (codes "stop" ∷ all) (cut_of (call_read call) read.picks.items read.in_range (writing_read (fields read.rest.now)))
+  by_count : (read : PicksRead) → AllPicks behind read → (b : Bool) → is_some_of_most (length (picks_read read)) ≡ b
+      → SaysLine (codes "stop" ∷ all) (cut_of (call_read call) (picks_read read) read.in_range (writing_read (fields read.rest.now)))
   by_count read has true few =
-      subst (λ (row : Row). SaysLine (codes "stop" ∷ all) (cut_of (call_read call) read.picks.items read.in_range (writing_read row))) has.behind
-      (says_some read.picks.items read.in_range (ap is_some_of_most has.count ∙ few) few has.in_range has.picks_are (call_cases call) (writing_cases (behind_picks behind)))
-  by_count read has false few = says_many read.picks.items read.in_range (call_read call) (writing_read (fields read.rest.now)) (ap is_some_of_most has.count ∙ few) few
+      subst (λ (row : Row). SaysLine (codes "stop" ∷ all) (cut_of (call_read call) (picks_read read) read.in_range (writing_read row))) has.behind
+      (says_some (picks_read read) read.in_range (ap is_some_of_most has.count ∙ few) few has.in_range has.picks_are (call_cases call) (writing_cases (behind_picks behind)))
+  by_count read has false few = says_many (picks_read read) read.in_range (call_read call) (writing_read (fields read.rest.now)) (ap is_some_of_most has.count ∙ few) few
 
-  right_stop : (read : PicksRead) → ReadsPicks behind read → SaysLine (codes "stop" ∷ all) (cut_of (call_read call) read.picks.items read.in_range (writing_read (fields read.rest.now)))
+  right_stop : (read : PicksRead) → ReadsPicks behind read → SaysLine (codes "stop" ∷ all) (cut_of (call_read call) (picks_read read) read.in_range (writing_read (fields read.rest.now)))
   right_stop read reads =
       ⊎_elim
-      (λ many. let far = many_picks behind reads.taken read reads.has many in says_many read.picks.items read.in_range (call_read call) (writing_read (fields read.rest.now)) far.0 far.1)
-      (λ none. by_count read (all_picks behind reads.taken read reads.has none) (is_some_of_most (length read.picks.items)) refl)
+      (λ many. let far = many_picks behind reads.taken read reads.has many in says_many (picks_read read) read.in_range (call_read call) (writing_read (fields read.rest.now)) far.0 far.1)
+      (λ none. by_count read (all_picks behind reads.taken read reads.has none) (is_some_of_most (length (picks_read read))) refl)
       reads.ends
 
--- the event of such a line
-told_by_line : (row : Row) (result : Result (Event Pick) Code) → SaysLine row (map_line as_line result) → ReadsEvent row result
-told_by_line row (Ok event) says = says
-told_by_line row (Err code) says = says
+-- the line of parts that have no fault
+pub cut_stands : (called : Option (Result ℕ Code)) (within : Option (Result Writing Code)) (ps : List Pick) (right : Bool) (a : Result ℕ Code) (b : Result Writing Code) (call : ℕ) (writing : Writing)
+    → called ≡ Some a → within ≡ Some b → a ≡ Ok call → right ≡ true → b ≡ Ok writing → 1 ≤ length ps → length ps ≤ 8
+    → cut_of called ps right (option_map (λ read. map_line writing_line read) within) ≡ Ok (StopWithinLine call ps (writing_line writing))
+cut_stands called within ps right a b call writing e f g h i some few =
+    let called_is : called ≡ Some (Ok call) = e ∙ ap Some g in
+    let within_is : within ≡ Some (Ok writing) = f ∙ ap Some i in
+    rw (called_is, within_is, h, le-leb 1 (length ps) some, le-leb (length ps) 8 few) refl
+
+-- the event of such a line, for which memory may run out
+told_by_line : (row : Row) (judged : Result ScriptLine Code) (result : Result (Event Pick) Code) → SaysLine row judged → IsUnlessMemory judged (map_line as_line result) → ReadsEvent row result
+told_by_line row judged (Ok event) says is = subst (SaysLine row) is says
+told_by_line row judged (Err code) says is = by_memory_of code is (λ e. subst (SaysLine row) e says) (λ ok. (subst (SaysLine row) ok.1 says).0)
 
 pub stop_told : (rest behind : Row) (call : List ℕ) (read : PicksRead) (called : Option (Result ℕ Code)) (within : Option (Result ScriptLine Code)) (result : Result (Event Pick) Code) → rest ≡ call ∷ behind
-    → ReadsPicks behind read → called ≡ call_read call → within ≡ writing_read (fields read.rest.now) → map_line as_line result ≡ cut_of called read.picks.items read.in_range within → ReadsEvent (codes "stop" ∷ rest) result
+    → ReadsPicks behind read → called ≡ call_read call → within ≡ writing_read (fields read.rest.now) → IsUnlessMemory (cut_of called (picks_read read) read.in_range within) (map_line as_line result)
+    → ReadsEvent (codes "stop" ∷ rest) result
 stop_told rest behind call read called within result is reads e f cut =
-    let same : map_line as_line result ≡ cut_of (call_read call) read.picks.items read.in_range (writing_read (fields read.rest.now)) =
-    cut ∙ (ap (λ (x : Option (Result ℕ Code)). cut_of x read.picks.items read.in_range within) e ∙ ap (cut_of (call_read call) read.picks.items read.in_range) f) in
-    rw is (told_by_line (codes "stop" ∷ call ∷ behind) result (subst (SaysLine (codes "stop" ∷ call ∷ behind)) (sym same) (right_stop call behind read reads)))
-
-pub stop_without_memory : (rest : Row) (code : Code) → code ≡ OutOfMemory → ReadsEvent (codes "stop" ∷ rest) (Err code)
-stop_without_memory rest code memory = rw memory tt
+    let same : cut_of called (picks_read read) read.in_range within ≡ cut_of (call_read call) (picks_read read) read.in_range (writing_read (fields read.rest.now)) =
+    ap (λ (x : Option (Result ℕ Code)). cut_of x (picks_read read) read.in_range within) e ∙ ap (cut_of (call_read call) (picks_read read) read.in_range) f in
+    rw is (told_by_line (codes "stop" ∷ call ∷ behind) _ result (right_stop call behind read reads) (subst (λ judged. IsUnlessMemory judged (map_line as_line result)) same cut))

@@ -1,5 +1,5 @@
 -- One line of a script, read from left to right.
-use Rattle.std.specs.Prelude.{◌≡◌, ◌⊎◌, ◌<◌, ℕ, Bool, true, false, ◌||◌, not, List, [], ◌∷◌, ◌++◌, length, Option, None, Some, option_map, Result, Ok, Err, map, if◌then◌else◌, ⊤}
+use Rattle.std.specs.Prelude.{◌≡◌, ◌⊎◌, ◌<◌, ℕ, Bool, true, false, ◌||◌, not, List, [], ◌∷◌, ◌++◌, length, take, Option, None, Some, option_map, Result, Ok, Err, map, if◌then◌else◌}
 use Rattle.std.specs.List.{prefix_len}
 use Rattle.std.specs.Str.{bytes_eq}
 use lib.Chars.{codes}
@@ -98,13 +98,17 @@ abbrev pub is_in_range : Result Pick Code → Bool
 is_in_range (Ok pick) = true
 is_in_range (Err code) = false
 
+-- the picks that were read
+abbrev pub picks_read : PicksRead → List Pick
+picks_read read = take read.count read.places
+
 -- Of the fields of a row these were read, and each is a pick. Where each is in range, these are the picks.
 pub record HasPicks (row taken : Row) (read : PicksRead) : Type 0 where
   pub row_is : row ≡ taken ++ fields read.rest.now
   pub are_picks : prefix_len is_pick taken ≡ length taken
-  pub count : length read.picks.items ≡ length taken
+  pub count : length (picks_read read) ≡ length taken
   pub in_range : some_numeral is_no_byte taken ≡ not read.in_range
-  pub picks_are : read.in_range ≡ true → read.picks.items ≡ map pick_from taken
+  pub picks_are : read.in_range ≡ true → picks_read read ≡ map pick_from taken
 
 -- all picks with which the row begins were read, or more than a stop may have
 pub record ReadsPicks (row : Row) (read : PicksRead) : Type 0 where
@@ -147,13 +151,19 @@ abbrev pub cut_of : Option (Result ℕ Code) → List Pick → Bool → Option (
 cut_of (Some call) picks in_range (Some within) = if is_some_of_most (length picks) then cut_within call picks in_range within else Err BadLine
 cut_of call picks in_range within = Err BadLine
 
+-- what was judged is answered; or it is no fault, and memory ran out for it
+abbrev pub IsUnlessMemory : Result ScriptLine Code → Result ScriptLine Code → Type 0
+IsUnlessMemory judged (Ok line) = judged ≡ Ok line
+IsUnlessMemory judged (Err code) = ByMemory code (judged ≡ Err code) ((line : ScriptLine) × (judged ≡ Ok line))
+
 -- LINES
 
--- the line has no fault and is this event, or none; or its code is told, or memory ran out
+-- the line has no fault and is this event, or its code is told; or it has no fault, and memory ran out
 abbrev pub ReadsEvent : Row → Result (Event Pick) Code → Type 0
 ReadsEvent row (Ok event) = ((earlier : List Row) → script_line_code earlier row ≡ None) × (line_of row ≡ Some (as_line event))
-ReadsEvent row (Err code) = ByMemory code ((earlier : List Row) → script_line_code earlier row ≡ Some code) ⊤
+ReadsEvent row (Err code) = ByMemory code ((earlier : List Row) → script_line_code earlier row ≡ Some code) ((earlier : List Row) → script_line_code earlier row ≡ None)
 
+-- the same of a line that may say nothing
 abbrev pub ReadsLine : Row → Result (Option (Event Pick)) Code → Type 0
 ReadsLine row (Ok None) = ((earlier : List Row) → script_line_code earlier row ≡ None) × (line_of row ≡ None)
 ReadsLine row (Ok (Some event)) = ReadsEvent row (Ok event)

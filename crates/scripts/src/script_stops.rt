@@ -1,12 +1,11 @@
 //! The lines of a script that stop a life.
-ghost use Rattle.std.specs.Prelude.{◌≡◌, ◌∷◌, ◌++◌, ◌&&◌, ◌<◌, [], vec_capacity, IfOk, IfErr};
+ghost use Rattle.std.specs.Prelude.{◌≡◌, ◌+◌, ◌∷◌, ◌++◌, ◌&&◌, ◌<◌, ◌≤◌, []};
 ghost use Rattle.std.specs.Option.{option_map};
-ghost use Rattle.std.specs.Vec.{vec_len};
 ghost use lib.Chars.{codes};
 ghost use Rattle.dimacs.specs.Lines.{fields};
 ghost use Rattle.scripts.specs.ScriptTexts.{as_line, writing_line};
-ghost use Rattle.scripts.specs.ScriptReading.{call_of_numeral, call_read, byte_of_numeral, pick_read, pick_kept, is_in_range, ReadsPicks};
-ghost use Rattle.scripts.specs.ScriptReading.{writing_word, alone_read, step_read, writing_read, map_line, cut_of, ReadsEvent};
+ghost use Rattle.scripts.specs.ScriptReading.{call_of_numeral, call_read, byte_of_numeral, pick_read, pick_kept, picks_read, is_in_range, ReadsPicks};
+ghost use Rattle.scripts.specs.ScriptReading.{writing_word, alone_read, step_read, writing_read, map_line, cut_of, IsUnlessMemory, ReadsEvent};
 
 use crate::script_steps::pages_of;
 use dimacs::{Code, Numeral, split_field, split_one};
@@ -21,12 +20,14 @@ const MOST_PICKS: usize = 8;
 const MOST_READ: usize = MOST_PICKS + 1;
 
 /// The picks with which fields begin, and what stands behind them.
-#[derive(Drop)]
+#[derive(Clone, Copy)]
 pub(crate) struct PicksRead<'a> {
-    pub(crate) picks: Vec<Pick>,
+    /// The picks, and behind them places that are free.
+    places: [Pick; MOST_READ],
+    count: usize,
     /// Whether each number is that of a byte.
-    pub(crate) in_range: bool,
-    pub(crate) rest: &'a [u8],
+    in_range: bool,
+    rest: &'a [u8],
 }
 
 /// The word of an event that writes.
@@ -82,46 +83,45 @@ fn read_pick(field: &[u8]) -> Option<Result<Pick, Code>>
 impl<'a> PicksRead<'a> {
     /// Puts a pick behind those that were read, with what stands behind it. An old byte stands for a number that is none of a byte.
     fn take(&mut self, pick: Result<Pick, Code>, rest: &'a [u8])
-        requires { vec_len self.old.picks < vec_capacity self.old.picks }
-        ensures picks { self.new.picks.items ≡ self.old.picks.items ++ pick_kept pick ∷ [] }
+        requires { self.old.count < 9 }
+        ensures picks { picks_read self.new ≡ picks_read self.old ++ pick_kept pick ∷ [] }
+        ensures count { self.new.count ≡ self.old.count + 1 }
         ensures in_range { self.new.in_range ≡ (self.old.in_range && is_in_range pick) }
         ensures rest { self.new.rest.now ≡ rest.now }
-        ensures room { vec_capacity self.new.picks ≡ vec_capacity self.old.picks }
     {
-        match pick {
-            Ok(pick) => self.picks.push_reserved(pick),
+        self.places[self.count] = match pick {
+            Ok(pick) => pick,
             Err(_) => {
-                self.picks.push_reserved(Pick::Old);
                 self.in_range = false;
+                Pick::Old
             }
-        }
+        };
+        self.count += 1;
         self.rest = rest;
     }
 }
 
 /// Reads the picks with which the fields begin, up to nine.
-fn read_picks<'a>(alloc: Global, behind: &'a [u8]) -> Result<PicksRead<'a>, Code>
-    ensures read { IfOk result (ReadsPicks (fields behind.now)) }
-    ensures memory { IfErr result (λ code. code ≡ Code.OutOfMemory) }
+fn read_picks<'a>(behind: &'a [u8]) -> PicksRead<'a>
+    ensures read { ReadsPicks (fields behind.now) result }
+    ensures within { result.count ≤ 9 }
 {
-    let Ok(picks) = Vec::with_capacity(alloc, MOST_READ) else {
-        return Err(Code::OutOfMemory);
-    };
     let mut read = PicksRead {
-        picks,
+        places: [Pick::Old; MOST_READ],
+        count: 0,
         in_range: true,
         rest: behind,
     };
     for _ in 0..MOST_READ {
         let Some((field, rest)) = split_field(read.rest) else {
-            return Ok(read);
+            return read;
         };
         let Some(pick) = read_pick(field) else {
-            return Ok(read);
+            return read;
         };
         read.take(pick, rest);
     }
-    Ok(read)
+    read
 }
 
 /// The word of an event that writes.
@@ -170,14 +170,16 @@ fn read_writing(rest: &[u8]) -> Option<Result<Writing, Code>>
     }
 }
 
-/// The event that is cut at this call, by these picks, each of which is in range or one is not.
+/// The event that is cut at this call, by these picks, each of which is in range or one is not. Memory for the picks is asked only
+/// where there is no fault.
 fn cut_event(
+    alloc: Global,
     call: Option<Result<u64, Code>>,
-    picks: Vec<Pick>,
+    picks: &[Pick],
     in_range: bool,
     writing: Option<Result<Writing, Code>>,
 ) -> Result<Event<Pick>, Code>
-    ensures { map_line as_line result ≡ cut_of call picks.items in_range (option_map (λ read. map_line writing_line read) writing) }
+    ensures { IsUnlessMemory (cut_of call picks.now in_range (option_map (λ read. map_line writing_line read) writing)) (map_line as_line result) }
 {
     let (Some(call), Some(writing)) = (call, writing) else {
         return Err(Code::BadLine);
@@ -185,13 +187,16 @@ fn cut_event(
     if picks.is_empty() || picks.len() > MOST_PICKS {
         return Err(Code::BadLine);
     }
-    match (call, in_range, writing) {
-        (Ok(call), true, Ok(writing)) => Ok(Event::StopWithin {
+    let (Ok(call), true, Ok(writing)) = (call, in_range, writing) else {
+        return Err(Code::NumberRange);
+    };
+    match Vec::from_slice(alloc, picks) {
+        Ok(picks) => Ok(Event::StopWithin {
             call,
             picks,
             writing,
         }),
-        _ => Err(Code::NumberRange),
+        Err(_) => Err(Code::OutOfMemory),
     }
 }
 
@@ -202,10 +207,8 @@ pub(crate) fn stop_event(alloc: Global, rest: &[u8]) -> Result<Event<Pick>, Code
     let Some((call, behind)) = split_field(rest) else {
         return Ok(Event::Stop);
     };
-    let PicksRead {
-        picks,
-        in_range,
-        rest,
-    } = read_picks(alloc, behind)?;
-    cut_event(read_call(call), picks, in_range, read_writing(rest))
+    let read = read_picks(behind);
+    let picks = &read.places[..read.count];
+    let writing = read_writing(read.rest);
+    cut_event(alloc, read_call(call), picks, read.in_range, writing)
 }

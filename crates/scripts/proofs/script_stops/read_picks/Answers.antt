@@ -12,5 +12,5 @@ loop-preserved c =
       has = one_pick_more (fields c.args.behind.now) taken c.loop.read c.take.new.self field c.in-Some-read_pick.pick c.loop.invariant.has
           (c.in-Some.ensures ∙ ap (λ (r : List ℕ). field ∷ fields r) (sym c.take.ensures.rest)) c.in-Some-read_pick.ensures c.take.ensures.picks c.take.ensures.in_range;
       count = length-append taken (field ∷ []) ∙ ap (λ (n : ℕ). n + 1) c.loop.invariant.count;
-      room = rw c.take.ensures.room c.loop.invariant.room;
+      places = c.take.ensures.count ∙ ap (λ (n : ℕ). n + 1) c.loop.invariant.places;
     }

@@ -1,5 +1,4 @@
-use Rattle.std.proofs.Common.{◌≡◌, ◌≤◌, length}
-use Rattle.std.specs.Vec.{vec_capacity}
+use Rattle.std.proofs.Common.{◌≡◌, length}
 use Rattle.dimacs.specs.Faults.{Row}
 use Rattle.dimacs.specs.Lines.{fields}
 use Rattle.scripts.specs.ScriptReading.{HasPicks}
@@ -10,5 +9,5 @@ invariant-loop l = record {
   taken : Row;
   has : HasPicks (fields l.behind) taken l.read;
   count : length taken ≡ l.counter;
-  room : 9 ≤ vec_capacity l.read.picks;
+  places : l.read.count ≡ l.counter;
 }

@@ -12,6 +12,11 @@ pub returns-in-Ok-clause-takes : goal.returns-in-Ok-clause-takes
 returns-in-Ok-clause-takes c earlier taken =
     takes_command earlier (fields c.args.line.now) c.in-Some.command c.args.self.now (record { commands = c.push.new.self }) (rw c.in-Some.is at c.in_ok-command.ensures) taken c.in-Ok.ensures.items
 
+pub returns-in-Err-clause-takes : goal.returns-in-Err-clause-takes
+returns-in-Err-clause-takes c earlier taken =
+    let reads = rw c.in-Some.is at c.in_ok-command.ensures in
+    reads.0 earlier
+
 pub returns-in_err-command-clause-takes : goal.returns-in_err-command-clause-takes
 returns-in_err-command-clause-takes c earlier taken =
     let p = err_from_is_err_and c.from_residual.result c.from_residual.ensures.1 in

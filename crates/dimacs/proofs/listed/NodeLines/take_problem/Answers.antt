@@ -1,7 +1,9 @@
-use Rattle.std.proofs.Common.{sym}
+use Rattle.std.proofs.Common.{◌∷◌, sym}
 use Rattle.std.proofs.lemmas.Result.{err_from_is_err_and}
+use lib.Chars.{codes}
 use Rattle.dimacs.specs.Lines.{fields}
-use Rattle.dimacs.proofs.Items.{by_memory}
+use Rattle.dimacs.specs.Listed.{listed}
+use Rattle.dimacs.proofs.Items.{told_of_table}
 use Rattle.dimacs.proofs.NodeRows.{takes_problem, problem_fault}
 use Rattle.dimacs.proofs.listed.NodeLines.take_problem.Goals as goal
 
@@ -14,7 +16,6 @@ pub returns-in_err-count-clause-takes : goal.returns-in_err-count-clause-takes
 returns-in_err-count-clause-takes g c earlier taken =
     let p = err_from_is_err_and c.from_residual.result c.from_residual.ensures.1 in
     rw (p.1, p.2)
-    (by_memory _
+    (told_of_table (listed g.I.NodeItem.word g.I.NodeItem.LETTER g.I.NodeItem.quantities g.K.NodeCount.nodes) earlier (codes "p" ∷ fields c.args.words.now) c.in_err-count.field-0.0
     (problem_fault g.I.NodeItem.word g.I.NodeItem.LETTER g.I.NodeItem.quantities g.K.NodeCount.nodes g.met.I.NodeItem.letter_is_no_mark g.met.I.NodeItem.letter_is_no_problem
-    g.I.NodeItem.says earlier _ (fields c.args.words.now) _ _ _ taken (rw (← c.is_some.ensures) (sym c.in_err-count.ensures.value)))
-    c.in_err-count.ensures.reads_nothing tt)
+    g.I.NodeItem.says earlier _ (fields c.args.words.now) _ _ _ taken (rw (← c.is_some.ensures) (sym c.in_err-count.ensures.value))))

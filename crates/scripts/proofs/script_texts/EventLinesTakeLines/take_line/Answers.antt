@@ -10,9 +10,10 @@ returns-in-None-clause-takes c earlier taken =
 
 pub returns-after-push-clause-takes : goal.returns-after-push-clause-takes
 returns-after-push-clause-takes c earlier taken =
+    let reads = rw c.in-Some.is at c.in_ok-read_line.ensures in
     elim c.match-push.branch [
-      | in-Ok w ↦ rw w.result-is (takes_event earlier (fields c.args.line.now) c.in-Some.event c.args.self.now (record { alloc = c.args.self.now.alloc; events = c.push.new.self }) (rw c.in-Some.is at c.in_ok-read_line.ensures) taken w.in-Ok.ensures.items)
-      | in-Err w ↦ rw w.result-is tt
+      | in-Ok w ↦ rw w.result-is (takes_event earlier (fields c.args.line.now) c.in-Some.event c.args.self.now (record { alloc = c.args.self.now.alloc; events = c.push.new.self }) reads taken w.in-Ok.ensures.items)
+      | in-Err w ↦ rw w.result-is (reads.0 earlier)
     ]
 
 pub returns-in_err-read_line-clause-takes : goal.returns-in_err-read_line-clause-takes

@@ -1,7 +1,11 @@
 -- What a pinned view shows.
-use Rattle.std.specs.Prelude.{◌≡◌}
+use Rattle.std.specs.Prelude.{◌≡◌, ℕ, None, IsSome}
+use Rattle.roadnet.specs.Net.{Net}
 use Rattle.rows.specs.Views.{Viewed}
-use Rattle.rows.specs.Cached.{HasRowsOf}
+use Rattle.rows.specs.Cached.{HasRowsOf, HasUsed, rows_of}
+use Rattle.rows.specs.Replies.{refusal_of}
+use Rattle.rows.specs.declared.queries.Query.{Query}
+use Rattle.rows.specs.declared.queries.Query.TheVariants.{Dist, From, Lower}
 use Rattle.rows.specs.declared.caches.RowCache.{RowCache}
 use Rattle.rows.specs.declared.pinned.Pinned.{Pinned}
 
@@ -20,3 +24,11 @@ HasOwnRows p = HasRowsOf (viewed p).version (viewed p).network (cached p)
 pub record IsSamePin (old new : Pinned) : Type 0 where
   pub view : viewed new ≡ viewed old
   pub cache : new.cache.ghost_name ≡ old.cache.ghost_name
+
+-- What the cache keeps after a query: `Dist`, where it is not refused, has used the row of its source; each other query leaves all as it was.
+abbrev pub HasAnswered : ℕ → Net → Query → RowCache → RowCache → Type 0
+HasAnswered version net (Dist s t) old new =
+    (refusal_of net (Dist s t) ≡ None → HasUsed version s old new)
+    × (IsSome (refusal_of net (Dist s t)) → rows_of new ≡ rows_of old)
+HasAnswered version net (From l t) old new = rows_of new ≡ rows_of old
+HasAnswered version net (Lower s t) old new = rows_of new ≡ rows_of old

@@ -2,7 +2,7 @@ ghost use Rattle.std.specs.Prelude.{◌≡◌, ℕ, None, IfOk, IsOk, IsSome, On
 ghost use Rattle.rows.specs.Cached.{KeepsOthers, HasRowsOf, HasUsed, capacity_of, row_kept, rows_of};
 ghost use Rattle.rows.specs.Replies.{IsRight, refusal_of};
 ghost use Rattle.rows.specs.Views.{AreRight};
-ghost use Rattle.rows.specs.Pins.{viewed, cached, HasOwnRows, IsSamePin};
+ghost use Rattle.rows.specs.Pins.{viewed, cached, HasOwnRows, HasAnswered, IsSamePin};
 ghost use Rattle.rows.specs.declared.queries.Query.TheVariants.{Dist, From, Lower};
 
 use crate::answers::{distance_in, refusal_of};
@@ -184,6 +184,8 @@ impl<'a> Pinned<'a> {
         ensures refused { IsSome (refusal_of (viewed self.old).network query.now) → IsOk result }
         ensures landmark { (l t : ℕ) → query.now ≡ From l t → IsOk result }
         ensures lower { (s t : ℕ) → query.now ≡ Lower s t → IsOk result }
+        ensures held { (s t : ℕ) → query.now ≡ Dist s t → IsSome (row_kept (viewed self.old).version s (cached self.old)) → IsOk result }
+        ensures used { HasAnswered (viewed self.old).version (viewed self.old).network query.now (cached self.old) (cached self.new) }
         ensures kept { HasOwnRows self.new }
         ensures others { KeepsOthers (viewed self.old).version (cached self.old) (cached self.new) }
         ensures cut { OnErr result (rows_of (cached self.new) ≡ rows_of (cached self.old)) }

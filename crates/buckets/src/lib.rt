@@ -11,6 +11,3 @@ mod ring;
 pub use ordered::OrderedBuckets;
 pub use queue::BucketQueue;
 pub use ring::RingBuckets;
-
-#[cfg(test)]
-mod tests;

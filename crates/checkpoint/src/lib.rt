@@ -13,6 +13,3 @@ pub use heads::choose;
 pub use slot_pages::part_of;
 pub use slots::{Checkpoint, load};
 pub use writing::NextCheckpoint;
-
-#[cfg(test)]
-mod writing_tests;

@@ -25,18 +25,3 @@ pub use office::{Closed, Naming, Receipt, Ticket};
 pub use pins::Pinned;
 pub use published::Shown;
 pub use readers::Reader;
-
-#[cfg(test)]
-mod crowd_tests;
-#[cfg(test)]
-mod ending_tests;
-#[cfg(test)]
-mod failing_tests;
-#[cfg(test)]
-mod holding_tests;
-#[cfg(test)]
-mod keeping_tests;
-#[cfg(test)]
-mod limit_tests;
-#[cfg(test)]
-mod tests;

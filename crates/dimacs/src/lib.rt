@@ -32,8 +32,3 @@ pub use pairs::{Pair, parse_p2p, read_p2p, read_p2p_counted};
 pub use reading::{split_one, split_two};
 pub use taking::TakeLines;
 pub use words::{OneNumber, TwoNumbers, word_of_one, word_of_two};
-
-#[cfg(test)]
-mod other_tests;
-#[cfg(test)]
-mod tests;

@@ -17,6 +17,3 @@ pub use gated::{
 };
 pub use mem_disk::MemDisk;
 pub use stoppable::{Pick, Stoppable};
-
-#[cfg(test)]
-mod tests;

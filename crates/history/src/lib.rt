@@ -7,8 +7,6 @@ mod entries;
 mod fronts;
 mod histories;
 mod rules;
-#[cfg(test)]
-mod tests;
 
 pub use claims::{Claim, Settled};
 pub use entries::{Base, Entry};

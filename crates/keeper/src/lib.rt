@@ -26,10 +26,3 @@ pub use ledgers::Ledger;
 pub use machine::{Answer, Event, Receipt, Replied, Ticket, Writing};
 pub use rehearsing::{Rehearsal, rehearse};
 pub use tasks::Task;
-
-#[cfg(test)]
-mod ledger_tests;
-#[cfg(test)]
-mod rehearsing_tests;
-#[cfg(test)]
-mod tests;

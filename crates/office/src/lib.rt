@@ -15,6 +15,3 @@ pub use closed::Closed;
 pub use history::{Claim as Ticket, Settled as Receipt};
 pub use naming::Naming;
 pub use offices::Office;
-
-#[cfg(test)]
-mod tests;

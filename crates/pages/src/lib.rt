@@ -22,6 +22,3 @@ pub use layout::{ARCS_A_PAGE, PAGES_AT_ONCE, WORDS_A_PAGE};
 pub use slot_head::{MOST_VERSIONS, SlotHead, decode_slot_head, encode_slot_head};
 pub use word_page::{WordPage, decode_word_page, encode_word_page};
 pub use writer::PAGE_SIZE;
-
-#[cfg(test)]
-mod tests;

@@ -7,8 +7,6 @@ mod publishers;
 mod readers;
 mod rules;
 mod shown;
-#[cfg(test)]
-mod tests;
 
 pub use published::Published;
 pub use publishers::Publisher;

@@ -8,12 +8,3 @@ mod running;
 
 pub use joint::{joint_counted, joint_text};
 pub use rehearsing::{rehearse_counted, rehearse_text};
-
-#[cfg(test)]
-mod growth_tests;
-#[cfg(test)]
-mod step_tests;
-#[cfg(test)]
-mod sweep_tests;
-#[cfg(test)]
-mod tests;

@@ -8,6 +8,3 @@ mod tentative;
 pub use crew::{CHUNK, Crew};
 pub use team::{Solo, Team};
 pub use tentative::Tentative;
-
-#[cfg(test)]
-mod tests;

@@ -17,6 +17,3 @@ pub use laws::{laws_of_batches, laws_of_refusals, laws_of_steps, laws_of_walks};
 pub use networks::{LONGEST_ARC, MOST_ARCS, MOST_LANDMARKS, MOST_NODES, Network};
 pub use outlines::Outline;
 pub use refusals::{OutOfMemory, Refusal};
-
-#[cfg(test)]
-mod tests;

@@ -19,10 +19,3 @@ pub use pinned::Pinned;
 pub use queries::{Query, Reply};
 pub use searches::Searches;
 pub use views::View;
-
-#[cfg(test)]
-mod compared_tests;
-#[cfg(test)]
-mod tests;
-#[cfg(test)]
-mod view_tests;

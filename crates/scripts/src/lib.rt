@@ -7,6 +7,3 @@ mod script_texts;
 mod script_words;
 
 pub use script_texts::{parse_script, read_script_counted};
-
-#[cfg(test)]
-mod tests;

@@ -12,8 +12,3 @@ mod words;
 
 pub use answers::Session;
 pub use serving::serve;
-
-#[cfg(test)]
-mod memory_tests;
-#[cfg(test)]
-mod tests;

@@ -7,6 +7,3 @@ mod placing;
 
 pub use groups::{Snapshot, default_delta};
 pub use legs::{Leg, Part};
-
-#[cfg(test)]
-mod tests;

@@ -22,32 +22,3 @@ pub use making::{create, open};
 pub use parts::Part;
 pub use standing::{Inspected, Standing, inspect};
 pub use store::Store;
-
-#[cfg(test)]
-mod checkpoint_tests;
-#[cfg(test)]
-mod commit_tests;
-#[cfg(test)]
-mod creation_tests;
-#[cfg(test)]
-mod judge;
-#[cfg(test)]
-mod judge_tests;
-#[cfg(test)]
-mod limit_tests;
-#[cfg(test)]
-mod opening_tests;
-#[cfg(test)]
-mod part_tests;
-#[cfg(test)]
-mod refusal_tests;
-#[cfg(test)]
-mod reuse_tests;
-#[cfg(test)]
-mod standing_tests;
-#[cfg(test)]
-mod sweep_tests;
-#[cfg(test)]
-mod tests;
-#[cfg(test)]
-mod worked;

@@ -13,12 +13,3 @@ pub use asking::{ask_counted, ask_text};
 pub use checking::{check_counted, check_text};
 pub use creating::{create_counted, create_store, create_text, read_planned};
 pub use outcomes::Outcome;
-
-#[cfg(test)]
-mod check_tests;
-#[cfg(test)]
-mod failing_tests;
-#[cfg(test)]
-mod growth_tests;
-#[cfg(test)]
-mod tests;

@@ -1,4 +1,0 @@
-mod networks;
-mod plain;
-mod rows;
-mod takings;

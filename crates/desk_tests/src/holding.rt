@@ -1,0 +1,525 @@
+// What goes on while the flusher or the builder is held up.
+ghost use Rattle.std.specs.Prelude.{◌≡◌, true, IfOk};
+ghost use Rattle.store.specs.State.{CameTidy, is_calm};
+ghost use Rattle.desk.specs.Openings.{IsNewDesk};
+
+use crate::desks::{
+    CLOSE, SHORTER, ended, refusal_of, seen, settled, settled_number, setup, store_of_six,
+};
+use desk::{Desk, Gate, History, Naming, Reader, Receipt, Ticket};
+use disk::Disk;
+use roadnet::{Command, Refusal};
+use rows::Reply;
+use std::alloc::Global;
+use std::marker::Brand;
+use std::sync::atomic::{AtomicBool, Ordering};
+use std::sync::{Arc, Wait};
+use std::test::Fail;
+use std::thread::{self, Threads};
+use std::time::{Clock, Duration};
+use store::Store;
+
+/// How often a holding or a waiting looks, a millisecond apart.
+const MOST_TURNS: u32 = 10000;
+
+/// What has happened, told by the gate to its test and by the test to the gate.
+#[derive(Drop)]
+struct Signals {
+    /// The first command was submitted.
+    submitted: AtomicBool,
+    first_called: AtomicBool,
+    second_called: AtomicBool,
+    /// A step of a checkpoint is held.
+    stepping: AtomicBool,
+    /// What is held may go on.
+    released: AtomicBool,
+    /// A row worker was called for another landmark than its own.
+    misplaced: AtomicBool,
+    /// A holding ended by itself.
+    expired: AtomicBool,
+}
+
+impl Signals {
+    fn new() -> Signals {
+        Signals {
+            submitted: AtomicBool::new(false),
+            first_called: AtomicBool::new(false),
+            second_called: AtomicBool::new(false),
+            stepping: AtomicBool::new(false),
+            released: AtomicBool::new(false),
+            misplaced: AtomicBool::new(false),
+            expired: AtomicBool::new(false),
+        }
+    }
+}
+
+/// Looks until it holds, 10,000 times at most.
+fn comes<R: Clock>(rt: &R, flag: &AtomicBool) -> bool {
+    for _ in 0..MOST_TURNS {
+        if flag.load(Ordering::SeqCst) {
+            return true;
+        }
+        thread::sleep(rt, Duration::from_millis(1));
+    }
+    false
+}
+
+/// It holds the flusher until the first submit has returned, and the rows until the test lets them go.
+#[derive(Drop)]
+struct Held<R: Clock> {
+    rt: R,
+    signals: Arc<Signals>,
+}
+
+impl<R: Clock> Held<R> {
+    /// Waits for the flag.
+    fn hold(&self, flag: &AtomicBool) {
+        if !comes(&self.rt, flag) {
+            self.signals.expired.store(true, Ordering::SeqCst);
+        }
+    }
+
+    /// The first worker waits for the second.
+    fn meet(&self, worker: u32) {
+        if worker == 1 {
+            self.signals.first_called.store(true, Ordering::SeqCst);
+            self.hold(&self.signals.second_called);
+        } else {
+            self.signals.second_called.store(true, Ordering::SeqCst);
+        }
+    }
+}
+
+impl<R: Clock> Gate for Held<R> {
+    fn before_row(&self, worker: u32, landmark: u32) {
+        if !matches!((worker, landmark), (1, 3) | (2, 6)) {
+            self.signals.misplaced.store(true, Ordering::SeqCst);
+        }
+        self.meet(worker);
+        self.hold(&self.signals.released);
+    }
+
+    fn before_flush(&self, _durable: u64) -> bool {
+        self.hold(&self.signals.submitted);
+        true
+    }
+
+    fn before_task(&self, _durable: u64) -> bool {
+        true
+    }
+
+    fn before_step(&self, _version: u64) -> bool {
+        true
+    }
+}
+
+/// Pins until this version is shown, 10,000 times at most, and gives the distance in it.
+fn comes_to<N: Naming, R: Threads + Clock>(
+    rt: &R,
+    alloc: Global,
+    reader: &mut Reader<N>,
+    version: u64,
+) -> Result<Reply, Refusal> {
+    for _ in 0..MOST_TURNS {
+        let (at, reply) = seen(rt, alloc, reader)?;
+        if at == version {
+            return Ok(reply);
+        }
+        thread::sleep(rt, Duration::from_millis(1));
+    }
+    Err(Refusal::NotYet)
+}
+
+/// Whether both row workers have been called.
+fn are_called<R: Clock>(rt: &R, signals: &Signals) -> bool {
+    comes(rt, &signals.first_called) && comes(rt, &signals.second_called)
+}
+
+/// A submit returns while the flusher is held.
+fn submit_first<
+    N: Naming + Send + Sync + 'static,
+    D: Disk + Drop + Send + 'static,
+    G: Gate + Drop + Send + Sync + 'static,
+    R: Threads + Wait + Copy + Send + Sync + 'static,
+>(desk: &Desk<N, D, G, R>, signals: &Signals) -> Result<(), Refusal> {
+    desk.submit(CLOSE)?;
+    signals.submitted.store(true, Ordering::SeqCst);
+    Ok(())
+}
+
+/// Both row workers are called behind a submit, and a command more is settled while they are held.
+fn settle_beside_rows<
+    N: Naming + Send + Sync + 'static,
+    D: Disk + Drop + Send + 'static,
+    G: Gate + Drop + Send + Sync + 'static,
+    R: Threads + Wait + Clock + Copy + Send + Sync + 'static,
+>(rt: &R, desk: &Desk<N, D, G, R>, signals: &Signals) -> Result<(), Refusal> {
+    submit_first(desk, signals)?;
+    if !are_called(rt, signals) {
+        return Err(Refusal::NoThread);
+    }
+    settled(desk, SHORTER)?;
+    Ok(())
+}
+
+/// A command is submitted; the answer is the distance in the version that comes with it.
+fn submit_and_watch<
+    N: Naming + Send + Sync + 'static,
+    D: Disk + Drop + Send + 'static,
+    G: Gate + Drop + Send + Sync + 'static,
+    R: Threads + Wait + Clock + Copy + Send + Sync + 'static,
+>(
+    rt: &R,
+    alloc: Global,
+    desk: &Desk<N, D, G, R>,
+    reader: &mut Reader<N>,
+    version: u64,
+) -> Result<Reply, Refusal> {
+    desk.submit(SHORTER)?;
+    comes_to(rt, alloc, reader, version)
+}
+
+/// Whether the distance is 14 in each version: they come one after the other, without a call of the desk that asks for them.
+fn watch_on<
+    N: Naming + Send + Sync + 'static,
+    D: Disk + Drop + Send + 'static,
+    G: Gate + Drop + Send + Sync + 'static,
+    R: Threads + Wait + Clock + Copy + Send + Sync + 'static,
+>(rt: &R, alloc: Global, desk: &Desk<N, D, G, R>, reader: &mut Reader<N>) -> Result<bool, Refusal> {
+    if comes_to(rt, alloc, reader, 2)? != Reply::Length(14) {
+        return Ok(false);
+    }
+    for version in 3..13u64 {
+        if submit_and_watch(rt, alloc, desk, reader, version)? != Reply::Length(14) {
+            return Ok(false);
+        }
+    }
+    Ok(true)
+}
+
+/// What a reader sees while the rows are held, and whether the distance is 14 in each version that comes behind.
+type Watched = ((u64, Reply), bool);
+
+/// The reader sees the version before while the rows are held, and later ones when they are let go.
+fn watch_by<
+    N: Naming + Send + Sync + 'static,
+    D: Disk + Drop + Send + 'static,
+    G: Gate + Drop + Send + Sync + 'static,
+    R: Threads + Wait + Clock + Copy + Send + Sync + 'static,
+>(
+    rt: &R,
+    alloc: Global,
+    desk: &Desk<N, D, G, R>,
+    signals: &Signals,
+    reader: &mut Reader<N>,
+) -> Result<Watched, Refusal> {
+    let held = seen(rt, alloc, reader)?;
+    signals.released.store(true, Ordering::SeqCst);
+    let behind = watch_on(rt, alloc, desk, reader)?;
+    Ok((held, behind))
+}
+
+/// The same by a reader that came first.
+fn watch_in<
+    N: Naming + Send + Sync + 'static,
+    D: Disk + Drop + Send + 'static,
+    G: Gate + Drop + Send + Sync + 'static,
+    R: Threads + Wait + Clock + Copy + Send + Sync + 'static,
+>(rt: &R, alloc: Global, desk: &Desk<N, D, G, R>, signals: &Signals) -> Result<Watched, Refusal> {
+    let mut reader = desk.reader()?;
+    settle_beside_rows(rt, desk, signals)?;
+    watch_by(rt, alloc, desk, signals, &mut reader)
+}
+
+/// What a reader sees of a desk whose flusher and builder are held at first.
+fn watch_views<
+    N: Naming + Send + Sync + 'static,
+    D: Disk + Drop + Send + 'static,
+    G: Gate + Drop + Send + Sync + 'static,
+    R: Threads + Wait + Clock + Copy + Send + Sync + 'static,
+>(
+    rt: R,
+    alloc: Global,
+    history: History,
+    store: Store<D>,
+    signals: &Signals,
+    gate: G,
+) -> Result<(Watched, usize), Refusal>
+    requires calm { is_calm store ≡ true }
+    requires new { IsNewDesk N.origin history store }
+    requires came_tidy { N.came_tidy → CameTidy D.honest D.content store.given }
+{
+    let desk: Desk<N, D, G, R> = Desk::start(rt, alloc, history, store, gate, setup(2))?;
+    let told = watch_in(&rt, alloc, &desk, signals);
+    ended(desk, told)
+}
+
+#[test]
+fn views_come_unasked(rt: HostRuntime) -> Result<(), Fail> {
+    let alloc = rt.alloc();
+    let signals = Arc::new(alloc, Signals::new())?;
+    let gate = Held {
+        rt,
+        signals: Arc::try_clone(&signals)?,
+    };
+    let store = store_of_six(alloc, &[3, 6], 64)?;
+    let history = History::new(store.network(), store.version());
+    let told = watch_views::<Brand, _, _, _>(rt, alloc, history, store, &signals, gate)?;
+    assert_eq!(rt; told, (((0, Reply::Length(15)), true), 12));
+    assert!(rt; !signals.misplaced.load(Ordering::SeqCst));
+    assert!(rt;
+        !signals.expired.load(Ordering::SeqCst),
+        "no holding ended by itself"
+    );
+    Ok(())
+}
+
+/// It holds the steps of checkpoints until the test lets them go.
+#[derive(Drop)]
+struct Stepping<R: Clock> {
+    held: Held<R>,
+}
+
+impl<R: Clock> Stepping<R> {
+    /// A step is held.
+    fn hold_step(&self) {
+        self.held.signals.stepping.store(true, Ordering::SeqCst);
+        self.held.hold(&self.held.signals.released);
+    }
+}
+
+impl<R: Clock> Gate for Stepping<R> {
+    fn before_row(&self, _worker: u32, _landmark: u32) {}
+
+    fn before_flush(&self, _durable: u64) -> bool {
+        true
+    }
+
+    fn before_task(&self, _durable: u64) -> bool {
+        true
+    }
+
+    fn before_step(&self, _version: u64) -> bool {
+        self.hold_step();
+        true
+    }
+}
+
+/// What comes of a command when the steps are let go: its number.
+fn settle_behind<
+    N: Naming + Send + Sync + 'static,
+    D: Disk + Drop + Send + 'static,
+    G: Gate + Drop + Send + Sync + 'static,
+    R: Threads + Wait + Copy + Send + Sync + 'static,
+>(desk: &Desk<N, D, G, R>, signals: &Signals, ticket: Ticket) -> Result<u64, Refusal>
+    requires { ticket.origin ≡ N.origin }
+{
+    signals.released.store(true, Ordering::SeqCst);
+    settled_number(desk, ticket)
+}
+
+/// A command is settled, and a step of a checkpoint is held behind it.
+fn settle_before_step<
+    N: Naming + Send + Sync + 'static,
+    D: Disk + Drop + Send + 'static,
+    G: Gate + Drop + Send + Sync + 'static,
+    R: Threads + Wait + Clock + Copy + Send + Sync + 'static,
+>(rt: &R, desk: &Desk<N, D, G, R>, signals: &Signals) -> Result<Receipt, Refusal>
+    ensures { IfOk result (λ receipt. receipt.origin ≡ N.origin) }
+{
+    let first = settled(desk, CLOSE)?;
+    if !comes(rt, &signals.stepping) {
+        return Err(Refusal::NoThread);
+    }
+    Ok(first)
+}
+
+/// A reader sees a command that is settled, while a step is held.
+fn version_beside_step<
+    N: Naming + Send + Sync + 'static,
+    D: Disk + Drop + Send + 'static,
+    G: Gate + Drop + Send + Sync + 'static,
+    R: Threads + Wait + Clock + Copy + Send + Sync + 'static,
+>(rt: &R, alloc: Global, desk: &Desk<N, D, G, R>, first: &Receipt) -> Result<u64, Refusal>
+    requires { first.now.origin ≡ N.origin }
+{
+    let shown = desk.wait_shown(first.ticket())?;
+    let mut reader = desk.reader()?;
+    reader.learn(&shown);
+    let (version, _) = seen(rt, alloc, &mut reader)?;
+    Ok(version)
+}
+
+/// While a step of a checkpoint is held, a submit has a ticket and a reader pins; the command is settled when the step goes on.
+fn go_on_beside_step<
+    N: Naming + Send + Sync + 'static,
+    D: Disk + Drop + Send + 'static,
+    G: Gate + Drop + Send + Sync + 'static,
+    R: Threads + Wait + Clock + Copy + Send + Sync + 'static,
+>(
+    rt: &R,
+    alloc: Global,
+    desk: &Desk<N, D, G, R>,
+    signals: &Signals,
+) -> Result<(u64, u64), Refusal> {
+    let first = settle_before_step(rt, desk, signals)?;
+    let second = desk.submit(SHORTER)?;
+    let version = version_beside_step(rt, alloc, desk, &first)?;
+    let number = settle_behind(desk, signals, second)?;
+    Ok((version, number))
+}
+
+/// The version that is seen beside a held step, and the number of a command that is submitted there.
+fn submit_beside_a_step<
+    N: Naming + Send + Sync + 'static,
+    D: Disk + Drop + Send + 'static,
+    G: Gate + Drop + Send + Sync + 'static,
+    R: Threads + Wait + Clock + Copy + Send + Sync + 'static,
+>(
+    rt: R,
+    alloc: Global,
+    history: History,
+    store: Store<D>,
+    signals: &Signals,
+    gate: G,
+) -> Result<((u64, u64), usize), Refusal>
+    requires calm { is_calm store ≡ true }
+    requires new { IsNewDesk N.origin history store }
+    requires came_tidy { N.came_tidy → CameTidy D.honest D.content store.given }
+{
+    let desk: Desk<N, D, G, R> = Desk::start(rt, alloc, history, store, gate, setup(1))?;
+    let told = go_on_beside_step(&rt, alloc, &desk, signals);
+    ended(desk, told)
+}
+
+#[test]
+fn steps_hold_up_nobody(rt: HostRuntime) -> Result<(), Fail> {
+    let alloc = rt.alloc();
+    let signals = Arc::new(alloc, Signals::new())?;
+    let gate = Stepping {
+        held: Held {
+            rt,
+            signals: Arc::try_clone(&signals)?,
+        },
+    };
+    let store = store_of_six(alloc, &[], 2)?;
+    let history = History::new(store.network(), store.version());
+    let told = submit_beside_a_step::<Brand, _, _, _>(rt, alloc, history, store, &signals, gate)?;
+    assert_eq!(rt; told, ((1, 2), 2));
+    assert!(rt; !signals.expired.load(Ordering::SeqCst));
+    Ok(())
+}
+
+/// Whether the desk refuses each of these commands so.
+fn are_refused<
+    N: Naming + Send + Sync + 'static,
+    D: Disk + Drop + Send + 'static,
+    G: Gate + Drop + Send + Sync + 'static,
+    R: Threads + Wait + Copy + Send + Sync + 'static,
+>(desk: &Desk<N, D, G, R>, table: &[(Command, Refusal)]) -> bool {
+    for (command, refusal) in table {
+        if refusal_of(desk.submit(*command)) != Err(*refusal) {
+            return false;
+        }
+    }
+    true
+}
+
+/// Submits so many commands.
+fn fill<
+    N: Naming + Send + Sync + 'static,
+    D: Disk + Drop + Send + 'static,
+    G: Gate + Drop + Send + Sync + 'static,
+    R: Threads + Wait + Copy + Send + Sync + 'static,
+>(desk: &Desk<N, D, G, R>, count: u32) -> Result<(), Refusal> {
+    for _ in 0..count {
+        desk.submit(SHORTER)?;
+    }
+    Ok(())
+}
+
+/// Whether a queue of 4,096 commands takes one more. The flusher may go on behind that.
+fn fill_and_ask<
+    N: Naming + Send + Sync + 'static,
+    D: Disk + Drop + Send + 'static,
+    G: Gate + Drop + Send + Sync + 'static,
+    R: Threads + Wait + Copy + Send + Sync + 'static,
+>(desk: &Desk<N, D, G, R>, signals: &Signals) -> Result<bool, Refusal> {
+    fill(desk, 4095)?;
+    let is_full = are_refused(desk, &[(SHORTER, Refusal::QueueFull)]);
+    signals.submitted.store(true, Ordering::SeqCst);
+    Ok(is_full)
+}
+
+/// Whether commands are refused that the network doesn't take, and then one more than may be pending.
+fn refuse_all<
+    N: Naming + Send + Sync + 'static,
+    D: Disk + Drop + Send + 'static,
+    G: Gate + Drop + Send + Sync + 'static,
+    R: Threads + Wait + Copy + Send + Sync + 'static,
+>(
+    desk: &Desk<N, D, G, R>,
+    signals: &Signals,
+    table: &[(Command, Refusal)],
+) -> Result<(bool, bool), Refusal> {
+    desk.submit(CLOSE)?;
+    let refused = are_refused(desk, table);
+    Ok((refused, fill_and_ask(desk, signals)?))
+}
+
+/// The same of a desk whose flusher is held at first.
+fn fill_the_queue<
+    N: Naming + Send + Sync + 'static,
+    D: Disk + Drop + Send + 'static,
+    G: Gate + Drop + Send + Sync + 'static,
+    R: Threads + Wait + Copy + Send + Sync + 'static,
+>(
+    rt: R,
+    alloc: Global,
+    history: History,
+    store: Store<D>,
+    signals: &Signals,
+    gate: G,
+    table: &[(Command, Refusal)],
+) -> Result<((bool, bool), usize), Refusal>
+    requires calm { is_calm store ≡ true }
+    requires new { IsNewDesk N.origin history store }
+    requires came_tidy { N.came_tidy → CameTidy D.honest D.content store.given }
+{
+    let desk: Desk<N, D, G, R> = Desk::start(rt, alloc, history, store, gate, setup(1))?;
+    let told = refuse_all(&desk, signals, table);
+    ended(desk, told)
+}
+
+#[test]
+fn submit_refuses_as_the_keeper(rt: HostRuntime) -> Result<(), Fail> {
+    let alloc = rt.alloc();
+    let signals = Arc::new(alloc, Signals::new())?;
+    let gate = Held {
+        rt,
+        signals: Arc::try_clone(&signals)?,
+    };
+    signals.second_called.store(true, Ordering::SeqCst);
+    signals.released.store(true, Ordering::SeqCst);
+    let store = store_of_six(alloc, &[3], 64)?;
+    let history = History::new(store.network(), store.version());
+    let table = [
+        (Command::Close { arc: 9 }, Refusal::NoSuchArc),
+        (
+            Command::Set {
+                arc: 1,
+                length: 2147483648,
+            },
+            Refusal::LengthRange,
+        ),
+        (CLOSE, Refusal::AlreadyClosed),
+        (Command::Reopen { arc: 1 }, Refusal::AlreadyOpen),
+        (Command::Mark { node: 7 }, Refusal::NoSuchNode),
+        (Command::Mark { node: 3 }, Refusal::AlreadyLandmark),
+        (Command::Unmark { node: 1 }, Refusal::NotALandmark),
+    ];
+    let told = fill_the_queue::<Brand, _, _, _>(rt, alloc, history, store, &signals, gate, &table)?;
+    assert_eq!(rt; told, ((true, true), 4096));
+    assert!(rt; !signals.expired.load(Ordering::SeqCst));
+    Ok(())
+}

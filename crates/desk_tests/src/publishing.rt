@@ -1,0 +1,219 @@
+ghost use Rattle.std.specs.Prelude.{◌≡◌, ◌+◌, ◌++◌, ◌∷◌, [], Some, length, IfOk, MatchBool};
+ghost use Rattle.roadnet.specs.Step.{after};
+ghost use Rattle.published.specs.Rules.{Follows};
+ghost use Rattle.published.specs.Showing.{Showing};
+
+use crate::desks::network;
+use history::{Front, History};
+use published::{Published, Publisher, Reader};
+use relax::Solo;
+use roadnet::{Command, Network, OutOfMemory, Refusal};
+use rows::View;
+use std::alloc::Global;
+use std::sync::{Arc, Wait};
+
+const CLOSE: Command = Command::Close { arc: 1 };
+
+const REOPEN: Command = Command::Reopen { arc: 1 };
+
+/// A view of this network, to be shown after these commands.
+fn shown_after(
+    alloc: Global,
+    version: u64,
+    network: &Network,
+    commands: Front,
+) -> Result<Published, OutOfMemory>
+    requires network { after commands.origin.base commands.commands ≡ Some network.now }
+    requires version { version ≡ commands.origin.version + length commands.commands }
+    ensures { IfOk result (λ shown. shown.shown ≡ commands) }
+{
+    let copy = network.copy()?;
+    let view = View::build(alloc, version, copy, None, &Solo)?;
+    match Arc::new(alloc, view) {
+        Ok(view) => Ok(Published::new(view, commands)),
+        Err(_) => Err(OutOfMemory),
+    }
+}
+
+/// Writes a command that the network takes. Then these are the desk's commands and its network.
+fn carry_out(history: &mut History, network: &mut Network, command: Command) -> bool
+    requires { after history.old.origin.base history.old.commands ≡ Some network.old }
+    ensures history { MatchBool result (history.new ≡ record history.old { commands = history.old.commands ++ command ∷ [] }) (Unit {0}) }
+    ensures network { MatchBool result (after history.new.origin.base history.new.commands ≡ Some network.new) (Unit {0}) }
+{
+    match network.apply(command) {
+        Ok(()) => history.write(command),
+        Err(_) => false,
+    }
+}
+
+/// Three views of one desk that was opened at version 7, each to be shown after a command more than the one before.
+fn three(alloc: Global) -> Result<(Published, Published, Published), Refusal>
+    ensures { IfOk result (λ views. Follows (Some views.0.shown) views.1.shown × Follows (Some views.0.shown) views.2.shown × Follows (Some views.1.shown) views.2.shown) }
+{
+    let mut network = network(alloc, 2, &[(1, 2, 5)], &[])?;
+    let mut history = History::new(&network, 7);
+    let first = shown_after(alloc, 7, &network, history.front(0))?;
+    if !carry_out(&mut history, &mut network, CLOSE) {
+        return Err(Refusal::Closed);
+    }
+    let second = shown_after(alloc, 8, &network, history.front(1))?;
+    if !carry_out(&mut history, &mut network, REOPEN) {
+        return Err(Refusal::Closed);
+    }
+    let third = shown_after(alloc, 9, &network, history.front(2))?;
+    Ok((first, second, third))
+}
+
+/// A publisher that shows the first of these views, and the two others.
+fn ready<R: Wait>(rt: &R, alloc: Global) -> Result<(Publisher, Published, Published), Refusal>
+    ensures { IfOk result (λ r. Follows (Some r.0.shown) r.1.shown × Follows (Some r.0.shown) r.2.shown × Follows (Some r.1.shown) r.2.shown) }
+{
+    let (first, second, third) = three(alloc)?;
+    let publisher = Publisher::new(rt, alloc, first)?;
+    Ok((publisher, second, third))
+}
+
+/// The version that a reader sees.
+fn seen(reader: &mut Reader) -> Result<u64, Refusal>
+    ensures { reader.new.origin ≡ reader.old.origin }
+{
+    let view = reader.look()?;
+    Ok(view.version())
+}
+
+/// Shows a view. The answer is whether it is shown: else memory was wanting.
+fn shows<R: Wait>(rt: &R, publisher: &mut Publisher, next: Published) -> bool
+    requires { Follows (Some publisher.old.shown) next.shown }
+    ensures values { MatchBool result (publisher.new ≡ next) (publisher.new ≡ publisher.old) }
+    ensures later { (last : Showing) → Follows (Some publisher.old.shown) last.shown → Follows (Some next.shown) last.shown → Follows (Some publisher.new.shown) last.shown }
+{
+    publisher.switch(rt, next).is_ok()
+}
+
+/// What a reader sees before a switch, and behind it when it has learned of it.
+fn learn_and_look<R: Wait>(
+    rt: &R,
+    publisher: &mut Publisher,
+    next: Published,
+) -> Result<(u64, u64), Refusal>
+    requires { Follows (Some publisher.old.shown) next.shown }
+{
+    let mut reader = publisher.reader()?;
+    let before = seen(&mut reader)?;
+    publisher.switch(rt, next)?;
+    reader.learn(&publisher.tell());
+    Ok((before, seen(&mut reader)?))
+}
+
+#[test]
+fn looks_behind_what_it_learned(rt: HostRuntime) -> Result<(), Refusal> {
+    let (mut publisher, next, _) = ready(&rt, rt.alloc())?;
+    let versions = learn_and_look(&rt, &mut publisher, next)?;
+    assert!(rt; versions == (7, 8));
+    publisher.close(&rt);
+    Ok(())
+}
+
+/// What two readers see behind a switch of which the first learned, and the second did not.
+fn look_beside<R: Wait>(
+    rt: &R,
+    publisher: &mut Publisher,
+    next: Published,
+) -> Result<(u64, u64), Refusal>
+    requires { Follows (Some publisher.old.shown) next.shown }
+{
+    let mut told = publisher.reader()?;
+    let mut other = publisher.reader()?;
+    publisher.switch(rt, next)?;
+    told.learn(&publisher.tell());
+    Ok((seen(&mut told)?, seen(&mut other)?))
+}
+
+#[test]
+fn second_reader_learned_nothing(rt: HostRuntime) -> Result<(), Refusal> {
+    let (mut publisher, next, _) = ready(&rt, rt.alloc())?;
+    let versions = look_beside(&rt, &mut publisher, next)?;
+    assert!(rt; versions == (8, 8));
+    publisher.close(&rt);
+    Ok(())
+}
+
+/// As many readers as there is room for.
+fn fill(alloc: Global, publisher: &mut Publisher) -> Result<Vec<Reader>, Refusal> {
+    let mut readers = Vec::new(alloc);
+    for _ in 0..64 {
+        let reader = publisher.reader()?;
+        if readers.push(reader).is_err() {
+            return Err(Refusal::OutOfMemory);
+        }
+    }
+    Ok(readers)
+}
+
+#[test]
+fn place_for_64_readers(rt: HostRuntime) -> Result<(), Refusal> {
+    let (mut publisher, _, _) = ready(&rt, rt.alloc())?;
+    let mut readers = fill(rt.alloc(), &mut publisher)?;
+    assert!(rt; publisher.reader().err() == Some(Refusal::NoReaderPlace));
+    if let Some(mut reader) = readers.pop() {
+        assert!(rt; seen(&mut reader)? == 7);
+    }
+    assert!(rt; readers.len() == 63);
+    Ok(())
+}
+
+#[test]
+fn closed_to_readers(rt: HostRuntime) -> Result<(), Refusal> {
+    let (mut publisher, _, _) = ready(&rt, rt.alloc())?;
+    let mut reader = publisher.reader()?;
+    assert!(rt; seen(&mut reader)? == 7);
+    publisher.close(&rt);
+    assert!(rt; seen(&mut reader).err() == Some(Refusal::Closed));
+    Ok(())
+}
+
+/// Whether each of two switches was made, and what a reader sees behind each.
+fn switch_twice<R: Wait>(
+    rt: &R,
+    publisher: &mut Publisher,
+    second: Published,
+    third: Published,
+) -> Result<[(bool, u64); 2], Refusal>
+    requires second { Follows (Some publisher.old.shown) second.shown }
+    requires third { Follows (Some publisher.old.shown) third.shown × Follows (Some second.shown) third.shown }
+{
+    let mut reader = publisher.reader()?;
+    let first = (shows(rt, publisher, second), seen(&mut reader)?);
+    Ok([first, (shows(rt, publisher, third), seen(&mut reader)?)])
+}
+
+#[test]
+fn two_switches(rt: HostRuntime) -> Result<(), Refusal> {
+    let (mut publisher, second, third) = ready(&rt, rt.alloc())?;
+    let told = switch_twice(&rt, &mut publisher, second, third)?;
+    assert!(rt; told == [(true, 8), (true, 9)]);
+    publisher.close(&rt);
+    Ok(())
+}
+
+/// A switch that finds no memory leaves what readers see, and the next one ends at its own view. To be run with each allocation failing in
+/// turn.
+#[test]
+fn allocations_fail_in_turn(rt: HostRuntime) {
+    let Ok((mut publisher, second, third)) = ready(&rt, rt.alloc()) else {
+        return;
+    };
+    match switch_twice(&rt, &mut publisher, second, third) {
+        Ok(told) => {
+            let wanted = [
+                [(true, 8), (true, 9)],
+                [(false, 7), (true, 9)],
+                [(true, 8), (false, 8)],
+            ];
+            assert!(rt; wanted.contains(&told));
+        }
+        Err(refusal) => assert!(rt; refusal == Refusal::OutOfMemory),
+    }
+    publisher.close(&rt);
+}

@@ -1,0 +1,98 @@
+use crate::stores::{bytes_of, created, with_bytes};
+use disk::{Disk, FailOnce, MemDisk};
+use printing::{CountedWriter, Failed};
+use roadnet::Refusal;
+use std::alloc::Global;
+use storetexts::{apply_text, check_counted, check_text};
+
+/// The store on a disk behind these commands.
+fn applied(alloc: Global, disk: MemDisk, commands: &[u8]) -> Result<MemDisk, Refusal> {
+    let mut out = Vec::new(alloc);
+    match apply_text(alloc, disk, commands, &mut out) {
+        (Ok(()), disk) => Ok(disk),
+        (Err(_), _) => Err(Refusal::Broken),
+    }
+}
+
+/// What is written of a store, and its disk.
+fn checked<D: Disk + Drop>(alloc: Global, disk: D) -> Result<(Vec<u8>, D), Failed> {
+    let mut out = Vec::new(alloc);
+    match check_text(alloc, disk, &mut out) {
+        (Ok(()), disk) => Ok((out, disk)),
+        (Err(failed), _) => Err(failed),
+    }
+}
+
+#[test]
+fn a_store_is_checked(rt: HostRuntime) -> Result<(), Refusal> {
+    let alloc = rt.alloc();
+    let table: [(&[u8], &[u8]); 4] = [
+        (b"", b"v 0\nslot A 1\njournal 0\n"),
+        (b"close 7\n", b"v 1\nslot A 1\njournal 1\n"),
+        (b"close 7\n", b"v 1\nslot A 1\njournal 1\n"),
+        (b"reopen 7\nmark 1\n", b"v 3\nslot B 2\njournal 1\n"),
+    ];
+    let (mut disk, _) = created(alloc, 1)?;
+    for (commands, wanted) in table {
+        let Ok((out, same)) = checked(alloc, applied(alloc, disk, commands)?) else {
+            return Err(Refusal::Broken);
+        };
+        assert!(rt; out.as_slice() == wanted);
+        disk = same;
+    }
+    Ok(())
+}
+
+/// What a look at a new store is refused for, this byte of it changed, or nothing.
+fn failure(alloc: Global, at: usize, byte: u8) -> Result<Option<Failed>, Refusal> {
+    let (mut disk, _) = created(alloc, 64)?;
+    let mut bytes = bytes_of(alloc, &mut disk)?;
+    if let Some(place) = bytes.get_mut(at) {
+        *place = byte;
+    }
+    match checked(alloc, with_bytes(alloc, &bytes)?) {
+        Ok(_) => Ok(None),
+        Err(failed) => Ok(Some(failed)),
+    }
+}
+
+#[test]
+fn damage_is_told(rt: HostRuntime) -> Result<(), Refusal> {
+    let table: [(usize, u8, Option<Refusal>); 8] = [
+        (8, 0, None),
+        (0, 0, Some(Refusal::NotAStore)),
+        (11, 2, Some(Refusal::WrongFormat)),
+        (23, 63, Some(Refusal::Damaged { page: 0 })),
+        (4099, 7, Some(Refusal::Damaged { page: 1 })),
+        (12287, 0, Some(Refusal::Damaged { page: 2 })),
+        (12323, 1, Some(Refusal::Damaged { page: 3 })),
+        (28671, 165, Some(Refusal::Damaged { page: 6 })),
+    ];
+    for (at, byte, wanted) in table {
+        let wanted = match wanted {
+            Some(refusal) => Some(Failed::Code(refusal)),
+            None => None,
+        };
+        assert!(rt; failure(rt.alloc(), at, byte)? == wanted, "byte {at}");
+    }
+    Ok(())
+}
+
+/// A call of the disk that fails is told, and nothing is written then. A look makes fewer than twelve calls.
+#[test]
+fn a_failed_call_is_told(rt: HostRuntime) -> Result<(), Refusal> {
+    let (mut disk, _) = created(rt.alloc(), 1)?;
+    for call in 1..=12 {
+        let mut out = Vec::new(rt.alloc());
+        let mut writer = CountedWriter::new(&mut out);
+        let (told, failing) = check_counted(rt.alloc(), FailOnce::new(disk, call), &mut writer);
+        disk = failing.into_inner();
+        match told {
+            Ok(()) => assert!(rt; out.as_slice() == b"v 0\nslot A 1\njournal 0\n".as_slice()),
+            Err(failed) => {
+                assert!(rt; failed == Failed::Code(Refusal::Device) && out.is_empty());
+            }
+        }
+    }
+    Ok(())
+}

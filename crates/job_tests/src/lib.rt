@@ -1,0 +1,19 @@
+//! Tests of queries, scripts and stores by texts, by their public calls.
+#![tactic(auto)]
+
+#[cfg(test)]
+mod checks;
+#[cfg(test)]
+mod failing;
+#[cfg(test)]
+mod growths;
+#[cfg(test)]
+mod refused_growths;
+#[cfg(test)]
+mod rehearsing;
+#[cfg(test)]
+mod steps;
+#[cfg(test)]
+mod stores;
+#[cfg(test)]
+mod sweeps;

@@ -1,0 +1,79 @@
+// A store made, asked and changed where a growth of memory is refused. To be run with each allocation failing in turn.
+use dimacs::Code;
+use disk::MemDisk;
+use printing::Failed;
+use roadnet::Refusal;
+use std::alloc::Global;
+use std::process::Abort;
+use storetexts::{apply_text, ask_text, create_text};
+
+/// The network of the worked rows.
+const SIX: &[u8] =
+    b"c S6\np sp 6 8\na 1 2 17\na 1 3 10\na 2 4 2\na 3 5 0\na 4 3 0\na 4 6 3\na 5 2 0\na 5 6 20\n";
+
+const LANDMARKS: &[u8] = b"p aux sp ss 3\ns 6\ns 3\ns 6\n";
+
+const PAIRS: &[u8] = b"p aux sp p2p 2\nq 1 6\nq 6 1\n";
+
+/// Want of memory, told of a text or of the call, or the failure of a disk in memory.
+fn is_want_of_memory(failed: &Failed) -> bool {
+    match failed {
+        Failed::Text { which: _, fault } => fault.code == Code::OutOfMemory,
+        Failed::Code(refusal) => { *refusal == Refusal::OutOfMemory || *refusal == Refusal::Device }
+    }
+}
+
+/// All is told, or memory is wanting and nothing is. Answers whether all is.
+fn is_told(rt: &impl Abort, failed: Option<Failed>, out: &[u8], want: &[u8]) -> bool {
+    match failed {
+        None => assert!(rt; out == want),
+        Some(failed) => assert!(rt; is_want_of_memory(&failed) && out.is_empty()),
+    }
+    failed.is_none()
+}
+
+/// A store is made; where memory is wanting for that the disk is handed back empty, and takes a store. Answers its disk, and whether all
+/// memory was there; or nothing where the disk failed.
+fn made(rt: &impl Abort, alloc: Global) -> Option<(MemDisk, bool)> {
+    let Ok(mut out) = Vec::with_capacity(alloc, 32) else {
+        return None;
+    };
+    let disk = MemDisk::new(alloc);
+    let (outcome, disk) = create_text(alloc, disk, SIX, LANDMARKS, 64, &mut out);
+    if is_told(rt, outcome.err(), &out, b"ok 0\n") {
+        return Some((disk, true));
+    }
+    if outcome == Err(Failed::Code(Refusal::Device)) {
+        return None;
+    }
+    let (outcome, disk) = create_text(alloc, disk, SIX, LANDMARKS, 64, &mut out);
+    assert!(rt; outcome == Ok(()) && out.as_slice() == b"ok 0\n".as_slice());
+    Some((disk, false))
+}
+
+/// Where a command finds no memory that is told in its place, and the others are applied; else all lines are told, or none. One growth is
+/// refused at most.
+#[test]
+fn allocations_fail_in_turn(rt: HostRuntime) {
+    let alloc = rt.alloc();
+    let Some((disk, making)) = made(&rt, alloc) else {
+        return;
+    };
+    let (Ok(mut answers), Ok(mut told)) = (
+        Vec::with_capacity(alloc, 32),
+        Vec::with_capacity(alloc, 32),
+    ) else {
+        return;
+    };
+    let (asked, disk) = ask_text(&rt, alloc, disk, PAIRS, None, &mut answers);
+    let asking = is_told(&rt, asked.err(), &answers, b"v 0\nd 1 6 15\nx 6 1\n");
+    let (applied, _) = apply_text(alloc, disk, b"close 7\nset 8 4\n", &mut told);
+    if told.as_slice() == b"no 11\nok 1\n".as_slice()
+        || told.as_slice() == b"ok 1\nno 11\n".as_slice()
+    {
+        assert!(rt; applied == Ok(()) && making && asking);
+        return;
+    }
+    let applying = is_told(&rt, applied.err(), &told, b"ok 1\nok 2\n");
+    assert!(rt; making && asking || making && applying || asking && applying);
+}

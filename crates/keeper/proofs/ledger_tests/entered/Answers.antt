@@ -1,5 +1,0 @@
-use Rattle.keeper.proofs.Ticketed.{ticket_given}
-use Rattle.keeper.proofs.ledger_tests.entered.Goals as goal
-
-pub returns : goal.returns
-returns g c = ticket_given c.args.ledger.now.machine c.submit.new.self.machine c.args.command c.submit.result c.submit.ensures.step

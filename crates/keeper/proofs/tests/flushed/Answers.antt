@@ -1,5 +1,0 @@
-use Rattle.keeper.proofs.Ticketed.{ticket_flushed}
-use Rattle.keeper.proofs.tests.flushed.Goals as goal
-
-pub receipt-receipt-requires : goal.receipt-receipt-requires
-receipt-receipt-requires g c = ticket_flushed c.args.keeper.now.machine c.flush-answer.new.self.machine c.args.ticket.now c.flush-answer.result c.flush-answer.ensures.step c.requires

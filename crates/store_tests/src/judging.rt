@@ -1,0 +1,221 @@
+// Opening and the judge agree on each file that is made here.
+ghost use Rattle.std.specs.Prelude.{◌<◌};
+
+use crate::judge::{Judged, judge};
+use crate::worked::{arc, network_of_six, opened};
+use disk::{Disk, MemDisk};
+use roadnet::{Command, Refusal};
+use std::alloc::Global;
+use store::{Store, create, open};
+
+const PAGE: usize = 4096;
+
+// The bytes of slot B, made by hand: epoch 2, version 3, next sequence 1, and the landmarks 1, 3 and 6; the words behind `close 7` and
+// `set 8 4`.
+const HEAD_B: [u8; 40] =
+    *b"\x00\x00\x00\x00\x00\x00\x00\x02\x00\x00\x00\x00\x00\x00\x00\x03\x00\x00\x00\x00\x00\x00\x00\x01\x00\x00\x00\x03\x00\x00\x00\x01\x00\x00\x00\x03\x00\x00\x00\x06";
+
+const WORDS_B: [u8; 32] =
+    *b"\x00\x00\x00\x11\x00\x00\x00\x0a\x00\x00\x00\x02\x00\x00\x00\x00\x00\x00\x00\x00\x00\x00\x00\x03\x80\x00\x00\x00\x00\x00\x00\x04";
+
+fn put(file: &mut [u8], at: usize, bytes: &[u8]) {
+    for (i, &byte) in bytes.iter().enumerate() {
+        if let Some(place) = file.get_mut(at.wrapping_add(i)) {
+            *place = byte;
+        }
+    }
+}
+
+// A disk with these bytes, all of them synced.
+pub fn with_bytes(alloc: Global, bytes: &[u8]) -> Result<MemDisk, Refusal> {
+    let mut disk = MemDisk::new(alloc);
+    let (Ok(()), Ok(())) = (disk.write_at(0, bytes), disk.sync()) else {
+        return Err(Refusal::Device);
+    };
+    Ok(disk)
+}
+
+// The first eight pages of a disk; fewer where it has fewer.
+pub fn bytes_of(alloc: Global, disk: &mut MemDisk) -> Result<Vec<u8>, Refusal> {
+    let Ok(length) = disk.len() else {
+        return Err(Refusal::Device);
+    };
+    let length = (length as usize).min(8 * PAGE);
+    let mut bytes = vec![in alloc; 0; length]?;
+    let Ok(()) = disk.read(0, &mut bytes) else {
+        return Err(Refusal::Device);
+    };
+    Ok(bytes)
+}
+
+// The file of a new store with two journal pages: eight pages.
+pub fn new_file(alloc: Global) -> Result<Vec<u8>, Refusal> {
+    match create(
+        alloc,
+        MemDisk::new(alloc),
+        &network_of_six(alloc, &[6, 3])?,
+        2,
+    ) {
+        Ok(store) => bytes_of(alloc, &mut store.close()),
+        Err((refusal, _)) => Err(refusal),
+    }
+}
+
+// The same after two flushes, in which both journal pages are written.
+pub fn flushed_file(alloc: Global) -> Result<Vec<u8>, Refusal> {
+    let mut store = opened(alloc, with_bytes(alloc, &new_file(alloc)?)?)?;
+    let first = [
+        Command::Set { arc: 8, length: 4 },
+        Command::Close { arc: 7 },
+        Command::Mark { node: 1 },
+    ];
+    let second = [Command::Reopen { arc: 7 }, Command::Unmark { node: 3 }];
+    store.commit(&first)?;
+    store.commit(&second)?;
+    bytes_of(alloc, &mut store.close())
+}
+
+// The same, with slot B written behind the first flush, and slot A still open.
+pub fn two_slot_file(alloc: Global) -> Result<Vec<u8>, Refusal> {
+    let mut file = flushed_file(alloc)?;
+    put(&mut file, 4 * PAGE, &HEAD_B);
+    put(&mut file, 5 * PAGE, &WORDS_B);
+    put(&mut file, 5 * PAGE - 1, &[165]);
+    Ok(file)
+}
+
+// Whether the store tells what was judged.
+fn tells<D: Disk>(store: &Store<D>, judged: &Judged) -> bool {
+    let network = store.network();
+    network.nodes() == judged.nodes
+        && network.arcs() == judged.arcs.as_slice()
+        && network.landmarks() == judged.landmarks.as_slice()
+        && store.version() == judged.version
+        && u64::from(store.unchecked()) == judged.unchecked
+        && store.calm()
+}
+
+// Whether opening this disk answers what the judge answers of these bytes.
+pub fn opens_as_judged<D: Disk + Drop>(
+    alloc: Global,
+    disk: D,
+    file: &[u8],
+) -> Result<bool, Refusal> {
+    let found = opened(alloc, disk);
+    let wanted = judge(alloc, file);
+    match (&found, &wanted) {
+        (Ok(store), Ok(judged)) => Ok(tells(store, judged)),
+        (Err(Refusal::OutOfMemory), _) | (_, Err(Refusal::OutOfMemory)) => {
+            Err(Refusal::OutOfMemory)
+        }
+        (Err(refusal), Err(wanted)) => Ok(refusal == wanted),
+        _ => Ok(false),
+    }
+}
+
+// The same of a disk with these bytes.
+fn agrees(alloc: Global, file: &[u8]) -> Result<bool, Refusal> {
+    opens_as_judged(alloc, with_bytes(alloc, file)?, file)
+}
+
+// The i-th change of a page: which byte of it becomes what. Its first 64 bytes and its gate become 0, 1 and 165 in turn.
+fn change(i: usize) -> (usize, u8)
+    ensures { result.0 < 4096 }
+{
+    let place = i / 3 % 65;
+    let value = match i % 3 {
+        0 => 0,
+        1 => 1,
+        _ => 165,
+    };
+    if place < 64 {
+        (place, value)
+    } else {
+        (PAGE - 1, value)
+    }
+}
+
+// Whether they agree on a file of eight pages and on each change of each of these, and on each cut at a page: None, or the number of the
+// first change where they don't.
+fn first_difference(alloc: Global, file: &mut [u8]) -> Result<Option<usize>, Refusal> {
+    for i in 0..8 * 195 {
+        let (place, value) = change(i);
+        let at = PAGE * (i / 195) + place;
+        let old = match file.get(at) {
+            Some(&old) => old,
+            None => return Ok(Some(i)),
+        };
+        put(file, at, &[value]);
+        if !agrees(alloc, file)? {
+            return Ok(Some(i));
+        }
+        put(file, at, &[old]);
+    }
+    Ok(None)
+}
+
+// Whether they agree on each front of so many whole pages, and of a byte more or less.
+fn agree_on_cuts(alloc: Global, file: &[u8]) -> Result<bool, Refusal> {
+    for i in 0..24usize {
+        let size = (PAGE * (i / 3) + i % 3).saturating_sub(1);
+        let Some(front) = file.get(..size) else {
+            return Ok(false);
+        };
+        if !agrees(alloc, front)? {
+            return Ok(false);
+        }
+    }
+    Ok(true)
+}
+
+// The judge itself, on the three files: what each stands for.
+#[test]
+fn judge_is_right(rt: HostRuntime) -> Result<(), Refusal> {
+    let alloc = rt.alloc();
+    let judged = judge(alloc, &new_file(alloc)?)?;
+    assert!(rt; judged.version == 0 && judged.unchecked == 0);
+    assert!(rt; judged.landmarks.as_slice() == [3, 6].as_slice());
+    assert!(rt; judged.arcs.as_slice() == network_of_six(alloc, &[6, 3])?.arcs());
+    let judged = judge(alloc, &flushed_file(alloc)?)?;
+    assert!(rt; judged.version == 5 && judged.unchecked == 2);
+    assert!(rt; judged.landmarks.as_slice() == [1, 6].as_slice());
+    assert!(rt; judged.arcs.get(6) == Some(&arc(5, 2, 0)));
+    assert!(rt; judged.arcs.get(7) == Some(&arc(5, 6, 4)));
+    let judged = judge(alloc, &two_slot_file(alloc)?)?;
+    assert!(rt; judged.version == 5 && judged.unchecked == 1);
+    assert!(rt; judged.landmarks.as_slice() == [1, 6].as_slice());
+    assert!(rt; judged.arcs.get(6) == Some(&arc(5, 2, 0)));
+    Ok(())
+}
+
+#[test]
+fn changes_of_a_new_file(rt: HostRuntime) -> Result<(), Refusal> {
+    let mut file = new_file(rt.alloc())?;
+    assert!(rt; agrees(rt.alloc(), &file)?);
+    assert_eq!(rt; first_difference(rt.alloc(), &mut file)?, None);
+    Ok(())
+}
+
+#[test]
+fn changes_of_a_flushed_file(rt: HostRuntime) -> Result<(), Refusal> {
+    let mut file = flushed_file(rt.alloc())?;
+    assert!(rt; agrees(rt.alloc(), &file)?);
+    assert_eq!(rt; first_difference(rt.alloc(), &mut file)?, None);
+    Ok(())
+}
+
+#[test]
+fn changes_of_a_file_with_two_slots(rt: HostRuntime) -> Result<(), Refusal> {
+    let mut file = two_slot_file(rt.alloc())?;
+    assert!(rt; agrees(rt.alloc(), &file)?);
+    assert_eq!(rt; first_difference(rt.alloc(), &mut file)?, None);
+    Ok(())
+}
+
+#[test]
+fn cuts_at_pages(rt: HostRuntime) -> Result<(), Refusal> {
+    assert!(rt; agree_on_cuts(rt.alloc(), &new_file(rt.alloc())?)?);
+    assert!(rt; agree_on_cuts(rt.alloc(), &flushed_file(rt.alloc())?)?);
+    assert!(rt; agree_on_cuts(rt.alloc(), &two_slot_file(rt.alloc())?)?);
+    Ok(())
+}

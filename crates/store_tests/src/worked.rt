@@ -1,0 +1,90 @@
+// What several tests make: the network of the worked rows, new stores of it, and what is read back of their pages.
+ghost use Rattle.std.specs.Prelude.{◌≤◌, length};
+
+use disk::{Disk, MemDisk};
+use roadnet::{Network, Refusal, RoadArc};
+use std::alloc::Global;
+use store::{Store, create, open};
+
+pub(crate) fn arc(tail: u32, head: u32, length: u32) -> RoadArc {
+    RoadArc {
+        tail,
+        head,
+        length,
+        opened: true,
+    }
+}
+
+// Six nodes and eight arcs, with these landmarks.
+pub(crate) fn network_of_six(alloc: Global, landmarks: &[u32]) -> Result<Network, Refusal> {
+    let arcs = [
+        arc(1, 2, 17),
+        arc(1, 3, 10),
+        arc(2, 4, 2),
+        arc(3, 5, 0),
+        arc(4, 3, 0),
+        arc(4, 6, 3),
+        arc(5, 2, 0),
+        arc(5, 6, 20),
+    ];
+    Network::new(alloc, 6, Vec::from_slice(alloc, &arcs)?, landmarks)
+}
+
+// The disk of a new store of this network.
+pub(crate) fn created(
+    alloc: Global,
+    network: &Network,
+    journal_pages: u32,
+) -> Result<MemDisk, Refusal>
+    requires some { 1 ≤ journal_pages }
+    requires few { journal_pages ≤ 65536 }
+{
+    match create(alloc, MemDisk::new(alloc), network, journal_pages) {
+        Ok(store) => Ok(store.close()),
+        Err((refusal, _)) => Err(refusal),
+    }
+}
+
+// The disk of a new store of six nodes and eight arcs, without landmarks.
+pub(crate) fn six(alloc: Global, journal_pages: u32) -> Result<MemDisk, Refusal>
+    requires some { 1 ≤ journal_pages }
+    requires few { journal_pages ≤ 65536 }
+{
+    let network = network_of_six(alloc, &[])?;
+    created(alloc, &network, journal_pages)
+}
+
+pub(crate) fn opened<D: Disk + Drop>(alloc: Global, disk: D) -> Result<Store<D>, Refusal> {
+    match open(alloc, disk) {
+        Ok(store) => Ok(store),
+        Err((refusal, _)) => Err(refusal),
+    }
+}
+
+// Whether the page of this number begins so, has this gate, and is zero between.
+pub(crate) fn is_page<D: Disk>(
+    disk: &mut D,
+    number: u64,
+    front: &[u8],
+    gate: u8,
+) -> Result<bool, Refusal>
+    requires few { length front.now ≤ 4095 }
+    requires number { number ≤ 100 }
+{
+    let Ok(length) = disk.len() else {
+        return Err(Refusal::Device);
+    };
+    let at = 4096 * number;
+    if length < at + 4096 {
+        return Ok(false);
+    }
+    let mut page = [0; 4096];
+    let Ok(()) = disk.read(at, &mut page) else {
+        return Err(Refusal::Device);
+    };
+    Ok(
+        page.starts_with(front)
+            && page[front.len()..4095].iter().all(|&byte| byte == 0)
+            && page[4095] == gate,
+    )
+}

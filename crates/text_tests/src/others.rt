@@ -1,6 +1,5 @@
 //! Tests of the texts of landmarks, of pairs and of commands.
 
-use dimacs::{};
 use dimacs::{
     Code, Counted, Fault, Pair, parse_commands, parse_p2p, parse_ss, read_commands,
     read_commands_counted, read_p2p, read_p2p_counted, read_ss, read_ss_counted,

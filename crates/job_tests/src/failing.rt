@@ -1,12 +1,12 @@
 // Readers and writers that fail at each of their calls in turn.
 use crate::stores::created;
+use crate::streams::{FailingReader, FailingWriter};
 use dimacs::{Code, Counted, Fault};
 use disk::MemDisk;
 use printing::{CountedWriter, Failed};
 use roadnet::Refusal;
 use std::alloc::Global;
-use std::io;
-use std::io::{BufReader, ErrorKind, Read, Write};
+use std::io::BufReader;
 use std::process::Abort;
 use std::thread::Threads;
 use storetexts::{apply_counted, ask_counted, create_counted};
@@ -20,49 +20,6 @@ const LANDMARKS: &[u8] = b"p aux sp ss 3\ns 6\ns 3\ns 6\n";
 const COMMANDS: &[u8] = b"close 7\nclose 7\nset 8 4\n";
 
 const PAIRS: &[u8] = b"p aux sp p2p 2\nq 1 6\nq 6 1\n";
-
-/// A reader whose n-th read fails, and none where n is 0.
-#[derive(Drop)]
-struct FailingReader<'a> {
-    bytes: &'a [u8],
-    reads: u32,
-}
-
-impl Read for FailingReader<'_> {
-    fn read(&mut self, buf: &mut [u8]) -> io::Result<usize> {
-        self.reads = self.reads.wrapping_sub(1);
-        if self.reads == 0 {
-            return Err(io::Error::from(ErrorKind::BrokenPipe));
-        }
-        self.bytes.read(buf)
-    }
-}
-
-/// A writer whose n-th call fails, and none where n is 0. It counts the bytes that it was given.
-#[derive(Drop)]
-struct FailingWriter {
-    writes: u32,
-    taken: usize,
-}
-
-impl Write for FailingWriter {
-    fn write(&mut self, buf: &[u8]) -> io::Result<usize> {
-        self.writes = self.writes.wrapping_sub(1);
-        if self.writes == 0 {
-            return Err(io::Error::from(ErrorKind::BrokenPipe));
-        }
-        self.taken = self.taken.wrapping_add(buf.len());
-        Ok(buf.len())
-    }
-
-    fn flush(&mut self) -> io::Result<()> {
-        self.writes = self.writes.wrapping_sub(1);
-        if self.writes == 0 {
-            return Err(io::Error::from(ErrorKind::BrokenPipe));
-        }
-        Ok(())
-    }
-}
 
 /// What a call came to, how many calls of the reader and of the writer failed, and how many bytes were written.
 #[derive(Drop)]

@@ -8,6 +8,8 @@ mod failing;
 #[cfg(test)]
 mod growths;
 #[cfg(test)]
+mod queries;
+#[cfg(test)]
 mod refused_growths;
 #[cfg(test)]
 mod rehearsing;
@@ -15,5 +17,7 @@ mod rehearsing;
 mod steps;
 #[cfg(test)]
 mod stores;
+#[cfg(test)]
+mod streams;
 #[cfg(test)]
 mod sweeps;

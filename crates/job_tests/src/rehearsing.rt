@@ -1,12 +1,11 @@
 ghost use Rattle.std.specs.Prelude.{◌≤◌};
 
+use crate::streams::{FailingReader, FailingWriter, sending_writer};
 use dimacs::{Code, Counted, Fault};
 use printing::{CountedWriter, Done, Failed};
 use rehearsals::{joint_counted, joint_text, rehearse_counted, rehearse_text};
 use roadnet::Refusal;
-use std::alloc::Global;
-use std::io;
-use std::io::{BufReader, ErrorKind, Read, Write};
+use std::io::BufReader;
 use std::process::Abort;
 use std::test::Fail;
 use std::thread::Threads;
@@ -334,23 +333,6 @@ fn widths_give_one_answer(rt: HostRuntime) {
     }
 }
 
-/// A reader whose n-th read fails.
-#[derive(Drop)]
-struct FailingReader<'a> {
-    bytes: &'a [u8],
-    reads: u32,
-}
-
-impl Read for FailingReader<'_> {
-    fn read(&mut self, buf: &mut [u8]) -> io::Result<usize> {
-        self.reads = self.reads.wrapping_sub(1);
-        if self.reads == 0 {
-            return Err(io::Error::from(ErrorKind::BrokenPipe));
-        }
-        self.bytes.read(buf)
-    }
-}
-
 #[test]
 fn a_reader_fails_at_each_read(rt: HostRuntime) -> Result<(), Fail> {
     let mut text = Vec::from_slice(rt.alloc(), SIX)?;
@@ -415,34 +397,10 @@ fn a_reader_of_a_script_fails(rt: HostRuntime) -> Result<(), Fail> {
     Ok(())
 }
 
-/// A writer whose n-th call fails.
-#[derive(Drop)]
-struct FailingWriter {
-    writes: u32,
-}
-
-impl Write for FailingWriter {
-    fn write(&mut self, buf: &[u8]) -> io::Result<usize> {
-        self.writes = self.writes.wrapping_sub(1);
-        if self.writes == 0 {
-            return Err(io::Error::from(ErrorKind::BrokenPipe));
-        }
-        Ok(buf.len())
-    }
-
-    fn flush(&mut self) -> io::Result<()> {
-        self.writes = self.writes.wrapping_sub(1);
-        if self.writes == 0 {
-            return Err(io::Error::from(ErrorKind::BrokenPipe));
-        }
-        Ok(())
-    }
-}
-
 #[test]
 fn a_writer_fails_at_each_write(rt: HostRuntime) {
     for writes in 1..20 {
-        let mut failing = FailingWriter { writes };
+        let mut failing = FailingWriter { writes, taken: 0 };
         let (mut six, mut script) = (SIX, b"dist 1 6\ndist 6 1\n".as_slice());
         let mut writer = CountedWriter::new(&mut failing);
         let outcome = rehearse_counted(
@@ -464,33 +422,6 @@ fn a_writer_fails_at_each_write(rt: HostRuntime) {
             );
             assert!(rt; failed == 1, "write {writes}");
         }
-    }
-}
-
-/// A writer that notes how many bytes each flush sends out.
-#[derive(Drop)]
-struct SendingWriter {
-    waiting: usize,
-    sent: Vec<usize>,
-}
-
-impl Write for SendingWriter {
-    fn write(&mut self, buf: &[u8]) -> io::Result<usize> {
-        self.waiting = self.waiting.wrapping_add(buf.len());
-        Ok(buf.len())
-    }
-
-    fn flush(&mut self) -> io::Result<()> {
-        self.sent.push(self.waiting)?;
-        self.waiting = 0;
-        Ok(())
-    }
-}
-
-fn sending_writer(alloc: Global) -> SendingWriter {
-    SendingWriter {
-        waiting: 0,
-        sent: Vec::new(alloc),
     }
 }
 

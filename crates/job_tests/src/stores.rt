@@ -1,12 +1,11 @@
 ghost use Rattle.std.specs.Prelude.{◌≤◌};
 
+use crate::streams::sending_writer;
 use dimacs::{Code, Counted, Fault};
 use disk::{Disk, FailOnce, FuseDisk, MemDisk};
 use printing::{CountedWriter, Done, Failed};
 use roadnet::Refusal;
 use std::alloc::Global;
-use std::io;
-use std::io::Write;
 use std::test::Fail;
 use store::open;
 use storetexts::{
@@ -246,33 +245,6 @@ fn other_files_are_refused(rt: HostRuntime) -> Result<(), Refusal> {
         assert!(rt; out.is_empty(), "{refusal}");
     }
     Ok(())
-}
-
-/// A writer that notes how many bytes each flush sends out.
-#[derive(Drop)]
-struct SendingWriter {
-    waiting: usize,
-    sent: Vec<usize>,
-}
-
-impl Write for SendingWriter {
-    fn write(&mut self, buf: &[u8]) -> io::Result<usize> {
-        self.waiting = self.waiting.wrapping_add(buf.len());
-        Ok(buf.len())
-    }
-
-    fn flush(&mut self) -> io::Result<()> {
-        self.sent.push(self.waiting)?;
-        self.waiting = 0;
-        Ok(())
-    }
-}
-
-fn sending_writer(alloc: Global) -> SendingWriter {
-    SendingWriter {
-        waiting: 0,
-        sent: Vec::new(alloc),
-    }
 }
 
 /// The lines of each page of commands are sent out when the page is durable, and the last ones at the end; `create` and `ask` send theirs

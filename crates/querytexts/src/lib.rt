@@ -6,6 +6,3 @@ mod once;
 
 pub use batch::{answer_pairs, batch_counted, batch_text};
 pub use once::{once_counted, once_text};
-
-#[cfg(test)]
-mod tests;

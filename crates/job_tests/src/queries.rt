@@ -1,14 +1,13 @@
 ghost use Rattle.std.specs.Prelude.{◌≤◌};
 
-use crate::batch::answer_by;
-use crate::{answer_pairs, batch_counted, batch_text, once_counted, once_text};
+use crate::streams::{FailingReader, FailingWriter, sending_writer};
 use dimacs::{Code, Counted, Fault, Pair, parse_gr, parse_p2p};
 use printing::{CountedWriter, Done, Failed};
+use querytexts::{answer_pairs, batch_counted, batch_text, once_counted, once_text};
 use roadnet::{Network, Refusal};
-use rows::{Query, Reply, Searches, answer_plain};
+use rows::{Query, Reply, answer_plain};
 use std::alloc::Global;
-use std::io;
-use std::io::{BufReader, ErrorKind, Read, Write};
+use std::io::BufReader;
 use std::process::Abort;
 use std::test::Fail;
 use std::thread::Threads;
@@ -49,34 +48,10 @@ fn one_query_of_a_text(rt: HostRuntime) {
     assert!(rt; unwritten.is_empty());
 }
 
-/// A writer whose n-th write fails.
-#[derive(Drop)]
-struct FailingWriter {
-    writes: u32,
-}
-
-impl Write for FailingWriter {
-    fn write(&mut self, buf: &[u8]) -> io::Result<usize> {
-        self.writes = self.writes.wrapping_sub(1);
-        if self.writes == 0 {
-            return Err(io::Error::from(ErrorKind::BrokenPipe));
-        }
-        Ok(buf.len())
-    }
-
-    fn flush(&mut self) -> io::Result<()> {
-        self.writes = self.writes.wrapping_sub(1);
-        if self.writes == 0 {
-            return Err(io::Error::from(ErrorKind::BrokenPipe));
-        }
-        Ok(())
-    }
-}
-
 #[test]
 fn a_writer_fails_at_each_write(rt: HostRuntime) {
     for writes in 1..20 {
-        let mut failing = FailingWriter { writes };
+        let mut failing = FailingWriter { writes, taken: 0 };
         let mut six = SIX;
         let mut writer = CountedWriter::new(&mut failing);
         let outcome = once_counted(
@@ -104,7 +79,7 @@ fn a_writer_fails_at_each_write(rt: HostRuntime) {
 #[test]
 fn a_writer_of_a_batch_fails(rt: HostRuntime) {
     for writes in 1..20 {
-        let mut failing = FailingWriter { writes };
+        let mut failing = FailingWriter { writes, taken: 0 };
         let (mut six, mut pairs) = (SIX, PAIRS);
         let mut writer = CountedWriter::new(&mut failing);
         let outcome = batch_counted(
@@ -125,23 +100,6 @@ fn a_writer_of_a_batch_fails(rt: HostRuntime) {
             );
             assert!(rt; failed == 1, "write {writes}");
         }
-    }
-}
-
-/// A reader whose n-th read fails.
-#[derive(Drop)]
-struct FailingReader<'a> {
-    bytes: &'a [u8],
-    reads: u32,
-}
-
-impl Read for FailingReader<'_> {
-    fn read(&mut self, buf: &mut [u8]) -> io::Result<usize> {
-        self.reads = self.reads.wrapping_sub(1);
-        if self.reads == 0 {
-            return Err(io::Error::from(ErrorKind::BrokenPipe));
-        }
-        self.bytes.read(buf)
     }
 }
 
@@ -266,33 +224,6 @@ fn faults_of_batches(rt: HostRuntime) {
     }
 }
 
-/// A writer that notes how many bytes each flush sends out.
-#[derive(Drop)]
-struct SendingWriter {
-    waiting: usize,
-    sent: Vec<usize>,
-}
-
-impl Write for SendingWriter {
-    fn write(&mut self, buf: &[u8]) -> io::Result<usize> {
-        self.waiting = self.waiting.wrapping_add(buf.len());
-        Ok(buf.len())
-    }
-
-    fn flush(&mut self) -> io::Result<()> {
-        self.sent.push(self.waiting)?;
-        self.waiting = 0;
-        Ok(())
-    }
-}
-
-fn sending_writer(alloc: Global) -> SendingWriter {
-    SendingWriter {
-        waiting: 0,
-        sent: Vec::new(alloc),
-    }
-}
-
 /// What is written is sent out, once a call.
 #[test]
 fn answers_are_sent_out(rt: HostRuntime) {
@@ -393,35 +324,9 @@ fn plain_lines(alloc: Global, network: &Network, pairs: &[Pair]) -> Result<Strin
     Ok(lines)
 }
 
-/// Searches that keep so many rows write these bytes.
-fn is_answered_with(
-    rt: &(impl Abort + AllocGlobal + Threads),
-    network: &Network,
-    pairs: &[Pair],
-    capacity: u32,
-    want: &str,
-)
-    requires { (1 ≤ capacity) × (capacity ≤ 64) }
-{
-    let mut searches = Searches::new(rt.alloc(), None, capacity);
-    let mut out = Vec::new(rt.alloc());
-    let mut writer = CountedWriter::new(&mut out);
-    let outcome = answer_by(
-        rt,
-        rt.alloc(),
-        network,
-        0,
-        &mut searches,
-        pairs,
-        &mut writer,
-    );
-    assert!(rt; outcome == Ok(Done { delta: None }), "{capacity}");
-    assert!(rt; out.as_slice() == want.as_bytes(), "{capacity}");
-}
-
-/// Whatever number of rows is kept, the bytes are those of plain rows.
+/// With each width the bytes are those of plain rows.
 #[test]
-fn kept_rows_change_no_byte(rt: HostRuntime) -> Result<(), Fail> {
+fn answers_are_those_of_plain_rows(rt: HostRuntime) -> Result<(), Fail> {
     let (gr, p2p) = mixed_texts(rt.alloc())?;
     let (gr, p2p) = (gr.as_bytes(), p2p.as_bytes());
     let Ok(network) = parse_gr(rt.alloc(), gr) else {
@@ -434,11 +339,10 @@ fn kept_rows_change_no_byte(rt: HostRuntime) -> Result<(), Fail> {
     };
     let want = plain_lines(rt.alloc(), &network, &pairs)?;
     assert!(rt; want.as_str().contains("\nd ") && want.as_str().contains("\nx "));
-    is_answered_with(&rt, &network, &pairs, 1, want.as_str());
-    is_answered_with(&rt, &network, &pairs, 16, want.as_str());
-    is_answered_with(&rt, &network, &pairs, 64, want.as_str());
-    let mut out = Vec::new(rt.alloc());
-    assert!(rt; batch_text(&rt, rt.alloc(), gr, p2p, Some(50), &mut out).is_ok());
-    assert!(rt; out.as_slice() == want.as_bytes());
+    for delta in [None, Some(1), Some(50)] {
+        let mut out = Vec::new(rt.alloc());
+        assert!(rt; batch_text(&rt, rt.alloc(), gr, p2p, delta, &mut out).is_ok());
+        assert!(rt; out.as_slice() == want.as_bytes(), "{delta:?}");
+    }
     Ok(())
 }

@@ -1,10 +1,6 @@
-ghost use Rattle.std.specs.Prelude.{◌≡◌, ◌<◌, ◌≤◌, length, IfOk, IfErr};
-ghost use Rattle.std.specs.IoError.{error_kind};
-ghost use Rattle.std.specs.declared.io.ErrorKind.TheVariants.{BrokenPipe};
-ghost use Rattle.filedisk.specs.Noted.{has_failed_sync};
+ghost use Rattle.std.specs.Prelude.{◌<◌, length};
 
 use crate::names::{folder_of, resolve};
-use crate::notes::{Answer, Asked, Note, Notes};
 use crate::system::NotedFile;
 use crate::{FileDisk, MemFile, OpenError, RawFile, create_file, open_file, open_to_read};
 use disk::{Disk, DiskError, Pick};
@@ -15,244 +11,6 @@ use std::path::Path;
 use std::process::Abort;
 use std::test::Fail;
 use std::{env, fs, io, process};
-
-/// Bytes of which at most so many are read or written a call, and whose n-th call fails.
-#[derive(Drop)]
-struct ShortBytes {
-    bytes: Vec<u8>,
-    most: usize,
-    calls: u64,
-    fails_at: u64,
-    synced: bool,
-}
-
-impl ShortBytes {
-    fn admit(&mut self) -> io::Result<()>
-        ensures { IfErr result (λ error. error_kind error ≡ BrokenPipe) }
-    {
-        self.calls = self.calls.wrapping_add(1);
-        if self.calls == self.fails_at {
-            return Err(io::Error::from(ErrorKind::BrokenPipe));
-        }
-        Ok(())
-    }
-
-    fn read(&mut self, at: u64, into: &mut [u8]) -> io::Result<usize>
-        ensures bound { IfOk result (λ n. n ≤ length into.old) }
-        ensures kind { IfErr result (λ error. error_kind error ≡ BrokenPipe) }
-    {
-        self.admit()?;
-        let Some(from) = self.bytes.get(at as usize..) else {
-            return Ok(0);
-        };
-        let count = into.len().min(from.len()).min(self.most);
-        for index in 0..count {
-            into[index] = from[index];
-        }
-        Ok(count)
-    }
-
-    fn lengthen(&mut self, size: u64) -> io::Result<()> {
-        self.admit()?;
-        match self.bytes.resize(size as usize, 0) {
-            Ok(()) => Ok(()),
-            Err(_) => Err(io::Error::from(ErrorKind::OutOfMemory)),
-        }
-    }
-
-    fn write(&mut self, at: u64, bytes: &[u8]) -> io::Result<usize>
-        ensures bound { IfOk result (λ n. n ≤ length bytes.now) }
-        ensures kind { IfErr result (λ error. error_kind error ≡ BrokenPipe) }
-    {
-        self.admit()?;
-        let start = (at as usize).min(self.bytes.len());
-        let to = &mut self.bytes.as_mut_slice()[start..];
-        let count = bytes.len().min(to.len()).min(self.most);
-        for index in 0..count {
-            to[index] = bytes[index];
-        }
-        Ok(count)
-    }
-}
-
-/// A file of such bytes.
-#[derive(Drop)]
-struct ShortFile {
-    short: ShortBytes,
-    sync_failed: bool,
-    notes: Notes,
-    ghost failed: { sync_failed ≡ has_failed_sync notes.calls },
-}
-
-impl RawFile for ShortFile {
-    ghost use Rattle.std.specs.Prelude.{[]};
-
-    ghost calls = { λ file. file.notes.calls };
-
-    ghost content = { λ _. [] };
-
-    ghost left = { λ _ _. ⊥ };
-
-    ghost moment = { λ _. 0 };
-
-    ghost left_since = { λ _ _ _. ⊥ };
-
-    ghost honest = { λ _. ⊥ };
-
-    fn size(&mut self) -> io::Result<u64> {
-        let asked = Asked::Size;
-        match self.short.admit() {
-            Ok(()) => {
-                let size = self.short.bytes.len() as u64;
-                let answer = Answer::Told(size);
-                self.notes = self.notes.then(&Note { asked, answer });
-                Ok(size)
-            }
-            Err(error) => {
-                let answer = Answer::Failed(error.kind());
-                self.notes = self.notes.then(&Note { asked, answer });
-                Err(error)
-            }
-        }
-    }
-
-    fn read_some(&mut self, at: u64, into: &mut [u8]) -> io::Result<usize> {
-        let count = into.len();
-        let asked = Asked::Read { at, count };
-        let outcome = self.short.read(at, into);
-        match outcome {
-            Ok(given) => {
-                let answer = Answer::Gave(&into[..given]);
-                self.notes = self.notes.then(&Note { asked, answer });
-            }
-            Err(error) => {
-                let answer = Answer::Failed(error.kind());
-                self.notes = self.notes.then(&Note { asked, answer });
-            }
-        }
-        outcome
-    }
-
-    fn lengthen(&mut self, size: u64) -> io::Result<()> {
-        let outcome = self.short.lengthen(size);
-        let answer = match outcome {
-            Ok(()) => Answer::Done,
-            Err(error) => Answer::Failed(error.kind()),
-        };
-        let asked = Asked::Lengthen { size };
-        self.notes = self.notes.then(&Note { asked, answer });
-        outcome
-    }
-
-    fn write_some(&mut self, at: u64, bytes: &[u8]) -> io::Result<usize> {
-        let outcome = self.short.write(at, bytes);
-        let answer = match outcome {
-            Ok(count) => Answer::Told(count as u64),
-            Err(error) => Answer::Failed(error.kind()),
-        };
-        let asked = Asked::Write { at, bytes };
-        self.notes = self.notes.then(&Note { asked, answer });
-        outcome
-    }
-
-    fn sync(&mut self) -> io::Result<()> {
-        if self.sync_failed {
-            return Err(io::Error::from(ErrorKind::BrokenPipe));
-        }
-        let asked = Asked::SyncAll;
-        match self.short.admit() {
-            Ok(()) => {
-                self.short.synced = true;
-                let answer = Answer::Done;
-                self.notes = self.notes.then(&Note { asked, answer });
-                Ok(())
-            }
-            Err(error) => {
-                self.sync_failed = true;
-                let answer = Answer::Failed(error.kind());
-                self.notes = self.notes.then(&Note { asked, answer });
-                Err(error)
-            }
-        }
-    }
-
-    ghost leaves_content = { λ _ never. absurd never };
-
-    ghost counts_now = { λ _ _ _ never _ _. absurd never };
-
-    ghost only_now = { λ _ _ never _. absurd never };
-}
-
-fn short_file(rt: &impl AllocGlobal, most: usize, fails_at: u64) -> ShortFile {
-    let short = ShortBytes {
-        bytes: Vec::new(rt.alloc()),
-        most,
-        calls: 0,
-        fails_at,
-        synced: false,
-    };
-    ShortFile {
-        short,
-        sync_failed: false,
-        notes: Notes::new(),
-    }
-}
-
-#[test]
-fn pieces_are_finished(rt: HostRuntime) {
-    let mut disk = FileDisk::new(short_file(&rt, 3, 0));
-    assert!(rt; disk.write_at(0, b"abcdefgh") == Ok(()));
-    assert!(rt; disk.len() == Ok(8));
-    assert!(rt; disk.write_at(6, b"GHI") == Ok(()));
-    assert!(rt; disk.write_at(9, b"") == Ok(()));
-    assert!(rt; disk.sync() == Ok(()));
-    let mut into = [0u8; 7];
-    assert!(rt; disk.read(2, &mut into) == Ok(()));
-    assert!(rt; into.as_slice() == b"cdefGHI".as_slice());
-    assert_eq!(rt; disk.failed_calls(), 0);
-    assert!(rt; disk.read(3, &mut into).is_err());
-    assert_eq!(rt; disk.failed_calls(), 1);
-    let file = disk.into_file().short;
-    assert!(rt; file.synced && file.bytes.as_slice() == b"abcdefGHI".as_slice());
-    let mut stuck = FileDisk::new(short_file(&rt, 0, 0));
-    assert!(rt; stuck.write_at(0, b"a").is_err() && stuck.read(0, &mut into).is_err());
-    assert_eq!(rt; stuck.failed_calls(), 2);
-}
-
-#[test]
-fn each_call_fails_in_turn(rt: HostRuntime) {
-    for fails_at in 1..12 {
-        let mut disk = FileDisk::new(short_file(&rt, 2, fails_at));
-        let mut into = [0u8; 4];
-        let write = disk.write_at(0, b"abcde");
-        let read = disk.read(1, &mut into);
-        let length = disk.len();
-        let sync = disk.sync();
-        let failed = [
-            write.is_err(),
-            read.is_err(),
-            length.is_err(),
-            sync.is_err(),
-        ];
-        let own = failed.iter().filter(|failed| **failed).count();
-        let within = fails_at < 6 && write.is_err() || fails_at >= 6;
-        assert!(rt; within, "{fails_at}");
-        assert!(rt; disk.failed_calls() == own as u64, "{fails_at}");
-        assert!(rt; fails_at < 10 || own == 0, "{fails_at}");
-    }
-}
-
-/// After a sync that failed each later one fails.
-#[test]
-fn no_sync_after_one_that_failed(rt: HostRuntime) {
-    let mut disk = FileDisk::new(short_file(&rt, 8, 2));
-    let mut into = [0u8; 0];
-    assert!(rt; disk.sync() == Ok(()));
-    assert!(rt; disk.sync().is_err() && disk.sync().is_err());
-    assert!(rt; disk.len() == Ok(0) && disk.read(0, &mut into) == Ok(()));
-    assert!(rt; disk.sync().is_err());
-    assert_eq!(rt; disk.failed_calls(), 3);
-}
 
 #[test]
 fn a_real_file(rt: HostRuntime) -> Result<(), Fail> {
@@ -480,21 +238,56 @@ fn a_file_in_memory_is_stopped(rt: HostRuntime) -> Result<(), Fail> {
     Ok(())
 }
 
-/// Each of the ten calls of a file in memory fails in turn: what was told as synced is there after a stop.
+/// Each of the fourteen calls of a file in memory fails in turn, six of the first write, one of the sync, three of the second write and four
+/// of the read: what was told as synced is there after a stop.
 #[test]
 fn a_file_in_memory_fails(rt: HostRuntime) -> Result<(), Fail> {
-    for k in 1..11 {
+    for k in 1..15 {
         let mut disk = FileDisk::new(MemFile::new(rt.alloc(), 3, k));
+        let mut into = [0u8; 8];
         let written = put(&mut disk, 0, b"abcdefgh");
         let synced = disk.sync();
         let later = put(&mut disk, 3, b"XYZ");
-        let failed = written.is_err() || synced.is_err() || later.is_err();
-        assert!(rt; failed && disk.failed_calls() == 1, "{k}");
+        let read = get(&mut disk, 0, &mut into);
+        assert!(rt;
+            written.is_err() == (k < 7) && synced.is_err() == (k == 7),
+            "{k}"
+        );
+        assert!(rt; k < 8 || later.is_err() == (k < 11), "{k}");
+        assert!(rt; k < 8 || read.is_err() == (k > 10), "{k}");
+        assert!(rt; disk.failed_calls() == 1, "{k}");
         if written.is_ok() && synced.is_ok() {
-            let mut into = [0u8; 8];
             assert_eq!(rt; after_stop(disk.into_file(), &[Pick::Old], &mut into)?, 8);
             assert!(rt; into.as_slice() == b"abcdefgh".as_slice(), "{k}");
         }
     }
+    Ok(())
+}
+
+/// A file that does nothing fails each call that asks for bytes.
+#[test]
+fn a_file_in_memory_does_nothing(rt: HostRuntime) {
+    let mut disk = FileDisk::new(MemFile::new(rt.alloc(), 0, 0));
+    assert!(rt; put(&mut disk, 0, b"a").is_err());
+    assert_eq!(rt; disk.failed_calls(), 1);
+    assert!(rt; get(&mut disk, 0, &mut [0u8]).is_err());
+    assert_eq!(rt; disk.failed_calls(), 2);
+}
+
+/// What is written in parts is read in parts, over the end too. An empty write makes no difference.
+#[test]
+fn a_file_in_memory_does_parts(rt: HostRuntime) -> Result<(), Fail> {
+    let mut disk = FileDisk::new(MemFile::new(rt.alloc(), 3, 0));
+    let mut into = [0u8; 8];
+    put(&mut disk, 0, b"abcdefgh")?;
+    disk.sync()?;
+    put(&mut disk, 3, b"XYZ")?;
+    assert!(rt; put(&mut disk, 8, b"") == Ok(()) && disk.len() == Ok(8));
+    get(&mut disk, 0, &mut into)?;
+    assert!(rt; into.as_slice() == b"abcXYZgh".as_slice());
+    put(&mut disk, 6, b"GHIJ")?;
+    get(&mut disk, 2, &mut into)?;
+    assert!(rt; into.as_slice() == b"cXYZGHIJ".as_slice() && disk.len() == Ok(10));
+    assert_eq!(rt; disk.failed_calls(), 0);
     Ok(())
 }

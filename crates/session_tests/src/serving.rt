@@ -12,6 +12,7 @@ use std::alloc::Global;
 use std::io::{self, BufRead, BufReader, ErrorKind, Read, Write};
 use std::marker::Brand;
 use std::sync::Wait;
+use std::sync::atomic::{AtomicBool, Ordering};
 use std::test::Fail;
 use std::thread::Threads;
 use store::{Store, create, open};
@@ -373,6 +374,55 @@ impl Write for FailingWriter {
 
 /// Lines of a session whose reader or writer fails: four of them are commands that are accepted.
 const LINES: &[u8] = b"close 7\nwait\nset 8 4\nmark 3\ndist 1 6\nfrom 3 4\nhello\nclose 1\n";
+
+/// A reader that fails where an answer waits to be sent out.
+#[derive(Drop)]
+struct WaitingReader<'a> {
+    bytes: &'a [u8],
+    waits: &'a AtomicBool,
+}
+
+impl Read for WaitingReader<'_> {
+    fn read(&mut self, buf: &mut [u8]) -> io::Result<usize> {
+        if self.waits.load(Ordering::SeqCst) {
+            return Err(io::Error::from(ErrorKind::BrokenPipe));
+        }
+        self.bytes.read(buf)
+    }
+}
+
+/// A writer that notes whether something waits to be sent out.
+#[derive(Drop)]
+struct WaitingWriter<'a> {
+    waits: &'a AtomicBool,
+}
+
+impl Write for WaitingWriter<'_> {
+    fn write(&mut self, buf: &[u8]) -> io::Result<usize> {
+        self.waits.store(true, Ordering::SeqCst);
+        Ok(buf.len())
+    }
+
+    fn flush(&mut self) -> io::Result<()> {
+        self.waits.store(false, Ordering::SeqCst);
+        Ok(())
+    }
+}
+
+/// Each answer is sent out before more of the lines is read.
+#[test]
+fn answers_are_sent_out(rt: HostRuntime) -> Result<(), Fail> {
+    let waits = AtomicBool::new(false);
+    let reading = WaitingReader {
+        bytes: LINES,
+        waits: &waits,
+    };
+    let mut input = BufReader::with_capacity(rt.alloc(), 1, reading)?;
+    let mut output = WaitingWriter { waits: &waits };
+    let ended = session(rt, rt.alloc(), Found::Serving, &mut input, &mut output)?;
+    assert!(rt; ended.outcome == Ok(()) && ended.failed_reads == 0);
+    Ok(())
+}
 
 /// How many lines begin with `ok`.
 pub(crate) fn settled_in(answers: &[u8]) -> u64 {

@@ -1,11 +1,23 @@
 // A slow judge of a file: what the format says of opening it, in its order, read off the bytes alone.
 ghost use Rattle.std.specs.Prelude.{◌≤◌, ◌^◌, IfOk};
 
-use pages::{MOST_COMMANDS, MOST_VERSIONS};
-use roadnet::{LONGEST_ARC, MOST_ARCS, MOST_LANDMARKS, MOST_NODES, Refusal, RoadArc};
+use roadnet::{Refusal, RoadArc};
 use std::alloc::{AllocError, Global};
 
 const MAGIC: [u8; 8] = *b"ROADMRK1";
+
+// The greatest numbers that the format allows.
+const MOST_NODES: u32 = 33_554_432;
+
+const MOST_ARCS: u32 = 67_108_864;
+
+const MOST_LANDMARKS: usize = 1_000;
+
+const LONGEST_ARC: u32 = 2_147_483_647;
+
+const MOST_COMMANDS: u64 = 253;
+
+const MOST_VERSIONS: u64 = 281_474_976_710_656;
 
 const PAGE: usize = 4096;
 
@@ -80,7 +92,7 @@ fn judge_header(file: &[u8]) -> Result<Plan, Refusal> {
     let pages = u64::from(arc_pages) + 2 * u64::from(word_pages) + 3 + u64::from(journal_pages);
     let right = 1 <= nodes
         && nodes <= MOST_NODES
-        && arcs <= MOST_ARCS as u32
+        && arcs <= MOST_ARCS
         && 1 <= journal_pages
         && journal_pages <= 65_536
         && is_zero(file, 24, 4095)
@@ -243,7 +255,7 @@ fn judge_journal(file: &[u8], plan: &Plan, from: u64, judged: &mut Judged) -> Re
 // Whether a journal page is right, and its commands are admitted, each in its turn.
 fn judge_entry(page: &[u8], judged: &mut Judged) -> Result<bool, AllocError> {
     let count = number_at(page, 16, 2);
-    if count < 1 || count > MOST_COMMANDS as u64 {
+    if count < 1 || count > MOST_COMMANDS {
         return Ok(false);
     }
     let end = 32 + 16 * count as usize;

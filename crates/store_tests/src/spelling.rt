@@ -2,7 +2,7 @@ ghost use Rattle.std.specs.Prelude.{◌<◌, ◌≤◌, ◌^◌, length, All, If
 
 use crate::worked::arc;
 use pages::{
-    Ends, GATE_AT, Gate, Header, PAGE_SIZE, Slot, Word, decode_arc_page, decode_header,
+    GATE_AT, Gate, Header, PAGE_SIZE, Slot, Word, decode_arc_page, decode_header,
     decode_journal_page, decode_slot_head, decode_word_page, encode_arc_page, encode_header,
     encode_journal_page, encode_slot_head, encode_word_page, gate_of,
 };
@@ -268,120 +268,10 @@ fn full_page_of_commands(rt: HostRuntime) -> Result<(), Fail> {
     let found = decode_journal_page(rt.alloc(), &page)?.ok_or("the page is spelled")?;
     assert_eq!(rt; found.commands().len(), 253);
     assert!(rt; encode_journal_page(0, 1, found.commands()) == page);
+    // one more than the page has room for
     page[17] = 0xfe;
+    page[4080..].copy_from_slice(&SET_8_4);
     assert!(rt; decode_journal_page(rt.alloc(), &page)?.is_none());
-    Ok(())
-}
-
-const CHANGES: [u8; 4] = [0, 1, 165, 255];
-
-#[test]
-fn changed_headers(rt: HostRuntime) {
-    let mut page = page_with(&HEADER);
-    for at in 0..PAGE_SIZE {
-        let kept = page[at];
-        for byte in CHANGES {
-            page[at] = byte;
-            if let Some(header) = decode_header(&page) {
-                let mut encoded = encode_header(&header);
-                encoded[GATE_AT] = page[GATE_AT];
-                assert!(rt; encoded == page, "at {at}");
-            }
-        }
-        page[at] = kept;
-    }
-}
-
-/// Arcs with these ends.
-fn arcs_between(alloc: Global, ends: &[Ends]) -> Result<Vec<RoadArc>, AllocError> {
-    let mut arcs = Vec::with_capacity(alloc, ends.len())?;
-    for e in ends {
-        arcs.push(arc(e.tail, e.head, 0))?;
-    }
-    Ok(arcs)
-}
-
-#[test]
-fn changed_arc_pages(rt: HostRuntime) -> Result<(), Fail> {
-    let mut page = page_with(&ARCS);
-    for at in 0..PAGE_SIZE {
-        let kept = page[at];
-        for byte in CHANGES {
-            page[at] = byte;
-            if let Some(found) = decode_arc_page(rt.alloc(), &page, 6, 8)? {
-                let arcs = arcs_between(rt.alloc(), found.ends())?;
-                assert_eq!(rt; arcs.len(), 8);
-                assert!(rt; encode_arc_page(&arcs) == page, "at {at}");
-            }
-        }
-        page[at] = kept;
-    }
-    Ok(())
-}
-
-#[test]
-fn changed_word_pages(rt: HostRuntime) -> Result<(), Fail> {
-    let mut page = page_with(&WORDS);
-    for at in 0..PAGE_SIZE {
-        let kept = page[at];
-        for byte in CHANGES {
-            page[at] = byte;
-            if let Some(found) = decode_word_page(rt.alloc(), &page, 8)? {
-                let arcs = arcs_of_words(rt.alloc(), found.words())?;
-                assert_eq!(rt; arcs.len(), 8);
-                assert!(rt; encode_word_page(&arcs) == page, "at {at}");
-            }
-        }
-        page[at] = kept;
-    }
-    Ok(())
-}
-
-#[test]
-fn changed_slot_heads(rt: HostRuntime) -> Result<(), Fail> {
-    let mut page = page_with(&HEAD_WITH_LANDMARKS);
-    for at in 0..PAGE_SIZE {
-        let kept = page[at];
-        for byte in CHANGES {
-            page[at] = byte;
-            if let Some(found) = decode_slot_head(rt.alloc(), &page, 6)? {
-                let landmarks = found.landmarks();
-                assert!(rt; landmarks.len() <= 1000);
-                let mut encoded = encode_slot_head(
-                    found.epoch(),
-                    found.version(),
-                    found.next_sequence(),
-                    landmarks,
-                );
-                encoded[GATE_AT] = page[GATE_AT];
-                assert!(rt; encoded == page, "at {at}");
-            }
-        }
-        page[at] = kept;
-    }
-    Ok(())
-}
-
-#[test]
-fn changed_journal_pages(rt: HostRuntime) -> Result<(), Fail> {
-    let mut page = page_with(&ONE_COMMAND);
-    page[32..48].copy_from_slice(&CLOSE_7);
-    for at in 0..PAGE_SIZE {
-        let kept = page[at];
-        for byte in CHANGES {
-            page[at] = byte;
-            if let Some(found) = decode_journal_page(rt.alloc(), &page)? {
-                let mut encoded = encode_journal_page(
-                    found.sequence(),
-                    found.first_number(),
-                    found.commands(),
-                );
-                encoded[GATE_AT] = page[GATE_AT];
-                assert!(rt; encoded == page, "at {at}");
-            }
-        }
-        page[at] = kept;
-    }
     Ok(())
 }
 
@@ -488,14 +378,8 @@ fn journal_pages_out_of_range(rt: HostRuntime) -> Result<(), Fail> {
         let found = decode_journal_page(rt.alloc(), &changed(&page, at, byte))?;
         assert!(rt; found.is_none(), "at {at}");
     }
-    // no command, and one more than the page has room for
+    // no command
     let empty = changed(&page_with(&ONE_COMMAND), 17, 0);
     assert!(rt; decode_journal_page(rt.alloc(), &empty)?.is_none());
-    let mut full = page_with(&ONE_COMMAND);
-    full[17] = 254;
-    for record in full[32..].chunks_exact_mut(16) {
-        record.copy_from_slice(&SET_8_4);
-    }
-    assert!(rt; decode_journal_page(rt.alloc(), &full)?.is_none());
     Ok(())
 }

@@ -69,7 +69,7 @@ pub(crate) fn is_page<D: Disk>(
     gate: u8,
 ) -> Result<bool, Refusal>
     requires few { length front.now ≤ 4095 }
-    requires number { number ≤ 100 }
+    requires number { number ≤ 1000 }
 {
     let Ok(length) = disk.len() else {
         return Err(Refusal::Device);

@@ -1,7 +1,7 @@
 ghost use Rattle.std.specs.Prelude.{◌≡◌, ◌≤◌, length};
 ghost use Rattle.pages.specs.Spelling.{IsHeader};
 
-use crate::worked::arc;
+use crate::worked::{arc, is_page};
 use checkpoint::NextCheckpoint;
 use disk::{Disk, DiskError, FuseDisk, MemDisk, Pick, Stoppable, length_of, settle};
 use pages::{Header, Slot};
@@ -110,29 +110,6 @@ fn write<D: Disk>(
         Ok(()) => Ok(()),
         Err(_) => Err(Refusal::Device),
     }
-}
-
-// Whether the page of this number begins so, has this last byte, and is zero between.
-fn is_page<D: Disk>(disk: &mut D, number: u64, front: &[u8], last: u8) -> Result<bool, Refusal>
-    requires few { length front.now ≤ 4095 }
-    requires number { number ≤ 1000 }
-{
-    let Ok(length) = disk.len() else {
-        return Err(Refusal::Device);
-    };
-    let at = 4096 * number;
-    if length < at + 4096 {
-        return Ok(false);
-    }
-    let mut page = [0; 4096];
-    let Ok(()) = disk.read(at, &mut page) else {
-        return Err(Refusal::Device);
-    };
-    Ok(
-        page.starts_with(front)
-            && page[front.len()..4095].iter().all(|&byte| byte == 0)
-            && page[4095] == last,
-    )
 }
 
 #[test]

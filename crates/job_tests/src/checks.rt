@@ -78,21 +78,28 @@ fn damage_is_told(rt: HostRuntime) -> Result<(), Refusal> {
     Ok(())
 }
 
-/// A call of the disk that fails is told, and nothing is written then. A look makes fewer than twelve calls.
+/// Each call of the disk that fails is told, and nothing is written then. A look makes nine calls or more, and fewer than twelve.
 #[test]
 fn a_failed_call_is_told(rt: HostRuntime) -> Result<(), Refusal> {
     let (mut disk, _) = created(rt.alloc(), 1)?;
+    let mut whole = false;
     for call in 1..=12 {
         let mut out = Vec::new(rt.alloc());
         let mut writer = CountedWriter::new(&mut out);
         let (told, failing) = check_counted(rt.alloc(), FailOnce::new(disk, call), &mut writer);
         disk = failing.into_inner();
         match told {
-            Ok(()) => assert!(rt; out.as_slice() == b"v 0\nslot A 1\njournal 0\n".as_slice()),
+            Ok(()) => {
+                whole = true;
+                assert!(rt; out.as_slice() == b"v 0\nslot A 1\njournal 0\n".as_slice());
+                assert!(rt; call > 9);
+            }
             Err(failed) => {
                 assert!(rt; failed == Failed::Code(Refusal::Device) && out.is_empty());
+                assert!(rt; !whole);
             }
         }
     }
+    assert!(rt; whole);
     Ok(())
 }

@@ -4,12 +4,14 @@ use crate::streams::{FailingReader, FailingWriter};
 use dimacs::{Code, Counted, Fault};
 use disk::MemDisk;
 use printing::{CountedWriter, Failed};
+use querytexts::{batch_counted, once_counted};
+use rehearsals::{joint_counted, rehearse_counted};
 use roadnet::Refusal;
 use std::alloc::Global;
 use std::io::BufReader;
 use std::process::Abort;
 use std::thread::Threads;
-use storetexts::{apply_counted, ask_counted, create_counted};
+use storetexts::{apply_counted, ask_counted, check_counted, create_counted};
 
 /// The network of the worked rows.
 const SIX: &[u8] =
@@ -20,6 +22,11 @@ const LANDMARKS: &[u8] = b"p aux sp ss 3\ns 6\ns 3\ns 6\n";
 const COMMANDS: &[u8] = b"close 7\nclose 7\nset 8 4\n";
 
 const PAIRS: &[u8] = b"p aux sp p2p 2\nq 1 6\nq 6 1\n";
+
+const QUERY: &[u8] = b"dist 1 6\n";
+
+const JOINT: &[u8] =
+    b"p sp 6 8\na 1 2 17\na 1 3 10\na 2 4 2\na 3 5 0\na 4 3 0\na 4 6 3\na 5 2 0\na 5 6 20\nrun\ndist 1 6\n";
 
 /// What a call came to, how many calls of the reader and of the writer failed, and how many bytes were written.
 #[derive(Drop)]
@@ -114,6 +121,119 @@ fn come_of_ask<R: Threads>(
     })
 }
 
+/// What a call came to that hands out no disk.
+fn come_of<T: Drop>(
+    outcome: Result<T, Failed>,
+    failed_reads: u64,
+    failed_writes: u64,
+    written: usize,
+) -> Came {
+    Came {
+        outcome: match outcome {
+            Ok(_) => Ok(()),
+            Err(failed) => Err(failed),
+        },
+        failed_reads,
+        failed_writes,
+        written,
+    }
+}
+
+/// The network, by a reader that fails at this read.
+fn failing_network(
+    alloc: Global,
+    reads: u32,
+) -> Result<BufReader<FailingReader<'static>>, Refusal> {
+    match BufReader::with_capacity(alloc, 8, FailingReader { bytes: SIX, reads }) {
+        Ok(reader) => Ok(reader),
+        Err(_) => Err(Refusal::OutOfMemory),
+    }
+}
+
+/// One query is asked of a network whose reader fails at this read.
+fn come_of_once<R: Threads>(rt: &R, alloc: Global, reads: u32) -> Result<Came, Refusal> {
+    let mut reader = failing_network(alloc, reads)?;
+    let mut out = FailingWriter {
+        writes: 0,
+        taken: 0,
+    };
+    let mut gr = Counted::new(&mut reader);
+    let mut writer = CountedWriter::new(&mut out);
+    let outcome = once_counted(rt, alloc, &mut gr, 1, 6, None, &mut writer);
+    let failed_writes = writer.failed_writes();
+    Ok(come_of(outcome, gr.failed_calls(), failed_writes, out.taken))
+}
+
+/// Pairs are asked of a network whose reader fails at this read.
+fn come_of_batch<R: Threads>(rt: &R, alloc: Global, reads: u32) -> Result<Came, Refusal> {
+    let mut reader = failing_network(alloc, reads)?;
+    let mut out = FailingWriter {
+        writes: 0,
+        taken: 0,
+    };
+    let mut pairs = PAIRS;
+    let mut gr = Counted::new(&mut reader);
+    let mut p2p = Counted::new(&mut pairs);
+    let mut writer = CountedWriter::new(&mut out);
+    let outcome = batch_counted(rt, alloc, &mut gr, &mut p2p, None, &mut writer);
+    let failed_writes = writer.failed_writes();
+    Ok(come_of(outcome, gr.failed_calls(), failed_writes, out.taken))
+}
+
+/// A script is run on a network whose reader fails at this read.
+fn come_of_rehearse<R: Threads>(rt: &R, alloc: Global, reads: u32) -> Result<Came, Refusal> {
+    let mut reader = failing_network(alloc, reads)?;
+    let mut out = FailingWriter {
+        writes: 0,
+        taken: 0,
+    };
+    let mut script = QUERY;
+    let mut gr = Counted::new(&mut reader);
+    let mut events = Counted::new(&mut script);
+    let mut writer = CountedWriter::new(&mut out);
+    let outcome = rehearse_counted(rt, alloc, &mut gr, &mut events, 64, None, &mut writer);
+    let failed_writes = writer.failed_writes();
+    Ok(come_of(outcome, gr.failed_calls(), failed_writes, out.taken))
+}
+
+/// A store is made of a network whose reader fails at this read.
+fn come_of_network(alloc: Global, reads: u32) -> Result<Came, Refusal> {
+    let mut reader = failing_network(alloc, reads)?;
+    let mut out = FailingWriter {
+        writes: 0,
+        taken: 0,
+    };
+    let mut landmarks = LANDMARKS;
+    let mut gr = Counted::new(&mut reader);
+    let mut marks = Counted::new(&mut landmarks);
+    let mut writer = CountedWriter::new(&mut out);
+    let disk = MemDisk::new(alloc);
+    let (outcome, _) = create_counted(alloc, disk, &mut gr, &mut marks, 64, &mut writer);
+    let failed_writes = writer.failed_writes();
+    Ok(come_of(outcome, gr.failed_calls(), failed_writes, out.taken))
+}
+
+/// A network and a script in one text; the writer fails at this call.
+fn come_of_joint<R: Threads>(rt: &R, alloc: Global, writes: u32) -> Came {
+    let mut text = JOINT;
+    let mut out = FailingWriter { writes, taken: 0 };
+    let mut joint = Counted::new(&mut text);
+    let mut writer = CountedWriter::new(&mut out);
+    let outcome = joint_counted(rt, alloc, &mut joint, None, &mut writer);
+    let failed_writes = writer.failed_writes();
+    come_of(outcome, joint.failed_calls(), failed_writes, out.taken)
+}
+
+/// A store is looked at; the writer fails at this call.
+fn come_of_check(alloc: Global, writes: u32) -> Result<Came, Refusal> {
+    let (disk, _) = created(alloc, 64)?;
+    let mut out = FailingWriter { writes, taken: 0 };
+    let mut writer = CountedWriter::new(&mut out);
+    let (outcome, _) = check_counted(alloc, disk, &mut writer);
+    let failed_writes = writer.failed_writes();
+    Ok(come_of(outcome, 0, failed_writes, out.taken))
+}
+
 /// Where a read of text `which` failed that is fault 10 of it, and nothing was written; else all is done.
 fn is_cut_by_reader(rt: &impl Abort, came: &Came, which: u8, whole: usize) {
     if came.failed_reads == 0 {
@@ -170,6 +290,46 @@ fn a_writer_fails_at_each_write(rt: HostRuntime) -> Result<(), Refusal> {
         is_cut_by_writer(&rt, &ask, 19);
         let all = create.failed_writes == 1 && apply.failed_writes == 1 && ask.failed_writes == 1;
         assert!(rt; all || writes > 2, "write {writes}");
+    }
+    Ok(())
+}
+
+/// The reader of the network fails at each of its reads, of which there are a dozen or so.
+#[test]
+fn a_reader_of_a_network_fails_at_each_read(rt: HostRuntime) -> Result<(), Refusal> {
+    for reads in 1..16 {
+        let once = come_of_once(&rt, rt.alloc(), reads)?;
+        is_cut_by_reader(&rt, &once, 0, 13);
+        let batch = come_of_batch(&rt, rt.alloc(), reads)?;
+        is_cut_by_reader(&rt, &batch, 0, 19);
+        let rehearse = come_of_rehearse(&rt, rt.alloc(), reads)?;
+        is_cut_by_reader(&rt, &rehearse, 0, 13);
+        let create = come_of_network(rt.alloc(), reads)?;
+        is_cut_by_reader(&rt, &create, 0, 5);
+        let failed = [
+            once.failed_reads,
+            batch.failed_reads,
+            rehearse.failed_reads,
+            create.failed_reads,
+        ];
+        assert!(rt; failed == [1; 4] || reads > 10, "read {reads}");
+        assert!(rt; failed == [0; 4] || reads < 14, "read {reads}");
+    }
+    Ok(())
+}
+
+/// The writer fails at each of its calls, of which there are ten or more.
+#[test]
+fn a_writer_of_replies_fails_at_each_write(rt: HostRuntime) -> Result<(), Refusal> {
+    for writes in 1..24 {
+        let joint = come_of_joint(&rt, rt.alloc(), writes);
+        is_cut_by_writer(&rt, &joint, 13);
+        let check = come_of_check(rt.alloc(), writes)?;
+        is_cut_by_writer(&rt, &check, 23);
+        let all = joint.failed_writes == 1 && check.failed_writes == 1;
+        assert!(rt; all || writes > 8, "write {writes}");
+        let none = joint.failed_writes == 0 && check.failed_writes == 0;
+        assert!(rt; none || writes < 20, "write {writes}");
     }
     Ok(())
 }

@@ -3,9 +3,9 @@ ghost use Rattle.std.specs.Prelude.{◌≤◌};
 use crate::streams::{FailingReader, FailingWriter, sending_writer};
 use dimacs::{Code, Counted, Fault, Pair, parse_gr, parse_p2p};
 use printing::{CountedWriter, Done, Failed};
-use querytexts::{answer_pairs, batch_counted, batch_text, once_counted, once_text};
+use querytexts::{answer_by, answer_pairs, batch_counted, batch_text, once_counted, once_text};
 use roadnet::{Network, Refusal};
-use rows::{Query, Reply, answer_plain};
+use rows::{Query, Reply, Searches, answer_plain};
 use std::alloc::Global;
 use std::io::BufReader;
 use std::process::Abort;
@@ -324,7 +324,33 @@ fn plain_lines(alloc: Global, network: &Network, pairs: &[Pair]) -> Result<Strin
     Ok(lines)
 }
 
-/// With each width the bytes are those of plain rows.
+/// Searches that keep so many rows write these bytes.
+fn is_answered_with(
+    rt: &(impl Abort + AllocGlobal + Threads),
+    network: &Network,
+    pairs: &[Pair],
+    capacity: u32,
+    want: &str,
+)
+    requires { (1 ≤ capacity) × (capacity ≤ 64) }
+{
+    let mut searches = Searches::new(rt.alloc(), None, capacity);
+    let mut out = Vec::new(rt.alloc());
+    let mut writer = CountedWriter::new(&mut out);
+    let outcome = answer_by(
+        rt,
+        rt.alloc(),
+        network,
+        0,
+        &mut searches,
+        pairs,
+        &mut writer,
+    );
+    assert!(rt; outcome == Ok(Done { delta: None }), "{capacity} rows");
+    assert!(rt; out.as_slice() == want.as_bytes(), "{capacity} rows");
+}
+
+/// With each width, and with each number of rows that are kept, the bytes are those of plain rows.
 #[test]
 fn answers_are_those_of_plain_rows(rt: HostRuntime) -> Result<(), Fail> {
     let (gr, p2p) = mixed_texts(rt.alloc())?;
@@ -339,6 +365,9 @@ fn answers_are_those_of_plain_rows(rt: HostRuntime) -> Result<(), Fail> {
     };
     let want = plain_lines(rt.alloc(), &network, &pairs)?;
     assert!(rt; want.as_str().contains("\nd ") && want.as_str().contains("\nx "));
+    is_answered_with(&rt, &network, &pairs, 1, want.as_str());
+    is_answered_with(&rt, &network, &pairs, 16, want.as_str());
+    is_answered_with(&rt, &network, &pairs, 64, want.as_str());
     for delta in [None, Some(1), Some(50)] {
         let mut out = Vec::new(rt.alloc());
         assert!(rt; batch_text(&rt, rt.alloc(), gr, p2p, delta, &mut out).is_ok());

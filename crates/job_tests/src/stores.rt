@@ -146,7 +146,8 @@ fn applied_across_a_checkpoint(rt: HostRuntime) -> Result<(), Refusal> {
     Ok(())
 }
 
-/// Each call of the disk that fails ends it with 43, and each command that was told is there when the store is opened again.
+/// Each call of the disk that fails ends it with 43, and each command that was told is there when the store is opened again. Without a failure it
+/// opens the store by nine calls, and then makes four writes and syncs for a flush, five for a checkpoint and six for the other flush.
 #[test]
 fn nothing_told_is_lost(rt: HostRuntime) -> Result<(), Refusal> {
     let alloc = rt.alloc();
@@ -163,10 +164,12 @@ fn nothing_told_is_lost(rt: HostRuntime) -> Result<(), Refusal> {
             Ok(_) => {
                 whole = true;
                 assert_eq!(rt; told, 300, "call {call}");
+                assert!(rt; call > 9 + 4 + 5 + 6, "call {call}");
             }
             Err(failed) => {
                 assert!(rt; failed == Failed::Code(Refusal::Device), "call {call}");
                 assert!(rt; told == 0 || told == 253, "call {call}");
+                assert!(rt; !whole, "call {call}");
             }
         }
     }

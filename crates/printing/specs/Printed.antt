@@ -1,5 +1,5 @@
 -- The bytes of answer lines.
-use Rattle.std.specs.Prelude.{ℕ, List, [], ◌∷◌, ◌++◌, Option, None, Some, decimal}
+use Rattle.std.specs.Prelude.{ℕ, List, ◌++◌, decimal}
 use lib.Chars.{codes}
 use Rattle.roadnet.specs.Numbers.{number_of}
 use Rattle.rows.specs.declared.queries.Query.{Query}
@@ -26,13 +26,6 @@ answer_line query NoWalk = with_nodes (codes "x ") query ++ codes "\n"
 answer_line query (AtLeast d) = with_nodes (codes "b ") query ++ codes " " ++ decimal d ++ codes "\n"
 answer_line query (Refused refusal) = refusal_line (number_of refusal)
 
--- the lines of a query at a version; where no memory was there for its reply, `no 11` alone
-abbrev pub lines_of : ℕ → Query → Option Reply → List ℕ
-lines_of version query (Some reply) = version_line version ++ answer_line query reply
-lines_of version query None = refusal_line 11
-
--- the lines of queries and their replies, one after the other
-abbrev pub printed : ℕ → List Query → List (Option Reply) → List ℕ
-printed version [] replies = []
-printed version (query ∷ queries) [] = []
-printed version (query ∷ queries) (reply ∷ replies) = lines_of version query reply ++ printed version queries replies
+-- the lines of a query at a version
+abbrev pub lines_of : ℕ → Query → Reply → List ℕ
+lines_of version query reply = version_line version ++ answer_line query reply

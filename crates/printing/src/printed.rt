@@ -24,7 +24,7 @@ pub fn put_number<W: Write>(out: &mut CountedWriter<'_, W>, number: u64) -> Resu
     out.write_all(buffer.format(number).as_bytes())
 }
 
-/// A word with a blank behind it, and a number.
+/// A word with a blank behind it, a number and a line feed.
 pub fn put_numbered<W: Write>(
     out: &mut CountedWriter<'_, W>,
     word: &[u8],
@@ -124,23 +124,18 @@ pub fn put_answer<W: Write>(
     }
 }
 
-/// The lines of a query: the version and the answer, or `no 11` alone where no memory was there for the reply.
+/// The lines of a query: the version and the answer.
 pub fn put_lines<W: Write>(
     out: &mut CountedWriter<'_, W>,
     version: u64,
     query: &Query,
-    reply: Option<Reply>,
+    reply: Reply,
 ) -> Result<(), Failed>
     ensures ok { OnOk result (Appends (W.contents (writer_of out.old)) (W.contents (writer_of out.new)) (lines_of version query.now reply)) }
     ensures refused { IfErr result (λ failed. failed ≡ Failed.Code Refusal.Write) }
     ensures counts { CountsFailure (failed_writes out.old) (failed_writes out.new) result }
     ensures same { IsSameWriter out.old out.new }
 {
-    match reply {
-        Some(reply) => {
-            put_version(out, version)?;
-            put_answer(out, query, reply)
-        }
-        None => put_refusal(out, 11),
-    }
+    put_version(out, version)?;
+    put_answer(out, query, reply)
 }

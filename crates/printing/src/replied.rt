@@ -36,9 +36,7 @@ pub fn put_reply<W: Write>(out: &mut CountedWriter<'_, W>, reply: &Replied) -> R
         Replied::Stepped => out.write_all(b"step\n"),
         Replied::Task { version } => put_numbered(out, b"task ", version),
         Replied::Shown { version } => put_numbered(out, b"shown ", version),
-        Replied::Answered { query, answer } => {
-            put_lines(out, answer.version, &query, Some(answer.reply))
-        }
+        Replied::Answered { query, answer } => put_lines(out, answer.version, &query, answer.reply),
         Replied::Refused { refusal } => put_refusal(out, refusal.number()),
         Replied::Opened { version } => put_opened(out, version),
         Replied::Stopped => out.write_all(b"stopped\n"),

@@ -16,7 +16,7 @@ use Rattle.printing.specs.declared.failed.Failed.TheVariants.{Text, Code}
 pub record AnswersOne (net : Net) (query : Query) (old new : Option (List ℕ)) : Type 0 where
   pub reply : Reply
   pub right : IsRight net query reply
-  pub written : Appends old new (lines_of 0 query (Some reply))
+  pub written : Appends old new (lines_of 0 query reply)
 
 -- what is written are the lines of a right reply to one query, in the network of the text, and nothing else
 pub record IsAnsweredOnce (text : List ℕ) (query : Query) (old new : Option (List ℕ)) : Type 0 where

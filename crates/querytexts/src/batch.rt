@@ -105,7 +105,7 @@ fn put_answers<W: Write>(
 
 /// Writes the network's version and a right answer to each pair, by searches of the network, and sends them out; or nothing, where no
 /// memory is there for all replies (11). A failed write is 12, and then an unknown part was written.
-pub(crate) fn answer_by<T: Threads, W: Write>(
+pub fn answer_by<T: Threads, W: Write>(
     rt: &T,
     alloc: Global,
     network: &Network,

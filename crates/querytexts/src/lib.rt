@@ -4,5 +4,5 @@
 mod batch;
 mod once;
 
-pub use batch::{answer_pairs, batch_counted, batch_text};
+pub use batch::{answer_by, answer_pairs, batch_counted, batch_text};
 pub use once::{once_counted, once_text};

@@ -51,7 +51,7 @@ fn answer_one<T: Threads, W: Write>(
         Ok(reply) => reply,
         Err(_) => return Err(Failed::Code(Refusal::OutOfMemory)),
     };
-    put_lines(out, 0, &query, Some(reply))?;
+    put_lines(out, 0, &query, reply)?;
     out.flush()?;
     Ok(Done {
         delta: searches.delta(),

@@ -35,9 +35,6 @@ fn a_store_in_a_file(rt: HostRuntime) -> Result<(), Fail> {
     let opened = "read /dev/null\nread /dev/null\nread /dev/null\nread six.store\n";
     assert!(rt; is_kept(&shell.opened, opened));
     assert!(rt; fs::read(&rt, path.as_str())? == before);
-    let mut cut = Shell::new(&rt, folder.as_str(), CHECK)?;
-    cut.fails_at = 1;
-    assert!(rt; program(&cut, rt) == 1 && is_kept(&cut.err, "roadmark: 12 Write\n"));
     fs::remove_dir_all(&rt, folder.as_str())?;
     Ok(())
 }

@@ -56,7 +56,7 @@ const ABOUT: &str =
 
 Without a word it reads the joint form from standard input: a .gr text, a line `run`, and a script, which it runs on a store in memory.
 
-The exit status is 0 where all was done, 1 after a fault in a text, a file or the output, and 2 where the words were not understood.";
+The exit status is 0 where all was done, 1 after a fault, and 2 where the words were not understood.";
 
 const ABOUT_ONCE: &str =
     "Prints the least length of a walk from S to T in the network of the file GR: the lines `v 0` and `d S T LENGTH`, `x S T` where no walk leads there, or `no 24` where S or T is no node.";

@@ -45,18 +45,18 @@ pub fn new_folder<R: AllocGlobal + Env + Files>(rt: &R, name: &str) -> Result<St
     Ok(folder)
 }
 
-/// A run of these words, with this input, prints this and ends with 0.
-fn answers<
+/// A run of these words, with this input, ends with this status, and prints these texts on its output and as its fault line.
+fn ends<
     'a,
     R: Abort + AllocGlobal + Files<File = File> + Threads + Wait + Copy + Send + Sync + 'static,
->(rt: &'a R, folder: &str, words: &'a str, input: &'a str, out: &str) {
+>(rt: &'a R, folder: &str, words: &'a str, input: &'a str, told: (u8, &str, &str)) {
     let Ok(mut shell) = Shell::new(rt, folder, words) else {
         return assert!(rt; false);
     };
     shell.input = input.as_bytes();
-    assert!(rt; program(&shell, *rt) == 0, "{words}");
-    assert!(rt; is_kept(&shell.out, out), "{words}");
-    assert!(rt; is_kept(&shell.err, ""), "{words}");
+    assert!(rt; program(&shell, *rt) == told.0, "{words}");
+    assert!(rt; is_kept(&shell.out, told.1), "{words}");
+    assert!(rt; is_kept(&shell.err, told.2), "{words}");
 }
 
 /// A run of these words without input prints this and ends with 0.
@@ -64,21 +64,7 @@ pub fn is_done<
     'a,
     R: Abort + AllocGlobal + Files<File = File> + Threads + Wait + Copy + Send + Sync + 'static,
 >(rt: &'a R, folder: &str, words: &'a str, out: &str) {
-    answers(rt, folder, words, "", out);
-}
-
-/// A run of these words, with this input, prints this fault line alone and ends with 1.
-fn refuses<
-    'a,
-    R: Abort + AllocGlobal + Files<File = File> + Threads + Wait + Copy + Send + Sync + 'static,
->(rt: &'a R, folder: &str, words: &'a str, input: &'a str, err: &str) {
-    let Ok(mut shell) = Shell::new(rt, folder, words) else {
-        return assert!(rt; false);
-    };
-    shell.input = input.as_bytes();
-    assert!(rt; program(&shell, *rt) == 1, "{words}");
-    assert!(rt; is_kept(&shell.out, ""), "{words}");
-    assert!(rt; is_kept(&shell.err, err), "{words}");
+    ends(rt, folder, words, "", (0, out, ""));
 }
 
 /// A run of these words without input prints this fault line alone and ends with 1.
@@ -86,7 +72,7 @@ pub fn is_refused<
     'a,
     R: Abort + AllocGlobal + Files<File = File> + Threads + Wait + Copy + Send + Sync + 'static,
 >(rt: &'a R, folder: &str, words: &'a str, err: &str) {
-    refuses(rt, folder, words, "", err);
+    ends(rt, folder, words, "", (1, "", err));
 }
 
 #[test]
@@ -110,8 +96,9 @@ fn words_on_texts(rt: HostRuntime) -> Result<(), Fail> {
     for (words, out) in table {
         is_done(&rt, folder.as_str(), words, out);
     }
-    answers(&rt, folder.as_str(), "", JOINT, "v 0\nd 1 6 15\n");
-    answers(&rt, folder.as_str(), "--delta 7", JOINT, "v 0\nd 1 6 15\n");
+    let joint = (0, "v 0\nd 1 6 15\n", "");
+    ends(&rt, folder.as_str(), "", JOINT, joint);
+    ends(&rt, folder.as_str(), "--delta 7", JOINT, joint);
     fs::remove_dir_all(&rt, folder.as_str())?;
     Ok(())
 }
@@ -143,102 +130,81 @@ fn words_on_stores(rt: HostRuntime) -> Result<(), Fail> {
     Ok(())
 }
 
-/// A folder may be opened as a text, and its first read fails.
-#[test]
-fn faults_of_texts(rt: HostRuntime) -> Result<(), Fail> {
-    let id = process::id(rt.process());
-    let name = format!(in rt.alloc(); "roadmark-text-faults-{id}")?;
-    let folder = new_folder(&rt, name.as_str())?;
-    let absent = "roadmark: none: line 0: 10 Read\n";
-    let unread = "roadmark: .: line 1: 10 Read\n";
-    let bad = "roadmark: bad.gr: line 3: 7 LengthRange\n";
-    let bad_pairs = "roadmark: bad.p2p: line 2: 1 BadLine\n";
-    let bad_script = "roadmark: bad.script: line 2: 1 BadLine\n";
-    let table = [
-        ("once none 1 6", absent),
-        ("once bad.gr 1 6", bad),
-        ("once . 1 6", unread),
-        ("batch six.gr bad.p2p", bad_pairs),
-        ("batch bad.gr none", bad),
-        ("batch six.gr none", absent),
-        ("batch six.gr .", unread),
-        ("rehearse six.gr bad.script", bad_script),
-        ("rehearse bad.gr bad.script", bad),
-        ("rehearse six.gr .", unread),
-    ];
-    for (words, err) in table {
-        is_refused(&rt, folder.as_str(), words, err);
-    }
-    let net = "roadmark: net: line 2: 7 LengthRange\n";
-    refuses(&rt, folder.as_str(), "", "p sp 2 1\na 1 2 -5\nrun\n", net);
-    let script = "roadmark: script: line 1: 1 BadLine\n";
-    refuses(&rt, folder.as_str(), "", "p sp 2 0\nrun\ndist 1\n", script);
-    fs::remove_dir_all(&rt, folder.as_str())?;
-    Ok(())
-}
+const ABSENT: &str = "roadmark: none: line 0: 10 Read\n";
 
-/// A store that is not made leaves no file behind.
-#[test]
-fn faults_of_new_stores(rt: HostRuntime) -> Result<(), Fail> {
-    let id = process::id(rt.process());
-    let name = format!(in rt.alloc(); "roadmark-new-faults-{id}")?;
-    let folder = new_folder(&rt, name.as_str())?;
-    let nowhere = "roadmark: none/new.store: line 0: 10 Read\n";
-    let bad = "roadmark: bad.gr: line 3: 7 LengthRange\n";
-    let bad_landmarks = "roadmark: bad.ss: line 2: 6 NodeRange\n";
-    let device = "roadmark: /dev/null: line 0: 10 Read\n";
-    let table = [
-        ("create new.store bad.gr bad.ss", bad),
-        ("create new.store six.gr bad.ss", bad_landmarks),
-        (
-            "create new.store six.gr .",
-            "roadmark: .: line 1: 10 Read\n",
-        ),
-        ("create none/new.store six.gr six.ss", nowhere),
-        ("create . six.gr six.ss", "roadmark: .: line 0: 10 Read\n"),
-        ("create /dev/null six.gr six.ss", device),
-    ];
-    for (words, err) in table {
-        is_refused(&rt, folder.as_str(), words, err);
-    }
-    let path = format!(in rt.alloc(); "{}/new.store", folder.as_str())?;
-    assert!(rt; fs::metadata(&rt, path.as_str()).is_err());
-    fs::remove_dir_all(&rt, folder.as_str())?;
-    Ok(())
-}
+const UNREAD: &str = "roadmark: .: line 1: 10 Read\n";
 
-/// A fault of the store is told before one of the text.
+const NO_STORE: &str = "roadmark: 40 NotAStore\n";
+
+const BAD_NETWORK: &str = "roadmark: bad.gr: line 3: 7 LengthRange\n";
+
+const BAD_LANDMARKS: &str = "roadmark: bad.ss: line 2: 6 NodeRange\n";
+
+const BAD_PAIRS: &str = "roadmark: bad.p2p: line 2: 1 BadLine\n";
+
+const BAD_COMMANDS: &str = "roadmark: bad.commands: line 2: 5 NumberRange\n";
+
+const BAD_SCRIPT: &str = "roadmark: bad.script: line 2: 1 BadLine\n";
+
+const NOWHERE: &str = "roadmark: none/new.store: line 0: 10 Read\n";
+
+const NO_FILE: &str = "roadmark: .: line 0: 10 Read\n";
+
+const DEVICE: &str = "roadmark: /dev/null: line 0: 10 Read\n";
+
+/// Words on files that are absent or at fault, and what is told of them.
+const FAULTS: [(&str, &str); 26] = [
+    ("once none 1 6", ABSENT),
+    ("once bad.gr 1 6", BAD_NETWORK),
+    ("once . 1 6", UNREAD),
+    ("batch six.gr bad.p2p", BAD_PAIRS),
+    ("batch bad.gr none", BAD_NETWORK),
+    ("batch six.gr none", ABSENT),
+    ("batch six.gr .", UNREAD),
+    ("rehearse six.gr bad.script", BAD_SCRIPT),
+    ("rehearse bad.gr bad.script", BAD_NETWORK),
+    ("rehearse six.gr .", UNREAD),
+    ("create new.store bad.gr bad.ss", BAD_NETWORK),
+    ("create new.store six.gr bad.ss", BAD_LANDMARKS),
+    ("create new.store six.gr .", UNREAD),
+    ("create none/new.store six.gr six.ss", NOWHERE),
+    ("create . six.gr six.ss", NO_FILE),
+    ("create /dev/null six.gr six.ss", DEVICE),
+    ("apply none six.commands", ABSENT),
+    ("apply six.store bad.commands", BAD_COMMANDS),
+    ("apply six.store .", UNREAD),
+    ("apply six.gr none", NO_STORE),
+    ("ask six.store none", ABSENT),
+    ("ask six.store bad.p2p", BAD_PAIRS),
+    ("ask six.store .", UNREAD),
+    ("ask six.gr none", NO_STORE),
+    ("serve none", ABSENT),
+    ("serve six.gr", NO_STORE),
+];
+
+/// A folder may be opened as a text, and its first read fails. A store that is not made leaves no file; a fault of a store comes first.
 #[test]
-fn faults_of_stores(rt: HostRuntime) -> Result<(), Fail> {
+fn faults_of_files(rt: HostRuntime) -> Result<(), Fail> {
     let id = process::id(rt.process());
     let name = format!(in rt.alloc(); "roadmark-faults-{id}")?;
     let folder = new_folder(&rt, name.as_str())?;
-    is_done(
-        &rt,
-        folder.as_str(),
-        "create six.store six.gr six.ss",
-        "ok 0\n",
-    );
-    let absent = "roadmark: none: line 0: 10 Read\n";
-    let unread = "roadmark: .: line 1: 10 Read\n";
-    let no_store = "roadmark: 40 NotAStore\n";
-    let bad_commands = "roadmark: bad.commands: line 2: 5 NumberRange\n";
-    let bad_pairs = "roadmark: bad.p2p: line 2: 1 BadLine\n";
-    let table = [
-        ("apply none six.commands", absent),
-        ("apply six.store bad.commands", bad_commands),
-        ("apply six.store .", unread),
-        ("apply six.gr none", no_store),
-        ("ask six.store none", absent),
-        ("ask six.store bad.p2p", bad_pairs),
-        ("ask six.store .", unread),
-        ("ask six.gr none", no_store),
-        ("serve none", absent),
-        ("serve six.gr", no_store),
-    ];
-    for (words, err) in table {
+    let create = "create six.store six.gr six.ss";
+    is_done(&rt, folder.as_str(), create, "ok 0\n");
+    for (words, err) in FAULTS {
         is_refused(&rt, folder.as_str(), words, err);
     }
+    let network = (1, "", "roadmark: net: line 2: 7 LengthRange\n");
+    ends(
+        &rt,
+        folder.as_str(),
+        "",
+        "p sp 2 1\na 1 2 -5\nrun\n",
+        network,
+    );
+    let script = (1, "", "roadmark: script: line 1: 1 BadLine\n");
+    ends(&rt, folder.as_str(), "", "p sp 2 0\nrun\ndist 1\n", script);
+    let path = format!(in rt.alloc(); "{}/new.store", folder.as_str())?;
+    assert!(rt; fs::metadata(&rt, path.as_str()).is_err());
     fs::remove_dir_all(&rt, folder.as_str())?;
     Ok(())
 }

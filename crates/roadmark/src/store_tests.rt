@@ -1,6 +1,6 @@
 //! What the program does with the file of a store: when it is opened and how, who else may have it, and which file a refusal leaves.
 use crate::program;
-use crate::program_tests::new_folder;
+use crate::program_tests::{is_done, is_refused, new_folder};
 use crate::shell::{Shell, have_sizes, is_kept};
 use filedisk::{open_file, open_to_read};
 use std::os::unix::fs::symlink;
@@ -12,6 +12,8 @@ const CREATE: &str = "create new.store six.gr six.ss";
 const APPLY: &str = "apply new.store six.commands";
 
 const ASK: &str = "ask new.store six.p2p";
+
+const CHECK: &str = "check new.store";
 
 const SERVE: &str = "serve new.store --workers 2";
 
@@ -47,16 +49,12 @@ fn a_store_in_use(rt: HostRuntime) -> Result<(), Fail> {
     let name = format!(in rt.alloc(); "roadmark-locks-{id}")?;
     let folder = new_folder(&rt, name.as_str())?;
     let path = format!(in rt.alloc(); "{}/new.store", folder.as_str())?;
-    assert_eq!(rt; program(&Shell::new(&rt, folder.as_str(), CREATE)?, rt), 0);
+    is_done(&rt, folder.as_str(), CREATE, "ok 0\n");
     let in_use = "roadmark: new.store: line 0: 10 Read\n";
     if let Ok(disk) = open_file(&rt, path.as_str()) {
-        let table: [&str; 4] = [CREATE, APPLY, ASK, SERVE];
+        let table: [&str; 5] = [CREATE, APPLY, ASK, CHECK, SERVE];
         for words in table {
-            let shell = Shell::new(&rt, folder.as_str(), words)?;
-            assert!(rt;
-                program(&shell, rt) == 1 && is_kept(&shell.err, in_use),
-                "{words}"
-            );
+            is_refused(&rt, folder.as_str(), words, in_use);
         }
         assert_eq!(rt; disk.failed_calls(), 0);
     } else {
@@ -65,14 +63,10 @@ fn a_store_in_use(rt: HostRuntime) -> Result<(), Fail> {
     if let Ok(disk) = open_to_read(&rt, path.as_str()) {
         let table: [&str; 2] = [APPLY, SERVE];
         for words in table {
-            let shell = Shell::new(&rt, folder.as_str(), words)?;
-            assert!(rt;
-                program(&shell, rt) == 1 && is_kept(&shell.err, in_use),
-                "{words}"
-            );
+            is_refused(&rt, folder.as_str(), words, in_use);
         }
-        let shell = Shell::new(&rt, folder.as_str(), ASK)?;
-        assert!(rt; program(&shell, rt) == 0 && is_kept(&shell.out, "v 0\nd 1 6 15\nx 6 1\n"));
+        is_done(&rt, folder.as_str(), ASK, "v 0\nd 1 6 15\nx 6 1\n");
+        is_done(&rt, folder.as_str(), CHECK, "v 0\nslot A 1\njournal 0\n");
         assert_eq!(rt; disk.failed_calls(), 0);
     } else {
         assert!(rt; false, "the store is not opened to be read");
@@ -150,7 +144,7 @@ fn lines_page_by_page(rt: HostRuntime) -> Result<(), Fail> {
         commands.push_str("set 1 17\n")?;
     }
     fs::write(&rt, path.as_str(), commands.as_str())?;
-    assert_eq!(rt; program(&Shell::new(&rt, folder.as_str(), CREATE)?, rt), 0);
+    is_done(&rt, folder.as_str(), CREATE, "ok 0\n");
     let shell = Shell::new(&rt, folder.as_str(), APPLY)?;
     assert_eq!(rt; program(&shell, rt), 0);
     // Of 253 lines 9 have 5 bytes, 90 have 6 and 154 have 7; 47 of 7 bytes follow.
@@ -166,26 +160,31 @@ fn lines_page_by_page(rt: HostRuntime) -> Result<(), Fail> {
 /// How many commands a long session has.
 const COMMANDS: u32 = 1000;
 
-/// A session of a thousand commands over a file, whose store is asked behind it. One whose output fails ends with 12, and its command is there.
+/// A session of a thousand commands over a file, each answer in a write of its own; its store is asked behind it. One whose output fails
+/// ends with 12, and its command is there.
 #[test]
 fn a_session_over_a_file(rt: HostRuntime) -> Result<(), Fail> {
     let id = process::id(rt.process());
     let name = format!(in rt.alloc(); "roadmark-session-{id}")?;
     let folder = new_folder(&rt, name.as_str())?;
-    assert_eq!(rt; program(&Shell::new(&rt, folder.as_str(), CREATE)?, rt), 0);
+    is_done(&rt, folder.as_str(), CREATE, "ok 0\n");
     let mut lines = String::new(rt.alloc());
     let mut answers = String::new(rt.alloc());
+    let mut sizes = Vec::new(rt.alloc());
     for number in 1..=COMMANDS {
         lines.push_str("set 8 4\n")?;
         let answer = format!(in rt.alloc(); "ok {number}\n")?;
         answers.push_str(answer.as_str())?;
+        sizes.push(answer.len())?;
     }
     lines.push_str("wait\ndist 1 6\nhello\nquit\nset 8 5\n")?;
     answers.push_str("v 1000\nv 1000\nd 1 6 14\nno 1\n")?;
-    let mut served = Shell::new(&rt, folder.as_str(), SERVE)?;
+    sizes.extend_from_slice(&[7, 16, 5])?;
+    let mut served = Shell::new(&rt, folder.as_str(), "serve new.store")?;
     served.input = lines.as_bytes();
     assert!(rt; program(&served, rt) == 0 && is_kept(&served.err, ""));
     assert!(rt; is_kept(&served.out, answers.as_str()));
+    assert!(rt; have_sizes(&served.writes, sizes.as_slice()));
     let asked = Shell::new(&rt, folder.as_str(), ASK)?;
     assert!(rt; program(&asked, rt) == 0 && is_kept(&asked.out, "v 1000\nd 1 6 14\nx 6 1\n"));
     let mut cut = Shell::new(&rt, folder.as_str(), SERVE)?;
@@ -194,21 +193,6 @@ fn a_session_over_a_file(rt: HostRuntime) -> Result<(), Fail> {
     assert!(rt; program(&cut, rt) == 1 && is_kept(&cut.err, "roadmark: 12 Write\n"));
     let behind = Shell::new(&rt, folder.as_str(), ASK)?;
     assert!(rt; program(&behind, rt) == 0 && is_kept(&behind.out, "v 1001\nd 1 6 14\nx 6 1\n"));
-    fs::remove_dir_all(&rt, folder.as_str())?;
-    Ok(())
-}
-
-/// A short session over a new store.
-#[test]
-fn a_short_session(rt: HostRuntime) -> Result<(), Fail> {
-    let id = process::id(rt.process());
-    let name = format!(in rt.alloc(); "roadmark-short-{id}")?;
-    let folder = new_folder(&rt, name.as_str())?;
-    assert_eq!(rt; program(&Shell::new(&rt, folder.as_str(), CREATE)?, rt), 0);
-    let mut served = Shell::new(&rt, folder.as_str(), "serve new.store")?;
-    served.input = b"close 7\nwait\ndist 1 6\nhello\nquit\n";
-    assert!(rt; program(&served, rt) == 0 && is_kept(&served.err, ""));
-    assert!(rt; is_kept(&served.out, "ok 1\nv 1\nv 1\nd 1 6 22\nno 1\n"));
     fs::remove_dir_all(&rt, folder.as_str())?;
     Ok(())
 }

@@ -22,88 +22,113 @@ fn usage_of<R: Abort + AllocGlobal>(rt: &R, words: &str) -> Result<Usage, Fail> 
     }
 }
 
-#[test]
-fn words_of_texts(rt: HostRuntime) -> Result<(), Fail> {
-    let once = Job::Once {
-        network: "a.gr",
-        source: 1,
-        target: u64::MAX,
-        delta: None,
-    };
-    ask_for(&rt, "roadmark once a.gr 1 18446744073709551615", once)?;
-    let batch = Job::Batch {
-        network: "a.gr",
-        pairs: "b.p2p",
-        delta: Some(2147483647),
-    };
-    let options_last = "roadmark batch a.gr b.p2p --delta 2147483647";
-    let options_first = "roadmark batch --delta 2147483647 -- a.gr b.p2p";
-    ask_for(&rt, options_last, batch)?;
-    ask_for(&rt, options_first, batch)?;
-    let rehearse = Job::Rehearse {
-        network: "a.gr",
-        script: "c",
-        journal_pages: 64,
-        delta: None,
-    };
-    ask_for(&rt, "roadmark rehearse a.gr c", rehearse)?;
-    let small = Job::Rehearse {
-        network: "a.gr",
-        script: "c",
-        journal_pages: 1,
-        delta: Some(5),
-    };
-    ask_for(&rt, "roadmark rehearse a.gr --journal=1 c --delta=5", small)?;
-    ask_for(&rt, "roadmark", Job::Joint { delta: None })?;
-    ask_for(&rt, "roadmark --delta 1", Job::Joint { delta: Some(1) })?;
-    ask_for(&rt, "roadmark --delta=7", Job::Joint { delta: Some(7) })
-}
+/// Words with the job for which they ask.
+const JOBS: [(&str, Job<'static>); 15] = [
+    (
+        "roadmark once a.gr 1 18446744073709551615",
+        Job::Once {
+            network: "a.gr",
+            source: 1,
+            target: u64::MAX,
+            delta: None,
+        },
+    ),
+    (
+        "roadmark batch a.gr b.p2p --delta 2147483647",
+        Job::Batch {
+            network: "a.gr",
+            pairs: "b.p2p",
+            delta: Some(2147483647),
+        },
+    ),
+    (
+        "roadmark batch --delta 2147483647 -- a.gr b.p2p",
+        Job::Batch {
+            network: "a.gr",
+            pairs: "b.p2p",
+            delta: Some(2147483647),
+        },
+    ),
+    (
+        "roadmark rehearse a.gr c",
+        Job::Rehearse {
+            network: "a.gr",
+            script: "c",
+            journal_pages: 64,
+            delta: None,
+        },
+    ),
+    (
+        "roadmark rehearse a.gr --journal=1 c --delta=5",
+        Job::Rehearse {
+            network: "a.gr",
+            script: "c",
+            journal_pages: 1,
+            delta: Some(5),
+        },
+    ),
+    ("roadmark", Job::Joint { delta: None }),
+    ("roadmark --delta 1", Job::Joint { delta: Some(1) }),
+    ("roadmark --delta=7", Job::Joint { delta: Some(7) }),
+    (
+        "roadmark create s a.gr b.ss",
+        Job::Create {
+            store: "s",
+            network: "a.gr",
+            landmarks: "b.ss",
+            journal_pages: 64,
+        },
+    ),
+    (
+        "roadmark create --journal 65536 s a.gr b.ss",
+        Job::Create {
+            store: "s",
+            network: "a.gr",
+            landmarks: "b.ss",
+            journal_pages: 65536,
+        },
+    ),
+    (
+        "roadmark apply s d --delta 3",
+        Job::Apply {
+            store: "s",
+            commands: "d",
+            delta: Some(3),
+        },
+    ),
+    (
+        "roadmark ask s b.p2p",
+        Job::Ask {
+            store: "s",
+            pairs: "b.p2p",
+            delta: None,
+        },
+    ),
+    ("roadmark check s", Job::Check { store: "s" }),
+    (
+        "roadmark serve s",
+        Job::Serve {
+            store: "s",
+            delta: None,
+            workers: 4,
+        },
+    ),
+    (
+        "roadmark serve s --workers=64 --delta 9",
+        Job::Serve {
+            store: "s",
+            delta: Some(9),
+            workers: 64,
+        },
+    ),
+];
 
 #[test]
-fn words_of_stores(rt: HostRuntime) -> Result<(), Fail> {
-    let create = Job::Create {
-        store: "s",
-        network: "a.gr",
-        landmarks: "b.ss",
-        journal_pages: 64,
-    };
-    ask_for(&rt, "roadmark create s a.gr b.ss", create)?;
-    let large = Job::Create {
-        store: "s",
-        network: "a.gr",
-        landmarks: "b.ss",
-        journal_pages: 65536,
-    };
-    ask_for(&rt, "roadmark create --journal 65536 s a.gr b.ss", large)?;
-    let apply = Job::Apply {
-        store: "s",
-        commands: "d",
-        delta: Some(3),
-    };
-    ask_for(&rt, "roadmark apply s d --delta 3", apply)?;
-    let ask = Job::Ask {
-        store: "s",
-        pairs: "b.p2p",
-        delta: None,
-    };
-    ask_for(&rt, "roadmark ask s b.p2p", ask)?;
-    ask_for(&rt, "roadmark check s", Job::Check { store: "s" })
-}
-
-#[test]
-fn words_of_sessions(rt: HostRuntime) -> Result<(), Fail> {
-    let serve = Job::Serve {
-        store: "s",
-        delta: None,
-        workers: 4,
-    };
-    ask_for(&rt, "roadmark serve s", serve)?;
-    let served = Job::Serve {
-        store: "s",
-        delta: Some(9),
-        workers: 64,
-    };
-    ask_for(&rt, "roadmark serve s --workers=64 --delta 9", served)
+fn each_word_is_its_job(rt: HostRuntime) -> Result<(), Fail> {
+    for (words, job) in JOBS {
+        ask_for(&rt, words, job)?;
+    }
+    Ok(())
 }
 
 #[test]

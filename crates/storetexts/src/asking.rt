@@ -87,7 +87,7 @@ pub fn ask_counted<T: Threads, D: Disk, R: BufRead, W: Write>(
     ensures order { D.honest disk → IfErr result.0 (λ failed. IfNoMemory failed (HeaderFits (D.content disk))) }
     // What is answered no stop takes back.
     ensures at_rest { D.honest disk → OnOk result.0 (Only (D.content result.1) (D.left result.1)) }
-    // The disk's count of failures rises where 43 is told, and else not at all.
+    // The disk's count of failures rises where 43 is told, and for no other refusal but a failed write.
     ensures failed { CountsDevice (D.failures disk) (D.failures result.1) result.0 }
     // Nothing is written to the disk.
     ensures untouched { D.honest disk → StaysSame D.content D.left D.moment D.left_since disk result.1 }

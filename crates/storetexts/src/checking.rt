@@ -63,7 +63,7 @@ pub fn check_counted<D: Disk, W: Write>(
     ensures answered { OnOk result.0 (IsChecked (D.honest disk) (D.content disk) (W.contents (writer_of out.old)) (W.contents (writer_of out.new))) }
     ensures refused { IfErr result.0 (IsRefusedCheck (D.honest disk) (D.content disk)) }
     ensures order { D.honest disk → IfErr result.0 (λ failed. IfNoMemory failed (HeaderFits (D.content disk))) }
-    // The disk's count of failures rises where 43 is told, and else not at all.
+    // The disk's count of failures rises where 43 is told, and for no other refusal but a failed write.
     ensures failed { CountsDevice (D.failures disk) (D.failures result.1) result.0 }
     // Nothing is written to the disk.
     ensures untouched { D.honest disk → StaysSame D.content D.left D.moment D.left_since disk result.1 }

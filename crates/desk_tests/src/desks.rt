@@ -462,29 +462,6 @@ fn try_beside<R: Threads + Wait + Copy + Send + Sync + 'static>(
     try_one::<Brand, _, _, _>(rt, alloc, history, store, gate)
 }
 
-/// What is answered of one command by a desk of a new store, whose gate lets each attempt begin.
-fn try_in_memory<R: Threads + Wait + Copy + Send + Sync + 'static>(
-    rt: R,
-    alloc: Global,
-) -> Result<(Told, usize), Refusal> {
-    let store = store_of_six(alloc, &[3], 64)?;
-    let history = History::new(store.network(), store.version());
-    try_one::<Brand, _, _, _>(rt, alloc, history, store, NoGate)
-}
-
-/// To be run with each allocation failing in turn: then the command is settled and shown all the same, since a thread that found no memory
-/// tries again; or the disk in memory failed, or there is no desk, or no ticket.
-#[test]
-fn a_command_in_little_memory(rt: HostRuntime) {
-    let broken = ((Err(Refusal::Broken), Err(Refusal::Broken)), 1);
-    match try_in_memory(rt, rt.alloc()) {
-        Ok(told) => assert!(rt; told == ((Ok(1), Ok(())), 1) || told == broken),
-        Err(refusal) => {
-            assert!(rt; refusal == Refusal::OutOfMemory || refusal == Refusal::Device);
-        }
-    }
-}
-
 #[test]
 fn threads_try_again(rt: HostRuntime) -> Result<(), Fail> {
     let alloc = rt.alloc();

@@ -192,23 +192,16 @@ fn flusher_ends_after_three_missed_steps(rt: HostRuntime) -> Result<(), Fail> {
     Ok(())
 }
 
-/// The version of a view that is pinned, and the least distance from node 1 to node 6 in it, which a batch with the way back tells too.
+/// The version of a view that is pinned, and the least distance from node 1 to node 6 in it.
 fn asked<N: Naming, R: Threads>(
     rt: &R,
     alloc: Global,
     pinned: &mut Pinned<'_, N>,
 ) -> Result<(u64, Reply), Refusal> {
     let version = pinned.version();
-    let Ok(reply) = pinned.dist(rt, alloc, 1, 6) else {
-        return Err(Refusal::OutOfMemory);
-    };
-    let Ok(replies) = pinned.batch(rt, alloc, &[(1, 6), (6, 1)]) else {
-        return Err(Refusal::OutOfMemory);
-    };
-    if replies.as_slice() == [reply, Reply::NoWalk].as_slice() {
-        Ok((version, reply))
-    } else {
-        Err(Refusal::NotYet)
+    match pinned.dist(rt, alloc, 1, 6) {
+        Ok(reply) => Ok((version, reply)),
+        Err(_) => Err(Refusal::OutOfMemory),
     }
 }
 

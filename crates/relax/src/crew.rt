@@ -35,7 +35,8 @@ pub struct Crew<R> {
 impl<R: Threads> Crew<R> {
     /// A crew that cuts the nodes of a phase into chunks of this many.
     pub fn new(_rt: &R, chunk: u32) -> Crew<R>
-        requires { 1 ≤ chunk }
+        requires some { 1 ≤ chunk }
+        ensures chunk { result.chunk ≡ chunk }
     {
         let leave = Leave { from: PhantomData };
         Crew { leave, chunk }

@@ -1,4 +1,4 @@
-ghost use Rattle.std.specs.Prelude.{◌≡◌, ℕ, None, IfOk, IsOk, IsSome, OnErr};
+ghost use Rattle.std.specs.Prelude.{◌≡◌, ℕ, [], None, IfOk, IsOk, IsSome, OnErr};
 ghost use Rattle.rows.specs.Cached.{KeepsOthers, HasRowsOf, HasUsed, capacity_of, row_kept, rows_of};
 ghost use Rattle.rows.specs.Replies.{IsRight, refusal_of};
 ghost use Rattle.rows.specs.Views.{AreRight};
@@ -59,6 +59,7 @@ fn batch_by<R: Threads>(
 ) -> Result<Vec<Reply>, OutOfMemory>
     requires { HasRowsOf view.now.version view.now.network cache.old }
     ensures right { IfOk result (λ replies. AreRight view.now.network pairs.now replies.items) }
+    ensures empty { pairs.now ≡ [] → IsOk result }
     ensures kept { HasRowsOf view.now.version view.now.network cache.new }
     ensures others { KeepsOthers view.now.version cache.old cache.new }
     ensures capacity { capacity_of cache.new ≡ capacity_of cache.old }
@@ -144,6 +145,7 @@ impl<'a> Pinned<'a> {
         ensures used { refusal_of (viewed self.old).network (Dist source target) ≡ None → HasUsed (viewed self.old).version source (cached self.old) (cached self.new) }
         ensures unused { IsSome (refusal_of (viewed self.old).network (Dist source target)) → rows_of (cached self.new) ≡ rows_of (cached self.old) }
         ensures cut { OnErr result (rows_of (cached self.new) ≡ rows_of (cached self.old)) }
+        ensures capacity { capacity_of (cached self.new) ≡ capacity_of (cached self.old) }
         ensures same { IsSamePin self.old self.new }
     {
         dist_by(rt, alloc, self.view, self.cache, source, target)
@@ -161,8 +163,10 @@ impl<'a> Pinned<'a> {
     ) -> Result<Vec<Reply>, OutOfMemory>
         requires { HasOwnRows self.old }
         ensures right { IfOk result (λ replies. AreRight (viewed self.old).network pairs.now replies.items) }
+        ensures empty { pairs.now ≡ [] → IsOk result }
         ensures kept { HasOwnRows self.new }
         ensures others { KeepsOthers (viewed self.old).version (cached self.old) (cached self.new) }
+        ensures capacity { capacity_of (cached self.new) ≡ capacity_of (cached self.old) }
         ensures same { IsSamePin self.old self.new }
     {
         batch_by(rt, alloc, self.view, self.cache, pairs)
@@ -189,6 +193,7 @@ impl<'a> Pinned<'a> {
         ensures kept { HasOwnRows self.new }
         ensures others { KeepsOthers (viewed self.old).version (cached self.old) (cached self.new) }
         ensures cut { OnErr result (rows_of (cached self.new) ≡ rows_of (cached self.old)) }
+        ensures capacity { capacity_of (cached self.new) ≡ capacity_of (cached self.old) }
         ensures same { IsSamePin self.old self.new }
     {
         match *query {

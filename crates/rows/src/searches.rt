@@ -3,7 +3,7 @@ ghost use Rattle.std.specs.Option.{ForSome};
 ghost use Rattle.roadnet.specs.Net.{Net};
 ghost use Rattle.rows.specs.Replies.{IsRight, refusal_of};
 ghost use Rattle.rows.specs.declared.queries.Query.TheVariants.{Dist};
-ghost use Rattle.rows.specs.Cached.{HasUsed, rows_of};
+ghost use Rattle.rows.specs.Cached.{HasUsed, capacity_of, rows_of};
 ghost use Rattle.rows.specs.Kept.{IsWidth, IsHeld, given_width, AreOf, HasGroupsOf};
 
 use crate::answers::refusal_of;
@@ -36,6 +36,7 @@ impl Searches {
         requires capacity { (1 ≤ capacity) × (capacity ≤ 64) }
         ensures delta { given_width result ≡ delta }
         ensures kept { (net : Net) → AreOf net result }
+        ensures capacity { capacity_of result.rows ≡ capacity }
     {
         Searches {
             delta,
@@ -93,6 +94,7 @@ impl Searches {
         ensures used { refusal_of network.now (Dist source target) ≡ None → OnOk result (HasUsed 0 source self.old.rows self.new.rows) }
         ensures unused { IsSome (refusal_of network.now (Dist source target)) → self.new ≡ self.old }
         ensures cut { OnErr result (rows_of self.new.rows ≡ rows_of self.old.rows) }
+        ensures capacity { capacity_of self.new.rows ≡ capacity_of self.old.rows }
     {
         let query = Query::Dist { source, target };
         if let Some(refusal) = refusal_of(network, &query) {

@@ -1,5 +1,5 @@
 -- What a content that stands is, while the other slot is closed.
-use Rattle.std.proofs.Common.{◌≡◌, ℕ, List, length, sym, ◌∙◌, ap, subst}
+use Rattle.std.proofs.Common.{◌≡◌, ℕ, List, length, Option, Some, sym, ◌∙◌, ap, subst}
 use Rattle.std.proofs.lemmas.List.{length-map}
 use Rattle.disk.specs.Contents.{Only}
 use Rattle.disk.specs.Moments.{LeavesOnly}
@@ -10,22 +10,22 @@ use Rattle.pages.specs.declared.content.Slot.{Slot}
 use Rattle.pages.specs.Spelling.{ends_of}
 use Rattle.pages.specs.Layout.{other}
 use Rattle.storefile.specs.StoreFile.{page, StandsTidyFor, HasNoLaterPage, commands_of}
-use Rattle.storefile.specs.Standing.{Standing, IsStoredAs, IsTidyAt}
+use Rattle.storefile.specs.Standing.{Standing, IsStoredAs, IsTidyAt, standing_of}
 use Rattle.storefile.proofs.OtherSlot.{after_ends}
-use Rattle.storefile.proofs.Rests.{stored_as}
-use Rattle.storefile.proofs.SlotWrite.{slot_stays}
+use Rattle.storefile.proofs.Rests.{stored_as, standing_is}
+use Rattle.storefile.proofs.SlotWrite.{slot_stays, tidy_stays}
 use Rattle.checkpoint.specs.Writing.{IsSlotShut}
 use Rattle.store.specs.Committing.{StandsTidily}
 
 -- The network of what stands has the sizes of its header.
-pub nodes_told : (file : List ℕ) (x : Standing) → StandsTidily file x → x.network.nodes ≡ x.header.nodes
-nodes_told file x stands =
-    let held = stored_as file x stands.0 in
+pub nodes_told : (file : List ℕ) (x : Standing) → standing_of file ≡ Some x → x.network.nodes ≡ x.header.nodes
+nodes_told file x told =
+    let held = stored_as file x told in
     (after_ends held.stored.network x.network (commands_of held.stored) held.stands.gives.network).nodes ∙ held.stands.is.arcs.nodes_are ∙ ap (λ (h : Header). h.nodes) held.header_is
 
-pub arcs_told : (file : List ℕ) (x : Standing) → StandsTidily file x → length x.network.arcs ≡ x.header.arcs
-arcs_told file x stands =
-    let held = stored_as file x stands.0 in
+pub arcs_told : (file : List ℕ) (x : Standing) → standing_of file ≡ Some x → length x.network.arcs ≡ x.header.arcs
+arcs_told file x told =
+    let held = stored_as file x told in
     sym (length-map x.network.arcs ends_of) ∙ ap length (after_ends held.stored.network x.network (commands_of held.stored) held.stands.gives.network).ends
     ∙ length-map held.stored.network.arcs ends_of ∙ held.stands.is.arcs.count_is ∙ ap (λ (h : Header). h.arcs) held.header_is
 
@@ -49,7 +49,12 @@ no_call content left moment left_since disk x only now stands =
     started moment left_since disk (λ c. StandsTidyFor x.header.journal_pages c x.network x.version) (λ c since. only_stands (content disk) (left disk) x only stands c (now c since))
 
 -- the other slot's gate is closed
+pub shut_told : (old c : List ℕ) (x : Standing) → standing_of old ≡ Some x → IsSlotShut x.header (other x.slot) old c → standing_of c ≡ Some x
+shut_told old c x told shut =
+    standing_is c x.header x.slot x.epoch x.network x.version x.next x.unchecked (slot_stays old c x.header x.slot x.epoch x.network x.version x.next x.unchecked (stored_as old x told) shut)
+
+pub shut_tidily : (old c : List ℕ) (x : Standing) → StandsTidily old x → IsSlotShut x.header (other x.slot) old c → StandsTidily c x
+shut_tidily old c x stands shut = (shut_told old c x stands.0 shut, tidy_stays old c x.header x.slot x.next stands.1 shut)
+
 pub shut_stands : (old c : List ℕ) (x : Standing) → StandsTidily old x → IsSlotShut x.header (other x.slot) old c → StandsTidyFor x.header.journal_pages c x.network x.version
-shut_stands old c x stands shut =
-    let still = slot_stays old c x.header x.slot x.epoch x.network x.version x.next x.unchecked (stored_as old x stands.0) stands.1 shut in
-    tidy_for c x.header x.slot x.epoch x.network x.version x.next x.unchecked still.0 still.1
+shut_stands old c x stands shut = still_stands c x (shut_tidily old c x stands shut)

@@ -14,25 +14,21 @@ use Rattle.pages.specs.declared.header.Header.{Header}
 use Rattle.pages.specs.declared.content.Slot.{Slot}
 use Rattle.pages.specs.Spelling.{AreFit, SpelledEntry, IsRecord, ends_of}
 use Rattle.pages.specs.Layout.{HeadOf, Words, other, word_pages, page_number, page_count}
-use Rattle.storefile.specs.StoreFile.{page, is_open, is_standing, joined, journal_page_at, HoldsSlot, StandsTidyBy, StandsTidyFor}
-use Rattle.storefile.specs.Standing.{Standing, IsStoredAs, IsTidyAt, HasFitNumbers, LeadsTo, with_other_slot}
+use Rattle.storefile.specs.StoreFile.{page, is_open, is_standing, joined, journal_page_at, HoldsSlot, StandsBy, StandsTidyFor}
+use Rattle.storefile.specs.Standing.{Standing, standing_of, IsStoredAs, IsTidyAt, HasFitNumbers, LeadsTo, with_other_slot}
 use Rattle.storefile.proofs.JournalWrite.{leads_more}
 use Rattle.storefile.proofs.Meaning.{IsPage, is_page, page_outside, page_spells, page_stands}
-use Rattle.storefile.proofs.OtherSlot.{SameBeside, after_ends, leads_beside, slot_leads_on}
+use Rattle.storefile.proofs.OtherSlot.{SameBeside, after_ends, leads_beside, slot_leads_on, slots_keep_tidy}
 use Rattle.storefile.proofs.PageBytes.{outside_pages, same_but}
 use Rattle.storefile.proofs.Rests.{stored_as, standing_is}
-use Rattle.storefile.proofs.SlotWrite.{slot_stays}
 use Rattle.storefile.proofs.Torn.{head_below}
 use Rattle.checkpoint.specs.Writing.{Draft, head_of, slot_at, slot_size, slot_gate, HoldsWords, IsSlotShut, IsSlotWhole, IsSlotShutOrWhole}
 use Rattle.checkpoint.proofs.SlotHeld.{holds_slot, gate_shut, while_beginning}
 use Rattle.store.specs.declared.going.GoingCheckpoint.{GoingCheckpoint}
 use Rattle.store.specs.Committing.{StandsTidily}
 use Rattle.store.specs.Going.{FitsStore, GoesOn, with_one_more}
-use Rattle.store.proofs.Checkpointed.{still_stands, shut_stands, nodes_told, arcs_told}
+use Rattle.store.proofs.Checkpointed.{still_stands, shut_told, shut_tidily, shut_stands, nodes_told, arcs_told}
 use Rattle.store.proofs.Committed.{Follow, records_fit, page_body}
-
-pub stands_prop : (c : List ℕ) (x : Standing) → IsProp (StandsTidily c x)
-stands_prop c x = Prim.hlevel props
 
 -- ---- it begins
 
@@ -133,16 +129,16 @@ numbers_taken_over x draft committed numbers fits = record {
 }
 
 module _ (old : List ℕ) (x : Standing) (draft : Draft) (frozen : Net) (committed : ℕ) (numbers : HasFitNumbers x.header x.epoch x.version x.next x.unchecked)
-    (fits : FitsStore x.header x.slot x.epoch x.version x.next x.unchecked draft committed) (stands : StandsTidily old x) where
-  module _ (goes : GoesOn old x.header draft frozen committed x.network x.version x.next) (c : List ℕ) (whole : IsSlotWhole x.header draft.slot (head_of draft frozen) frozen old c) where
+    (fits : FitsStore x.header x.slot x.epoch x.version x.next x.unchecked draft committed) where
+  module _ (told : standing_of old ≡ Some x) (goes : GoesOn old x.header draft frozen committed x.network x.version x.next) (c : List ℕ) (whole : IsSlotWhole x.header draft.slot (head_of draft frozen) frozen old c) where
     held : IsStoredAs old x.header x.slot x.epoch x.network x.version x.next x.unchecked
-    held = stored_as old x stands.0
+    held = stored_as old x told
 
     frozen_nodes : frozen.nodes ≡ x.header.nodes
-    frozen_nodes = sym (after_ends frozen x.network (joined goes.since) goes.leads.network).nodes ∙ nodes_told old x stands
+    frozen_nodes = sym (after_ends frozen x.network (joined goes.since) goes.leads.network).nodes ∙ nodes_told old x told
 
     frozen_arcs : length frozen.arcs ≡ x.header.arcs
-    frozen_arcs = sym (length-map frozen.arcs ends_of) ∙ sym (ap length (after_ends frozen x.network (joined goes.since) goes.leads.network).ends) ∙ length-map x.network.arcs ends_of ∙ arcs_told old x stands
+    frozen_arcs = sym (length-map frozen.arcs ends_of) ∙ sym (ap length (after_ends frozen x.network (joined goes.since) goes.leads.network).ends) ∙ length-map x.network.arcs ends_of ∙ arcs_told old x told
 
     head_fits : AreFit draft.epoch draft.version draft.next_sequence (length frozen.landmarks)
     head_fits = record {
@@ -177,36 +173,38 @@ module _ (old : List ℕ) (x : Standing) (draft : Draft) (frozen : Net) (committ
     few : length goes.since ≤ held.stored.header.journal_pages
     few = omega (arith, goes.committed_is, fits.one_before, numbers.unchecked_to, ap (λ (h : Header). h.journal_pages) held.header_is)
 
-    taken : StandsTidyBy c (with_other_slot held.stored draft.epoch frozen draft.version draft.next_sequence goes.since) x.network x.version x.next
-    taken = slot_leads_on old c held.stored x.network frozen x.version x.next draft.epoch draft.version draft.next_sequence goes.since
-        (record { stands = held.stands; tidy = subst (λ (h : Header). IsTidyAt old h x.next) (sym held.header_is) stands.1 })
+    taken : StandsBy c (with_other_slot held.stored draft.epoch frozen draft.version draft.next_sequence goes.since) x.network x.version x.next
+    taken = slot_leads_on old c held.stored x.network frozen x.version x.next draft.epoch draft.version draft.next_sequence goes.since held.stands
         same_outside opened (omega (arith, held.epoch_is, fits.epoch_is)) leads few holds_it
 
-    stored_so : IsStoredAs c x.header draft.slot draft.epoch x.network x.version x.next committed
-    stored_so = record {
+    told_then : standing_of c ≡ Some (taken_over x draft committed)
+    told_then = standing_is c x.header draft.slot draft.epoch x.network x.version x.next committed (record {
       stored = with_other_slot held.stored draft.epoch frozen draft.version draft.next_sequence goes.since;
-      stands = taken.stands;
+      stands = taken;
       header_is = held.header_is;
       slot_is = sym slot_is;
       epoch_is = refl;
       unchecked_is = goes.committed_is;
-    }
-
-    stands_then : StandsTidily c (taken_over x draft committed)
-    stands_then = (
-      standing_is c x.header draft.slot draft.epoch x.network x.version x.next committed stored_so,
-      subst (λ (h : Header). IsTidyAt c h x.next) held.header_is taken.tidy,
-    )
+    })
 
   -- the slot is whole: the file stands for the same, by that slot and the pages committed since
-  pub stands_by_parts : ∥ GoesOn old x.header draft frozen committed x.network x.version x.next ∥₁ → (c : List ℕ) → IsSlotWhole x.header draft.slot (head_of draft frozen) frozen old c → StandsTidily c (taken_over x draft committed)
-  stands_by_parts goes c whole = ∥∥₁_elim goes (stands_prop c (taken_over x draft committed)) (λ on. stands_then on c whole)
+  pub told_by_parts : standing_of old ≡ Some x → ∥ GoesOn old x.header draft frozen committed x.network x.version x.next ∥₁ → (c : List ℕ) → IsSlotWhole x.header draft.slot (head_of draft frozen) frozen old c
+      → standing_of c ≡ Some (taken_over x draft committed)
+  told_by_parts told goes c whole = ∥∥₁_elim goes (Prim.hlevel props) (λ on. told_then told on c whole)
+
+  pub tidy_by_parts : IsTidyAt old x.header x.next → (c : List ℕ) → IsSlotWhole x.header draft.slot (head_of draft frozen) frozen old c → IsTidyAt c x.header x.next
+  tidy_by_parts tidy c whole =
+      slots_keep_tidy old c x.header x.slot x.next tidy (subst (λ (s : Slot). SameOutside (slot_at x.header s) (slot_size x.header) old c) fits.slot_is whole.outside)
+
+  pub stands_by_parts : StandsTidily old x → ∥ GoesOn old x.header draft frozen committed x.network x.version x.next ∥₁ → (c : List ℕ) → IsSlotWhole x.header draft.slot (head_of draft frozen) frozen old c
+      → StandsTidily c (taken_over x draft committed)
+  stands_by_parts stands goes c whole = (told_by_parts stands.0 goes c whole, tidy_by_parts stands.1 c whole)
 
   -- at each moment of a part
-  pub during_part : ∥ GoesOn old x.header draft frozen committed x.network x.version x.next ∥₁ → (c : List ℕ) → IsSlotShutOrWhole x.header draft.slot (head_of draft frozen) frozen old c → StandsTidyFor x.header.journal_pages c x.network x.version
-  during_part goes c way = ⊎_elim
+  pub during_part : StandsTidily old x → ∥ GoesOn old x.header draft frozen committed x.network x.version x.next ∥₁ → (c : List ℕ) → IsSlotShutOrWhole x.header draft.slot (head_of draft frozen) frozen old c → StandsTidyFor x.header.journal_pages c x.network x.version
+  during_part stands goes c way = ⊎_elim
       (λ shut. shut_stands old c x stands (subst (λ (s : Slot). IsSlotShut x.header s old c) fits.slot_is shut))
-      (λ whole. still_stands c (taken_over x draft committed) (stands_by_parts goes c whole))
+      (λ whole. still_stands c (taken_over x draft committed) (stands_by_parts stands goes c whole))
       way
 
 -- ---- what the fields of a store say of it
@@ -242,18 +240,19 @@ goes_part old c h slot draft new count frozen committed net version next is_slot
     subst (λ (d : Draft). ∥ GoesOn c h d frozen committed net version next ∥₁) (sym is)
     (∥∥₁_map goes (λ on. goes_on_part old c h slot draft count frozen committed net version next is_slot shut held on))
 
--- while the slot is shut the content stands as before
-pub shut_tidily : (old c : List ℕ) (x : Standing) → StandsTidily old x → IsSlotShut x.header (other x.slot) old c → StandsTidily c x
-shut_tidily old c x stands shut =
-    let still = slot_stays old c x.header x.slot x.epoch x.network x.version x.next x.unchecked (stored_as old x stands.0) stands.1 shut in
-    (standing_is c x.header x.slot x.epoch x.network x.version x.next x.unchecked still.0, still.1)
-
 -- by the fields as they are then
-pub stands_as : (c : List ℕ) (x : Standing) (draft : Draft) (committed : ℕ) (slot : Slot) (epoch : ℕ) → slot ≡ draft.slot → epoch ≡ draft.epoch → StandsTidily c (taken_over x draft committed)
-    → StandsTidily c (record { header = x.header; slot = slot; epoch = epoch; network = x.network; version = x.version; next = x.next; unchecked = committed })
-stands_as c x draft committed slot epoch same_slot same_epoch stands =
-    subst (λ (n : ℕ). StandsTidily c (record { header = x.header; slot = slot; epoch = n; network = x.network; version = x.version; next = x.next; unchecked = committed })) (sym same_epoch)
-    (subst (λ (s : Slot). StandsTidily c (record { header = x.header; slot = s; epoch = draft.epoch; network = x.network; version = x.version; next = x.next; unchecked = committed })) (sym same_slot) stands)
+module _ (c : List ℕ) (x : Standing) (draft : Draft) (committed : ℕ) (slot : Slot) (epoch : ℕ) (same_slot : slot ≡ draft.slot) (same_epoch : epoch ≡ draft.epoch) where
+  abbrev as_it_is : Standing
+  as_it_is = record { header = x.header; slot = slot; epoch = epoch; network = x.network; version = x.version; next = x.next; unchecked = committed }
+
+  it_is : as_it_is ≡ taken_over x draft committed
+  it_is = rw (same_slot, same_epoch) refl
+
+  pub told_as : standing_of c ≡ Some (taken_over x draft committed) → standing_of c ≡ Some as_it_is
+  told_as told = told ∙ ap Some (sym it_is)
+
+  pub stands_as : StandsTidily c (taken_over x draft committed) → StandsTidily c as_it_is
+  stands_as stands = subst (StandsTidily c) (sym it_is) stands
 
 -- at each moment of a run of calls by which a part is written
 pub moments_of_part : {D : Type 0} (content : D → List ℕ) (moment : D → ℕ) (left_since : D → ℕ → List ℕ → Type 0) (old new : D) (x : Standing) (draft : Draft) (frozen : Net) (committed : ℕ)
@@ -273,6 +272,9 @@ moments_of_beginning content moment left_since old new x slot is stands run =
     (λ shut. shut_stands (content old) c x stands (subst (λ (s : Slot). IsSlotShut x.header s (content old) c) is shut))
     (λ same. subst (λ (d : List ℕ). StandsTidyFor x.header.journal_pages d x.network x.version) (sym same) (still_stands (content old) x stands))
     (while_beginning x.header slot (content old) c way))
+
+pub begun_told : (old c : List ℕ) (x : Standing) (slot : Slot) → slot ≡ other x.slot → standing_of old ≡ Some x → IsShut (slot_gate x.header slot) 1 (slot_gate x.header slot) old c → standing_of c ≡ Some x
+begun_told old c x slot is told shut = shut_told old c x told (subst (λ (s : Slot). IsSlotShut x.header s old c) is (gate_shut x.header slot old c shut))
 
 pub begun_tidily : (old c : List ℕ) (x : Standing) (slot : Slot) → slot ≡ other x.slot → StandsTidily old x → IsShut (slot_gate x.header slot) 1 (slot_gate x.header slot) old c → StandsTidily c x
 begun_tidily old c x slot is stands shut = shut_tidily old c x stands (subst (λ (s : Slot). IsSlotShut x.header s old c) is (gate_shut x.header slot old c shut))

@@ -1,6 +1,6 @@
 -- What a store tells of its disk.
-use Rattle.std.proofs.Common.{◌≡◌, ℕ, ◌≤◌, ◌<◌, Bool, true, false, List, Option, Some, None, refl, sym, ◌∙◌, subst, arith}
-use Rattle.std.specs.Prelude.{not, is_none, ◌&&◌, Result, Ok, Err, OnOk, IfErr, MatchResult}
+use Rattle.std.proofs.Common.{◌≡◌, ℕ, ◌+◌, ◌≤◌, ◌<◌, Bool, true, false, List, length, Option, Some, None, refl, sym, ◌∙◌, ap, subst, arith}
+use Rattle.std.specs.Prelude.{not, is_none, ◌&&◌, ◌↔◌, Result, Ok, Err, OnOk, OnErr, IfOk, IfErr, MatchResult}
 use Rattle.std.proofs.Math.Nat.{div-lt_iff_lt-mul}
 use Rattle.disk.specs.Contents.{Only}
 use Rattle.disk.specs.declared.disk.Disk.{Ghosts}
@@ -11,13 +11,14 @@ use Rattle.roadnet.specs.Net.{Net}
 use Rattle.pages.specs.declared.header.Header.{Header}
 use Rattle.pages.specs.Layout.{word_pages}
 use Rattle.storefile.specs.StoreFile.{StandsTidyFor}
-use Rattle.storefile.specs.Standing.{Standing, standing_of}
+use Rattle.storefile.specs.Standing.{Standing, IsStoredAs, standing_of}
+use Rattle.storefile.proofs.Rests.{standing_is}
 use Rattle.store.specs.declared.paged.Paged.{Paged}
 use Rattle.store.specs.Committing.{StandsTidily, MayRefuseCommit, refusal_of_commit}
 use Rattle.store.specs.Checkpointing.{refusal_of_checkpoint}
-use Rattle.store.specs.Durable.{told_by}
+use Rattle.store.specs.Durable.{told_by, KeepsTold}
 use Rattle.store.specs.Going.{Progress}
-use Rattle.store.specs.State.{StoreState, IsTidy, IsDurable, is_calm}
+use Rattle.store.specs.State.{StoreState, IsTidy, IsDurable, StandsAs, StandsAt, is_calm, told, state_of}
 use Rattle.store.proofs.Committed.{left_stands}
 
 -- ---- a calm store
@@ -99,3 +100,75 @@ module _ {D : Type 0} {disk : Ghosts D} where
   rests_after (Err e) old new same breaks worked only stands held works =
       let is : new ≡ old = same (λ device. let never : true ≡ false = sym (breaks device) ∙ works in cc) in
       subst RestsTidily (sym is) (held (subst (λ (pages : Paged D disk). pages.broken ≡ false) is works))
+
+  -- ---- what a store tells before the first commit
+
+  unchanged : (e : Refusal) (old new : Paged D disk) → ((e ≡ Device → ⊥) → new ≡ old) → (e ≡ Device → new.broken ≡ true) → new.broken ≡ false → new ≡ old
+  unchanged e old new same breaks works = same (λ device. let never : true ≡ false = sym (breaks device) ∙ works in cc)
+
+  -- where all is as it was
+  told_same : (given : D) (old new : Paged D disk) → new ≡ old → KeepsTold given old → KeepsTold given new
+  told_same given old new is keeps = subst (KeepsTold given) (sym is) keeps
+
+  pub told_after_checkpoint : {T : Type 0} (result : Result T Refusal) (given : D) (old new : Paged D disk) → disk.honest new.disk ↔ disk.honest old.disk → new.version ≡ old.version
+      → IfErr result (λ refusal. (refusal ≡ Device → ⊥) → new ≡ old) → IfErr result (λ refusal. refusal ≡ Device → new.broken ≡ true) → OnOk result (old.broken ≡ false)
+      → (disk.honest old.disk → standing_of (disk.content old.disk) ≡ Some (told_by old) → OnOk result (standing_of (disk.content new.disk) ≡ Some (told_by new)))
+      → KeepsTold given old → KeepsTold given new
+  told_after_checkpoint (Ok v) given old new honest version same breaks worked stands keeps = λ h x is.
+      let kept = keeps h x is in
+      (honest.1 kept.0, omega (arith, kept.1, version), λ none works. stands kept.0 (kept.2 (none ∙ version) worked))
+  told_after_checkpoint (Err e) given old new honest version same breaks worked stands keeps = λ h x is.
+      let kept = keeps h x is in
+      (honest.1 kept.0, omega (arith, kept.1, version), λ none works. (told_same given old new (unchanged e old new same breaks works) keeps h x is).2 none works)
+
+  pub told_after_commit : (result : Result ℕ Refusal) (given : D) (old new : Paged D disk) (count : ℕ) → 1 ≤ count → disk.honest new.disk ↔ disk.honest old.disk
+      → IfOk result (λ version. (version ≡ new.version) × (version ≡ old.version + count)) → OnErr result (new.version ≡ old.version)
+      → IfErr result (λ refusal. (refusal ≡ Device → ⊥) → new ≡ old) → IfErr result (λ refusal. refusal ≡ Device → new.broken ≡ true)
+      → KeepsTold given old → KeepsTold given new
+  told_after_commit (Ok v) given old new count some honest version kept_version same breaks keeps = λ h x is.
+      let kept = keeps h x is in
+      (honest.1 kept.0, omega (arith, kept.1, version.0, version.1), λ none works. absurd (omega (arith, some, kept.1, none, version.0, version.1)))
+  told_after_commit (Err e) given old new count some honest version kept_version same breaks keeps = λ h x is.
+      let kept = keeps h x is in
+      (honest.1 kept.0, omega (arith, kept.1, kept_version), λ none works. (told_same given old new (unchanged e old new same breaks works) keeps h x is).2 none works)
+
+  -- the disk that was given is the store's
+  pub told_at_first : (given : D) (pages : Paged D disk) → given ≡ pages.disk → (disk.honest pages.disk → standing_of (disk.content pages.disk) ≡ Some (told_by pages)) → KeepsTold given pages
+  told_at_first given pages same stands = λ h x is.
+      let honest = subst disk.honest same h in
+      let told_is : Some x ≡ Some (told_by pages) = sym is ∙ subst (λ (d : D). standing_of (disk.content d) ≡ Some (told_by pages)) (sym same) (stands honest) in
+      let version : x.version ≡ pages.version = cc in
+      (honest, omega (arith, version), λ none works. stands honest)
+
+  -- nothing was committed
+  pub told_before_commit : (given : D) (pages : Paged D disk) → KeepsTold given pages → disk.honest given → StandsAt (disk.content given) pages.network pages.version → pages.broken ≡ false
+      → standing_of (disk.content pages.disk) ≡ Some (told_by pages)
+  told_before_commit given pages keeps honest at works =
+      let next = at.0 in
+      let s = at.1.0 in
+      let x : Standing = record { header = s.header; slot = s.slot; epoch = s.epoch; network = pages.network; version = pages.version; next = next; unchecked = length s.unchecked } in
+      let held : IsStoredAs (disk.content given) s.header s.slot s.epoch pages.network pages.version next (length s.unchecked) =
+      record { stored = s; stands = at.1.1; header_is = refl; slot_is = refl; epoch_is = refl; unchecked_is = refl } in
+      (keeps honest x (standing_is (disk.content given) s.header s.slot s.epoch pages.network pages.version next (length s.unchecked) held)).2 refl works
+
+  pub stands_as_told : (pages : Paged D disk) (given : D) (in_flight : List Command) (content : List ℕ) → standing_of content ≡ Some (told_by pages) → StandsAs content (told (state_of pages given in_flight))
+  stands_as_told pages given in_flight content is = record { standing = told_by pages; is = is; told_is = refl }
+
+  pub told_still : {T : Type 0} (result : Result T Refusal) (given : D) (old new : Paged D disk) (in_flight : List Command) → new.network ≡ old.network → new.version ≡ old.version → OnOk result (new.broken ≡ false)
+      → KeepsTold given new → disk.honest given → StandsAt (disk.content given) old.network old.version → OnOk result (StandsAs (disk.content new.disk) (told (state_of new given in_flight)))
+  told_still (Ok v) given old new in_flight network version works keeps honest at =
+      stands_as_told new given in_flight (disk.content new.disk)
+      (told_before_commit given new keeps honest (subst (λ (v : ℕ). StandsAt (disk.content given) new.network v) (sym version) (subst (λ (n : Net). StandsAt (disk.content given) n old.version) (sym network) at)) works)
+  told_still (Err e) given old new in_flight network version works keeps honest at = tt
+
+  pub told_armed : (given : D) (old new : Paged D disk) → told_by new ≡ told_by old → new.broken ≡ old.broken → disk.content new.disk ≡ disk.content old.disk → disk.honest new.disk ↔ disk.honest old.disk
+      → KeepsTold given old → KeepsTold given new
+  told_armed given old new same broken content honest keeps = λ h x is.
+      let kept = keeps h x is in
+      let version : new.version ≡ old.version = ap (λ (y : Standing). y.version) same in
+      (honest.1 kept.0, omega (arith, kept.1, version), λ none works. ap standing_of content ∙ kept.2 (none ∙ version) (sym broken ∙ works) ∙ ap Some (sym same))
+
+pub kept_version : {D : Type 0} {disk : Ghosts D} (result : Result ℕ Refusal) (old new : Paged D disk)
+    → OnErr result ((new.network ≡ old.network) × (new.version ≡ old.version) × (new.unchecked ≡ old.unchecked) × (new.next_sequence ≡ old.next_sequence)) → OnErr result (new.version ≡ old.version)
+kept_version (Ok v) old new kept = tt
+kept_version (Err e) old new kept = kept.1

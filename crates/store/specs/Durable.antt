@@ -1,8 +1,8 @@
 -- What a stop between two calls of a store may leave.
-use Rattle.std.specs.Prelude.{not, Bool, ◌&&◌, ◌==◌, is_none, unwrap_or, Option}
+use Rattle.std.specs.Prelude.{◌≡◌, ◌≤◌, ℕ, not, Bool, false, List, ◌&&◌, ◌==◌, is_none, unwrap_or, Option, Some}
 use Rattle.disk.specs.declared.disk.Disk.{Ghosts}
 use Rattle.pages.specs.Layout.{word_pages}
-use Rattle.storefile.specs.Standing.{Standing}
+use Rattle.storefile.specs.Standing.{Standing, standing_of}
 use Rattle.store.specs.declared.paged.Paged.{Paged}
 use Rattle.store.specs.Going.{Progress, progress_of}
 
@@ -29,3 +29,10 @@ parts_of store = unwrap_or (going_of store) (begun_by store)
 -- none is going, and no page of the journal is unchecked
 abbrev pub has_all_checked : {D : Type 0} {disk : Ghosts D} → Paged D disk → Bool
 has_all_checked store = is_none (going_of store) && (store.unchecked == 0)
+
+-- Where the content that a store was given stood for something, its version is none above the store's; and while it is the same, nothing
+-- having been committed since, the content stands as the store tells.
+abbrev pub KeepsTold : {D : Type 0} {disk : Ghosts D} → D → Paged D disk → Type 0
+KeepsTold {D} {disk} given store =
+    disk.honest given → (x : Standing) → standing_of (disk.content given) ≡ Some x
+    → disk.honest store.disk × (x.version ≤ store.version) × (x.version ≡ store.version → store.broken ≡ false → standing_of (disk.content store.disk) ≡ Some (told_by store))

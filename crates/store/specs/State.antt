@@ -104,6 +104,11 @@ pub record StandsAs (content : List ℕ) (t : Told) : Type 0 where
   pub is : standing_of content ≡ Some standing
   pub told_is : told_of standing ≡ t
 
+-- Nothing was committed since the store was made or opened: the disk that it was given keeps the disk model, and its content stood, tidy or not,
+-- for the network and version that the store has now.
+abbrev pub HasCommittedNothing : {D : Type 0} → (D → Type 0) → (D → List ℕ) → StoreState D → Type 0
+HasCommittedNothing honest content s = honest s.given × StandsAt (content s.given) s.network s.version
+
 -- the content stands, tidy, for the network and version of the store
 abbrev pub IsDurable : {D : Type 0} → StoreState D → List ℕ → Type 0
 IsDurable s content = StandsTidyFor s.journal_pages content s.network s.version

@@ -5,6 +5,7 @@ ghost use Rattle.disk.specs.Moments.{LeavesOnly, AddsNothing};
 ghost use Rattle.roadnet.specs.declared.refusals.Refusal.TheVariants.{Device as device, OutOfMemory as out_of_memory};
 ghost use Rattle.pagereader.specs.Outcomes.{failures_told};
 ghost use Rattle.storefile.specs.StoreFile.{StandsTidyFor};
+ghost use Rattle.storefile.specs.Standing.{standing_of};
 ghost use Rattle.store.specs.Committing.{StandsTidily};
 ghost use Rattle.store.specs.Checkpointing.{refusal_of_checkpoint, MayRefuseCheckpoint};
 ghost use Rattle.store.specs.Durable.{told_by, going_of, begun_by, parts_of, has_all_checked, is_calm};
@@ -41,6 +42,7 @@ impl<D: Disk> Paged<D> {
         ensures kept { OnErr result (going_of self.new ≡ None) }
         ensures any_moment { D.honest self.old.disk → StandsTidily (D.content self.old.disk) (told_by self.old) → LeavesOnly D.moment D.left_since self.old.disk self.new.disk (λ c. StandsTidyFor self.old.header.journal_pages c self.old.network self.old.version) }
         ensures stands { D.honest self.old.disk → StandsTidily (D.content self.old.disk) (told_by self.old) → OnOk result (StandsTidily (D.content self.new.disk) (told_by self.new)) }
+        ensures as_told { D.honest self.old.disk → standing_of (D.content self.old.disk) ≡ Some (told_by self.old) → OnOk result (standing_of (D.content self.new.disk) ≡ Some (told_by self.new)) }
         ensures honest { D.honest self.new.disk ↔ D.honest self.old.disk }
     {
         let Ok(frozen) = self.network.copy() else {
@@ -90,6 +92,7 @@ impl<D: Disk> Paged<D> {
         ensures kept { OnErr result ((told_by self.new ≡ told_by self.old) × (going_of self.new ≡ going_of self.old)) }
         ensures any_moment { D.honest self.old.disk → StandsTidily (D.content self.old.disk) (told_by self.old) → LeavesOnly D.moment D.left_since self.old.disk self.new.disk (λ c. StandsTidyFor self.old.header.journal_pages c self.old.network self.old.version) }
         ensures stands { D.honest self.old.disk → StandsTidily (D.content self.old.disk) (told_by self.old) → OnOk result (StandsTidily (D.content self.new.disk) (told_by self.new)) }
+        ensures as_told { D.honest self.old.disk → standing_of (D.content self.old.disk) ≡ Some (told_by self.old) → OnOk result (standing_of (D.content self.new.disk) ≡ Some (told_by self.new)) }
         ensures honest { D.honest self.new.disk ↔ D.honest self.old.disk }
     {
         let Some(going) = self.going.take() else {
@@ -150,6 +153,7 @@ impl<D: Disk> Paged<D> {
         // After Ok it leaves the content alone, which stands for it, by the fields as they are now.
         ensures only { D.honest self.old.disk → OnOk result (Only (D.content self.new.disk) (D.left self.new.disk)) }
         ensures stands { D.honest self.old.disk → StandsTidily (D.content self.old.disk) (told_by self.old) → OnOk result (StandsTidily (D.content self.new.disk) (told_by self.new)) }
+        ensures as_told { D.honest self.old.disk → standing_of (D.content self.old.disk) ≡ Some (told_by self.old) → OnOk result (standing_of (D.content self.new.disk) ≡ Some (told_by self.new)) }
         ensures honest { D.honest self.new.disk ↔ D.honest self.old.disk }
     {
         if self.broken {

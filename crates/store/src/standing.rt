@@ -7,7 +7,7 @@ ghost use Rattle.roadnet.specs.Net.{Net};
 ghost use Rattle.pagereader.specs.Outcomes.{failures_told, MayEndOpening};
 ghost use Rattle.store.specs.Inspecting.{StandsThus};
 ghost use Rattle.store.specs.Opening.{HeaderFits, MayRefuseToOpen};
-ghost use Rattle.store.specs.State.{CameTidy};
+ghost use Rattle.store.specs.State.{CameTidy, HasCommittedNothing};
 
 use crate::opening::find;
 use crate::store::Store;
@@ -37,12 +37,14 @@ pub struct Inspected {
 
 impl<D: Disk> Store<D> {
     /// How the store stands in its file: just behind `open`, as its content did. No call of the disk is made, and no memory is taken. Where the
-    /// store came tidy, over a disk that keeps the disk model, and is not broken, this is how the content stands, whatever was called since.
+    /// store came tidy, over a disk that keeps the disk model, and is not broken, this is how the content stands, whatever was called since;
+    /// where it did not come tidy, until the first commit.
     pub fn standing(&self) -> Standing
         ensures slot { result.slot ≡ self.now.slot }
         ensures epoch { result.epoch ≡ self.now.epoch }
         ensures unchecked { result.unchecked ≡ self.now.unchecked }
         ensures stands { CameTidy D.honest D.content self.now.given → self.now.broken ≡ false → StandsThus (D.content self.now.disk) self.now.network self.now.version result }
+        ensures before_commit { HasCommittedNothing D.honest D.content self.now → self.now.broken ≡ false → StandsThus (D.content self.now.disk) self.now.network self.now.version result }
     {
         Standing {
             slot: self.pages.slot,

@@ -2,6 +2,9 @@
 use Rattle.std.proofs.Common.{◌≡◌, ◌⊎◌, inl, inr, ℕ, zero, suc, ◌+◌, ◌*◌, ◌^◌, ◌<◌, ◌≤◌, Bool, true, false, cond, List, [], ◌∷◌, length, take, drop, map, Option, Some, None, refl, sym, ◌∙◌, ap, subst, arith}
 use Rattle.std.specs.Prelude.{◌==◌, ◌&&◌, is_none, option_and_then}
 use Rattle.std.specs.List.{flat_map}
+use Rattle.std.proofs.Math.Nat.{add-mod_right}
+use Rattle.std.proofs.lemmas.Bool.{cases_lt}
+use Rattle.std.proofs.lemmas.Bool.Decides.{nat_tests}
 use Rattle.std.proofs.lemmas.List.{length-map}
 use Rattle.roadnet.specs.declared.arcs.RoadArc.{RoadArc}
 use Rattle.roadnet.specs.declared.commands.Command.{Command}
@@ -18,7 +21,7 @@ use Rattle.pages.specs.Layout.{places_in_use, arc_pages, word_pages, other, head
 use Rattle.pages.proofs.Heads.{head_read}
 use Rattle.storefile.specs.StoreFile.{page, part, is_open, journal_page_at, Stored, Stores, HoldsArcs, HoldsSlot, IsCurrent, HoldsJournal, first_field, is_standing, HasNoLaterPage, commands_of, next_sequence, head_of}
 use Rattle.storefile.specs.Standing.{with_other_slot, LeadsTo}
-use Rattle.storefile.specs.Laws.{ClosedSlotMeansNothing, OpenSlotIsCurrent}
+use Rattle.storefile.specs.Laws.{ClosedSlotMeansNothing, OpenSlotIsCurrent, SlotsKeepTidy}
 use Rattle.storefile.proofs.Names.{arc_page_at, word_page_at}
 use Rattle.storefile.proofs.Opening.{part-map}
 use Rattle.storefile.proofs.PageBytes.{outside_pages}
@@ -107,20 +110,42 @@ stores_beside size pages pages' s is same closed = record {
   versions_to = is.versions_to;
 }
 
-tidy_beside : (pages pages' : ℕ → List ℕ) (h : Header) (slot : Slot) (q : ℕ) → SameBeside h (other slot) pages pages' → HasNoLaterPage pages h q → HasNoLaterPage pages' h q
-tidy_beside pages pages' h slot q same tidy = λ r le. same_standing pages pages' h slot same r ∙ tidy r le
-
 pub closed_slot : ClosedSlotMeansNothing
 closed_slot file file' s net v q old outside closed =
     let same : SameBeside s.header (other s.slot) (page file) (page file') = outside_pages (head_page_at s.header (other s.slot)) (word_pages s.header + 1) file file' outside in
     record {
-      stands = record {
-        is = subst (λ (n : ℕ). Stores n (page file') s) (sym outside.same_length) (stores_beside (length file) (page file) (page file') s old.stands.is same closed);
-        gives = old.stands.gives;
-        next_is = old.stands.next_is;
-      };
-      tidy = tidy_beside (page file) (page file') s.header s.slot q same old.tidy;
+      is = subst (λ (n : ℕ). Stores n (page file') s) (sym outside.same_length) (stores_beside (length file) (page file) (page file') s old.is same closed);
+      gives = old.gives;
+      next_is = old.next_is;
     }
+
+pub slots_keep_tidy : SlotsKeepTidy
+slots_keep_tidy file file' h slot q tidy outside =
+    λ r le. same_standing (page file) (page file') h slot (outside_pages (head_page_at h (other slot)) (word_pages h + 1) file file' outside) r ∙ tidy r le
+
+-- ---- the page that is written next
+
+first_stands : (pages : ℕ → List ℕ) (h : Header) (q v : ℕ) (css : List (List Command)) → 1 ≤ length css → HoldsJournal pages h q v css → is_standing pages h q ≡ true
+first_stands pages h q v [] some holds = absurd (omega (arith, some))
+first_stands pages h q v (cs ∷ css) some holds = holds.0
+
+one_sequence : (b : Bool) (f q r : ℕ) → (b && (f == q)) ≡ true → q < r → (b && (f == r)) ≡ false
+one_sequence false f q r is lt = refl
+one_sequence true f q r is lt = grind (arith, nat_tests)
+
+-- It does not stand: behind fewer pages than the journal has, since their list is the longest; else since the page there is the first of them.
+next_is_free : (size : ℕ) (pages : ℕ → List ℕ) (s : Stored) → Stores size pages s → is_standing pages s.header (next_sequence s) ≡ false
+next_is_free size pages s is = elim (cases_lt (length s.unchecked) s.header.journal_pages) [
+  | inl room ↦ is.longest room
+  | inr full ↦
+      let all : s.sequence + s.header.journal_pages ≡ next_sequence s = omega (arith, full, is.few) in
+      let same : journal_page_at s.header (s.sequence + s.header.journal_pages) ≡ journal_page_at s.header s.sequence = ap (λ (p : ℕ). journal_start s.header + p) (add-mod_right s.sequence s.header.journal_pages) in
+      let first = first_stands pages s.header s.sequence s.version s.unchecked (omega (arith, full, is.header.fits.some_page)) is.journal in
+      let other_one : (is_open (pages (journal_page_at s.header s.sequence)) && (first_field (pages (journal_page_at s.header s.sequence)) == s.sequence + s.header.journal_pages)) ≡ false =
+      one_sequence (is_open (pages (journal_page_at s.header s.sequence))) (first_field (pages (journal_page_at s.header s.sequence))) s.sequence (s.sequence + s.header.journal_pages) first (omega (arith, is.header.fits.some_page)) in
+      subst (λ (n : ℕ). is_standing pages s.header n ≡ false) all
+      (subst (λ (k : ℕ). (is_open (pages k) && (first_field (pages k) == s.sequence + s.header.journal_pages)) ≡ false) (sym same) other_one)
+]
 
 -- ---- commands keep the ends of arcs
 
@@ -194,14 +219,15 @@ leads_beside pages pages' h slot from net w r v q behind same leads = record {
 pub slot_leads_on : OpenSlotIsCurrent
 slot_leads_on file file' s net from v q epoch w r behind old outside opened later leads few holds =
     let same : SameBeside s.header (other s.slot) (page file) (page file') = outside_pages (head_page_at s.header (other s.slot)) (word_pages s.header + 1) file file' outside in
-    let is = old.stands.is in
-    let gives = old.stands.gives in
+    let is = old.is in
+    let gives = old.gives in
     let small : s.header.nodes < 2 ^ 32 = omega (arith, is.header.fits.nodes_to) in
     let new_epoch : first_field (page file' (head_page_at s.header (other s.slot))) ≡ epoch =
     (head_read s.header.nodes (page file' (head_page_at s.header (other s.slot))) (head_of (with_other_slot s epoch from w r behind)) small holds.head_is).epoch in
     let old_epoch : first_field (page file' (head_page_at s.header s.slot)) ≡ s.epoch =
     ap first_field (same_head_page (page file) (page file') s.header s.slot same) ∙ (head_read s.header.nodes (page file (head_page_at s.header s.slot)) (head_of s) small is.held.head_is).epoch in
     let greater : first_field (page file' (head_page_at s.header s.slot)) < first_field (page file' (head_page_at s.header (other s.slot))) = omega (arith, new_epoch, old_epoch, later) in
+    let free : is_standing (page file) s.header q ≡ false = subst (λ (n : ℕ). is_standing (page file) s.header n ≡ false) (sym old.next_is) (next_is_free (length file) (page file) s is) in
     let stores : Stores (length file) (page file') (with_other_slot s epoch from w r behind) = record {
       header = subst (λ (p : List ℕ). SpelledHeader p s.header) (sym (same_front (page file) (page file') s.header s.slot same)) is.header;
       opened = subst (λ (p : List ℕ). is_open p ≡ true) (sym (same_front (page file) (page file') s.header s.slot same)) is.opened;
@@ -214,14 +240,11 @@ slot_leads_on file file' s net from v q epoch w r behind old outside opened late
       held = holds;
       journal = journal_kept (page file) (page file') s.header s.slot same r w behind leads.held;
       few = few;
-      longest = λ lt. subst (λ (k : ℕ). is_standing (page file') s.header k ≡ false) leads.next_is (same_standing (page file) (page file') s.header s.slot same q ∙ old.tidy q (omega arith));
+      longest = λ lt. subst (λ (k : ℕ). is_standing (page file') s.header k ≡ false) leads.next_is (same_standing (page file) (page file') s.header s.slot same q ∙ free);
       versions_to = omega (arith, is.versions_to, gives.version_is, leads.version_is);
     } in
     record {
-      stands = record {
-        is = subst (λ (n : ℕ). Stores n (page file') (with_other_slot s epoch from w r behind)) (sym outside.same_length) stores;
-        gives = record { network = leads.network; version_is = leads.version_is };
-        next_is = leads.next_is;
-      };
-      tidy = tidy_beside (page file) (page file') s.header s.slot q same old.tidy;
+      is = subst (λ (n : ℕ). Stores n (page file') (with_other_slot s epoch from w r behind)) (sym outside.same_length) stores;
+      gives = record { network = leads.network; version_is = leads.version_is };
+      next_is = leads.next_is;
     }

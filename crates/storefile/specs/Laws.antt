@@ -4,9 +4,11 @@ use Rattle.disk.specs.Gated.{SameOutside}
 use Rattle.roadnet.specs.declared.commands.Command.{Command}
 use Rattle.roadnet.specs.Net.{Net, IsNetwork}
 use Rattle.roadnet.specs.Step.{after}
+use Rattle.pages.specs.declared.header.Header.{Header}
+use Rattle.pages.specs.declared.content.Slot.{Slot}
 use Rattle.pages.specs.Spelling.{SpelledEntry}
 use Rattle.pages.specs.Layout.{HeadOf, other, word_pages, page_number}
-use Rattle.storefile.specs.StoreFile.{page, is_open, head_of, Stored, Stores, HoldsSlot, StandsFor, StandsTidyBy, journal_page_at}
+use Rattle.storefile.specs.StoreFile.{page, is_open, head_of, Stored, Stores, HoldsSlot, HasNoLaterPage, StandsFor, StandsBy, StandsTidyBy, journal_page_at}
 use Rattle.storefile.specs.Standing.{IsStoredAs, Standing, standing_of, with_commands, with_other_slot, LeadsTo}
 use Rattle.storefile.specs.Judging.{judged}
 use Rattle.pages.specs.Limits.{most_versions}
@@ -61,18 +63,25 @@ OpenPageIsOneMore =
 -- While the slot that is not current is closed, the bytes of its head and word pages mean nothing.
 abbrev pub ClosedSlotMeansNothing : Type 0
 ClosedSlotMeansNothing =
-    (file file' : List ℕ) (s : Stored) (net : Net) (v q : ℕ) → StandsTidyBy file s net v q
+    (file file' : List ℕ) (s : Stored) (net : Net) (v q : ℕ) → StandsBy file s net v q
     → SameOutside (4096 * page_number s.header (HeadOf (other s.slot))) (4096 * (word_pages s.header + 1)) file file'
     → is_open (page file' (page_number s.header (HeadOf (other s.slot)))) ≡ false
-    → StandsTidyBy file' s net v q
+    → StandsBy file' s net v q
 
 -- Once that slot is open, with a greater epoch, and holds a network from which journal pages lead to what the file stands for, it is current,
 -- and the file stands for the same by those pages.
 abbrev pub OpenSlotIsCurrent : Type 0
 OpenSlotIsCurrent =
-    (file file' : List ℕ) (s : Stored) (net from : Net) (v q epoch from_version from_next : ℕ) (behind : List (List Command)) → StandsTidyBy file s net v q
+    (file file' : List ℕ) (s : Stored) (net from : Net) (v q epoch from_version from_next : ℕ) (behind : List (List Command)) → StandsBy file s net v q
     → SameOutside (4096 * page_number s.header (HeadOf (other s.slot))) (4096 * (word_pages s.header + 1)) file file'
     → is_open (page file' (page_number s.header (HeadOf (other s.slot)))) ≡ true
     → s.epoch < epoch → LeadsTo (page file) s.header from from_version from_next behind net v q → length behind ≤ s.header.journal_pages
     → HoldsSlot (page file') s.header (other s.slot) (head_of (with_other_slot s epoch from from_version from_next behind)) from
-    → StandsTidyBy file' (with_other_slot s epoch from from_version from_next behind) net v q
+    → StandsBy file' (with_other_slot s epoch from from_version from_next behind) net v q
+
+-- The bytes of a slot make no page of the journal: a tidy file stays tidy, whatever is written there.
+abbrev pub SlotsKeepTidy : Type 0
+SlotsKeepTidy =
+    (file file' : List ℕ) (h : Header) (slot : Slot) (q : ℕ) → HasNoLaterPage (page file) h q
+    → SameOutside (4096 * page_number h (HeadOf (other slot))) (4096 * (word_pages h + 1)) file file'
+    → HasNoLaterPage (page file') h q

@@ -1,6 +1,6 @@
 // Laws of the definitions.
 
-ghost use Rattle.storefile.specs.Laws.{AtMostOne, IsNotRefused, StandsUnlessRefused, StoresNetworks, StandsForNetworks, StandingIsStored, ClosedPageMeansNothing, OpenPageIsOneMore, ClosedSlotMeansNothing, OpenSlotIsCurrent};
+ghost use Rattle.storefile.specs.Laws.{AtMostOne, IsNotRefused, StandsUnlessRefused, StoresNetworks, StandsForNetworks, StandingIsStored, ClosedPageMeansNothing, OpenPageIsOneMore, ClosedSlotMeansNothing, OpenSlotIsCurrent, SlotsKeepTidy};
 ghost use Rattle.storefile.specs.Vectors.{FileExamples};
 
 /// A file stands for at most one network, version and next sequence, and for one exactly where opening refuses it nowhere.
@@ -23,6 +23,7 @@ pub fn journal_page_that_is_written()
 pub fn slot_that_is_written()
     ensures closed { ClosedSlotMeansNothing }
     ensures opened { OpenSlotIsCurrent }
+    ensures tidy { SlotsKeepTidy }
 {}
 
 /// The worked files are judged so.

@@ -3,7 +3,7 @@ use Rattle.pages.specs.Layout.{pages_for}
 use Rattle.store.specs.Durable.{told_by}
 use Rattle.store.specs.State.{CameTidy}
 use Rattle.store.proofs.ArcsKept.{arcs_of_header}
-use Rattle.store.proofs.StateKept.{tidily}
+use Rattle.store.proofs.StateKept.{tidily, told_at_first}
 use Rattle.store.proofs.making.create.Goals as goal
 
 pub invariant_of-result : goal.invariant_of-result
@@ -16,6 +16,7 @@ invariant_of-result g c = (
         λ works. (c.in_ok-pages.ensures.only honest, tidily (g.D.Disk.content c.in_ok-pages.pages.disk) (told_by c.in_ok-pages.pages) came.1 (c.in_ok-pages.ensures.standing honest)),
         λ broke. absurd (let never : true ≡ false = sym broke ∙ c.in_ok-pages.ensures.works in cc),
       ),
+  told_at_first c.of-given.result.value c.in_ok-pages.pages c.of-given.ensures (λ honest. c.in_ok-pages.ensures.standing (c.in_ok-pages.ensures.honest.0.0 honest)),
 )
 
 pub returns-clause-tidy : goal.returns-clause-tidy

@@ -2,7 +2,7 @@ use Rattle.std.proofs.Common.{◌≡◌, true, false, refl, sym, ◌∙◌, ap, 
 use Rattle.storefile.specs.Standing.{standing_of}
 use Rattle.store.specs.Durable.{told_by}
 use Rattle.store.specs.State.{CameTidy}
-use Rattle.store.proofs.StateKept.{tidily}
+use Rattle.store.proofs.StateKept.{tidily, told_at_first}
 use Rattle.store.proofs.making.open.Goals as goal
 
 pub invariant_of-result : goal.invariant_of-result
@@ -16,6 +16,9 @@ invariant_of-result g c = (
         λ works. (c.in_ok-pages.ensures.at_rest honest, tidily (g.D.Disk.content c.in_ok-pages.pages.disk) (told_by c.in_ok-pages.pages) came.1 (ap standing_of same ∙ c.in_ok-pages.ensures.standing honest)),
         λ broke. absurd (let never : true ≡ false = sym broke ∙ c.in_ok-pages.ensures.works in cc),
       ),
+  told_at_first c.of-given.result.value c.in_ok-pages.pages c.of-given.ensures (λ now.
+      let honest = c.in_ok-pages.ensures.honest.0.0 now in
+      ap standing_of (c.in_ok-pages.ensures.same honest).same_content ∙ c.in_ok-pages.ensures.standing honest),
 )
 
 pub returns-clause-stands : goal.returns-clause-stands

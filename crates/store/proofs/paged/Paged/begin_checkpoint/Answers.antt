@@ -2,7 +2,7 @@ use Rattle.std.proofs.Common.{ap}
 use Rattle.storefile.specs.Standing.{Standing}
 use Rattle.checkpoint.specs.Writing.{Draft}
 use Rattle.store.proofs.Checkpointed.{no_call}
-use Rattle.store.proofs.GoingOn.{moments_of_beginning, begun_tidily}
+use Rattle.store.proofs.GoingOn.{moments_of_beginning, begun_told, begun_tidily}
 use Rattle.store.proofs.paged.Paged.begin_checkpoint.Goals as goal
 
 pub returns-in_default-clause-any_moment : goal.returns-in_default-clause-any_moment
@@ -34,3 +34,9 @@ returns-clause-stands g c h stands =
     let s = c.args.self.now in
     let x : Standing = record { header = s.header; slot = s.slot; epoch = s.epoch; network = s.network; version = s.version; next = s.next_sequence; unchecked = s.unchecked } in
     begun_tidily (g.D.Disk.content s.disk) (g.D.Disk.content c.begin.new.disk) x c.in-Ok-new.next.slot (ap (λ (d : Draft). d.slot) c.in-Ok-new.ensures) stands (c.in-Ok-begin.ensures.shut h)
+
+pub returns-clause-as_told : goal.returns-clause-as_told
+returns-clause-as_told g c h told =
+    let s = c.args.self.now in
+    let x : Standing = record { header = s.header; slot = s.slot; epoch = s.epoch; network = s.network; version = s.version; next = s.next_sequence; unchecked = s.unchecked } in
+    begun_told (g.D.Disk.content s.disk) (g.D.Disk.content c.begin.new.disk) x c.in-Ok-new.next.slot (ap (λ (d : Draft). d.slot) c.in-Ok-new.ensures) told (c.in-Ok-begin.ensures.shut h)

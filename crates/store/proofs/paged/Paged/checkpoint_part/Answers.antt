@@ -49,3 +49,9 @@ pub returns-in-Err-clause-left : goal.returns-in-Err-clause-left
 returns-in-Err-clause-left g c works h stands d was =
     let run = returns-in-Err-clause-any_moment g c works h stands in
     run.each d (g.met.D.Disk.counts_now c.go_on-2.new.self.disk (g.D.Disk.moment c.args.self.now.disk) d (c.go_on-2.ensures.honest.1 (c.begin_checkpoint.ensures.honest.1 h)) run.later was)
+
+pub returns-in-Ok-clause-stands : goal.returns-in-Ok-clause-stands
+returns-in-Ok-clause-stands g c h stands = c.in-Ok.ensures.stands (c.begin_checkpoint.ensures.honest.1 h) (c.in_ok-begin_checkpoint.ensures.stands h stands)
+
+pub returns-in-Ok-clause-as_told : goal.returns-in-Ok-clause-as_told
+returns-in-Ok-clause-as_told g c h told = c.in-Ok.ensures.as_told (c.begin_checkpoint.ensures.honest.1 h) (c.in_ok-begin_checkpoint.ensures.as_told h told)

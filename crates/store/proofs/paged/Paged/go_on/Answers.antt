@@ -5,7 +5,8 @@ use Rattle.storefile.specs.Standing.{Standing}
 use Rattle.checkpoint.specs.Writing.{Draft, IsSlotShut}
 use Rattle.store.specs.declared.going.GoingCheckpoint.{GoingCheckpoint}
 use Rattle.store.specs.Going.{FitsStore, GoesOn}
-use Rattle.store.proofs.GoingOn.{from_some, some_goes, words_held, fits_part, goes_part, shut_tidily, stands_as, moments_of_part, stands_by_parts}
+use Rattle.store.proofs.Checkpointed.{shut_told, shut_tidily}
+use Rattle.store.proofs.GoingOn.{from_some, some_goes, words_held, fits_part, goes_part, told_as, stands_as, moments_of_part, told_by_parts, stands_by_parts}
 use Rattle.store.proofs.paged.Paged.go_on.Goals as goal
 
 pub go_on-requires-clause-words : goal.go_on-requires-clause-words
@@ -82,3 +83,24 @@ returns-clause-stands g c h stands =
     (c.slot-self.ensures ∙ ap (λ (d : Draft). d.slot) c.go_on.ensures.own)
     (c.epoch-self.ensures ∙ ap (λ (d : Draft). d.epoch) c.go_on.ensures.own)
     (stands_by_parts (g.D.Disk.content s.disk) x p.next p.frozen p.committed s.numbers fits stands goes (g.D.Disk.content c.go_on.new.disk) (c.in-Ok.ensures.content h c.if-not-whole.false))
+
+pub returns-clause-as_told : goal.returns-clause-as_told
+returns-clause-as_told g c h told =
+    let s = c.args.self.now in
+    let p = c.in-Some.going in
+    let x : Standing = record { header = s.header; slot = s.slot; epoch = s.epoch; network = s.network; version = s.version; next = s.next_sequence; unchecked = s.unchecked } in
+    let fits = from_some (λ (y : GoingCheckpoint). FitsStore s.header s.slot s.epoch s.version s.next_sequence s.unchecked y.next y.committed) s.going p c.in-Some.ensures.value s.fits in
+    let goes = some_goes (λ (y : GoingCheckpoint). GoesOn (g.D.Disk.content s.disk) s.header y.next y.frozen y.committed s.network s.version s.next_sequence) s.going p c.in-Some.ensures.value (s.goes_on c.requires.works h) in
+    told_as (g.D.Disk.content c.go_on.new.disk) x p.next p.committed c.slot-self.result c.epoch-self.result
+    (c.slot-self.ensures ∙ ap (λ (d : Draft). d.slot) c.go_on.ensures.own)
+    (c.epoch-self.ensures ∙ ap (λ (d : Draft). d.epoch) c.go_on.ensures.own)
+    (told_by_parts (g.D.Disk.content s.disk) x p.next p.frozen p.committed s.numbers fits told goes (g.D.Disk.content c.go_on.new.disk) (c.in-Ok.ensures.content h c.if-not-whole.false))
+
+pub returns-then-not-whole-clause-as_told : goal.returns-then-not-whole-clause-as_told
+returns-then-not-whole-clause-as_told g c h told =
+    let s = c.args.self.now in
+    let p = c.in-Some.going in
+    let x : Standing = record { header = s.header; slot = s.slot; epoch = s.epoch; network = s.network; version = s.version; next = s.next_sequence; unchecked = s.unchecked } in
+    let fits = from_some (λ (y : GoingCheckpoint). FitsStore s.header s.slot s.epoch s.version s.next_sequence s.unchecked y.next y.committed) s.going p c.in-Some.ensures.value s.fits in
+    shut_told (g.D.Disk.content s.disk) (g.D.Disk.content c.go_on.new.disk) x told
+    (subst (λ (t : Slot). IsSlotShut s.header t (g.D.Disk.content s.disk) (g.D.Disk.content c.go_on.new.disk)) fits.slot_is (c.in-Ok.ensures.shut h c.if-not-whole.true))

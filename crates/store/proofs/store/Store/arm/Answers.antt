@@ -3,6 +3,7 @@ use Rattle.storefile.specs.Standing.{Standing}
 use Rattle.store.specs.Committing.{StandsTidily}
 use Rattle.store.specs.Durable.{told_by}
 use Rattle.store.proofs.InFlight.{stands_still}
+use Rattle.store.proofs.StateKept.{told_armed}
 use Rattle.store.proofs.store.Store.arm.Goals as goal
 
 pub invariant_of-self : goal.invariant_of-self
@@ -22,4 +23,5 @@ invariant_of-self g c =
                 ),
             λ broke d was. stands_still p n c.self.inside.in_flight.commands e.header e.network e.version d (held.2 (sym e.broken ∙ broke) d ((e.left d).0 was)),
           ),
+      told_armed c.self.inside.given.value p n told e.broken e.content e.honest c.self.invariant.2,
     )

@@ -1,6 +1,6 @@
-use Rattle.std.proofs.Common.{◌∙◌}
+use Rattle.std.proofs.Common.{◌∙◌, length}
 use Rattle.store.proofs.InFlight.{AreInFlight, worked_before, in_flight_still, in_flight_else, in_flight_at_device, none_at_ok, same_state, left_after_commit}
-use Rattle.store.proofs.StateKept.{worked_at_commit, at_ok_with, rests_after}
+use Rattle.store.proofs.StateKept.{worked_at_commit, at_ok_with, rests_after, told_after_commit, kept_version}
 use Rattle.store.proofs.store.Store.commit.Goals as goal
 
 pub invariant_of-self : goal.invariant_of-self
@@ -22,6 +22,7 @@ invariant_of-self g c =
             rests_after result p n e.same e.breaks worked (e.only held.0) (e.stands held.0) held.1,
             left_after_commit result failed p n commands before after e.refused are e.same e.works e.header e.kept (λ works. e.in_flight works held.0 (held.1 works).1) held.2,
           ),
+      told_after_commit result c.self.inside.given.value p n (length commands) c.requires.some e.honest e.version (kept_version result p n e.kept) e.same e.breaks c.self.invariant.2,
     )
 
 pub returns-clause-any_moment : goal.returns-clause-any_moment

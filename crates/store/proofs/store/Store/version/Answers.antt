@@ -3,7 +3,7 @@ use Rattle.pages.specs.Layout.{pages_for}
 use Rattle.store.specs.Durable.{told_by}
 use Rattle.store.proofs.ArcsKept.{arcs_of_header}
 use Rattle.store.proofs.InFlight.{left_always}
-use Rattle.store.proofs.StateKept.{few_pages, durable_of}
+use Rattle.store.proofs.StateKept.{few_pages, durable_of, told_before_commit, stands_as_told}
 use Rattle.store.proofs.store.Store.version.Goals as goal
 
 pub returns-clause-honest : goal.returns-clause-honest
@@ -29,3 +29,8 @@ returns-clause-left g c = rw (← c.self.view_is) (λ came. let held = c.self.in
 
 pub returns-clause-none_in_flight : goal.returns-clause-none_in_flight
 returns-clause-none_in_flight g c = rw (← c.self.view_is) c.self.invariant.0
+
+pub returns-clause-before_commit : goal.returns-clause-before_commit
+returns-clause-before_commit g c = rw (← c.self.view_is) (λ none works.
+    let p = c.self.inside.pages in
+    stands_as_told p c.self.inside.given.value c.self.inside.in_flight.commands (g.D.Disk.content p.disk) (told_before_commit c.self.inside.given.value p c.self.invariant.2 none.0 none.1 works))

@@ -15,5 +15,5 @@ pub use fuse::FuseDisk;
 pub use gated::{
     OPEN, close_gate, is_open, length_of, open_gate, read_at, settle, write_gated, write_synced,
 };
-pub use mem_disk::MemDisk;
+pub use mem_disk::{MemDisk, Recorded, Write};
 pub use stoppable::{Pick, Stoppable};

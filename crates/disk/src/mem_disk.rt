@@ -41,7 +41,7 @@ pub struct MemDisk {
 }
 
 impl MemDisk {
-    ghost use Rattle.disk.specs.MemDisk.{bytes_of, armed_of, refusals_of};
+    ghost use Rattle.disk.specs.MemDisk.{bytes_of, armed_of, record_of, refusals_of};
 
     /// An empty disk, which has not failed yet.
     pub fn new(alloc: Global) -> Self
@@ -59,6 +59,13 @@ impl MemDisk {
             refusals: 0,
             armed: None,
         }
+    }
+
+    /// Its writes and syncs since it was made, or since it was stopped last, the earliest first.
+    pub fn calls(&self) -> &[Recorded]
+        ensures { result.now ≡ record_of self.now }
+    {
+        &self.calls
     }
 }
 

@@ -1,34 +1,11 @@
-// What several tests make: the network of the worked rows, new stores of it, and what is read back of their pages.
+// What several tests make: new stores, and what is read back of their pages.
 ghost use Rattle.std.specs.Prelude.{◌≤◌, length};
 
 use disk::{Disk, MemDisk};
-use roadnet::{Network, Refusal, RoadArc};
+use fixtures::six_with;
+use roadnet::{Network, Refusal};
 use std::alloc::Global;
 use store::{Store, create, open};
-
-pub(crate) fn arc(tail: u32, head: u32, length: u32) -> RoadArc {
-    RoadArc {
-        tail,
-        head,
-        length,
-        opened: true,
-    }
-}
-
-// Six nodes and eight arcs, with these landmarks.
-pub(crate) fn network_of_six(alloc: Global, landmarks: &[u32]) -> Result<Network, Refusal> {
-    let arcs = [
-        arc(1, 2, 17),
-        arc(1, 3, 10),
-        arc(2, 4, 2),
-        arc(3, 5, 0),
-        arc(4, 3, 0),
-        arc(4, 6, 3),
-        arc(5, 2, 0),
-        arc(5, 6, 20),
-    ];
-    Network::new(alloc, 6, Vec::from_slice(alloc, &arcs)?, landmarks)
-}
 
 // The disk of a new store of this network.
 pub(crate) fn created(
@@ -50,7 +27,7 @@ pub(crate) fn six(alloc: Global, journal_pages: u32) -> Result<MemDisk, Refusal>
     requires some { 1 ≤ journal_pages }
     requires few { journal_pages ≤ 65536 }
 {
-    let network = network_of_six(alloc, &[])?;
+    let network = six_with(alloc, &[])?;
     created(alloc, &network, journal_pages)
 }
 

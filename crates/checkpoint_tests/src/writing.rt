@@ -1,9 +1,10 @@
 ghost use Rattle.std.specs.Prelude.{◌≡◌, ◌≤◌, length};
 ghost use Rattle.pages.specs.Spelling.{IsHeader};
 
-use crate::worked::{arc, is_page};
+use crate::worked::is_page;
 use checkpoint::NextCheckpoint;
-use disk::{Disk, DiskError, FuseDisk, MemDisk, Pick, Stoppable, length_of, settle};
+use disk::{Disk, DiskError, MemDisk, Pick, Stoppable, length_of, settle};
+use fixtures::arc;
 use pages::{Header, Slot};
 use roadnet::{Network, Refusal, RoadArc};
 use std::alloc::Global;
@@ -11,6 +12,10 @@ use std::alloc::Global;
 // The head of slot B after the first checkpoint, at version 1.
 const HEAD: [u8; 28] =
     *b"\x00\x00\x00\x00\x00\x00\x00\x02\x00\x00\x00\x00\x00\x00\x00\x01\x00\x00\x00\x00\x00\x00\x00\x01\x00\x00\x00\x00";
+
+// The same with landmarks 3 and 6.
+const HEAD_WITH_LANDMARKS: [u8; 36] =
+    *b"\x00\x00\x00\x00\x00\x00\x00\x02\x00\x00\x00\x00\x00\x00\x00\x01\x00\x00\x00\x00\x00\x00\x00\x01\x00\x00\x00\x02\x00\x00\x00\x03\x00\x00\x00\x06";
 
 // The words of the six nodes' arcs, the seventh of them closed.
 const WORDS: [u8; 32] =
@@ -112,73 +117,37 @@ fn write<D: Disk>(
     }
 }
 
+// The head of slot B and the page of words behind it, for the landmarks 3 and 6 too; no other page is written, nor is a stop's choice left.
 #[test]
 fn slot_b_after_a_checkpoint(rt: HostRuntime) -> Result<(), Refusal> {
-    let network = six(rt.alloc(), &[])?;
-    let mut disk = file(rt.alloc(), &SIX, 0)?;
-    write(rt.alloc(), &mut disk, &SIX, &network, 64)?;
-    assert!(rt; !disk.stop(&[Pick::Byte(7)]));
-    assert!(rt; is_page(&mut disk, 4, &HEAD, 165)?);
-    assert!(rt; is_page(&mut disk, 5, &WORDS, 0)?);
-    for number in [0, 1, 2, 3, 6, 7] {
-        assert!(rt; is_page(&mut disk, number, &[], 0)?, "page {number}");
-    }
-    Ok(())
-}
-
-#[test]
-fn landmarks_in_the_head(rt: HostRuntime) -> Result<(), Refusal> {
-    let network = six(rt.alloc(), &[6, 3])?;
-    let mut disk = file(rt.alloc(), &SIX, 0)?;
-    write(rt.alloc(), &mut disk, &SIX, &network, 64)?;
-    let head =
-        *b"\x00\x00\x00\x00\x00\x00\x00\x02\x00\x00\x00\x00\x00\x00\x00\x01\x00\x00\x00\x00\x00\x00\x00\x01\x00\x00\x00\x02\x00\x00\x00\x03\x00\x00\x00\x06";
-    assert!(rt; is_page(&mut disk, 4, &head, 165)?);
-    Ok(())
-}
-
-// Whether the checkpoint makes just so many writes and syncs behind the first sync.
-fn makes_calls(
-    alloc: Global,
-    header: &Header,
-    network: &Network,
-    gate: u8,
-    max_pages: u32,
-    count: u64,
-) -> Result<bool, Refusal>
-    requires header { IsHeader header.now }
-    requires some { 1 ≤ max_pages }
-    requires few { max_pages ≤ 64 }
-{
-    for k in 0..count {
-        let mut fuse = FuseDisk::new(file(alloc, header, gate)?, k.saturating_add(1));
-        if write(alloc, &mut fuse, header, network, max_pages) != Err(Refusal::Device) {
-            return Ok(false);
+    for (landmarks, head) in [(&[][..], &HEAD[..]), (&[6, 3], &HEAD_WITH_LANDMARKS)] {
+        let network = six(rt.alloc(), landmarks)?;
+        let mut disk = file(rt.alloc(), &SIX, 0)?;
+        write(rt.alloc(), &mut disk, &SIX, &network, 64)?;
+        assert!(rt; !disk.stop(&[Pick::Byte(7)]));
+        assert!(rt; is_page(&mut disk, 4, head, 165)?);
+        assert!(rt; is_page(&mut disk, 5, &WORDS, 0)?);
+        for number in [0, 1, 2, 3, 6, 7] {
+            assert!(rt; is_page(&mut disk, number, &[], 0)?, "page {number}");
         }
     }
-    let mut fuse = FuseDisk::new(file(alloc, header, gate)?, count.saturating_add(1));
-    write(alloc, &mut fuse, header, network, max_pages)?;
-    Ok(true)
-}
-
-#[test]
-fn five_writes_and_syncs_or_seven(rt: HostRuntime) -> Result<(), Refusal> {
-    let network = six(rt.alloc(), &[])?;
-    assert!(rt; makes_calls(rt.alloc(), &SIX, &network, 0, 64, 5)?);
-    assert!(rt; makes_calls(rt.alloc(), &SIX, &network, 165, 64, 7)?);
-    assert!(rt; makes_calls(rt.alloc(), &SIX, &network, 17, 64, 5)?);
     Ok(())
 }
 
+// How many writes and syncs the checkpoint of slot B makes where its gate has this byte.
+fn calls_with(alloc: Global, gate: u8) -> Result<usize, Refusal> {
+    let mut disk = file(alloc, &SIX, gate)?;
+    let before = disk.calls().len().saturating_add(1);
+    write(alloc, &mut disk, &SIX, &six(alloc, &[])?, 64)?;
+    Ok(disk.calls().len().saturating_sub(before))
+}
+
+// Each byte but 165 is a closed gate, which is not written closed again.
 #[test]
-fn no_arcs_no_words(rt: HostRuntime) -> Result<(), Refusal> {
-    let network = parallel(rt.alloc(), 0)?;
-    let header = Header {
-        nodes: 2,
-        arcs: 0,
-        journal_pages: 1,
-    };
-    assert!(rt; makes_calls(rt.alloc(), &header, &network, 0, 64, 4)?);
+fn five_writes_and_syncs_or_seven(rt: HostRuntime) -> Result<(), Refusal> {
+    for (gate, count) in [(0, 5), (17, 5), (164, 5), (165, 7)] {
+        assert_eq!(rt; calls_with(rt.alloc(), gate)?, count, "gate {gate}");
+    }
     Ok(())
 }
 
@@ -191,21 +160,28 @@ fn three_word_pages(rt: HostRuntime) -> Result<(), Refusal> {
         arcs: 2047,
         journal_pages: 2,
     };
-    assert!(rt; makes_calls(rt.alloc(), &header, &network, 0, 64, 5)?);
-    assert!(rt; makes_calls(rt.alloc(), &header, &network, 0, 2, 7)?);
-    assert!(rt; makes_calls(rt.alloc(), &header, &network, 0, 1, 9)?);
     let mut disk = file(rt.alloc(), &header, 0)?;
     write(rt.alloc(), &mut disk, &header, &network, 2)?;
     assert!(rt; !disk.stop(&[Pick::Byte(7)]));
-    assert!(rt; is_page(&mut disk, header.head_page(Slot::B), &HEAD, 165)?);
-    let last = header.head_page(Slot::B).saturating_add(3);
-    assert_eq!(rt; last, 13);
+    assert!(rt; is_page(&mut disk, 10, &HEAD, 165)?);
     assert!(rt; is_page(&mut disk, 13, &[0, 0, 7, 255], 0)?);
     assert!(rt; is_page(&mut disk, 14, &[], 0)?);
     Ok(())
 }
 
-// 66,000 arcs have 65 word pages, so there are two writes of words, with a sync between.
+// The word at a byte of the disk.
+fn word_at(disk: &mut MemDisk, at: u64) -> Result<u32, Refusal> {
+    if disk.len() != Ok(4096 * 264) || at > 4096 * 263 {
+        return Err(Refusal::NotAStore);
+    }
+    let mut word = [0; 4];
+    match disk.read(at, &mut word) {
+        Ok(()) => Ok(u32::from_be_bytes(word)),
+        Err(_) => Err(Refusal::Device),
+    }
+}
+
+// 66,000 arcs have 65 word pages, so there are two writes of words.
 #[test]
 fn sixty_five_word_pages(rt: HostRuntime) -> Result<(), Refusal> {
     let network = parallel(rt.alloc(), 66_000)?;
@@ -214,12 +190,9 @@ fn sixty_five_word_pages(rt: HostRuntime) -> Result<(), Refusal> {
         arcs: 66_000,
         journal_pages: 1,
     };
-    assert!(rt; makes_calls(rt.alloc(), &header, &network, 0, 64, 7)?);
     let mut disk = file(rt.alloc(), &header, 0)?;
     write(rt.alloc(), &mut disk, &header, &network, 64)?;
     assert!(rt; !disk.stop(&[Pick::Byte(7)]));
-    assert_eq!(rt; header.head_page(Slot::B), 197);
-    let mut word = [0; 4];
     for (at, length) in [
         (4096 * 198, 1),
         (4096 * 198 + 4088, 1023),
@@ -228,13 +201,7 @@ fn sixty_five_word_pages(rt: HostRuntime) -> Result<(), Refusal> {
         (4096 * 262 + 2108, 66000),
         (4096 * 262 + 2112, 0),
     ] {
-        if disk.len() != Ok(4096 * 264) {
-            return Err(Refusal::NotAStore);
-        }
-        let Ok(()) = disk.read(at, &mut word) else {
-            return Err(Refusal::Device);
-        };
-        assert_eq!(rt; u32::from_be_bytes(word), length, "byte {at}");
+        assert_eq!(rt; word_at(&mut disk, at)?, length, "byte {at}");
     }
     Ok(())
 }

@@ -128,46 +128,24 @@ fn in_the_end(
     Ok((refusal, told(&store)))
 }
 
-// Opening makes nine calls of the disk. The commit reads the gate, closes it, syncs, writes the body, syncs, opens the gate and syncs.
-#[test]
-fn commit_is_tried_again(rt: HostRuntime) -> Result<(), Fail> {
-    for k in 1..=17 {
-        let refusal = if k <= 16 { Some(Refusal::Device) } else { None };
-        let wanted = (refusal, (3, 9, 1));
-        assert!(rt;
-            in_the_end(rt.alloc(), Work::Commit, k)? == wanted,
-            "call {k}"
-        );
-    }
-    Ok(())
-}
+// How many calls of the disk an opening and the work make, and what stands in the end: the version, the length of arc 1, the unchecked pages.
+// Opening makes nine calls, and two more for a page that is unchecked. The commit reads the gate, closes it, syncs, writes the body, syncs, opens
+// the gate and syncs; the checkpoint does so with the words and the head. The first part reads the gate, which is closed, writes words and syncs;
+// the second writes and syncs; the third writes words and the head, syncs, opens the gate and syncs.
+const ROWS: [(Work, u64, (u64, u32, u32)); 3] = [
+    (Work::Commit, 16, (3, 9, 1)),
+    (Work::Checkpoint, 19, (3, 3, 0)),
+    (Work::Parts, 21, (1, 5, 0)),
+];
 
-// Opening makes eleven calls, two of them for the page that is unchecked. The checkpoint reads the gate, closes it, syncs, writes the words and
-// the head, syncs, opens the gate and syncs.
 #[test]
-fn checkpoint_is_tried_again(rt: HostRuntime) -> Result<(), Fail> {
-    for k in 1..=20 {
-        let refusal = if k <= 19 { Some(Refusal::Device) } else { None };
-        let wanted = (refusal, (3, 3, 0));
-        assert!(rt;
-            in_the_end(rt.alloc(), Work::Checkpoint, k)? == wanted,
-            "call {k}"
-        );
-    }
-    Ok(())
-}
-
-// Opening makes eleven calls. The first part reads the gate, which is closed, writes words and syncs; the second writes and syncs; the third
-// writes words and the head, syncs, opens the gate and syncs.
-#[test]
-fn parts_are_tried_again(rt: HostRuntime) -> Result<(), Fail> {
-    for k in 1..=22 {
-        let refusal = if k <= 21 { Some(Refusal::Device) } else { None };
-        let wanted = (refusal, (1, 5, 0));
-        assert!(rt;
-            in_the_end(rt.alloc(), Work::Parts, k)? == wanted,
-            "call {k}"
-        );
+fn works_are_tried_again(rt: HostRuntime) -> Result<(), Fail> {
+    for (i, &(work, calls, stands)) in ROWS.iter().enumerate() {
+        for k in 1..=22 {
+            let refusal = if k <= calls { Some(Refusal::Device) } else { None };
+            let found = in_the_end(rt.alloc(), work, k)?;
+            assert!(rt; found == (refusal, stands), "row {i}, call {k}");
+        }
     }
     Ok(())
 }

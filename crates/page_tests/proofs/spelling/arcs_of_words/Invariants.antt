@@ -1,5 +1,5 @@
 use Rattle.std.proofs.Common.{◌<◌, ◌^◌, All}
-use Rattle.store_tests.proofs.spelling.arcs_of_words.Given as goal
+use Rattle.page_tests.proofs.spelling.arcs_of_words.Given as goal
 
 abbrev pub invariant-loop-word : goal.invariant-loop-word
 invariant-loop-word l = All (λ arc. arc.length < 2 ^ 31) l.arcs.items

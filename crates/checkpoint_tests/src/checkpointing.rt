@@ -1,8 +1,8 @@
 ghost use Rattle.std.specs.Prelude.{◌≤◌, length};
 
-use crate::worked::{arc, created, is_page, opened, six};
+use crate::worked::{is_page, opened, six};
 use disk::{Disk, FuseDisk, MemDisk, Pick, Stoppable};
-use roadnet::{Command, Network, Refusal, RoadArc};
+use roadnet::{Command, Refusal, RoadArc};
 use std::alloc::Global;
 use std::test::Fail;
 use store::Store;
@@ -103,44 +103,35 @@ fn closed_gate_is_not_rewritten(rt: HostRuntime) -> Result<(), Fail> {
     Ok(())
 }
 
-// The first checkpoint makes five writes and syncs: the words, the head, a sync, the gate, a sync.
-#[test]
-fn first_checkpoint_is_stopped(rt: HostRuntime) -> Result<(), Fail> {
-    let alloc = rt.alloc();
-    for k in 0..6 {
-        for &pick in &PICKS {
-            let mut store = fused(alloc, full(alloc)?, k)?;
-            let answer = store.checkpoint();
-            let wanted = if k < 5 { Err(Refusal::Device) } else { Ok(2) };
-            assert!(rt; answer == wanted, "call {k}");
-            assert!(rt; store.calm() == (k == 5), "call {k}");
-            let again = store.checkpoint();
-            let wanted = if k < 5 { Err(Refusal::Broken) } else { Ok(2) };
-            assert!(rt; again == wanted, "call {k}");
-            let store = opened(alloc, stopped(store, &[pick]))?;
-            // Slot B is open once its gate is written, and not before.
-            let is_new = k == 5 || k == 4 && (pick == Pick::New || pick == Pick::Byte(165));
-            let unchecked = if is_new { 0 } else { 2 };
-            assert!(rt; told(&store) == (Some(2), 2, unchecked), "call {k}");
-        }
-    }
-    Ok(())
+// Whether a checkpoint that is cut behind k writes and syncs, and stopped with this pick, is told rightly: of a journal of two pages that is full,
+// or of that after a checkpoint and a commit. The first makes five writes and syncs: the words, the head, a sync, the gate, a sync; the other
+// makes seven: first the gate of slot A is closed, and that is synced. The slot is new once its gate is written, and not before.
+fn is_told_rightly(alloc: Global, again: bool, k: u64, pick: Pick) -> Result<bool, Refusal> {
+    let (disk, version, unchecked, calls) = if again {
+        (reused(alloc)?, 3, 1, 7)
+    } else {
+        (full(alloc)?, 2, 2, 5)
+    };
+    let mut store = fused(alloc, disk, k)?;
+    let answers = [store.checkpoint(), store.checkpoint()];
+    let wanted = if k < calls {
+        [Err(Refusal::Device), Err(Refusal::Broken)]
+    } else {
+        [Ok(version), Ok(version)]
+    };
+    let calm = store.calm() == (k >= calls);
+    let is_new = k >= calls || k == calls - 1 && (pick == Pick::New || pick == Pick::Byte(165));
+    let left = if is_new { 0 } else { unchecked };
+    let store = opened(alloc, stopped(store, &[pick]))?;
+    Ok(calm && answers == wanted && told(&store) == (Some(version as u32), version, left))
 }
 
-// The next one makes seven: first the gate of slot A is closed, and that is synced.
 #[test]
-fn next_checkpoint_is_stopped(rt: HostRuntime) -> Result<(), Fail> {
-    let alloc = rt.alloc();
+fn checkpoint_is_stopped(rt: HostRuntime) -> Result<(), Fail> {
     for k in 0..8 {
         for &pick in &PICKS {
-            let mut store = fused(alloc, reused(alloc)?, k)?;
-            let answer = store.checkpoint();
-            let wanted = if k < 7 { Err(Refusal::Device) } else { Ok(3) };
-            assert!(rt; answer == wanted, "call {k}");
-            let store = opened(alloc, stopped(store, &[pick]))?;
-            let is_new = k == 7 || k == 6 && (pick == Pick::New || pick == Pick::Byte(165));
-            let unchecked = if is_new { 0 } else { 1 };
-            assert!(rt; told(&store) == (Some(3), 3, unchecked), "call {k}");
+            assert!(rt; is_told_rightly(rt.alloc(), false, k, pick)?, "first, call {k}");
+            assert!(rt; is_told_rightly(rt.alloc(), true, k, pick)?, "next, call {k}");
         }
     }
     Ok(())
@@ -172,72 +163,5 @@ fn stop_within_checkpoint(rt: HostRuntime) -> Result<(), Fail> {
                 opened: false
             })
     );
-    Ok(())
-}
-
-// With no page unchecked no call of the disk is made.
-#[test]
-fn nothing_to_write(rt: HostRuntime) -> Result<(), Fail> {
-    let alloc = rt.alloc();
-    let mut store = fused(alloc, six(alloc, 2)?, 0)?;
-    assert_eq!(rt; store.checkpoint(), Ok(0));
-    assert!(rt; store.calm());
-    let mut store = opened(alloc, full(alloc)?)?;
-    assert_eq!(rt; store.checkpoint(), Ok(2));
-    let mut store = fused(alloc, store.close(), 0)?;
-    assert_eq!(rt; store.checkpoint(), Ok(2));
-    assert!(rt; store.calm());
-    Ok(())
-}
-
-// So many arcs from node 1 to node 2, each of length 5, with a journal of two pages, after a landmark and a change of the last arc.
-fn long(alloc: Global, count: u32) -> Result<MemDisk, Refusal> {
-    let arcs = vec![in alloc; arc(1, 2, 5); count as usize]?;
-    let network = Network::new(alloc, 2, arcs, &[])?;
-    let mut store = opened(alloc, created(alloc, &network, 2)?)?;
-    store.commit(&[Command::Mark { node: 2 }])?;
-    store.commit(&[Command::Close {
-        arc: u64::from(count),
-    }])?;
-    Ok(store.close())
-}
-
-// Whether the arcs are those of `long`, after its commits.
-fn is_long<D: Disk>(store: &Store<D>, count: u32) -> bool {
-    let mut same = true;
-    for (i, found) in store.network().arcs().iter().enumerate() {
-        let opened = i.wrapping_add(1) != count as usize;
-        same = same && found.length == 5 && found.opened == opened;
-    }
-    same && store.network().arcs().len() == count as usize
-        && store.network().landmarks() == [2].as_slice()
-}
-
-// Opens over a fuse, makes a checkpoint, opens again. It answers what the checkpoint did, and how many pages are unchecked then.
-fn checked(alloc: Global, count: u32, k: u64) -> Result<(Result<u64, Refusal>, u32), Refusal> {
-    let mut store = fused(alloc, long(alloc, count)?, k)?;
-    let answer = store.checkpoint();
-    let store = opened(alloc, stopped(store, &[Pick::New]))?;
-    if !is_long(&store, count) || store.version() != 2 {
-        return Err(Refusal::NotYet);
-    }
-    Ok((answer, store.unchecked()))
-}
-
-#[test]
-fn three_word_pages(rt: HostRuntime) -> Result<(), Fail> {
-    let alloc = rt.alloc();
-    assert!(rt; checked(alloc, 2047, 4)? == (Err(Refusal::Device), 0));
-    assert!(rt; checked(alloc, 2047, 5)? == (Ok(2), 0));
-    Ok(())
-}
-
-// 65 word pages are written in two writes, with a sync between them.
-#[test]
-fn more_word_pages_than_a_write_has(rt: HostRuntime) -> Result<(), Fail> {
-    let alloc = rt.alloc();
-    assert!(rt; checked(alloc, 66000, 5)? == (Err(Refusal::Device), 2));
-    assert!(rt; checked(alloc, 66000, 6)? == (Err(Refusal::Device), 0));
-    assert!(rt; checked(alloc, 66000, 7)? == (Ok(2), 0));
     Ok(())
 }

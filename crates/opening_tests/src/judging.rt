@@ -2,8 +2,9 @@
 ghost use Rattle.std.specs.Prelude.{◌<◌};
 
 use crate::judge::{Judged, judge};
-use crate::worked::{arc, network_of_six, opened};
+use crate::worked::opened;
 use disk::{Disk, MemDisk};
+use fixtures::{arc, six_with};
 use roadnet::{Command, Refusal};
 use std::alloc::Global;
 use store::{Store, create, open};
@@ -18,7 +19,7 @@ const HEAD_B: [u8; 40] =
 const WORDS_B: [u8; 32] =
     *b"\x00\x00\x00\x11\x00\x00\x00\x0a\x00\x00\x00\x02\x00\x00\x00\x00\x00\x00\x00\x00\x00\x00\x00\x03\x80\x00\x00\x00\x00\x00\x00\x04";
 
-fn put(file: &mut [u8], at: usize, bytes: &[u8]) {
+pub fn put(file: &mut [u8], at: usize, bytes: &[u8]) {
     for (i, &byte) in bytes.iter().enumerate() {
         if let Some(place) = file.get_mut(at.wrapping_add(i)) {
             *place = byte;
@@ -53,7 +54,7 @@ pub fn new_file(alloc: Global) -> Result<Vec<u8>, Refusal> {
     match create(
         alloc,
         MemDisk::new(alloc),
-        &network_of_six(alloc, &[6, 3])?,
+        &six_with(alloc, &[6, 3])?,
         2,
     ) {
         Ok(store) => bytes_of(alloc, &mut store.close()),
@@ -175,7 +176,7 @@ fn judge_is_right(rt: HostRuntime) -> Result<(), Refusal> {
     let judged = judge(alloc, &new_file(alloc)?)?;
     assert!(rt; judged.version == 0 && judged.unchecked == 0);
     assert!(rt; judged.landmarks.as_slice() == [3, 6].as_slice());
-    assert!(rt; judged.arcs.as_slice() == network_of_six(alloc, &[6, 3])?.arcs());
+    assert!(rt; judged.arcs.as_slice() == six_with(alloc, &[6, 3])?.arcs());
     let judged = judge(alloc, &flushed_file(alloc)?)?;
     assert!(rt; judged.version == 5 && judged.unchecked == 2);
     assert!(rt; judged.landmarks.as_slice() == [1, 6].as_slice());

@@ -1,40 +1,21 @@
 ghost use Rattle.std.specs.Prelude.{◌≤◌};
 
 use crate::checkpointing::{fused, stopped};
-use crate::opening::FixedDisk;
-use crate::worked::opened;
+use crate::worked::{created, opened};
 use disk::{Disk, FuseDisk, MemDisk, Pick};
-use roadnet::{Command, Network, Refusal, RoadArc};
+use fixtures::arc;
+use roadnet::{Command, Network, Refusal};
 use std::alloc::Global;
 use std::test::Fail;
-use store::{Part, Store, create};
-
-const PAGE: usize = 4096;
+use store::{Part, Store};
 
 // The disk of a new store of two nodes and 2,047 arcs from 1 to 2, of length 5: three word pages.
 fn three_pages(alloc: Global, journal_pages: u32) -> Result<MemDisk, Refusal>
     requires some { 1 ≤ journal_pages }
     requires few { journal_pages ≤ 65536 }
 {
-    three_pages_on(alloc, MemDisk::new(alloc), journal_pages)
-}
-
-// The same on this empty disk.
-fn three_pages_on<D: Disk + Drop>(alloc: Global, disk: D, journal_pages: u32) -> Result<D, Refusal>
-    requires some { 1 ≤ journal_pages }
-    requires few { journal_pages ≤ 65536 }
-{
-    let arc = RoadArc {
-        tail: 1,
-        head: 2,
-        length: 5,
-        opened: true,
-    };
-    let network = Network::new(alloc, 2, vec![in alloc; arc; 2047]?, &[])?;
-    match create(alloc, disk, &network, journal_pages) {
-        Ok(store) => Ok(store.close()),
-        Err((refusal, _)) => Err(refusal),
-    }
+    let network = Network::new(alloc, 2, vec![in alloc; arc(1, 2, 5); 2047]?, &[])?;
+    created(alloc, &network, journal_pages)
 }
 
 fn close(arc: u64) -> Command {
@@ -87,29 +68,6 @@ fn checkpoint_goes_on(rt: HostRuntime) -> Result<(), Fail> {
     assert!(rt; store.unchecked() == 1 && store.version() == 2);
     let store = opened(alloc, store.close())?;
     assert!(rt; store.version() == 2 && store.unchecked() == 1 && is_closed_to_version(&store));
-    Ok(())
-}
-
-// A part that finds no memory changes nothing: no checkpoint goes, and each page stays unchecked. One that goes takes no more. To be run
-// with each allocation failing in turn.
-#[test]
-fn allocations_fail_in_turn(rt: HostRuntime) -> Result<(), Refusal> {
-    let alloc = rt.alloc();
-    let disk = FixedDisk::new(alloc, 16 * PAGE)?;
-    let mut store = opened(alloc, three_pages_on(alloc, disk, 2)?)?;
-    store.commit(&[close(1)])?;
-    match store.checkpoint_part(1) {
-        Ok(part) => assert!(rt; part == Part::Going && !store.calm()),
-        Err(refusal) => {
-            assert!(rt; refusal == Refusal::OutOfMemory);
-            assert!(rt; store.calm() && store.unchecked() == 1 && store.version() == 1);
-            return Ok(());
-        }
-    }
-    assert!(rt; store.commit(&[close(2)])? == 2);
-    assert_eq!(rt; store.checkpoint_part(1), Ok(Part::Going));
-    assert_eq!(rt; store.checkpoint_part(1), Ok(Part::Done(1)));
-    assert!(rt; store.calm() && store.unchecked() == 1 && is_closed_to_version(&store));
     Ok(())
 }
 

@@ -1,5 +1,6 @@
-use crate::worked::{is_page, network_of_six};
-use disk::{Disk, FailOnce, MemDisk, Pick, Stoppable};
+use crate::worked::is_page;
+use disk::{Disk, MemDisk, Pick, Stoppable};
+use fixtures::six_with;
 use roadnet::Refusal;
 use store::create;
 
@@ -17,7 +18,7 @@ const WORDS: [u8; 32] =
 
 #[test]
 fn pages_of_a_new_store(rt: HostRuntime) -> Result<(), Refusal> {
-    let network = network_of_six(rt.alloc(), &[6, 3])?;
+    let network = six_with(rt.alloc(), &[6, 3])?;
     let store = match create(rt.alloc(), MemDisk::new(rt.alloc()), &network, 64) {
         Ok(store) => store,
         Err((refusal, _)) => return Err(refusal),
@@ -42,7 +43,7 @@ fn pages_of_a_new_store(rt: HostRuntime) -> Result<(), Refusal> {
 
 #[test]
 fn a_disk_with_bytes_is_refused(rt: HostRuntime) -> Result<(), Refusal> {
-    let network = network_of_six(rt.alloc(), &[6, 3])?;
+    let network = six_with(rt.alloc(), &[6, 3])?;
     let mut disk = MemDisk::new(rt.alloc());
     let Ok(()) = disk.write_at(0, &[7]) else {
         return Err(Refusal::Device);
@@ -53,26 +54,4 @@ fn a_disk_with_bytes_is_refused(rt: HostRuntime) -> Result<(), Refusal> {
     assert_eq!(rt; refusal, Refusal::NotEmpty);
     assert_eq!(rt; disk.len(), Ok(1));
     Ok(())
-}
-
-// It makes eight calls: the length, two writes and a sync, and a write and a sync for each of two gates.
-#[test]
-fn each_call_of_create_fails(rt: HostRuntime) -> Result<(), Refusal> {
-    let network = network_of_six(rt.alloc(), &[6, 3])?;
-    for k in 1..=8 {
-        let disk = FailOnce::new(MemDisk::new(rt.alloc()), k);
-        let refusal = match create(rt.alloc(), disk, &network, 64) {
-            Ok(_) => None,
-            Err((refusal, _)) => Some(refusal),
-        };
-        if refusal == Some(Refusal::OutOfMemory) {
-            return Err(Refusal::OutOfMemory);
-        }
-        assert_eq!(rt; refusal, Some(Refusal::Device), "call {k}");
-    }
-    let disk = FailOnce::new(MemDisk::new(rt.alloc()), 9);
-    match create(rt.alloc(), disk, &network, 64) {
-        Ok(_) => Ok(()),
-        Err((refusal, _)) => Err(refusal),
-    }
 }

@@ -3,7 +3,7 @@ use Rattle.pages.specs.Layout.{page_count}
 use Rattle.storefile.specs.StoreFile.{page}
 use Rattle.checkpoint.specs.Writing.{HoldsWords}
 use Rattle.checkpoint.proofs.SlotHeld.{rests_shut, no_words}
-use Rattle.store_tests.proofs.writing.write_whole.Goals as goal
+use Rattle.checkpoint_tests.proofs.writing.write_whole.Goals as goal
 
 pub begin-requires-clause-at_rest : goal.begin-requires-clause-at_rest
 begin-requires-clause-at_rest g c h =

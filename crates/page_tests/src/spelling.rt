@@ -1,6 +1,6 @@
 ghost use Rattle.std.specs.Prelude.{◌<◌, ◌≤◌, ◌^◌, length, All, IfOk};
 
-use crate::worked::arc;
+use fixtures::arc;
 use pages::{
     GATE_AT, Gate, Header, PAGE_SIZE, Slot, Word, decode_arc_page, decode_header,
     decode_journal_page, decode_slot_head, decode_word_page, encode_arc_page, encode_header,

@@ -1,5 +1,6 @@
-use crate::worked::{arc, is_page, opened, six};
+use crate::worked::{is_page, opened, six};
 use disk::{Disk, FuseDisk, Pick, Stoppable};
+use fixtures::arc;
 use roadnet::{Command, Refusal};
 use std::alloc::Global;
 use std::test::Fail;

@@ -1,0 +1,243 @@
+// Which writes and syncs each call of a store makes, and in which order, by the record of a disk in memory.
+ghost use Rattle.std.specs.Prelude.{◌≤◌};
+
+use crate::worked::{created, opened};
+use disk::{MemDisk, Pick, Recorded, Stoppable};
+use fixtures::arc;
+use roadnet::{Command, Network, Refusal};
+use std::alloc::Global;
+use std::test::Fail;
+use store::{Store, create, inspect};
+
+// A write of so many whole pages from one on, of a page's bytes before its gate, or of its gate; or a sync.
+#[derive(Clone, Copy)]
+enum Call {
+    Pages(u64, u64),
+    Body(u64),
+    Gate(u64),
+    Sync,
+}
+
+use Call::{Body, Gate, Pages, Sync};
+
+// Where a write begins, and how many bytes it has; nothing of a sync.
+fn range(call: Call) -> Option<(u64, u64)> {
+    match call {
+        Pages(first, count) => Some((first.wrapping_mul(4096), count.wrapping_mul(4096))),
+        Body(page) => Some((page.wrapping_mul(4096), 4095)),
+        Gate(page) => Some((page.wrapping_mul(4096).wrapping_add(4095), 1)),
+        Sync => None,
+    }
+}
+
+// The same of a call that was made.
+fn range_made(call: &Recorded) -> Option<(u64, u64)> {
+    match call {
+        Recorded::Wrote(write) => Some((write.at as u64, write.count as u64)),
+        Recorded::Synced => None,
+    }
+}
+
+// The number of the first call that the disk's record has otherwise, if there is one.
+fn first_other(disk: &MemDisk, calls: &[Call]) -> Option<usize> {
+    let made = disk.calls();
+    for (i, call) in made.iter().enumerate() {
+        if calls.get(i).map(|&wanted| range(wanted)) != Some(range_made(call)) {
+            return Some(i);
+        }
+    }
+    if made.len() == calls.len() {
+        None
+    } else {
+        Some(made.len())
+    }
+}
+
+// Two nodes, and so many arcs from the one to the other.
+fn parallel(alloc: Global, arcs: usize) -> Result<Network, Refusal> {
+    Network::new(alloc, 2, vec![in alloc; arc(1, 2, 5); arcs]?, &[])
+}
+
+// What is done with a store: a commit of one command, a checkpoint, or a part of one, of so many word pages.
+#[derive(Clone, Copy)]
+enum Work {
+    Commit,
+    Whole,
+    Part(u32),
+}
+
+use Work::{Commit, Part, Whole};
+
+fn work_on(store: &mut Store<MemDisk>, works: &[Work]) -> Result<(), Refusal> {
+    for &work in works {
+        match work {
+            Commit if store.network().is_landmark(1) => {
+                store.commit(&[Command::Unmark { node: 1 }])?;
+            }
+            Commit => {
+                store.commit(&[Command::Mark { node: 1 }])?;
+            }
+            Whole => {
+                store.checkpoint()?;
+            }
+            Part(pages) => {
+                store.checkpoint_part(pages.clamp(1, 64))?;
+            }
+        }
+    }
+    Ok(())
+}
+
+// A store of so many arcs, with a journal of two pages; what was done with it before, and what is done once it is opened again; and the calls
+// of the disk from the opening on.
+struct Row {
+    arcs: usize,
+    before: &'static [Work],
+    works: &'static [Work],
+    calls: &'static [Call],
+}
+
+// Of 8 arcs the heads of slots A and B are pages 2 and 4 and the journal begins at page 6, of 2,047 (three word pages) they are 6, 10 and 14, of
+// none 1, 2 and 3, and of 66,000 (65 word pages) 131, 197 and 263.
+const ROWS: [Row; 18] = [
+    // Opening syncs, and writes nothing.
+    Row { arcs: 8, before: &[], works: &[], calls: &[Sync] },
+    Row { arcs: 8, before: &[Commit, Whole, Commit], works: &[], calls: &[Sync] },
+    // A flush to a page whose gate reads closed: body, sync, gate, sync.
+    Row { arcs: 8, before: &[], works: &[Commit], calls: &[Sync, Body(6), Sync, Gate(6), Sync] },
+    Row { arcs: 8, before: &[Commit], works: &[Commit], calls: &[Sync, Body(7), Sync, Gate(7), Sync] },
+    // To one whose gate reads open, which a checkpoint made free: first the gate is closed, and that is synced.
+    Row {
+        arcs: 8,
+        before: &[Commit, Commit, Whole],
+        works: &[Commit],
+        calls: &[Sync, Gate(6), Sync, Body(6), Sync, Gate(6), Sync],
+    },
+    // A checkpoint of three word pages, whole: one write of words, the head, a sync, the gate, a sync.
+    Row {
+        arcs: 2047,
+        before: &[Commit],
+        works: &[Whole],
+        calls: &[Sync, Pages(11, 3), Body(10), Sync, Gate(10), Sync],
+    },
+    // As a part of three pages it is the same.
+    Row {
+        arcs: 2047,
+        before: &[Commit],
+        works: &[Part(3)],
+        calls: &[Sync, Pages(11, 3), Body(10), Sync, Gate(10), Sync],
+    },
+    // In parts of one page each part but the last syncs.
+    Row {
+        arcs: 2047,
+        before: &[Commit],
+        works: &[Part(1), Part(1), Part(1)],
+        calls: &[
+            Sync, Pages(11, 1), Sync, Pages(12, 1), Sync, Pages(13, 1), Body(10), Sync, Gate(10), Sync,
+        ],
+    },
+    // A commit between two parts makes its own calls.
+    Row {
+        arcs: 2047,
+        before: &[Commit],
+        works: &[Part(2), Commit, Part(64)],
+        calls: &[
+            Sync, Pages(11, 2), Sync, Body(15), Sync, Gate(15), Sync, Pages(13, 1), Body(10), Sync, Gate(10), Sync,
+        ],
+    },
+    // All that is left of one that is going.
+    Row {
+        arcs: 2047,
+        before: &[Commit],
+        works: &[Part(2), Whole],
+        calls: &[Sync, Pages(11, 2), Sync, Pages(13, 1), Body(10), Sync, Gate(10), Sync],
+    },
+    // The other slot's gate reads open: it is closed first, and that is synced, once.
+    Row {
+        arcs: 2047,
+        before: &[Commit, Whole, Commit],
+        works: &[Whole],
+        calls: &[Sync, Gate(6), Sync, Pages(7, 3), Body(6), Sync, Gate(6), Sync],
+    },
+    Row {
+        arcs: 2047,
+        before: &[Commit, Whole, Commit],
+        works: &[Part(2), Part(2)],
+        calls: &[
+            Sync, Gate(6), Sync, Pages(7, 2), Sync, Pages(9, 1), Body(6), Sync, Gate(6), Sync,
+        ],
+    },
+    // With no word page the first part writes the head.
+    Row { arcs: 0, before: &[Commit], works: &[Whole], calls: &[Sync, Body(2), Sync, Gate(2), Sync] },
+    Row { arcs: 0, before: &[Commit], works: &[Part(1)], calls: &[Sync, Body(2), Sync, Gate(2), Sync] },
+    // No write has more than 64 word pages.
+    Row {
+        arcs: 66000,
+        before: &[Commit],
+        works: &[Whole],
+        calls: &[Sync, Pages(198, 64), Sync, Pages(262, 1), Body(197), Sync, Gate(197), Sync],
+    },
+    Row {
+        arcs: 66000,
+        before: &[Commit],
+        works: &[Part(64), Part(64)],
+        calls: &[Sync, Pages(198, 64), Sync, Pages(262, 1), Body(197), Sync, Gate(197), Sync],
+    },
+    // With no page unchecked no call is made.
+    Row { arcs: 8, before: &[], works: &[Whole, Part(1)], calls: &[Sync] },
+    Row { arcs: 2047, before: &[Commit, Whole], works: &[Whole, Part(1)], calls: &[Sync] },
+];
+
+// The number of the first call of a row that is made otherwise.
+fn first_wrong(alloc: Global, row: &Row) -> Result<Option<usize>, Refusal> {
+    let network = parallel(alloc, row.arcs)?;
+    let mut store = opened(alloc, created(alloc, &network, 2)?)?;
+    work_on(&mut store, row.before)?;
+    let mut disk = store.close();
+    // All of it is synced: a stop changes nothing, and the record begins anew.
+    let _ = disk.stop(&[Pick::Old]);
+    let mut store = opened(alloc, disk)?;
+    work_on(&mut store, row.works)?;
+    Ok(first_other(&store.close(), row.calls))
+}
+
+// Refused are bodies written twice, a gate that is written closed though it reads closed, a sync too many, one too few or one at another place, a
+// part that does not sync what it wrote, more or fewer pages in a write, and a call where nothing is to be written.
+#[test]
+fn calls_of_a_store(rt: HostRuntime) -> Result<(), Fail> {
+    for (i, row) in ROWS.iter().enumerate() {
+        assert_eq!(rt; first_wrong(rt.alloc(), row)?, None, "row {i}");
+    }
+    Ok(())
+}
+
+// Of a store that is made all pages are written, the journal's too, with closed gates; then a sync, slot A's gate, a sync, the header's gate
+// and a sync. No write has more than 64 pages.
+#[test]
+fn calls_of_create(rt: HostRuntime) -> Result<(), Fail> {
+    let alloc = rt.alloc();
+    let rows: [(usize, u32, &[Call]); 3] = [
+        (8, 2, &[Pages(0, 8), Sync, Gate(2), Sync, Gate(0), Sync]),
+        (8, 64, &[Pages(0, 64), Pages(64, 6), Sync, Gate(2), Sync, Gate(0), Sync]),
+        (0, 1, &[Pages(0, 4), Sync, Gate(1), Sync, Gate(0), Sync]),
+    ];
+    for (arcs, journal_pages, calls) in rows {
+        let network = parallel(alloc, arcs)?;
+        let Ok(store) = create(alloc, MemDisk::new(alloc), &network, journal_pages.clamp(1, 64)) else {
+            return Err(Fail::from(Refusal::Device));
+        };
+        assert_eq!(rt; first_other(&store.close(), calls), None, "{arcs} arcs");
+    }
+    Ok(())
+}
+
+// A look at a file syncs it, and writes nothing.
+#[test]
+fn calls_of_a_look(rt: HostRuntime) -> Result<(), Fail> {
+    let alloc = rt.alloc();
+    let mut disk = created(alloc, &parallel(alloc, 8)?, 2)?;
+    let _ = disk.stop(&[Pick::Old]);
+    inspect(alloc, &mut disk)?;
+    assert_eq!(rt; first_other(&disk, &[Sync]), None);
+    Ok(())
+}

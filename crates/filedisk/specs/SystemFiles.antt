@@ -6,7 +6,7 @@ use Rattle.filedisk.specs.declared.system_file.SystemFile.{SystemFile}
 use Rattle.filedisk.specs.declared.file_disk.FileDisk.{FileDisk}
 
 -- the calls that were made of the file, the newest first
-abbrev pub calls_made : NotedFile → List NotedCall
+abbrev pub calls_made : {F : Type 0} → NotedFile F → List NotedCall
 calls_made file = file.notes.calls
 
 abbrev pub calls_of : FileDisk SystemFile → List NotedCall

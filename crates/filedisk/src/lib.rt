@@ -18,4 +18,6 @@ pub use raw_file::RawFile;
 pub use system_file::SystemFile;
 
 #[cfg(test)]
+mod fakes;
+#[cfg(test)]
 mod tests;

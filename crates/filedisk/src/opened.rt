@@ -46,10 +46,15 @@ pub struct MadeFile {
     path: PathBuf,
 }
 
+/// Removes the file of this name. The open file is lent for it, so its lock keeps others from the file until it is gone.
+fn remove_locked<R: Files, F>(rt: &R, path: &PathBuf, _locked: &F) -> io::Result<()> {
+    fs::remove_file(rt, path.as_path())
+}
+
 impl MadeFile {
-    /// Removes the file. Its disk is to be open still, so that its lock keeps others from it.
-    pub fn remove<R: Files>(self, rt: &R) -> io::Result<()> {
-        fs::remove_file(rt, self.path.as_path())
+    /// Removes the file. Its disk is lent for it, so it is open still, and its lock keeps others from the file until it is gone.
+    pub fn remove<R: Files>(self, rt: &R, locked: &FileDisk<SystemFile>) -> io::Result<()> {
+        remove_locked(rt, &self.path, locked)
     }
 }
 
@@ -62,17 +67,11 @@ pub struct NewFile {
     pub made: Option<MadeFile>,
 }
 
-/// The file, where it is one and no other opening keeps it from this one.
-fn claim(file: File, share: Share) -> Result<NotedFile, OpenError>
+/// The file, locked, where no other opening keeps it from this one.
+fn lock_file(file: File, share: Share) -> Result<NotedFile<File>, OpenError>
     ensures calls { IfOk result (λ file. calls_made file ≡ (Lock share, Done) ∷ []) }
-    ensures causes { IfErr result IsNotHad }
+    ensures causes { IfErr result (λ error. error ≡ OpenError.InUse) }
 {
-    let Ok(metadata) = file.metadata() else {
-        return Err(OpenError::NotOpened);
-    };
-    if !metadata.is_file() {
-        return Err(OpenError::NoFile);
-    }
     let mut file = NotedFile::new(file);
     match file.lock(share) {
         Ok(()) => Ok(file),
@@ -80,8 +79,29 @@ fn claim(file: File, share: Share) -> Result<NotedFile, OpenError>
     }
 }
 
+/// Refuses what is no file.
+fn look_at(file: &NotedFile<File>) -> Result<(), OpenError>
+    ensures causes { IfErr result IsNotHad }
+{
+    match file.is_file() {
+        Ok(true) => Ok(()),
+        Ok(false) => Err(OpenError::NoFile),
+        Err(_) => Err(OpenError::NotOpened),
+    }
+}
+
+/// The file, where it is one and no other opening keeps it from this one.
+fn claim(file: File, share: Share) -> Result<NotedFile<File>, OpenError>
+    ensures calls { IfOk result (λ file. calls_made file ≡ (Lock share, Done) ∷ []) }
+    ensures causes { IfErr result IsNotHad }
+{
+    let file = lock_file(file, share)?;
+    look_at(&file)?;
+    Ok(file)
+}
+
 /// The file as a disk.
-fn disk_of(file: NotedFile) -> FileDisk<SystemFile>
+fn disk_of(file: NotedFile<File>) -> FileDisk<SystemFile>
     requires { has_failed_sync (calls_made file) ≡ false }
     ensures calls { calls_of result ≡ calls_made file }
     ensures failures { failures_of result ≡ 0 }
@@ -166,7 +186,7 @@ fn open_or_make<R: Files<File = File>>(rt: &R, path: &str) -> Result<(File, bool
 /// Makes the name durable under which a file was opened: the file and its folder are synced.
 fn sync_name<R: Files<File = File>>(
     rt: &R,
-    file: &mut NotedFile,
+    file: &mut NotedFile<File>,
     path: &PathBuf,
 ) -> Result<(), OpenError>
     ensures { OnOk result (calls_made file.new ≡ (SyncFolder, Done) ∷ (SyncAll, Done) ∷ calls_made file.old) }
@@ -184,10 +204,22 @@ fn sync_name<R: Files<File = File>>(
     }
 }
 
+/// Looks at a file that was opened or made for a new store, and makes its name durable.
+fn settle<R: Files<File = File>>(
+    rt: &R,
+    file: &mut NotedFile<File>,
+    path: &PathBuf,
+) -> Result<(), OpenError>
+    ensures { OnOk result (calls_made file.new ≡ (SyncFolder, Done) ∷ (SyncAll, Done) ∷ calls_made file.old) }
+{
+    look_at(file)?;
+    sync_name(rt, file, path)
+}
+
 /// Opens a file as `open_file`, and makes an empty one where there is none; a link that leads to no file yet is followed, and the file made
-/// where it leads. Then the file's name is durable: the file and its folder are synced, once it is known to be a file and locked. What the
-/// file has stays. After an `Err` a file that was made is removed again, but where it could not be locked: it may be another's by then, so
-/// it stays, empty as it was made, and a later call takes it again.
+/// where it leads. Then the file's name is durable: the file and its folder are synced, once it is locked and known to be a file. What the
+/// file has stays. After an `Err` a file that was made is removed again, while it is locked; where it could not be locked it may be another's
+/// by then, so it stays, empty as it was made, and a later call takes it again.
 pub fn create_file<R: AllocGlobal + Files<File = File>>(
     rt: &R,
     path: &str,
@@ -201,23 +233,18 @@ pub fn create_file<R: AllocGlobal + Files<File = File>>(
         Err(_) => return Err(OpenError::NotOpened),
     };
     let (file, is_new) = open_or_make(rt, path.as_str())?;
-    let mut file = claim(file, Share::Alone)?;
-    let synced = sync_name(rt, &mut file, &path);
+    let mut file = lock_file(file, Share::Alone)?;
+    if let Err(error) = settle(rt, &mut file, &path) {
+        if is_new {
+            let _ = remove_locked(rt, &path, &file);
+        }
+        return Err(error);
+    }
     let made = if is_new {
         Some(MadeFile { path })
     } else {
         None
     };
-    match synced {
-        Ok(()) => {
-            let disk = disk_of(file);
-            Ok(NewFile { disk, made })
-        }
-        Err(error) => {
-            if let Some(made) = made {
-                let _ = made.remove(rt);
-            }
-            Err(error)
-        }
-    }
+    let disk = disk_of(file);
+    Ok(NewFile { disk, made })
 }

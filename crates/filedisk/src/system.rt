@@ -1,17 +1,18 @@
 //! The system's calls on an open file, each noted with its answer. No clause can see the system: that each function here makes the call
-//! which it notes, of this file, is to be read here, and nowhere else.
+//! which it notes, of this file, is to be read here, and nowhere else. They are the calls of any file, so that tests can hold one that tells
+//! which call it got.
 ghost use Rattle.std.specs.Prelude.{◌≡◌, ◌≤◌, [], ◌∷◌, length, IfOk};
 ghost use Rattle.filedisk.specs.Noted.{Size, Read, Write, Lengthen, SyncAll, SyncData, Lock, SyncFolder, call_of, outcome_of, told, done, gave};
 
 use crate::notes::{Answer, Asked, Note, Notes, Share};
-use std::fs::File;
+use std::fs::{File, OpenFile};
 use std::io;
 use std::os::unix::fs::FileExt;
 
 /// An open file of the system, with the calls that were made of it.
 #[derive(Drop)]
-pub(crate) struct NotedFile {
-    file: File,
+pub(crate) struct NotedFile<F> {
+    file: F,
     notes: Notes,
 }
 
@@ -25,9 +26,9 @@ pub(crate) fn as_done<'a>(answer: &io::Result<()>) -> Answer<'a>
     }
 }
 
-impl NotedFile {
+impl<F> NotedFile<F> {
     /// A file of which no call has been made.
-    pub(crate) fn new(file: File) -> NotedFile
+    pub(crate) fn new(file: F) -> NotedFile<F>
         ensures { result.notes.calls ≡ [] }
     {
         NotedFile {
@@ -40,6 +41,14 @@ impl NotedFile {
         ensures { self.new.notes.calls ≡ (call_of asked.entry, outcome_of answer.entry) ∷ self.old.notes.calls }
     {
         self.notes = self.notes.then(&Note { asked, answer });
+    }
+}
+
+impl<F: OpenFile> NotedFile<F> {
+    /// Whether it is a file: no folder, device or pipe. It asks of no content, and isn't noted.
+    pub(crate) fn is_file(&self) -> io::Result<bool> {
+        let metadata = self.file.metadata()?;
+        Ok(metadata.is_file())
     }
 
     /// The file's length.
@@ -57,33 +66,6 @@ impl NotedFile {
                 Err(error)
             }
         }
-    }
-
-    /// Reads once, at this offset.
-    pub(crate) fn read(&mut self, at: u64, into: &mut [u8]) -> io::Result<usize>
-        ensures bound { IfOk result (λ n. n ≤ length into.old) }
-        ensures noted { self.new.notes.calls ≡ (Read at (length into.old), gave into.new result) ∷ self.old.notes.calls }
-    {
-        let count = into.len();
-        let answer = self.file.read_at(into, at);
-        match answer {
-            Ok(given) => self.note(Asked::Read { at, count }, Answer::Gave(&into[..given])),
-            Err(error) => self.note(Asked::Read { at, count }, Answer::Failed(error.kind())),
-        }
-        answer
-    }
-
-    /// Writes once, at this offset.
-    pub(crate) fn write(&mut self, at: u64, bytes: &[u8]) -> io::Result<usize>
-        ensures bound { IfOk result (λ n. n ≤ length bytes.now) }
-        ensures noted { self.new.notes.calls ≡ (Write at bytes.now, told result) ∷ self.old.notes.calls }
-    {
-        let answer = self.file.write_at(bytes, at);
-        match answer {
-            Ok(count) => self.note(Asked::Write { at, bytes }, Answer::Told(count as u64)),
-            Err(error) => self.note(Asked::Write { at, bytes }, Answer::Failed(error.kind())),
-        }
-        answer
     }
 
     /// Makes the file so long.
@@ -113,6 +95,46 @@ impl NotedFile {
         answer
     }
 
+    /// Syncs the folder in which the file stands.
+    pub(crate) fn sync_folder(&mut self, folder: &F) -> io::Result<()>
+        ensures { self.new.notes.calls ≡ (SyncFolder, done result) ∷ self.old.notes.calls }
+    {
+        let answer = folder.sync_all();
+        self.note(Asked::SyncFolder, as_done(&answer));
+        answer
+    }
+}
+
+impl<F: FileExt> NotedFile<F> {
+    /// Reads once, at this offset.
+    pub(crate) fn read(&mut self, at: u64, into: &mut [u8]) -> io::Result<usize>
+        ensures bound { IfOk result (λ n. n ≤ length into.old) }
+        ensures noted { self.new.notes.calls ≡ (Read at (length into.old), gave into.new result) ∷ self.old.notes.calls }
+    {
+        let count = into.len();
+        let answer = self.file.read_at(into, at);
+        match answer {
+            Ok(given) => self.note(Asked::Read { at, count }, Answer::Gave(&into[..given])),
+            Err(error) => self.note(Asked::Read { at, count }, Answer::Failed(error.kind())),
+        }
+        answer
+    }
+
+    /// Writes once, at this offset.
+    pub(crate) fn write(&mut self, at: u64, bytes: &[u8]) -> io::Result<usize>
+        ensures bound { IfOk result (λ n. n ≤ length bytes.now) }
+        ensures noted { self.new.notes.calls ≡ (Write at bytes.now, told result) ∷ self.old.notes.calls }
+    {
+        let answer = self.file.write_at(bytes, at);
+        match answer {
+            Ok(count) => self.note(Asked::Write { at, bytes }, Answer::Told(count as u64)),
+            Err(error) => self.note(Asked::Write { at, bytes }, Answer::Failed(error.kind())),
+        }
+        answer
+    }
+}
+
+impl NotedFile<File> {
     /// Locks the file for this opening of it, until it is closed, and waits for nobody. Two openings, of one program or of two, don't
     /// lock it at once, but where both share it.
     pub(crate) fn lock(&mut self, share: Share) -> io::Result<()>
@@ -127,15 +149,6 @@ impl NotedFile {
             Err(error) => Err(io::Error::from(error)),
         };
         self.note(Asked::Lock(share), as_done(&answer));
-        answer
-    }
-
-    /// Syncs the folder in which the file stands.
-    pub(crate) fn sync_folder(&mut self, folder: &File) -> io::Result<()>
-        ensures { self.new.notes.calls ≡ (SyncFolder, done result) ∷ self.old.notes.calls }
-    {
-        let answer = folder.sync_all();
-        self.note(Asked::SyncFolder, as_done(&answer));
         answer
     }
 }

@@ -4,6 +4,7 @@ ghost use Rattle.filedisk.specs.Noted.{Size, Read, Write, Lengthen, SyncAll, Syn
 
 use crate::RawFile;
 use crate::system::NotedFile;
+use std::fs::File;
 use std::io;
 use std::io::ErrorKind;
 
@@ -13,7 +14,7 @@ use std::io::ErrorKind;
 /// length is as it was at a sync of all that tells of the file, a sync is one of the data.
 #[derive(Drop)]
 pub struct SystemFile {
-    file: NotedFile,
+    file: NotedFile<File>,
     sync_failed: bool,
     length_synced: bool,
     ghost failed: { sync_failed ≡ has_failed_sync file.notes.calls },
@@ -24,7 +25,7 @@ pub struct SystemFile {
 const MOST_TRIES: u32 = 1_000_000;
 
 /// Writes once, and again where a signal interrupts the call.
-fn write_uninterrupted(file: &mut NotedFile, at: u64, bytes: &[u8]) -> io::Result<usize>
+fn write_uninterrupted(file: &mut NotedFile<File>, at: u64, bytes: &[u8]) -> io::Result<usize>
     ensures bound { IfOk result (λ n. n ≤ length bytes.now) }
     ensures made { Makes (Write at bytes.now) (told result) file.old.notes.calls file.new.notes.calls }
 {
@@ -39,7 +40,7 @@ fn write_uninterrupted(file: &mut NotedFile, at: u64, bytes: &[u8]) -> io::Resul
 }
 
 /// Reads once, and again where a signal interrupts the call.
-fn read_uninterrupted(file: &mut NotedFile, at: u64, into: &mut [u8]) -> io::Result<usize>
+fn read_uninterrupted(file: &mut NotedFile<File>, at: u64, into: &mut [u8]) -> io::Result<usize>
     ensures bound { IfOk result (λ n. n ≤ length into.old) }
     ensures made { Makes (Read at (length into.old)) (gave into.new result) file.old.notes.calls file.new.notes.calls }
 {
@@ -57,7 +58,7 @@ impl SystemFile {
     ghost use Rattle.filedisk.specs.SystemFiles.{calls_made};
 
     /// A file of which these calls have been made, with no sync that failed.
-    pub(crate) fn new(file: NotedFile) -> SystemFile
+    pub(crate) fn new(file: NotedFile<File>) -> SystemFile
         requires { has_failed_sync (calls_made file) ≡ false }
         ensures { result.file.notes.calls ≡ calls_made file }
     {

@@ -1,11 +1,13 @@
 ghost use Rattle.std.specs.Prelude.{◌<◌, length};
 
+use crate::fakes::{Swapped, Syncs, Told};
 use crate::names::{folder_of, resolve};
 use crate::system::NotedFile;
 use crate::{FileDisk, MemFile, OpenError, RawFile, create_file, open_file, open_to_read};
 use disk::{Disk, DiskError, Pick};
 use std::fs::File;
 use std::io::ErrorKind;
+use std::os::fd::AsRawFd;
 use std::os::unix::fs::{FileExt, symlink};
 use std::path::Path;
 use std::process::Abort;
@@ -164,14 +166,79 @@ fn names_of_files(rt: HostRuntime) -> Result<(), Fail> {
     Ok(())
 }
 
-/// Each sync is made: the system refuses those of a device.
+/// Each sync is made, and of that very file or folder: the system refuses those of a device. Refused is a body that makes none, and one
+/// that syncs the file in place of the folder.
 #[test]
 fn syncs_reach_the_system(rt: HostRuntime) -> Result<(), Fail> {
-    let mut file = NotedFile::new(File::open(&rt, "/dev/null")?);
+    let folder = env::temp_dir(&rt)?;
+    let folder = File::open(&rt, folder.as_str())?;
     let device = File::open(&rt, "/dev/null")?;
-    assert!(rt; file.sync_all().is_err());
-    assert!(rt; file.sync_data().is_err());
+    let mut file = NotedFile::new(File::open(&rt, "/dev/null")?);
+    assert!(rt; file.sync_all().is_err() && file.sync_data().is_err());
+    assert!(rt; file.sync_folder(&folder).is_ok() && file.sync_folder(&device).is_err());
+    let mut file = NotedFile::new(folder);
+    assert!(rt; file.sync_all().is_ok() && file.sync_data().is_ok());
     assert!(rt; file.sync_folder(&device).is_err());
+    Ok(())
+}
+
+/// A sync of all that tells of the file is no sync of its data alone, nor of another file. Refused is a body that makes the one for the other.
+#[test]
+fn each_sync_is_its_own(rt: HostRuntime) {
+    let (file, folder) = (Syncs::new(), Syncs::new());
+    let mut noted = NotedFile::new(Told(&file));
+    assert!(rt; noted.sync_all().is_ok() && file.counts() == (1, 0));
+    assert!(rt; noted.sync_data().is_ok() && file.counts() == (1, 1));
+    assert!(rt; noted.sync_folder(&Told(&folder)).is_ok() && file.counts() == (1, 1));
+    assert!(rt; folder.counts() == (1, 0));
+}
+
+/// A new file and its folder are both synced, and looked at: where the system refuses one of these, the file that was made is removed. A file
+/// and a folder of the kernel's stand in, which refuse a sync. Refused is a body that syncs the one twice, or none, and one that leaves
+/// the file.
+#[test]
+fn a_new_file_that_is_refused(rt: HostRuntime) -> Result<(), Fail> {
+    let folder = env::temp_dir(&rt)?;
+    let id = process::id(rt.process());
+    let path = format!(in rt.alloc(); "{}/filedisk-new-{id}", folder.as_str())?;
+    let path = path.as_str();
+    let table = [
+        (path, "/proc/self/status", OpenError::NameNotSynced),
+        (folder.as_str(), "/proc/self/task", OpenError::NameNotSynced),
+        (path, "/proc/self/task", OpenError::NoFile),
+    ];
+    for (name, other, refused) in table {
+        let swapped = Swapped::new(&rt, name, other);
+        match create_file(&swapped, path) {
+            Ok(_) => assert!(rt; false, "{other}"),
+            Err(error) => assert!(rt; error == refused, "{other}"),
+        }
+        assert!(rt;
+            swapped.opened.get() > 0 && fs::metadata(&rt, path).is_err(),
+            "{other}"
+        );
+    }
+    Ok(())
+}
+
+/// What is no file is not opened at all. Refused is a body that opens it first: of a pipe that may wait for ever.
+#[test]
+fn what_is_no_file(rt: HostRuntime) -> Result<(), Fail> {
+    let folder = env::temp_dir(&rt)?;
+    let (reader, _writer) = io::pipe(&rt)?;
+    let pipe = format!(in rt.alloc(); "/proc/self/fd/{}", reader.as_raw_fd())?;
+    for path in [pipe.as_str(), folder.as_str(), "/dev/null"] {
+        let files = Swapped::new(&rt, "", "");
+        assert!(rt;
+            matches!(open_to_read(&files, path), Err(OpenError::NoFile)),
+            "{path}"
+        );
+        assert!(rt;
+            matches!(open_file(&files, path), Err(OpenError::NoFile)),
+            "{path}"
+        );
+        assert_eq!(rt; files.opened.get(), 0);
+    }
     Ok(())
 }
 

@@ -51,11 +51,11 @@ pub fn run_create<R: AllocGlobal + Files<File = File> + Print>(
     let mut writer = buffered_writer(rt.alloc(), io::writer(rt))?;
     let mut writer = CountedWriter::new(&mut writer);
     let NewFile { disk, made } = create_store_file(rt, store)?;
-    let (outcome, _locked) = create_store(rt.alloc(), disk, &network, journal_pages, &mut writer);
+    let (outcome, locked) = create_store(rt.alloc(), disk, &network, journal_pages, &mut writer);
     if let Some(made) = made
         && !is_store_made(&outcome)
     {
-        let _ = made.remove(rt);
+        let _ = made.remove(rt, &locked);
     }
     outcome?;
     Ok(Done { delta: None })

@@ -26,6 +26,24 @@ pub fn of_text<T>(which: u8, read: Result<T, Fault>) -> Result<T, Failed>
     }
 }
 
+/// A name in a fault line: what is no printable text in it is told escaped, as `\n` or `\u{1b}`, and the rest as it is.
+#[derive(Clone, Copy)]
+struct ToldName<'a> {
+    name: &'a str,
+}
+
+impl fmt::Display for ToldName<'_> {
+    fn fmt<W: fmt::Write>(&self, f: &mut fmt::Formatter<W>) -> fmt::Result {
+        for letter in self.name.chars() {
+            match letter {
+                '\\' | '\'' | '"' => write!(f, "{letter}")?,
+                _ => write!(f, "{}", letter.escape_debug())?,
+            }
+        }
+        Ok(())
+    }
+}
+
 /// A fault line of the program, which it displays as `roadmark: FILE: line L: CODE Name` or `roadmark: CODE Name`.
 #[derive(Clone, Copy, Debug)]
 pub struct FaultLine<'a> {
@@ -35,7 +53,7 @@ pub struct FaultLine<'a> {
 
 impl fmt::Display for FaultLine<'_> {
     fn fmt<W: fmt::Write>(&self, f: &mut fmt::Formatter<W>) -> fmt::Result {
-        let name = self.name;
+        let name = ToldName { name: self.name };
         match self.failed {
             Failed::Text { which: _, fault } => write!(f, "roadmark: {name}: {fault}"),
             Failed::Code(refusal) => write!(f, "roadmark: {refusal}"),

@@ -3,6 +3,8 @@ use dimacs::{Code, Fault};
 use machine::{Answer, Replied};
 use roadnet::Refusal;
 use rows::{Query, Reply};
+use std::io;
+use std::io::Write;
 use std::process::Abort;
 use std::test::Fail;
 
@@ -37,7 +39,58 @@ fn fault_lines_and_statuses(rt: HostRuntime) -> Result<(), Fail> {
         assert_eq!(rt; status(&outcome), 1);
     }
     assert_eq!(rt; status(&Ok(())), 0);
+    let names = [
+        ("no.gr\nroadmark: 42", "no.gr\\nroadmark: 42"),
+        ("\u{1b}[2J\r\t\u{0}\u{7f}", "\\u{1b}[2J\\r\\t\\0\\u{7f}"),
+        ("a b\\c'd\"e", "a b\\c'd\"e"),
+        (
+            "Stra\u{df}e.gr \u{8def}\u{202e}",
+            "Stra\u{df}e.gr \u{8def}\\u{202e}",
+        ),
+    ];
+    for (name, told) in names {
+        let line = fault_line(&Failed::Text { which: 0, fault }, name);
+        let want = format!(in rt.alloc(); "roadmark: {told}: line 3: 7 LengthRange")?;
+        assert!(rt; format!(in rt.alloc(); "{line}")? == want, "{told}");
+    }
     Ok(())
+}
+
+/// A writer that notes what its flushes send out.
+#[derive(Drop)]
+struct SendingWriter {
+    waiting: Vec<u8>,
+    sent: Vec<u8>,
+}
+
+impl Write for SendingWriter {
+    fn write(&mut self, buf: &[u8]) -> io::Result<usize> {
+        self.waiting.extend_from_slice(buf)?;
+        Ok(buf.len())
+    }
+
+    fn flush(&mut self) -> io::Result<()> {
+        self.sent.extend_from_slice(&self.waiting)?;
+        self.sent.push(b'|')?;
+        self.waiting.clear();
+        Ok(())
+    }
+}
+
+/// A flush of the counted writer is one of its writer. Refused is a body that makes none: what is written would not be sent out.
+#[test]
+fn what_is_flushed(rt: HostRuntime) {
+    let mut out = SendingWriter {
+        waiting: Vec::new(rt.alloc()),
+        sent: Vec::new(rt.alloc()),
+    };
+    let mut writer = CountedWriter::new(&mut out);
+    for line in [b"ok 1\n".as_slice(), b"v 1\n", b"no 22\n"] {
+        assert!(rt; writer.write_all(line) == Ok(()) && writer.flush() == Ok(()));
+    }
+    assert!(rt; writer.write_all(b"d 1 6 15\n") == Ok(()));
+    assert!(rt; out.sent.as_slice() == b"ok 1\n|v 1\n|no 22\n|".as_slice());
+    assert!(rt; out.waiting.as_slice() == b"d 1 6 15\n".as_slice());
 }
 
 #[test]

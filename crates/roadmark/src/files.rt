@@ -3,14 +3,16 @@ ghost use Rattle.std.specs.Prelude.{◌≡◌, [], IfOk, IfErr};
 ghost use Rattle.std.specs.Io.Buffered.{reader_inner, reader_buffer, writer_inner, writer_buffer};
 ghost use Rattle.roadmark.specs.Failures.{unopened, IsUnopened, IsFaultOrUnopened, IsFileUnmade};
 
+use crate::patient::Patient;
 use dimacs::{Code, Fault, read_gr};
 use filedisk::{FileDisk, NewFile, OpenError, SystemFile, create_file, open_file, open_to_read};
 use printing::Failed;
 use roadnet::Refusal;
 use std::alloc::Global;
 use std::fs::{self, File};
-use std::io::{BufReader, BufWriter, Read, Write};
+use std::io::{self, BufReader, BufWriter, Printer, Read, Write};
 use std::rt::Files;
+use std::time::Clock;
 
 /// The bytes that are read or written at once.
 const BUFFER: usize = 1 << 16;
@@ -40,6 +42,24 @@ pub fn buffered_writer<W: Write + Drop>(alloc: Global, writer: W) -> Result<BufW
         Ok(writer) => Ok(writer),
         Err(_) => Err(Failed::Code(Refusal::OutOfMemory)),
     }
+}
+
+/// The standard input, which is waited for.
+pub fn standard_input<R: AllocGlobal + Clock + Input>(
+    rt: &R,
+) -> Result<BufReader<Patient<'_, R, R::Reader>>, Failed>
+    ensures { IfErr result (λ failed. failed ≡ Failed.Code Refusal.OutOfMemory) }
+{
+    buffered(rt.alloc(), Patient::new(rt, rt.reader()))
+}
+
+/// The standard output, which is waited for.
+pub fn standard_output<R: AllocGlobal + Clock + Print>(
+    rt: &R,
+) -> Result<BufWriter<Patient<'_, R, Printer<'_, R>>>, Failed>
+    ensures { IfErr result (λ failed. failed ≡ Failed.Code Refusal.OutOfMemory) }
+{
+    buffered_writer(rt.alloc(), Patient::new(rt, io::writer(rt)))
 }
 
 /// What is told of a file that can't be opened: fault 10 of line 0.

@@ -4,30 +4,30 @@ ghost use Rattle.std.specs.Option.{ForSome};
 ghost use Rattle.rows.specs.Kept.{IsWidth};
 ghost use Rattle.roadmark.specs.Words.{IsJournal};
 
-use crate::files::{buffered, buffered_writer, open_text, open_texts};
+use crate::files::{open_text, open_texts, standard_input, standard_output};
 use dimacs::Counted;
 use printing::{CountedWriter, Done, Failed};
 use querytexts::{batch_counted, once_counted};
 use rehearsals::{joint_text, rehearse_counted};
-use std::io;
 use std::rt::Files;
 use std::thread::Threads;
+use std::time::Clock;
 
 /// The joint form on standard input.
-pub fn run_joint<R: AllocGlobal + Input + Print + Threads>(
+pub fn run_joint<R: AllocGlobal + Clock + Input + Print + Threads>(
     rt: &R,
     delta: Option<u32>,
 ) -> Result<Done, Failed>
     requires { ForSome delta IsWidth }
     ensures { IfOk result (λ done. done.delta ≡ delta) }
 {
-    let mut reader = buffered(rt.alloc(), rt.reader())?;
-    let mut writer = buffered_writer(rt.alloc(), io::writer(rt))?;
+    let mut reader = standard_input(rt)?;
+    let mut writer = standard_output(rt)?;
     joint_text(rt, rt.alloc(), &mut reader, delta, &mut writer)
 }
 
 /// One distance in the network of a file.
-pub fn run_once<R: AllocGlobal + Files + Print + Threads>(
+pub fn run_once<R: AllocGlobal + Clock + Files + Print + Threads>(
     rt: &R,
     network: &str,
     source: u64,
@@ -38,7 +38,7 @@ pub fn run_once<R: AllocGlobal + Files + Print + Threads>(
     ensures { IfOk result (λ done. done.delta ≡ delta) }
 {
     let mut reader = open_text(rt, 0, network)?;
-    let mut writer = buffered_writer(rt.alloc(), io::writer(rt))?;
+    let mut writer = standard_output(rt)?;
     let mut reader = Counted::new(&mut reader);
     let mut writer = CountedWriter::new(&mut writer);
     once_counted(
@@ -53,7 +53,7 @@ pub fn run_once<R: AllocGlobal + Files + Print + Threads>(
 }
 
 /// The pairs of a file in the network of another.
-pub fn run_batch<R: AllocGlobal + Files + Print + Threads>(
+pub fn run_batch<R: AllocGlobal + Clock + Files + Print + Threads>(
     rt: &R,
     network: &str,
     pairs: &str,
@@ -63,7 +63,7 @@ pub fn run_batch<R: AllocGlobal + Files + Print + Threads>(
     ensures { IfOk result (λ done. done.delta ≡ delta) }
 {
     let (mut gr, mut p2p) = open_texts(rt, network, pairs)?;
-    let mut writer = buffered_writer(rt.alloc(), io::writer(rt))?;
+    let mut writer = standard_output(rt)?;
     let mut gr = Counted::new(&mut gr);
     let mut p2p = Counted::new(&mut p2p);
     let mut writer = CountedWriter::new(&mut writer);
@@ -71,7 +71,7 @@ pub fn run_batch<R: AllocGlobal + Files + Print + Threads>(
 }
 
 /// The script of a file, on a store in memory for the network of another.
-pub fn run_rehearse<R: AllocGlobal + Files + Print + Threads>(
+pub fn run_rehearse<R: AllocGlobal + Clock + Files + Print + Threads>(
     rt: &R,
     network: &str,
     script: &str,
@@ -83,7 +83,7 @@ pub fn run_rehearse<R: AllocGlobal + Files + Print + Threads>(
     ensures width { IfOk result (λ done. done.delta ≡ delta) }
 {
     let (mut gr, mut script) = open_texts(rt, network, script)?;
-    let mut writer = buffered_writer(rt.alloc(), io::writer(rt))?;
+    let mut writer = standard_output(rt)?;
     let mut gr = Counted::new(&mut gr);
     let mut script = Counted::new(&mut script);
     let mut writer = CountedWriter::new(&mut writer);

@@ -19,6 +19,7 @@ ghost use Rattle.roadmark.specs.Words.{IsJournal, IsWorkers, delta_of, journal_o
 mod commands;
 mod files;
 mod jobs;
+mod patient;
 mod serve_jobs;
 mod store_jobs;
 mod streams;
@@ -40,9 +41,10 @@ use std::process::ExitCode;
 use std::rt::{Env, Files};
 use std::sync::Wait;
 use std::thread::Threads;
+use std::time::Clock;
 use store_jobs::{run_apply, run_ask, run_check, run_create};
 pub use storetexts::{apply_text, ask_text, check_text, create_text};
-use streams::hold_streams;
+use streams::{Streams, hold_streams};
 pub use words::{Job, MISUSE, Usage, read_words};
 
 #[cfg(test)]
@@ -58,7 +60,7 @@ mod tests;
 
 /// Does a job, with searches of the job's width. `threads` is the runtime of a desk's threads.
 fn run<
-    R: AllocGlobal + Files<File = File> + Input + Print + Threads,
+    R: AllocGlobal + Clock + Files<File = File> + Input + Print + Threads,
     T: Threads + Wait + Copy + Send + Sync + 'static,
 >(rt: &R, threads: T, job: &Job<'_>) -> Result<Done, Failed>
     requires width { ForSome (delta_of job.now) IsWidth }
@@ -197,17 +199,13 @@ fn without_words<R: Eprint>(rt: &R, error: &io::Error) -> u8
     }
 }
 
-/// Does what the program's words ask for, and gives the exit status: 0 where all was done, 1 after a fault, 2 where the words are not
-/// ones that it takes. The standard streams are held first. `threads` is the runtime of a desk's threads.
-fn program<
-    R: AllocGlobal + Env + Eprint + Files<File = File> + Input + Print + Threads,
+/// Does what the program's words ask for, and gives the exit status. The standard streams are lent for it, so they are held until it is done.
+fn do_words<
+    R: AllocGlobal + Clock + Env + Eprint + Files<File = File> + Input + Print + Threads,
     T: Threads + Wait + Copy + Send + Sync + 'static,
->(rt: &R, threads: T) -> u8
+>(rt: &R, threads: T, _held: &Streams) -> u8
     ensures { result ≤ 2 }
 {
-    let Ok(_streams) = hold_streams(rt) else {
-        return ended::<R, ()>(rt, &Err(Failed::Code(Refusal::Write)), "");
-    };
     let words = match env::args(rt) {
         Ok(words) => words,
         Err(error) => return without_words(rt, &error),
@@ -225,6 +223,20 @@ fn program<
         Err(failed) => text_name(&job, failed),
     };
     ended(rt, &outcome, name)
+}
+
+/// Takes the standard streams, does what the program's words ask for, and gives the exit status: 0 where all was done, 1 after a fault, 2
+/// where the words are not ones that it takes. `threads` is the runtime of a desk's threads.
+fn program<
+    R: AllocGlobal + Clock + Env + Eprint + Files<File = File> + Input + Print + Threads,
+    T: Threads + Wait + Copy + Send + Sync + 'static,
+>(rt: &R, threads: T) -> u8
+    ensures { result ≤ 2 }
+{
+    match hold_streams(rt) {
+        Ok(streams) => do_words(rt, threads, &streams),
+        Err(_) => ended::<R, ()>(rt, &Err(Failed::Code(Refusal::Write)), ""),
+    }
 }
 
 fn main(rt: HostRuntime) -> ExitCode {

@@ -15,7 +15,7 @@ ghost use Rattle.sessions.specs.Told.{CountsRead};
 ghost use Rattle.sessions.specs.Turns.{Serves, IsKept};
 ghost use Rattle.roadmark.specs.Words.{IsWorkers};
 
-use crate::files::{buffered, buffered_writer, open_store};
+use crate::files::{open_store, standard_input, standard_output};
 use desk::{Closed, Desk, History, Naming, NoGate, Setup};
 use dimacs::Counted;
 use disk::Disk;
@@ -24,11 +24,12 @@ use roadnet::Refusal;
 use sessions::serve;
 use std::alloc::Global;
 use std::fs::File;
-use std::io::{self, BufRead, Write};
+use std::io::{BufRead, Write};
 use std::marker::Brand;
 use std::rt::Files;
 use std::sync::Wait;
 use std::thread::Threads;
+use std::time::Clock;
 use store::{Store, open};
 
 /// A session over an opened store: what it came to, and what is left of its desk, which is closed after it however it ended.
@@ -117,7 +118,7 @@ fn serve_disk<
 
 /// A session over the store of a file, which nobody else has meanwhile.
 pub fn run_serve<
-    R: AllocGlobal + Files<File = File> + Input + Print,
+    R: AllocGlobal + Clock + Files<File = File> + Input + Print,
     T: Threads + Wait + Copy + Send + Sync + 'static,
 >(rt: &R, threads: T, store: &str, delta: Option<u32>, workers: u32) -> Result<Done, Failed>
     requires width { ForSome delta IsWidth }
@@ -125,8 +126,8 @@ pub fn run_serve<
     ensures { IfOk result (λ done. done.delta ≡ delta) }
 {
     let disk = open_store(rt, store)?;
-    let mut reader = buffered(rt.alloc(), rt.reader())?;
-    let mut writer = buffered_writer(rt.alloc(), io::writer(rt))?;
+    let mut reader = standard_input(rt)?;
+    let mut writer = standard_output(rt)?;
     let mut reader = Counted::new(&mut reader);
     let mut writer = CountedWriter::new(&mut writer);
     let setup = Setup { delta, workers };

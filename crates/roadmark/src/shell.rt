@@ -1,14 +1,51 @@
 //! A shell for tests: it gives a run of the program its words and its input, and keeps what the run prints and which files it opens.
 use std::alloc::{AllocError, Allocator, Global};
-use std::cell::RefCell;
+use std::cell::{Cell, RefCell};
 use std::env::FillError;
 use std::fmt::Display;
 use std::fs::{File, Metadata, OpenOptions};
 use std::io;
-use std::io::{ErrorKind, Lines};
+use std::io::{BufRead, ErrorKind, Lines, Read};
 use std::path::PathBuf;
 use std::rt::{Env, Files};
 use std::thread::Threads;
+use std::time::{Clock, Duration};
+
+/// A standard input, behind which a read fails or tells the end.
+#[derive(Drop)]
+pub struct Given<'a> {
+    bytes: &'a [u8],
+    fails: bool,
+    is_slow: bool,
+    // The next read would have to wait.
+    waits: bool,
+}
+
+impl<'a> Read for Given<'a> {
+    fn read(&mut self, buf: &mut [u8]) -> io::Result<usize> {
+        self.waits = self.is_slow && !self.waits;
+        if self.waits {
+            return Err(io::Error::from(ErrorKind::WouldBlock));
+        }
+        if self.fails && self.bytes.is_empty() {
+            return Err(io::Error::from(ErrorKind::BrokenPipe));
+        }
+        self.bytes.read(buf)
+    }
+}
+
+impl<'a> BufRead for Given<'a> {
+    fn fill_buf(&mut self) -> io::Result<&[u8]> {
+        if self.fails && self.bytes.is_empty() {
+            return Err(io::Error::from(ErrorKind::BrokenPipe));
+        }
+        Ok(self.bytes)
+    }
+
+    fn consume(&mut self, amount: usize) {
+        self.bytes.consume(amount);
+    }
+}
 
 /// A run's words, input and output, over the files of a runtime.
 #[derive(Drop)]
@@ -20,6 +57,14 @@ pub struct Shell<'a, R> {
     words: &'a str,
     /// The standard input.
     pub input: &'a [u8],
+    /// The read fails that comes behind the input.
+    pub input_fails: bool,
+    /// Each second read of the input, and each second write to the standard output, would have to wait.
+    pub is_slow: bool,
+    // The next write would have to wait.
+    waits: Cell<bool>,
+    /// How often it was slept.
+    pub rests: Cell<usize>,
     /// The standard output.
     pub out: RefCell<String>,
     /// How many bytes each write to the standard output had.
@@ -45,6 +90,10 @@ impl<'a, R: AllocGlobal> Shell<'a, R> {
             folder,
             words,
             input: &[],
+            input_fails: false,
+            is_slow: false,
+            waits: Cell::new(false),
+            rests: Cell::new(0),
             out: RefCell::new(String::new(rt.alloc())),
             writes: RefCell::new(Vec::new(rt.alloc())),
             err: RefCell::new(String::new(rt.alloc())),
@@ -99,6 +148,20 @@ impl<'a, R: AllocGlobal> Alloc for Shell<'a, R> {
 
 impl<'a, R: Threads> Threads for Shell<'a, R> {}
 
+impl<'a, R> Clock for Shell<'a, R> {
+    fn monotonic(&self) -> io::Result<Duration> {
+        Err(io::Error::from(ErrorKind::Unsupported))
+    }
+
+    fn since_1970(&self) -> io::Result<Duration> {
+        Err(io::Error::from(ErrorKind::Unsupported))
+    }
+
+    fn sleep(&self, _duration: Duration) {
+        self.rests.set(self.rests.get().saturating_add(1));
+    }
+}
+
 impl<'a, R: AllocGlobal> Print for Shell<'a, R> {
     fn print<D: Display + Drop>(&self, value: D) -> io::Result<()> {
         let text = format!(in self.rt.alloc(); "{value}")?;
@@ -114,6 +177,10 @@ impl<'a, R: AllocGlobal> Print for Shell<'a, R> {
         let Ok(mut writes) = self.writes.try_borrow_mut() else {
             return Err(io::Error::from(ErrorKind::Other));
         };
+        self.waits.set(self.is_slow && !self.waits.get());
+        if self.waits.get() {
+            return Err(io::Error::from(ErrorKind::WouldBlock));
+        }
         writes.push(bytes.len())?;
         if writes.len() == self.fails_at {
             return Err(io::Error::from(ErrorKind::BrokenPipe));
@@ -138,18 +205,23 @@ impl<'a, R: AllocGlobal> Eprint for Shell<'a, R> {
 }
 
 impl<'a, R> Input for Shell<'a, R> {
-    type Reader = &'a [u8];
+    type Reader = Given<'a>;
 
     fn read_line<A: Allocator + Clone>(&self, _buf: &mut String<A>) -> io::Result<usize> {
         Err(io::Error::from(ErrorKind::Unsupported))
     }
 
-    fn lines<A: Allocator>(&self, alloc: A) -> Lines<&'a [u8], A> {
-        io::BufRead::lines(self.input, alloc)
+    fn lines<A: Allocator>(&self, alloc: A) -> Lines<Given<'a>, A> {
+        BufRead::lines(self.reader(), alloc)
     }
 
-    fn reader(&self) -> &'a [u8] {
-        self.input
+    fn reader(&self) -> Given<'a> {
+        Given {
+            bytes: self.input,
+            fails: self.input_fails,
+            is_slow: self.is_slow,
+            waits: false,
+        }
     }
 }
 

@@ -7,7 +7,7 @@ ghost use Rattle.roadmark.specs.Failures.{IsStoreMade, IsToldAfterOpening};
 ghost use Rattle.roadmark.specs.Words.{IsJournal};
 
 use crate::files::{
-    buffered_writer, create_store_file, open_store, open_store_to_read, open_text, open_texts,
+    create_store_file, open_store, open_store_to_read, open_text, open_texts, standard_output,
 };
 use dimacs::Counted;
 use disk::Disk;
@@ -16,9 +16,9 @@ use printing::{CountedWriter, Done, Failed};
 use roadnet::Refusal;
 use std::alloc::Global;
 use std::fs::File;
-use std::io;
 use std::rt::Files;
 use std::thread::Threads;
+use std::time::Clock;
 use store::open;
 use storetexts::{apply_counted, ask_counted, check_counted, create_store, read_planned};
 
@@ -34,7 +34,7 @@ fn is_store_made(outcome: &Result<(), Failed>) -> bool
 
 /// A new store in a file, for the network of another with the landmarks of a third. Both texts are read whole before the store's file is
 /// opened or made. A file that was made and holds no store in the end is removed, while it is still locked.
-pub fn run_create<R: AllocGlobal + Files<File = File> + Print>(
+pub fn run_create<R: AllocGlobal + Clock + Files<File = File> + Print>(
     rt: &R,
     store: &str,
     network: &str,
@@ -48,7 +48,7 @@ pub fn run_create<R: AllocGlobal + Files<File = File> + Print>(
     let mut gr = Counted::new(&mut gr);
     let mut ss = Counted::new(&mut ss);
     let network = read_planned(rt.alloc(), &mut gr, &mut ss)?;
-    let mut writer = buffered_writer(rt.alloc(), io::writer(rt))?;
+    let mut writer = standard_output(rt)?;
     let mut writer = CountedWriter::new(&mut writer);
     let NewFile { disk, made } = create_store_file(rt, store)?;
     let (outcome, locked) = create_store(rt.alloc(), disk, &network, journal_pages, &mut writer);
@@ -73,7 +73,7 @@ fn after_opening<D: Disk + Drop>(alloc: Global, disk: D, failed: Failed) -> Fail
 
 /// The commands of a file, on the store of another. A fault of the store is told before one of the commands. No row is computed, so the
 /// width is one that nothing searches by.
-pub fn run_apply<R: AllocGlobal + Files<File = File> + Print>(
+pub fn run_apply<R: AllocGlobal + Clock + Files<File = File> + Print>(
     rt: &R,
     store: &str,
     commands: &str,
@@ -87,7 +87,7 @@ pub fn run_apply<R: AllocGlobal + Files<File = File> + Print>(
         Ok(commands) => commands,
         Err(failed) => return Err(after_opening(rt.alloc(), disk, failed)),
     };
-    let mut writer = buffered_writer(rt.alloc(), io::writer(rt))?;
+    let mut writer = standard_output(rt)?;
     let mut commands = Counted::new(&mut commands);
     let mut writer = CountedWriter::new(&mut writer);
     let (outcome, _disk) = apply_counted(rt.alloc(), disk, &mut commands, &mut writer);
@@ -97,7 +97,7 @@ pub fn run_apply<R: AllocGlobal + Files<File = File> + Print>(
 
 /// The pairs of a file in the network of a store, which is read alone and stays as it is. A fault of the store is told before one of the
 /// pairs.
-pub fn run_ask<R: AllocGlobal + Files<File = File> + Print + Threads>(
+pub fn run_ask<R: AllocGlobal + Clock + Files<File = File> + Print + Threads>(
     rt: &R,
     store: &str,
     pairs: &str,
@@ -111,7 +111,7 @@ pub fn run_ask<R: AllocGlobal + Files<File = File> + Print + Threads>(
         Ok(p2p) => p2p,
         Err(failed) => return Err(after_opening(rt.alloc(), disk, failed)),
     };
-    let mut writer = buffered_writer(rt.alloc(), io::writer(rt))?;
+    let mut writer = standard_output(rt)?;
     let mut p2p = Counted::new(&mut p2p);
     let mut writer = CountedWriter::new(&mut writer);
     let (outcome, _disk) = ask_counted(rt, rt.alloc(), disk, &mut p2p, delta, &mut writer);
@@ -119,14 +119,14 @@ pub fn run_ask<R: AllocGlobal + Files<File = File> + Print + Threads>(
 }
 
 /// How the store of a file stands. The file is read alone and stays as it is.
-pub fn run_check<R: AllocGlobal + Files<File = File> + Print>(
+pub fn run_check<R: AllocGlobal + Clock + Files<File = File> + Print>(
     rt: &R,
     store: &str,
 ) -> Result<Done, Failed>
     ensures { IfOk result (λ done. done.delta ≡ None) }
 {
     let disk = open_store_to_read(rt, store)?;
-    let mut writer = buffered_writer(rt.alloc(), io::writer(rt))?;
+    let mut writer = standard_output(rt)?;
     let mut writer = CountedWriter::new(&mut writer);
     let (outcome, _disk) = check_counted(rt.alloc(), disk, &mut writer);
     outcome?;

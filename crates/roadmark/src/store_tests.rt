@@ -160,6 +160,31 @@ fn lines_page_by_page(rt: HostRuntime) -> Result<(), Fail> {
 /// How many commands a long session has.
 const COMMANDS: u32 = 1000;
 
+/// A session waits for streams that don't wait by themselves, as those with `O_NONBLOCK`, and goes on: refused is a body that ends it with 10 or
+/// 12. One whose input fails ends with 10 and status 1: refused is a body that takes it for the end of the input.
+#[test]
+fn streams_of_a_session(rt: HostRuntime) -> Result<(), Fail> {
+    let id = process::id(rt.process());
+    let name = format!(in rt.alloc(); "roadmark-streams-{id}")?;
+    let folder = new_folder(&rt, name.as_str())?;
+    is_done(&rt, folder.as_str(), CREATE, "ok 0\n");
+    let mut slow = Shell::new(&rt, folder.as_str(), SERVE)?;
+    slow.input = b"close 7\nwait\ndist 1 6\n";
+    slow.is_slow = true;
+    assert!(rt; program(&slow, rt) == 0 && is_kept(&slow.err, ""));
+    assert!(rt; is_kept(&slow.out, "ok 1\nv 1\nv 1\nd 1 6 22\n"));
+    // One rest for each of two reads, the second of which tells the end, and one for each of three answers.
+    assert_eq!(rt; slow.rests.get(), 5);
+    let mut unread = Shell::new(&rt, folder.as_str(), SERVE)?;
+    unread.input = b"set 8 5\nclose";
+    unread.input_fails = true;
+    assert!(rt; program(&unread, rt) == 1 && is_kept(&unread.err, "roadmark: 10 Read\n"));
+    assert!(rt; is_kept(&unread.out, "ok 2\n"));
+    is_done(&rt, folder.as_str(), ASK, "v 2\nd 1 6 15\nx 6 1\n");
+    fs::remove_dir_all(&rt, folder.as_str())?;
+    Ok(())
+}
+
 /// A session of a thousand commands over a file, each answer in a write of its own; its store is asked behind it. One whose output fails
 /// ends with 12, and its command is there.
 #[test]

@@ -6,7 +6,7 @@ use std::rt::Files;
 /// A file that reads as empty and that, opened for reading alone, refuses each write.
 const NULL: &str = "/dev/null";
 
-/// The null device, opened as often as there are standard streams.
+/// The null device, opened as often as there are standard streams. Whatever opens a file does so while these are lent to it.
 #[derive(Drop)]
 pub struct Streams {
     _files: [File; 3],

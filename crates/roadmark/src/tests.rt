@@ -131,6 +131,7 @@ fn each_word_is_its_job(rt: HostRuntime) -> Result<(), Fail> {
     Ok(())
 }
 
+/// Refused are bodies that give a word an option that is another's.
 #[test]
 fn misuses_of_words(rt: HostRuntime) -> Result<(), Fail> {
     let table = [
@@ -162,6 +163,20 @@ fn misuses_of_words(rt: HostRuntime) -> Result<(), Fail> {
         "roadmark check",
         "roadmark check s t",
         "roadmark check s --delta 3",
+        "roadmark --journal 3",
+        "roadmark once a.gr 1 2 --journal 3",
+        "roadmark batch a.gr b.p2p --journal 3",
+        "roadmark ask s b.p2p --journal 3",
+        "roadmark check s --journal 3",
+        "roadmark serve s --journal 3",
+        "roadmark --workers 2",
+        "roadmark once a.gr 1 2 --workers 2",
+        "roadmark batch a.gr b.p2p --workers 2",
+        "roadmark rehearse a.gr c --workers 2",
+        "roadmark create s a.gr b.ss --workers 2",
+        "roadmark apply s d --workers 2",
+        "roadmark ask s b.p2p --workers 2",
+        "roadmark check s --workers 2",
     ];
     for words in table {
         let usage = usage_of(&rt, words)?;

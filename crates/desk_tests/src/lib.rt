@@ -1,4 +1,4 @@
-//! Tests of published views, the office and the desk by their public calls.
+//! Tests of the desk by its public calls.
 #![tactic(auto)]
 
 #[cfg(test)]
@@ -15,7 +15,3 @@ mod holding;
 mod keeping;
 #[cfg(test)]
 mod limits;
-#[cfg(test)]
-mod offices;
-#[cfg(test)]
-mod publishing;

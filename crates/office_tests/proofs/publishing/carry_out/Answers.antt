@@ -5,7 +5,7 @@ use Rattle.roadnet.specs.Net.{Net}
 use Rattle.roadnet.specs.Step.{step, after}
 use Rattle.roadnet.specs.declared.commands.Command.{Command}
 use Rattle.roadnet.proofs.Stepped.{after_both}
-use Rattle.desk_tests.proofs.publishing.carry_out.Goals as goal
+use Rattle.office_tests.proofs.publishing.carry_out.Goals as goal
 
 -- a command that was carried out, and was written or not
 written : (done : Bool) (old new : Beginning) (net next : Net) (command : Command) → after old.origin.base old.commands ≡ Some net → step net command ≡ Some next

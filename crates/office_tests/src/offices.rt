@@ -2,7 +2,7 @@ ghost use Rattle.std.specs.Prelude.{◌≡◌, [], true, IfOk};
 ghost use Rattle.store.specs.State.{CameTidy, is_calm};
 ghost use Rattle.machine.specs.Laws.{IsAt};
 
-use crate::desks::network;
+use crate::networks::one_arc;
 use disk::{Disk, MemDisk};
 use history::{Claim, History, Settled};
 use office::{Naming, Office};
@@ -127,7 +127,7 @@ fn round<N: Naming, D: Disk + Drop, R: Threads + Wait>(
 #[test]
 fn commands_are_read_back(rt: HostRuntime) -> Result<(), Fail> {
     let alloc = rt.alloc();
-    let network = network(alloc, 2, &[(1, 2, 5)], &[]).map_err(|_| Fail::from("a network"))?;
+    let network = one_arc(alloc).map_err(|_| Fail::from("a network"))?;
     let Ok(store) = create(alloc, MemDisk::new(alloc), &network, 4) else {
         return Err(Fail::from("a store"));
     };

@@ -3,7 +3,7 @@ ghost use Rattle.roadnet.specs.Step.{after};
 ghost use Rattle.published.specs.Rules.{Follows};
 ghost use Rattle.published.specs.Showing.{Showing};
 
-use crate::desks::network;
+use crate::networks::one_arc;
 use history::{Front, History};
 use published::{Published, Publisher, Reader};
 use relax::Solo;
@@ -51,7 +51,7 @@ fn carry_out(history: &mut History, network: &mut Network, command: Command) -> 
 fn three(alloc: Global) -> Result<(Published, Published, Published), Refusal>
     ensures { IfOk result (λ views. Follows (Some views.0.shown) views.1.shown × Follows (Some views.0.shown) views.2.shown × Follows (Some views.1.shown) views.2.shown) }
 {
-    let mut network = network(alloc, 2, &[(1, 2, 5)], &[])?;
+    let mut network = one_arc(alloc)?;
     let mut history = History::new(&network, 7);
     let first = shown_after(alloc, 7, &network, history.front(0))?;
     if !carry_out(&mut history, &mut network, CLOSE) {

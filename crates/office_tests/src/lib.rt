@@ -1,0 +1,9 @@
+//! Tests of published views and of the office by their public calls.
+#![tactic(auto)]
+
+#[cfg(test)]
+mod networks;
+#[cfg(test)]
+mod offices;
+#[cfg(test)]
+mod publishing;

@@ -1,4 +1,4 @@
-ghost use Rattle.std.specs.Prelude.{◌≡◌, IfOk, IsOk, IsSome};
+ghost use Rattle.std.specs.Prelude.{◌≡◌, [], IfOk, IsOk, IsSome};
 ghost use Rattle.rows.specs.declared.queries.Query.TheVariants.{Dist, From, Lower};
 ghost use Rattle.rows.specs.Replies.{refusal_of, IsRight};
 ghost use Rattle.rows.specs.Views.{AreRight};
@@ -71,6 +71,8 @@ impl<'a, N: Naming> Pinned<'a, N> {
         pairs: &[(u64, u64)],
     ) -> Result<Vec<Reply>, OutOfMemory>
         ensures right { IfOk result (λ replies. AreRight self.old.reader.now.view.network pairs.now replies.items) }
+        // No pair takes no memory.
+        ensures empty { pairs.now ≡ [] → IsOk result }
         ensures view { self.new.reader.now ≡ self.old.reader.now }
         ensures same { self.new.reader.ghost_name ≡ self.old.reader.ghost_name }
     {

@@ -1,4 +1,4 @@
-ghost use Rattle.std.specs.Prelude.{◌≡◌, ◌⊎◌, OnErr, IfOk, IfErr, IsOk, IsSome};
+ghost use Rattle.std.specs.Prelude.{◌≡◌, ◌⊎◌, [], OnErr, IfOk, IfErr, IsOk, IsSome};
 ghost use mathlib.Core.List.{IsPrefix};
 ghost use Rattle.rows.specs.declared.queries.Query.TheVariants.{Dist};
 ghost use Rattle.rows.specs.Replies.{refusal_of, IsRight};
@@ -143,6 +143,7 @@ impl<N: Naming> Reader<N> {
         pairs: &[(u64, u64)],
     ) -> Result<Vec<Reply>, OutOfMemory>
         ensures right { IfOk result (λ replies. AreRight self.old.view.network pairs.now replies.items) }
+        ensures empty { pairs.now ≡ [] → IsOk result }
         ensures same { self.new ≡ self.old }
     {
         self.sight.batch(rt, alloc, pairs)

@@ -1,5 +1,5 @@
 // The view that a reader looked at last, with the rows that its queries made.
-ghost use Rattle.std.specs.Prelude.{◌≡◌, IfOk, IsOk, IsSome};
+ghost use Rattle.std.specs.Prelude.{◌≡◌, [], IfOk, IsOk, IsSome};
 ghost use Rattle.rows.specs.declared.queries.Query.TheVariants.{Dist, From, Lower};
 ghost use Rattle.rows.specs.Replies.{refusal_of, IsRight};
 ghost use Rattle.rows.specs.Views.{AreRight};
@@ -21,13 +21,14 @@ pub(crate) struct Sight {
 
 impl Model for Sight {
     ghost use Rattle.rows.specs.Views.{Viewed};
-    ghost use Rattle.rows.specs.Cached.{HasRowsOf};
+    ghost use Rattle.std.specs.Prelude.{◌≡◌};
+    ghost use Rattle.rows.specs.Cached.{capacity_of, HasRowsOf};
 
     ghost Value = { Viewed };
 
     ghost view = { λ s. s.view.value };
 
-    ghost invariant = { λ s. HasRowsOf s.view.value.version s.view.value.network s.cache };
+    ghost invariant = { λ s. HasRowsOf s.view.value.version s.view.value.network s.cache × (capacity_of s.cache ≡ 16) };
 }
 
 impl Sight {
@@ -84,6 +85,7 @@ impl Sight {
         pairs: &[(u64, u64)],
     ) -> Result<Vec<Reply>, OutOfMemory>
         ensures right { IfOk result (λ replies. AreRight self.old.network pairs.now replies.items) }
+        ensures empty { pairs.now ≡ [] → IsOk result }
         ensures same { self.new ≡ self.old }
     {
         let mut pinned = self.view.pinned(&mut self.cache);

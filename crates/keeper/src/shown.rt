@@ -20,13 +20,14 @@ pub(crate) struct Shown {
 
 impl Model for Shown {
     ghost use Rattle.rows.specs.Views.{Viewed};
-    ghost use Rattle.rows.specs.Cached.{HasRowsOf};
+    ghost use Rattle.std.specs.Prelude.{◌≡◌};
+    ghost use Rattle.rows.specs.Cached.{capacity_of, HasRowsOf};
 
     ghost Value = { Viewed };
 
     ghost view = { λ s. s.view.value };
 
-    ghost invariant = { λ s. HasRowsOf s.view.value.version s.view.value.network s.cache };
+    ghost invariant = { λ s. HasRowsOf s.view.value.version s.view.value.network s.cache × (capacity_of s.cache ≡ 16) };
 }
 
 impl Shown {

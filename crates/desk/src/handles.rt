@@ -87,7 +87,7 @@ impl<N: Naming, D: Disk + Drop, G: Gate + Drop, R: Wait + Copy> Handle<N, D, G, 
 impl<N: Naming, D: Disk + Drop, G: Gate + Drop, R: Threads + Wait + Copy> Handle<N, D, G, R> {
     /// Halts the desk, waits for its threads, and closes the office that they have left.
     ///
-    /// Refused (61) is an office that is still shared, and a history that was closed by another; neither comes.
+    /// Refused (61) is an office that is still shared, which never comes.
     pub(crate) fn close(self, threads: Started) -> Result<Closed<D>, Refusal>
         ensures origin { IfOk result (λ closed. closed.whole.origin ≡ N.origin) }
         ensures causes { IfErr result (λ refusal. refusal ≡ closed) }
@@ -106,6 +106,6 @@ impl<N: Naming, D: Disk + Drop, G: Gate + Drop, R: Threads + Wait + Copy> Handle
         let Some(shared) = Arc::into_inner(shared) else {
             return Err(Refusal::Closed);
         };
-        shared.into_office().close(&rt)
+        Ok(shared.into_office().close(&rt))
     }
 }

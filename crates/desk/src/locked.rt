@@ -131,6 +131,7 @@ impl<N: Naming, D: Disk> Locked<Office<N, D>> {
         requires { ticket.origin ≡ N.origin }
         ensures receipt { IfOk result (λ receipt. receipt ≡ ticket) }
         ensures durable { OnOk result (ticket.ticket.number ≤ self.old.office.machine.durable) }
+        ensures served { ticket.ticket.number ≤ self.old.office.machine.durable → IsOk result }
         ensures refused { IfErr result (λ refused. refused.0 ≢ closed → (refused.0 ≡ broken) × (self.old.office.machine.broken ≡ true)) }
         ensures ended { IfErr result (λ refused. refused.0 ≡ closed → is_lost self.old.office.machine ticket.ticket.number ≡ false) }
         ensures handed_back { IfErr result (λ refused. refused.1 ≡ ticket) }

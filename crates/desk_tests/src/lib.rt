@@ -14,4 +14,6 @@ mod holding;
 #[cfg(test)]
 mod keeping;
 #[cfg(test)]
+mod lasting;
+#[cfg(test)]
 mod limits;

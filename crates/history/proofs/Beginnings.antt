@@ -4,12 +4,11 @@ use Rattle.std.specs.Prelude.{MatchBool, slice_get}
 use Rattle.std.proofs.lemmas.Bool.{leb-true, leb-false}
 use Rattle.std.proofs.lemmas.List.{append-nil}
 use mathlib.Core.List.{IsPrefix}
-use Rattle.logbook.specs.Pages.{Book}
 use Rattle.history.specs.declared.entries.Entry.{Entry}
 use Rattle.history.specs.declared.entries.Entry.TheVariants.{Opened, Accepted, Acknowledged, Closed}
 use Rattle.history.specs.Entries.{accepted, acknowledged, is_endless, is_legal, IsBegun, IsOpen, IsClosed, origin_of, beginning}
 use Rattle.history.specs.Written.{counted, with_entry}
-use Rattle.history.specs.Origins.{Beginning}
+use Rattle.history.specs.Origins.{Name, Beginning}
 use Rattle.history.specs.Claims.{EndsWith, IsAcknowledgedIn}
 use Rattle.machine.specs.declared.calls.Ticket.{Ticket}
 use Rattle.machine.specs.Laws.{IsAt}
@@ -55,6 +54,9 @@ accepted_both (Accepted c ∷ xs) ys = ap (λ cs. c ∷ cs) (accepted_both xs ys
 accepted_both (Acknowledged n ∷ xs) ys = accepted_both xs ys
 accepted_both (Closed ∷ xs) ys = accepted_both xs ys
 
+pub open_endless : (log : List Entry) → IsOpen log → is_endless log ≡ true
+open_endless log o = subst (λ (l : List Entry). is_endless l ≡ true) (sym o.log_is) o.endless
+
 -- what begins with more entries has more commands
 pub accepted_prefix : (xs ys : List Entry) → IsPrefix xs ys → IsPrefix (accepted xs) (accepted ys)
 accepted_prefix xs ys p = (accepted p.0, sym (accepted_both xs p.0) ∙ ap accepted p.1)
@@ -99,10 +101,6 @@ closed_whole xs ys closed p legal =
     let none : p.0 ≡ [] = closed_last closed.unended.rest p.0 closed.unended.endless (subst (λ (l : List Entry). is_legal (l ++ p.0) ≡ true) is (subst (λ (l : List Entry). is_legal l ≡ true) (sym p.1) legal)) in
     sym (append-nil xs) ∙ (ap (λ (m : List Entry). xs ++ m) (sym none) ∙ p.1)
 
--- one entry more than behind the first
-pub length_open : (log : List Entry) → IsOpen log → length log ≡ length (drop 1 log) + 1
-length_open log o = omega (arith, ap length o.log_is, ap (λ (l : List Entry). length (drop 1 l)) o.log_is)
-
 endless_both : (xs ys : List Entry) → is_endless xs ≡ true → is_endless ys ≡ true → is_endless (xs ++ ys) ≡ true
 endless_both [] ys h k = k
 endless_both (Opened b ∷ xs) ys h k = endless_both xs ys h k
@@ -114,34 +112,30 @@ pub open_more : (log : List Entry) (e : Entry) → is_endless (e ∷ []) ≡ tru
 open_more log e h o =
     record { base = o.base; rest = o.rest ++ e ∷ []; log_is = ap (λ l. l ++ e ∷ []) o.log_is; endless = endless_both o.rest (e ∷ []) o.endless h }
 
-pub length_more : (log : List Entry) (e : Entry) → IsOpen log → length (drop 1 (log ++ e ∷ [])) ≡ length (drop 1 log) + 1
-length_more log e o =
-    omega (arith, ap (λ (l : List Entry). length (drop 1 l)) o.log_is, ap (λ (l : List Entry). length (drop 1 (l ++ e ∷ []))) o.log_is, length-append o.rest (e ∷ []))
-
 pub closed_end : (log : List Entry) → IsOpen log → IsClosed (log ++ Closed ∷ [])
 closed_end log o = record { before = log; unended = o; log_is = refl }
 
 -- a longer log is of the same desk
-pub origin_more : (book : Book) (log more : List Entry) → IsOpen log → origin_of book (log ++ more) ≡ origin_of book log
-origin_more book log more o =
-    ap (λ (l : List Entry). origin_of book (l ++ more)) o.log_is ∙ sym (ap (λ (l : List Entry). origin_of book l) o.log_is)
+pub origin_more : (name : Name) (log more : List Entry) → IsOpen log → origin_of name (log ++ more) ≡ origin_of name log
+origin_more name log more o =
+    ap (λ (l : List Entry). origin_of name (l ++ more)) o.log_is ∙ sym (ap (λ (l : List Entry). origin_of name l) o.log_is)
 
 -- a log with an entry more
-pub beginning_more : (book : Book) (log : List Entry) (e : Entry) → IsOpen log → beginning book (log ++ e ∷ []) ≡ with_entry (beginning book log) e
-beginning_more book log (Opened b) o =
-    let origin = origin_more book log (Opened b ∷ []) o in let commands = accepted_both log (Opened b ∷ []) ∙ append-nil (accepted log) in
+pub beginning_more : (name : Name) (log : List Entry) (e : Entry) → IsOpen log → beginning name (log ++ e ∷ []) ≡ with_entry (beginning name log) e
+beginning_more name log (Opened b) o =
+    let origin = origin_more name log (Opened b ∷ []) o in let commands = accepted_both log (Opened b ∷ []) ∙ append-nil (accepted log) in
     let told : acknowledged (log ++ Opened b ∷ []) ≡ acknowledged log = omega (arith, acknowledged_both log (Opened b ∷ [])) in
     λ i. record { origin = origin i; commands = commands i; acknowledged = told i }
-beginning_more book log (Accepted c) o =
-    let origin = origin_more book log (Accepted c ∷ []) o in let commands = accepted_both log (Accepted c ∷ []) in
+beginning_more name log (Accepted c) o =
+    let origin = origin_more name log (Accepted c ∷ []) o in let commands = accepted_both log (Accepted c ∷ []) in
     let told : acknowledged (log ++ Accepted c ∷ []) ≡ acknowledged log = omega (arith, acknowledged_both log (Accepted c ∷ [])) in
     λ i. record { origin = origin i; commands = commands i; acknowledged = told i }
-beginning_more book log (Acknowledged n) o =
-    let origin = origin_more book log (Acknowledged n ∷ []) o in let commands = accepted_both log (Acknowledged n ∷ []) ∙ append-nil (accepted log) in
+beginning_more name log (Acknowledged n) o =
+    let origin = origin_more name log (Acknowledged n ∷ []) o in let commands = accepted_both log (Acknowledged n ∷ []) ∙ append-nil (accepted log) in
     let told : acknowledged (log ++ Acknowledged n ∷ []) ≡ max (acknowledged log) n = omega (arith, acknowledged_both log (Acknowledged n ∷ [])) in
     λ i. record { origin = origin i; commands = commands i; acknowledged = told i }
-beginning_more book log Closed o =
-    let origin = origin_more book log (Closed ∷ []) o in let commands = accepted_both log (Closed ∷ []) ∙ append-nil (accepted log) in
+beginning_more name log Closed o =
+    let origin = origin_more name log (Closed ∷ []) o in let commands = accepted_both log (Closed ∷ []) ∙ append-nil (accepted log) in
     let told : acknowledged (log ++ Closed ∷ []) ≡ acknowledged log = omega (arith, acknowledged_both log (Closed ∷ [])) in
     λ i. record { origin = origin i; commands = commands i; acknowledged = told i }
 
@@ -236,6 +230,12 @@ begun log o = record { base = o.base; rest = o.rest; log_is = o.log_is }
 
 pub begun_more : (a both : List Entry) → IsPrefix a both → IsBegun a → IsBegun both
 begun_more a both p b = record { base = b.base; rest = b.rest ++ p.0; log_is = sym p.1 ∙ ap (λ (l : List Entry). l ++ p.0) b.log_is }
+
+-- a longer log is of the same desk
+pub origin_begun : (name other : Name) (a both : List Entry) → name ≡ other → IsPrefix a both → IsBegun a → origin_of name both ≡ origin_of other a
+origin_begun name other a both same p b =
+    ap (λ (n : Name). origin_of n both) same ∙ (ap (λ (l : List Entry). origin_of other l) (sym p.1)
+    ∙ (ap (λ (l : List Entry). origin_of other (l ++ p.0)) b.log_is ∙ sym (ap (λ (l : List Entry). origin_of other l) b.log_is)))
 
 -- a longer log has the commands of each that begins it
 pub fits_longer : (a both : List Entry) (m : ℕ) → IsPrefix a both → m ≤ length (accepted a) → m ≤ length (accepted both)

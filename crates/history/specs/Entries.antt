@@ -1,11 +1,11 @@
 -- Which lists of entries a history may be.
 use Rattle.std.specs.Prelude.{◌≡◌, ℕ, Bool, true, false, List, [], ◌∷◌, ◌++◌, max}
-use Rattle.logbook.specs.Pages.{Book}
+use Rattle.roadnet.specs.Net.{Net}
 use Rattle.roadnet.specs.declared.commands.Command.{Command}
 use Rattle.history.specs.declared.entries.Base.{Base}
 use Rattle.history.specs.declared.entries.Entry.{Entry}
 use Rattle.history.specs.declared.entries.Entry.TheVariants.{Opened, Accepted, Acknowledged, Closed}
-use Rattle.history.specs.Origins.{Origin, Beginning}
+use Rattle.history.specs.Origins.{Name, Origin, Beginning}
 
 -- the commands that were accepted
 abbrev pub accepted : List Entry → List Command
@@ -59,10 +59,18 @@ pub record IsClosed (log : List Entry) : Type 0 where
   pub unended : IsOpen before
   pub log_is : log ≡ before ++ Closed ∷ []
 
--- the desk that this book and its log are of: a log begins with the desk's opening
-abbrev pub origin_of : Book → List Entry → Origin
-origin_of book (Opened base ∷ entries) = record { base = base.network.value; version = base.version; history = book }
-origin_of book _ = record { base = record { nodes = 0; arcs = []; landmarks = [] }; version = 0; history = book }
+-- the network and version that the desk was opened with: its history begins with them
+abbrev pub network_of : List Entry → Net
+network_of (Opened base ∷ entries) = base.network.value
+network_of _ = record { nodes = 0; arcs = []; landmarks = [] }
 
-abbrev pub beginning : Book → List Entry → Beginning
-beginning book log = record { origin = origin_of book log; commands = accepted log; acknowledged = acknowledged log }
+abbrev pub version_of : List Entry → ℕ
+version_of (Opened base ∷ entries) = base.version
+version_of _ = 0
+
+-- the desk that this history is of
+abbrev pub origin_of : Name → List Entry → Origin
+origin_of name log = record { base = network_of log; version = version_of log; history = name }
+
+abbrev pub beginning : Name → List Entry → Beginning
+beginning name log = record { origin = origin_of name log; commands = accepted log; acknowledged = acknowledged log }

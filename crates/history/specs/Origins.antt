@@ -4,11 +4,16 @@ use Rattle.logbook.specs.Pages.{Book}
 use Rattle.roadnet.specs.declared.commands.Command.{Command}
 use Rattle.roadnet.specs.Net.{Net}
 
+-- which history: the book in which it stands, and the pen of its first entry
+pub record Name : Type 0 where
+  pub book : Book
+  pub pen : ℕ
+
 -- the network that a desk was opened with, its version, and its history
 pub record Origin : Type 0 where
   pub base : Net
   pub version : ℕ
-  pub history : Book
+  pub history : Name
 
 -- so many commands, the first of a desk's history, and up to which number commands were acknowledged by then
 pub record Beginning : Type 0 where

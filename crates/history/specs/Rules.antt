@@ -1,17 +1,23 @@
 -- The rule of a history's book, and what its steps tell.
-use Rattle.std.specs.Prelude.{ℕ, ◌≡◌, ◌==◌, true, List, [], ◌∷◌, ◌++◌, length, drop, MatchBool}
-use Rattle.logbook.specs.Pages.{Cell, Step, View, Book, Named}
-use Rattle.history.specs.declared.entries.Entry.{Entry}
-use Rattle.history.specs.Entries.{is_legal}
+use Rattle.std.specs.Prelude.{ℕ, ◌≡◌, ◌≢◌, ◌<◌, true, List, [], ◌∷◌, ◌++◌, length, All}
+use Rattle.logbook.specs.Pages.{Cell, cell, Book, Named}
+use Rattle.history.specs.declared.entries.Link.{Link}
+use Rattle.history.specs.Chains.{pen_of}
 
--- the word is the number of entries behind the first, and nothing stands behind the end
-pub record IsKept (cells : List Cell) (log : List Entry) : Type 0 where
-  pub words : cells ≡ (length (drop 1 log), true) ∷ []
-  pub legal : is_legal log ≡ true
+-- the cell of this key is at home
+abbrev pub IsHome : List Cell → ℕ → Type 0
+IsHome cells key = (key < length cells) × ((cell cells key).1 ≡ true)
+
+-- The word is there, and so is the pen of each entry: it was given up for it.
+pub record IsKept (cells : List Cell) (log : List Link) : Type 0 where
+  pub word : IsHome cells 0
+  pub pens : All (λ link. IsHome cells (pen_of link)) log
 
 abbrev pub head_of : Book → Named
 head_of b = record { tracked = true; key = 0; book = b }
 
--- the entry was added to all that had been seen; or the log was longer
-abbrev pub Adds : Step Entry → View Entry ℕ → ℕ → View Entry ℕ → Type 0
-Adds s v found w = MatchBool (found == s.old) (w.0 ≡ v.0 ++ s.ask ∷ []) (Unit {0})
+-- the link stands behind all of the old log, and behind links of other pens
+pub record WritesBehind (old : List Link) (link : Link) (new : List Link) : Type 0 where
+  pub others : List Link
+  pub log_is : new ≡ old ++ (others ++ link ∷ [])
+  pub apart : All (λ other. pen_of other ≢ pen_of link) others

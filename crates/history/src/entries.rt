@@ -1,3 +1,4 @@
+use logbook::Pen;
 use roadnet::{Command, Network};
 use std::snapshot::Snapshot;
 
@@ -19,4 +20,12 @@ pub enum Entry {
     Acknowledged { number: u64 },
     /// No command is accepted any more.
     Closed,
+}
+
+/// An entry as it stands in a book, as contracts see it: beside it the pen that wrote it, and the one that writes the next.
+#[derive(Drop)]
+pub struct Link {
+    pub entry: Entry,
+    pub pen: Snapshot<Pen>,
+    pub following: Snapshot<Pen>,
 }

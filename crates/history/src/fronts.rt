@@ -1,7 +1,8 @@
 ghost use Rattle.std.specs.Prelude.{◌≡◌, ◌<◌, ◌≤◌, ◌⊎◌, length, take, MatchBool};
 ghost use mathlib.Core.List.{IsPrefix};
 
-use crate::entries::Entry;
+use crate::entries::Link;
+use crate::roots::Root;
 use crate::rules::Law;
 use logbook::Seen;
 use std::marker::Model;
@@ -10,7 +11,8 @@ use std::marker::Model;
 #[derive(Drop)]
 pub struct Front {
     pub(crate) count: u64,
-    pub(crate) seen: Seen<Entry, u64, Law>,
+    pub(crate) root: Root,
+    pub(crate) seen: Seen<Link, u64, Law>,
 }
 
 impl Model for Front {
@@ -20,11 +22,12 @@ impl Model for Front {
 
     ghost Value = { Beginning };
 
-    ghost use Rattle.history.specs.Entries.{accepted, acknowledged, origin_of};
+    ghost use Rattle.history.specs.Chains.{chain};
+    ghost use Rattle.history.specs.Entries.{beginning, accepted};
 
-    ghost view = { λ f. record { origin = origin_of f.seen.book f.seen.log; commands = take f.count (accepted f.seen.log); acknowledged = acknowledged f.seen.log } };
+    ghost view = { λ f. let all = beginning (record { book = f.seen.book; pen = f.root }) (chain f.root f.seen.log) in record all { commands = take f.count all.commands } };
 
-    ghost invariant = { λ f. IsBegun f.seen.log × (f.count ≤ length (accepted f.seen.log)) };
+    ghost invariant = { λ f. IsBegun (chain f.root f.seen.log) × (f.count ≤ length (accepted (chain f.root f.seen.log))) };
 }
 
 impl Front {
@@ -41,6 +44,7 @@ impl Front {
     {
         Front {
             count: self.count,
+            root: self.root.again(),
             seen: self.seen.again(),
         }
     }
@@ -52,6 +56,7 @@ impl Front {
     {
         Front {
             count,
+            root: self.root.again(),
             seen: self.seen.again(),
         }
     }
@@ -76,8 +81,10 @@ impl Front {
     {
         let mut both = self.seen.again();
         both.learn(&other.seen);
+        let root = self.root.again();
         Front {
             count: self.count.max(other.count),
+            root,
             seen: both,
         }
     }

@@ -1,51 +1,59 @@
-ghost use Rattle.std.specs.Prelude.{◌≡◌, ◌+◌, ◌<◌, ◌≤◌, ◌++◌, ◌∷◌, [], true, length, take, drop, max, MatchBool, IfSome};
+ghost use Rattle.std.specs.Prelude.{◌≡◌, ◌⊎◌, ◌+◌, ◌<◌, ◌≤◌, ◌^◌, ◌++◌, ◌∷◌, [], true, length, take, max, MatchBool};
 ghost use mathlib.Core.List.{IsPrefix};
-ghost use Rattle.history.specs.Entries.{is_endless, IsOpen};
+ghost use Rattle.history.specs.Entries.{is_endless};
 ghost use Rattle.history.specs.Written.{counted, with_entry};
 ghost use Rattle.machine.specs.Laws.{IsAt};
-ghost use Rattle.history.specs.Rules.{head_of};
 
 use crate::claims::{Claim, Settled};
-use crate::entries::{Base, Entry};
+use crate::entries::{Base, Entry, Link};
 use crate::fronts::Front;
-use crate::rules::{Add, Begins, Law, Nothing};
-use logbook::{Offer, Seen, Start, Word};
+use crate::pens::{new_pen, write};
+use crate::roots::Root;
+use crate::rules::{Begins, Law};
+use logbook::{Pen, Seen, Start, Word};
 use machine::Ticket;
 use roadnet::{Command, Network};
 use std::marker::Model;
 use std::snapshot::Snapshot;
 
-/// A history that may grow, seen whole. Contracts see it as its commands, with the desk.
+/// A history that may grow, seen whole. It has the pen of its next entry, so nobody else writes one. Contracts see it as its commands, with
+/// the desk.
 #[derive(Drop)]
 pub struct History {
-    head: Word<Entry, u64, Law>,
-    /// How many entries there are behind the opening.
-    entries: u64,
-    /// How many of them are commands.
+    head: Word<Link, u64, Law>,
+    pen: Pen,
+    /// How many commands there are.
     count: u64,
     /// The version that the desk was opened with.
     version: u64,
-    seen: Seen<Entry, u64, Law>,
+    root: Root,
+    seen: Seen<Link, u64, Law>,
 }
 
 impl Model for History {
-    ghost use Rattle.std.specs.Prelude.{◌≡◌, length, drop};
+    ghost use Rattle.std.specs.Prelude.{◌≡◌, ◌≤◌, ◌^◌, length};
+    ghost use Rattle.logbook.specs.Pages.{may_write};
     ghost use Rattle.history.specs.Origins.{Beginning};
 
     ghost Value = { Beginning };
 
-    ghost use Rattle.history.specs.Entries.{accepted, beginning, origin_of, IsOpen};
+    ghost use Rattle.history.specs.Chains.{chain, next_pen};
+    ghost use Rattle.history.specs.Entries.{accepted, beginning, version_of, IsOpen};
     ghost use Rattle.history.specs.Rules.{head_of};
 
-    ghost view = { λ h. beginning h.seen.book h.seen.log };
+    ghost view = { λ h. beginning (record { book = h.seen.book; pen = h.root }) (chain h.root h.seen.log) };
 
-    ghost invariant = { λ h. IsOpen h.seen.log × (h.entries ≡ length (drop 1 h.seen.log)) × (h.count ≡ length (accepted h.seen.log)) × (h.version ≡ (origin_of h.seen.book h.seen.log).version) × (h.head ≡ head_of h.seen.book) };
+    ghost invariant = { λ h.
+        let log = chain h.root h.seen.log in
+        IsOpen log × (h.count ≡ length (accepted log)) × (h.version ≡ version_of log) × (h.head ≡ head_of h.seen.book) × (h.pen.book ≡ h.seen.book)
+        × (h.pen.nib.right ≡ may_write) × (h.pen.nib.key ≡ next_pen h.root h.seen.log) × (h.count ≤ 2 ^ 62) };
 }
 
 /// A history that is closed. Contracts see it as its commands, with the desk.
 #[derive(Drop)]
 pub struct Whole {
-    seen: Seen<Entry, u64, Law>,
+    root: Root,
+    seen: Seen<Link, u64, Law>,
 }
 
 impl Model for Whole {
@@ -53,43 +61,16 @@ impl Model for Whole {
 
     ghost Value = { Beginning };
 
+    ghost use Rattle.history.specs.Chains.{chain};
     ghost use Rattle.history.specs.Entries.{beginning, IsClosed};
 
-    ghost view = { λ w. beginning w.seen.book w.seen.log };
+    ghost view = { λ w. beginning (record { book = w.seen.book; pen = w.root }) (chain w.root w.seen.log) };
 
-    ghost invariant = { λ w. IsClosed w.seen.log };
+    ghost invariant = { λ w. IsClosed (chain w.root w.seen.log) };
 }
 
-/// More entries than any desk writes.
-const MOST_ENTRIES: u64 = 1 << 62;
-
-/// Adds an entry to all that was seen, and says whether it did. It did not where the history is longer.
-fn add(
-    head: &Word<Entry, u64, Law>,
-    seen: &mut Seen<Entry, u64, Law>,
-    entries: u64,
-    entry: Entry,
-) -> bool
-    requires head { head.now ≡ head_of seen.old.book }
-    requires entries { entries ≡ length (drop 1 seen.old.log) }
-    requires opened { IsOpen seen.old.log }
-    ensures added { MatchBool result (seen.new.log ≡ seen.old.log ++ entry ∷ []) (Unit {0}) }
-    ensures book { seen.new.book ≡ seen.old.book }
-{
-    if entries >= MOST_ENTRIES {
-        return false;
-    }
-    let mut offer: Offer<Entry, u64, Law, Nothing> = seen.plain::<Nothing, Entry, Add>(&entry);
-    let mut pen = seen.no_pen();
-    let found = head.compare_exchange::<Add, Nothing>(
-        entries,
-        entries + 1,
-        seen,
-        &mut offer,
-        &mut pen,
-    );
-    found == entries
-}
+/// More commands than any desk accepts.
+const MOST_COMMANDS: u64 = 1 << 62;
 
 /// How many commands the entry adds.
 fn counted(entry: &Entry) -> u64
@@ -108,16 +89,29 @@ impl History {
         ensures base { (result.origin.base ≡ network.now) × (result.origin.version ≡ version) }
         ensures empty { (result.commands ≡ []) × (result.acknowledged ≡ 0) }
     {
+        let (mut seen, mut pens) = Seen::open_row::<(), Begins>(&(), Start::alone(), 1);
+        let head = Word::tracked(0, &mut pens.take());
+        let mut first = new_pen(&head, &seen);
+        let root = Root::of(&first);
+        let pen = new_pen(&head, &seen);
         let base = Base {
             network: Snapshot::of(network),
             version,
         };
-        let (seen, mut pens) = Seen::open_row::<Base, Begins>(&base, Start::alone(), 1);
+        let own = Snapshot::of(&first);
+        let following = Snapshot::of(&pen);
+        let link = Link {
+            entry: Entry::Opened { base },
+            pen: own,
+            following,
+        };
+        write(&head, &mut seen, &mut first, &link);
         History {
-            head: Word::tracked(0, &mut pens.take()),
-            entries: 0,
+            head,
+            pen,
             count: 0,
             version,
+            root,
             seen,
         }
     }
@@ -129,38 +123,45 @@ impl History {
         self.count
     }
 
-    /// Adds an entry, where no other did.
-    fn put(&mut self, entry: Entry) -> bool
-        requires { is_endless (entry ∷ []) ≡ true }
-        ensures { MatchBool result (self.new ≡ with_entry self.old entry) (self.new ≡ self.old) }
+    /// Adds an entry behind the others.
+    fn put(&mut self, entry: Entry)
+        requires endless { is_endless (entry ∷ []) ≡ true }
+        requires room { (counted entry ≡ 0) ⊎ (length self.old.commands < 2 ^ 62) }
+        ensures { self.new ≡ with_entry self.old entry }
     {
-        if self.entries >= MOST_ENTRIES || self.count >= MOST_ENTRIES {
-            return false;
-        }
-        let mut seen = self.seen.again();
+        let next = new_pen(&self.head, &self.seen);
         let more = counted(&entry);
-        if !add(&self.head, &mut seen, self.entries, entry) {
+        let own = Snapshot::of(&self.pen);
+        let following = Snapshot::of(&next);
+        let link = Link {
+            entry,
+            pen: own,
+            following,
+        };
+        let mut seen = self.seen.again();
+        write(&self.head, &mut seen, &mut self.pen, &link);
+        self.pen = next;
+        self.seen = seen;
+        self.count += more;
+    }
+
+    /// Writes an accepted command behind the others. It answers false only where the history has 2^62 commands, and then nothing is written.
+    pub fn write(&mut self, command: Command) -> bool
+        ensures written { MatchBool result (self.new ≡ record self.old { commands = self.old.commands ++ command ∷ [] }) (self.new ≡ self.old) }
+        ensures room { length self.old.commands < 2 ^ 62 → result ≡ true }
+    {
+        if self.count >= MOST_COMMANDS {
             return false;
         }
-        self.seen = seen;
-        self.entries += 1;
-        self.count += more;
+        self.put(Entry::Accepted { command });
         true
     }
 
-    /// Writes an accepted command behind the others. Where it answers false, the history was closed by another, and nothing is written.
-    pub fn write(&mut self, command: Command) -> bool
-        ensures { MatchBool result (self.new ≡ record self.old { commands = self.old.commands ++ command ∷ [] }) (self.new ≡ self.old) }
+    /// Writes that the commands up to a number are acknowledged.
+    pub fn acknowledge(&mut self, number: u64)
+        ensures { self.new ≡ record self.old { acknowledged = max self.old.acknowledged number } }
     {
-        self.put(Entry::Accepted { command })
-    }
-
-    /// Writes that the commands up to a number are acknowledged. Where it answers false, the history was closed by another, and nothing is
-    /// written.
-    pub fn acknowledge(&mut self, number: u64) -> bool
-        ensures { MatchBool result (self.new ≡ record self.old { acknowledged = max self.old.acknowledged number }) (self.new ≡ self.old) }
-    {
-        self.put(Entry::Acknowledged { number })
+        self.put(Entry::Acknowledged { number });
     }
 
     /// The first commands, as many as are asked for.
@@ -170,6 +171,7 @@ impl History {
     {
         Front {
             count,
+            root: self.root.again(),
             seen: self.seen.again(),
         }
     }
@@ -215,21 +217,27 @@ impl History {
         front.count <= self.count
     }
 
-    /// Closes the history: no command is accepted any more. There is no answer where another closed it.
-    pub fn close(self) -> Option<Whole>
-        ensures { IfSome result (λ whole. whole ≡ self) }
+    /// Closes the history: no command is accepted any more.
+    pub fn close(self) -> Whole
+        ensures { result ≡ self }
     {
         let History {
             head,
-            entries,
+            mut pen,
             count: _,
             version: _,
+            root,
             mut seen,
         } = self;
-        if !add(&head, &mut seen, entries, Entry::Closed) {
-            return None;
-        }
-        Some(Whole { seen })
+        let own = Snapshot::of(&pen);
+        let following = Snapshot::of(&pen);
+        let link = Link {
+            entry: Entry::Closed,
+            pen: own,
+            following,
+        };
+        write(&head, &mut seen, &mut pen, &link);
+        Whole { root, seen }
     }
 }
 

@@ -6,6 +6,8 @@ mod claims;
 mod entries;
 mod fronts;
 mod histories;
+mod pens;
+mod roots;
 mod rules;
 
 pub use claims::{Claim, Settled};

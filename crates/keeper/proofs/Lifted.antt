@@ -25,6 +25,10 @@ module _ (shown : ℕ) (task : Option ℕ) where
   lift_refused old new c P (Ok ticket) h = tt
   lift_refused old new c P (Err refusal) h = λ p. lift_submit old new c (Err refusal) (h p)
 
+  pub lift_room : (old new : Machine) (c : Command) (r : Result Ticket Refusal) → IfErr r (λ refusal. Submits old c (Err refusal) new) → IfErr r (λ refusal. Submits (V old) c (Err refusal) (V new))
+  lift_room old new c (Ok ticket) h = tt
+  lift_room old new c (Err refusal) h = lift_submit old new c (Err refusal) h
+
   pub lift_flush : (old new : Machine) (r : Result ℕ Refusal) → Flushes old r new → Flushes (V old) r (V new)
   lift_flush old new (Ok durable) h = (h.0, ap V h.1, h.2)
   lift_flush old new (Err refusal) h = ⊎_elim (λ a. inl (a.0, ap V a.1)) (λ b. inr (b.0, b.1, ap V b.2)) h

@@ -1,6 +1,6 @@
 // What the holder of a desk's history asks of its keeper: commands that are accepted as they are written there, and the version that
 // numbers go on from.
-ghost use Rattle.std.specs.Prelude.{◌≡◌, ◌≢◌, ◌++◌, ◌∷◌, [], None, Ok, Err, IfOk, IfErr, OnOk, OnErr};
+ghost use Rattle.std.specs.Prelude.{◌≡◌, ◌≢◌, ◌<◌, ◌^◌, ◌++◌, ◌∷◌, [], None, Ok, Err, length, IfOk, IfErr, OnOk, OnErr};
 ghost use Rattle.roadnet.specs.declared.refusals.Refusal.TheVariants.{OutOfMemory as out_of_memory, Closed as closed};
 ghost use Rattle.roadnet.specs.Outlines.{EachAdmits, EachStepsTo};
 ghost use Rattle.machine.specs.Machine.{IsState};
@@ -29,6 +29,7 @@ fn accept_into(
     ensures same_accepted { OnErr result (accepted.new ≡ accepted.old) }
     ensures unwritten { OnErr result (log.new ≡ log.old) }
     ensures refused { IfErr result (λ refusal. refusal ≢ closed → refusal ≡ out_of_memory) }
+    ensures room { length log.old.commands < 2 ^ 62 → IfErr result (λ refusal. refusal ≡ out_of_memory) }
 {
     history.reserve(1)?;
     let room = accepted.prepare(&command)?;
@@ -51,12 +52,14 @@ impl<D: Disk> Ledger<D> {
 
     /// Accepts the command as `submit` does, once it is written into the desk's history: both get it, or neither.
     ///
-    /// Refused as `submit` is; and, after these, where the history was closed (61).
+    /// Refused as `submit` is; and, after these, where the history has room for no command (61).
     pub fn submit_into(&mut self, log: &mut History, command: Command) -> Result<Ticket, Refusal>
         ensures accepted { IfOk result (λ ticket. Submits self.old.machine command (Ok ticket) self.new.machine) }
         ensures refused { IfErr result (λ refusal. refusal ≢ closed → Submits self.old.machine command (Err refusal) self.new.machine) }
         // 61 comes only where nothing else refuses the command.
         ensures order { IfErr result (λ refusal. refusal ≡ closed → refusal_of_submit self.old.machine command ≡ None) }
+        // It doesn't come of a history with room, as each desk's has.
+        ensures room { length log.old.commands < 2 ^ 62 → IfErr result (λ refusal. Submits self.old.machine command (Err refusal) self.new.machine) }
         ensures same { OnErr result (self.new ≡ self.old) }
         ensures written { OnOk result (log.new ≡ record log.old { commands = log.old.commands ++ command ∷ [] }) }
         ensures unwritten { OnErr result (log.new ≡ log.old) }
@@ -81,12 +84,14 @@ impl<D: Disk> Keeper<D> {
 
     /// Accepts the command as `submit` does, once it is written into the desk's history: both get it, or neither.
     ///
-    /// Refused as `submit` is; and, after these, where the history was closed (61).
+    /// Refused as `submit` is; and, after these, where the history has room for no command (61).
     pub fn submit_into(&mut self, log: &mut History, command: Command) -> Result<Ticket, Refusal>
         ensures accepted { IfOk result (λ ticket. Submits self.old.machine command (Ok ticket) self.new.machine) }
         ensures refused { IfErr result (λ refusal. refusal ≢ closed → Submits self.old.machine command (Err refusal) self.new.machine) }
         // 61 comes only where nothing else refuses the command.
         ensures order { IfErr result (λ refusal. refusal ≡ closed → refusal_of_submit self.old.machine command ≡ None) }
+        // It doesn't come of a history with room, as each desk's has.
+        ensures room { length log.old.commands < 2 ^ 62 → IfErr result (λ refusal. Submits self.old.machine command (Err refusal) self.new.machine) }
         ensures same { OnErr result (self.new ≡ self.old) }
         ensures written { OnOk result (log.new ≡ record log.old { commands = log.old.commands ++ command ∷ [] }) }
         ensures unwritten { OnErr result (log.new ≡ log.old) }

@@ -1,10 +1,9 @@
 // An office closed.
-ghost use Rattle.std.specs.Prelude.{◌≡◌, ◌<◌, ◌≤◌, List, take, length, IfOk, IfErr, MatchBool};
+ghost use Rattle.std.specs.Prelude.{◌≡◌, ◌<◌, ◌≤◌, List, take, length, MatchBool};
 ghost use Rattle.std.proofs.Props.{props};
 ghost use Rattle.disk.specs.Contents.{AreAmong};
 ghost use mathlib.Core.List.{IsPrefix};
 ghost use Rattle.roadnet.specs.declared.commands.Command.{Command as Accepted};
-ghost use Rattle.roadnet.specs.declared.refusals.Refusal.TheVariants.{Closed as history_closed};
 ghost use Rattle.machine.specs.Machine.{commands_to};
 ghost use Rattle.machine.specs.Laws.{IsAt};
 ghost use Rattle.office.specs.Left.{KeepsDesk, KeepsSeen};
@@ -13,8 +12,8 @@ use crate::naming::Naming;
 use crate::offices::Office;
 use disk::Disk;
 use history::{Front, Settled, Whole};
-use published::{Reader, Shown};
-use roadnet::{Command, Refusal};
+use published::Shown;
+use roadnet::Command;
 use std::sync::Wait;
 
 /// What is left of a desk: the commands that it accepted, in order, what was shown last, and the disk, whose journal has so many pages. What
@@ -36,22 +35,19 @@ pub struct Closed<D: Disk> {
 impl<N: Naming, D: Disk> Office<N, D> {
     /// Closes the office: no command is accepted any more, and no reader can look. No call of the disk is made. It waits for those readers that
     /// are taking a share of the view.
-    ///
-    /// Refused is a history that was closed (61).
-    pub fn close<R: Wait>(self, rt: &R) -> Result<Closed<D>, Refusal>
+    pub fn close<R: Wait>(self, rt: &R) -> Closed<D>
     where
         D: Drop,
-        ensures history { IfOk result (λ closed. closed.history.items ≡ self.machine.accepted) }
-        ensures origin { IfOk result (λ closed. closed.whole.origin ≡ N.origin) }
-        ensures shown { IfOk result (λ closed. closed.shown.commands ≡ commands_to self.machine self.machine.shown) }
-        ensures acknowledged { IfOk result (λ closed. closed.whole.acknowledged ≤ self.machine.durable) }
-        ensures disk { IfOk result (λ closed. closed.disk ≡ self.disk) }
-        ensures pages { IfOk result (λ closed. closed.journal_pages ≡ self.machine.sizes.journal_pages) }
-        ensures causes { IfErr result (λ refusal. refusal ≡ history_closed) }
+        ensures history { result.history.items ≡ self.machine.accepted }
+        ensures origin { result.whole.origin ≡ N.origin }
+        ensures shown { result.shown.commands ≡ commands_to self.machine self.machine.shown }
+        ensures acknowledged { result.whole.acknowledged ≤ self.machine.durable }
+        ensures disk { result.disk ≡ self.disk }
+        ensures pages { result.journal_pages ≡ self.machine.sizes.journal_pages }
         // The disk keeps the disk model.
-        ensures honest { N.came_tidy → IfOk result (λ closed. D.honest closed.disk) }
+        ensures honest { N.came_tidy → D.honest result.disk }
         // What a stop may leave of the disk stands for the network after a beginning of the history, with all that was acknowledged or shown.
-        ensures left { N.came_tidy → IfOk result (λ closed. AreAmong (D.left closed.disk) (KeepsDesk closed.whole closed.shown closed.journal_pages)) }
+        ensures left { N.came_tidy → AreAmong (D.left result.disk) (KeepsDesk result.whole result.shown result.journal_pages) }
     {
         let _ = self.keeper.opened();
         let journal_pages = self.keeper.journal_pages();
@@ -63,17 +59,15 @@ impl<N: Naming, D: Disk> Office<N, D> {
         } = self;
         let shown = publisher.tell();
         publisher.close(rt);
-        let Some(whole) = history.close() else {
-            return Err(Refusal::Closed);
-        };
+        let whole = history.close();
         let (history, disk) = keeper.close();
-        Ok(Closed {
+        Closed {
             history,
             shown,
             disk,
             journal_pages,
             whole,
-        })
+        }
     }
 }
 
@@ -96,15 +90,5 @@ impl<D: Disk> Closed<D> {
         ensures { MatchBool result (IsPrefix known.now.commands self.now.shown.commands) (length self.now.shown.commands < length known.now.commands) }
     {
         known.begins(self.shown.commands())
-    }
-
-    /// Tells a reader of this desk, whose list is not longer, what was shown last. Then it knows a beginning of the history.
-    pub fn teach(&self, reader: &mut Reader)
-        requires origin { reader.old.origin ≡ self.now.whole.origin }
-        requires short { length reader.old.commands ≤ length self.now.shown.commands }
-        ensures knows { reader.new.commands ≡ self.now.shown.commands }
-        ensures begins { IsPrefix reader.new.commands self.now.history.items }
-    {
-        reader.learn(&self.shown);
     }
 }

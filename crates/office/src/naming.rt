@@ -18,7 +18,7 @@ impl Naming for Brand {
     ghost origin = { record {
       base = record { nodes = 1; arcs = []; landmarks = [] };
       version = 0;
-      history = record { number = 0; log_name = 0; cells_name = 0 };
+      history = record { book = record { number = 0; log_name = 0; cells_name = 0 }; pen = 0 };
     } };
 
     ghost came_tidy = { Unit {0} };

@@ -1,6 +1,6 @@
 // Receipts, and what was shown since a ticket.
-ghost use Rattle.std.specs.Prelude.{◌≡◌, ◌≢◌, ◌<◌, if◌then◌else◌, Ok, Err, IfSome, IfNone, IfOk, IfErr, OnOk};
-ghost use Rattle.roadnet.specs.declared.refusals.Refusal.TheVariants.{Broken as broken, Closed as closed, NotYet as not_yet};
+ghost use Rattle.std.specs.Prelude.{◌≡◌, ◌<◌, if◌then◌else◌, Ok, Err, IfSome, IfNone, IfOk, IfErr, OnOk};
+ghost use Rattle.roadnet.specs.declared.refusals.Refusal.TheVariants.{Broken as broken, NotYet as not_yet};
 ghost use Rattle.machine.specs.Machine.{commands_to};
 ghost use Rattle.machine.specs.Calls.{IsTicketOf, receipt_for};
 ghost use Rattle.machine.specs.Laws.{IsAt};
@@ -27,16 +27,13 @@ impl<N: Naming, D: Disk> Office<N, D> {
 
     /// A receipt for the ticket, which is of this desk, where its command is durable, as the keeper's: no stop takes it back.
     ///
-    /// Refused is a number that is not durable: with 45 where the store is broken, else with 54; and a history that was closed (61). The ticket
-    /// is handed back then.
+    /// Refused is a number that is not durable: with 45 where the store is broken, else with 54. The ticket is handed back then.
     pub fn receipt(&mut self, ticket: Claim) -> Result<Settled, (Refusal, Claim)>
         requires { ticket.origin ≡ N.origin }
         ensures step { OnOk result (receipt_for self.old.machine ticket.ticket ≡ Ok (receipt_of ticket.ticket)) }
         ensures there { OnOk result (IsTicketOf self.old.machine ticket.ticket) }
         ensures receipt { IfOk result (λ receipt. receipt ≡ ticket) }
-        ensures refused { IfErr result (λ refused. refused.0 ≢ closed → receipt_for self.old.machine ticket.ticket ≡ Err refused.0) }
-        // 61 comes only where the command is durable.
-        ensures order { IfErr result (λ refused. refused.0 ≡ closed → receipt_for self.old.machine ticket.ticket ≡ Ok (receipt_of ticket.ticket)) }
+        ensures refused { IfErr result (λ refused. receipt_for self.old.machine ticket.ticket ≡ Err refused.0) }
         ensures handed_back { IfErr result (λ refused. refused.1 ≡ ticket) }
         ensures same { self.new ≡ self.old }
     {
@@ -47,9 +44,7 @@ impl<N: Naming, D: Disk> Office<N, D> {
         if let Err(refusal) = self.keeper.receipt(&ticket.ticket()) {
             return Err((refusal, ticket));
         }
-        if !self.history.acknowledge(ticket.ticket().number) {
-            return Err((Refusal::Closed, ticket));
-        }
+        self.history.acknowledge(ticket.ticket().number);
         Ok(self.history.settled(ticket))
     }
 

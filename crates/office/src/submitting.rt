@@ -1,10 +1,10 @@
 // Commands accepted and made durable.
-ghost use Rattle.std.specs.Prelude.{◌≡◌, ◌≢◌, ◌↔◌, true, None, Ok, Err, IfOk, IfErr, OnErr};
+ghost use Rattle.std.specs.Prelude.{◌≡◌, ◌≢◌, ◌↔◌, true, Ok, Err, IfOk, IfErr, OnErr};
 ghost use Rattle.disk.specs.Contents.{Rose};
 ghost use Rattle.disk.specs.Moments.{AddsNothing, LeavesOnly};
 ghost use Rattle.pagereader.specs.Outcomes.{failures_told};
-ghost use Rattle.roadnet.specs.declared.refusals.Refusal.TheVariants.{Closed as closed, Device as device};
-ghost use Rattle.machine.specs.Calls.{Submits, Flushes, refusal_of_submit};
+ghost use Rattle.roadnet.specs.declared.refusals.Refusal.TheVariants.{Device as device};
+ghost use Rattle.machine.specs.Calls.{Submits, Flushes};
 ghost use Rattle.keeper.specs.Keeping.{IsLeftByFlush};
 ghost use Rattle.office.specs.Offices.{WhenTidy};
 
@@ -18,13 +18,11 @@ impl<N: Naming, D: Disk> Office<N, D> {
     /// Accepts the command as the next number, as the keeper does, and writes it into the history. The ticket is for this command, of this
     /// desk.
     ///
-    /// Refused as the keeper's `submit` is; and, after these, where the history was closed (61). Then nothing has changed.
+    /// Refused as the keeper's `submit` is. Then nothing has changed.
     pub fn submit(&mut self, command: Command) -> Result<Claim, Refusal>
         ensures accepted { IfOk result (λ ticket. Submits self.old.machine command (Ok ticket.ticket) self.new.machine) }
         ensures origin { IfOk result (λ ticket. ticket.origin ≡ N.origin) }
-        ensures refused { IfErr result (λ refusal. refusal ≢ closed → Submits self.old.machine command (Err refusal) self.new.machine) }
-        // 61 comes only where nothing else refuses the command.
-        ensures order { IfErr result (λ refusal. refusal ≡ closed → refusal_of_submit self.old.machine command ≡ None) }
+        ensures refused { IfErr result (λ refusal. Submits self.old.machine command (Err refusal) self.new.machine) }
         ensures same { OnErr result (self.new ≡ self.old) }
         ensures disk { self.new.disk ≡ self.old.disk }
         ensures given { self.new.given ≡ self.old.given }

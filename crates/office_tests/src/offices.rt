@@ -22,7 +22,7 @@ const CLOSE: Command = Command::Close { arc: 1 };
 const MARK: Command = Command::Mark { node: 2 };
 
 /// A view of a network at a version.
-fn view_of(alloc: Global, version: u64, network: &Network) -> Result<Arc<View>, Refusal>
+pub(crate) fn view_of(alloc: Global, version: u64, network: &Network) -> Result<Arc<View>, Refusal>
     ensures { IfOk result (λ view. (view.value.network ≡ network.now) × (view.value.version ≡ version)) }
 {
     let Ok(network) = network.copy() else {
@@ -117,7 +117,7 @@ fn round<N: Naming, D: Disk + Drop, R: Threads + Wait>(
     show(rt, alloc, &lock)?;
     told.learn(&shown_since(rt, &lock, second.ticket())?);
     let seen = (told.look()?.version(), other.look()?.version());
-    let closed = lock.into_inner().close(rt)?;
+    let closed = lock.into_inner().close(rt);
     Ok((
         [before, behind, seen.0, seen.1],
         [closed.confirm(&first), closed.confirm(&second)],

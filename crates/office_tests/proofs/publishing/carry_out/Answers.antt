@@ -16,4 +16,4 @@ written false old new net next command was is now = tt
 
 pub returns-in-Ok-clause-network : goal.returns-in-Ok-clause-network
 returns-in-Ok-clause-network c =
-    written c.write.result c.args.history.now c.write.new.self c.args.network.now c.apply.new.self c.args.command c.requires c.in-Ok.ensures.ok c.write.ensures
+    written c.write.result c.args.history.now c.write.new.self c.args.network.now c.apply.new.self c.args.command c.requires c.in-Ok.ensures.ok c.write.ensures.written

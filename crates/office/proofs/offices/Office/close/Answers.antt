@@ -10,7 +10,6 @@ returns-clause-left g c came content was =
     let here : g.D.Disk.left keeper.disk content = subst (λ d. g.D.Disk.left d content) c.close-history.ensures.disk was in
     let held = c.close-history.ensures.holds (c.self.invariant.1 came) in
     let kept : KeepsDesk c.self.inside.history c.self.inside.publisher.shown keeper.machine.sizes.journal_pages content = keeps _ _ _ _ _ c.self.invariant.0 c.opened.ensures.state content (held.each_left content here) in
-    let whole : c.in-Some.whole ≡ c.self.inside.history = c.in-Some.ensures in
-    subst (λ (n : ℕ). KeepsDesk c.in-Some.whole c.tell-shown.result n content) (sym c.journal_pages-journal_pages.ensures)
-    (subst (λ (b : Beginning). KeepsDesk b c.tell-shown.result keeper.machine.sizes.journal_pages content) (sym whole)
+    subst (λ (n : ℕ). KeepsDesk c.close-whole.result c.tell-shown.result n content) (sym c.journal_pages-journal_pages.ensures)
+    (subst (λ (b : Beginning). KeepsDesk b c.tell-shown.result keeper.machine.sizes.journal_pages content) (sym c.close-whole.ensures)
     (subst (λ (b : Beginning). KeepsDesk c.self.inside.history b keeper.machine.sizes.journal_pages content) (sym c.tell-shown.ensures) kept))

@@ -1,0 +1,68 @@
+// An office that lasts: no number of commands is its end before the machine's.
+ghost use Rattle.std.specs.Prelude.{◌≡◌, [], true};
+ghost use Rattle.store.specs.State.{CameTidy, is_calm};
+
+use crate::desks::network;
+use crate::offices::view_of;
+use disk::{Disk, MemDisk};
+use history::History;
+use office::{Naming, Office};
+use roadnet::{Command, Refusal};
+use std::alloc::Global;
+use std::marker::Brand;
+use std::sync::Wait;
+use std::test::Fail;
+use store::{Store, create};
+
+/// It leaves the network as it is.
+const SAME: Command = Command::Set { arc: 1, length: 5 };
+
+/// A command is accepted, made durable and settled. Told is its number.
+fn settle_one<N: Naming, D: Disk>(office: &mut Office<N, D>) -> Result<u64, Refusal> {
+    if office.unchecked() >= office.journal_pages() {
+        office.checkpoint_step(64)?;
+    }
+    let ticket = office.submit(SAME)?;
+    office.flush()?;
+    match office.receipt(ticket) {
+        Ok(receipt) => Ok(receipt.ticket().ticket().number),
+        Err((refusal, _)) => Err(refusal),
+    }
+}
+
+/// So many commands are settled, one after another. Told is the last number.
+fn settle_all<N: Naming, D: Disk + Drop, R: Wait>(
+    rt: &R,
+    alloc: Global,
+    history: History,
+    store: Store<D>,
+    count: u64,
+) -> Result<u64, Refusal>
+    requires calm { is_calm store ≡ true }
+    requires origin { (N.origin.base ≡ store.network) × (N.origin.version ≡ store.version) }
+    requires history { (history.origin ≡ N.origin) × (history.commands ≡ []) × (history.acknowledged ≡ 0) }
+    requires came_tidy { N.came_tidy → CameTidy D.honest D.content store.given }
+{
+    let first = view_of(alloc, store.version(), store.network())?;
+    let mut office = Office::<N, D>::new(rt, alloc, history, store, first)?;
+    let mut last = 0;
+    for _ in 0..count {
+        last = settle_one(&mut office)?;
+    }
+    let _ = office.close(rt);
+    Ok(last)
+}
+
+// Refused is an office whose history, receipts or commands end early: at 16,384 entries, numbers or commands, say, whatever it then answers.
+#[test]
+fn office_outlives_twenty_thousand_commands(rt: HostRuntime) -> Result<(), Fail> {
+    let alloc = rt.alloc();
+    let network = network(alloc, 2, &[(1, 2, 5)], &[]).map_err(|_| Fail::from("a network"))?;
+    let Ok(store) = create(alloc, MemDisk::new(alloc), &network, 64) else {
+        return Err(Fail::from("a store"));
+    };
+    let history = History::new(store.network(), store.version());
+    let told = settle_all::<Brand, _, _>(&rt, alloc, history, store, 20_000);
+    assert_eq!(rt; told, Ok(20_000));
+    Ok(())
+}

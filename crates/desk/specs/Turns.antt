@@ -27,9 +27,10 @@ flusher_turn_of m has_flushed halted =
     if halted then End else
     if is_checkpoint_due m then Checkpoint m.durable else Rest
 
--- show what is durable; then end where no more becomes durable
-abbrev pub builder_turn_of : Machine → Bool → BuilderTurn
-builder_turn_of m flusher_ended =
+-- rest where the desk is halted and more may become durable; else show what is durable; then end where no more becomes durable
+abbrev pub builder_turn_of : Machine → Bool → Bool → BuilderTurn
+builder_turn_of m halted flusher_ended =
+    if halted && not flusher_ended then rest else
     if m.shown == m.durable then (if flusher_ended then end else rest) else Build m.durable
 
 -- what a call came to that was refused so: it found no memory, or no free page of the journal, or the disk has failed, or there was nothing to do
@@ -53,6 +54,13 @@ goes_on_after misses Done = true
 goes_on_after misses NoMemory = nat_lt (misses + 1) 3
 goes_on_after misses Blocked = true
 goes_on_after misses Failed = false
+
+-- for how many milliseconds a thread rests behind an attempt, where so many in a row up to it found no memory
+abbrev pub rest_after : ℕ → Attempt → ℕ
+rest_after misses Done = 0
+rest_after misses NoMemory = if nat_lt misses 2 then 10 else 100
+rest_after misses Blocked = 0
+rest_after misses Failed = 0
 
 -- Who settles this number waits: it is not durable, and may still become so.
 abbrev pub is_unsettled : Machine → Bool → ℕ → Bool

@@ -1,11 +1,17 @@
-// What comes of the turns of a thread, and when it gives up.
+// What comes of the turns of a thread, how long it rests behind one, and when it gives up.
 ghost use Rattle.std.specs.Prelude.{◌≡◌};
-ghost use Rattle.desk.specs.Turns.{attempt_of, misses_after, goes_on_after};
+ghost use Rattle.desk.specs.Turns.{attempt_of, misses_after, goes_on_after, rest_after};
 
 use roadnet::Refusal;
 
 /// How many attempts in a row found no memory before a thread gives up.
 const MOST_MISSES: u32 = 3;
+
+/// How many milliseconds a thread rests behind an attempt that found no memory and followed one that did.
+const FIRST_REST: u64 = 10;
+
+/// How many it rests behind a further one.
+const LATER_REST: u64 = 100;
 
 /// What came of a turn.
 #[derive(Clone, Copy, Debug, PartialEq, Eq)]
@@ -63,6 +69,22 @@ impl Misses {
             }
             Attempt::Blocked => true,
             Attempt::Failed => false,
+        }
+    }
+
+    /// How many milliseconds a thread rests behind this attempt, which is counted. A shortage that is shorter is survived.
+    pub(crate) fn rest(&self, attempt: Attempt) -> u64
+        ensures { result ≡ rest_after self.now.count attempt }
+    {
+        match attempt {
+            Attempt::NoMemory => {
+                if self.count < 2 {
+                    FIRST_REST
+                } else {
+                    LATER_REST
+                }
+            }
+            _ => 0,
         }
     }
 }

@@ -1,6 +1,7 @@
 // The builder: the thread that builds the views of what is durable, and shows them.
 use crate::attempts::{Attempt, Misses};
 use crate::gates::Gate;
+use crate::last::Unbuilt;
 use crate::locked::BuilderTurn;
 use crate::plans::Plan;
 use crate::shared::Shared;
@@ -10,6 +11,7 @@ use office::{Naming, Office};
 use rows::View;
 use std::sync::{Arc, Wait};
 use std::thread::Threads;
+use std::time::Clock;
 
 impl<N: Naming, D: Disk + Drop, G: Gate + Drop + Sync> Shared<Office<N, D>, G> {
     /// Shows the view, or gives its task up.
@@ -30,12 +32,14 @@ impl<N: Naming, D: Disk + Drop, G: Gate + Drop + Sync> Shared<Office<N, D>, G> {
 
     /// Builds the view of a task and shows it, or gives the task up.
     fn carry_out<R: Threads + Wait + Sync>(&self, rt: &R, plan: &Plan, task: Task) -> Attempt {
-        match plan.build(rt, &self.gate, &task) {
-            Ok(view) => self.show(rt, task.version, view),
-            Err(_) => {
-                self.lock(rt).office.give_up(task.version);
-                Attempt::NoMemory
-            }
+        let unbuilt = match plan.build(rt, &self.gate, &self.last, &task) {
+            Ok(view) => return self.show(rt, task.version, view),
+            Err(unbuilt) => unbuilt,
+        };
+        self.lock(rt).office.give_up(task.version);
+        match unbuilt {
+            Unbuilt::OutOfMemory => Attempt::NoMemory,
+            Unbuilt::PassedOver => Attempt::Done,
         }
     }
 
@@ -58,7 +62,7 @@ pub(crate) fn build_views<
     N: Naming,
     D: Disk + Drop,
     G: Gate + Drop + Sync,
-    R: Threads + Wait + Sync,
+    R: Threads + Wait + Clock + Sync,
 >(rt: &R, shared: &Shared<Office<N, D>, G>, plan: &Plan) {
     let mut misses = Misses::none();
     for _ in rt.forever() {
@@ -68,8 +72,10 @@ pub(crate) fn build_views<
             BuilderTurn::Build { durable } => shared.build(rt, plan, durable),
         };
         if !misses.goes_on(attempt) {
+            shared.gate.builder_gave_up();
             break;
         }
+        shared.rest_behind(rt, misses, attempt);
     }
     shared.end_builder(rt);
 }

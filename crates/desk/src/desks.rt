@@ -26,6 +26,7 @@ use roadnet::{Command, Refusal};
 use std::alloc::Global;
 use std::sync::{Arc, Wait};
 use std::thread::Threads;
+use std::time::Clock;
 use store::Store;
 
 /// How a desk builds its views.
@@ -42,7 +43,7 @@ fn start_both<
     N: Naming + Send + Sync + 'static,
     D: Disk + Drop + Send + 'static,
     G: Gate + Drop + Send + Sync + 'static,
-    R: Threads + Wait + Copy + Send + Sync + 'static,
+    R: Threads + Wait + Clock + Copy + Send + Sync + 'static,
 >(rt: R, shared: &Arc<Shared<Office<N, D>, G>>, plan: Plan) -> Result<Started, Refusal>
     ensures causes { IfErr result IsUnstarted }
 {
@@ -88,6 +89,8 @@ impl<
         gate: G,
         setup: Setup,
     ) -> Result<Desk<N, D, G, R>, Refusal>
+    where
+        R: Clock,
         requires calm { is_calm store ≡ true }
         requires width { ForSome setup.delta IsWidth }
         requires workers { (1 ≤ setup.workers) × (setup.workers ≤ 64) }
@@ -168,6 +171,12 @@ impl<
     /// memory.
     pub fn halt(&self) {
         self.handle.halt()
+    }
+
+    /// Halts the desk, and waits until its flusher has ended: what was accepted is durable then, or won't be, and nothing more is written to
+    /// the disk. The last view may still be built.
+    pub fn end_writing(&self) {
+        self.handle.end_writing()
     }
 
     /// What threads share to call the desk at once.

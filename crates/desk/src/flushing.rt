@@ -7,6 +7,7 @@ use disk::Disk;
 use machine::PAGES_OF_STEP;
 use office::{Naming, Office};
 use std::sync::Wait;
+use std::time::Clock;
 use store::Part;
 
 impl<N: Naming, D: Disk + Drop, G: Gate + Drop> Shared<Office<N, D>, G> {
@@ -48,7 +49,7 @@ impl<N: Naming, D: Disk + Drop, G: Gate + Drop> Shared<Office<N, D>, G> {
 }
 
 /// What the flusher does until it ends.
-pub(crate) fn flush_pending<N: Naming, D: Disk + Drop, G: Gate + Drop, R: Wait>(
+pub(crate) fn flush_pending<N: Naming, D: Disk + Drop, G: Gate + Drop, R: Wait + Clock>(
     rt: &R,
     shared: &Shared<Office<N, D>, G>,
 ) {
@@ -71,6 +72,7 @@ pub(crate) fn flush_pending<N: Naming, D: Disk + Drop, G: Gate + Drop, R: Wait>(
         if !misses.goes_on(attempt) {
             break;
         }
+        shared.rest_behind(rt, misses, attempt);
     }
     shared.end_flusher(rt);
 }

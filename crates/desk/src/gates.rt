@@ -12,6 +12,9 @@ pub trait Gate {
     /// The flusher is about to make a step of the checkpoint of this version: of the one that is going, or else of one that begins. `false`
     /// counts as an attempt that found no memory.
     fn before_step(&self, version: u64) -> bool;
+
+    /// The builder found no memory three times in a row, and ends: no later version is shown.
+    fn builder_gave_up(&self) {}
 }
 
 /// Nothing is held up.

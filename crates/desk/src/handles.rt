@@ -84,6 +84,13 @@ impl<N: Naming, D: Disk + Drop, G: Gate + Drop, R: Wait + Copy> Handle<N, D, G, 
     }
 }
 
+impl<N: Naming, D: Disk + Drop, G: Gate + Drop, R: Wait + Copy> Handle<N, D, G, R> {
+    /// As the desk's.
+    pub(crate) fn end_writing(&self) {
+        self.shared.end_writing(&self.rt)
+    }
+}
+
 impl<N: Naming, D: Disk + Drop, G: Gate + Drop, R: Threads + Wait + Copy> Handle<N, D, G, R> {
     /// Halts the desk, waits for its threads, and closes the office that they have left.
     ///

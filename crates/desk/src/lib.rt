@@ -8,6 +8,7 @@ mod desks;
 mod flushing;
 mod gates;
 mod handles;
+mod last;
 mod locked;
 mod pins;
 mod plans;

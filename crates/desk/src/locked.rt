@@ -87,10 +87,14 @@ impl<N: Naming, D: Disk> Locked<Office<N, D>> {
         FlusherTurn::Rest
     }
 
-    /// What the builder is to do: show what is durable, and end where no more becomes durable.
+    /// What the builder is to do: rest where the desk is halted until no more becomes durable, so that the last view alone is built then;
+    /// else show what is durable, and end where no more becomes durable.
     pub(crate) fn builder_turn(&self) -> BuilderTurn
-        ensures { result ≡ builder_turn_of self.now.office.machine self.now.flusher_ended }
+        ensures { result ≡ builder_turn_of self.now.office.machine self.now.halted self.now.flusher_ended }
     {
+        if self.halted && !self.flusher_ended {
+            return BuilderTurn::Rest;
+        }
         if self.office.shown() != self.office.durable() {
             return BuilderTurn::Build {
                 durable: self.office.durable(),

@@ -5,6 +5,7 @@ ghost use Rattle.rows.specs.Kept.{IsWidth};
 ghost use Rattle.snapshot.specs.Groups.{default_width};
 
 use crate::gates::{Gate, NoGate};
+use crate::last::{UNKNOWN, Unbuilt};
 use crate::row_workers::{RowJob, landmark_rows};
 use disk::Disk;
 use keeper::Task;
@@ -13,6 +14,7 @@ use rows::View;
 use snapshot::{Snapshot, default_delta};
 use std::alloc::Global;
 use std::sync::Arc;
+use std::sync::atomic::AtomicU64;
 use std::thread::Threads;
 use store::Store;
 
@@ -30,14 +32,16 @@ pub(crate) struct Plan {
 }
 
 impl Plan {
-    /// A view of this network at this version: the rows of its landmarks are made by the row workers. The one error is want of memory.
+    /// A view of this network at this version: the rows of its landmarks are made by the row workers. It is given up where the version is
+    /// passed over meanwhile.
     fn view_of<G: Gate + Sync, R: Threads + Sync>(
         &self,
         rt: &R,
         gate: &G,
+        last: &AtomicU64,
         version: u64,
         network: &Network,
-    ) -> Result<Arc<View>, OutOfMemory>
+    ) -> Result<Arc<View>, Unbuilt>
         ensures version { IfOk result (λ view. view.value.version ≡ version) }
         ensures network { IfOk result (λ view. view.value.network ≡ network.now) }
         ensures width { IfOk result (λ view. view.value.delta ≡ unwrap_or self.now.delta (default_width network.now)) }
@@ -53,6 +57,7 @@ impl Plan {
             &RowJob {
                 alloc: self.alloc,
                 gate,
+                last,
                 version,
                 network: &network,
                 snapshot: &snapshot,
@@ -61,25 +66,26 @@ impl Plan {
         )?;
         match Arc::new(self.alloc, View::assemble(version, network, snapshot, rows)) {
             Ok(view) => Ok(view),
-            Err(_) => Err(OutOfMemory),
+            Err(_) => Err(Unbuilt::OutOfMemory),
         }
     }
 
-    /// The view of a task.
+    /// The view of a task, as `view_of`.
     pub(crate) fn build<G: Gate + Sync, R: Threads + Sync>(
         &self,
         rt: &R,
         gate: &G,
+        last: &AtomicU64,
         task: &Task,
-    ) -> Result<Arc<View>, OutOfMemory>
+    ) -> Result<Arc<View>, Unbuilt>
         ensures version { IfOk result (λ view. view.value.version ≡ task.now.version) }
         ensures network { IfOk result (λ view. view.value.network ≡ task.now.network.value) }
         ensures width { IfOk result (λ view. view.value.delta ≡ unwrap_or self.now.delta (default_width task.now.network.value)) }
     {
-        self.view_of(rt, gate, task.version, &task.network)
+        self.view_of(rt, gate, last, task.version, &task.network)
     }
 
-    /// The view of what a store has, made without a call of a gate.
+    /// The view of what a store has, made without a call of a gate. The one error is want of memory.
     pub(crate) fn first<D: Disk, R: Threads + Sync>(
         &self,
         rt: &R,
@@ -89,6 +95,10 @@ impl Plan {
         ensures network { IfOk result (λ view. view.value.network ≡ store.now.network) }
         ensures width { IfOk result (λ view. view.value.delta ≡ unwrap_or self.now.delta (default_width store.now.network)) }
     {
-        self.view_of(rt, &NoGate, store.version(), store.network())
+        let last = AtomicU64::new(UNKNOWN);
+        match self.view_of(rt, &NoGate, &last, store.version(), store.network()) {
+            Ok(view) => Ok(view),
+            Err(_) => Err(OutOfMemory),
+        }
     }
 }

@@ -5,13 +5,15 @@ ghost use Rattle.rows.specs.Views.{AreLandmarkRows, IsRowAt};
 ghost use Rattle.desk.specs.Shares.{share_of, AreRowsOf, AreDealt};
 
 use crate::gates::Gate;
+use crate::last::{Unbuilt, is_passed};
 use deltastep::{RowError, Workspace, row_in};
 use relax::{CHUNK, Crew, Team};
-use roadnet::{Network, OutOfMemory};
+use roadnet::Network;
 use rows::Row;
 use snapshot::Snapshot;
 use std::alloc::Global;
 use std::collections::VecDeque;
+use std::sync::atomic::AtomicU64;
 use std::thread::{self, Threads};
 
 /// A version whose rows are wanted, and by how many workers.
@@ -19,6 +21,7 @@ use std::thread::{self, Threads};
 pub(crate) struct RowJob<'a, G> {
     pub(crate) alloc: Global,
     pub(crate) gate: &'a G,
+    pub(crate) last: &'a AtomicU64,
     pub(crate) version: u64,
     pub(crate) network: &'a Network,
     pub(crate) snapshot: &'a Snapshot,
@@ -32,7 +35,7 @@ impl<G> RowJob<'_, G> {
         landmark: u32,
         team: &T,
         workspace: &mut Workspace,
-    ) -> Result<Row, OutOfMemory>
+    ) -> Result<Row, Unbuilt>
         requires snapshot { IsSnapshotOf self.now.network.now self.now.snapshot.now }
         requires node { (1 ≤ landmark) × (landmark ≤ self.now.snapshot.now.nodes) }
         ensures landmark { IfOk result (λ row. row.landmark ≡ landmark) }
@@ -44,15 +47,15 @@ impl<G> RowJob<'_, G> {
                 version: self.version,
                 distances,
             }),
-            Err(RowError::OutOfMemory) => Err(OutOfMemory),
+            Err(RowError::OutOfMemory) => Err(Unbuilt::OutOfMemory),
         }
     }
 }
 
 impl<G: Gate> RowJob<'_, G> {
     /// The rows of one worker's landmarks, in their order: of so many workers, the one of this number, from 0 on, has the landmark at
-    /// that place and each `workers`-th behind it.
-    fn rows_of<R: Threads>(&self, rt: &R, worker: u32) -> Result<VecDeque<Row>, OutOfMemory>
+    /// that place and each `workers`-th behind it. Before each row it is asked whether the version is passed over by now.
+    fn rows_of<R: Threads>(&self, rt: &R, worker: u32) -> Result<VecDeque<Row>, Unbuilt>
         requires snapshot { IsSnapshotOf self.now.network.now self.now.snapshot.now }
         requires worker { worker < self.now.workers }
         requires few { self.now.workers ≤ 64 }
@@ -68,22 +71,24 @@ impl<G: Gate> RowJob<'_, G> {
                 continue;
             }
             passed = self.workers - 1;
+            if is_passed(self.last, self.version) {
+                return Err(Unbuilt::PassedOver);
+            }
             self.gate.before_row(worker + 1, *landmark);
             let row = self.row_of(*landmark, &crew, &mut workspace)?;
             if rows.push_back(row).is_err() {
-                return Err(OutOfMemory);
+                return Err(Unbuilt::OutOfMemory);
             }
         }
         Ok(rows)
     }
 }
 
-/// The rows of all landmarks, in their order, each worker's in a thread of its own where the system gives one. The one error is want of
-/// memory.
+/// The rows of all landmarks, in their order, each worker's in a thread of its own where the system gives one.
 pub(crate) fn landmark_rows<G: Gate + Sync, R: Threads + Sync>(
     rt: &R,
     job: &RowJob<'_, G>,
-) -> Result<Vec<Row>, OutOfMemory>
+) -> Result<Vec<Row>, Unbuilt>
     requires snapshot { IsSnapshotOf job.now.network.now job.now.snapshot.now }
     requires some { 1 ≤ job.now.workers }
     requires few { job.now.workers ≤ 64 }
@@ -94,7 +99,7 @@ pub(crate) fn landmark_rows<G: Gate + Sync, R: Threads + Sync>(
         rt,
         job.alloc,
         workers,
-        &|worker: usize| -> Result<VecDeque<Row>, OutOfMemory>
+        &|worker: usize| -> Result<VecDeque<Row>, Unbuilt>
             requires snapshot { IsSnapshotOf job.now.network.now job.now.snapshot.now }
             requires worker { worker < job.now.workers }
             requires few { job.now.workers ≤ 64 }
@@ -103,21 +108,18 @@ pub(crate) fn landmark_rows<G: Gate + Sync, R: Threads + Sync>(
     );
     match made {
         Ok(made) => gather(job, all_made(job.alloc, made)?),
-        Err(_) => Err(OutOfMemory),
+        Err(_) => Err(Unbuilt::OutOfMemory),
     }
 }
 
 /// All values, in their order, where each was made.
-fn all_made<T: Drop>(
-    alloc: Global,
-    made: Vec<Result<T, OutOfMemory>>,
-) -> Result<VecDeque<T>, OutOfMemory>
+fn all_made<T: Drop>(alloc: Global, made: Vec<Result<T, Unbuilt>>) -> Result<VecDeque<T>, Unbuilt>
     ensures { IfOk result (λ values. made.items ≡ map Ok values.items) }
 {
     let mut values = VecDeque::new(alloc);
     for value in made {
         if values.push_back(value?).is_err() {
-            return Err(OutOfMemory);
+            return Err(Unbuilt::OutOfMemory);
         }
     }
     Ok(values)
@@ -139,10 +141,7 @@ fn next_row<G>(job: &RowJob<'_, G>, left: &[u32], parts: &mut VecDeque<VecDeque<
 }
 
 /// The rows of all landmarks, in their order, out of those of each worker.
-fn gather<G>(
-    job: &RowJob<'_, G>,
-    mut parts: VecDeque<VecDeque<Row>>,
-) -> Result<Vec<Row>, OutOfMemory>
+fn gather<G>(job: &RowJob<'_, G>, mut parts: VecDeque<VecDeque<Row>>) -> Result<Vec<Row>, Unbuilt>
     requires dealt { AreDealt job.now.version job.now.network.now job.now.workers job.now.network.now.landmarks (map (λ rows. rows.items) parts.items) }
     requires workers { 1 ≤ job.now.workers }
     ensures { IfOk result (λ rows. AreLandmarkRows job.now.version job.now.network.now rows.items) }
@@ -150,7 +149,7 @@ fn gather<G>(
     let landmarks = job.network.landmarks();
     let mut rows = match Vec::with_capacity(job.alloc, landmarks.len()) {
         Ok(rows) => rows,
-        Err(_) => return Err(OutOfMemory),
+        Err(_) => return Err(Unbuilt::OutOfMemory),
     };
     for place in 0..landmarks.len() {
         rows.push_reserved(next_row(job, &landmarks[place..], &mut parts));

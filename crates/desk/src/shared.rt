@@ -4,13 +4,17 @@ ghost use Rattle.roadnet.specs.declared.refusals.Refusal.TheVariants.{NoReaderPl
 ghost use Rattle.machine.specs.Laws.{IsAt};
 ghost use Rattle.desk.specs.Turns.{IsUnserved, IsUntaken, WereShown};
 
+use crate::attempts::{Attempt, Misses};
 use crate::gates::Gate;
+use crate::last::UNKNOWN;
 use crate::locked::{BuilderTurn, FlusherTurn, Locked};
 use disk::Disk;
 use office::{Naming, Office, Receipt, Ticket};
 use published::{Reader, Shown};
 use roadnet::{Command, Refusal};
+use std::sync::atomic::{AtomicU64, Ordering};
 use std::sync::{Condvar, Mutex, MutexGuard, Wait};
+use std::time::{Clock, Duration};
 
 /// The lock, and what is waited for.
 #[derive(Drop)]
@@ -22,6 +26,10 @@ pub(crate) struct Shared<O, G> {
     pub(crate) flushed: Condvar,
     /// A view was shown, or a thread ended: those that wait for a view do so by it.
     pub(crate) published: Condvar,
+    /// The desk was halted: a thread that rests waits for it.
+    pub(crate) halting: Condvar,
+    /// The last version, once no more becomes durable. Row workers ask it without the lock.
+    pub(crate) last: AtomicU64,
     pub(crate) gate: G,
 }
 
@@ -106,6 +114,16 @@ impl<N: Naming, D: Disk + Drop, G: Gate + Drop> Shared<Office<N, D>, G> {
         guard.shown_since(ticket)
     }
 
+    /// The flusher has ended: what is durable is the last version.
+    pub(crate) fn end_flusher<R: Wait>(&self, rt: &R) {
+        let mut guard = self.locked.lock(rt);
+        self.last.store(guard.office.durable(), Ordering::SeqCst);
+        guard.flusher_ended = true;
+        drop(guard);
+        self.flushed.notify_all();
+        self.published.notify_all();
+    }
+
     /// A reader of the readers' copy.
     pub(crate) fn reader<R: Wait>(&self, rt: &R) -> Result<Reader, Refusal>
         ensures origin { IfOk result (λ reader. reader.origin ≡ N.origin) }
@@ -123,6 +141,8 @@ impl<O, G> Shared<O, G> {
             submitted: Condvar::new(),
             flushed: Condvar::new(),
             published: Condvar::new(),
+            halting: Condvar::new(),
+            last: AtomicU64::new(UNKNOWN),
             gate,
         }
     }
@@ -131,13 +151,33 @@ impl<O, G> Shared<O, G> {
     pub(crate) fn halt<R: Wait>(&self, rt: &R) {
         self.locked.lock(rt).halted = true;
         self.submitted.notify_all();
+        self.halting.notify_all();
     }
 
-    /// The flusher has ended.
-    pub(crate) fn end_flusher<R: Wait>(&self, rt: &R) {
-        self.locked.lock(rt).flusher_ended = true;
-        self.flushed.notify_all();
-        self.published.notify_all();
+    /// Rests behind an attempt of a thread, which is counted, where it found no memory. A halt that comes meanwhile ends the rest.
+    pub(crate) fn rest_behind<R: Wait + Clock>(&self, rt: &R, misses: Misses, attempt: Attempt) {
+        let millis = misses.rest(attempt);
+        if millis == 0 {
+            return;
+        }
+        let guard = self.locked.lock(rt);
+        let halted = guard.halted;
+        let _ = self.halting.wait_timeout_while(
+            rt,
+            guard,
+            Duration::from_millis(millis),
+            |locked: &mut Locked<O>| locked.halted == halted,
+        );
+    }
+
+    /// Halts, and waits until the flusher has ended.
+    pub(crate) fn end_writing<R: Wait>(&self, rt: &R) {
+        self.halt(rt);
+        let _ = self.flushed.wait_while(
+            rt,
+            self.locked.lock(rt),
+            |locked: &mut Locked<O>| !locked.flusher_ended,
+        );
     }
 
     /// The builder has ended.
@@ -155,6 +195,8 @@ impl<O: Drop, G: Drop> Shared<O, G> {
             submitted: _,
             flushed: _,
             published: _,
+            halting: _,
+            last: _,
             gate: _,
         } = self;
         let Locked {

@@ -263,7 +263,7 @@ fn all_agree<N: Naming, D: Disk>(closed: &Closed<D>, made: &[Result<Noted<N>, Re
 fn agreed<
     N: Naming + Send + Sync + 'static,
     D: Disk + Drop + Send + 'static,
-    R: Threads + Wait + Copy + Send + Sync + 'static,
+    R: Threads + Wait + Clock + Copy + Send + Sync + 'static,
 >(
     desk: Desk<N, D, NoGate, R>,
     made: Vec<Result<Noted<N>, Refusal>>,

@@ -12,6 +12,7 @@ use std::sync::Wait;
 use std::sync::atomic::{AtomicU64, Ordering};
 use std::test::Fail;
 use std::thread::Threads;
+use std::time::Clock;
 use store::{Store, create, open};
 
 pub(crate) const CLOSE: Command = Command::Close { arc: 7 };
@@ -101,7 +102,7 @@ pub(crate) fn settled<
     N: Naming + Send + Sync + 'static,
     D: Disk + Drop + Send + 'static,
     G: Gate + Drop + Send + Sync + 'static,
-    R: Threads + Wait + Copy + Send + Sync + 'static,
+    R: Threads + Wait + Clock + Copy + Send + Sync + 'static,
 >(desk: &Desk<N, D, G, R>, command: Command) -> Result<Receipt, Refusal>
     ensures { IfOk result (λ receipt. receipt.origin ≡ N.origin) }
 {
@@ -124,7 +125,7 @@ pub(crate) fn settled_number<
     N: Naming + Send + Sync + 'static,
     D: Disk + Drop + Send + 'static,
     G: Gate + Drop + Send + Sync + 'static,
-    R: Threads + Wait + Copy + Send + Sync + 'static,
+    R: Threads + Wait + Clock + Copy + Send + Sync + 'static,
 >(desk: &Desk<N, D, G, R>, ticket: Ticket) -> Result<u64, Refusal>
     requires { ticket.origin ≡ N.origin }
 {
@@ -142,7 +143,7 @@ pub(crate) fn told_of<
     N: Naming + Send + Sync + 'static,
     D: Disk + Drop + Send + 'static,
     G: Gate + Drop + Send + Sync + 'static,
-    R: Threads + Wait + Copy + Send + Sync + 'static,
+    R: Threads + Wait + Clock + Copy + Send + Sync + 'static,
 >(desk: &Desk<N, D, G, R>, ticket: Ticket) -> Told
     requires { ticket.origin ≡ N.origin }
 {
@@ -157,7 +158,7 @@ pub(crate) fn ended<
     D: Disk + Drop + Send + 'static,
     G: Gate + Drop + Send + Sync + 'static,
     T: Drop,
-    R: Threads + Wait + Copy + Send + Sync + 'static,
+    R: Threads + Wait + Clock + Copy + Send + Sync + 'static,
 >(desk: Desk<N, D, G, R>, told: Result<T, Refusal>) -> Result<(T, usize), Refusal> {
     let closed = desk.close()?;
     let count = closed.history.len();
@@ -168,7 +169,7 @@ pub(crate) fn ended<
 fn written<
     N: Naming + Send + Sync + 'static,
     D: Disk + Drop + Send + 'static,
-    R: Threads + Wait + Copy + Send + Sync + 'static,
+    R: Threads + Wait + Clock + Copy + Send + Sync + 'static,
 >(desk: &Desk<N, D, NoGate, R>) -> Result<Shown, Refusal>
     ensures { IfOk result (λ shown. shown.origin ≡ N.origin) }
 {
@@ -180,7 +181,7 @@ fn written<
 fn write_and_learn<
     N: Naming + Send + Sync + 'static,
     D: Disk + Drop + Send + 'static,
-    R: Threads + Wait + Copy + Send + Sync + 'static,
+    R: Threads + Wait + Clock + Copy + Send + Sync + 'static,
 >(desk: &Desk<N, D, NoGate, R>, reader: &mut Reader<N>) -> Result<(), Refusal> {
     let shown = written(desk)?;
     reader.learn(&shown);
@@ -194,7 +195,7 @@ type Read = ((u64, Reply), (u64, Reply));
 fn write_and_read<
     N: Naming + Send + Sync + 'static,
     D: Disk + Drop + Send + 'static,
-    R: Threads + Wait + Copy + Send + Sync + 'static,
+    R: Threads + Wait + Clock + Copy + Send + Sync + 'static,
 >(
     rt: &R,
     alloc: Global,
@@ -211,7 +212,7 @@ fn write_and_read<
 fn read_once<
     N: Naming + Send + Sync + 'static,
     D: Disk + Drop + Send + 'static,
-    R: Threads + Wait + Copy + Send + Sync + 'static,
+    R: Threads + Wait + Clock + Copy + Send + Sync + 'static,
 >(rt: &R, alloc: Global, desk: &Desk<N, D, NoGate, R>) -> Result<Read, Refusal> {
     let mut reader = desk.reader()?;
     write_and_read(rt, alloc, desk, &mut reader)
@@ -221,7 +222,7 @@ fn read_once<
 fn settle_and_read<
     N: Naming + Send + Sync + 'static,
     D: Disk + Drop + Send + 'static,
-    R: Threads + Wait + Copy + Send + Sync + 'static,
+    R: Threads + Wait + Clock + Copy + Send + Sync + 'static,
 >(rt: R, alloc: Global, history: History, store: Store<D>) -> Result<(Read, usize), Refusal>
     requires calm { is_calm store ≡ true }
     requires new { IsNewDesk N.origin history store }
@@ -248,7 +249,7 @@ fn read_your_write(rt: HostRuntime) -> Result<(), Fail> {
 fn refused_behind_halt<
     N: Naming + Send + Sync + 'static,
     D: Disk + Drop + Send + 'static,
-    R: Threads + Wait + Copy + Send + Sync + 'static,
+    R: Threads + Wait + Clock + Copy + Send + Sync + 'static,
 >(desk: &Desk<N, D, NoGate, R>) -> Result<(), Refusal> {
     desk.halt();
     refusal_of(desk.submit(SHORTER))
@@ -258,7 +259,7 @@ fn refused_behind_halt<
 fn halt_behind_one<
     N: Naming + Send + Sync + 'static,
     D: Disk + Drop + Send + 'static,
-    R: Threads + Wait + Copy + Send + Sync + 'static,
+    R: Threads + Wait + Clock + Copy + Send + Sync + 'static,
 >(desk: &Desk<N, D, NoGate, R>) -> Result<(Result<(), Refusal>, Told), Refusal> {
     let ticket = desk.submit(CLOSE)?;
     let refused = refused_behind_halt(desk);
@@ -273,7 +274,7 @@ type Halted = ((Result<(), Refusal>, Told), usize);
 fn halt_one<
     N: Naming + Send + Sync + 'static,
     D: Disk + Drop + Send + 'static,
-    R: Threads + Wait + Copy + Send + Sync + 'static,
+    R: Threads + Wait + Clock + Copy + Send + Sync + 'static,
 >(rt: R, alloc: Global, history: History, store: Store<D>) -> Result<Halted, Refusal>
     requires calm { is_calm store ≡ true }
     requires new { IsNewDesk N.origin history store }
@@ -298,7 +299,7 @@ fn halted_desk_takes_no_command(rt: HostRuntime) -> Result<(), Fail> {
 fn all_readers<
     N: Naming + Send + Sync + 'static,
     D: Disk + Drop + Send + 'static,
-    R: Threads + Wait + Copy + Send + Sync + 'static,
+    R: Threads + Wait + Clock + Copy + Send + Sync + 'static,
 >(alloc: Global, desk: &Desk<N, D, NoGate, R>) -> Result<Vec<Reader<N>>, Refusal> {
     let mut readers = Vec::new(alloc);
     for _ in 0..64u32 {
@@ -317,7 +318,7 @@ type Places = (Result<(), Refusal>, Result<(), Refusal>);
 fn one_more_reader<
     N: Naming + Send + Sync + 'static,
     D: Disk + Drop + Send + 'static,
-    R: Threads + Wait + Copy + Send + Sync + 'static,
+    R: Threads + Wait + Clock + Copy + Send + Sync + 'static,
 >(alloc: Global, desk: &Desk<N, D, NoGate, R>) -> Result<Places, Refusal> {
     let mut readers = all_readers(alloc, desk)?;
     let one_more = refusal_of(desk.reader());
@@ -330,7 +331,7 @@ fn one_more_reader<
 fn fill_places<
     N: Naming + Send + Sync + 'static,
     D: Disk + Drop + Send + 'static,
-    R: Threads + Wait + Copy + Send + Sync + 'static,
+    R: Threads + Wait + Clock + Copy + Send + Sync + 'static,
 >(rt: R, alloc: Global, history: History, store: Store<D>) -> Result<(Places, usize), Refusal>
     requires calm { is_calm store ≡ true }
     requires new { IsNewDesk N.origin history store }
@@ -356,7 +357,7 @@ pub(crate) fn try_in<
     N: Naming + Send + Sync + 'static,
     D: Disk + Drop + Send + 'static,
     G: Gate + Drop + Send + Sync + 'static,
-    R: Threads + Wait + Copy + Send + Sync + 'static,
+    R: Threads + Wait + Clock + Copy + Send + Sync + 'static,
 >(desk: &Desk<N, D, G, R>) -> Result<Told, Refusal> {
     let ticket = desk.submit(CLOSE)?;
     Ok(told_of(desk, ticket))
@@ -367,7 +368,7 @@ fn try_one<
     N: Naming + Send + Sync + 'static,
     D: Disk + Drop + Send + 'static,
     G: Gate + Drop + Send + Sync + 'static,
-    R: Threads + Wait + Copy + Send + Sync + 'static,
+    R: Threads + Wait + Clock + Copy + Send + Sync + 'static,
 >(
     rt: R,
     alloc: Global,
@@ -450,7 +451,7 @@ pub(crate) fn short_gate(flushes: [bool; 3], tasks: [bool; 3], steps: [bool; 3])
 
 /// What is answered of one command by a desk of a new store, whose flushes and tasks find memory as these flags say; and how many the desk
 /// had when it was closed.
-fn try_beside<R: Threads + Wait + Copy + Send + Sync + 'static>(
+fn try_beside<R: Threads + Wait + Clock + Copy + Send + Sync + 'static>(
     rt: R,
     alloc: Global,
     flushes: [bool; 3],
@@ -490,7 +491,7 @@ fn builder_ends_after_three_misses(rt: HostRuntime) -> Result<(), Fail> {
 fn is_settled_as<
     N: Naming + Send + Sync + 'static,
     D: Disk + Drop + Send + 'static,
-    R: Threads + Wait + Copy + Send + Sync + 'static,
+    R: Threads + Wait + Clock + Copy + Send + Sync + 'static,
 >(desk: &Desk<N, D, NoGate, R>, number: u64) -> Result<bool, Refusal> {
     let receipt = settled(desk, SHORTER)?;
     Ok(receipt.ticket().ticket().number == number)
@@ -500,7 +501,7 @@ fn is_settled_as<
 fn settle_in_order<
     N: Naming + Send + Sync + 'static,
     D: Disk + Drop + Send + 'static,
-    R: Threads + Wait + Copy + Send + Sync + 'static,
+    R: Threads + Wait + Clock + Copy + Send + Sync + 'static,
 >(desk: &Desk<N, D, NoGate, R>, count: u64) -> Result<bool, Refusal> {
     for number in 0..count {
         if !is_settled_as(desk, number + 1)? {
@@ -514,7 +515,7 @@ fn settle_in_order<
 fn settle_many<
     N: Naming + Send + Sync + 'static,
     D: Disk + Drop + Send + 'static,
-    R: Threads + Wait + Copy + Send + Sync + 'static,
+    R: Threads + Wait + Clock + Copy + Send + Sync + 'static,
 >(
     rt: R,
     alloc: Global,

@@ -16,6 +16,7 @@ use std::marker::Brand;
 use std::sync::Wait;
 use std::test::Fail;
 use std::thread::Threads;
+use std::time::Clock;
 use store::{Store, open};
 
 /// A reader of a desk that has one command, which may be pending.
@@ -23,7 +24,7 @@ fn reader_behind_one<
     N: Naming + Send + Sync + 'static,
     D: Disk + Drop + Send + 'static,
     G: Gate + Drop + Send + Sync + 'static,
-    R: Threads + Wait + Copy + Send + Sync + 'static,
+    R: Threads + Wait + Clock + Copy + Send + Sync + 'static,
 >(desk: &Desk<N, D, G, R>) -> Result<Reader<N>, Refusal> {
     desk.submit(CLOSE)?;
     desk.reader()
@@ -34,7 +35,7 @@ fn let_go<
     N: Naming + Send + Sync + 'static,
     D: Disk + Drop + Send + 'static,
     G: Gate + Drop + Send + Sync + 'static,
-    R: Threads + Wait + Copy + Send + Sync + 'static,
+    R: Threads + Wait + Clock + Copy + Send + Sync + 'static,
 >(
     rt: R,
     alloc: Global,
@@ -71,7 +72,7 @@ fn try_two<
     N: Naming + Send + Sync + 'static,
     D: Disk + Drop + Send + 'static,
     G: Gate + Drop + Send + Sync + 'static,
-    R: Threads + Wait + Copy + Send + Sync + 'static,
+    R: Threads + Wait + Clock + Copy + Send + Sync + 'static,
 >(desk: &Desk<N, D, G, R>) -> Result<(Told, Result<(), Refusal>), Refusal> {
     let told = try_in(desk)?;
     let refused = refusal_of(desk.submit(SHORTER));
@@ -83,7 +84,7 @@ fn look_behind_two<
     N: Naming + Send + Sync + 'static,
     D: Disk + Drop + Send + 'static,
     G: Gate + Drop + Send + Sync + 'static,
-    R: Threads + Wait + Copy + Send + Sync + 'static,
+    R: Threads + Wait + Clock + Copy + Send + Sync + 'static,
 >(rt: &R, alloc: Global, desk: &Desk<N, D, G, R>) -> Result<Broken, Refusal> {
     let mut reader = desk.reader()?;
     let told = try_two(desk)?;
@@ -96,7 +97,7 @@ fn go_on_looking<
     N: Naming + Send + Sync + 'static,
     D: Disk + Drop + Send + 'static,
     G: Gate + Drop + Send + Sync + 'static,
-    R: Threads + Wait + Copy + Send + Sync + 'static,
+    R: Threads + Wait + Clock + Copy + Send + Sync + 'static,
 >(
     rt: R,
     alloc: Global,
@@ -136,7 +137,7 @@ fn try_behind_steps<
     N: Naming + Send + Sync + 'static,
     D: Disk + Drop + Send + 'static,
     G: Gate + Drop + Send + Sync + 'static,
-    R: Threads + Wait + Copy + Send + Sync + 'static,
+    R: Threads + Wait + Clock + Copy + Send + Sync + 'static,
 >(desk: &Desk<N, D, G, R>) -> Result<Told, Refusal> {
     settled(desk, CLOSE)?;
     let ticket = desk.submit(SHORTER)?;
@@ -148,7 +149,7 @@ fn miss_three_steps<
     N: Naming + Send + Sync + 'static,
     D: Disk + Drop + Send + 'static,
     G: Gate + Drop + Send + Sync + 'static,
-    R: Threads + Wait + Copy + Send + Sync + 'static,
+    R: Threads + Wait + Clock + Copy + Send + Sync + 'static,
 >(
     rt: R,
     alloc: Global,
@@ -166,7 +167,7 @@ fn miss_three_steps<
 }
 
 /// The same of a desk of a new store with so many journal pages, whose flushes find memory as these flags say.
-fn miss_beside<R: Threads + Wait + Copy + Send + Sync + 'static>(
+fn miss_beside<R: Threads + Wait + Clock + Copy + Send + Sync + 'static>(
     rt: R,
     alloc: Global,
     journal_pages: u32,
@@ -212,7 +213,7 @@ type Outlived = ((u64, Reply), usize);
 fn close_beside<
     N: Naming + Send + Sync + 'static,
     D: Disk + Drop + Send + 'static,
-    R: Threads + Wait + Copy + Send + Sync + 'static,
+    R: Threads + Wait + Clock + Copy + Send + Sync + 'static,
 >(
     rt: &R,
     alloc: Global,
@@ -228,7 +229,7 @@ fn close_beside<
 fn pin_and_close<
     N: Naming + Send + Sync + 'static,
     D: Disk + Drop + Send + 'static,
-    R: Threads + Wait + Copy + Send + Sync + 'static,
+    R: Threads + Wait + Clock + Copy + Send + Sync + 'static,
 >(
     rt: &R,
     alloc: Global,
@@ -243,7 +244,7 @@ fn pin_and_close<
 fn look_behind_close<
     N: Naming + Send + Sync + 'static,
     D: Disk + Drop + Send + 'static,
-    R: Threads + Wait + Copy + Send + Sync + 'static,
+    R: Threads + Wait + Clock + Copy + Send + Sync + 'static,
 >(
     rt: &R,
     alloc: Global,
@@ -258,7 +259,7 @@ fn look_behind_close<
 fn close_beside_a_pin<
     N: Naming + Send + Sync + 'static,
     D: Disk + Drop + Send + 'static,
-    R: Threads + Wait + Copy + Send + Sync + 'static,
+    R: Threads + Wait + Clock + Copy + Send + Sync + 'static,
 >(
     rt: R,
     alloc: Global,

@@ -13,6 +13,7 @@ use std::marker::Brand;
 use std::sync::Wait;
 use std::test::Fail;
 use std::thread::Threads;
+use std::time::Clock;
 use store::{Store, open};
 
 /// What is answered of the command under which the disk fails, and what a reader sees behind it.
@@ -30,7 +31,7 @@ struct Left<D: Disk> {
 fn show_to<
     N: Naming + Send + Sync + 'static,
     D: Disk + Drop + Send + 'static,
-    R: Threads + Wait + Copy + Send + Sync + 'static,
+    R: Threads + Wait + Clock + Copy + Send + Sync + 'static,
 >(desk: &Desk<N, D, NoGate, R>, receipt: &Receipt, reader: &mut Reader<N>) -> Result<(), Refusal>
     requires { receipt.now.origin ≡ N.origin }
 {
@@ -43,7 +44,7 @@ fn show_to<
 fn try_second<
     N: Naming + Send + Sync + 'static,
     D: Disk + Drop + Send + 'static,
-    R: Threads + Wait + Copy + Send + Sync + 'static,
+    R: Threads + Wait + Clock + Copy + Send + Sync + 'static,
 >(desk: &Desk<N, D, NoGate, R>) -> Result<Told, Refusal> {
     let ticket = desk.submit(SHORTER)?;
     Ok(told_of(desk, ticket))
@@ -53,7 +54,7 @@ fn try_second<
 fn fail_beside<
     N: Naming + Send + Sync + 'static,
     D: Disk + Drop + Send + 'static,
-    R: Threads + Wait + Copy + Send + Sync + 'static,
+    R: Threads + Wait + Clock + Copy + Send + Sync + 'static,
 >(
     rt: &R,
     alloc: Global,
@@ -68,7 +69,7 @@ fn fail_beside<
 fn fail_behind<
     N: Naming + Send + Sync + 'static,
     D: Disk + Drop + Send + 'static,
-    R: Threads + Wait + Copy + Send + Sync + 'static,
+    R: Threads + Wait + Clock + Copy + Send + Sync + 'static,
 >(rt: &R, alloc: Global, desk: &Desk<N, D, NoGate, R>, first: &Receipt) -> Result<Failed, Refusal>
     requires { first.now.origin ≡ N.origin }
 {
@@ -81,7 +82,7 @@ fn fail_behind<
 fn left_of<
     N: Naming + Send + Sync + 'static,
     D: Disk + Drop + Send + 'static,
-    R: Threads + Wait + Copy + Send + Sync + 'static,
+    R: Threads + Wait + Clock + Copy + Send + Sync + 'static,
 >(desk: Desk<N, D, NoGate, R>, first: &Receipt) -> Result<Left<D>, Refusal>
     requires { first.now.origin ≡ N.origin }
 {
@@ -105,7 +106,7 @@ fn left_of<
 fn fail_and_close<
     N: Naming + Send + Sync + 'static,
     D: Disk + Drop + Send + 'static,
-    R: Threads + Wait + Copy + Send + Sync + 'static,
+    R: Threads + Wait + Clock + Copy + Send + Sync + 'static,
 >(
     rt: &R,
     alloc: Global,
@@ -123,7 +124,7 @@ fn fail_and_close<
 fn fail_second<
     N: Naming + Send + Sync + 'static,
     D: Disk + Drop + Send + 'static,
-    R: Threads + Wait + Copy + Send + Sync + 'static,
+    R: Threads + Wait + Clock + Copy + Send + Sync + 'static,
 >(rt: R, alloc: Global, history: History, store: Store<D>) -> Result<(Failed, Left<D>), Refusal>
     requires calm { is_calm store ≡ true }
     requires new { IsNewDesk N.origin history store }
@@ -135,7 +136,7 @@ fn fail_second<
 }
 
 /// The same over a disk that fails in this call.
-fn fail_at<R: Threads + Wait + Copy + Send + Sync + 'static>(
+fn fail_at<R: Threads + Wait + Clock + Copy + Send + Sync + 'static>(
     rt: R,
     alloc: Global,
     call: u64,

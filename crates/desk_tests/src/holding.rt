@@ -140,7 +140,7 @@ fn submit_first<
     N: Naming + Send + Sync + 'static,
     D: Disk + Drop + Send + 'static,
     G: Gate + Drop + Send + Sync + 'static,
-    R: Threads + Wait + Copy + Send + Sync + 'static,
+    R: Threads + Wait + Clock + Copy + Send + Sync + 'static,
 >(desk: &Desk<N, D, G, R>, signals: &Signals) -> Result<(), Refusal> {
     desk.submit(CLOSE)?;
     signals.submitted.store(true, Ordering::SeqCst);
@@ -310,7 +310,7 @@ fn settle_behind<
     N: Naming + Send + Sync + 'static,
     D: Disk + Drop + Send + 'static,
     G: Gate + Drop + Send + Sync + 'static,
-    R: Threads + Wait + Copy + Send + Sync + 'static,
+    R: Threads + Wait + Clock + Copy + Send + Sync + 'static,
 >(desk: &Desk<N, D, G, R>, signals: &Signals, ticket: Ticket) -> Result<u64, Refusal>
     requires { ticket.origin ≡ N.origin }
 {
@@ -415,7 +415,7 @@ fn are_refused<
     N: Naming + Send + Sync + 'static,
     D: Disk + Drop + Send + 'static,
     G: Gate + Drop + Send + Sync + 'static,
-    R: Threads + Wait + Copy + Send + Sync + 'static,
+    R: Threads + Wait + Clock + Copy + Send + Sync + 'static,
 >(desk: &Desk<N, D, G, R>, table: &[(Command, Refusal)]) -> bool {
     for (command, refusal) in table {
         if refusal_of(desk.submit(*command)) != Err(*refusal) {
@@ -430,7 +430,7 @@ fn fill<
     N: Naming + Send + Sync + 'static,
     D: Disk + Drop + Send + 'static,
     G: Gate + Drop + Send + Sync + 'static,
-    R: Threads + Wait + Copy + Send + Sync + 'static,
+    R: Threads + Wait + Clock + Copy + Send + Sync + 'static,
 >(desk: &Desk<N, D, G, R>, count: u32) -> Result<(), Refusal> {
     for _ in 0..count {
         desk.submit(SHORTER)?;
@@ -443,7 +443,7 @@ fn fill_and_ask<
     N: Naming + Send + Sync + 'static,
     D: Disk + Drop + Send + 'static,
     G: Gate + Drop + Send + Sync + 'static,
-    R: Threads + Wait + Copy + Send + Sync + 'static,
+    R: Threads + Wait + Clock + Copy + Send + Sync + 'static,
 >(desk: &Desk<N, D, G, R>, signals: &Signals) -> Result<bool, Refusal> {
     fill(desk, 4095)?;
     let is_full = are_refused(desk, &[(SHORTER, Refusal::QueueFull)]);
@@ -456,7 +456,7 @@ fn refuse_all<
     N: Naming + Send + Sync + 'static,
     D: Disk + Drop + Send + 'static,
     G: Gate + Drop + Send + Sync + 'static,
-    R: Threads + Wait + Copy + Send + Sync + 'static,
+    R: Threads + Wait + Clock + Copy + Send + Sync + 'static,
 >(
     desk: &Desk<N, D, G, R>,
     signals: &Signals,
@@ -472,7 +472,7 @@ fn fill_the_queue<
     N: Naming + Send + Sync + 'static,
     D: Disk + Drop + Send + 'static,
     G: Gate + Drop + Send + Sync + 'static,
-    R: Threads + Wait + Copy + Send + Sync + 'static,
+    R: Threads + Wait + Clock + Copy + Send + Sync + 'static,
 >(
     rt: R,
     alloc: Global,

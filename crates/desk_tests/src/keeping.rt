@@ -14,13 +14,14 @@ use std::marker::Brand;
 use std::sync::Wait;
 use std::test::Fail;
 use std::thread::Threads;
+use std::time::Clock;
 use store::{Store, create, open};
 
 /// Closes the desk, which confirms the receipt's command.
 fn close_behind<
     N: Naming + Send + Sync + 'static,
     D: Disk + Drop + Send + 'static,
-    R: Threads + Wait + Copy + Send + Sync + 'static,
+    R: Threads + Wait + Clock + Copy + Send + Sync + 'static,
 >(desk: Desk<N, D, NoGate, R>, receipt: &Receipt) -> Result<Closed<D>, Refusal>
     requires receipt { receipt.now.origin ≡ N.origin }
     requires tidy { N.came_tidy }
@@ -38,7 +39,7 @@ fn close_behind<
 fn settle_and_close<
     N: Naming + Send + Sync + 'static,
     D: Disk + Drop + Send + 'static,
-    R: Threads + Wait + Copy + Send + Sync + 'static,
+    R: Threads + Wait + Clock + Copy + Send + Sync + 'static,
 >(rt: R, alloc: Global, history: History, store: Store<D>) -> Result<Closed<D>, Refusal>
     requires calm { is_calm store ≡ true }
     requires new { IsNewDesk N.origin history store }
@@ -54,7 +55,7 @@ fn settle_and_close<
 
 /// What is left of a desk over a new store, which settled a command: by contract alone each content that a stop may leave of its disk stands
 /// for the network after a beginning of its history that has this command.
-fn keep_one<R: Threads + Wait + Copy + Send + Sync + 'static>(
+fn keep_one<R: Threads + Wait + Clock + Copy + Send + Sync + 'static>(
     rt: R,
     alloc: Global,
 ) -> Result<Closed<MemDisk>, Refusal>

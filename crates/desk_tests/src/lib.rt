@@ -17,3 +17,5 @@ mod keeping;
 mod lasting;
 #[cfg(test)]
 mod limits;
+#[cfg(test)]
+mod rests;

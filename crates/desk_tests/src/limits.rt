@@ -12,6 +12,7 @@ use std::marker::Brand;
 use std::sync::Wait;
 use std::test::Fail;
 use std::thread::Threads;
+use std::time::Clock;
 use store::{Store, create, open};
 
 /// What is answered of one command, and how many the desk had when it was closed.
@@ -21,7 +22,7 @@ type Asked = (Result<(), Refusal>, usize);
 fn ask_desk<
     N: Naming + Send + Sync + 'static,
     D: Disk + Drop + Send + 'static,
-    R: Threads + Wait + Copy + Send + Sync + 'static,
+    R: Threads + Wait + Clock + Copy + Send + Sync + 'static,
 >(
     rt: R,
     alloc: Global,
@@ -39,7 +40,7 @@ fn ask_desk<
 }
 
 /// For what a desk of this store in memory refuses a command.
-fn ask_of<R: Threads + Wait + Copy + Send + Sync + 'static>(
+fn ask_of<R: Threads + Wait + Clock + Copy + Send + Sync + 'static>(
     rt: R,
     alloc: Global,
     store: Store<MemDisk>,

@@ -2,9 +2,11 @@
 ghost use Rattle.std.specs.Prelude.{◌≡◌};
 ghost use Rattle.disk.specs.Contents.{failures_after};
 
-use crate::RawFile;
+use crate::system::FileLock;
 use crate::whole::{read_whole, write_whole};
+use crate::{RawFile, SystemFile};
 use disk::{Disk, DiskError};
+use std::io;
 
 /// A disk in an open file. A read or write that the file does in part is finished or fails. Each call that fails is counted, up to
 /// `u64::MAX`.
@@ -51,6 +53,13 @@ impl<F> FileDisk<F> {
         ensures { result ≡ file_of self }
     {
         self.file
+    }
+}
+
+impl FileDisk<SystemFile> {
+    /// The lock of the disk's file, to be let go before the disk is dropped. The one error is of the system, which gives no further handle.
+    pub fn lock(&self) -> io::Result<FileLock> {
+        self.file.held()
     }
 }
 

@@ -15,6 +15,7 @@ pub use file_disk::FileDisk;
 pub use mem_file::MemFile;
 pub use opened::{MadeFile, NewFile, OpenError, create_file, open_file, open_to_read};
 pub use raw_file::RawFile;
+pub use system::FileLock;
 pub use system_file::SystemFile;
 
 #[cfg(test)]

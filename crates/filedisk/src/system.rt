@@ -16,6 +16,21 @@ pub(crate) struct NotedFile<F> {
     notes: Notes,
 }
 
+/// The lock of a file that a disk has open, which may be let go before the disk is dropped: once nothing more is read of the disk and nothing
+/// written, others need not wait for its end. It is another handle of the file; dropped, it leaves the lock as it is. That call is not among
+/// those that are noted of the file.
+#[derive(Drop)]
+pub struct FileLock {
+    file: File,
+}
+
+impl FileLock {
+    /// Lets the lock go: others may lock the file from then on.
+    pub fn let_go(self) -> io::Result<()> {
+        self.file.unlock()
+    }
+}
+
 /// What a call answered that tells nothing.
 pub(crate) fn as_done<'a>(answer: &io::Result<()>) -> Answer<'a>
     ensures { outcome_of result ≡ done answer.now }
@@ -150,5 +165,12 @@ impl NotedFile<File> {
         };
         self.note(Asked::Lock(share), as_done(&answer));
         answer
+    }
+
+    /// The lock of the file, to be let go before the file is closed.
+    pub(crate) fn held(&self) -> io::Result<FileLock> {
+        Ok(FileLock {
+            file: self.file.try_clone()?,
+        })
     }
 }

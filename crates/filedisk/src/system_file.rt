@@ -3,7 +3,7 @@ ghost use Rattle.std.specs.Prelude.{◌≡◌, ◌≤◌, [], ◌∷◌, true, f
 ghost use Rattle.filedisk.specs.Noted.{Size, Read, Write, Lengthen, SyncAll, SyncData, told, done, gave, Makes, MakesSync, has_failed_sync, has_synced_length};
 
 use crate::RawFile;
-use crate::system::NotedFile;
+use crate::system::{FileLock, NotedFile};
 use std::fs::File;
 use std::io;
 use std::io::ErrorKind;
@@ -67,6 +67,11 @@ impl SystemFile {
             sync_failed: false,
             length_synced: false,
         }
+    }
+
+    /// The file's lock.
+    pub(crate) fn held(&self) -> io::Result<FileLock> {
+        self.file.held()
     }
 }
 

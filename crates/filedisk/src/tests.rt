@@ -143,6 +143,13 @@ fn a_file_that_another_holds(rt: HostRuntime) -> Result<(), Fail> {
     other.unlock()?;
     let disk = open_file(&rt, path);
     assert!(rt; disk.is_ok() && other.try_lock().is_err() && other.try_lock_shared().is_err());
+    if let Ok(disk) = &disk {
+        drop(disk.lock()?);
+        assert!(rt; other.try_lock_shared().is_err());
+        disk.lock()?.let_go()?;
+        assert!(rt; other.try_lock().is_ok());
+        other.unlock()?;
+    }
     drop(disk);
     let disk = open_to_read(&rt, path);
     assert!(rt; disk.is_ok() && other.try_lock().is_err() && other.try_lock_shared().is_ok());

@@ -61,7 +61,7 @@ mod tests;
 /// Does a job, with searches of the job's width. `threads` is the runtime of a desk's threads.
 fn run<
     R: AllocGlobal + Clock + Files<File = File> + Input + Print + Threads,
-    T: Threads + Wait + Copy + Send + Sync + 'static,
+    T: Threads + Wait + Clock + Eprint + Copy + Send + Sync + 'static,
 >(rt: &R, threads: T, job: &Job<'_>) -> Result<Done, Failed>
     requires width { ForSome (delta_of job.now) IsWidth }
     requires journal { ForSome (journal_of job.now) IsJournal }
@@ -202,7 +202,7 @@ fn without_words<R: Eprint>(rt: &R, error: &io::Error) -> u8
 /// Does what the program's words ask for, and gives the exit status. The standard streams are lent for it, so they are held until it is done.
 fn do_words<
     R: AllocGlobal + Clock + Env + Eprint + Files<File = File> + Input + Print + Threads,
-    T: Threads + Wait + Copy + Send + Sync + 'static,
+    T: Threads + Wait + Clock + Eprint + Copy + Send + Sync + 'static,
 >(rt: &R, threads: T, _held: &Streams) -> u8
     ensures { result ≤ 2 }
 {

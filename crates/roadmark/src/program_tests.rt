@@ -7,6 +7,7 @@ use std::rt::{Env, Files};
 use std::sync::Wait;
 use std::test::Fail;
 use std::thread::Threads;
+use std::time::Clock;
 use std::{env, fs, process};
 
 const SIX: &str =
@@ -48,7 +49,17 @@ pub fn new_folder<R: AllocGlobal + Env + Files>(rt: &R, name: &str) -> Result<St
 /// A run of these words, with this input, ends with this status, and prints these texts on its output and as its fault line.
 fn ends<
     'a,
-    R: Abort + AllocGlobal + Files<File = File> + Threads + Wait + Copy + Send + Sync + 'static,
+    R: Abort
+        + AllocGlobal
+        + Files<File = File>
+        + Threads
+        + Wait
+        + Clock
+        + Eprint
+        + Copy
+        + Send
+        + Sync
+        + 'static,
 >(rt: &'a R, folder: &str, words: &'a str, input: &'a str, told: (u8, &str, &str)) {
     let Ok(mut shell) = Shell::new(rt, folder, words) else {
         return assert!(rt; false);
@@ -62,7 +73,17 @@ fn ends<
 /// A run of these words without input prints this and ends with 0.
 pub fn is_done<
     'a,
-    R: Abort + AllocGlobal + Files<File = File> + Threads + Wait + Copy + Send + Sync + 'static,
+    R: Abort
+        + AllocGlobal
+        + Files<File = File>
+        + Threads
+        + Wait
+        + Clock
+        + Eprint
+        + Copy
+        + Send
+        + Sync
+        + 'static,
 >(rt: &'a R, folder: &str, words: &'a str, out: &str) {
     ends(rt, folder, words, "", (0, out, ""));
 }
@@ -70,7 +91,17 @@ pub fn is_done<
 /// A run of these words without input prints this fault line alone and ends with 1.
 pub fn is_refused<
     'a,
-    R: Abort + AllocGlobal + Files<File = File> + Threads + Wait + Copy + Send + Sync + 'static,
+    R: Abort
+        + AllocGlobal
+        + Files<File = File>
+        + Threads
+        + Wait
+        + Clock
+        + Eprint
+        + Copy
+        + Send
+        + Sync
+        + 'static,
 >(rt: &'a R, folder: &str, words: &'a str, err: &str) {
     ends(rt, folder, words, "", (1, "", err));
 }
@@ -211,7 +242,17 @@ fn faults_of_files(rt: HostRuntime) -> Result<(), Fail> {
 
 /// The run of these words, whose first write fails, ends with 12.
 fn is_cut<
-    R: Abort + AllocGlobal + Files<File = File> + Threads + Wait + Copy + Send + Sync + 'static,
+    R: Abort
+        + AllocGlobal
+        + Files<File = File>
+        + Threads
+        + Wait
+        + Clock
+        + Eprint
+        + Copy
+        + Send
+        + Sync
+        + 'static,
 >(rt: &R, folder: &str, words: &str) {
     let Ok(mut shell) = Shell::new(rt, folder, words) else {
         return assert!(rt; false);

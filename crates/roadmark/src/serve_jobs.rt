@@ -16,9 +16,10 @@ ghost use Rattle.sessions.specs.Turns.{Serves, IsKept};
 ghost use Rattle.roadmark.specs.Words.{IsWorkers};
 
 use crate::files::{open_store, standard_input, standard_output};
-use desk::{Closed, Desk, History, Naming, NoGate, Setup};
+use desk::{Closed, Desk, Gate, History, Naming, Setup};
 use dimacs::Counted;
 use disk::Disk;
+use filedisk::FileLock;
 use printing::{CountedWriter, Done, Failed};
 use roadnet::Refusal;
 use sessions::serve;
@@ -32,14 +33,44 @@ use std::thread::Threads;
 use std::time::Clock;
 use store::{Store, open};
 
-/// A session over an opened store: what it came to, and what is left of its desk, which is closed after it however it ended.
+/// The gate of a session's desk. It holds nothing up, and tells on standard error of a builder that ended.
+#[derive(Drop)]
+struct Teller<T: Eprint + Copy> {
+    rt: T,
+}
+
+impl<T: Eprint + Copy> Gate for Teller<T> {
+    fn before_row(&self, _worker: u32, _landmark: u32) {}
+
+    fn before_flush(&self, _durable: u64) -> bool {
+        true
+    }
+
+    fn before_task(&self, _durable: u64) -> bool {
+        true
+    }
+
+    fn before_step(&self, _version: u64) -> bool {
+        true
+    }
+
+    fn builder_gave_up(&self) {
+        let rt = &self.rt;
+        let _ = eprintln!(rt;
+            "roadmark: 61 Closed: no memory for views three times in a row, queries stay at the version that is shown"
+        );
+    }
+}
+
+/// A session over an opened store: what it came to, and what is left of its desk, which is closed after it however it ended. Once nothing
+/// more is written the file's lock is let go: the desk's last view is built behind that.
 ///
 /// Refused is what no desk is started for: want of memory (11) and of threads (63). A desk that can't be closed, or showed less than the session
 /// has seen (61), doesn't come.
 fn serve_store<
     N: Naming + Send + Sync + 'static,
     D: Disk + Drop + Send + 'static,
-    T: Threads + Wait + Copy + Send + Sync + 'static,
+    T: Threads + Wait + Clock + Eprint + Copy + Send + Sync + 'static,
     I: BufRead,
     W: Write,
 >(
@@ -48,6 +79,7 @@ fn serve_store<
     history: History,
     store: Store<D>,
     setup: Setup,
+    lock: Option<FileLock>,
     reader: &mut Counted<'_, I>,
     writer: &mut CountedWriter<'_, W>,
 ) -> Result<(Result<(), Failed>, Closed<D>), Refusal>
@@ -68,8 +100,13 @@ fn serve_store<
     ensures left { CameTidy D.honest D.content store.given → IfOk result (λ ended. AreAmong (D.left ended.1.disk) (KeepsDesk ended.1.whole ended.1.shown ended.1.journal_pages)) }
     ensures causes { IfErr result (λ refusal. IsUnstarted refusal ⊎ (refusal ≡ closed)) }
 {
-    let desk: Desk<N, D, NoGate, T> = Desk::start(threads, alloc, history, store, NoGate, setup)?;
+    let gate = Teller { rt: threads };
+    let desk: Desk<N, D, Teller<T>, T> = Desk::start(threads, alloc, history, store, gate, setup)?;
     let (outcome, session) = serve(&threads, alloc, &desk, reader, writer);
+    desk.end_writing();
+    if let Some(lock) = lock {
+        let _ = lock.let_go();
+    }
     let closed = desk.close()?;
     if !session.is_kept(&closed) {
         return Err(Refusal::Closed);
@@ -82,7 +119,7 @@ fn serve_store<
 /// Refused is a store that can't be opened (11, 40 to 43), then what no desk is started for.
 fn serve_disk<
     D: Disk + Drop + Send + 'static,
-    T: Threads + Wait + Copy + Send + Sync + 'static,
+    T: Threads + Wait + Clock + Eprint + Copy + Send + Sync + 'static,
     I: BufRead,
     W: Write,
 >(
@@ -90,6 +127,7 @@ fn serve_disk<
     alloc: Global,
     disk: D,
     setup: Setup,
+    lock: Option<FileLock>,
     reader: &mut Counted<'_, I>,
     writer: &mut CountedWriter<'_, W>,
 ) -> Result<(Result<(), Failed>, Closed<D>), Refusal>
@@ -113,25 +151,34 @@ fn serve_disk<
         Err((refusal, _)) => return Err(refusal),
     };
     let history = History::new(store.network(), store.version());
-    serve_store::<Brand, _, _, _, _>(threads, alloc, history, store, setup, reader, writer)
+    serve_store::<Brand, _, _, _, _>(threads, alloc, history, store, setup, lock, reader, writer)
 }
 
-/// A session over the store of a file, which nobody else has meanwhile.
+/// A session over the store of a file, which nobody else has while it may be written.
 pub fn run_serve<
     R: AllocGlobal + Clock + Files<File = File> + Input + Print,
-    T: Threads + Wait + Copy + Send + Sync + 'static,
+    T: Threads + Wait + Clock + Eprint + Copy + Send + Sync + 'static,
 >(rt: &R, threads: T, store: &str, delta: Option<u32>, workers: u32) -> Result<Done, Failed>
     requires width { ForSome delta IsWidth }
     requires workers { IsWorkers workers }
     ensures { IfOk result (λ done. done.delta ≡ delta) }
 {
     let disk = open_store(rt, store)?;
+    let lock = disk.lock().ok();
     let mut reader = standard_input(rt)?;
     let mut writer = standard_output(rt)?;
     let mut reader = Counted::new(&mut reader);
     let mut writer = CountedWriter::new(&mut writer);
     let setup = Setup { delta, workers };
-    match serve_disk(threads, rt.alloc(), disk, setup, &mut reader, &mut writer) {
+    match serve_disk(
+        threads,
+        rt.alloc(),
+        disk,
+        setup,
+        lock,
+        &mut reader,
+        &mut writer,
+    ) {
         Ok((Ok(()), _closed)) => Ok(Done { delta }),
         Ok((Err(failed), _closed)) => Err(failed),
         Err(refusal) => Err(Failed::Code(refusal)),

@@ -8,6 +8,7 @@ use std::sync::Wait;
 use std::sync::atomic::{AtomicU64, Ordering};
 use std::test::Fail;
 use std::thread::Threads;
+use std::time::Clock;
 
 /// So many attempts to flush, and to take a task, find no memory.
 #[derive(Drop)]
@@ -38,7 +39,7 @@ impl Gate for Misses {
 type Left = (Vec<u8>, u64, u64);
 
 /// A session with these lines by a desk that misses so.
-fn answers_past<R: Threads + Wait + Copy + Send + Sync + 'static>(
+fn answers_past<R: Threads + Wait + Clock + Copy + Send + Sync + 'static>(
     rt: R,
     alloc: Global,
     gate: Misses,

@@ -15,6 +15,7 @@ use std::sync::Wait;
 use std::sync::atomic::{AtomicBool, Ordering};
 use std::test::Fail;
 use std::thread::Threads;
+use std::time::Clock;
 use store::{Store, create, open};
 
 /// A new store of the network of the worked rows, with six nodes, eight arcs and these landmarks.
@@ -76,7 +77,7 @@ pub(crate) fn session_over<
     N: Naming + Send + Sync + 'static,
     D: Disk + Drop + Send + 'static,
     G: Gate + Drop + Send + Sync + 'static,
-    R: Threads + Wait + Copy + Send + Sync + 'static,
+    R: Threads + Wait + Clock + Copy + Send + Sync + 'static,
     I: BufRead,
     W: Write,
 >(
@@ -124,7 +125,7 @@ pub(crate) fn session_over<
 }
 
 /// A session over a new store of the network of the worked rows.
-fn session<R: Threads + Wait + Copy + Send + Sync + 'static, I: BufRead, W: Write>(
+fn session<R: Threads + Wait + Clock + Copy + Send + Sync + 'static, I: BufRead, W: Write>(
     rt: R,
     alloc: Global,
     found: Found,
@@ -137,7 +138,7 @@ fn session<R: Threads + Wait + Copy + Send + Sync + 'static, I: BufRead, W: Writ
 }
 
 /// What a session with these lines writes that ends without a fault.
-pub(crate) fn answers_of<R: Threads + Wait + Copy + Send + Sync + 'static>(
+pub(crate) fn answers_of<R: Threads + Wait + Clock + Copy + Send + Sync + 'static>(
     rt: R,
     alloc: Global,
     found: Found,

@@ -2,7 +2,7 @@ use Rattle.std.proofs.Common.{rules, ◌≡◌, ◌∙◌, ◌<◌, map, length,
 use Rattle.std.specs.Prelude.{Result, Ok}
 use Rattle.std.specs.declared.collections.VecDeque.{VecDeque}
 use Rattle.std.proofs.lemmas.List.{length-map}
-use Rattle.roadnet.specs.declared.refusals.OutOfMemory.{OutOfMemory}
+use Rattle.desk.specs.declared.last.Unbuilt.{Unbuilt}
 use Rattle.rows.specs.declared.landmark_rows.Row.{Row}
 use Rattle.desk.specs.Shares.{share_of, AreRowsOf}
 use Rattle.desk.proofs.Dealt.{dealt_by, each_made}
@@ -15,7 +15,7 @@ gather-requires-clause-dealt g c =
     let made = c.in-Ok.made.items in
     let all : made ≡ map Ok parts = c.in_ok-all_made-in-Ok.ensures in
     let count : length made ≡ job.workers = search rules in
-    let long : length parts ≡ job.workers = sym (ap (λ (ms : List (Result (VecDeque Row Global) OutOfMemory)). length ms) all ∙ length-map parts Ok) ∙ count in
+    let long : length parts ≡ job.workers = sym (ap (λ (ms : List (Result (VecDeque Row Global) Unbuilt)). length ms) all ∙ length-map parts Ok) ∙ count in
     dealt_by job.version job.network.now job.workers (map (λ (queue : VecDeque Row Global). queue.items) parts)
     (length-map parts (λ (queue : VecDeque Row Global). queue.items) ∙ long)
     (λ (worker : ℕ) lt.

@@ -13,5 +13,5 @@ compare_exchange-requires c =
       ap (λ s. s.book) again ∙ sym (ap (λ w. w.book) h),
       pen.0 ∙ (ap (λ s. s.book) again ∙ sym (ap (λ w. w.book) h)),
       offer.0,
-      rw (ap (λ w. w.key) h, pen.1, offer.1, offer.3) (makes_moves c.again-seen.result.log),
+      rw (ap (λ w. w.key) h, pen.1, offer.3) (makes_moves c.again-seen.result.log),
     )

@@ -7,8 +7,7 @@ pub pinned-pinned-requires : goal.pinned-pinned-requires
 pinned-pinned-requires g c = subst (λ (v : Viewed). HasRowsOf v.version v.network c.self.inside.cache) (sym c.deref.ensures) c.self.invariant.0
 
 pub invariant_of-self : goal.invariant_of-self
-invariant_of-self g c =
-    (
-      subst (λ (v : Viewed). HasRowsOf v.version v.network c.batch.new.self.cache.now) (c.batch.ensures.same.view ∙ c.pinned-pinned.ensures.view ∙ c.deref.ensures) c.batch.ensures.kept,
-      c.batch.ensures.capacity ∙ (ap capacity_of c.pinned-pinned.ensures.cache ∙ c.self.invariant.1),
-    )
+invariant_of-self g c = (
+  subst (λ (v : Viewed). HasRowsOf v.version v.network c.batch.new.self.cache.now) (c.batch.ensures.same.view ∙ c.pinned-pinned.ensures.view ∙ c.deref.ensures) c.batch.ensures.kept,
+  c.batch.ensures.capacity ∙ (ap capacity_of c.pinned-pinned.ensures.cache ∙ c.self.invariant.1),
+)

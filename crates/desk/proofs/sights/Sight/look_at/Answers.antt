@@ -21,8 +21,7 @@ invariant_of-self c =
       | else-version w ↦ (
           let kept : c.if-version.self-inside.cache ≡ cache = search rules in
           let same : view.version ≡ old.version = search rules in
-          let network : view.network ≡ old.network = c.requires (same ∙ ap (λ (v : Viewed). v.version) c.self.view_is) ∙ sym (ap (λ (v : Viewed). v.network) c.self.view_is) in
-          (
+          let network : view.network ≡ old.network = c.requires (same ∙ ap (λ (v : Viewed). v.version) c.self.view_is) ∙ sym (ap (λ (v : Viewed). v.network) c.self.view_is) in (
             subst (λ (rows : RowCache). HasRowsOf view.version view.network rows) (sym kept)
                 (subst (λ (net : Net). HasRowsOf view.version net cache) (sym network)
                 (subst (λ (version : ℕ). HasRowsOf version old.network cache) (sym same) c.self.invariant.0)),

@@ -1,36 +1,36 @@
-use crate::shared::six;
+use fixtures::{arc, network, six, six_with};
 use roadnet::{
     Command, MOST_LANDMARKS, Network, OutOfMemory, Outline, Refusal, RoadArc, laws_of_batches,
     laws_of_refusals, laws_of_steps, laws_of_walks,
 };
 use std::alloc::{AllocError, Global};
 
-fn arc(tail: u32, head: u32, length: u32) -> RoadArc {
-    RoadArc {
-        tail,
-        head,
-        length,
-        opened: true,
-    }
+/// One more than the greatest length.
+const BEYOND: u64 = 2147483648;
+
+/// Whether the network refuses the command with the refusal of this number, as it is judged and as it is carried out.
+fn refuses(network: &mut Network, command: Command, number: u8) -> bool {
+    let admitted = network.admit(&command).err();
+    let applied = network.apply(command).err();
+    admitted == applied && admitted.map(|refusal| refusal.number()) == Some(number)
 }
 
 #[test]
 fn refusals_of_commands(rt: HostRuntime) -> Result<(), Refusal> {
     let mut network = six(rt.alloc())?;
-    let beyond = 2147483648;
     let table = [
         (Command::Set { arc: 9, length: 1 }, 20),
         (
             Command::Set {
                 arc: 1,
-                length: beyond,
+                length: BEYOND,
             },
             21,
         ),
         (
             Command::Set {
                 arc: 9,
-                length: beyond,
+                length: BEYOND,
             },
             20,
         ),
@@ -41,103 +41,135 @@ fn refusals_of_commands(rt: HostRuntime) -> Result<(), Refusal> {
         (Command::Close { arc: u64::MAX }, 20),
         (Command::Unmark { node: u64::MAX }, 24),
     ];
-    for (command, code) in table {
-        let admitted = network.admit(&command);
-        assert_eq!(rt; admitted.err().map(|refusal| refusal.number()), Some(code));
-        let applied = network.apply(command);
-        assert_eq!(rt; applied.err().map(|refusal| refusal.number()), Some(code));
+    for (command, number) in table {
+        assert!(rt; refuses(&mut network, command, number), "{command:?}");
     }
     Ok(())
+}
+
+/// Whether the seventh arc of the network of the worked rows has this length and is open or not, with these landmarks.
+fn is_so(network: &Network, length: u32, opened: bool, landmarks: &[u32]) -> bool {
+    let seventh = RoadArc {
+        opened,
+        ..arc(5, 2, length)
+    };
+    network.nodes() == 6
+        && network.arcs().len() == 8
+        && network.arc(7) == Some(seventh)
+        && network.landmarks() == landmarks
+        && network.is_landmark(4) == landmarks.contains(&4)
 }
 
 #[test]
 fn commands_change_what_they_name(rt: HostRuntime) -> Result<(), Refusal> {
     let mut network = six(rt.alloc())?;
     let greatest = 2147483647;
-    network.apply(Command::Close { arc: 7 })?;
-    assert!(rt; network.apply(Command::Close { arc: 7 }) == Err(Refusal::AlreadyClosed));
-    network.apply(Command::Set {
+    let set = Command::Set {
         arc: 7,
-        length: greatest,
-    })?;
-    let closed = RoadArc {
-        opened: false,
-        ..arc(5, 2, 2147483647)
+        length: u64::from(greatest),
     };
-    assert!(rt; network.arc(7) == Some(closed));
-    network.apply(Command::Reopen { arc: 7 })?;
-    assert!(rt; network.arc(7) == Some(arc(5, 2, 2147483647)));
-    assert!(rt; network.arc(0).is_none() && network.arc(9).is_none());
-    assert!(rt; network.arcs().len() == 8 && network.nodes() == 6);
-    assert!(rt; network.has_node(1) && network.has_node(6));
-    assert!(rt; !network.has_node(0) && !network.has_node(7));
-    for node in [4, 2, 6] {
-        network.apply(Command::Mark { node })?;
+    let table: [(Command, u32, bool, &[u32]); 7] = [
+        (Command::Close { arc: 7 }, 0, false, &[]),
+        (set, greatest, false, &[]),
+        (Command::Reopen { arc: 7 }, greatest, true, &[]),
+        (Command::Mark { node: 4 }, greatest, true, &[4]),
+        (Command::Mark { node: 2 }, greatest, true, &[2, 4]),
+        (Command::Mark { node: 6 }, greatest, true, &[2, 4, 6]),
+        (Command::Unmark { node: 4 }, greatest, true, &[2, 6]),
+    ];
+    for (command, length, opened, landmarks) in table {
+        network.apply(command)?;
+        assert!(rt; is_so(&network, length, opened, landmarks), "{command:?}");
     }
-    assert!(rt; network.landmarks() == [2, 4, 6].as_slice());
-    assert!(rt; network.apply(Command::Mark { node: 4 }) == Err(Refusal::AlreadyLandmark));
-    assert!(rt; network.is_landmark(4) && !network.is_landmark(3) && !network.is_landmark(7));
-    network.apply(Command::Unmark { node: 4 })?;
-    assert!(rt; !network.is_landmark(4) && network.is_landmark(6));
-    assert!(rt; network.landmarks() == [2, 6].as_slice());
     Ok(())
 }
 
 #[test]
-fn the_lowest_refusal_of_parts(rt: HostRuntime) -> Result<(), Refusal> {
-    let beyond = 2147483648;
-    let table = [
-        (0, arc(1, 2, beyond), 1, 5),
-        (33554433, arc(1, 2, 1), 0, 5),
-        (2, arc(1, 3, beyond), 3, 21),
-        (2, arc(0, 2, 1), 1, 24),
-        (2, arc(1, 3, 1), 1, 24),
-        (2, arc(1, 2, 1), 3, 24),
-        (2, arc(1, 2, 1), 0, 24),
-    ];
-    for (nodes, road, landmark, code) in table {
-        let arcs = Vec::from_slice(rt.alloc(), &[road])?;
-        let made = Network::new(rt.alloc(), nodes, arcs, &[landmark]);
-        assert_eq!(rt; made.err().map(|refusal| refusal.number()), Some(code));
+fn names_of_arcs_and_nodes(rt: HostRuntime) -> Result<(), Refusal> {
+    let network = six(rt.alloc())?;
+    for (name, is_arc, is_node) in [
+        (0, false, false),
+        (1, true, true),
+        (6, true, true),
+        (7, true, false),
+        (8, true, false),
+        (9, false, false),
+    ] {
+        assert!(rt; network.arc(name).is_some() == is_arc, "{name}");
+        assert!(rt; network.has_node(name) == is_node, "{name}");
     }
-    // A long arc is told before the stray end of an arc that stands in front of it.
-    let arcs = Vec::from_slice(rt.alloc(), &[arc(1, 9, 1), arc(1, 2, beyond)])?;
-    let made = Network::new(rt.alloc(), 2, arcs, &[]);
-    assert!(rt; made.err() == Some(Refusal::LengthRange));
     Ok(())
 }
 
-/// The numbers from 1 to `last`, each one twice.
-fn twice_each(alloc: Global, last: u32) -> Result<Vec<u32>, AllocError> {
-    let mut nodes = Vec::new(alloc);
-    for node in 1..last {
-        nodes.push(node)?;
-        nodes.push(node)?;
+/// A number of nodes, arcs by tail, head and length, a landmark, and the number of the refusal.
+const PARTS: [(u32, &[(u32, u32, u32)], u32, u8); 8] = [
+    (0, &[(1, 2, 2147483648)], 1, 5),
+    (33554433, &[(1, 2, 1)], 0, 5),
+    (2, &[(1, 3, 2147483648)], 3, 21),
+    (2, &[(1, 9, 1), (1, 2, 2147483648)], 1, 21),
+    (2, &[(0, 2, 1)], 1, 24),
+    (2, &[(1, 3, 1)], 1, 24),
+    (2, &[(1, 2, 1)], 3, 24),
+    (2, &[(1, 2, 1)], 0, 24),
+];
+
+/// Of several refusals of a network's parts the lowest is told, wherever its cause stands.
+#[test]
+fn the_lowest_refusal_of_parts(rt: HostRuntime) {
+    for (nodes, arcs, landmark, number) in PARTS {
+        let refused = network(rt.alloc(), nodes, arcs, &[landmark]).err();
+        assert!(rt;
+            refused.map(|refusal| refusal.number()) == Some(number),
+            "{arcs:?}"
+        );
     }
-    nodes.push(last)?;
-    nodes.push(last)?;
-    Ok(nodes)
 }
 
+/// A network of so many nodes and no arc, whose landmarks are the nodes from 1 to `last`, each given twice.
+fn marked(alloc: Global, nodes: u32, last: u32) -> Result<Network, Refusal> {
+    let mut landmarks = Vec::new(alloc);
+    for place in 0..2 * u64::from(last) {
+        landmarks
+            .push((place / 2 + 1) as u32)
+            .map_err(AllocError::from)?;
+    }
+    Network::new(alloc, nodes, Vec::new(alloc), &landmarks)
+}
+
+/// A landmark that is no node comes before too many of them.
 #[test]
 fn the_most_landmarks(rt: HostRuntime) -> Result<(), Refusal> {
-    let arcs = Vec::new(rt.alloc());
-    let mut network = Network::new(rt.alloc(), 1001, arcs, &twice_each(rt.alloc(), 1000)?)?;
-    assert_eq!(rt; network.landmarks().len(), MOST_LANDMARKS);
-    assert!(rt; network.apply(Command::Mark { node: 1001 }) == Err(Refusal::TooManyLandmarks));
-    assert!(rt; network.apply(Command::Mark { node: 1000 }) == Err(Refusal::AlreadyLandmark));
-    let arcs = Vec::new(rt.alloc());
-    let made = Network::new(rt.alloc(), 1001, arcs, &twice_each(rt.alloc(), 1001)?);
-    assert!(rt; made.err() == Some(Refusal::TooManyLandmarks));
-    // A landmark that is no node comes before too many of them.
-    let arcs = Vec::new(rt.alloc());
-    let made = Network::new(rt.alloc(), 1000, arcs, &twice_each(rt.alloc(), 1001)?);
-    assert!(rt; made.err() == Some(Refusal::NoSuchNode));
+    let most = marked(rt.alloc(), 1001, 1000)?;
+    assert_eq!(rt; most.landmarks().len(), MOST_LANDMARKS);
+    for (nodes, refusal) in [
+        (1001, Refusal::TooManyLandmarks),
+        (1000, Refusal::NoSuchNode),
+    ] {
+        assert!(rt; marked(rt.alloc(), nodes, 1001).err() == Some(refusal));
+    }
     Ok(())
 }
 
 fn are_equal(network: &Network, other: &Network) -> bool {
-    network.arcs() == other.arcs() && network.landmarks() == other.landmarks()
+    network.arcs() == other.arcs()
+        && network.landmarks() == other.landmarks()
+        && network.nodes() == other.nodes()
+}
+
+/// The network after these commands, carried out one after the other, up to the first that is refused, and what it is refused for.
+fn carried_out(
+    network: &Network,
+    commands: &[Command],
+) -> Result<(Network, Option<Refusal>), Refusal> {
+    let mut network = network.copy()?;
+    for &command in commands {
+        match network.apply(command) {
+            Ok(()) => {}
+            Err(Refusal::OutOfMemory) => return Err(Refusal::OutOfMemory),
+            Err(refusal) => return Ok((network, Some(refusal))),
+        }
+    }
+    Ok((network, None))
 }
 
 /// Whether the network refuses the batch with the refusal of this number, or carries it out; each time as `apply` does it for one command
@@ -147,18 +179,7 @@ fn goes_as_in_turn(
     commands: &[Command],
     number: Option<u8>,
 ) -> Result<bool, Refusal> {
-    let mut in_turn = network.copy()?;
-    let mut refused = None;
-    for &command in commands {
-        match in_turn.apply(command) {
-            Ok(()) => {}
-            Err(Refusal::OutOfMemory) => return Err(Refusal::OutOfMemory),
-            Err(refusal) => {
-                refused = Some(refusal);
-                break;
-            }
-        }
-    }
+    let (in_turn, refused) = carried_out(network, commands)?;
     let judged = network.admit_all(commands).err();
     if judged != refused || judged.map(|refusal| refusal.number()) != number {
         return Ok(false);
@@ -174,38 +195,68 @@ fn goes_as_in_turn(
     }
 }
 
+/// The first batch of the table that goes otherwise.
+fn goes_otherwise(
+    network: &Network,
+    table: &[(&[Command], Option<u8>)],
+) -> Result<Option<usize>, Refusal> {
+    for at in 0..table.len() {
+        let (commands, number) = table[at];
+        if !goes_as_in_turn(network, commands, number)? {
+            return Ok(Some(at));
+        }
+    }
+    Ok(None)
+}
+
+const CLOSE: Command = Command::Close { arc: 7 };
+
+const REOPEN: Command = Command::Reopen { arc: 7 };
+
+const SET: Command = Command::Set { arc: 7, length: 4 };
+
+const OTHER: Command = Command::Close { arc: 2 };
+
+const NO_ARC: Command = Command::Close { arc: 9 };
+
+const MARK: Command = Command::Mark { node: 3 };
+
+const UNMARK: Command = Command::Unmark { node: 3 };
+
 #[test]
 fn batches_go_as_their_commands_in_turn(rt: HostRuntime) -> Result<(), Refusal> {
-    let network = six(rt.alloc())?;
-    let close = Command::Close { arc: 7 };
-    let reopen = Command::Reopen { arc: 7 };
-    let set = Command::Set { arc: 7, length: 4 };
-    let mark = Command::Mark { node: 3 };
-    let unmark = Command::Unmark { node: 3 };
-    let other = Command::Close { arc: 2 };
-    let beyond = Command::Close { arc: 9 };
-    assert!(rt; goes_as_in_turn(&network, &[], None)?);
-    assert!(rt; goes_as_in_turn(&network, &[close, reopen, close], None)?);
-    assert!(rt; goes_as_in_turn(&network, &[close, close], Some(22))?);
-    assert!(rt; goes_as_in_turn(&network, &[close, other, reopen, reopen], Some(23))?);
-    assert!(rt; goes_as_in_turn(&network, &[close, set, other], None)?);
-    assert!(rt; goes_as_in_turn(&network, &[mark, unmark, mark], None)?);
-    assert!(rt; goes_as_in_turn(&network, &[mark, other, mark, beyond], Some(25))?);
-    assert!(rt; goes_as_in_turn(&network, &[mark, unmark, unmark], Some(26))?);
-    assert!(rt; goes_as_in_turn(&network, &[close, beyond, close], Some(20))?);
+    let table: [(&[Command], Option<u8>); 9] = [
+        (&[], None),
+        (&[CLOSE, REOPEN, CLOSE], None),
+        (&[CLOSE, CLOSE], Some(22)),
+        (&[CLOSE, OTHER, REOPEN, REOPEN], Some(23)),
+        (&[CLOSE, SET, OTHER], None),
+        (&[MARK, UNMARK, MARK], None),
+        (&[MARK, OTHER, MARK, NO_ARC], Some(25)),
+        (&[MARK, UNMARK, UNMARK], Some(26)),
+        (&[CLOSE, NO_ARC, CLOSE], Some(20)),
+    ];
+    assert_eq!(rt; goes_otherwise(&six(rt.alloc())?, &table)?, None);
     Ok(())
 }
 
+const MARK_LAST: Command = Command::Mark { node: 1001 };
+
+const UNMARK_500: Command = Command::Unmark { node: 500 };
+
+const MARK_500: Command = Command::Mark { node: 500 };
+
 #[test]
 fn the_most_landmarks_in_a_batch(rt: HostRuntime) -> Result<(), Refusal> {
-    let arcs = Vec::new(rt.alloc());
-    let network = Network::new(rt.alloc(), 1001, arcs, &twice_each(rt.alloc(), 1000)?)?;
-    let mark = Command::Mark { node: 1001 };
-    let unmark = Command::Unmark { node: 500 };
-    let again = Command::Mark { node: 500 };
-    assert!(rt; goes_as_in_turn(&network, &[mark, unmark], Some(27))?);
-    assert!(rt; goes_as_in_turn(&network, &[unmark, mark], None)?);
-    assert!(rt; goes_as_in_turn(&network, &[unmark, mark, again], Some(27))?);
+    let table: [(&[Command], Option<u8>); 5] = [
+        (&[MARK_LAST], Some(27)),
+        (&[MARK_500], Some(25)),
+        (&[MARK_LAST, UNMARK_500], Some(27)),
+        (&[UNMARK_500, MARK_LAST], None),
+        (&[UNMARK_500, MARK_LAST, MARK_500], Some(27)),
+    ];
+    let network = marked(rt.alloc(), 1001, 1000)?;
+    assert_eq!(rt; goes_otherwise(&network, &table)?, None);
     Ok(())
 }
 
@@ -228,33 +279,32 @@ fn goes_alike(
 fn outlines_judge_as_their_networks(rt: HostRuntime) -> Result<(), Refusal> {
     let mut network = six(rt.alloc())?;
     let mut outline = Outline::of(rt.alloc(), &network)?;
-    let beyond = 2147483648;
     let table = [
         (Command::Set { arc: 9, length: 1 }, Some(20)),
         (Command::Set { arc: 0, length: 1 }, Some(20)),
         (
             Command::Set {
                 arc: 1,
-                length: beyond,
+                length: BEYOND,
             },
             Some(21),
         ),
         (Command::Set { arc: 8, length: 1 }, None),
-        (Command::Reopen { arc: 7 }, Some(23)),
-        (Command::Close { arc: 7 }, None),
-        (Command::Close { arc: 7 }, Some(22)),
-        (Command::Set { arc: 7, length: 4 }, None),
+        (REOPEN, Some(23)),
+        (CLOSE, None),
+        (CLOSE, Some(22)),
+        (SET, None),
         (Command::Close { arc: 8 }, None),
-        (Command::Reopen { arc: 7 }, None),
-        (Command::Reopen { arc: 7 }, Some(23)),
-        (Command::Close { arc: 9 }, Some(20)),
+        (REOPEN, None),
+        (REOPEN, Some(23)),
+        (NO_ARC, Some(20)),
         (Command::Reopen { arc: u64::MAX }, Some(20)),
         (Command::Mark { node: 7 }, Some(24)),
-        (Command::Mark { node: 3 }, None),
-        (Command::Mark { node: 3 }, Some(25)),
+        (MARK, None),
+        (MARK, Some(25)),
         (Command::Unmark { node: 6 }, Some(26)),
-        (Command::Unmark { node: 3 }, None),
-        (Command::Unmark { node: 3 }, Some(26)),
+        (UNMARK, None),
+        (UNMARK, Some(26)),
         (Command::Unmark { node: u64::MAX }, Some(24)),
     ];
     for (command, number) in table {
@@ -263,30 +313,30 @@ fn outlines_judge_as_their_networks(rt: HostRuntime) -> Result<(), Refusal> {
     Ok(())
 }
 
-#[test]
-fn an_outline_is_of_the_network_as_it_is(rt: HostRuntime) -> Result<(), Refusal> {
-    let mut network = six(rt.alloc())?;
-    network.apply(Command::Mark { node: 3 })?;
-    network.apply(Command::Close { arc: 7 })?;
-    let outline = Outline::of(rt.alloc(), &network)?;
-    assert!(rt; outline.admit(&Command::Mark { node: 3 }) == Err(Refusal::AlreadyLandmark));
-    assert!(rt; outline.admit(&Command::Close { arc: 7 }) == Err(Refusal::AlreadyClosed));
-    assert!(rt; outline.admit(&Command::Reopen { arc: 8 }) == Err(Refusal::AlreadyOpen));
-    let arcs = Vec::new(rt.alloc());
-    let network = Network::new(rt.alloc(), 1001, arcs, &twice_each(rt.alloc(), 1000)?)?;
-    let outline = Outline::of(rt.alloc(), &network)?;
-    assert!(rt; outline.admit(&Command::Mark { node: 1001 }) == Err(Refusal::TooManyLandmarks));
-    Ok(())
+/// The number of the refusal of a command by the network's outline.
+fn outlined(alloc: Global, network: &Network, command: Command) -> Result<Option<u8>, Refusal> {
+    let outline = Outline::of(alloc, network)?;
+    Ok(
+        outline
+            .admit(&command)
+            .err()
+            .map(|refusal| refusal.number()),
+    )
 }
 
 #[test]
-fn a_copy_is_equal(rt: HostRuntime) -> Result<(), Refusal> {
-    let mut network = six(rt.alloc())?;
-    network.apply(Command::Mark { node: 3 })?;
-    network.apply(Command::Close { arc: 7 })?;
-    let copy = network.copy()?;
-    assert!(rt; copy.arcs() == network.arcs() && copy.landmarks() == network.landmarks());
-    assert_eq!(rt; copy.nodes(), 6);
+fn an_outline_is_of_the_network_as_it_is(rt: HostRuntime) -> Result<(), Refusal> {
+    let mut network = six_with(rt.alloc(), &[3])?;
+    network.apply(CLOSE)?;
+    let eighth = Command::Reopen { arc: 8 };
+    for (command, number) in [(MARK, 25), (CLOSE, 22), (eighth, 23)] {
+        assert!(rt;
+            outlined(rt.alloc(), &network, command)? == Some(number),
+            "{command:?}"
+        );
+    }
+    let most = marked(rt.alloc(), 1001, 1000)?;
+    assert!(rt; outlined(rt.alloc(), &most, Command::Mark { node: 1001 })? == Some(27));
     Ok(())
 }
 

@@ -1,33 +1,32 @@
 // What a session answers where its desk, or one of its lines, finds no memory.
-use crate::serving::{Found, answers_of, left_by, session_over, settled_in, store_of_six};
+use crate::serving::{Found, answers_of, left_by, session_over, settled_in};
 use desk::{Gate, History};
+use fixtures::Attempts;
 use roadnet::Refusal;
 use std::alloc::Global;
 use std::marker::Brand;
 use std::sync::Wait;
-use std::sync::atomic::{AtomicU64, Ordering};
 use std::test::Fail;
 use std::thread::Threads;
 use std::time::Clock;
+use store_fixtures::store_of_six;
 
 /// So many attempts to flush, and to take a task, find no memory.
 #[derive(Drop)]
 struct Misses {
-    flushes: u64,
-    tasks: u64,
-    flushed: AtomicU64,
-    taken: AtomicU64,
+    flushes: Attempts,
+    tasks: Attempts,
 }
 
 impl Gate for Misses {
     fn before_row(&self, _worker: u32, _landmark: u32) {}
 
     fn before_flush(&self, _durable: u64) -> bool {
-        self.flushed.fetch_add(1, Ordering::SeqCst) >= self.flushes
+        self.flushes.find()
     }
 
     fn before_task(&self, _durable: u64) -> bool {
-        self.taken.fetch_add(1, Ordering::SeqCst) >= self.tasks
+        self.tasks.find()
     }
 
     fn before_step(&self, _version: u64) -> bool {
@@ -45,7 +44,7 @@ fn answers_past<R: Threads + Wait + Clock + Copy + Send + Sync + 'static>(
     gate: Misses,
     lines: &[u8],
 ) -> Result<Left, Refusal> {
-    let store = store_of_six(alloc)?;
+    let store = store_of_six(alloc, &[], 64)?;
     let history = History::new(store.network(), store.version());
     let mut input = lines;
     let mut output = Vec::new(alloc);
@@ -77,10 +76,8 @@ const MISSED: [(u64, u64, &[u8], u64, u64); 4] = [
 fn a_desk_that_finds_no_memory(rt: HostRuntime) -> Result<(), Fail> {
     for (flushes, tasks, want, accepted, durable) in MISSED {
         let gate = Misses {
-            flushes,
-            tasks,
-            flushed: AtomicU64::new(0),
-            taken: AtomicU64::new(0),
+            flushes: Attempts::after(flushes),
+            tasks: Attempts::after(tasks),
         };
         let lines = b"close 7\nwait\ndist 1 6\nclose 8\n";
         let (answers, left, version) = answers_past(rt, rt.alloc(), gate, lines)?;

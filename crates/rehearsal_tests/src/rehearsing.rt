@@ -1,0 +1,386 @@
+ghost use Rattle.std.specs.Prelude.{◌≤◌};
+
+use dimacs::{Code, Fault};
+use fixtures::{SIX, SendingWriter};
+use printing::{Done, Failed};
+use rehearsals::{joint_text, rehearse_text};
+use std::alloc::Global;
+use std::process::Abort;
+use std::test::Fail;
+use std::thread::Threads;
+
+const PARALLEL: &[u8] = b"p sp 2 3\na 1 2 5\na 1 2 3\na 1 1 0\n";
+
+pub const CLOSED: &[u8] = b"close 7\nflush\ndist 1 6\ntask\npublish\ndist 1 6\n";
+
+/// A script on a new store of the network is told of with just these bytes.
+fn is_rehearsed(
+    rt: &(impl Abort + AllocGlobal + Threads),
+    name: &str,
+    gr: &[u8],
+    journal_pages: u32,
+    script: &[u8],
+    want: &[u8],
+)
+    requires some { 1 ≤ journal_pages }
+    requires few { journal_pages ≤ 65536 }
+{
+    let mut out = Vec::new(rt.alloc());
+    let outcome = rehearse_text(rt, rt.alloc(), gr, script, journal_pages, None, &mut out);
+    assert!(rt; outcome.is_ok(), "{name}");
+    assert!(rt; out.as_slice() == want, "{name}");
+}
+
+/// A joint text is answered with just these bytes.
+fn is_answered(rt: &(impl Abort + AllocGlobal + Threads), name: &str, text: &[u8], want: &[u8]) {
+    let mut reader = text;
+    let mut out = Vec::new(rt.alloc());
+    let outcome = joint_text(rt, rt.alloc(), &mut reader, None, &mut out);
+    assert!(rt; outcome.is_ok(), "{name}");
+    assert!(rt; out.as_slice() == want, "{name}");
+}
+
+#[test]
+fn joint_texts(rt: HostRuntime) {
+    let table: [(&str, &[u8], &[u8]); 5] = [
+        (
+            "first_run",
+            b"c S6\np sp 6 8\na 1 2 17\na 1 3 10\na 2 4 2\na 3 5 0\na 4 3 0\na 4 6 3\na 5 2 0\na 5 6 20\nrun\ndist 1 6\n",
+            b"v 0\nd 1 6 15\n",
+        ),
+        (
+            "spelling_of_lines",
+            b"c S6\r\np\tsp 6 8\r\na 1 2\t17\r\nc\r\na 1 3 10\r\na 2 4 2\r\na 3 5 0\r\na 4 3 0\r\na 4 6 3\r\na 5 2 0\r\na 5 6 20\r\n run\t\r\ndist 1 6",
+            b"v 0\nd 1 6 15\n",
+        ),
+        (
+            "one node",
+            b"p sp 1 0\nrun\n# none but one\n\nclose 1\n  dist\t1 1 \r\nstop",
+            b"no 20\nv 0\nd 1 1 0\nstopped\nv 0\n",
+        ),
+        ("no run", b"p sp 1 0", b""),
+        ("no script", b"p sp 1 0\nrun", b""),
+    ];
+    for (name, text, want) in table {
+        is_answered(&rt, name, text, want);
+    }
+}
+
+/// Scripts on new stores of 64 journal pages: a name, the network, the script and what is told.
+const DEFAULT_JOURNAL: [(&str, &[u8], &[u8], &[u8]); 11] = [
+    (
+        "no_walk_itself_no_node",
+        SIX,
+        b"dist 6 1\ndist 4 4\ndist 1 7\n",
+        b"v 0\nx 6 1\nv 0\nd 4 4 0\nv 0\nno 24\n",
+    ),
+    (
+        "closed_arc_lengthens",
+        SIX,
+        CLOSED,
+        b"t 1\nok 1\nv 0\nd 1 6 15\ntask 1\nshown 1\nv 1\nd 1 6 22\n",
+    ),
+    (
+        "shorter_length_shortens",
+        SIX,
+        b"close 7\nflush\ndist 1 6\ntask\npublish\ndist 1 6\nset 8 4\nflush\ntask\npublish\ndist 1 6\nreopen 7\nflush\ntask\npublish\ndist 1 6\n",
+        b"t 1\nok 1\nv 0\nd 1 6 15\ntask 1\nshown 1\nv 1\nd 1 6 22\nt 2\nok 2\ntask 2\nshown 2\nv 2\nd 1 6 14\nt 3\nok 3\ntask 3\nshown 3\nv 3\nd 1 6 14\n",
+    ),
+    (
+        "second_close_refused",
+        SIX,
+        b"close 7\nclose 7\nflush\nflush\n",
+        b"t 1\nno 22\nok 1\nno 53\n",
+    ),
+    (
+        "refusals_of_commands",
+        SIX,
+        b"set 9 1\nset 1 2147483648\nset 9 2147483648\nmark 7\nunmark 3\nreopen 7\n",
+        b"no 20\nno 21\nno 20\nno 24\nno 26\nno 23\n",
+    ),
+    (
+        "greatest_lengths",
+        b"p sp 4 3\na 1 2 2147483647\na 2 3 2147483647\na 3 4 2147483647\n",
+        b"dist 1 4\n",
+        b"v 0\nd 1 4 6442450941\n",
+    ),
+    (
+        "parallel_arcs_and_loops",
+        PARALLEL,
+        b"dist 1 2\nclose 2\nflush\ntask\npublish\ndist 1 2\n",
+        b"v 0\nd 1 2 3\nt 1\nok 1\ntask 1\nshown 1\nv 1\nd 1 2 5\n",
+    ),
+    (
+        "stop_within_checkpoint",
+        SIX,
+        b"close 7\nflush\nstop 4 old checkpoint\ndist 1 6\nstop 4 new checkpoint\ndist 1 6\n",
+        b"t 1\nok 1\nstopped\nv 1\nv 1\nd 1 6 22\nstopped\nv 1\nv 1\nd 1 6 22\n",
+    ),
+    (
+        "bounds_and_rows",
+        SIX,
+        b"mark 3\nflush\ntask\npublish\nlower 5 6\ndist 5 6\nlower 5 1\nfrom 3 4\nfrom 1 4\n",
+        b"t 1\nok 1\ntask 1\nshown 1\nv 1\nb 5 6 5\nv 1\nd 5 6 5\nv 1\nx 5 1\nv 1\nd 3 4 2\nv 1\nno 26\n",
+    ),
+    (
+        "bounds_of_two_landmarks",
+        SIX,
+        b"mark 1\nmark 3\nflush\ntask\npublish\nlower 1 6\nlower 5 2\nlower 4 1\n",
+        b"t 1\nt 2\nok 2\ntask 2\nshown 2\nv 2\nb 1 6 15\nv 2\nb 5 2 0\nv 2\nx 4 1\n",
+    ),
+    ("no_events", SIX, b"# none\n", b""),
+];
+
+#[test]
+fn scripts_of_the_default_journal(rt: HostRuntime) {
+    for (name, gr, script, want) in DEFAULT_JOURNAL {
+        is_rehearsed(&rt, name, gr, 64, script, want);
+    }
+}
+
+#[test]
+fn scripts_of_two_journal_pages(rt: HostRuntime) {
+    let table: [(&str, &[u8], &[u8]); 3] = [
+        (
+            "reuse_needs_a_checkpoint",
+            b"set 1 1\nflush\nset 1 2\nflush\nset 1 3\nflush\ncheckpoint\nstop 3 170 flush\ndist 1 2\n",
+            b"t 1\nok 1\nt 2\nok 2\nt 3\nno 44\nok 2\nstopped\nv 2\nv 2\nd 1 2 2\n",
+        ),
+        // A body written over an open gate would open as version 3.
+        (
+            "reuse_with_eight_picks",
+            b"set 1 1\nflush\nset 1 2\nflush\nset 1 3\nflush\ncheckpoint\nstop 1 old old old old old old old new flush\ndist 1 2\n",
+            b"t 1\nok 1\nt 2\nok 2\nt 3\nno 44\nok 2\nstopped\nv 2\nv 2\nd 1 2 2\n",
+        ),
+        (
+            "closed_gate_is_not_rewritten",
+            b"set 1 1\nflush\nset 1 2\nflush\nset 1 3\nflush\ncheckpoint\nstop 3 new flush\ndist 1 2\nset 1 9\nstop 1 165 flush\ndist 1 2\n",
+            b"t 1\nok 1\nt 2\nok 2\nt 3\nno 44\nok 2\nstopped\nv 2\nv 2\nd 1 2 2\nt 3\nstopped\nv 2\nv 2\nd 1 2 2\n",
+        ),
+    ];
+    for (name, script, want) in table {
+        is_rehearsed(&rt, name, SIX, 2, script, want);
+    }
+}
+
+/// What is told of a `close` and a flush that is stopped within its write or sync of this number, where the pick leaves a version. The flush makes four of them, so that a
+/// stop within the fifth comes behind it.
+fn told_of_a_stop(alloc: Global, call: u32, left: u32) -> Result<String, Fail> {
+    let told = match call {
+        1 | 2 => format!(in alloc; "t 1\nstopped\nv 0\n")?,
+        3 | 4 => format!(in alloc; "t 1\nstopped\nv {left}\n")?,
+        _ => format!(in alloc; "t 1\nok 1\nstopped\nv 1\n")?,
+    };
+    Ok(told)
+}
+
+#[test]
+fn stop_within_flush(rt: HostRuntime) -> Result<(), Fail> {
+    for call in 1..6 {
+        for (pick, left) in [("old", 0), ("new", 1), ("165", 1), ("17", 0)] {
+            let script = format!(in rt.alloc(); "close 7\nstop {call} {pick} flush\n")?;
+            let want = told_of_a_stop(rt.alloc(), call, left)?;
+            let (name, script) = (script.as_str(), script.as_bytes());
+            is_rehearsed(&rt, name, SIX, 64, script, want.as_bytes());
+        }
+    }
+    Ok(())
+}
+
+/// The i-th byte that was not synced takes pick i mod n. At the third call of a flush that is the gate's one byte, which takes the first pick.
+#[test]
+fn stop_with_several_picks(rt: HostRuntime) {
+    let table: [(&str, &[u8], &[u8]); 6] = [
+        (
+            "the gate takes the first pick, the new byte",
+            b"close 7\nstop 3 new old flush\n",
+            b"t 1\nstopped\nv 1\n",
+        ),
+        (
+            "the gate takes the first pick, the old byte",
+            b"close 7\nstop 3 old new flush\n",
+            b"t 1\nstopped\nv 0\n",
+        ),
+        (
+            "a body of old and new bytes",
+            b"close 7\nstop 1 old new flush\n",
+            b"t 1\nstopped\nv 0\n",
+        ),
+        (
+            "a step that is cut",
+            b"close 7\nflush\nstop 4 old step 64\ndist 1 6\nstop 4 new 165 step 64\ndist 1 6\n",
+            b"t 1\nok 1\nstopped\nv 1\nv 1\nd 1 6 22\nstopped\nv 1\nv 1\nd 1 6 22\n",
+        ),
+        (
+            "a stop behind a step",
+            b"close 7\nflush\nstop 99 old step 1\nstep 1\n",
+            b"t 1\nok 1\nok 1\nstopped\nv 1\nok 1\n",
+        ),
+        (
+            "a step that is refused",
+            b"close 7\nstop 1 0 1 2 3 4 5 6 7 step 64\nstop 2 new step 1\n",
+            b"t 1\nok 0\nstopped\nv 0\nok 0\nstopped\nv 0\n",
+        ),
+    ];
+    for (name, script, want) in table {
+        is_rehearsed(&rt, name, SIX, 64, script, want);
+    }
+}
+
+#[test]
+fn full_page_of_commands(rt: HostRuntime) -> Result<(), Fail> {
+    let mut script = Vec::new(rt.alloc());
+    let mut want = Vec::new(rt.alloc());
+    for number in 1..255 {
+        script.extend_from_slice(b"set 1 17\n")?;
+        let line = format!(in rt.alloc(); "t {number}\n")?;
+        want.extend_from_slice(line.as_bytes())?;
+    }
+    script.extend_from_slice(b"flush\nstop\n")?;
+    want.extend_from_slice(b"ok 253\nstopped\nv 253\n")?;
+    is_rehearsed(&rt, "full_page_of_commands", SIX, 64, &script, &want);
+    Ok(())
+}
+
+/// The network is judged before the script, and nothing is written.
+#[test]
+fn faults_of_texts(rt: HostRuntime) {
+    let table: [(&[u8], &[u8], u8, u64, Code); 7] = [
+        (b"p sp 0 0\n", b"q", 0, 1, Code::NumberRange),
+        (b"", b"under 1 2", 0, 0, Code::NoProblemLine),
+        (b"p sp 1 0\nrun\n", b"", 0, 2, Code::BadLine),
+        (SIX, b"lower 5\n", 1, 1, Code::BadLine),
+        (
+            SIX,
+            b"dist 1 6\n\nstop 0 old flush\n",
+            1,
+            3,
+            Code::NumberRange,
+        ),
+        (SIX, b"close 7\nstop 1 256 flush", 1, 2, Code::NumberRange),
+        (SIX, b"flush\nrun\n", 1, 2, Code::BadLine),
+    ];
+    for (gr, script, which, line, code) in table {
+        let mut out = Vec::new(rt.alloc());
+        let fault = Fault { line, code };
+        let outcome = rehearse_text(&rt, rt.alloc(), gr, script, 64, None, &mut out);
+        assert!(rt; outcome == Err(Failed::Text { which, fault }), "{fault}");
+        assert!(rt; out.is_empty(), "{fault}");
+    }
+}
+
+#[test]
+fn faults_of_joint_texts(rt: HostRuntime) {
+    let table: [(&[u8], u8, u64, Code); 16] = [
+        (&SIX[..SIX.len() - 9], 0, 9, Code::LineCount),
+        (b"a 1 2 3\nrun\ndist\n", 0, 1, Code::NoProblemLine),
+        (b"p sp 6 8\na 1 2 17\na 1 2 -5\n", 0, 3, Code::LengthRange),
+        (b"", 0, 0, Code::NoProblemLine),
+        (b"p sp 33554433 0\n", 0, 1, Code::TooLarge),
+        (b"p max 6 8\n", 0, 1, Code::WrongKind),
+        (b"p sp 6 8\na 1 2 17\na 1 2 5.0\n", 0, 3, Code::BadLine),
+        (b"run\n", 0, 0, Code::NoProblemLine),
+        (b"p sp 2 1\nrun\n", 0, 1, Code::LineCount),
+        (b"p sp 2 0\nrun\ndist 1\n", 1, 1, Code::BadLine),
+        (
+            b"p sp 2 0\nrun\n\ndist 1 2\nlower 1 2 3\n",
+            1,
+            3,
+            Code::BadLine,
+        ),
+        (b"p sp 2 0\nrun\nc\n", 1, 1, Code::BadLine),
+        (b"p sp 2 0\nrun\nrun\n", 1, 1, Code::BadLine),
+        (b"p sp 2 0\nrun\ndist 1 -0\n", 1, 1, Code::NumberRange),
+        (
+            b"p sp 2 0\nrun\ndist 9223372036854775808 1\n",
+            1,
+            1,
+            Code::NumberRange,
+        ),
+        (
+            b"p sp 2 0\nrun\ndist 9223372036854775808 x\n",
+            1,
+            1,
+            Code::BadLine,
+        ),
+    ];
+    for (text, which, line, code) in table {
+        let mut reader = text;
+        let mut out = Vec::new(rt.alloc());
+        let fault = Fault { line, code };
+        let outcome = joint_text(&rt, rt.alloc(), &mut reader, None, &mut out);
+        assert!(rt; outcome == Err(Failed::Text { which, fault }), "{fault}");
+        assert!(rt; out.is_empty(), "{fault}");
+    }
+}
+
+/// Every width of the buckets gives the same answers.
+#[test]
+fn widths_give_one_answer(rt: HostRuntime) {
+    let want = b"t 1\nok 1\nv 0\nd 1 6 15\ntask 1\nshown 1\nv 1\nd 1 6 22\n".as_slice();
+    for delta in [Some(1), Some(5), Some(2147483647)] {
+        let mut out = Vec::new(rt.alloc());
+        let outcome = rehearse_text(&rt, rt.alloc(), SIX, CLOSED, 1, delta, &mut out);
+        assert!(rt; outcome == Ok(Done { delta }), "{delta:?}");
+        assert!(rt; out.as_slice() == want, "{delta:?}");
+    }
+}
+
+/// What is written is sent out, once a call.
+#[test]
+fn replies_are_sent_out(rt: HostRuntime) {
+    let mut out = SendingWriter::new(rt.alloc());
+    let done = Ok(Done { delta: None });
+    let script = b"close 7\nflush\n";
+    assert!(rt; rehearse_text(&rt, rt.alloc(), SIX, script, 64, None, &mut out) == done);
+    let mut text: &[u8] = b"p sp 1 0\nrun\ndist 1 1\n";
+    assert!(rt; joint_text(&rt, rt.alloc(), &mut text, None, &mut out) == done);
+    assert!(rt; out.sent.as_slice() == [9, 12].as_slice() && out.waiting == 0);
+}
+
+/// A network of two nodes and 2,047 arcs from 1 to 2, of length 5: three word pages.
+pub fn three_word_pages(alloc: Global) -> Result<Vec<u8>, Fail> {
+    let mut text = Vec::new(alloc);
+    text.extend_from_slice(b"p sp 2 2047\n")?;
+    for _ in 0..2047 {
+        text.extend_from_slice(b"a 1 2 5\n")?;
+    }
+    Ok(text)
+}
+
+#[test]
+fn steps_of_a_checkpoint(rt: HostRuntime) -> Result<(), Fail> {
+    let gr = three_word_pages(rt.alloc())?;
+    let table: [(&str, &[u8], &[u8]); 6] = [
+        (
+            "flushes between steps",
+            b"close 1\nflush\nstep 1\nclose 2\nflush\nclose 3\nflush\nstep 64\nflush\nstop\ndist 1 2\n",
+            b"t 1\nok 1\nstep\nt 2\nok 2\nt 3\nno 44\nok 1\nok 3\nstopped\nv 3\nv 3\nd 1 2 5\n",
+        ),
+        (
+            "a stop forgets a checkpoint",
+            b"close 1\nflush\nstep 2\nstop\nstep 1\nstep 1\nstep 1\nstep 1\n",
+            b"t 1\nok 1\nstep\nstopped\nv 1\nstep\nstep\nok 1\nok 1\n",
+        ),
+        (
+            "checkpoint goes on",
+            b"close 1\nflush\nstep 1\nclose 2\nflush\ncheckpoint\nclose 3\nflush\nstep 3\nstep 1\n",
+            b"t 1\nok 1\nstep\nt 2\nok 2\nok 1\nt 3\nok 3\nok 3\nok 3\n",
+        ),
+        (
+            "a cut within a step of a going checkpoint",
+            b"close 1\nflush\nstep 1\nstop 1 165 checkpoint\nstep 64\nstop\n",
+            b"t 1\nok 1\nstep\nstopped\nv 1\nok 1\nstopped\nv 1\n",
+        ),
+        ("nothing unchecked", b"step 1\nstep 64\n", b"ok 0\nok 0\n"),
+        (
+            "as many pages as a slot has",
+            b"close 1\nflush\nstep 3\nstep 3\n",
+            b"t 1\nok 1\nok 1\nok 1\n",
+        ),
+    ];
+    for (name, script, want) in table {
+        is_rehearsed(&rt, name, &gr, 2, script, want);
+    }
+    Ok(())
+}

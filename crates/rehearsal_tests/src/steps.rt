@@ -1,0 +1,145 @@
+use crate::rehearsing::three_word_pages;
+use fixtures::Draws;
+use printing::Done;
+use rehearsals::rehearse_text;
+use std::process::Abort;
+use std::test::Fail;
+use std::thread::Threads;
+
+/// How many journal pages and word pages the store of a random script has.
+const JOURNAL_PAGES: u64 = 3;
+
+const WORD_PAGES: u64 = 3;
+
+/// The numbers of the machine that a script without failures goes by.
+#[derive(Drop)]
+struct Numbers {
+    latest: u64,
+    durable: u64,
+    unchecked: u64,
+    /// Of the checkpoint that is going its version, the word pages that are left, and the journal pages flushed since it began.
+    going: Option<(u64, u64, u64)>,
+}
+
+impl Numbers {
+    /// What is printed of a flush.
+    fn flush(&mut self, rt: &impl AllocGlobal) -> Result<String, Fail> {
+        if self.latest <= self.durable {
+            return Ok(format!(in rt.alloc(); "no 53\n")?);
+        }
+        if self.unchecked >= JOURNAL_PAGES {
+            return Ok(format!(in rt.alloc(); "no 44\n")?);
+        }
+        self.durable = self.latest;
+        self.unchecked += 1;
+        if let Some((version, left, flushed)) = self.going {
+            self.going = Some((version, left, flushed.wrapping_add(1)));
+        }
+        let durable = self.durable;
+        Ok(format!(in rt.alloc(); "ok {durable}\n")?)
+    }
+
+    /// What is printed of a step of so many pages.
+    fn step(&mut self, rt: &impl AllocGlobal, pages: u64) -> Result<String, Fail> {
+        let begun = self.going.is_some();
+        if !begun && self.unchecked == 0 {
+            let durable = self.durable;
+            return Ok(format!(in rt.alloc(); "ok {durable}\n")?);
+        }
+        let (version, left, flushed) = self.going.unwrap_or((self.durable, WORD_PAGES, 0));
+        if left > pages {
+            self.going = Some((version, left.wrapping_sub(pages), flushed));
+            return Ok(format!(in rt.alloc(); "step\n")?);
+        }
+        self.going = None;
+        self.unchecked = flushed;
+        Ok(format!(in rt.alloc(); "ok {version}\n")?)
+    }
+
+    /// The next line of a script by a random number, and what is printed of it.
+    fn line(
+        &mut self,
+        rt: &impl AllocGlobal,
+        random: u64,
+        script: &mut Vec<u8>,
+        want: &mut Vec<u8>,
+    ) -> Result<(), Fail> {
+        let told = match random % 8 {
+            0 | 1 => {
+                self.latest = self.latest.wrapping_add(1);
+                script.extend_from_slice(b"set 1 9\n")?;
+                let latest = self.latest;
+                format!(in rt.alloc(); "t {latest}\n")?
+            },
+            2 | 3 => {
+                script.extend_from_slice(b"flush\n")?;
+                self.flush(rt)?
+            },
+            4 => {
+                script.extend_from_slice(b"step 1\n")?;
+                self.step(rt, 1)?
+            },
+            5 => {
+                script.extend_from_slice(b"step 2\n")?;
+                self.step(rt, 2)?
+            },
+            6 => {
+                script.extend_from_slice(b"checkpoint\n")?;
+                self.step(rt, 64)?
+            },
+            _ => {
+                script.extend_from_slice(b"stop\n")?;
+                self.latest = self.durable;
+                self.going = None;
+                let durable = self.durable;
+                format!(in rt.alloc(); "stopped\nv {durable}\n")?
+            },
+        };
+        want.extend_from_slice(told.as_bytes())?;
+        Ok(())
+    }
+}
+
+/// A random script of 24 lines on this network, and what is told of it.
+fn random_script(
+    rt: &(impl Abort + AllocGlobal + Threads),
+    gr: &[u8],
+    draws: &mut Draws,
+) -> Result<(), Fail> {
+    let mut numbers = Numbers {
+        latest: 0,
+        durable: 0,
+        unchecked: 0,
+        going: None,
+    };
+    let mut script = Vec::new(rt.alloc());
+    let mut want = Vec::new(rt.alloc());
+    for _ in 0..24 {
+        numbers.line(rt, draws.draw() >> 7, &mut script, &mut want)?;
+    }
+    let mut out = Vec::new(rt.alloc());
+    let pages = JOURNAL_PAGES as u32;
+    let outcome = rehearse_text(rt, rt.alloc(), gr, &script, pages, None, &mut out);
+    assert!(rt; outcome == Ok(Done { delta: None }) && out == want);
+    Ok(())
+}
+
+/// A hundred random scripts of this seed, each on a network of three word pages.
+fn random_scripts(rt: &(impl Abort + AllocGlobal + Threads), seed: u64) -> Result<(), Fail> {
+    let gr = three_word_pages(rt.alloc())?;
+    let mut draws = Draws::new(seed);
+    for _ in 0..100 {
+        random_script(rt, &gr, &mut draws)?;
+    }
+    Ok(())
+}
+
+#[test]
+fn random_scripts_of_seed_1(rt: HostRuntime) -> Result<(), Fail> {
+    random_scripts(&rt, 1)
+}
+
+#[test]
+fn random_scripts_of_seed_2(rt: HostRuntime) -> Result<(), Fail> {
+    random_scripts(&rt, 2)
+}

@@ -1,13 +1,11 @@
 // Which writes and syncs each call of a store makes, and in which order, by the record of a disk in memory.
-ghost use Rattle.std.specs.Prelude.{◌≤◌};
-
 use crate::worked::{created, opened};
 use disk::{MemDisk, Pick, Recorded, Stoppable};
 use fixtures::arc;
 use roadnet::{Command, Network, Refusal};
 use std::alloc::Global;
 use std::test::Fail;
-use store::{Store, create, inspect};
+use store::{Store, inspect};
 
 // A write of so many whole pages from one on, of a page's bytes before its gate, or of its gate; or a sync.
 #[derive(Clone, Copy)]
@@ -223,10 +221,8 @@ fn calls_of_create(rt: HostRuntime) -> Result<(), Fail> {
     ];
     for (arcs, journal_pages, calls) in rows {
         let network = parallel(alloc, arcs)?;
-        let Ok(store) = create(alloc, MemDisk::new(alloc), &network, journal_pages.clamp(1, 64)) else {
-            return Err(Fail::from(Refusal::Device));
-        };
-        assert_eq!(rt; first_other(&store.close(), calls), None, "{arcs} arcs");
+        let disk = created(alloc, &network, journal_pages.clamp(1, 64))?;
+        assert_eq!(rt; first_other(&disk, calls), None, "{arcs} arcs");
     }
     Ok(())
 }

@@ -120,7 +120,9 @@ fn write<D: Disk>(
 // The head of slot B and the page of words behind it, for the landmarks 3 and 6 too; no other page is written, nor is a stop's choice left.
 #[test]
 fn slot_b_after_a_checkpoint(rt: HostRuntime) -> Result<(), Refusal> {
-    for (landmarks, head) in [(&[][..], &HEAD[..]), (&[6, 3], &HEAD_WITH_LANDMARKS)] {
+    let rows: [(&[u32], &[u8]); 2] = [(&[], &HEAD), (&[6, 3], &HEAD_WITH_LANDMARKS)];
+    for (landmarks, head) in rows {
+        assert!(rt; head.len() <= 4095);
         let network = six(rt.alloc(), landmarks)?;
         let mut disk = file(rt.alloc(), &SIX, 0)?;
         write(rt.alloc(), &mut disk, &SIX, &network, 64)?;

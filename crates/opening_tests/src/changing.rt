@@ -174,6 +174,7 @@ fn journal_is_replayed(rt: HostRuntime) -> Result<(), Fail> {
     assert!(rt; store.network().arc(7) == Some(closed));
     assert!(rt; store.network().arc(1).is_some_and(|arc| arc.opened && arc.length == 17));
     assert!(rt; store.network().landmarks() == [3, 6].as_slice());
-    assert!(rt; store.close().len() == Ok(286720));
+    let mut disk = store.close();
+    assert!(rt; disk.len() == Ok(286720));
     Ok(())
 }

@@ -2,7 +2,7 @@ pub mod GatedPages
 pub mod Gates
 pub mod Overwritten
 mod Places
-mod Recorded
+mod OnRecord
 pub mod Steps
 mod Turns
 mod Undone

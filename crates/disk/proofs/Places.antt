@@ -12,7 +12,7 @@ use Rattle.disk.specs.declared.mem_disk.Recorded.{Recorded}
 use Rattle.disk.specs.declared.mem_disk.Recorded.TheVariants.{Wrote, Synced}
 use Rattle.disk.specs.Record.{is_in, is_written, before_write, before_writes, unsynced, replaced_at, IsNoted, IsSyncedByte}
 use Rattle.disk.specs.RecordLaws.{sets_below, sets_above, outside_write}
-use Rattle.disk.proofs.Recorded.{before_writes_push, unsynced_write, unsynced_sync}
+use Rattle.disk.proofs.OnRecord.{before_writes_push, unsynced_write, unsynced_sync}
 
 sets_inside : (vs l : List ℕ) (i k : ℕ) → k < length vs → i + k < length l → get_or (sets l i vs) (i + k) 0 ≡ get_or vs k 0
 sets_inside [] l i k lt within = absurd (omega arith)

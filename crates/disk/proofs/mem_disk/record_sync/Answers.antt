@@ -3,7 +3,7 @@ use Rattle.std.proofs.lemmas.Result.{on_ok_weaker}
 use Rattle.disk.specs.declared.mem_disk.Recorded.TheVariants.{Synced}
 use Rattle.disk.specs.declared.mem_disk.Write.{Write}
 use Rattle.disk.specs.Record.{is_written, before_writes}
-use Rattle.disk.proofs.Recorded.{elapses, synced_only, synced_among}
+use Rattle.disk.proofs.OnRecord.{elapses, synced_only, synced_among}
 use Rattle.disk.proofs.Places.{none_after_sync}
 use Rattle.disk.proofs.mem_disk.record_sync.Goals as goal
 

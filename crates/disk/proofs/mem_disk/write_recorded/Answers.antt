@@ -3,7 +3,7 @@ use Rattle.std.proofs.lemmas.Result.{on_ok_weaker}
 use Rattle.disk.specs.Contents.{PartlyWritten}
 use Rattle.disk.specs.declared.mem_disk.Recorded.TheVariants.{Wrote}
 use Rattle.disk.proofs.Overwritten.{overwritten_torn}
-use Rattle.disk.proofs.Recorded.{elapses, noted_follows, noted_synced}
+use Rattle.disk.proofs.OnRecord.{elapses, noted_follows, noted_synced}
 use Rattle.disk.proofs.Places.{noted_written}
 use Rattle.disk.proofs.Overwritten.{length-overwritten}
 use Rattle.disk.proofs.mem_disk.write_recorded.Goals as goal

@@ -1,7 +1,7 @@
 use Rattle.std.proofs.Common.{List, subst}
 use Rattle.disk.specs.declared.mem_disk.Recorded.{Recorded}
 use Rattle.disk.specs.Record.{unsynced, MayLeave}
-use Rattle.disk.proofs.Recorded.{none_written, picks_left}
+use Rattle.disk.proofs.OnRecord.{none_written, picks_left}
 use Rattle.disk.proofs.mem_disk.MemDiskStoppable.stop.Goals as goal
 
 pub returns-clause-left : goal.returns-clause-left

@@ -103,9 +103,9 @@ fn rows_of_the_six_node_network(rt: HostRuntime) -> Result<(), Refusal> {
 
 #[test]
 fn no_walk_itself_no_node(rt: HostRuntime) -> Result<(), Refusal> {
-    let network = six(rt.alloc())?;
-    assert!(rt; plain_of(rt.alloc(), &network, 7).err() == Some(Refusal::NoSuchNode));
-    assert!(rt; row_by(rt.alloc(), &network, 7, 1, &Solo).err() == Some(Refusal::NoSuchNode));
+    let six = six(rt.alloc())?;
+    assert!(rt; plain_of(rt.alloc(), &six, 7).err() == Some(Refusal::NoSuchNode));
+    assert!(rt; row_by(rt.alloc(), &six, 7, 1, &Solo).err() == Some(Refusal::NoSuchNode));
     let alone = network(rt.alloc(), 1, &[], &[])?;
     assert!(rt; has_row(rt.alloc(), &alone, 1, &[Some(0)])?);
     Ok(())

@@ -7,15 +7,13 @@ pub pinned-pinned-requires : goal.pinned-pinned-requires
 pinned-pinned-requires g c = subst (λ (v : Viewed). HasRowsOf v.version v.network c.self.inside.cache) (sym c.deref-2.ensures) c.self.invariant.0
 
 pub invariant_of-self : goal.invariant_of-self
-invariant_of-self g c =
-    (
-      subst (λ (v : Viewed). HasRowsOf v.version v.network c.answer.new.self.cache.now) (c.answer.ensures.same.view ∙ c.pinned-pinned.ensures.view ∙ c.deref-2.ensures) c.answer.ensures.kept,
-      c.answer.ensures.capacity ∙ (ap capacity_of c.pinned-pinned.ensures.cache ∙ c.self.invariant.1),
-    )
+invariant_of-self g c = (
+  subst (λ (v : Viewed). HasRowsOf v.version v.network c.answer.new.self.cache.now) (c.answer.ensures.same.view ∙ c.pinned-pinned.ensures.view ∙ c.deref-2.ensures) c.answer.ensures.kept,
+  c.answer.ensures.capacity ∙ (ap capacity_of c.pinned-pinned.ensures.cache ∙ c.self.invariant.1),
+)
 
 pub invariant_of-self-2 : goal.invariant_of-self-2
-invariant_of-self-2 g c =
-    (
-      subst (λ (v : Viewed). HasRowsOf v.version v.network c.answer.new.self.cache.now) (c.answer.ensures.same.view ∙ c.pinned-pinned.ensures.view ∙ c.deref-2.ensures) c.answer.ensures.kept,
-      c.answer.ensures.capacity ∙ (ap capacity_of c.pinned-pinned.ensures.cache ∙ c.self.invariant.1),
-    )
+invariant_of-self-2 g c = (
+  subst (λ (v : Viewed). HasRowsOf v.version v.network c.answer.new.self.cache.now) (c.answer.ensures.same.view ∙ c.pinned-pinned.ensures.view ∙ c.deref-2.ensures) c.answer.ensures.kept,
+  c.answer.ensures.capacity ∙ (ap capacity_of c.pinned-pinned.ensures.cache ∙ c.self.invariant.1),
+)

@@ -1,5 +1,5 @@
 -- The pairs of a text, answered by a store that was opened.
-use Rattle.std.proofs.Common.{◌≡◌, ℕ, List, Option, None, Some, Result, Ok, Err, refl, subst, inl}
+use Rattle.std.proofs.Common.{◌≡◌, ℕ, List, Option, None, Some, Result, Ok, Err, refl, subst, inl, inr}
 use Rattle.std.specs.Prelude.{IfSome, OnOk, IfErr}
 use Rattle.roadnet.specs.declared.refusals.Refusal.TheVariants.{Write, OutOfMemory}
 use Rattle.roadnet.specs.Net.{Net}
@@ -13,7 +13,7 @@ use Rattle.printing.specs.declared.failed.Failed.{Failed}
 use Rattle.printing.specs.declared.failed.Failed.TheVariants.{Text, Code}
 use Rattle.querytexts.specs.Batch.{AnswersAll}
 use Rattle.querytexts.specs.Once.{IsUnanswered}
-use Rattle.storetexts.specs.Asked.{IsAsked, IsRefusedAsk}
+use Rattle.storetexts.specs.Asked.{OfStore, GivesPairs, IsAsked, IsRefusedAsk}
 use Rattle.storetexts.specs.Refused.{IsOfStore, CountsDevice}
 
 module _ (Honest : Type 0) (file : List ℕ) (net : Net) (version nodes : ℕ) (stands : Honest → StandsAt file net version) (is : nodes ≡ net.nodes) where
@@ -42,19 +42,23 @@ module _ (Honest : Type 0) (file : List ℕ) (net : Net) (version nodes : ℕ) (
   fault_known None left fault said = tt
   fault_known (Some text) left fault said = fault_of text (OfReader left) fault said
 
-unanswered : (Honest : Type 0) (file text : List ℕ) (source : Source) (failed : Failed) → IsUnanswered failed → IsRefusedAsk Honest file text source failed
-unanswered Honest file text source (Code Write) h = tt
-unanswered Honest file text source (Code OutOfMemory) h = (refl, λ honest. inl (inl refl))
-unanswered Honest file text source _ h = absurd h
+  gives : (text : List ℕ) (list : List Pair) → content_by (p2p_text nodes) (rows text) ≡ Ok list → OfStore Honest file (GivesPairs text)
+  gives text list said = record { net = net; version = version; stands = stands; holds = (list, subst (λ (n : ℕ). content_by (p2p_text n) (rows text) ≡ Ok list) is said) }
 
-pub refused_so : {X : Type 0} (r : Result X Failed) (Honest : Type 0) (file text : List ℕ) (source : Source) → IfErr r IsUnanswered → IfErr r (IsRefusedAsk Honest file text source)
-refused_so (Ok done) Honest file text source h = tt
-refused_so (Err failed) Honest file text source h = unanswered Honest file text source failed h
+  unanswered : (text : List ℕ) (source : Source) (failed : Failed) (list : List Pair) → content_by (p2p_text nodes) (rows text) ≡ Ok list → IsUnanswered failed → IsRefusedAsk Honest file text source failed
+  unanswered text source (Code Write) list said h = gives text list said
+  unanswered text source (Code OutOfMemory) list said h = ((refl, λ honest. inl (inl refl)), inr (gives text list said))
+  unanswered text source _ list said h = absurd h
 
-pub refused_known : {X : Type 0} (r : Result X Failed) (Honest : Type 0) (file : List ℕ) (known : Option (List ℕ)) (source : Source) → IfErr r IsUnanswered → IfErr r (λ failed. IfSome known (λ text. IsRefusedAsk Honest file text source failed))
-refused_known (Ok done) Honest file known source h = tt
-refused_known (Err failed) Honest file None source h = tt
-refused_known (Err failed) Honest file (Some text) source h = unanswered Honest file text source failed h
+  pub refused_so : {X : Type 0} (r : Result X Failed) (text : List ℕ) (source : Source) (list : List Pair) → content_by (p2p_text nodes) (rows text) ≡ Ok list → IfErr r IsUnanswered → IfErr r (IsRefusedAsk Honest file text source)
+  refused_so (Ok done) text source list said h = tt
+  refused_so (Err failed) text source list said h = unanswered text source failed list said h
+
+  pub refused_known : {X : Type 0} (r : Result X Failed) (known left : Option (List ℕ)) (list : List Pair) → IfSome known (λ text. Reads (p2p_text nodes) text left (Ok list)) → IfErr r IsUnanswered
+      → IfErr r (λ failed. IfSome known (λ text. IsRefusedAsk Honest file text (OfReader left) failed))
+  refused_known (Ok done) known left list said h = tt
+  refused_known (Err failed) None left list said h = tt
+  refused_known (Err failed) (Some text) left list said h = unanswered text (OfReader left) failed list said.0 h
 
 of_unanswered : (failed : Failed) → IsUnanswered failed → IsOfStore failed
 of_unanswered (Code Write) h = tt

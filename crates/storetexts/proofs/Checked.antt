@@ -1,5 +1,5 @@
 -- A store that is only looked at: its lines, or why there are none.
-use Rattle.std.proofs.Common.{◌≡◌, ℕ, List, Option, Result, Ok, Err, refl, sym, subst}
+use Rattle.std.proofs.Common.{◌≡◌, ℕ, List, Option, Result, Ok, Err, false, true, refl, sym, subst}
 use Rattle.std.specs.Prelude.{OnOk, IfErr}
 use Rattle.std.specs.Io.KnownBytes.{Appends}
 use Rattle.roadnet.specs.declared.refusals.Refusal.{Refusal}
@@ -16,7 +16,7 @@ use Rattle.storetexts.specs.Checked.{standing_lines, IsChecked, IsRefusedCheck}
 use Rattle.storetexts.specs.Refused.{IfNoMemory, CountsDevice}
 
 pub unopened : (Honest : Type 0) (file : List ℕ) (refusal : Refusal) → IsUnopened Honest file refusal → IsRefusedCheck Honest file (Code refusal)
-unopened Honest file Write may = tt
+unopened Honest file Write may = absurd (let never : false ≡ true = may.0 in cc)
 unopened Honest file _ may = may
 
 pub memory_told : (refusal : Refusal) (P : Type 0) → (refusal ≡ OutOfMemory → P) → IfNoMemory (Code refusal) P
@@ -34,8 +34,9 @@ by_write : (P : Failed → Type 0) (r : Result (Unit {0}) Failed) → P (Code Wr
 by_write P (Ok done) p is = tt
 by_write P (Err failed) p is = subst P (sym is) p
 
-pub write_refused : (r : Result (Unit {0}) Failed) (Honest : Type 0) (file : List ℕ) → IfErr r (λ failed. failed ≡ Code Write) → IfErr r (IsRefusedCheck Honest file)
-write_refused r Honest file is = by_write (IsRefusedCheck Honest file) r tt is
+pub write_refused : (r : Result (Unit {0}) Failed) (Honest : Type 0) (file : List ℕ) (version : ℕ) (told : Standing) → (Honest → (net : Net) × StandsThus file net version told)
+    → IfErr r (λ failed. failed ≡ Code Write) → IfErr r (IsRefusedCheck Honest file)
+write_refused r Honest file version told stands is = by_write (IsRefusedCheck Honest file) r (version, told, stands) is
 
 pub write_memory : (r : Result (Unit {0}) Failed) (P : Type 0) → IfErr r (λ failed. failed ≡ Code Write) → IfErr r (λ failed. IfNoMemory failed P)
 write_memory r P is = by_write (λ (failed : Failed). IfNoMemory failed P) r tt is

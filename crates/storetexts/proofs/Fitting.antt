@@ -1,5 +1,5 @@
 -- Want of memory is told only of a file with a header that fits it; and what holds however a call ended.
-use Rattle.std.proofs.Common.{◌≡◌, ◌∙◌, ℕ, List, length, Option, None, Some, Result, Ok, Err, refl, sym, ap}
+use Rattle.std.proofs.Common.{◌≡◌, ◌∙◌, ℕ, List, length, None, Some, Result, Ok, Err, refl, sym, ap}
 use Rattle.std.specs.Prelude.{IfErr, OnOk}
 use Rattle.roadnet.specs.declared.refusals.Refusal.{Refusal}
 use Rattle.roadnet.specs.declared.refusals.Refusal.TheVariants.{OutOfMemory}

@@ -1,17 +1,20 @@
 -- With what opening may refuse: over any disk 11 and 40 to 43, and no failed write.
-use Rattle.std.proofs.Common.{◌≡◌, ⊎_elim, inl, ℕ, List, Option, None, Some, Result, Ok, Err, false, true, refl, sym, subst}
+use Rattle.std.proofs.Common.{◌≡◌, ⊎_elim, inl, inr, ℕ, List, Option, None, Some, Result, Ok, Err, false, true, refl, sym, subst}
 use Rattle.std.specs.Prelude.{IfSome, IfErr}
 use Rattle.roadnet.specs.declared.refusals.Refusal.{Refusal}
 use Rattle.roadnet.specs.declared.refusals.Refusal.TheVariants.{OutOfMemory, Device, Write}
 use Rattle.pagereader.specs.Outcomes.{MayEndOpening}
-use Rattle.dimacs.specs.Texts.{Source}
+use Rattle.roadnet.specs.declared.commands.Command.{Command}
+use Rattle.roadnet.specs.Net.{Net}
+use Rattle.dimacs.specs.Commanded.{command_text}
+use Rattle.dimacs.specs.Texts.{Source, OfReader, Reads}
 use Rattle.printing.specs.declared.failed.Failed.{Failed}
 use Rattle.printing.specs.declared.failed.Failed.TheVariants.{Text, Code}
 use Rattle.printing.specs.Failing.{CountsWrites}
-use Rattle.storetexts.specs.Applied.{IsRefusedApply}
+use Rattle.storetexts.specs.Applied.{commands_of, GivesCommands, IsRefusedApply}
 use Rattle.storetexts.specs.Applying.{IsCutOffBy}
 use Rattle.store.specs.Opening.{IsPassing}
-use Rattle.storetexts.specs.Asked.{IsUnopened, IsRefusedAsk}
+use Rattle.storetexts.specs.Asked.{OfStore, IsUnopened, IsUnread, IsRefusedAsk}
 use Rattle.storetexts.specs.Refused.{IsOfStore}
 
 pub opening_counts : (T : Type 0) (refusal : Refusal) (n : ℕ) → MayEndOpening refusal → CountsWrites {X = T} n n (Err (Code refusal))
@@ -23,22 +26,29 @@ opening_of_store Write may = tt
 opening_of_store _ may = may
 
 -- ---- asking
-pub ask_refused : (Honest : Type 0) (file text : List ℕ) (source : Source) (refusal : Refusal) → IsUnopened Honest file refusal → IsRefusedAsk Honest file text source (Code refusal)
-ask_refused Honest file text source Write may = tt
-ask_refused Honest file text source _ may = may
+no_write : (P Q : Type 0) → MayEndOpening Write × Q → P
+no_write P Q may = absurd (let never : false ≡ true = may.0 in cc)
 
-pub ask_refused_known : (Honest : Type 0) (file : List ℕ) (known : Option (List ℕ)) (source : Source) (refusal : Refusal) → IsUnopened Honest file refusal → IfSome known (λ text. IsRefusedAsk Honest file text source (Code refusal))
-ask_refused_known Honest file None source refusal may = tt
-ask_refused_known Honest file (Some text) source refusal may = ask_refused Honest file text source refusal may
+pub ask_refused : (Honest : Type 0) (file text : List ℕ) (source : Source) (refusal : Refusal) → IsUnread text source → IsUnopened Honest file refusal → IsRefusedAsk Honest file text source (Code refusal)
+ask_refused Honest file text source Write unread may = no_write _ _ may
+ask_refused Honest file text source _ unread may = (may, inl unread)
+
+pub ask_refused_known : (Honest : Type 0) (file : List ℕ) (known : Option (List ℕ)) (refusal : Refusal) → IsUnopened Honest file refusal → IfSome known (λ text. IsRefusedAsk Honest file text (OfReader known) (Code refusal))
+ask_refused_known Honest file None refusal may = tt
+ask_refused_known Honest file (Some text) refusal may = ask_refused Honest file text (OfReader (Some text)) refusal refl may
 
 -- ---- applying
-pub apply_refused : (Honest : Type 0) (file text : List ℕ) (source : Source) (refusal : Refusal) → IsUnopened Honest file refusal → IsRefusedApply Honest file text source (Code refusal)
-apply_refused Honest file text source Write may = tt
-apply_refused Honest file text source _ may = may
+pub apply_refused : (Honest : Type 0) (file text : List ℕ) (source : Source) (refusal : Refusal) → IsUnread text source → IsUnopened Honest file refusal → IsRefusedApply Honest file text source (Code refusal)
+apply_refused Honest file text source Write unread may = no_write _ _ may
+apply_refused Honest file text source _ unread may = (may, inl unread)
 
-pub apply_refused_known : (Honest : Type 0) (file : List ℕ) (known : Option (List ℕ)) (source : Source) (refusal : Refusal) → IsUnopened Honest file refusal → IfSome known (λ text. IsRefusedApply Honest file text source (Code refusal))
-apply_refused_known Honest file None source refusal may = tt
-apply_refused_known Honest file (Some text) source refusal may = apply_refused Honest file text source refusal may
+pub apply_refused_known : (Honest : Type 0) (file : List ℕ) (known : Option (List ℕ)) (refusal : Refusal) → IsUnopened Honest file refusal → IfSome known (λ text. IsRefusedApply Honest file text (OfReader known) (Code refusal))
+apply_refused_known Honest file None refusal may = tt
+apply_refused_known Honest file (Some text) refusal may = apply_refused Honest file text (OfReader (Some text)) refusal refl may
+
+apply_refused_later : (Honest : Type 0) (file text : List ℕ) (source : Source) (refusal : Refusal) → OfStore Honest file (GivesCommands text) → IsUnopened Honest file refusal → IsRefusedApply Honest file text source (Code refusal)
+apply_refused_later Honest file text source Write gives may = gives
+apply_refused_later Honest file text source _ gives may = (may, inr gives)
 
 -- ---- a refusal behind the opening
 pub ends_of_device : (refusal : Refusal) → IsPassing refusal → MayEndOpening refusal
@@ -64,9 +74,15 @@ module _ (P : Failed → Type 0) (written : P (Code Write)) (device : (refusal :
 pub kind_cut_off : {X : Type 0} (r : Result X Failed) → IfErr r IsCutOffBy → IfErr r IsOfStore
 kind_cut_off r h = if_cut_off IsOfStore tt (λ refusal of. opening_of_store refusal (ends_of_device refusal of)) r h
 
-pub cut_off_refused : {X : Type 0} (r : Result X Failed) (Honest : Type 0) (file text : List ℕ) (source : Source) → IfErr r IsCutOffBy → IfErr r (IsRefusedApply Honest file text source)
-cut_off_refused r Honest file text source h = if_cut_off (IsRefusedApply Honest file text source) tt (λ refusal of. apply_refused Honest file text source refusal (unopened_of_device Honest file refusal of)) r h
+module _ {P : Net → ℕ → Type 0} (Honest : Type 0) (file : List ℕ) (o : OfStore Honest file P) (list : List Command) where
+  gives : (text : List ℕ) → commands_of text ≡ Ok list → OfStore Honest file (GivesCommands text)
+  gives text said = record { net = o.net; version = o.version; stands = o.stands; holds = (list, said) }
 
-pub cut_off_refused_known : {X : Type 0} (r : Result X Failed) (Honest : Type 0) (file : List ℕ) (known : Option (List ℕ)) (source : Source) → IfErr r IsCutOffBy → IfErr r (λ failed. IfSome known (λ text. IsRefusedApply Honest file text source failed))
-cut_off_refused_known r Honest file None source h = if_cut_off (λ failed. Unit {0}) tt (λ refusal of. tt) r h
-cut_off_refused_known r Honest file (Some text) source h = cut_off_refused r Honest file text source h
+  pub cut_off_refused : {X : Type 0} (r : Result X Failed) (text : List ℕ) (source : Source) → commands_of text ≡ Ok list → IfErr r IsCutOffBy → IfErr r (IsRefusedApply Honest file text source)
+  cut_off_refused r text source said h =
+      if_cut_off (IsRefusedApply Honest file text source) (gives text said) (λ refusal of. apply_refused_later Honest file text source refusal (gives text said) (unopened_of_device Honest file refusal of)) r h
+
+  pub cut_off_refused_known : {X : Type 0} (r : Result X Failed) (known left : Option (List ℕ)) → IfSome known (λ text. Reads command_text text left (Ok list)) → IfErr r IsCutOffBy
+      → IfErr r (λ failed. IfSome known (λ text. IsRefusedApply Honest file text (OfReader left) failed))
+  cut_off_refused_known r None left said h = if_cut_off (λ failed. Unit {0}) tt (λ refusal of. tt) r h
+  cut_off_refused_known r (Some text) left said h = cut_off_refused r text (OfReader left) said.0 h

@@ -14,7 +14,7 @@ use Rattle.storefile.specs.StoreFile.{StandsTidyFor}
 use Rattle.printing.specs.declared.failed.Failed.{Failed}
 use Rattle.printing.specs.declared.failed.Failed.TheVariants.{Text, Code}
 use Rattle.storetexts.specs.declared.outcomes.Outcome.{Outcome}
-use Rattle.storetexts.specs.Asked.{OfStore, IsUnopened}
+use Rattle.storetexts.specs.Asked.{OfStore, IsUnopened, IsUnread}
 use Rattle.storetexts.specs.Outcomes.{ComesTo, accepted_in, outcome_lines, IsSettled, IsUnsettledAt}
 
 -- the commands of a text, in order, or its fault
@@ -142,10 +142,14 @@ IfTextOrFileRefused (Code WrongFormat) same = same
 IfTextOrFileRefused (Code (Damaged page)) same = same
 IfTextOrFileRefused (Code refusal) same = ⊤
 
--- A store was opened and the text has its fault told, or its reader failed in it; or the writer failed; or opening is refused, memory ran
--- out, or the disk failed.
+-- the text has no fault
+abbrev pub GivesCommands : List ℕ → Net → ℕ → Type 0
+GivesCommands text net version = (list : List Command) × (commands_of text ≡ Ok list)
+
+-- A store was opened and the text has its fault told, or its reader failed in it. Where a store was opened and the text has no fault, the
+-- writer failed, memory ran out, or the disk failed. Or opening is refused, and the text isn't read.
 abbrev pub IsRefusedApply : Type 0 → List ℕ → List ℕ → Source → Failed → Type 0
 IsRefusedApply Honest file text source (Text zero fault) = OfStore Honest file (λ net version. FaultOf command_text text source fault)
-IsRefusedApply Honest file text source (Code Write) = ⊤
-IsRefusedApply Honest file text source (Code refusal) = IsUnopened Honest file refusal
+IsRefusedApply Honest file text source (Code Write) = OfStore Honest file (GivesCommands text)
+IsRefusedApply Honest file text source (Code refusal) = IsUnopened Honest file refusal × (IsUnread text source ⊎ OfStore Honest file (GivesCommands text))
 IsRefusedApply Honest file text source failed = ⊥

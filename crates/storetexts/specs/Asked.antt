@@ -1,11 +1,11 @@
 -- What the pairs of a text are answered with by a store, and for what they are refused.
-use Rattle.std.specs.Prelude.{◌≡◌, ℕ, zero, List, Option, Ok, ⊤}
+use Rattle.std.specs.Prelude.{◌≡◌, ◌⊎◌, ℕ, zero, List, Option, Some, Ok, ⊤}
 use Rattle.roadnet.specs.declared.refusals.Refusal.{Refusal}
 use Rattle.roadnet.specs.declared.refusals.Refusal.TheVariants.{Write}
 use Rattle.roadnet.specs.Net.{Net}
 use Rattle.dimacs.specs.declared.pairs.Pair.{Pair}
 use Rattle.dimacs.specs.Pairs.{p2p_text}
-use Rattle.dimacs.specs.Texts.{Source, FaultOf}
+use Rattle.dimacs.specs.Texts.{Source, InMemory, OfReader, FaultOf}
 use Rattle.pagereader.specs.Outcomes.{MayEndOpening}
 use Rattle.store.specs.State.{StandsAt}
 use Rattle.store.specs.Opening.{MayRefuseToOpen}
@@ -34,10 +34,19 @@ pub record AnswersText (text : List ℕ) (old new : Option (List ℕ)) (net : Ne
 abbrev pub IsAsked : Type 0 → List ℕ → List ℕ → Option (List ℕ) → Option (List ℕ) → Type 0
 IsAsked Honest file text old new = OfStore Honest file (AnswersText text old new)
 
--- The store was opened and the text has its fault told, judged by the network of the store, or its reader failed in it; or the writer
--- failed; or opening is refused, or memory ran out.
+-- the text has no fault, judged by this network
+abbrev pub GivesPairs : List ℕ → Net → ℕ → Type 0
+GivesPairs text net version = (list : List Pair) × (pairs_in net text ≡ Ok list)
+
+-- a reader has all of its text left; of a text in memory nothing is known
+abbrev pub IsUnread : List ℕ → Source → Type 0
+IsUnread text InMemory = ⊤
+IsUnread text (OfReader left) = left ≡ Some text
+
+-- The store was opened and the text has its fault told, judged by the network of the store, or its reader failed in it. Where the store was
+-- opened and the text has no fault, the writer failed, or memory ran out. Or opening is refused, and the text isn't read.
 abbrev pub IsRefusedAsk : Type 0 → List ℕ → List ℕ → Source → Failed → Type 0
 IsRefusedAsk Honest file text source (Text zero fault) = OfStore Honest file (λ net version. FaultOf (p2p_text net.nodes) text source fault)
-IsRefusedAsk Honest file text source (Code Write) = ⊤
-IsRefusedAsk Honest file text source (Code refusal) = IsUnopened Honest file refusal
+IsRefusedAsk Honest file text source (Code Write) = OfStore Honest file (GivesPairs text)
+IsRefusedAsk Honest file text source (Code refusal) = IsUnopened Honest file refusal × (IsUnread text source ⊎ OfStore Honest file (GivesPairs text))
 IsRefusedAsk Honest file text source failed = ⊥

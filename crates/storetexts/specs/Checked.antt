@@ -1,5 +1,5 @@
 -- What is told of a store that is only looked at, and for what that is refused.
-use Rattle.std.specs.Prelude.{ℕ, List, ◌++◌, Option, ⊤}
+use Rattle.std.specs.Prelude.{ℕ, List, ◌++◌, Option}
 use lib.Chars.{codes}
 use Rattle.std.specs.Io.KnownBytes.{Appends}
 use Rattle.roadnet.specs.declared.refusals.Refusal.TheVariants.{Write}
@@ -30,8 +30,12 @@ pub record IsChecked (Honest : Type 0) (file : List ℕ) (old new : Option (List
   pub stands : Honest → (net : Net) × StandsThus file net version told
   pub written : Appends old new (standing_lines version told)
 
--- opening is refused, or the writer failed
+-- where the disk keeps the disk model its file stands for a store
+abbrev pub IsSomeStore : Type 0 → List ℕ → Type 0
+IsSomeStore Honest file = (version : ℕ) × (told : Standing) × (Honest → (net : Net) × StandsThus file net version told)
+
+-- opening is refused, or the store was read and the writer failed
 abbrev pub IsRefusedCheck : Type 0 → List ℕ → Failed → Type 0
 IsRefusedCheck Honest file (Text which fault) = ⊥
-IsRefusedCheck Honest file (Code Write) = ⊤
+IsRefusedCheck Honest file (Code Write) = IsSomeStore Honest file
 IsRefusedCheck Honest file (Code refusal) = IsUnopened Honest file refusal

@@ -25,7 +25,7 @@ returns-in-Err-clause-any_moment g c honest pages net version stands =
     if_known _ _ (λ text. nothing_since g.D.Disk.moment g.D.Disk.left_since g.D.Disk.left c.args.disk _ c.args.disk (λ content. g.met.D.Disk.only_now c.args.disk content honest) (c.in-Err.ensures.handed_back honest).adds_nothing _)
 
 pub returns-in-Err-clause-refused : goal.returns-in-Err-clause-refused
-returns-in-Err-clause-refused g c = apply_refused_known (g.D.Disk.honest c.args.disk) (g.D.Disk.content c.args.disk) (g.R.Read.remaining (reader_of c.args.commands.now)) (OfReader (g.R.Read.remaining (reader_of c.args.commands.now))) c.in-Err.refusal c.in-Err.ensures.refused
+returns-in-Err-clause-refused g c = apply_refused_known (g.D.Disk.honest c.args.disk) (g.D.Disk.content c.args.disk) (g.R.Read.remaining (reader_of c.args.commands.now)) c.in-Err.refusal c.in-Err.ensures.refused
 
 pub returns-in-Err-clause-codes : goal.returns-in-Err-clause-codes
 returns-in-Err-clause-codes g c = opening_of_store c.in-Err.refusal c.in-Err.ensures.refused.0
@@ -88,7 +88,11 @@ returns-clause-told g c =
     told_known _ _ c.in-Ok.ledger.machine c.in-Ok.ensures.opened c.in-Ok-of_text.commands.items c.apply_commands.result.0 _ _ _ _ (rw list at tells) (value_of vec_items 0 c.read_commands_counted.result c.in-Ok-of_text.commands c.in-Ok-of_text.ensures (λ r. IfSome (g.R.Read.remaining (reader_of c.args.commands.now)) (λ text. Reads command_text text (g.R.Read.remaining (reader_of c.read_commands_counted.new.counted)) r)) c.read_commands_counted.ensures.read)
 
 pub returns-clause-refused : goal.returns-clause-refused
-returns-clause-refused g c = cut_off_refused_known c.apply_commands.result.0 (g.D.Disk.honest c.args.disk) (g.D.Disk.content c.args.disk) (g.R.Read.remaining (reader_of c.args.commands.now)) (OfReader (g.R.Read.remaining (reader_of c.read_commands_counted.new.counted))) c.apply_commands.ensures.refused
+returns-clause-refused g c =
+    let known = g.R.Read.remaining (reader_of c.args.commands.now) in
+    let left = g.R.Read.remaining (reader_of c.read_commands_counted.new.counted) in
+    cut_off_refused_known (g.D.Disk.honest c.args.disk) (g.D.Disk.content c.args.disk) c.in-Ok.ensures.opened c.in-Ok-of_text.commands.items c.apply_commands.result.0 known left
+    (value_of vec_items 0 c.read_commands_counted.result c.in-Ok-of_text.commands c.in-Ok-of_text.ensures (λ r. IfSome known (λ text. Reads command_text text left r)) c.read_commands_counted.ensures.read) c.apply_commands.ensures.refused
 
 pub returns-clause-codes : goal.returns-clause-codes
 returns-clause-codes g c = kind_cut_off c.apply_commands.result.0 c.apply_commands.ensures.refused

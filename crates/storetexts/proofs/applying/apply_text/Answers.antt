@@ -20,7 +20,7 @@ returns-in-Err-clause-any_moment g c honest pages net version stands =
     nothing_since g.D.Disk.moment g.D.Disk.left_since g.D.Disk.left c.args.disk _ c.args.disk (λ content. g.met.D.Disk.only_now c.args.disk content honest) (c.in-Err.ensures.handed_back honest).adds_nothing _
 
 pub returns-in-Err-clause-refused : goal.returns-in-Err-clause-refused
-returns-in-Err-clause-refused g c = apply_refused (g.D.Disk.honest c.args.disk) (g.D.Disk.content c.args.disk) c.args.commands.now InMemory c.in-Err.refused c.in-Err.ensures.refused
+returns-in-Err-clause-refused g c = apply_refused (g.D.Disk.honest c.args.disk) (g.D.Disk.content c.args.disk) c.args.commands.now InMemory c.in-Err.refused tt c.in-Err.ensures.refused
 
 pub returns-in-Err-clause-failed : goal.returns-in-Err-clause-failed
 returns-in-Err-clause-failed g c = counts_code ⊤ c.in-Err.refused _ _ c.in-Err.ensures.counted
@@ -71,7 +71,9 @@ returns-clause-told g c =
     told_text _ _ c.in-Ok.ledger.machine c.in-Ok.ensures.opened c.in-Ok-of_text.commands.items c.apply_to_writer.result.0 c.args.commands.now _ _ (rw list at tells) (value_of vec_items 0 c.parse_commands.result c.in-Ok-of_text.commands c.in-Ok-of_text.ensures (Parses command_text c.args.commands.now) c.parse_commands.ensures)
 
 pub returns-clause-refused : goal.returns-clause-refused
-returns-clause-refused g c = cut_off_refused c.apply_to_writer.result.0 (g.D.Disk.honest c.args.disk) (g.D.Disk.content c.args.disk) c.args.commands.now InMemory c.apply_to_writer.ensures.refused
+returns-clause-refused g c =
+    cut_off_refused (g.D.Disk.honest c.args.disk) (g.D.Disk.content c.args.disk) c.in-Ok.ensures.opened c.in-Ok-of_text.commands.items c.apply_to_writer.result.0 c.args.commands.now InMemory
+    (value_of vec_items 0 c.parse_commands.result c.in-Ok-of_text.commands c.in-Ok-of_text.ensures (Parses command_text c.args.commands.now) c.parse_commands.ensures) c.apply_to_writer.ensures.refused
 
 pub returns-clause-failed : goal.returns-clause-failed
 returns-clause-failed g c = counts_from c.apply_to_writer.result.0 _ _ _ c.in-Ok.ensures.counted c.apply_to_writer.ensures.counted

@@ -25,7 +25,7 @@ pub returns-in-Err-clause-failed : goal.returns-in-Err-clause-failed
 returns-in-Err-clause-failed g c = counts_code Done c.in-Err.refusal _ _ c.in-Err.ensures.counted
 
 pub returns-in-Err-clause-refused : goal.returns-in-Err-clause-refused
-returns-in-Err-clause-refused g c = ask_refused_known (g.D.Disk.honest c.args.disk) (g.D.Disk.content c.args.disk) (g.R.Read.remaining (reader_of c.args.p2p.now)) (OfReader (g.R.Read.remaining (reader_of c.args.p2p.now))) c.in-Err.refusal (c.in-Err.ensures.causes, c.in-Err.ensures.judged)
+returns-in-Err-clause-refused g c = ask_refused_known (g.D.Disk.honest c.args.disk) (g.D.Disk.content c.args.disk) (g.R.Read.remaining (reader_of c.args.p2p.now)) c.in-Err.refusal (c.in-Err.ensures.causes, c.in-Err.ensures.judged)
 
 pub returns-in-Err-of_text-clause-refused : goal.returns-in-Err-of_text-clause-refused
 returns-in-Err-of_text-clause-refused g c =
@@ -47,7 +47,13 @@ returns-clause-answered g c =
     (value_of vec_items 0 c.read_p2p_counted-read.result c.in-Ok-of_text.pairs c.in-Ok-of_text.ensures (λ r. IfSome known (λ text. Reads (p2p_text c.nodes.result) text left r)) c.read_p2p_counted-read.ensures.read) (rw list at answers)
 
 pub returns-clause-refused : goal.returns-clause-refused
-returns-clause-refused g c = refused_known c.ask_opened.result.0 (g.D.Disk.honest c.args.disk) (g.D.Disk.content c.args.disk) (g.R.Read.remaining (reader_of c.args.p2p.now)) (OfReader (g.R.Read.remaining (reader_of c.read_p2p_counted-read.new.counted))) c.ask_opened.ensures.refused
+returns-clause-refused g c =
+    let nodes : c.nodes.result ≡ c.in-Ok.store.network.nodes = search rules in
+    let known = g.R.Read.remaining (reader_of c.args.p2p.now) in
+    let left = g.R.Read.remaining (reader_of c.read_p2p_counted-read.new.counted) in
+    refused_known (g.D.Disk.honest c.args.disk) (g.D.Disk.content c.args.disk) c.in-Ok.store.network c.in-Ok.store.version c.nodes.result c.in-Ok.ensures.stands nodes
+    c.ask_opened.result.0 known left c.in-Ok-of_text.pairs.items
+    (value_of vec_items 0 c.read_p2p_counted-read.result c.in-Ok-of_text.pairs c.in-Ok-of_text.ensures (λ r. IfSome known (λ text. Reads (p2p_text c.nodes.result) text left r)) c.read_p2p_counted-read.ensures.read) c.ask_opened.ensures.refused
 
 pub returns-clause-codes : goal.returns-clause-codes
 returns-clause-codes g c = kind_unanswered c.ask_opened.result.0 c.ask_opened.ensures.refused

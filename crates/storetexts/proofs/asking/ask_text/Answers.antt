@@ -15,7 +15,7 @@ use Rattle.storetexts.proofs.Fitting.{fits, if_no_memory, if_ok}
 use Rattle.storetexts.proofs.asking.ask_text.Goals as goal
 
 pub returns-in-Err-clause-refused : goal.returns-in-Err-clause-refused
-returns-in-Err-clause-refused g c = ask_refused (g.D.Disk.honest c.args.disk) (g.D.Disk.content c.args.disk) c.args.p2p.now InMemory c.in-Err.refusal (c.in-Err.ensures.causes, c.in-Err.ensures.judged)
+returns-in-Err-clause-refused g c = ask_refused (g.D.Disk.honest c.args.disk) (g.D.Disk.content c.args.disk) c.args.p2p.now InMemory c.in-Err.refusal tt (c.in-Err.ensures.causes, c.in-Err.ensures.judged)
 
 pub returns-in-Err-clause-failed : goal.returns-in-Err-clause-failed
 returns-in-Err-clause-failed g c = counts_code Done c.in-Err.refusal _ _ c.in-Err.ensures.counted
@@ -37,7 +37,11 @@ returns-clause-answered g c =
     search (rules, h)
 
 pub returns-clause-refused : goal.returns-clause-refused
-returns-clause-refused g c = refused_so c.ask_opened.result.0 (g.D.Disk.honest c.args.disk) (g.D.Disk.content c.args.disk) c.args.p2p.now InMemory c.ask_opened.ensures.refused
+returns-clause-refused g c =
+    let nodes : c.nodes.result ≡ c.in-Ok.store.network.nodes = search rules in
+    let read = value_of vec_items 0 c.parse_p2p-read.result c.in-Ok-of_text.pairs c.in-Ok-of_text.ensures (Parses (p2p_text c.nodes.result) c.args.p2p.now) c.parse_p2p-read.ensures in
+    refused_so (g.D.Disk.honest c.args.disk) (g.D.Disk.content c.args.disk) c.in-Ok.store.network c.in-Ok.store.version c.nodes.result c.in-Ok.ensures.stands nodes
+    c.ask_opened.result.0 c.args.p2p.now InMemory c.in-Ok-of_text.pairs.items read c.ask_opened.ensures.refused
 
 pub returns-clause-failed : goal.returns-clause-failed
 returns-clause-failed g c = counts_unanswered c.ask_opened.result.0 _ _ c.ask_opened.ensures.refused (ap g.D.Disk.failures c.ask_opened.ensures.disk ∙ c.in-Ok.ensures.counted)

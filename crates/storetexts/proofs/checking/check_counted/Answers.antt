@@ -20,7 +20,7 @@ pub returns-clause-answered : goal.returns-clause-answered
 returns-clause-answered g c = told_so c.put_standing-told.result (g.D.Disk.honest c.args.disk) (g.D.Disk.content c.args.disk) c.in-Ok.found.version c.in-Ok.found.standing _ _ c.in-Ok.ensures.stands c.put_standing-told.ensures.ok
 
 pub returns-clause-refused : goal.returns-clause-refused
-returns-clause-refused g c = write_refused c.put_standing-told.result (g.D.Disk.honest c.args.disk) (g.D.Disk.content c.args.disk) c.put_standing-told.ensures.refused
+returns-clause-refused g c = write_refused c.put_standing-told.result (g.D.Disk.honest c.args.disk) (g.D.Disk.content c.args.disk) c.in-Ok.found.version c.in-Ok.found.standing c.in-Ok.ensures.stands c.put_standing-told.ensures.refused
 
 pub returns-clause-order : goal.returns-clause-order
 returns-clause-order g c honest = write_memory c.put_standing-told.result _ c.put_standing-told.ensures.refused

@@ -1,5 +1,5 @@
 -- What the parts of an office agree on, from one call to the next.
-use Rattle.std.proofs.Common.{◌≡◌, ℕ, ◌+◌, ◌-◌, ◌^◌, ◌<◌, ◌≤◌, Bool, true, false, cond, leb, Result, Ok, Err, List, [], ◌∷◌, ◌++◌, length, take, Option, Some, sym, ap, ◌∙◌, subst, arith}
+use Rattle.std.proofs.Common.{◌≡◌, ℕ, ◌+◌, ◌-◌, ◌<◌, ◌≤◌, Bool, true, false, cond, leb, Result, Ok, Err, List, [], ◌∷◌, ◌++◌, length, take, Option, Some, sym, ap, ◌∙◌, subst, arith}
 use Rattle.std.proofs.lemmas.Bool.Decides.{nat_tests}
 use Rattle.std.specs.Prelude.{IfSome}
 use Rattle.std.proofs.Math.Seq.{take-nil}
@@ -56,13 +56,6 @@ module _ (origin : Origin) (m : Machine) (w : ℕ) (h : Beginning) (p : Showing)
         subst (λ (n : Machine). IsOffice origin n v log p) (sym step.2)
         (subst (λ (x : ℕ). IsOffice origin (with_command m c) x log p) (sym width)
         (subst (λ (b : Beginning). IsOffice origin (with_command m c) w b p) (sym is) (office_more c)))
-
-    -- the history has room for a command
-    pub has_room : length h.commands < 2 ^ 62
-    has_room =
-        let same : length h.commands ≡ length m.accepted = ap length o.history_commands in
-        let to = s.versions_to in
-        omega (arith, same, to)
 
     -- a number behind all accepted commands has no receipt
     pub not_receivable : (ticket : Ticket) (why : Refusal) → why ≡ cond m.broken Broken NotYet → origin.version + length h.commands < ticket.number → receipt_for m ticket ≡ Err why

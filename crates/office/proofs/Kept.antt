@@ -1,5 +1,5 @@
 -- Beginnings of a closed history that have all that was acknowledged and shown.
-use Rattle.std.proofs.Common.{◌≡◌, ◌⊎◌, ⊎_elim, ℕ, zero, suc, ◌+◌, ◌-◌, ◌≤◌, List, [], ◌∷◌, length, take, refl, ap, sym, ◌∙◌, subst, arith}
+use Rattle.std.proofs.Common.{◌≡◌, ⊎_elim, ℕ, zero, suc, ◌+◌, ◌-◌, ◌≤◌, List, [], ◌∷◌, length, take, refl, ap, sym, ◌∙◌, subst, arith}
 use Rattle.std.proofs.lemmas.List.{length-take-le}
 use mathlib.Core.List.{IsPrefix}
 use Rattle.roadnet.specs.declared.commands.Command.{Command}
@@ -7,7 +7,7 @@ use Rattle.roadnet.specs.Net.{Net}
 use Rattle.roadnet.specs.Step.{after}
 use Rattle.storefile.specs.StoreFile.{StandsTidyFor}
 use Rattle.history.specs.Origins.{Origin, Beginning}
-use Rattle.history.proofs.Beginnings.{take_prefix, prefix_whole}
+use Rattle.history.proofs.Beginnings.{take_prefix}
 use Rattle.machine.specs.Machine.{Machine, IsState, latest}
 use Rattle.published.specs.Showing.{Showing}
 use Rattle.keeper.specs.Keeping.{IsDurableIn}
@@ -45,13 +45,3 @@ keeps origin m w h p o s content held =
       network_is = ap (λ (b : Net). after b kept) base ∙ held.network_is;
       stands = subst (λ (v : ℕ). StandsTidyFor m.sizes.journal_pages content held.network v) (sym number) held.stands;
     }
-
--- who knows no more, and learns what was shown, knows just that
-pub learned : (known shown now : Beginning) → (now ≡ known) ⊎ (now ≡ shown) → IsPrefix shown.commands now.commands → length known.commands ≤ length shown.commands → now.commands ≡ shown.commands
-learned known shown now one that le =
-    ⊎_elim (λ (old : now ≡ known). sym (prefix_whole shown.commands now.commands that (subst (λ (b : Beginning). length b.commands ≤ length shown.commands) (sym old) le)))
-    (λ (new : now ≡ shown). ap (λ (b : Beginning). b.commands) new)
-    one
-
-pub first_of : (xs ys : List Command) → xs ≡ take (length xs) ys → IsPrefix xs ys
-first_of xs ys is = subst (λ (l : List Command). IsPrefix l ys) (sym is) (take_prefix (length xs) ys)

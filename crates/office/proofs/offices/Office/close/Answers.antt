@@ -1,4 +1,4 @@
-use Rattle.std.proofs.Common.{◌≡◌, ℕ, sym, subst}
+use Rattle.std.proofs.Common.{ℕ, sym, subst}
 use Rattle.history.specs.Origins.{Beginning}
 use Rattle.office.specs.Left.{KeepsDesk}
 use Rattle.office.proofs.Kept.{keeps}

@@ -1,10 +1,7 @@
 use Rattle.std.proofs.Common.{sym, subst}
 use Rattle.store.specs.State.{CameTidy}
-use Rattle.office.proofs.Agreed.{office_submitted, has_room}
+use Rattle.office.proofs.Agreed.{office_submitted}
 use Rattle.office.proofs.offices.Office.submit.Goals as goal
-
-pub returns-clause-refused : goal.returns-clause-refused
-returns-clause-refused g c = c.submit_into.ensures.room (has_room _ _ _ _ _ c.self.invariant.0 c.opened.ensures.state)
 
 pub invariant_of-self-2 : goal.invariant_of-self-2
 invariant_of-self-2 g c =

@@ -1,5 +1,5 @@
 -- What a call of a reader does to how far its text is read.
-use Rattle.std.proofs.Common.{◌≡◌, ℕ, ◌+◌, ◌≤◌, Bool, true, false, List, [], ◌++◌, length, drop, Option, Some, None, Result, Ok, Err, refl, sym, ap, ◌∙◌, arith, inl, take-append-drop, ◌≢◌}
+use Rattle.std.proofs.Common.{◌≡◌, ℕ, ◌+◌, ◌≤◌, Bool, true, false, List, [], ◌++◌, length, drop, Option, Some, None, Result, Ok, Err, refl, sym, ap, ◌∙◌, arith, take-append-drop, ◌≢◌}
 use Rattle.std.proofs.Math.Seq.{drop-length}
 use Rattle.std.specs.Prelude.{IfSome, IfOk, MatchBool}
 use Rattle.std.specs.Io.{StartsWith}
@@ -19,6 +19,7 @@ use Rattle.dimacs.specs.Joint.{taken_of}
 use Rattle.dimacs.specs.Ends.{HasTakenSome, ReadsLines}
 use Rattle.dimacs.specs.Progress.{Within, BeforeRun, Feeds}
 use Rattle.dimacs.specs.Turns.{WithinSome, FarFrom, RunFrom, EndsFrom, StopsFrom}
+use Rattle.dimacs.proofs.Remarks.{nothing_kept}
 use Rattle.dimacs.proofs.Far.{run_reads, stop_told, clean_front, front_within}
 
 -- the bytes that are shown are the front of what is left
@@ -113,7 +114,7 @@ module _ {S : Type 0} (judge : Judge) (has_taken : List Row → S → Type 0) (m
         before = [];
         lines = refl;
         in_line = All-nil (λ b. b ≢ 10);
-        kept = inl none;
+        kept = nothing_kept mark feed.kept.items none;
         count = sym zero;
         clean = refl;
         no_run = λ u. refl;

@@ -13,7 +13,6 @@ use Rattle.std.specs.Io.BufRead.{strip_last}
 use Rattle.dimacs.specs.declared.feed.Feed.{Feed}
 use Rattle.dimacs.specs.declared.feed.Ended.{Ended}
 use Rattle.dimacs.specs.declared.fault.Code.{Code}
-use Rattle.dimacs.specs.declared.fault.Code.TheVariants.{OutOfMemory}
 use Rattle.dimacs.proofs.Items.{by_code_of, by_memory_of}
 use Rattle.dimacs.specs.Lines.{is_line_feed, lines, fields, rows}
 use Rattle.dimacs.specs.Faults.{Row, Judge, or_else, fault_at, first_fault}
@@ -21,7 +20,10 @@ use Rattle.dimacs.specs.Joint.{is_run, before_run, after_run, has_run, taken_of,
 use Rattle.dimacs.specs.Taking.{Takes, ByCode, ByMemory}
 use Rattle.dimacs.specs.Ends.{TakenAll, RunsOut, BreaksOff, FailsIn, ReadAll}
 use Rattle.dimacs.specs.Progress.{StandsFor, TakesOrRuns, Within, BeforeRun, StopsAt}
+use Rattle.dimacs.specs.Overflow.{IsFaultOfFront}
 use Rattle.dimacs.proofs.Pieces.{line_before_feed, line_at_end, known_position, first_line, last_line}
+use Rattle.dimacs.proofs.Fronts.{line_begun}
+use Rattle.dimacs.proofs.Remarks.{nothing_kept}
 
 -- The faults of lines, and of those that follow them.
 
@@ -174,7 +176,7 @@ module _ {S : Type 0} (judge : Judge) (has_taken : List Row → S → Type 0) (m
         before = at.before ++ (piece ++ 10 ∷ []);
         lines = at.lines ∙ ap (λ (l : List Row). at.earlier ++ l) (next_row at.front rest piece more after at.in_line in_piece e) ∙ sym (append_assoc at.earlier (row ∷ []) (rows (more ++ after)));
         in_line = All-nil (λ b. b ≢ 10);
-        kept = inl kept;
+        kept = nothing_kept mark new.kept.items kept;
         count = omega (arith, length-append at.earlier (row ∷ []), at.count, lines);
         clean = clean_more judge at.earlier row at.clean none;
         no_run = λ u. no_run_more at.earlier row (at.no_run (sym until ∙ u)) (other (sym until ∙ u));
@@ -237,11 +239,15 @@ module _ {S : Type 0} (judge : Judge) (has_taken : List Row → S → Type 0) (m
         feeds = sum_by-append (λ b. cond (is_line_feed b) 1 0) at.before rest ∙ omega (arith, feeds_none rest in_rest, at.feeds, lines);
       }
 
-  pub refused_front : (rest after : List ℕ) (old new : Feed S) → (at : Within judge has_taken mark text (rest ++ after) old) → 0 < length rest
-      → new.until_run ≡ old.until_run → new.lines ≡ old.lines → StopsAt judge text new OutOfMemory
-  refused_front rest after old new at some same lines =
-      let next = some_row (at.front ++ (rest ++ after)) (omega (arith, length-append at.front (rest ++ after), length-append rest after)) in
-      met_fault (rest ++ after) next.0 next.1 old new OutOfMemory at next.2 tt same lines
+  -- the fault of the next line is known by its front, or memory ran out for it
+  pub stopped_front : (rest after : List ℕ) (old new : Feed S) (code : Code) → (at : Within judge has_taken mark text (rest ++ after) old) → All (λ b. b ≢ 10) rest → 0 < length rest
+      → ByMemory code (IsFaultOfFront judge at.earlier (at.front ++ rest) code) ⊤
+      → new.until_run ≡ old.until_run → new.lines ≡ old.lines → StopsAt judge text new code
+  stopped_front rest after old new code at in_rest some why same lines =
+      let line = line_begun (at.front ++ rest) after (All-append (λ b. b ≢ 10) at.front rest at.in_line in_rest) (omega (arith, some, length-append at.front rest)) in
+      let next : rows (at.front ++ (rest ++ after)) ≡ fields (strip_last 13 ((at.front ++ rest) ++ line.0)) ∷ line.1 = ap rows (sym (append_assoc at.front rest after)) ∙ line.2 in
+      met_fault (rest ++ after) (fields (strip_last 13 ((at.front ++ rest) ++ line.0))) line.1 old new code at next
+      (by_memory_of code why (λ fault. ((fault line.0).0, λ u. (fault line.0).1)) (λ t. tt)) same lines
 
 -- how far a feed is in the bytes that it was shown
 pub record Gone {S : Type 0} (judge : Judge) (has_taken : List Row → S → Type 0) (mark : ℕ) (bytes rest : List ℕ) (old new : Feed S) : Type 0 where

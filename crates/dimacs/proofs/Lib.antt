@@ -6,6 +6,10 @@ pub mod Items
 pub mod Problems
 pub mod Others
 mod Remarks
+mod Fronts
+pub mod Beyond
+mod BeyondTexts
+mod Told
 mod Far
 mod Calls
 mod Networks

@@ -21,7 +21,7 @@ not-not false = refl
 pub start_is : (line : List ℕ) → position_or_len (λ b. not (is_blank b)) line ≡ prefix_len is_blank line
 start_is line = prefix_len-same (λ b. not (not (is_blank b))) is_blank (λ b. not-not (is_blank b)) line
 
-fields_blank : (b : ℕ) (bs : List ℕ) → is_blank b ≡ true → fields (b ∷ bs) ≡ fields bs
+pub fields_blank : (b : ℕ) (bs : List ℕ) → is_blank b ≡ true → fields (b ∷ bs) ≡ fields bs
 fields_blank b bs e = ap (filter is_not_empty) (slice_split-cons_yes is_blank b bs e)
 
 pub fields_skip : (line : List ℕ) → fields line ≡ fields (drop (prefix_len is_blank line) line)

@@ -1,14 +1,18 @@
 -- A comment is known by its front.
-use Rattle.std.proofs.Common.{◌≡◌, ℕ, ◌+◌, ◌-◌, ◌<◌, Bool, true, false, cond, eqb, ltb, ◌&&◌, List, [], ◌∷◌, ◌++◌, length, take, get_or, refl, sym, ap, ◌∙◌, arith, inl, inr, take_all}
+use Rattle.std.proofs.Common.{◌≡◌, ℕ, zero, suc, append_assoc, ◌+◌, ◌-◌, ◌<◌, Bool, true, false, cond, eqb, ltb, ◌&&◌, List, [], ◌∷◌, ◌++◌, length, take, get_or, refl, sym, ap, ◌∙◌, arith, inl, inr, take_all, Result, Ok, Err}
+use Rattle.std.specs.Prelude.{OnOk}
 use Rattle.std.specs.List.{filter, slice_split, onto_first}
 use Rattle.std.specs.Io.BufRead.{strip_last, ends_with_byte}
-use Rattle.std.proofs.lemmas.Bool.{cases_Bool, cond-true, cond-false, lt-ltb, eqb-true}
-use Rattle.std.proofs.lemmas.List.{take_more}
+use Rattle.std.proofs.lemmas.Bool.{cases_Bool, cond-true, cond-false, lt-ltb, eqb-true, eq-eqb}
+use Rattle.std.proofs.lemmas.List.{take_more, append-nil, length-append}
 use Rattle.std.proofs.lemmas.List.Splits.{slice_split-cons_yes, slice_split-cons_no}
 use Rattle.dimacs.specs.Lines.{is_blank, is_not_empty, fields}
 use Rattle.dimacs.specs.Faults.{Row, is_remark}
 use Rattle.dimacs.specs.Joint.{is_run}
-use Rattle.dimacs.specs.Progress.{StandsFor}
+use Rattle.dimacs.specs.Progress.{StandsFor, IsCommentFront}
+use Rattle.dimacs.specs.Overflow.{EndsInBlank, IsBlankFront}
+use Rattle.dimacs.proofs.Pieces.{fields_blank}
+use Rattle.dimacs.proofs.Fronts.{blanks_left_out}
 
 -- the first byte that is not blank is the mark
 abbrev begins : ℕ → List ℕ → Bool
@@ -96,26 +100,128 @@ remark_is_no_run mark ((b ∷ bs) ∷ others) other e =
     and_right_of true b e = e
     and_right_of false b e = absurd cc
 
--- what stands for the front of a comment is of a comment
-pub front_remark : (mark : ℕ) (front kept : List ℕ) → StandsFor mark front kept → is_remark mark (fields kept) ≡ true → is_remark mark (fields front) ≡ true
-front_remark mark front kept (inl e) is = rw e at is
-front_remark mark front kept (inr both) is = both.0
+-- the mark alone is a comment
+pub mark_remark : (mark : ℕ) → is_blank mark ≡ false → is_remark mark (fields (mark ∷ [])) ≡ true
+mark_remark mark other = remark_begins mark (mark ∷ []) ∙ cond-false _ _ _ other ∙ eq-eqb mark mark refl
 
-pub stands_more : (mark : ℕ) (front kept more : List ℕ) → StandsFor mark front kept → is_remark mark (fields kept) ≡ true → StandsFor mark (front ++ more) kept
-stands_more mark front kept more stands is = inr (remark_grows mark front more (front_remark mark front kept stands is), is)
+-- a front with a field is a comment where each line that begins with it is one
+pub remark_same : (mark : ℕ) (front more : List ℕ) → 0 < length (fields front) → is_remark mark (fields (front ++ more)) ≡ is_remark mark (fields front)
+remark_same mark front more some = remark_begins mark (front ++ more) ∙ begins_same front some ∙ sym (remark_begins mark front)
+  where
+    begins_same : (front : List ℕ) → 0 < length (fields front) → begins mark (front ++ more) ≡ begins mark front
+    begins_same [] some = absurd (omega (arith, some))
+    begins_same (b ∷ bs) some =
+        elim (cases_Bool (is_blank b)) [
+          | inl blank ↦ cond-true _ _ _ blank ∙ begins_same bs (rw (← (fields_blank b bs blank)) some) ∙ sym (cond-true _ _ _ blank)
+          | inr other ↦ cond-false _ _ _ other ∙ sym (cond-false _ _ _ other)
+        ]
 
-pub stands_kept : (mark : ℕ) (front kept more new : List ℕ) → StandsFor mark front kept → is_remark mark (fields kept) ≡ false → new ≡ kept ++ more → StandsFor mark (front ++ more) new
-stands_kept mark front kept more new (inl e) is grown = inl (grown ∙ ap (λ (l : List ℕ). l ++ more) e)
-stands_kept mark front kept more new (inr both) is grown = absurd (let clash = both.1 in cc)
+-- What is kept.
+
+pub nothing_kept : (mark : ℕ) (kept : List ℕ) → kept ≡ [] → StandsFor mark [] kept
+nothing_kept mark kept none = rw none (inl (record { some = λ e. e; begun = λ e. e; goes_on = λ more. refl }))
+
+-- the line that a piece ends, of which nothing is kept, or something that is no comment's mark
+pub row_of_piece : (mark : ℕ) (front kept piece : List ℕ) → StandsFor mark front kept → kept ≡ [] → fields (strip_last 13 (front ++ piece)) ≡ fields (strip_last 13 piece)
+row_of_piece mark front kept piece (inl same) none = same.goes_on piece ∙ ap (λ (l : List ℕ). fields (strip_last 13 (l ++ piece))) none
+row_of_piece mark front kept piece (inr both) none = absurd (let clash : mark ∷ [] ≡ [] = sym both.1 ∙ none in cc)
+
+pub row_of_kept : (mark : ℕ) (front kept piece : List ℕ) → StandsFor mark front kept → (kept ≡ mark ∷ [] → ⊥) → fields (strip_last 13 (front ++ piece)) ≡ fields (strip_last 13 (kept ++ piece))
+row_of_kept mark front kept piece (inl same) other = same.goes_on piece
+row_of_kept mark front kept piece (inr both) other = absurd (other both.1)
+
+-- of a comment only its mark is kept
+pub front_of_mark : (mark : ℕ) (front kept : List ℕ) → eqb 13 mark ≡ false → is_blank mark ≡ false → StandsFor mark front kept → kept ≡ mark ∷ [] → IsCommentFront mark front
+front_of_mark mark front kept no_return no_blank (inl same) is =
+    λ more. ap (is_remark mark) (same.goes_on more ∙ ap (λ (l : List ℕ). fields (strip_last 13 (l ++ more))) is) ∙ remark_goes_on mark (mark ∷ []) more no_return (mark_remark mark no_blank)
+front_of_mark mark front kept no_return no_blank (inr both) is = both.0
+
+comment_more : (mark : ℕ) (front piece : List ℕ) → IsCommentFront mark front → IsCommentFront mark (front ++ piece)
+comment_more mark front piece is = λ more. ap (λ (l : List ℕ). is_remark mark (fields (strip_last 13 l))) (append_assoc front piece more) ∙ is (piece ++ more)
+
+pub mark_stays : (mark : ℕ) (front kept piece : List ℕ) → eqb 13 mark ≡ false → is_blank mark ≡ false → StandsFor mark front kept → kept ≡ mark ∷ [] → StandsFor mark (front ++ piece) kept
+mark_stays mark front kept piece no_return no_blank stands is = inr (comment_more mark front piece (front_of_mark mark front kept no_return no_blank stands is), is)
+
+pub nothing_more : (mark : ℕ) (front kept piece : List ℕ) → piece ≡ [] → StandsFor mark front kept → StandsFor mark (front ++ piece) kept
+nothing_more mark front kept piece none stands = rw (none, append-nil front) stands
+
+-- a piece that begins a comment
+pub mark_of_piece : (mark : ℕ) (front kept piece new : List ℕ) → eqb 13 mark ≡ false → StandsFor mark front kept → kept ≡ [] → is_remark mark (fields piece) ≡ true → new ≡ mark ∷ [] → StandsFor mark (front ++ piece) new
+mark_of_piece mark front kept piece new no_return stands none is made =
+    inr (λ more. ap (λ (l : List ℕ). is_remark mark (fields (strip_last 13 l))) (append_assoc front piece more) ∙ ap (is_remark mark) (row_of_piece mark front kept (piece ++ more) stands none) ∙ remark_goes_on mark piece more no_return is, made)
+
+-- what is kept turns out to be a comment
+pub mark_of_kept : (mark : ℕ) (front kept new : List ℕ) → eqb 13 mark ≡ false → StandsFor mark front kept → is_remark mark (fields kept) ≡ true → new ≡ mark ∷ [] → StandsFor mark front new
+mark_of_kept mark front kept new no_return (inl same) is made = inr (λ more. ap (is_remark mark) (same.goes_on more) ∙ remark_goes_on mark kept more no_return is, made)
+mark_of_kept mark front kept new no_return (inr both) is made = inr (both.0, made)
+
+grows : (a b n : ℕ) → (0 < a → 0 < b) → 0 < a + n → 0 < b + n
+grows zero b n h e = omega (arith, e)
+grows (suc a) b n h e = omega (arith, h (omega arith))
+
+-- more is kept
+pub more_kept : (mark : ℕ) (front kept piece new : List ℕ) → StandsFor mark front kept → (kept ≡ mark ∷ [] → ⊥) → new ≡ kept ++ piece → StandsFor mark (front ++ piece) new
+more_kept mark front kept piece new (inr both) other made = absurd (other both.1)
+more_kept mark front kept piece new (inl same) other made =
+    inl (record {
+      some = λ e. rw (made, length-append kept piece) (grows (length front) (length kept) (length piece) same.some (rw (length-append front piece) at e));
+      begun = λ e. rw (length-append front piece) (grows (length kept) (length front) (length piece) same.begun (rw (made, length-append kept piece) at e));
+      goes_on = λ more.
+          ap (λ (l : List ℕ). fields (strip_last 13 l)) (append_assoc front piece more) ∙ same.goes_on (piece ++ more)
+          ∙ ap (λ (l : List ℕ). fields (strip_last 13 l)) (sym (append_assoc kept piece more)) ∙ ap (λ (l : List ℕ). fields (strip_last 13 (l ++ more))) (sym made);
+    })
+
+-- and blanks behind a blank are left out
+pub blanks_not_kept : (mark : ℕ) (front kept piece rest new : List ℕ) → StandsFor mark front kept → (kept ≡ mark ∷ [] → ⊥) → EndsInBlank kept → IsBlankFront piece rest → new ≡ kept ++ rest → StandsFor mark (front ++ piece) new
+blanks_not_kept mark front kept piece rest new (inr both) other ends blanks made = absurd (other both.1)
+blanks_not_kept mark front kept piece rest new (inl same) other ends (blanks, is, all) made =
+    let some : 0 < length kept = omega (arith, ap length ends.2, length-append ends.0 (ends.1 ∷ [])) in
+    inl (record {
+      some = λ e. rw (made, length-append kept rest) (omega (arith, some));
+      begun = λ e. rw (length-append front piece) (omega (arith, same.begun some));
+      goes_on = λ more.
+          ap (λ (l : List ℕ). fields (strip_last 13 l)) (append_assoc front piece more) ∙ same.goes_on (piece ++ more)
+          ∙ ap (λ (l : List ℕ). fields (strip_last 13 (kept ++ (l ++ more)))) is ∙ ap (λ (l : List ℕ). fields (strip_last 13 (kept ++ l))) (append_assoc blanks rest more)
+          ∙ blanks_left_out kept blanks (rest ++ more) ends all
+          ∙ ap (λ (l : List ℕ). fields (strip_last 13 l)) (sym (append_assoc kept rest more)) ∙ ap (λ (l : List ℕ). fields (strip_last 13 (l ++ more))) (sym made);
+    })
+
+-- The same of a call that may find no memory.
+
+pub on_mark : {X E : Type 0} (r : Result X E) (mark : ℕ) (kept new : List ℕ) → eqb 13 mark ≡ false → is_remark mark (fields kept) ≡ true → OnOk r (new ≡ mark ∷ [])
+    → OnOk r ((front : List ℕ) → StandsFor mark front kept → StandsFor mark front new)
+on_mark (Ok done) mark kept new no_return is made = λ front stands. mark_of_kept mark front kept new no_return stands is made
+on_mark (Err e) mark kept new no_return is made = tt
+
+pub on_piece : {X E : Type 0} (r : Result X E) (mark : ℕ) (kept piece new : List ℕ) → eqb 13 mark ≡ false → kept ≡ [] → is_remark mark (fields piece) ≡ true → OnOk r (new ≡ mark ∷ [])
+    → OnOk r ((front : List ℕ) → StandsFor mark front kept → StandsFor mark (front ++ piece) new)
+on_piece (Ok done) mark kept piece new no_return none is made = λ front stands. mark_of_piece mark front kept piece new no_return stands none is made
+on_piece (Err e) mark kept piece new no_return none is made = tt
+
+pub on_more : {X E : Type 0} (r : Result X E) (mark : ℕ) (kept piece new : List ℕ) → OnOk r (new ≡ kept ++ piece)
+    → OnOk r ((front : List ℕ) → StandsFor mark front kept → (kept ≡ mark ∷ [] → ⊥) → StandsFor mark (front ++ piece) new)
+on_more (Ok done) mark kept piece new made = λ front stands other. more_kept mark front kept piece new stands other made
+on_more (Err e) mark kept piece new made = tt
+
+pub on_blanks : {X E : Type 0} (r : Result X E) (mark : ℕ) (kept piece rest new : List ℕ) → EndsInBlank kept → IsBlankFront piece rest → OnOk r (new ≡ kept ++ rest)
+    → OnOk r ((front : List ℕ) → StandsFor mark front kept → (kept ≡ mark ∷ [] → ⊥) → StandsFor mark (front ++ piece) new)
+on_blanks (Ok done) mark kept piece rest new ends blanks made = λ front stands other. blanks_not_kept mark front kept piece rest new stands other ends blanks made
+on_blanks (Err e) mark kept piece rest new ends blanks made = tt
+
+pub on_look : {X E : Type 0} (r : Result X E) (mark : ℕ) (kept piece mid new : List ℕ) → (kept ≡ mark ∷ [] → ⊥) → ((front : List ℕ) → StandsFor mark front kept → (kept ≡ mark ∷ [] → ⊥) → StandsFor mark (front ++ piece) mid)
+    → OnOk r ((front : List ℕ) → StandsFor mark front mid → StandsFor mark front new) → OnOk r ((front : List ℕ) → StandsFor mark front kept → StandsFor mark (front ++ piece) new)
+on_look (Ok done) mark kept piece mid new other first next = λ front stands. next (front ++ piece) (first front stands other)
+on_look (Err e) mark kept piece mid new other first next = tt
 
 -- nothing is kept of the empty front alone
 pub stands_empty : (mark : ℕ) (front kept : List ℕ) → StandsFor mark front kept → kept ≡ [] → front ≡ []
-stands_empty mark front kept (inl e) none = sym e ∙ none
-stands_empty mark front kept (inr both) none = absurd (let is : is_remark mark (fields []) ≡ true = rw none at both.1 in cc)
+stands_empty mark [] kept stands none = refl
+stands_empty mark (b ∷ bs) kept (inl same) none = absurd (omega (arith, same.some (omega arith), ap length none))
+stands_empty mark (b ∷ bs) kept (inr both) none = absurd (let clash : mark ∷ [] ≡ [] = sym both.1 ∙ none in cc)
 
 pub stands_some : (mark : ℕ) (front kept : List ℕ) → StandsFor mark front kept → 0 < length kept → 0 < length front
-stands_some mark front kept (inl e) some = rw (← e) some
-stands_some mark [] kept (inr both) some = absurd cc
+stands_some mark front kept (inl same) some = same.begun some
+stands_some mark [] kept (inr both) some = absurd (let clash : is_remark mark (fields []) ≡ true = both.0 [] in cc)
 stands_some mark (b ∷ bs) kept (inr both) some = omega arith
 
 pub no_bytes : (bytes : List ℕ) → length bytes ≡ 0 → bytes ≡ []

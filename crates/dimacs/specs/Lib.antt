@@ -10,6 +10,7 @@ pub mod Spelling
 pub mod Reading
 pub mod Content
 pub mod Joint
+pub mod Overflow
 pub mod Taking
 pub mod Ends
 pub mod Counts

@@ -1,6 +1,7 @@
 -- How far a text is read.
-use Rattle.std.specs.Prelude.{◌≡◌, ◌≢◌, ◌⊎◌, ℕ, Bool, true, false, List, [], ◌∷◌, ◌++◌, All, length, drop, count_by, Option, None, Some, Result, Ok, Err, is_none, MatchBool, ⊤}
+use Rattle.std.specs.Prelude.{◌≡◌, ◌≢◌, ◌<◌, ◌⊎◌, ℕ, Bool, true, false, List, [], ◌∷◌, ◌++◌, All, length, drop, count_by, Option, None, Some, Result, Ok, Err, is_none, MatchBool, ⊤}
 use Rattle.std.specs.List.{filter_map}
+use Rattle.std.specs.Io.BufRead.{strip_last}
 use Rattle.dimacs.specs.declared.fault.Code.{Code}
 use Rattle.dimacs.specs.declared.fault.Fault.{Fault}
 use Rattle.dimacs.specs.declared.problem.Problem.{Problem}
@@ -36,9 +37,19 @@ abbrev pub AtEnd : List Row → Bool → Result (Net × Bool) Fault → Type 0
 AtEnd lines at_run (Ok found) = (end_code gr lines ≡ None) × (found.0 ≡ network_of lines) × (found.1 ≡ at_run)
 AtEnd lines at_run (Err fault) = ByMemory fault.code (end_code gr lines ≡ Some fault.code) ⊥ × (fault.line ≡ length lines)
 
--- what is kept of the front of a line: all of it, or of a comment only that it is one
+-- lines that begin with a front have the fields of those that begin with what is kept of it, and something is kept of a line that has begun
+pub record SameFields (front kept : List ℕ) : Type 0 where
+  pub some : 0 < length front → 0 < length kept
+  pub begun : 0 < length kept → 0 < length front
+  pub goes_on : (more : List ℕ) → fields (strip_last 13 (front ++ more)) ≡ fields (strip_last 13 (kept ++ more))
+
+-- each line that begins with this front is a comment
+abbrev pub IsCommentFront : ℕ → List ℕ → Type 0
+IsCommentFront mark front = (more : List ℕ) → is_remark mark (fields (strip_last 13 (front ++ more))) ≡ true
+
+-- what is kept of the front of a line: as much as says its fields, or of a comment only its mark
 abbrev pub StandsFor : ℕ → List ℕ → List ℕ → Type 0
-StandsFor mark front kept = (kept ≡ front) ⊎ ((is_remark mark (fields front) ≡ true) × (is_remark mark (fields kept) ≡ true))
+StandsFor mark front kept = SameFields front kept ⊎ (IsCommentFront mark front × (kept ≡ mark ∷ []))
 
 -- a line is taken, or it is the line `run` at which to stop, or it has a fault, or memory ran out
 abbrev pub TakesOrRuns : {S : Type 0} → Judge → (List Row → S → Type 0) → Bool → List Row → Row → S → Result Bool Code → Type 0

@@ -108,12 +108,15 @@ impl TakeLines for CommandLines {
     ghost use Rattle.std.specs.Prelude.{refl};
     ghost use Rattle.dimacs.specs.Commands.{commands, command_code};
     ghost use Rattle.dimacs.specs.CommandReading.{HasCommands};
+    ghost use Rattle.dimacs.specs.Overflow.{bad_line};
 
     ghost judge = { command_code commands };
 
     ghost has_taken = { HasCommands };
 
     ghost COMMENT = { 35 };
+
+    ghost code_of_overflow = { bad_line };
 
     const COMMENT: u8 = b'#';
 
@@ -129,9 +132,13 @@ impl TakeLines for CommandLines {
 
     fn pass_comment(&mut self) {}
 
+    fn overflow_decides(&self) {}
+
     ghost run_is_no_comment = { refl };
 
     ghost return_is_no_comment = { refl };
+
+    ghost blank_is_no_comment = { refl };
 }
 
 ghost use Rattle.dimacs.specs.Commanded.{command_text};

@@ -1,15 +1,20 @@
 //! The lines of a text, taken from its bytes piece by piece.
-ghost use Rattle.std.specs.Prelude.{◌≡◌, ◌≢◌, ◌+◌, ◌-◌, ◌^◌, ◌<◌, ◌≤◌, ◌++◌, ℕ, List, length, IfOk, IfErr, IfSome, OnOk, OnErr, Some, []};
+ghost use Rattle.std.specs.Prelude.{◌≡◌, ◌≢◌, ◌+◌, ◌-◌, ◌^◌, ◌<◌, ◌≤◌, ◌++◌, ◌∷◌, ℕ, List, length, IfOk, IfErr, IfSome, OnOk, OnErr, Some, [], true, ⊤};
 ghost use Rattle.std.specs.Io.BufRead.{strip_last};
 ghost use Rattle.dimacs.specs.Lines.{fields, rows};
 ghost use Rattle.dimacs.specs.Faults.{Row};
 ghost use Rattle.dimacs.specs.Progress.{StandsFor, Within, Feeds, TakesOrRuns};
+ghost use Rattle.dimacs.specs.Overflow.{IsFaultOfFront};
+ghost use Rattle.dimacs.specs.Taking.{ByMemory};
 ghost use Rattle.dimacs.specs.Ends.{HasTakenSome, ParsesLines, ReadsLines};
 ghost use Rattle.dimacs.specs.Counts.{CountsFailures, IsSameReader, failed_calls, reader_of};
 
 use crate::counted::{Counted, Turn};
 use crate::fault::{Code, Fault};
-use crate::line::{is_remark, is_run, split_at_feed, split_line, without_carriage_return};
+use crate::line::{
+    ends_in_blank, is_remark, is_run, overflows, split_at_feed, split_line, without_blanks,
+    without_carriage_return,
+};
 use crate::taking::TakeLines;
 use std::alloc::Global;
 use std::io::BufRead;
@@ -19,6 +24,8 @@ use std::io::BufRead;
 pub(crate) struct Feed<T> {
     pub(crate) taker: T,
     pub(crate) kept: Vec<u8>,
+    /// How many of the bytes that are kept were looked at for what is certain of the line.
+    pub(crate) judged: usize,
     pub(crate) lines: u64,
     pub(crate) until_run: bool,
     pub(crate) left: u64,
@@ -72,7 +79,7 @@ impl<T: TakeLines> Feed<T> {
                 without_carriage_return(piece),
             );
         }
-        if is_remark(&self.kept, T::COMMENT) {
+        if self.is_comment() {
             self.taker.pass_comment();
             return Ok(false);
         }
@@ -87,12 +94,105 @@ impl<T: TakeLines> Feed<T> {
         )
     }
 
-    /// Keeps the front of the next line, of a comment only as much as shows that it is one.
+    /// Whether what is kept is the mark of a comment alone.
+    fn is_comment(&self) -> bool
+        ensures yes { result ≡ true → self.now.kept.items ≡ T.COMMENT ∷ [] }
+        ensures no { self.now.kept.items ≡ T.COMMENT ∷ [] → result ≡ true }
+    {
+        match self.kept.as_slice() {
+            [mark] => *mark == T::COMMENT,
+            _ => false,
+        }
+    }
+
+    /// Appends bytes to what is kept.
+    fn append(&mut self, bytes: &[u8]) -> Result<(), Code>
+        ensures kept { OnOk result (self.new.kept.items ≡ self.old.kept.items ++ bytes.now) }
+        ensures refused { IfErr result (λ code. code ≡ Code.OutOfMemory) }
+        ensures taker { self.new.taker ≡ self.old.taker }
+        ensures lines { self.new.lines ≡ self.old.lines }
+        ensures until { self.new.until_run ≡ self.old.until_run }
+        ensures left { self.new.left ≡ self.old.left }
+    {
+        match self.kept.extend_from_slice(bytes) {
+            Ok(()) => Ok(()),
+            Err(_) => Err(Code::OutOfMemory),
+        }
+    }
+
+    /// Appends bytes to what is kept, without blanks behind a blank.
+    fn append_fields(&mut self, piece: &[u8]) -> Result<(), Code>
+        ensures kept { OnOk result ((front : List ℕ) → StandsFor T.COMMENT front self.old.kept.items
+            → (self.old.kept.items ≡ T.COMMENT ∷ [] → ⊥) → StandsFor T.COMMENT (front ++ piece.now) self.new.kept.items) }
+        ensures refused { IfErr result (λ code. code ≡ Code.OutOfMemory) }
+        ensures taker { self.new.taker ≡ self.old.taker }
+        ensures lines { self.new.lines ≡ self.old.lines }
+        ensures until { self.new.until_run ≡ self.old.until_run }
+        ensures left { self.new.left ≡ self.old.left }
+    {
+        if ends_in_blank(&self.kept) {
+            return self.append(without_blanks(piece));
+        }
+        self.append(piece)
+    }
+
+    /// Keeps of a comment its mark alone.
+    fn keep_mark(&mut self) -> Result<(), Code>
+        ensures kept { OnOk result (self.new.kept.items ≡ T.COMMENT ∷ []) }
+        ensures refused { IfErr result (λ code. code ≡ Code.OutOfMemory) }
+        ensures taker { self.new.taker ≡ self.old.taker }
+        ensures lines { self.new.lines ≡ self.old.lines }
+        ensures until { self.new.until_run ≡ self.old.until_run }
+        ensures left { self.new.left ≡ self.old.left }
+    {
+        self.kept.clear();
+        self.append(&[T::COMMENT])
+    }
+
+    /// Looks at what is kept, once it is twice as much as at the last look: of a comment its mark is kept, and the fault of a line
+    /// that overflows is told.
+    fn look(&mut self) -> Result<(), Code>
+        ensures kept { OnOk result ((front : List ℕ) → StandsFor T.COMMENT front self.old.kept.items
+            → StandsFor T.COMMENT front self.new.kept.items) }
+        ensures refused { (earlier : List Row) (front : List ℕ) → T.has_taken earlier self.old.taker
+            → StandsFor T.COMMENT front self.old.kept.items
+            → IfErr result (λ code. ByMemory code (IsFaultOfFront T.judge earlier front code) ⊤) }
+        ensures reads_nothing { IfErr result (λ code. code ≢ Code.Read) }
+        ensures taker { OnOk result (self.new.taker ≡ self.old.taker) }
+        ensures lines { self.new.lines ≡ self.old.lines }
+        ensures until { self.new.until_run ≡ self.old.until_run }
+        ensures left { self.new.left ≡ self.old.left }
+    {
+        if self.kept.len() / 2 < self.judged {
+            return Ok(());
+        }
+        self.judged = self.kept.len();
+        if is_remark(&self.kept, T::COMMENT) {
+            return self.keep_mark();
+        }
+        let front = without_carriage_return(&self.kept);
+        if !overflows(front) {
+            return Ok(());
+        }
+        self.taker.overflow_decides();
+        match self.taker.take_line(front) {
+            // a line that overflows has a fault
+            Ok(()) => Err(Code::BadLine),
+            Err(code) => Err(code),
+        }
+    }
+
+    /// Keeps the front of the next line, but for blanks behind a blank; of a comment only its mark. The fault of a line that
+    /// overflows is told at once.
     fn keep(&mut self, piece: &[u8]) -> Result<(), Code>
         ensures kept { OnOk result ((front : List ℕ) → StandsFor T.COMMENT front self.old.kept.items
             → StandsFor T.COMMENT (front ++ piece.now) self.new.kept.items) }
-        ensures refused { IfErr result (λ code. (code ≡ Code.OutOfMemory) × (0 < length piece.now)) }
-        ensures taker { self.new.taker ≡ self.old.taker }
+        ensures refused { (earlier : List Row) (front : List ℕ) → T.has_taken earlier self.old.taker
+            → StandsFor T.COMMENT front self.old.kept.items
+            → IfErr result (λ code. ByMemory code (IsFaultOfFront T.judge earlier (front ++ piece.now) code) ⊤) }
+        ensures some { OnErr result (0 < length piece.now) }
+        ensures reads_nothing { IfErr result (λ code. code ≢ Code.Read) }
+        ensures taker { OnOk result (self.new.taker ≡ self.old.taker) }
         ensures lines { self.new.lines ≡ self.old.lines }
         ensures until { self.new.until_run ≡ self.old.until_run }
         ensures left { self.new.left ≡ self.old.left }
@@ -100,13 +200,14 @@ impl<T: TakeLines> Feed<T> {
         if piece.is_empty() {
             return Ok(());
         }
-        if is_remark(&self.kept, T::COMMENT) {
+        if self.is_comment() {
             return Ok(());
         }
-        match self.kept.extend_from_slice(piece) {
-            Ok(()) => Ok(()),
-            Err(_) => Err(Code::OutOfMemory),
+        if self.kept.is_empty() && is_remark(piece, T::COMMENT) {
+            return self.keep_mark();
         }
+        self.append_fields(piece)?;
+        self.look()
     }
 
     /// Takes the lines that end in these bytes, and keeps the front of the next one. Stops behind the line `run`, where it is
@@ -132,6 +233,7 @@ impl<T: TakeLines> Feed<T> {
                 });
             }
             self.kept.clear();
+            self.judged = 0;
             self.lines += 1;
             rest = more;
         }
@@ -175,6 +277,7 @@ impl<T: TakeLines> Feed<T> {
         let Feed {
             taker,
             kept: _,
+            judged: _,
             lines,
             until_run: _,
             left: _,
@@ -231,6 +334,7 @@ pub fn read_lines<T: TakeLines, R: BufRead>(
     let mut feed = Feed {
         taker,
         kept: Vec::new(alloc),
+        judged: 0,
         lines: 0,
         until_run,
         left: u64::MAX - 1,

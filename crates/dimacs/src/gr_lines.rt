@@ -87,12 +87,15 @@ impl TakeLines for GrLines {
     ghost use Rattle.dimacs.specs.Format.{gr};
     ghost use Rattle.dimacs.specs.Faults.{code_of};
     ghost use Rattle.dimacs.specs.Progress.{HasTaken};
+    ghost use Rattle.dimacs.specs.Overflow.{code_after_fields};
 
     ghost judge = { code_of gr };
 
     ghost has_taken = { HasTaken };
 
     ghost COMMENT = { 99 };
+
+    ghost code_of_overflow = { code_after_fields gr };
 
     const COMMENT: u8 = b'c';
 
@@ -107,7 +110,11 @@ impl TakeLines for GrLines {
 
     fn pass_comment(&mut self) {}
 
+    fn overflow_decides(&self) {}
+
     ghost run_is_no_comment = { refl };
 
     ghost return_is_no_comment = { refl };
+
+    ghost blank_is_no_comment = { refl };
 }

@@ -64,6 +64,10 @@ impl NodeItem for u32 {
     ghost letter_is_no_mark = { refl };
 
     ghost letter_is_no_problem = { refl };
+
+    ghost word_is_short = { refl };
+
+    ghost numbers_are_few = { refl };
 }
 
 ghost use Rattle.dimacs.specs.Landmarks.{ss_text, AreNodes};

@@ -1,11 +1,13 @@
 //! Lines of a text, and fields of a line.
-ghost use Rattle.std.specs.Prelude.{◌≡◌, ◌<◌, ◌∷◌, [], length, MatchOption, IfSome, not, ◌≢◌, ◌++◌, All};
-ghost use Rattle.std.specs.List.{position, position_or_len};
+ghost use Rattle.std.specs.Prelude.{◌≡◌, ◌<◌, ◌≤◌, ◌∷◌, [], List, ℕ, length, MatchOption, IfSome, not, ◌≢◌, ◌++◌, All, true};
+ghost use Rattle.std.specs.List.{position, position_or_len, list_all};
+ghost use Rattle.dimacs.specs.Digits.{is_decimal};
 ghost use Rattle.std.specs.Io.BufRead.{strip_last};
 ghost use Rattle.dimacs.specs.Lines.{is_line_feed, is_blank, lines, fields};
 ghost use Rattle.dimacs.specs.Kinds.{IsKind};
 ghost use Rattle.dimacs.specs.Faults.{is_remark};
 ghost use Rattle.dimacs.specs.Joint.{is_run};
+ghost use Rattle.dimacs.specs.Overflow.{GoesOn, has_other_byte, is_beyond, Overflowing, IsBlankFront, EndsInBlank};
 
 use memchr::memchr;
 
@@ -35,14 +37,100 @@ fn field_len(rest: &[u8]) -> usize
     first_blank(rest).unwrap_or(rest.len())
 }
 
+/// The first field of the front of a line, and what follows it. Where nothing does, the field may go on behind the front.
+fn split_front(front: &[u8]) -> Option<(&[u8], &[u8])>
+    ensures line { MatchOption result (fields front.now ≡ [])
+        (λ found. fields front.now ≡ found.0.now ∷ fields found.1.now) }
+    ensures goes_on { IfSome result (λ found. (more : List ℕ) → GoesOn front.now found.0.now found.1.now more) }
+    ensures shorter { IfSome result (λ found. length found.1.now < length front.now) }
+{
+    let start = field_start(front)?;
+    let (_, rest) = front.split_at(start);
+    Some(rest.split_at(field_len(rest)))
+}
+
 /// The first field of a line, and what follows it: of ` set 8 4` the field `set` and the rest ` 8 4`; of a line of blanks nothing.
 pub fn split_field(line: &[u8]) -> Option<(&[u8], &[u8])>
     ensures { MatchOption result (fields line.now ≡ [])
         (λ found. fields line.now ≡ found.0.now ∷ fields found.1.now) }
 {
-    let start = field_start(line)?;
-    let (_, rest) = line.split_at(start);
-    Some(rest.split_at(field_len(rest)))
+    split_front(line)
+}
+
+/// More bytes than a word of any text has, and more fields than a line of any text has.
+const MUCH: usize = 16;
+
+fn is_decimal(byte: u8) -> bool
+    ensures { result ≡ is_decimal byte }
+{
+    char::from(byte).is_digit(10)
+}
+
+fn are_decimal(digits: &[u8]) -> bool
+    ensures { result ≡ list_all is_decimal digits.now }
+{
+    digits.iter().all(|byte| is_decimal(*byte))
+}
+
+/// Whether a byte is no digit, a minus in front apart: such a field is no numeral, however it goes on.
+fn has_other_byte(field: &[u8]) -> bool
+    ensures { result ≡ has_other_byte field.now }
+{
+    match field {
+        [b'-', digits @ ..] => !are_decimal(digits),
+        _ => !are_decimal(field),
+    }
+}
+
+/// Whether a line overflows with this field, which stands behind so many others.
+fn is_beyond(before: usize, field: &[u8]) -> bool
+    ensures { result ≡ is_beyond before field.now }
+{
+    before >= MUCH || (field.len() > MUCH && (before == 0 || has_other_byte(field)))
+}
+
+/// Whether each line that begins with these bytes overflows: it has more than 16 fields, a first field of more than 16 bytes, or a
+/// field of more than 16 bytes that is no numeral. A line of a text does so only where it is a comment or has a fault.
+pub(crate) fn overflows(front: &[u8]) -> bool
+    ensures { result ≡ true → Overflowing front.now }
+{
+    let mut rest = front;
+    let mut before = 0;
+    while let Some((field, more)) = split_front(rest) {
+        if is_beyond(before, field) {
+            return true;
+        }
+        if more.is_empty() {
+            return false;
+        }
+        before += 1;
+        rest = more;
+    }
+    false
+}
+
+/// What follows the blanks in front.
+pub(crate) fn without_blanks(piece: &[u8]) -> &[u8]
+    ensures blanks { IsBlankFront piece.now result.now }
+    ensures shorter { length result.now ≤ length piece.now }
+{
+    match field_start(piece) {
+        Some(start) => {
+            let (_, rest) = piece.split_at(start);
+            rest
+        }
+        None => &[],
+    }
+}
+
+/// Whether the last byte is a blank.
+pub(crate) fn ends_in_blank(line: &[u8]) -> bool
+    ensures { result ≡ true → EndsInBlank line.now }
+{
+    match line {
+        [.., last] => is_blank(*last),
+        _ => false,
+    }
 }
 
 pub(crate) fn without_carriage_return(line: &[u8]) -> &[u8]

@@ -1,5 +1,5 @@
 //! Texts that list nodes, or items made of nodes, of a network: `p aux sp WORD K` and K item lines.
-ghost use Rattle.std.specs.Prelude.{◌≡◌, ◌≢◌, ◌∷◌, [], ℕ, List, Some, IfErr, IfSome, MatchOption, length, drop, true, false, IfOk, vec_items, ◌==◌};
+ghost use Rattle.std.specs.Prelude.{◌≡◌, ◌≢◌, ◌∷◌, [], ℕ, List, Some, IfErr, IfSome, MatchOption, length, nat_lt, drop, true, false, IfOk, vec_items, ◌==◌};
 ghost use Rattle.std.specs.List.{starts_with};
 ghost use Rattle.std.specs.Str.{bytes_eq};
 ghost use lib.Chars.{codes};
@@ -9,6 +9,7 @@ ghost use Rattle.dimacs.specs.Faults.{Row, code_of};
 ghost use Rattle.dimacs.specs.Taking.{Takes};
 ghost use Rattle.dimacs.specs.Listed.{kind_words, listed, text_of_items, ReadsItem, HasItems};
 ghost use Rattle.dimacs.specs.ListedReading.{count_after, count_of_numeral};
+ghost use Rattle.dimacs.specs.Overflow.{code_after_fields};
 ghost use Rattle.dimacs.specs.Texts.{Ends, IsSaid, Parses, Reads, map_ok};
 ghost use Rattle.dimacs.specs.Counts.{CountsFailures, IsSameReader, failed_calls, reader_of};
 
@@ -64,6 +65,11 @@ pub(crate) trait NodeItem: Copy {
     ghost letter_is_no_mark: { (LETTER == 99) ≡ false };
 
     ghost letter_is_no_problem: { (LETTER == 112) ≡ false };
+
+    // the word is no longer than the words of texts, and the numbers are few
+    ghost word_is_short: { nat_lt 16 (length word) ≡ false };
+
+    ghost numbers_are_few: { nat_lt (length quantities) 12 ≡ true };
 }
 
 /// What follows the kind words `aux sp` and that of this item.
@@ -183,6 +189,8 @@ impl<I: NodeItem, K: NodeCount> TakeLines for NodeLines<I, K> {
 
     ghost COMMENT = { 99 };
 
+    ghost code_of_overflow = { code_after_fields (listed I.word I.LETTER I.quantities K.nodes) };
+
     const COMMENT: u8 = b'c';
 
     fn take_line(&mut self, line: &[u8]) -> Result<(), Code> {
@@ -196,9 +204,13 @@ impl<I: NodeItem, K: NodeCount> TakeLines for NodeLines<I, K> {
 
     fn pass_comment(&mut self) {}
 
+    fn overflow_decides(&self) {}
+
     ghost run_is_no_comment = { refl };
 
     ghost return_is_no_comment = { refl };
+
+    ghost blank_is_no_comment = { refl };
 }
 
 /// The items of the lines that were taken, or the fault of their end.

@@ -78,6 +78,10 @@ impl NodeItem for Pair {
     ghost letter_is_no_mark = { refl };
 
     ghost letter_is_no_problem = { refl };
+
+    ghost word_is_short = { refl };
+
+    ghost numbers_are_few = { refl };
 }
 
 ghost use Rattle.dimacs.specs.Pairs.{p2p_text};

@@ -1,8 +1,10 @@
 //! What takes the lines of a text, one after another.
-ghost use Rattle.std.specs.Prelude.{◌≡◌, ◌≢◌, IfErr, ◌++◌, ◌∷◌, [], ℕ, List, None, true, false, ◌==◌};
-ghost use Rattle.dimacs.specs.Lines.{fields};
+ghost use Rattle.std.specs.Prelude.{◌≡◌, ◌≢◌, IfErr, ◌++◌, ◌∷◌, [], ℕ, List, None, Some, true, false, ◌==◌};
+ghost use Rattle.dimacs.specs.Lines.{fields, is_blank};
 ghost use Rattle.dimacs.specs.Faults.{Row, Judge, is_remark};
 ghost use Rattle.dimacs.specs.Taking.{Takes};
+ghost use Rattle.dimacs.specs.Overflow.{overflows};
+ghost use Rattle.dimacs.specs.declared.fault.Code.{Code};
 
 use crate::fault::Code;
 
@@ -16,6 +18,9 @@ pub trait TakeLines: Drop {
 
     // the byte with which a comment begins
     ghost COMMENT: { ℕ };
+
+    // the code of a line after earlier lines that overflows behind these fields
+    ghost code_of_overflow: { List Row → Row → Code };
 
     /// A line whose first byte after blanks is this one is a comment.
     const COMMENT: u8;
@@ -32,8 +37,16 @@ pub trait TakeLines: Drop {
         ensures { (earlier : List Row) (row : Row) → is_remark COMMENT row ≡ true → has_taken earlier self.old
             → (judge earlier row ≡ None) × has_taken (earlier ++ row ∷ []) self.new };
 
-    // no comment is the line `run`, nor begins with a carriage return
+    /// A law, without code: what stands behind the field in which a line overflows doesn't change its fault.
+    fn overflow_decides(&self)
+        ensures { (earlier : List Row) (before : Row) (field : List ℕ) (after : Row) → overflows before field ≡ true
+            → is_remark COMMENT (before ++ field ∷ after) ≡ false
+            → judge earlier (before ++ field ∷ after) ≡ Some (code_of_overflow earlier before) };
+
+    // no comment is the line `run`, nor begins with a carriage return or a blank
     ghost run_is_no_comment: { (114 == COMMENT) ≡ false };
 
     ghost return_is_no_comment: { (13 == COMMENT) ≡ false };
+
+    ghost blank_is_no_comment: { is_blank COMMENT ≡ false };
 }

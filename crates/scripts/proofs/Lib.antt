@@ -2,3 +2,4 @@ pub mod ScriptLines
 pub mod ScriptPicks
 pub mod ScriptSteps
 pub mod ScriptStops
+pub mod ScriptBeyond

@@ -113,12 +113,15 @@ impl TakeLines for EventLines {
     ghost use Rattle.std.specs.Prelude.{refl};
     ghost use Rattle.scripts.specs.ScriptTexts.{script_line_code};
     ghost use Rattle.scripts.specs.ScriptReading.{HasEvents};
+    ghost use Rattle.dimacs.specs.Overflow.{bad_line};
 
     ghost judge = { script_line_code };
 
     ghost has_taken = { HasEvents };
 
     ghost COMMENT = { 35 };
+
+    ghost code_of_overflow = { bad_line };
 
     const COMMENT: u8 = b'#';
 
@@ -134,9 +137,13 @@ impl TakeLines for EventLines {
 
     fn pass_comment(&mut self) {}
 
+    fn overflow_decides(&self) {}
+
     ghost run_is_no_comment = { refl };
 
     ghost return_is_no_comment = { refl };
+
+    ghost blank_is_no_comment = { refl };
 }
 
 /// The events of the lines that were taken.

@@ -1,6 +1,6 @@
 use Rattle.std.proofs.Common.{◌++◌, ◌∷◌, [], refl, true, false, rules, arith, length, length-append, ap}
 use Rattle.std.proofs.lemmas.Result.{err_from_is_err_and}
-use Rattle.dimacs.proofs.Far.{next_row, took_line, met_run, met_fault, kept_front, refused_front, suffix_is, suffix_next, answered}
+use Rattle.dimacs.proofs.Far.{next_row, took_line, met_run, met_fault, kept_front, stopped_front, suffix_is, suffix_next, answered}
 use Rattle.dimacs.proofs.feed.Feed.take.Goals as goal
 
 pub returns-in_err-take_whole-clause-feeds : goal.returns-in_err-take_whole-clause-feeds
@@ -39,10 +39,9 @@ pub returns-in_err-keep-clause-feeds : goal.returns-in_err-keep-clause-feeds
 returns-in_err-keep-clause-feeds g c text more within =
     let at = c.loop-piece.invariant.within text more within in
     let p = err_from_is_err_and c.from_residual-in_err-keep.result c.from_residual-in_err-keep.ensures.1 in
-    let refused = c.in_err-keep.ensures.refused in
-    rw (p.1, p.2, refused.0) (refused_front _ _ _ text _ more _ c.keep.new.self at refused.1 c.keep.ensures.until c.keep.ensures.lines)
+    rw (p.1, p.2) (stopped_front _ _ _ text _ more _ c.keep.new.self _ at c.in_default.ensures c.in_err-keep.ensures.some (c.in_err-keep.ensures.refused at.earlier at.front at.taken at.kept) c.keep.ensures.until c.keep.ensures.lines)
 
 pub returns-clause-feeds : goal.returns-clause-feeds
 returns-clause-feeds g c text more within =
     let at = c.loop-piece.invariant.within text more within in
-    (refl, kept_front _ _ _ text _ more _ c.keep.new.self at c.in_default.ensures c.in_ok-keep.ensures.kept c.keep.ensures.taker c.keep.ensures.until c.keep.ensures.lines)
+    (refl, kept_front _ _ _ text _ more _ c.keep.new.self at c.in_default.ensures c.in_ok-keep.ensures.kept c.in_ok-keep.ensures.taker c.keep.ensures.until c.keep.ensures.lines)

@@ -1,0 +1,12 @@
+use Rattle.std.proofs.Common.{rules}
+use Rattle.dimacs.specs.Overflow.{EndsInBlank}
+use Rattle.dimacs.proofs.Remarks.{on_more, on_blanks}
+use Rattle.dimacs.proofs.feed.Feed.append_fields.Goals as goal
+
+pub returns-then-ends_in_blank-clause-kept : goal.returns-then-ends_in_blank-clause-kept
+returns-then-ends_in_blank-clause-kept g c =
+    let ends : EndsInBlank c.deref.result.now = c.ends_in_blank.ensures (search rules) in
+    on_blanks c.append.result g.T.TakeLines.COMMENT c.args.self.now.kept.items c.args.piece.now c.without_blanks.result.now _ (rw c.deref.ensures.value at ends) c.without_blanks.ensures.blanks c.append.ensures.kept
+
+pub returns-clause-kept : goal.returns-clause-kept
+returns-clause-kept g c = on_more c.append-2.result g.T.TakeLines.COMMENT c.args.self.now.kept.items c.args.piece.now _ c.append-2.ensures.kept

@@ -173,7 +173,7 @@ fn is_told(read: Result<Network, Fault>, fault: (u64, u8)) -> bool {
 }
 
 /// Whether the text has the fault that the slow judge finds, as it is parsed and read.
-fn agrees(alloc: Global, text: &[u8]) -> Result<bool, AllocError> {
+fn agrees(alloc: Global, text: &[u8]) -> Result<bool, Fail> {
     let fault = slow_judge(alloc, text)?;
     let mut reader = BufReader::with_capacity(alloc, 7, text)?;
     Ok(is_told(parse_gr(alloc, text), fault) && is_told(read_gr(alloc, &mut reader), fault))

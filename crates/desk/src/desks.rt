@@ -187,7 +187,7 @@ impl<
     /// Halts the desk, waits for its threads, and hands out what it leaves: the history, what was shown last, and the disk. Its readers can't
     /// look any more.
     ///
-    /// Refused (61) is a state that can't be taken from the lock, and a history that was closed by another; neither comes.
+    /// Refused (61) is an office that is still shared, which never comes.
     pub fn close(self) -> Result<Closed<D>, Refusal>
         ensures origin { IfOk result (λ closed. closed.whole.origin ≡ N.origin) }
         ensures causes { IfErr result (λ refusal. refusal ≡ closed) }

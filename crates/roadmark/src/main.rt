@@ -229,7 +229,7 @@ fn do_words<
 /// where the words are not ones that it takes. `threads` is the runtime of a desk's threads.
 fn program<
     R: AllocGlobal + Clock + Env + Eprint + Files<File = File> + Input + Print + Threads,
-    T: Threads + Wait + Copy + Send + Sync + 'static,
+    T: Threads + Wait + Clock + Eprint + Copy + Send + Sync + 'static,
 >(rt: &R, threads: T) -> u8
     ensures { result ≤ 2 }
 {

@@ -99,11 +99,31 @@ struct Row {
 // none 1, 2 and 3, and of 66,000 (65 word pages) 131, 197 and 263.
 const ROWS: [Row; 18] = [
     // Opening syncs, and writes nothing.
-    Row { arcs: 8, before: &[], works: &[], calls: &[Sync] },
-    Row { arcs: 8, before: &[Commit, Whole, Commit], works: &[], calls: &[Sync] },
+    Row {
+        arcs: 8,
+        before: &[],
+        works: &[],
+        calls: &[Sync],
+    },
+    Row {
+        arcs: 8,
+        before: &[Commit, Whole, Commit],
+        works: &[],
+        calls: &[Sync],
+    },
     // A flush to a page whose gate reads closed: body, sync, gate, sync.
-    Row { arcs: 8, before: &[], works: &[Commit], calls: &[Sync, Body(6), Sync, Gate(6), Sync] },
-    Row { arcs: 8, before: &[Commit], works: &[Commit], calls: &[Sync, Body(7), Sync, Gate(7), Sync] },
+    Row {
+        arcs: 8,
+        before: &[],
+        works: &[Commit],
+        calls: &[Sync, Body(6), Sync, Gate(6), Sync],
+    },
+    Row {
+        arcs: 8,
+        before: &[Commit],
+        works: &[Commit],
+        calls: &[Sync, Body(7), Sync, Gate(7), Sync],
+    },
     // To one whose gate reads open, which a checkpoint made free: first the gate is closed, and that is synced.
     Row {
         arcs: 8,
@@ -131,7 +151,16 @@ const ROWS: [Row; 18] = [
         before: &[Commit],
         works: &[Part(1), Part(1), Part(1)],
         calls: &[
-            Sync, Pages(11, 1), Sync, Pages(12, 1), Sync, Pages(13, 1), Body(10), Sync, Gate(10), Sync,
+            Sync,
+            Pages(11, 1),
+            Sync,
+            Pages(12, 1),
+            Sync,
+            Pages(13, 1),
+            Body(10),
+            Sync,
+            Gate(10),
+            Sync,
         ],
     },
     // A commit between two parts makes its own calls.
@@ -140,7 +169,18 @@ const ROWS: [Row; 18] = [
         before: &[Commit],
         works: &[Part(2), Commit, Part(64)],
         calls: &[
-            Sync, Pages(11, 2), Sync, Body(15), Sync, Gate(15), Sync, Pages(13, 1), Body(10), Sync, Gate(10), Sync,
+            Sync,
+            Pages(11, 2),
+            Sync,
+            Body(15),
+            Sync,
+            Gate(15),
+            Sync,
+            Pages(13, 1),
+            Body(10),
+            Sync,
+            Gate(10),
+            Sync,
         ],
     },
     // All that is left of one that is going.
@@ -148,42 +188,107 @@ const ROWS: [Row; 18] = [
         arcs: 2047,
         before: &[Commit],
         works: &[Part(2), Whole],
-        calls: &[Sync, Pages(11, 2), Sync, Pages(13, 1), Body(10), Sync, Gate(10), Sync],
+        calls: &[
+            Sync,
+            Pages(11, 2),
+            Sync,
+            Pages(13, 1),
+            Body(10),
+            Sync,
+            Gate(10),
+            Sync,
+        ],
     },
     // The other slot's gate reads open: it is closed first, and that is synced, once.
     Row {
         arcs: 2047,
         before: &[Commit, Whole, Commit],
         works: &[Whole],
-        calls: &[Sync, Gate(6), Sync, Pages(7, 3), Body(6), Sync, Gate(6), Sync],
+        calls: &[
+            Sync,
+            Gate(6),
+            Sync,
+            Pages(7, 3),
+            Body(6),
+            Sync,
+            Gate(6),
+            Sync,
+        ],
     },
     Row {
         arcs: 2047,
         before: &[Commit, Whole, Commit],
         works: &[Part(2), Part(2)],
         calls: &[
-            Sync, Gate(6), Sync, Pages(7, 2), Sync, Pages(9, 1), Body(6), Sync, Gate(6), Sync,
+            Sync,
+            Gate(6),
+            Sync,
+            Pages(7, 2),
+            Sync,
+            Pages(9, 1),
+            Body(6),
+            Sync,
+            Gate(6),
+            Sync,
         ],
     },
     // With no word page the first part writes the head.
-    Row { arcs: 0, before: &[Commit], works: &[Whole], calls: &[Sync, Body(2), Sync, Gate(2), Sync] },
-    Row { arcs: 0, before: &[Commit], works: &[Part(1)], calls: &[Sync, Body(2), Sync, Gate(2), Sync] },
+    Row {
+        arcs: 0,
+        before: &[Commit],
+        works: &[Whole],
+        calls: &[Sync, Body(2), Sync, Gate(2), Sync],
+    },
+    Row {
+        arcs: 0,
+        before: &[Commit],
+        works: &[Part(1)],
+        calls: &[Sync, Body(2), Sync, Gate(2), Sync],
+    },
     // No write has more than 64 word pages.
     Row {
         arcs: 66000,
         before: &[Commit],
         works: &[Whole],
-        calls: &[Sync, Pages(198, 64), Sync, Pages(262, 1), Body(197), Sync, Gate(197), Sync],
+        calls: &[
+            Sync,
+            Pages(198, 64),
+            Sync,
+            Pages(262, 1),
+            Body(197),
+            Sync,
+            Gate(197),
+            Sync,
+        ],
     },
     Row {
         arcs: 66000,
         before: &[Commit],
         works: &[Part(64), Part(64)],
-        calls: &[Sync, Pages(198, 64), Sync, Pages(262, 1), Body(197), Sync, Gate(197), Sync],
+        calls: &[
+            Sync,
+            Pages(198, 64),
+            Sync,
+            Pages(262, 1),
+            Body(197),
+            Sync,
+            Gate(197),
+            Sync,
+        ],
     },
     // With no page unchecked no call is made.
-    Row { arcs: 8, before: &[], works: &[Whole, Part(1)], calls: &[Sync] },
-    Row { arcs: 2047, before: &[Commit, Whole], works: &[Whole, Part(1)], calls: &[Sync] },
+    Row {
+        arcs: 8,
+        before: &[],
+        works: &[Whole, Part(1)],
+        calls: &[Sync],
+    },
+    Row {
+        arcs: 2047,
+        before: &[Commit, Whole],
+        works: &[Whole, Part(1)],
+        calls: &[Sync],
+    },
 ];
 
 // The number of the first call of a row that is made otherwise.
@@ -216,7 +321,19 @@ fn calls_of_create(rt: HostRuntime) -> Result<(), Fail> {
     let alloc = rt.alloc();
     let rows: [(usize, u32, &[Call]); 3] = [
         (8, 2, &[Pages(0, 8), Sync, Gate(2), Sync, Gate(0), Sync]),
-        (8, 64, &[Pages(0, 64), Pages(64, 6), Sync, Gate(2), Sync, Gate(0), Sync]),
+        (
+            8,
+            64,
+            &[
+                Pages(0, 64),
+                Pages(64, 6),
+                Sync,
+                Gate(2),
+                Sync,
+                Gate(0),
+                Sync,
+            ],
+        ),
         (0, 1, &[Pages(0, 4), Sync, Gate(1), Sync, Gate(0), Sync]),
     ];
     for (arcs, journal_pages, calls) in rows {

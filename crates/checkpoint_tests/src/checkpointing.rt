@@ -120,7 +120,8 @@ fn is_told_rightly(alloc: Global, again: bool, k: u64, pick: Pick) -> Result<boo
         [Ok(version), Ok(version)]
     };
     let calm = store.calm() == (k >= calls);
-    let is_new = k >= calls || k.wrapping_add(1) == calls && (pick == Pick::New || pick == Pick::Byte(165));
+    let is_new = k >= calls
+        || k.wrapping_add(1) == calls && (pick == Pick::New || pick == Pick::Byte(165));
     let left = if is_new { 0 } else { unchecked };
     let store = opened(alloc, stopped(store, &[pick]))?;
     Ok(calm && answers == wanted && told(&store) == (u32::try_from(version).ok(), version, left))

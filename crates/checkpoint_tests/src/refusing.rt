@@ -142,7 +142,11 @@ const ROWS: [(Work, u64, (u64, u32, u32)); 3] = [
 fn works_are_tried_again(rt: HostRuntime) -> Result<(), Fail> {
     for (i, &(work, calls, stands)) in ROWS.iter().enumerate() {
         for k in 1..=22 {
-            let refusal = if k <= calls { Some(Refusal::Device) } else { None };
+            let refusal = if k <= calls {
+                Some(Refusal::Device)
+            } else {
+                None
+            };
             let found = in_the_end(rt.alloc(), work, k)?;
             assert!(rt; found == (refusal, stands), "row {i}, call {k}");
         }

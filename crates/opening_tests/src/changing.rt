@@ -86,30 +86,83 @@ struct Change {
 }
 
 const CHANGES: [Change; 17] = [
-    Change { bytes: &[], refusal: None },
-    Change { bytes: &[(0, 0)], refusal: Some(Refusal::NotAStore) },
-    Change { bytes: &[(PAGE - 1, 0)], refusal: Some(Refusal::NotAStore) },
-    Change { bytes: &[(11, 9)], refusal: Some(Refusal::WrongFormat) },
-    // N is 0, M is 67,108,864, J is 63.
-    Change { bytes: &[(15, 0)], refusal: Some(Refusal::Damaged { page: 0 }) },
-    Change { bytes: &[(16, 4), (19, 0)], refusal: Some(Refusal::Damaged { page: 0 }) },
-    Change { bytes: &[(23, 63)], refusal: Some(Refusal::Damaged { page: 0 }) },
-    // The first tail is 0, or 7.
-    Change { bytes: &[(PAGE + 3, 0)], refusal: Some(Refusal::Damaged { page: 1 }) },
-    Change { bytes: &[(PAGE + 3, 7)], refusal: Some(Refusal::Damaged { page: 1 }) },
-    // The gate of slot A.
-    Change { bytes: &[(3 * PAGE - 1, 0)], refusal: Some(Refusal::Damaged { page: 2 }) },
-    // A ninth word.
-    Change { bytes: &[(3 * PAGE + 35, 1)], refusal: Some(Refusal::Damaged { page: 3 }) },
-    // Slot B is open, with epoch 0, 1 and 2.
-    Change { bytes: &[(5 * PAGE - 1, OPEN)], refusal: None },
-    Change { bytes: &[(5 * PAGE - 1, OPEN), (4 * PAGE + 7, 1)], refusal: Some(Refusal::Damaged { page: 4 }) },
-    Change { bytes: &[(5 * PAGE - 1, OPEN), (4 * PAGE + 7, 2)], refusal: Some(Refusal::Damaged { page: 4 }) },
-    // Journal pages: of sequence 1 at the place of 0, without a command, with a first number that isn't the next.
-    Change { bytes: &[(JOURNAL_GATE, OPEN), (JOURNAL + 7, 1)], refusal: None },
-    Change { bytes: &[(JOURNAL_GATE, OPEN), (JOURNAL + 15, 1)], refusal: Some(Refusal::Damaged { page: 6 }) },
     Change {
-        bytes: &[(JOURNAL_GATE, OPEN), (JOURNAL + 15, 2), (JOURNAL + 17, 1), (JOURNAL + 32, 5)],
+        bytes: &[],
+        refusal: None,
+    },
+    Change {
+        bytes: &[(0, 0)],
+        refusal: Some(Refusal::NotAStore),
+    },
+    Change {
+        bytes: &[(PAGE - 1, 0)],
+        refusal: Some(Refusal::NotAStore),
+    },
+    Change {
+        bytes: &[(11, 9)],
+        refusal: Some(Refusal::WrongFormat),
+    },
+    // N is 0, M is 67,108,864, J is 63.
+    Change {
+        bytes: &[(15, 0)],
+        refusal: Some(Refusal::Damaged { page: 0 }),
+    },
+    Change {
+        bytes: &[(16, 4), (19, 0)],
+        refusal: Some(Refusal::Damaged { page: 0 }),
+    },
+    Change {
+        bytes: &[(23, 63)],
+        refusal: Some(Refusal::Damaged { page: 0 }),
+    },
+    // The first tail is 0, or 7.
+    Change {
+        bytes: &[(PAGE + 3, 0)],
+        refusal: Some(Refusal::Damaged { page: 1 }),
+    },
+    Change {
+        bytes: &[(PAGE + 3, 7)],
+        refusal: Some(Refusal::Damaged { page: 1 }),
+    },
+    // The gate of slot A.
+    Change {
+        bytes: &[(3 * PAGE - 1, 0)],
+        refusal: Some(Refusal::Damaged { page: 2 }),
+    },
+    // A ninth word.
+    Change {
+        bytes: &[(3 * PAGE + 35, 1)],
+        refusal: Some(Refusal::Damaged { page: 3 }),
+    },
+    // Slot B is open, with epoch 0, 1 and 2.
+    Change {
+        bytes: &[(5 * PAGE - 1, OPEN)],
+        refusal: None,
+    },
+    Change {
+        bytes: &[(5 * PAGE - 1, OPEN), (4 * PAGE + 7, 1)],
+        refusal: Some(Refusal::Damaged { page: 4 }),
+    },
+    Change {
+        bytes: &[(5 * PAGE - 1, OPEN), (4 * PAGE + 7, 2)],
+        refusal: Some(Refusal::Damaged { page: 4 }),
+    },
+    // Journal pages: of sequence 1 at the place of 0, without a command, with a first number that isn't the next.
+    Change {
+        bytes: &[(JOURNAL_GATE, OPEN), (JOURNAL + 7, 1)],
+        refusal: None,
+    },
+    Change {
+        bytes: &[(JOURNAL_GATE, OPEN), (JOURNAL + 15, 1)],
+        refusal: Some(Refusal::Damaged { page: 6 }),
+    },
+    Change {
+        bytes: &[
+            (JOURNAL_GATE, OPEN),
+            (JOURNAL + 15, 2),
+            (JOURNAL + 17, 1),
+            (JOURNAL + 32, 5),
+        ],
         refusal: Some(Refusal::Damaged { page: 6 }),
     },
 ];
@@ -172,7 +225,12 @@ fn journal_is_replayed(rt: HostRuntime) -> Result<(), Fail> {
         opened: false,
     };
     assert!(rt; store.network().arc(7) == Some(closed));
-    assert!(rt; store.network().arc(1).is_some_and(|arc| arc.opened && arc.length == 17));
+    assert!(rt;
+        store
+            .network()
+            .arc(1)
+            .is_some_and(|arc| arc.opened && arc.length == 17)
+    );
     assert!(rt; store.network().landmarks() == [3, 6].as_slice());
     let mut disk = store.close();
     assert!(rt; disk.len() == Ok(286720));

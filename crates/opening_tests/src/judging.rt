@@ -51,12 +51,7 @@ pub fn bytes_of(alloc: Global, disk: &mut MemDisk) -> Result<Vec<u8>, Refusal> {
 
 // The file of a new store with two journal pages: eight pages.
 pub fn new_file(alloc: Global) -> Result<Vec<u8>, Refusal> {
-    match create(
-        alloc,
-        MemDisk::new(alloc),
-        &six_with(alloc, &[6, 3])?,
-        2,
-    ) {
+    match create(alloc, MemDisk::new(alloc), &six_with(alloc, &[6, 3])?, 2) {
         Ok(store) => bytes_of(alloc, &mut store.close()),
         Err((refusal, _)) => Err(refusal),
     }

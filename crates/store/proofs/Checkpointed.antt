@@ -1,5 +1,5 @@
 -- What a content that stands is, while the other slot is closed.
-use Rattle.std.proofs.Common.{◌≡◌, ℕ, List, length, Option, Some, sym, ◌∙◌, ap, subst}
+use Rattle.std.proofs.Common.{◌≡◌, ℕ, List, length, Some, sym, ◌∙◌, ap, subst}
 use Rattle.std.proofs.lemmas.List.{length-map}
 use Rattle.disk.specs.Contents.{Only}
 use Rattle.disk.specs.Moments.{LeavesOnly}

@@ -1,5 +1,5 @@
 -- What a stop between two calls of a store may leave.
-use Rattle.std.specs.Prelude.{◌≡◌, ◌≤◌, ℕ, not, Bool, false, List, ◌&&◌, ◌==◌, is_none, unwrap_or, Option, Some}
+use Rattle.std.specs.Prelude.{◌≡◌, ◌≤◌, not, Bool, false, ◌&&◌, ◌==◌, is_none, unwrap_or, Option, Some}
 use Rattle.disk.specs.declared.disk.Disk.{Ghosts}
 use Rattle.pages.specs.Layout.{word_pages}
 use Rattle.storefile.specs.Standing.{Standing, standing_of}

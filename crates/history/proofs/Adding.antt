@@ -1,11 +1,10 @@
 -- The steps of a history's book keep its rule.
-use Rattle.std.proofs.Common.{◌≡◌, ◌≢◌, ℕ, zero, suc, ◌+◌, ◌<◌, ◌==◌, Bool, true, false, true≢false, List, [], ◌∷◌, ◌++◌, length, refl, ap, sym, ◌∙◌, subst, arith, inl, append_assoc, None}
+use Rattle.std.proofs.Common.{◌≡◌, ◌≢◌, ℕ, zero, suc, ◌<◌, ◌==◌, true, false, true≢false, List, [], ◌∷◌, ◌++◌, length, refl, ap, sym, ◌∙◌, subst, arith, inl, append_assoc, None}
 use Rattle.std.specs.Prelude.{All, slice_set, slice_index_or}
 use Rattle.std.proofs.lemmas.List.{append-nil}
 use Rattle.std.proofs.lemmas.List.Elements.{All-append}
-use mathlib.Core.List.{IsPrefix}
 use prog.Atomic.{either}
-use Rattle.logbook.specs.Pages.{Cell, cell, keeps, gives, adds, Nib, no_nib, may_make, may_write, step, Moves, Goes}
+use Rattle.logbook.specs.Pages.{Cell, cell, gives, adds, Nib, no_nib, may_make, may_write, Moves}
 use Rattle.history.specs.declared.entries.Link.{Link}
 use Rattle.history.specs.Chains.{pen_of}
 use Rattle.history.specs.Rules.{IsHome, IsKept, WritesBehind}
@@ -63,13 +62,13 @@ writes_moves v l p right same cs log kept pre away =
     let gone = away right in
     let set : List Cell = slice_set cs 0 (either ((cell cs 0).0 == 0) 0 (cell cs 0).0, true) in
     let old : All (λ other. IsHome (slice_set set p.key (p.value, true)) (pen_of other)) log =
-        all_home (IsHome cs) (IsHome (slice_set set p.key (p.value, true)))
-        (λ k h. home_set set p.key p.value k (home_set cs 0 (either ((cell cs 0).0 == 0) 0 (cell cs 0).0) k h)) log kept.pens in
+    all_home (IsHome cs) (IsHome (slice_set set p.key (p.value, true)))
+    (λ k h. home_set set p.key p.value k (home_set cs 0 (either ((cell cs 0).0 == 0) 0 (cell cs 0).0) k h)) log kept.pens in
     let here : IsHome (slice_set set p.key (p.value, true)) (pen_of l) =
-        subst (λ (k : ℕ). IsHome (slice_set set p.key (p.value, true)) k) (sym same)
-        (home_here set p.key p.value (within_set cs 0 p.key (either ((cell cs 0).0 == 0) 0 (cell cs 0).0) gone.0)) in
+    subst (λ (k : ℕ). IsHome (slice_set set p.key (p.value, true)) k) (sym same)
+    (home_here set p.key p.value (within_set cs 0 p.key (either ((cell cs 0).0 == 0) 0 (cell cs 0).0) gone.0)) in
     let others : All (λ other. IsHome cs (pen_of other)) pre.0 =
-        all_behind (λ other. IsHome cs (pen_of other)) v pre.0 (subst (λ (w : List Link). All (λ other. IsHome cs (pen_of other)) w) (sym pre.1) kept.pens) in (
+    all_behind (λ other. IsHome cs (pen_of other)) v pre.0 (subst (λ (w : List Link). All (λ other. IsHome cs (pen_of other)) w) (sym pre.1) kept.pens) in (
       kept.word.0,
       kept.word.1,
       (
@@ -96,7 +95,7 @@ pub makes_moves : (v : List Link)
 makes_moves v cs log kept pre away =
     let set : List Cell = slice_set cs 0 (either ((cell cs 0).0 == 0) 0 (cell cs 0).0, true) in
     let still : (k : ℕ) → IsHome cs k → IsHome (set ++ (0, false) ∷ []) k =
-        λ k h. home_more set ((0, false) ∷ []) k (home_set cs 0 (either ((cell cs 0).0 == 0) 0 (cell cs 0).0) k h) in (
+    λ k h. home_more set ((0, false) ∷ []) k (home_set cs 0 (either ((cell cs 0).0 == 0) 0 (cell cs 0).0) k h) in (
       kept.word.0,
       kept.word.1,
       (

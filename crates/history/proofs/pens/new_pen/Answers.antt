@@ -1,5 +1,4 @@
-use Rattle.std.proofs.Common.{sym, ◌∙◌, ap, inl}
-use Rattle.logbook.specs.Pages.{left_with}
+use Rattle.std.proofs.Common.{sym, ◌∙◌, ap}
 use Rattle.history.proofs.Adding.{makes_moves}
 use Rattle.history.proofs.pens.new_pen.Goals as goal
 

@@ -13,7 +13,7 @@ invariant_of-result c =
     let b = chain c.other.inside.root c.other.inside.seen.log in
     let both = chain c.again-root.result c.learn.new.self.log in
     let same : c.other.inside.root ≡ c.self.inside.root =
-        ap (λ (x : Beginning). x.origin.history.pen) c.other.view_is ∙ (ap (λ (o : Origin). o.history.pen) c.requires ∙ sym (ap (λ (x : Beginning). x.origin.history.pen) c.self.view_is)) in
+    ap (λ (x : Beginning). x.origin.history.pen) c.other.view_is ∙ (ap (λ (o : Origin). o.history.pen) c.requires ∙ sym (ap (λ (x : Beginning). x.origin.history.pen) c.self.view_is)) in
     let seen : IsPrefix c.self.inside.seen.log c.learn.new.self.log = subst (λ (l : List Link). IsPrefix l c.learn.new.self.log) (ap (λ s. s.log) c.again-both.ensures) c.learn.ensures.2 in
     let this : IsPrefix a both = chain_begins c.self.inside.root c.again-root.result c.self.inside.seen.log c.learn.new.self.log (sym c.again-root.ensures) seen in
     let that : IsPrefix b both = chain_begins c.other.inside.root c.again-root.result c.other.inside.seen.log c.learn.new.self.log (same ∙ sym c.again-root.ensures) c.learn.ensures.3 in
@@ -27,7 +27,7 @@ returns-clause-this c =
     let b = chain c.other.inside.root c.other.inside.seen.log in
     let both = chain c.again-root.result c.learn.new.self.log in
     let same : c.other.inside.root ≡ c.self.inside.root =
-        ap (λ (x : Beginning). x.origin.history.pen) c.other.view_is ∙ (ap (λ (o : Origin). o.history.pen) c.requires ∙ sym (ap (λ (x : Beginning). x.origin.history.pen) c.self.view_is)) in
+    ap (λ (x : Beginning). x.origin.history.pen) c.other.view_is ∙ (ap (λ (o : Origin). o.history.pen) c.requires ∙ sym (ap (λ (x : Beginning). x.origin.history.pen) c.self.view_is)) in
     let seen : IsPrefix c.self.inside.seen.log c.learn.new.self.log = subst (λ (l : List Link). IsPrefix l c.learn.new.self.log) (ap (λ s. s.log) c.again-both.ensures) c.learn.ensures.2 in
     let this : IsPrefix a both = chain_begins c.self.inside.root c.again-root.result c.self.inside.seen.log c.learn.new.self.log (sym c.again-root.ensures) seen in
     let that : IsPrefix b both = chain_begins c.other.inside.root c.again-root.result c.other.inside.seen.log c.learn.new.self.log (same ∙ sym c.again-root.ensures) c.learn.ensures.3 in
@@ -40,7 +40,7 @@ returns-clause-that c =
     let b = chain c.other.inside.root c.other.inside.seen.log in
     let both = chain c.again-root.result c.learn.new.self.log in
     let same : c.other.inside.root ≡ c.self.inside.root =
-        ap (λ (x : Beginning). x.origin.history.pen) c.other.view_is ∙ (ap (λ (o : Origin). o.history.pen) c.requires ∙ sym (ap (λ (x : Beginning). x.origin.history.pen) c.self.view_is)) in
+    ap (λ (x : Beginning). x.origin.history.pen) c.other.view_is ∙ (ap (λ (o : Origin). o.history.pen) c.requires ∙ sym (ap (λ (x : Beginning). x.origin.history.pen) c.self.view_is)) in
     let seen : IsPrefix c.self.inside.seen.log c.learn.new.self.log = subst (λ (l : List Link). IsPrefix l c.learn.new.self.log) (ap (λ s. s.log) c.again-both.ensures) c.learn.ensures.2 in
     let this : IsPrefix a both = chain_begins c.self.inside.root c.again-root.result c.self.inside.seen.log c.learn.new.self.log (sym c.again-root.ensures) seen in
     let that : IsPrefix b both = chain_begins c.other.inside.root c.again-root.result c.other.inside.seen.log c.learn.new.self.log (same ∙ sym c.again-root.ensures) c.learn.ensures.3 in
@@ -53,7 +53,7 @@ returns-clause-acknowledged c =
     let b = chain c.other.inside.root c.other.inside.seen.log in
     let both = chain c.again-root.result c.learn.new.self.log in
     let same : c.other.inside.root ≡ c.self.inside.root =
-        ap (λ (x : Beginning). x.origin.history.pen) c.other.view_is ∙ (ap (λ (o : Origin). o.history.pen) c.requires ∙ sym (ap (λ (x : Beginning). x.origin.history.pen) c.self.view_is)) in
+    ap (λ (x : Beginning). x.origin.history.pen) c.other.view_is ∙ (ap (λ (o : Origin). o.history.pen) c.requires ∙ sym (ap (λ (x : Beginning). x.origin.history.pen) c.self.view_is)) in
     let seen : IsPrefix c.self.inside.seen.log c.learn.new.self.log = subst (λ (l : List Link). IsPrefix l c.learn.new.self.log) (ap (λ s. s.log) c.again-both.ensures) c.learn.ensures.2 in
     let this : IsPrefix a both = chain_begins c.self.inside.root c.again-root.result c.self.inside.seen.log c.learn.new.self.log (sym c.again-root.ensures) seen in
     let that : IsPrefix b both = chain_begins c.other.inside.root c.again-root.result c.other.inside.seen.log c.learn.new.self.log (same ∙ sym c.again-root.ensures) c.learn.ensures.3 in
@@ -66,7 +66,7 @@ returns-clause-origin c =
     let b = chain c.other.inside.root c.other.inside.seen.log in
     let both = chain c.again-root.result c.learn.new.self.log in
     let same : c.other.inside.root ≡ c.self.inside.root =
-        ap (λ (x : Beginning). x.origin.history.pen) c.other.view_is ∙ (ap (λ (o : Origin). o.history.pen) c.requires ∙ sym (ap (λ (x : Beginning). x.origin.history.pen) c.self.view_is)) in
+    ap (λ (x : Beginning). x.origin.history.pen) c.other.view_is ∙ (ap (λ (o : Origin). o.history.pen) c.requires ∙ sym (ap (λ (x : Beginning). x.origin.history.pen) c.self.view_is)) in
     let seen : IsPrefix c.self.inside.seen.log c.learn.new.self.log = subst (λ (l : List Link). IsPrefix l c.learn.new.self.log) (ap (λ s. s.log) c.again-both.ensures) c.learn.ensures.2 in
     let this : IsPrefix a both = chain_begins c.self.inside.root c.again-root.result c.self.inside.seen.log c.learn.new.self.log (sym c.again-root.ensures) seen in
     let that : IsPrefix b both = chain_begins c.other.inside.root c.again-root.result c.other.inside.seen.log c.learn.new.self.log (same ∙ sym c.again-root.ensures) c.learn.ensures.3 in

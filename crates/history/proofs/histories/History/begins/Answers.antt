@@ -13,7 +13,7 @@ returns c =
     let b = chain c.front.inside.root c.front.inside.seen.log in
     let both = chain c.self.inside.root c.learn.new.self.log in
     let same : c.front.inside.root ≡ c.self.inside.root =
-        ap (λ (x : Beginning). x.origin.history.pen) c.front.view_is ∙ (ap (λ (o : Origin). o.history.pen) c.requires ∙ sym (ap (λ (x : Beginning). x.origin.history.pen) c.self.view_is)) in
+    ap (λ (x : Beginning). x.origin.history.pen) c.front.view_is ∙ (ap (λ (o : Origin). o.history.pen) c.requires ∙ sym (ap (λ (x : Beginning). x.origin.history.pen) c.self.view_is)) in
     let seen : IsPrefix c.self.inside.seen.log c.learn.new.self.log = subst (λ (l : List Link). IsPrefix l c.learn.new.self.log) (ap (λ s. s.log) c.again-both.ensures) c.learn.ensures.2 in
     let this : IsPrefix a both = chain_begins c.self.inside.root c.self.inside.root c.self.inside.seen.log c.learn.new.self.log refl seen in
     let that : IsPrefix b both = chain_begins c.front.inside.root c.self.inside.root c.front.inside.seen.log c.learn.new.self.log same c.learn.ensures.3 in

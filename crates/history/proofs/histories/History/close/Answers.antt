@@ -14,7 +14,7 @@ invariant_of-result c =
     let root = c.self.inside.root in
     let before = chain root c.self.inside.seen.log in
     let added : chain root c.write.new.seen.log ≡ before ++ Closed ∷ [] =
-        chain_more root c.self.inside.seen.log c.write.new.seen.log _ c.write.ensures.written (open_endless before i.0) (ap (λ p. p.nib.key) c.of-own.ensures ∙ i.6) in
+    chain_more root c.self.inside.seen.log c.write.new.seen.log _ c.write.ensures.written (open_endless before i.0) (ap (λ p. p.nib.key) c.of-own.ensures ∙ i.6) in
     subst IsClosed (sym added) (closed_end before i.0)
 
 pub returns : goal.returns
@@ -23,7 +23,7 @@ returns c =
     let root = c.self.inside.root in
     let before = chain root c.self.inside.seen.log in
     let added : chain root c.write.new.seen.log ≡ before ++ Closed ∷ [] =
-        chain_more root c.self.inside.seen.log c.write.new.seen.log _ c.write.ensures.written (open_endless before i.0) (ap (λ p. p.nib.key) c.of-own.ensures ∙ i.6) in
+    chain_more root c.self.inside.seen.log c.write.new.seen.log _ c.write.ensures.written (open_endless before i.0) (ap (λ p. p.nib.key) c.of-own.ensures ∙ i.6) in
     let name : Name = record { book = c.write.new.seen.book; pen = root } in
     ap (λ (l : List Entry). beginning name l) added ∙ (beginning_more name before Closed i.0
     ∙ (ap (λ b. beginning (record { book = b; pen = root }) before) c.write.ensures.book ∙ c.self.view_is))

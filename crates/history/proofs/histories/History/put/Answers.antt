@@ -19,7 +19,7 @@ invariant_of-self c =
     let endless = ap (λ l. is_endless (chain root l)) as_seen ∙ open_endless before i.0 in
     let same = ap (λ p. p.nib.key) c.of-own.ensures ∙ (i.6 ∙ sym (ap (next_pen root) as_seen)) in
     let added : chain root c.write.new.seen.log ≡ before ++ c.args.entry ∷ [] =
-        chain_more root old c.write.new.seen.log _ c.write.ensures.written endless same ∙ ap (λ l. chain root l ++ c.args.entry ∷ []) as_seen in
+    chain_more root old c.write.new.seen.log _ c.write.ensures.written endless same ∙ ap (λ l. chain root l ++ c.args.entry ∷ []) as_seen in
     let follows = next_more root old c.write.new.seen.log _ c.write.ensures.written endless same in
     let book = c.write.ensures.book ∙ ap (λ s. s.book) c.again-seen.ensures in (
       subst IsOpen (sym added) (open_more before c.args.entry c.requires.endless i.0),
@@ -43,7 +43,7 @@ returns c =
     let endless = ap (λ l. is_endless (chain root l)) as_seen ∙ open_endless before i.0 in
     let same = ap (λ p. p.nib.key) c.of-own.ensures ∙ (i.6 ∙ sym (ap (next_pen root) as_seen)) in
     let added : chain root c.write.new.seen.log ≡ before ++ c.args.entry ∷ [] =
-        chain_more root old c.write.new.seen.log _ c.write.ensures.written endless same ∙ ap (λ l. chain root l ++ c.args.entry ∷ []) as_seen in
+    chain_more root old c.write.new.seen.log _ c.write.ensures.written endless same ∙ ap (λ l. chain root l ++ c.args.entry ∷ []) as_seen in
     let book = c.write.ensures.book ∙ ap (λ s. s.book) c.again-seen.ensures in
     let name : Name = record { book = c.write.new.seen.book; pen = root } in
     ap (λ (l : List Entry). beginning name l) added ∙ (beginning_more name before c.args.entry i.0

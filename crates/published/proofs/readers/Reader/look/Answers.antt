@@ -1,4 +1,4 @@
-use Rattle.std.proofs.Common.{◌≡◌, sym, ap, ◌∙◌, subst, List, Option}
+use Rattle.std.proofs.Common.{sym, subst, Option}
 use Rattle.std.specs.Prelude.{unwrap_or}
 use mathlib.Core.List.{IsPrefix}
 use Rattle.history.specs.Origins.{Beginning}

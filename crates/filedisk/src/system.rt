@@ -150,8 +150,8 @@ impl<F: FileExt> NotedFile<F> {
 }
 
 impl NotedFile<File> {
-    /// Locks the file for this opening of it, until it is closed, and waits for nobody. Two openings, of one program or of two, don't
-    /// lock it at once, but where both share it.
+    /// Locks the file for this opening of it, until it is closed or the lock let go, and waits for nobody. Two openings, of one program or of
+    /// two, don't lock it at once, but where both share it.
     pub(crate) fn lock(&mut self, share: Share) -> io::Result<()>
         ensures { self.new.notes.calls ≡ (Lock share, done result) ∷ self.old.notes.calls }
     {

@@ -213,27 +213,21 @@ const FAILED: Failed = (
     (1, Reply::Length(22)),
 );
 
-// Opening makes nine calls of the disk. A flush reads the gate, writes the body, syncs, opens the gate and syncs; in the second flush the
-// second sync fails.
+// Opening makes nine calls of the disk. A flush reads the gate, writes the body, syncs, opens the gate and syncs. In the second flush the
+// second sync fails; or its first does, while the gate is shut.
 #[test]
 fn sync_fails_once(rt: HostRuntime) -> Result<(), Fail> {
     let alloc = rt.alloc();
-    for (pick, version) in [(Pick::Old, 1), (Pick::New, 2), (Pick::Byte(165), 2)] {
-        let (told, left) = fail_at(rt, alloc, 9 + 5 + 5)?;
+    for (call, pick, version) in [
+        (9 + 5 + 5, Pick::Old, 1),
+        (9 + 5 + 5, Pick::New, 2),
+        (9 + 5 + 5, Pick::Byte(165), 2),
+        (9 + 5 + 3, Pick::Old, 1),
+        (9 + 5 + 3, Pick::New, 1),
+    ] {
+        let (told, left) = fail_at(rt, alloc, call)?;
         assert_eq!(rt; told, FAILED);
         assert_eq!(rt; stopped_at(alloc, left, pick)?, (true, 2, version));
-    }
-    Ok(())
-}
-
-// There its first sync fails, while the gate is shut.
-#[test]
-fn sync_fails_before_the_gate(rt: HostRuntime) -> Result<(), Fail> {
-    let alloc = rt.alloc();
-    for pick in [Pick::Old, Pick::New] {
-        let (told, left) = fail_at(rt, alloc, 9 + 5 + 3)?;
-        assert_eq!(rt; told, FAILED);
-        assert_eq!(rt; stopped_at(alloc, left, pick)?, (true, 2, 1));
     }
     Ok(())
 }

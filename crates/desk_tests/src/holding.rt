@@ -1,14 +1,12 @@
 // What goes on while the flusher or the builder is held up.
-ghost use Rattle.std.specs.Prelude.{◌≡◌, true, IfOk};
+ghost use Rattle.std.specs.Prelude.{◌≡◌, true};
 ghost use Rattle.store.specs.State.{CameTidy, is_calm};
 ghost use Rattle.desk.specs.Openings.{IsNewDesk};
 
-use crate::desks::{
-    CLOSE, SHORTER, ended, refusal_of, seen, settled, settled_number, setup, store_of_six,
-};
-use desk::{Desk, Gate, History, Naming, Reader, Receipt, Ticket};
+use crate::desks::{CLOSE, SHORTER, ended, seen, settled, setup, store_of_six};
+use desk::{Desk, Gate, History, Naming, Reader};
 use disk::Disk;
-use roadnet::{Command, Refusal};
+use roadnet::Refusal;
 use rows::Reply;
 use std::alloc::Global;
 use std::marker::Brand;
@@ -29,8 +27,6 @@ struct Signals {
     submitted: AtomicBool,
     first_called: AtomicBool,
     second_called: AtomicBool,
-    /// A step of a checkpoint is held.
-    stepping: AtomicBool,
     /// What is held may go on.
     released: AtomicBool,
     /// A row worker was called for another landmark than its own.
@@ -45,7 +41,6 @@ impl Signals {
             submitted: AtomicBool::new(false),
             first_called: AtomicBool::new(false),
             second_called: AtomicBool::new(false),
-            stepping: AtomicBool::new(false),
             released: AtomicBool::new(false),
             misplaced: AtomicBool::new(false),
             expired: AtomicBool::new(false),
@@ -271,255 +266,5 @@ fn views_come_unasked(rt: HostRuntime) -> Result<(), Fail> {
         !signals.expired.load(Ordering::SeqCst),
         "no holding ended by itself"
     );
-    Ok(())
-}
-
-/// It holds the steps of checkpoints until the test lets them go.
-#[derive(Drop)]
-struct Stepping<R: Clock> {
-    held: Held<R>,
-}
-
-impl<R: Clock> Stepping<R> {
-    /// A step is held.
-    fn hold_step(&self) {
-        self.held.signals.stepping.store(true, Ordering::SeqCst);
-        self.held.hold(&self.held.signals.released);
-    }
-}
-
-impl<R: Clock> Gate for Stepping<R> {
-    fn before_row(&self, _worker: u32, _landmark: u32) {}
-
-    fn before_flush(&self, _durable: u64) -> bool {
-        true
-    }
-
-    fn before_task(&self, _durable: u64) -> bool {
-        true
-    }
-
-    fn before_step(&self, _version: u64) -> bool {
-        self.hold_step();
-        true
-    }
-}
-
-/// What comes of a command when the steps are let go: its number.
-fn settle_behind<
-    N: Naming + Send + Sync + 'static,
-    D: Disk + Drop + Send + 'static,
-    G: Gate + Drop + Send + Sync + 'static,
-    R: Threads + Wait + Clock + Copy + Send + Sync + 'static,
->(desk: &Desk<N, D, G, R>, signals: &Signals, ticket: Ticket) -> Result<u64, Refusal>
-    requires { ticket.origin ≡ N.origin }
-{
-    signals.released.store(true, Ordering::SeqCst);
-    settled_number(desk, ticket)
-}
-
-/// A command is settled, and a step of a checkpoint is held behind it.
-fn settle_before_step<
-    N: Naming + Send + Sync + 'static,
-    D: Disk + Drop + Send + 'static,
-    G: Gate + Drop + Send + Sync + 'static,
-    R: Threads + Wait + Clock + Copy + Send + Sync + 'static,
->(rt: &R, desk: &Desk<N, D, G, R>, signals: &Signals) -> Result<Receipt, Refusal>
-    ensures { IfOk result (λ receipt. receipt.origin ≡ N.origin) }
-{
-    let first = settled(desk, CLOSE)?;
-    if !comes(rt, &signals.stepping) {
-        return Err(Refusal::NoThread);
-    }
-    Ok(first)
-}
-
-/// A reader sees a command that is settled, while a step is held.
-fn version_beside_step<
-    N: Naming + Send + Sync + 'static,
-    D: Disk + Drop + Send + 'static,
-    G: Gate + Drop + Send + Sync + 'static,
-    R: Threads + Wait + Clock + Copy + Send + Sync + 'static,
->(rt: &R, alloc: Global, desk: &Desk<N, D, G, R>, first: &Receipt) -> Result<u64, Refusal>
-    requires { first.now.origin ≡ N.origin }
-{
-    let shown = desk.wait_shown(first.ticket())?;
-    let mut reader = desk.reader()?;
-    reader.learn(&shown);
-    let (version, _) = seen(rt, alloc, &mut reader)?;
-    Ok(version)
-}
-
-/// While a step of a checkpoint is held, a submit has a ticket and a reader pins; the command is settled when the step goes on.
-fn go_on_beside_step<
-    N: Naming + Send + Sync + 'static,
-    D: Disk + Drop + Send + 'static,
-    G: Gate + Drop + Send + Sync + 'static,
-    R: Threads + Wait + Clock + Copy + Send + Sync + 'static,
->(
-    rt: &R,
-    alloc: Global,
-    desk: &Desk<N, D, G, R>,
-    signals: &Signals,
-) -> Result<(u64, u64), Refusal> {
-    let first = settle_before_step(rt, desk, signals)?;
-    let second = desk.submit(SHORTER)?;
-    let version = version_beside_step(rt, alloc, desk, &first)?;
-    let number = settle_behind(desk, signals, second)?;
-    Ok((version, number))
-}
-
-/// The version that is seen beside a held step, and the number of a command that is submitted there.
-fn submit_beside_a_step<
-    N: Naming + Send + Sync + 'static,
-    D: Disk + Drop + Send + 'static,
-    G: Gate + Drop + Send + Sync + 'static,
-    R: Threads + Wait + Clock + Copy + Send + Sync + 'static,
->(
-    rt: R,
-    alloc: Global,
-    history: History,
-    store: Store<D>,
-    signals: &Signals,
-    gate: G,
-) -> Result<((u64, u64), usize), Refusal>
-    requires calm { is_calm store ≡ true }
-    requires new { IsNewDesk N.origin history store }
-    requires came_tidy { N.came_tidy → CameTidy D.honest D.content store.given }
-{
-    let desk: Desk<N, D, G, R> = Desk::start(rt, alloc, history, store, gate, setup(1))?;
-    let told = go_on_beside_step(&rt, alloc, &desk, signals);
-    ended(desk, told)
-}
-
-#[test]
-fn steps_hold_up_nobody(rt: HostRuntime) -> Result<(), Fail> {
-    let alloc = rt.alloc();
-    let signals = Arc::new(alloc, Signals::new())?;
-    let gate = Stepping {
-        held: Held {
-            rt,
-            signals: Arc::try_clone(&signals)?,
-        },
-    };
-    let store = store_of_six(alloc, &[], 2)?;
-    let history = History::new(store.network(), store.version());
-    let told = submit_beside_a_step::<Brand, _, _, _>(rt, alloc, history, store, &signals, gate)?;
-    assert_eq!(rt; told, ((1, 2), 2));
-    assert!(rt; !signals.expired.load(Ordering::SeqCst));
-    Ok(())
-}
-
-/// Whether the desk refuses each of these commands so.
-fn are_refused<
-    N: Naming + Send + Sync + 'static,
-    D: Disk + Drop + Send + 'static,
-    G: Gate + Drop + Send + Sync + 'static,
-    R: Threads + Wait + Clock + Copy + Send + Sync + 'static,
->(desk: &Desk<N, D, G, R>, table: &[(Command, Refusal)]) -> bool {
-    for (command, refusal) in table {
-        if refusal_of(desk.submit(*command)) != Err(*refusal) {
-            return false;
-        }
-    }
-    true
-}
-
-/// Submits so many commands.
-fn fill<
-    N: Naming + Send + Sync + 'static,
-    D: Disk + Drop + Send + 'static,
-    G: Gate + Drop + Send + Sync + 'static,
-    R: Threads + Wait + Clock + Copy + Send + Sync + 'static,
->(desk: &Desk<N, D, G, R>, count: u32) -> Result<(), Refusal> {
-    for _ in 0..count {
-        desk.submit(SHORTER)?;
-    }
-    Ok(())
-}
-
-/// Whether a queue of 4,096 commands takes one more. The flusher may go on behind that.
-fn fill_and_ask<
-    N: Naming + Send + Sync + 'static,
-    D: Disk + Drop + Send + 'static,
-    G: Gate + Drop + Send + Sync + 'static,
-    R: Threads + Wait + Clock + Copy + Send + Sync + 'static,
->(desk: &Desk<N, D, G, R>, signals: &Signals) -> Result<bool, Refusal> {
-    fill(desk, 4095)?;
-    let is_full = are_refused(desk, &[(SHORTER, Refusal::QueueFull)]);
-    signals.submitted.store(true, Ordering::SeqCst);
-    Ok(is_full)
-}
-
-/// Whether commands are refused that the network doesn't take, and then one more than may be pending.
-fn refuse_all<
-    N: Naming + Send + Sync + 'static,
-    D: Disk + Drop + Send + 'static,
-    G: Gate + Drop + Send + Sync + 'static,
-    R: Threads + Wait + Clock + Copy + Send + Sync + 'static,
->(
-    desk: &Desk<N, D, G, R>,
-    signals: &Signals,
-    table: &[(Command, Refusal)],
-) -> Result<(bool, bool), Refusal> {
-    desk.submit(CLOSE)?;
-    let refused = are_refused(desk, table);
-    Ok((refused, fill_and_ask(desk, signals)?))
-}
-
-/// The same of a desk whose flusher is held at first.
-fn fill_the_queue<
-    N: Naming + Send + Sync + 'static,
-    D: Disk + Drop + Send + 'static,
-    G: Gate + Drop + Send + Sync + 'static,
-    R: Threads + Wait + Clock + Copy + Send + Sync + 'static,
->(
-    rt: R,
-    alloc: Global,
-    history: History,
-    store: Store<D>,
-    signals: &Signals,
-    gate: G,
-    table: &[(Command, Refusal)],
-) -> Result<((bool, bool), usize), Refusal>
-    requires calm { is_calm store ≡ true }
-    requires new { IsNewDesk N.origin history store }
-    requires came_tidy { N.came_tidy → CameTidy D.honest D.content store.given }
-{
-    let desk: Desk<N, D, G, R> = Desk::start(rt, alloc, history, store, gate, setup(1))?;
-    let told = refuse_all(&desk, signals, table);
-    ended(desk, told)
-}
-
-#[test]
-fn submit_refuses_as_the_keeper(rt: HostRuntime) -> Result<(), Fail> {
-    let alloc = rt.alloc();
-    let signals = Arc::new(alloc, Signals::new())?;
-    let gate = Held {
-        rt,
-        signals: Arc::try_clone(&signals)?,
-    };
-    signals.second_called.store(true, Ordering::SeqCst);
-    signals.released.store(true, Ordering::SeqCst);
-    let store = store_of_six(alloc, &[3], 64)?;
-    let history = History::new(store.network(), store.version());
-    let table = [
-        (Command::Close { arc: 9 }, Refusal::NoSuchArc),
-        (
-            Command::Set {
-                arc: 1,
-                length: 2147483648,
-            },
-            Refusal::LengthRange,
-        ),
-        (CLOSE, Refusal::AlreadyClosed),
-        (Command::Reopen { arc: 1 }, Refusal::AlreadyOpen),
-        (Command::Mark { node: 7 }, Refusal::NoSuchNode),
-        (Command::Mark { node: 3 }, Refusal::AlreadyLandmark),
-        (Command::Unmark { node: 1 }, Refusal::NotALandmark),
-    ];
-    let told = fill_the_queue::<Brand, _, _, _>(rt, alloc, history, store, &signals, gate, &table)?;
-    assert_eq!(rt; told, ((true, true), 4096));
-    assert!(rt; !signals.expired.load(Ordering::SeqCst));
     Ok(())
 }

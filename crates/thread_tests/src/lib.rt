@@ -1,0 +1,13 @@
+//! Tests of a desk's threads: what they do for their callers, and what they ask of the gate.
+#![tactic(auto)]
+
+#[cfg(test)]
+mod boards;
+#[cfg(test)]
+mod duties;
+#[cfg(test)]
+mod playing;
+#[cfg(test)]
+mod stores;
+#[cfg(test)]
+mod waking;

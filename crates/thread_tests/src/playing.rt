@@ -1,0 +1,398 @@
+// A desk of a new store is started, called in order, and closed. What is answered is told as text.
+ghost use Rattle.std.specs.Prelude.{◌≡◌, ◌≤◌, true, IfOk};
+ghost use Rattle.store.specs.State.{CameTidy, is_calm};
+ghost use Rattle.desk.specs.Openings.{IsNewDesk};
+
+use crate::boards::{Board, Post, Rule, Watch};
+use crate::stores::{Kept, store_of_six};
+use crate::waking::wake;
+use desk::{Closed, Desk, Gate, Handle, History, Naming, Reader, Setup, Ticket};
+use disk::Disk;
+use roadnet::{Command, Refusal};
+use rows::Reply;
+use std::alloc::Global;
+use std::collections::VecDeque;
+use std::marker::{Brand, PhantomData};
+use std::sync::{Arc, Wait};
+use std::thread::Threads;
+use std::time::Clock;
+use store::{Store, open};
+
+pub(crate) const CLOSE: Command = Command::Close { arc: 7 };
+
+pub(crate) const SHORTER: Command = Command::Set { arc: 8, length: 4 };
+
+/// What a caller does.
+#[derive(Clone, Copy)]
+pub(crate) enum Move {
+    /// A command is submitted. Told is its number.
+    Submit(Command),
+    /// So many commands more. Told is the last number.
+    Fill(u32),
+    /// The oldest ticket is settled, and is gone then. Told is its number.
+    Settle,
+    /// The newest one.
+    SettleLast,
+    /// A view with the command of the oldest ticket is waited for. Told is its number.
+    See,
+    /// Of the newest one.
+    SeeLast,
+    /// So many commands, each settled before the next. Told is the last number.
+    SettleEach(u32),
+    /// A new reader looks, and is asked from node 1 to node 6 and back. Told are the version and the distance; there is no way back.
+    Look,
+    /// The gate is waited for, until it was asked so often. Told is nothing, unless that does not come.
+    Await(Post, u64),
+    /// So many calls of the gate may pass.
+    Let(Post, u64),
+    Halt,
+    /// Sixteen callers wait for one version, half of them to settle a command, half to see it; a flush is held until all do. Told is how many
+    /// come back.
+    Wake,
+    /// There are 64 readers, and one more is asked for. Told is for what it is refused; behind that one goes, and another comes.
+    Crowd,
+    /// Told are the numbers with which the gate was asked so.
+    Numbers(Post),
+    /// Told is the worker of each node's row.
+    Rows,
+}
+
+/// A desk, its gate, and what is done with it.
+#[derive(Clone, Copy)]
+pub(crate) struct Play<'a> {
+    pub(crate) landmarks: &'a [u32],
+    pub(crate) workers: u32,
+    /// How many arcs the network has beside those of the worked rows.
+    pub(crate) more_arcs: u32,
+    pub(crate) journal_pages: u32,
+    /// In which call the disk fails, counted from the opening on; 0 for none.
+    pub(crate) failing: u64,
+    pub(crate) flush: Rule,
+    pub(crate) task: Rule,
+    pub(crate) step: Rule,
+    pub(crate) moves: &'a [Move],
+}
+
+/// A ticket of this desk.
+#[derive(Drop)]
+struct Held<N: Naming> {
+    ticket: Ticket,
+    of: PhantomData<N>,
+    ghost named: { ticket.origin ≡ N.origin },
+}
+
+/// Submits a command, and keeps its ticket.
+fn submit<N: Naming, D: Disk + Drop, G: Gate + Drop, R: Wait + Copy>(
+    desk: &Handle<N, D, G, R>,
+    tickets: &mut VecDeque<Held<N>>,
+    command: Command,
+) -> Result<u64, Refusal> {
+    let ticket = desk.submit(command)?;
+    let number = ticket.ticket().number;
+    let held = Held {
+        ticket,
+        of: PhantomData,
+    };
+    match tickets.push_back(held) {
+        Ok(()) => Ok(number),
+        Err(_) => Err(Refusal::OutOfMemory),
+    }
+}
+
+/// Submits so many, and keeps their tickets. Told is the last number.
+fn fill<N: Naming, D: Disk + Drop, G: Gate + Drop, R: Wait + Copy>(
+    desk: &Handle<N, D, G, R>,
+    tickets: &mut VecDeque<Held<N>>,
+    count: u32,
+) -> Result<u64, Refusal> {
+    let mut last = 0;
+    for _ in 0..count {
+        last = submit(desk, tickets, SHORTER)?;
+    }
+    Ok(last)
+}
+
+/// Submits so many, and settles each before the next. Told is the last number.
+fn settle_each<N: Naming, D: Disk + Drop, G: Gate + Drop, R: Wait + Copy>(
+    desk: &Handle<N, D, G, R>,
+    tickets: &mut VecDeque<Held<N>>,
+    count: u32,
+) -> Result<u64, Refusal> {
+    let mut last = 0;
+    for _ in 0..count {
+        submit(desk, tickets, SHORTER)?;
+        last = settle(desk, tickets.pop_back())?;
+    }
+    Ok(last)
+}
+
+/// Settles a ticket.
+fn settle<N: Naming, D: Disk + Drop, G: Gate + Drop, R: Wait + Copy>(
+    desk: &Handle<N, D, G, R>,
+    held: Option<Held<N>>,
+) -> Result<u64, Refusal> {
+    let Some(held) = held else {
+        return Err(Refusal::NoTask);
+    };
+    match desk.settle(held.ticket) {
+        Ok(receipt) => Ok(receipt.ticket().ticket().number),
+        Err((refusal, _)) => Err(refusal),
+    }
+}
+
+/// Waits for a view with the ticket's command.
+fn see<N: Naming, D: Disk + Drop, G: Gate + Drop, R: Wait + Copy>(
+    desk: &Handle<N, D, G, R>,
+    held: Option<&Held<N>>,
+) -> Result<u64, Refusal> {
+    let Some(held) = held else {
+        return Err(Refusal::NoTask);
+    };
+    desk.wait_shown(&held.ticket)?;
+    Ok(held.ticket.ticket().number)
+}
+
+/// What is told of a call that answers a number.
+fn text_of(alloc: Global, answer: Result<u64, Refusal>) -> Result<String, Refusal> {
+    let text = match answer {
+        Ok(number) => format!(in alloc; "{number}; "),
+        Err(refusal) => format!(in alloc; "{refusal}; "),
+    };
+    text.or(Err(Refusal::OutOfMemory))
+}
+
+/// A new reader looks.
+fn look<N: Naming, D: Disk + Drop, G: Gate + Drop, R: Threads + Wait + Copy>(
+    rt: &R,
+    alloc: Global,
+    desk: &Handle<N, D, G, R>,
+) -> Result<String, Refusal> {
+    let mut reader = desk.reader()?;
+    let mut pinned = reader.pin()?;
+    let version = pinned.version();
+    let Ok(replies) = pinned.batch(rt, alloc, &[(1, 6), (6, 1)]) else {
+        return Err(Refusal::OutOfMemory);
+    };
+    let text = match replies.as_slice() {
+        [Reply::Length(length), Reply::NoWalk] => format!(in alloc; "{version}:{length}; "),
+        _ => format!(in alloc; "{version}; "),
+    };
+    text.or(Err(Refusal::OutOfMemory))
+}
+
+/// What is told of a list of numbers.
+fn list_of(alloc: Global, numbers: &[u64]) -> Result<String, Refusal> {
+    format!(in alloc; "{numbers:?}; ").or(Err(Refusal::OutOfMemory))
+}
+
+/// What is told where the gate is asked so often, or isn't.
+fn await_call<R: Clock>(
+    rt: &R,
+    alloc: Global,
+    board: &Board,
+    post: Post,
+    times: u64,
+) -> Result<String, Refusal> {
+    let text = if board.door(post).is_asked(rt, times) {
+        Ok(String::new(alloc))
+    } else {
+        format!(in alloc; "never; ")
+    };
+    text.or(Err(Refusal::OutOfMemory))
+}
+
+/// As many readers as there are places.
+fn all_readers<N: Naming, D: Disk + Drop, G: Gate + Drop, R: Wait + Copy>(
+    alloc: Global,
+    desk: &Handle<N, D, G, R>,
+) -> Result<Vec<Reader<N>>, Refusal> {
+    let mut readers = Vec::new(alloc);
+    for _ in 0..64u32 {
+        let reader = desk.reader()?;
+        if readers.push(reader).is_err() {
+            return Err(Refusal::OutOfMemory);
+        }
+    }
+    Ok(readers)
+}
+
+/// For what a 65th reader is refused; one of 64 goes behind that, and another comes.
+fn crowd<N: Naming, D: Disk + Drop, G: Gate + Drop, R: Wait + Copy>(
+    alloc: Global,
+    desk: &Handle<N, D, G, R>,
+) -> Result<String, Refusal> {
+    let mut readers = all_readers(alloc, desk)?;
+    let refused = match desk.reader() {
+        Ok(_) => Ok(65),
+        Err(refusal) => Err(refusal),
+    };
+    drop(readers.pop());
+    desk.reader()?;
+    text_of(alloc, refused)
+}
+
+/// Calls the desk or the gate once.
+fn play_move<
+    N: Naming + Send + Sync + 'static,
+    D: Disk + Drop + Send + 'static,
+    G: Gate + Drop + Send + Sync + 'static,
+    R: Threads + Wait + Clock + Copy + Send + Sync + 'static,
+>(
+    rt: &R,
+    alloc: Global,
+    desk: &Handle<N, D, G, R>,
+    board: &Board,
+    tickets: &mut VecDeque<Held<N>>,
+    step: Move,
+) -> Result<String, Refusal> {
+    match step {
+        Move::Submit(command) => text_of(alloc, submit(desk, tickets, command)),
+        Move::Fill(count) => text_of(alloc, fill(desk, tickets, count)),
+        Move::SettleEach(count) => text_of(alloc, settle_each(desk, tickets, count)),
+        Move::Settle => text_of(alloc, settle(desk, tickets.pop_front())),
+        Move::SettleLast => text_of(alloc, settle(desk, tickets.pop_back())),
+        Move::See => text_of(alloc, see(desk, tickets.front())),
+        Move::SeeLast => text_of(alloc, see(desk, tickets.back())),
+        Move::Look => look(rt, alloc, desk),
+        Move::Await(post, times) => await_call(rt, alloc, board, post, times),
+        Move::Let(post, passes) => {
+            board.door(post).let_pass(passes);
+            Ok(String::new(alloc))
+        }
+        Move::Halt => {
+            desk.halt();
+            Ok(String::new(alloc))
+        }
+        Move::Wake => text_of(alloc, wake(rt, alloc, desk, board)),
+        Move::Crowd => crowd(alloc, desk),
+        Move::Numbers(post) => list_of(alloc, board.door(post).numbers().lock(rt).as_slice()),
+        Move::Rows => list_of(alloc, &board.workers()),
+    }
+}
+
+/// Makes the moves in their order. Told are the answers.
+fn play_moves<
+    N: Naming + Send + Sync + 'static,
+    D: Disk + Drop + Send + 'static,
+    G: Gate + Drop + Send + Sync + 'static,
+    R: Threads + Wait + Clock + Copy + Send + Sync + 'static,
+>(
+    rt: &R,
+    alloc: Global,
+    desk: &Handle<N, D, G, R>,
+    board: &Board,
+    moves: &[Move],
+) -> Result<String, Refusal> {
+    let mut told = String::new(alloc);
+    let mut tickets = VecDeque::new(alloc);
+    for step in moves {
+        let text = play_move(rt, alloc, desk, board, &mut tickets, *step)?;
+        if told.push_str(text.as_str()).is_err() {
+            return Err(Refusal::OutOfMemory);
+        }
+    }
+    Ok(told)
+}
+
+/// What the gate noted until the threads had ended.
+fn noted<R: Wait>(rt: &R, alloc: Global, board: &Board) -> Result<String, Refusal> {
+    let flushes = list_of(alloc, board.flush.numbers().lock(rt).as_slice())?;
+    let steps = list_of(alloc, board.step.numbers().lock(rt).as_slice())?;
+    let has_expired = board.flush.has_expired()
+        || board.task.has_expired()
+        || board.step.has_expired();
+    let held = if has_expired { "held too long; " } else { "" };
+    format!(in alloc; "flushes {flushes}steps {steps}{held}").or(Err(Refusal::OutOfMemory))
+}
+
+/// What a desk leaves: how many commands, after how many of them the last view is, and the version to which its disk opens.
+fn left_of(alloc: Global, closed: Closed<Kept>) -> Result<String, Refusal> {
+    let Closed {
+        history,
+        shown,
+        disk,
+        journal_pages: _,
+        whole: _,
+    } = closed;
+    let commands = history.len();
+    let seen = shown.commands().len();
+    match open(alloc, disk.into_inner()) {
+        Ok(store) => {
+            let version = store.version();
+            format!(in alloc; "left {commands}, shown {seen}, kept {version}").or(Err(
+                Refusal::OutOfMemory,
+            ))
+        }
+        Err((refusal, _)) => Err(refusal),
+    }
+}
+
+/// A desk is started, called and closed. Told are the answers, beside what it leaves.
+fn play_desk<
+    N: Naming + Send + Sync + 'static,
+    D: Disk + Drop + Send + 'static,
+    G: Gate + Drop + Send + Sync + 'static,
+    R: Threads + Wait + Clock + Copy + Send + Sync + 'static,
+>(
+    rt: R,
+    alloc: Global,
+    history: History,
+    store: Store<D>,
+    gate: G,
+    board: &Board,
+    workers: u32,
+    moves: &[Move],
+) -> Result<(String, Closed<D>), Refusal>
+    requires calm { is_calm store ≡ true }
+    requires workers { (1 ≤ workers) × (workers ≤ 64) }
+    requires new { IsNewDesk N.origin history store }
+    requires came_tidy { N.came_tidy → CameTidy D.honest D.content store.given }
+{
+    let setup = Setup {
+        delta: None,
+        workers,
+    };
+    let desk: Desk<N, D, G, R> = Desk::start(rt, alloc, history, store, gate, setup)?;
+    let told = play_moves(&rt, alloc, desk.handle(), board, moves);
+    let closed = desk.close()?;
+    Ok((told?, closed))
+}
+
+/// A gate, and the board that it has in common with its test.
+fn gate_of<R: Wait + Clock>(
+    rt: R,
+    alloc: Global,
+    play: &Play<'_>,
+) -> Result<(Watch<R>, Arc<Board>), Refusal> {
+    let board = Board::new(alloc, play.flush, play.task, play.step)?;
+    let Ok(board) = Arc::new(alloc, board) else {
+        return Err(Refusal::OutOfMemory);
+    };
+    let Ok(shared) = Arc::try_clone(&board) else {
+        return Err(Refusal::OutOfMemory);
+    };
+    Ok((Watch { rt, board: shared }, board))
+}
+
+/// What is told of a play: the answers, what the gate noted, and what the desk left. Refused (5) are also numbers of pages and workers that no
+/// journal and no desk has.
+pub(crate) fn outcome_of<R: Threads + Wait + Clock + Copy + Send + Sync + 'static>(
+    rt: R,
+    alloc: Global,
+    play: &Play<'_>,
+) -> Result<String, Refusal> {
+    let pages = play.journal_pages;
+    let workers = play.workers;
+    if pages < 1 || pages > 65536 || workers < 1 || workers > 64 {
+        return Err(Refusal::NumberRange);
+    }
+    let store = store_of_six(alloc, play.landmarks, play.more_arcs, pages, play.failing)?;
+    let history = History::new(store.network(), store.version());
+    let (gate, board) = gate_of(rt, alloc, play)?;
+    let (told, closed) = play_desk::<Brand, _, _, _>(
+        rt, alloc, history, store, gate, &board, workers, play.moves,
+    )?;
+    let noted = noted(&rt, alloc, &board)?;
+    let left = left_of(alloc, closed)?;
+    format!(in alloc; "{told}{noted}{left}").or(Err(Refusal::OutOfMemory))
+}

@@ -29,8 +29,8 @@ const fn short(answers: [bool; 3]) -> Rule {
 }
 
 // The disk fails under the first command: a reader still looks. Then it fails under the second, and of the first, durable before, both calls
-// tell that it is: not a `settle` or `wait_shown` that answers 45 wherever the store is broken. In the last play the builder gives up its first task behind the failure: not a builder that
-// ends where the store is broken.
+// tell that it is: not a `settle` or `wait_shown` that answers 45 wherever the store is broken. In the last play the builder gives up its
+// first task behind the failure: not a builder that ends where the store is broken.
 #[test]
 fn durable_before_a_failure(rt: HostRuntime) -> Result<(), Fail> {
     let plays = [
@@ -326,8 +326,8 @@ fn workers_are_those_of_the_setup(rt: HostRuntime) -> Result<(), Fail> {
     Ok(())
 }
 
-// Commands are refused as the network and the queue say, twenty go through a journal of two pages, all who wait for a version come back,
-// and a 65th reader finds no place: not a `notify_one` behind a flush or a view, which wakes one of sixteen.
+// Commands are refused as the network and the queue say, eight go through a journal of two pages, all who wait for a version come back, and a
+// 65th reader finds no place: not a `notify_one` behind a flush or a view, which wakes one of those that wait.
 #[test]
 fn callers_are_served(rt: HostRuntime) -> Result<(), Fail> {
     let plays = [

@@ -359,7 +359,7 @@ fn play_desk<
 }
 
 /// A gate, and the board that it has in common with its test.
-fn gate_of<R: Wait + Clock>(
+fn gate_of<R: Wait + Clock + Copy>(
     rt: R,
     alloc: Global,
     play: &Play<'_>,

@@ -67,10 +67,11 @@ impl Door {
         let Ok(numbers) = Vec::with_capacity(alloc, MOST_NUMBERS) else {
             return Err(Refusal::OutOfMemory);
         };
+        let answers = rule.answers;
         Ok(Door {
             asked: AtomicU64::new(0),
             passes: AtomicU64::new(rule.passes),
-            answers: rule.answers,
+            answers,
             numbers: Mutex::new(numbers),
             expired: AtomicBool::new(false),
         })

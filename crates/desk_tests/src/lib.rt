@@ -14,8 +14,6 @@ mod holding;
 #[cfg(test)]
 mod keeping;
 #[cfg(test)]
-mod lasting;
-#[cfg(test)]
 mod limits;
 #[cfg(test)]
 mod rests;

@@ -2,6 +2,8 @@
 #![tactic(auto)]
 
 #[cfg(test)]
+mod lasting;
+#[cfg(test)]
 mod networks;
 #[cfg(test)]
 mod offices;

@@ -2,7 +2,7 @@
 ghost use Rattle.std.specs.Prelude.{◌≡◌, [], true};
 ghost use Rattle.store.specs.State.{CameTidy, is_calm};
 
-use crate::desks::network;
+use crate::networks::one_arc;
 use crate::offices::view_of;
 use disk::{Disk, MemDisk};
 use history::History;
@@ -57,7 +57,7 @@ fn settle_all<N: Naming, D: Disk + Drop, R: Wait>(
 #[test]
 fn office_outlives_twenty_thousand_commands(rt: HostRuntime) -> Result<(), Fail> {
     let alloc = rt.alloc();
-    let network = network(alloc, 2, &[(1, 2, 5)], &[]).map_err(|_| Fail::from("a network"))?;
+    let network = one_arc(alloc)?;
     let Ok(store) = create(alloc, MemDisk::new(alloc), &network, 64) else {
         return Err(Fail::from("a store"));
     };

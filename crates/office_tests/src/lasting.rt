@@ -17,10 +17,13 @@ use store::{Store, create};
 /// It leaves the network as it is.
 const SAME: Command = Command::Set { arc: 1, length: 5 };
 
-/// A command is accepted, made durable and settled. Told is its number.
-fn settle_one<N: Naming, D: Disk>(office: &mut Office<N, D>) -> Result<u64, Refusal> {
+/// As many commands as a page of the journal has are accepted and made durable, and the last one is settled. Told is its number.
+fn settle_page<N: Naming, D: Disk>(office: &mut Office<N, D>) -> Result<u64, Refusal> {
     if office.unchecked() >= office.journal_pages() {
         office.checkpoint_step(64)?;
+    }
+    for _ in 0..252 {
+        let _ = office.submit(SAME)?;
     }
     let ticket = office.submit(SAME)?;
     office.flush()?;
@@ -30,13 +33,13 @@ fn settle_one<N: Naming, D: Disk>(office: &mut Office<N, D>) -> Result<u64, Refu
     }
 }
 
-/// So many commands are settled, one after another. Told is the last number.
+/// So many pages of commands are settled, one after another. Told is the last number.
 fn settle_all<N: Naming, D: Disk + Drop, R: Wait>(
     rt: &R,
     alloc: Global,
     history: History,
     store: Store<D>,
-    count: u64,
+    pages: u64,
 ) -> Result<u64, Refusal>
     requires calm { is_calm store ≡ true }
     requires origin { (N.origin.base ≡ store.network) × (N.origin.version ≡ store.version) }
@@ -46,8 +49,8 @@ fn settle_all<N: Naming, D: Disk + Drop, R: Wait>(
     let first = view_of(alloc, store.version(), store.network())?;
     let mut office = Office::<N, D>::new(rt, alloc, history, store, first)?;
     let mut last = 0;
-    for _ in 0..count {
-        last = settle_one(&mut office)?;
+    for _ in 0..pages {
+        last = settle_page(&mut office)?;
     }
     let _ = office.close(rt);
     Ok(last)
@@ -62,7 +65,7 @@ fn office_outlives_twenty_thousand_commands(rt: HostRuntime) -> Result<(), Fail>
         return Err(Fail::from("a store"));
     };
     let history = History::new(store.network(), store.version());
-    let told = settle_all::<Brand, _, _>(&rt, alloc, history, store, 20_000);
-    assert_eq!(rt; told, Ok(20_000));
+    let told = settle_all::<Brand, _, _>(&rt, alloc, history, store, 80);
+    assert_eq!(rt; told, Ok(20_240));
     Ok(())
 }

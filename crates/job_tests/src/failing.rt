@@ -1,206 +1,335 @@
 // Readers and writers that fail at each of their calls in turn.
 use crate::stores::created;
-use dimacs::{Code, Counted};
+use crate::streams::{FailingReader, FailingWriter};
+use dimacs::{Code, Counted, Fault};
 use disk::MemDisk;
-use fixtures::{FailingReader, FailingWriter, LANDMARKS, PAIRS, SIX};
 use printing::{CountedWriter, Failed};
+use querytexts::{batch_counted, once_counted};
+use rehearsals::{joint_counted, rehearse_counted};
 use roadnet::Refusal;
 use std::alloc::Global;
 use std::io::BufReader;
 use std::process::Abort;
-use std::test::Fail;
 use std::thread::Threads;
 use storetexts::{apply_counted, ask_counted, check_counted, create_counted};
 
+/// The network of the worked rows.
+const SIX: &[u8] =
+    b"c S6\np sp 6 8\na 1 2 17\na 1 3 10\na 2 4 2\na 3 5 0\na 4 3 0\na 4 6 3\na 5 2 0\na 5 6 20\n";
+
+const LANDMARKS: &[u8] = b"p aux sp ss 3\ns 6\ns 3\ns 6\n";
+
 const COMMANDS: &[u8] = b"close 7\nclose 7\nset 8 4\n";
 
-/// What a call came to, how many calls of its reader and of its writer failed, and what was written.
+const PAIRS: &[u8] = b"p aux sp p2p 2\nq 1 6\nq 6 1\n";
+
+const QUERY: &[u8] = b"dist 1 6\n";
+
+const JOINT: &[u8] =
+    b"p sp 6 8\na 1 2 17\na 1 3 10\na 2 4 2\na 3 5 0\na 4 3 0\na 4 6 3\na 5 2 0\na 5 6 20\nrun\ndist 1 6\n";
+
+/// What a call came to, how many calls of the reader and of the writer failed, and how many bytes were written.
 #[derive(Drop)]
 struct Came {
     outcome: Result<(), Failed>,
     failed_reads: u64,
     failed_writes: u64,
-    written: Vec<u8>,
+    written: usize,
 }
 
-/// A call on texts, and which of its texts has the reader that fails.
-#[derive(Clone, Copy, Debug)]
-enum Call {
-    CreateOfNetwork,
-    CreateOfLandmarks,
-    Apply,
-    Ask,
-    Check,
-}
-
-/// A store is made; the readers of the network and of the landmarks fail at these reads, the writer at this call.
-fn come_of_create(
-    alloc: Global,
-    network_reads: u32,
-    landmark_reads: u32,
-    calls: u32,
-) -> Result<Came, Fail> {
-    let mut six = BufReader::with_capacity(alloc, 8, FailingReader::new(SIX, network_reads))?;
-    let marked = FailingReader::new(LANDMARKS, landmark_reads);
-    let mut marked = BufReader::with_capacity(alloc, 8, marked)?;
-    let mut gr = Counted::new(&mut six);
-    let mut ss = Counted::new(&mut marked);
-    let mut out = FailingWriter::new(alloc, calls);
+/// A store is made; the reader of the landmarks fails at this read, the writer at this call.
+fn come_of_create(alloc: Global, reads: u32, writes: u32) -> Result<Came, Refusal> {
+    let failing = FailingReader {
+        bytes: LANDMARKS,
+        reads,
+    };
+    let Ok(mut reader) = BufReader::with_capacity(alloc, 8, failing) else {
+        return Err(Refusal::OutOfMemory);
+    };
+    let mut out = FailingWriter { writes, taken: 0 };
+    let mut gr = SIX;
+    let mut marks = Counted::new(&mut reader);
     let mut writer = CountedWriter::new(&mut out);
-    let disk = MemDisk::new(alloc);
-    let (outcome, _) = create_counted(alloc, disk, &mut gr, &mut ss, 64, &mut writer);
+    let (outcome, _) = create_counted(
+        alloc,
+        MemDisk::new(alloc),
+        &mut Counted::new(&mut gr),
+        &mut marks,
+        64,
+        &mut writer,
+    );
     let failed_writes = writer.failed_writes();
     Ok(Came {
         outcome,
-        failed_reads: gr.failed_calls().saturating_add(ss.failed_calls()),
+        failed_reads: marks.failed_calls(),
         failed_writes,
-        written: out.written,
+        written: out.taken,
     })
 }
 
 /// Commands are applied; their reader fails at this read, the writer at this call.
-fn come_of_apply(alloc: Global, reads: u32, calls: u32) -> Result<Came, Fail> {
-    let mut text = BufReader::with_capacity(alloc, 8, FailingReader::new(COMMANDS, reads))?;
-    let mut commands = Counted::new(&mut text);
-    let mut out = FailingWriter::new(alloc, calls);
+fn come_of_apply(alloc: Global, reads: u32, writes: u32) -> Result<Came, Refusal> {
+    let (disk, _) = created(alloc, 64)?;
+    let failing = FailingReader {
+        bytes: COMMANDS,
+        reads,
+    };
+    let Ok(mut reader) = BufReader::with_capacity(alloc, 8, failing) else {
+        return Err(Refusal::OutOfMemory);
+    };
+    let mut out = FailingWriter { writes, taken: 0 };
+    let mut commands = Counted::new(&mut reader);
     let mut writer = CountedWriter::new(&mut out);
-    let (outcome, _) = apply_counted(alloc, created(alloc, 64)?, &mut commands, &mut writer);
+    let (outcome, _) = apply_counted(alloc, disk, &mut commands, &mut writer);
     let failed_writes = writer.failed_writes();
     Ok(Came {
         outcome,
         failed_reads: commands.failed_calls(),
         failed_writes,
-        written: out.written,
+        written: out.taken,
     })
 }
 
 /// Pairs are asked for; their reader fails at this read, the writer at this call.
-fn come_of_ask<R: Threads>(rt: &R, alloc: Global, reads: u32, calls: u32) -> Result<Came, Fail> {
-    let mut text = BufReader::with_capacity(alloc, 8, FailingReader::new(PAIRS, reads))?;
-    let mut pairs = Counted::new(&mut text);
-    let mut out = FailingWriter::new(alloc, calls);
+fn come_of_ask<R: Threads>(
+    rt: &R,
+    alloc: Global,
+    reads: u32,
+    writes: u32,
+) -> Result<Came, Refusal> {
+    let (disk, _) = created(alloc, 64)?;
+    let failing = FailingReader {
+        bytes: PAIRS,
+        reads,
+    };
+    let Ok(mut reader) = BufReader::with_capacity(alloc, 8, failing) else {
+        return Err(Refusal::OutOfMemory);
+    };
+    let mut out = FailingWriter { writes, taken: 0 };
+    let mut pairs = Counted::new(&mut reader);
     let mut writer = CountedWriter::new(&mut out);
-    let (outcome, _) = ask_counted(
-        rt,
-        alloc,
-        created(alloc, 64)?,
-        &mut pairs,
-        None,
-        &mut writer,
-    );
+    let (outcome, _) = ask_counted(rt, alloc, disk, &mut pairs, None, &mut writer);
     let failed_writes = writer.failed_writes();
     Ok(Came {
-        outcome: outcome.map(|_| ()),
+        outcome: match outcome {
+            Ok(_) => Ok(()),
+            Err(failed) => Err(failed),
+        },
         failed_reads: pairs.failed_calls(),
         failed_writes,
-        written: out.written,
+        written: out.taken,
     })
+}
+
+/// What a call came to that hands out no disk.
+fn come_of<T: Drop>(
+    outcome: Result<T, Failed>,
+    failed_reads: u64,
+    failed_writes: u64,
+    written: usize,
+) -> Came {
+    Came {
+        outcome: match outcome {
+            Ok(_) => Ok(()),
+            Err(failed) => Err(failed),
+        },
+        failed_reads,
+        failed_writes,
+        written,
+    }
+}
+
+/// The network, by a reader that fails at this read.
+fn failing_network(
+    alloc: Global,
+    reads: u32,
+) -> Result<BufReader<FailingReader<'static>>, Refusal> {
+    match BufReader::with_capacity(alloc, 8, FailingReader { bytes: SIX, reads }) {
+        Ok(reader) => Ok(reader),
+        Err(_) => Err(Refusal::OutOfMemory),
+    }
+}
+
+/// One query is asked of a network whose reader fails at this read.
+fn come_of_once<R: Threads>(rt: &R, alloc: Global, reads: u32) -> Result<Came, Refusal> {
+    let mut reader = failing_network(alloc, reads)?;
+    let mut out = FailingWriter {
+        writes: 0,
+        taken: 0,
+    };
+    let mut gr = Counted::new(&mut reader);
+    let mut writer = CountedWriter::new(&mut out);
+    let outcome = once_counted(rt, alloc, &mut gr, 1, 6, None, &mut writer);
+    let failed_writes = writer.failed_writes();
+    Ok(come_of(outcome, gr.failed_calls(), failed_writes, out.taken))
+}
+
+/// Pairs are asked of a network whose reader fails at this read.
+fn come_of_batch<R: Threads>(rt: &R, alloc: Global, reads: u32) -> Result<Came, Refusal> {
+    let mut reader = failing_network(alloc, reads)?;
+    let mut out = FailingWriter {
+        writes: 0,
+        taken: 0,
+    };
+    let mut pairs = PAIRS;
+    let mut gr = Counted::new(&mut reader);
+    let mut p2p = Counted::new(&mut pairs);
+    let mut writer = CountedWriter::new(&mut out);
+    let outcome = batch_counted(rt, alloc, &mut gr, &mut p2p, None, &mut writer);
+    let failed_writes = writer.failed_writes();
+    Ok(come_of(outcome, gr.failed_calls(), failed_writes, out.taken))
+}
+
+/// A script is run on a network whose reader fails at this read.
+fn come_of_rehearse<R: Threads>(rt: &R, alloc: Global, reads: u32) -> Result<Came, Refusal> {
+    let mut reader = failing_network(alloc, reads)?;
+    let mut out = FailingWriter {
+        writes: 0,
+        taken: 0,
+    };
+    let mut script = QUERY;
+    let mut gr = Counted::new(&mut reader);
+    let mut events = Counted::new(&mut script);
+    let mut writer = CountedWriter::new(&mut out);
+    let outcome = rehearse_counted(rt, alloc, &mut gr, &mut events, 64, None, &mut writer);
+    let failed_writes = writer.failed_writes();
+    Ok(come_of(outcome, gr.failed_calls(), failed_writes, out.taken))
+}
+
+/// A store is made of a network whose reader fails at this read.
+fn come_of_network(alloc: Global, reads: u32) -> Result<Came, Refusal> {
+    let mut reader = failing_network(alloc, reads)?;
+    let mut out = FailingWriter {
+        writes: 0,
+        taken: 0,
+    };
+    let mut landmarks = LANDMARKS;
+    let mut gr = Counted::new(&mut reader);
+    let mut marks = Counted::new(&mut landmarks);
+    let mut writer = CountedWriter::new(&mut out);
+    let disk = MemDisk::new(alloc);
+    let (outcome, _) = create_counted(alloc, disk, &mut gr, &mut marks, 64, &mut writer);
+    let failed_writes = writer.failed_writes();
+    Ok(come_of(outcome, gr.failed_calls(), failed_writes, out.taken))
+}
+
+/// A network and a script in one text; the writer fails at this call.
+fn come_of_joint<R: Threads>(rt: &R, alloc: Global, writes: u32) -> Came {
+    let mut text = JOINT;
+    let mut out = FailingWriter { writes, taken: 0 };
+    let mut joint = Counted::new(&mut text);
+    let mut writer = CountedWriter::new(&mut out);
+    let outcome = joint_counted(rt, alloc, &mut joint, None, &mut writer);
+    let failed_writes = writer.failed_writes();
+    come_of(outcome, joint.failed_calls(), failed_writes, out.taken)
 }
 
 /// A store is looked at; the writer fails at this call.
-fn come_of_check(alloc: Global, calls: u32) -> Result<Came, Fail> {
-    let mut out = FailingWriter::new(alloc, calls);
+fn come_of_check(alloc: Global, writes: u32) -> Result<Came, Refusal> {
+    let (disk, _) = created(alloc, 64)?;
+    let mut out = FailingWriter { writes, taken: 0 };
     let mut writer = CountedWriter::new(&mut out);
-    let (outcome, _) = check_counted(alloc, created(alloc, 64)?, &mut writer);
+    let (outcome, _) = check_counted(alloc, disk, &mut writer);
     let failed_writes = writer.failed_writes();
-    Ok(Came {
-        outcome,
-        failed_reads: 0,
-        failed_writes,
-        written: out.written,
-    })
+    Ok(come_of(outcome, 0, failed_writes, out.taken))
 }
 
-/// The call's reader fails at this read, its writer at this call.
-fn come_of<R: Threads>(
-    rt: &R,
-    alloc: Global,
-    call: Call,
-    reads: u32,
-    calls: u32,
-) -> Result<Came, Fail> {
-    match call {
-        Call::CreateOfNetwork => come_of_create(alloc, reads, 0, calls),
-        Call::CreateOfLandmarks => come_of_create(alloc, 0, reads, calls),
-        Call::Apply => come_of_apply(alloc, reads, calls),
-        Call::Ask => come_of_ask(rt, alloc, reads, calls),
-        Call::Check => come_of_check(alloc, calls),
+/// Where a read of text `which` failed that is fault 10 of it, and nothing was written; else all is done.
+fn is_cut_by_reader(rt: &impl Abort, came: &Came, which: u8, whole: usize) {
+    if came.failed_reads == 0 {
+        assert!(rt; came.outcome == Ok(()) && came.written == whole);
+        return;
     }
-}
-
-/// Where a read failed that is fault 10 of text `which`, and nothing was written; else all is done.
-fn is_cut_by_reader(rt: &impl Abort, came: &Came, which: u8, whole: &[u8]) {
     let told = match came.outcome {
-        Err(Failed::Text { which: told, fault }) => told == which && fault.code == Code::Read,
+        Err(
+            Failed::Text {
+                which: told,
+                fault: Fault { line: _, code },
+            },
+        ) => { told == which && code == Code::Read }
         _ => false,
     };
-    if came.failed_reads == 0 {
-        assert!(rt; came.outcome.is_ok() && came.written.as_slice() == whole);
-    } else {
-        assert!(rt; told && came.failed_reads == 1 && came.written.is_empty());
-    }
+    assert!(rt; told && came.failed_reads == 1 && came.written == 0);
 }
 
-/// Where a call of the writer failed that is 12, and a front was written; else all is done.
-fn is_cut_by_writer(rt: &impl Abort, came: &Came, whole: &[u8]) {
-    assert!(rt; whole.starts_with(came.written.as_slice()));
+/// Where a call of the writer failed that is 12, and less was written; else all is done.
+fn is_cut_by_writer(rt: &impl Abort, came: &Came, whole: usize) {
     if came.failed_writes == 0 {
-        assert!(rt; came.outcome.is_ok() && came.written.len() == whole.len());
-    } else {
-        assert!(rt; came.outcome == Err(Failed::Code(Refusal::Write)) && came.failed_writes == 1);
+        assert!(rt; came.outcome == Ok(()) && came.written == whole);
+        return;
     }
+    assert!(rt; came.outcome == Err(Failed::Code(Refusal::Write)));
+    assert!(rt; came.failed_writes == 1 && came.written <= whole);
 }
-
-const MADE: &[u8] = b"ok 0\n";
-
-const APPLIED: &[u8] = b"ok 1\nno 22\nok 2\n";
-
-const ASKED: &[u8] = b"v 0\nd 1 6 15\nx 6 1\n";
-
-const CHECKED: &[u8] = b"v 0\nslot A 1\njournal 0\n";
-
-/// A call, which of its texts is read by a reader that fails, what is written where it does not, and the numbers of reads of which the lower ones all fail and
-/// the upper ones never come.
-const READ: [(Call, u8, &[u8], u32, u32); 4] = [
-    (Call::CreateOfNetwork, 0, MADE, 10, 14),
-    (Call::CreateOfLandmarks, 1, MADE, 3, 7),
-    (Call::Apply, 0, APPLIED, 3, 7),
-    (Call::Ask, 0, ASKED, 3, 7),
-];
 
 #[test]
-fn a_reader_fails_at_each_read(rt: HostRuntime) -> Result<(), Fail> {
-    for (call, which, whole, least, most) in READ {
-        for reads in 1..16 {
-            let came = come_of(&rt, rt.alloc(), call, reads, 0)?;
-            is_cut_by_reader(&rt, &came, which, whole);
-            assert!(rt; came.failed_reads == 1 || reads > least, "{call:?} {reads}");
-            assert!(rt; came.failed_reads == 0 || reads < most, "{call:?} {reads}");
-        }
+fn a_reader_fails_at_each_read(rt: HostRuntime) -> Result<(), Refusal> {
+    for reads in 1..9 {
+        let create = come_of_create(rt.alloc(), reads, 0)?;
+        is_cut_by_reader(&rt, &create, 1, 5);
+        let apply = come_of_apply(rt.alloc(), reads, 0)?;
+        is_cut_by_reader(&rt, &apply, 0, 16);
+        let ask = come_of_ask(&rt, rt.alloc(), reads, 0)?;
+        is_cut_by_reader(&rt, &ask, 0, 19);
+        let all = create.failed_reads == 1 && apply.failed_reads == 1 && ask.failed_reads == 1;
+        assert!(rt; all || reads > 3, "read {reads}");
+        let none = create.failed_reads == 0 && apply.failed_reads == 0 && ask.failed_reads == 0;
+        assert!(rt; none || reads < 7, "read {reads}");
     }
     Ok(())
 }
 
-/// A call, what it writes, and how many calls of its writer there are at least.
-const WRITTEN: [(Call, &[u8], u32); 4] = [
-    (Call::CreateOfLandmarks, MADE, 2),
-    (Call::Apply, APPLIED, 2),
-    (Call::Ask, ASKED, 2),
-    (Call::Check, CHECKED, 8),
-];
-
 #[test]
-fn a_writer_fails_at_each_write(rt: HostRuntime) -> Result<(), Fail> {
-    for (call, whole, least) in WRITTEN {
-        for calls in 1..24 {
-            let came = come_of(&rt, rt.alloc(), call, 0, calls)?;
-            is_cut_by_writer(&rt, &came, whole);
-            assert!(rt;
-                came.failed_writes == 1 || calls > least,
-                "{call:?} {calls}"
-            );
-            assert!(rt; came.failed_writes == 0 || calls < 20, "{call:?} {calls}");
-        }
+fn a_writer_fails_at_each_write(rt: HostRuntime) -> Result<(), Refusal> {
+    for writes in 1..24 {
+        let create = come_of_create(rt.alloc(), 0, writes)?;
+        is_cut_by_writer(&rt, &create, 5);
+        let apply = come_of_apply(rt.alloc(), 0, writes)?;
+        is_cut_by_writer(&rt, &apply, 16);
+        let ask = come_of_ask(&rt, rt.alloc(), 0, writes)?;
+        is_cut_by_writer(&rt, &ask, 19);
+        let all = create.failed_writes == 1 && apply.failed_writes == 1 && ask.failed_writes == 1;
+        assert!(rt; all || writes > 2, "write {writes}");
+    }
+    Ok(())
+}
+
+/// The reader of the network fails at each of its reads, of which there are a dozen or so.
+#[test]
+fn a_reader_of_a_network_fails_at_each_read(rt: HostRuntime) -> Result<(), Refusal> {
+    for reads in 1..16 {
+        let once = come_of_once(&rt, rt.alloc(), reads)?;
+        is_cut_by_reader(&rt, &once, 0, 13);
+        let batch = come_of_batch(&rt, rt.alloc(), reads)?;
+        is_cut_by_reader(&rt, &batch, 0, 19);
+        let rehearse = come_of_rehearse(&rt, rt.alloc(), reads)?;
+        is_cut_by_reader(&rt, &rehearse, 0, 13);
+        let create = come_of_network(rt.alloc(), reads)?;
+        is_cut_by_reader(&rt, &create, 0, 5);
+        let failed = [
+            once.failed_reads,
+            batch.failed_reads,
+            rehearse.failed_reads,
+            create.failed_reads,
+        ];
+        assert!(rt; failed == [1; 4] || reads > 10, "read {reads}");
+        assert!(rt; failed == [0; 4] || reads < 14, "read {reads}");
+    }
+    Ok(())
+}
+
+/// The writer fails at each of its calls, of which there are ten or more.
+#[test]
+fn a_writer_of_replies_fails_at_each_write(rt: HostRuntime) -> Result<(), Refusal> {
+    for writes in 1..24 {
+        let joint = come_of_joint(&rt, rt.alloc(), writes);
+        is_cut_by_writer(&rt, &joint, 13);
+        let check = come_of_check(rt.alloc(), writes)?;
+        is_cut_by_writer(&rt, &check, 23);
+        let all = joint.failed_writes == 1 && check.failed_writes == 1;
+        assert!(rt; all || writes > 8, "write {writes}");
+        let none = joint.failed_writes == 0 && check.failed_writes == 0;
+        assert!(rt; none || writes < 20, "write {writes}");
     }
     Ok(())
 }

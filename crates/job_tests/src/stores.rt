@@ -1,56 +1,85 @@
 ghost use Rattle.std.specs.Prelude.{◌≤◌};
 
+use crate::streams::sending_writer;
 use dimacs::{Code, Counted, Fault};
 use disk::{Disk, FailOnce, FuseDisk, MemDisk};
-use fixtures::{LANDMARKS, PAIR, SIX, SendingWriter};
 use printing::{CountedWriter, Done, Failed};
 use roadnet::Refusal;
 use std::alloc::Global;
 use std::test::Fail;
-use std::thread::Threads;
-use store_fixtures::{bytes_of, opened, store_of_six, version_on, with_bytes};
-use storetexts::{apply_text, ask_text, create_store, create_text, read_planned};
+use store::open;
+use storetexts::{
+    apply_counted, apply_text, ask_counted, ask_text, create_counted, create_store, create_text,
+    read_planned,
+};
 
-/// The disk of a new store of the network of the worked rows, with the landmarks 3 and 6.
-pub fn created(alloc: Global, journal_pages: u32) -> Result<MemDisk, Refusal>
+/// The network of the worked rows.
+const SIX: &[u8] =
+    b"c S6\np sp 6 8\na 1 2 17\na 1 3 10\na 2 4 2\na 3 5 0\na 4 3 0\na 4 6 3\na 5 2 0\na 5 6 20\n";
+
+const LANDMARKS: &[u8] = b"p aux sp ss 3\ns 6\ns 3\ns 6\n";
+
+const PAIR: &[u8] = b"p aux sp p2p 1\nq 1 6\n";
+
+/// A store of the network with landmarks 3 and 6, and what was written.
+pub fn created(alloc: Global, journal_pages: u32) -> Result<(MemDisk, Vec<u8>), Refusal>
     requires some { 1 ≤ journal_pages }
     requires few { journal_pages ≤ 65536 }
 {
-    Ok(store_of_six(alloc, &[3, 6], journal_pages)?.close())
-}
-
-/// A store of the network in its text, with the landmarks of theirs, and what was written.
-#[test]
-fn a_store_of_texts(rt: HostRuntime) -> Result<(), Refusal> {
-    let mut out = Vec::new(rt.alloc());
-    let disk = MemDisk::new(rt.alloc());
-    let (outcome, disk) = create_text(rt.alloc(), disk, SIX, LANDMARKS, 64, &mut out);
-    assert!(rt; outcome == Ok(()) && out.as_slice() == b"ok 0\n".as_slice());
-    let store = opened(rt.alloc(), disk)?;
-    assert!(rt; store.network().landmarks() == [3, 6].as_slice() && store.version() == 0);
-    Ok(())
-}
-
-/// A text is applied, or asked. Answers whether all was done, what was written, and the disk.
-fn done_by<R: Threads, D: Disk + Drop>(
-    rt: &R,
-    alloc: Global,
-    disk: D,
-    applies: bool,
-    text: &[u8],
-) -> (bool, Vec<u8>, D) {
     let mut out = Vec::new(alloc);
-    if applies {
-        let (outcome, disk) = apply_text(alloc, disk, text, &mut out);
-        (outcome == Ok(()), out, disk)
-    } else {
-        let (outcome, disk) = ask_text(rt, alloc, disk, text, Some(5), &mut out);
-        (outcome == Ok(Done { delta: Some(5) }), out, disk)
+    match create_text(
+        alloc,
+        MemDisk::new(alloc),
+        SIX,
+        LANDMARKS,
+        journal_pages,
+        &mut out,
+    ) {
+        (Ok(()), disk) => Ok((disk, out)),
+        (Err(_), _) => Err(Refusal::Broken),
+    }
+}
+
+/// The bytes of a disk.
+pub fn bytes_of(alloc: Global, disk: &mut MemDisk) -> Result<Vec<u8>, Refusal> {
+    let Ok(length) = disk.len() else {
+        return Err(Refusal::Device);
+    };
+    let Ok(mut bytes) = vec![in alloc; 0; length as usize] else {
+        return Err(Refusal::OutOfMemory);
+    };
+    match disk.read(0, &mut bytes) {
+        Ok(()) => Ok(bytes),
+        Err(_) => Err(Refusal::Device),
+    }
+}
+
+/// A disk with these bytes, all of them synced.
+pub fn with_bytes(alloc: Global, bytes: &[u8]) -> Result<MemDisk, Refusal> {
+    let mut disk = MemDisk::new(alloc);
+    if disk.write_at(0, bytes).is_err() || disk.sync().is_err() {
+        return Err(Refusal::Device);
+    }
+    Ok(disk)
+}
+
+/// The version that is opened.
+fn version_on<D: Disk + Drop>(alloc: Global, disk: D) -> Result<u64, Refusal> {
+    match open(alloc, disk) {
+        Ok(store) => Ok(store.version()),
+        Err((refusal, _)) => Err(refusal),
     }
 }
 
 #[test]
-fn changed_and_asked(rt: HostRuntime) -> Result<(), Refusal> {
+fn made_changed_and_asked(rt: HostRuntime) -> Result<(), Refusal> {
+    let alloc = rt.alloc();
+    let (disk, out) = created(alloc, 64)?;
+    assert!(rt; out.as_slice() == b"ok 0\n".as_slice());
+    let Ok(store) = open(alloc, disk) else {
+        return Err(Refusal::Broken);
+    };
+    assert!(rt; store.network().landmarks() == [3, 6].as_slice());
     let table: [(bool, &[u8], &[u8]); 7] = [
         (false, PAIR, b"v 0\nd 1 6 15\n"),
         (true, b"close 7\n", b"ok 1\n"),
@@ -68,10 +97,18 @@ fn changed_and_asked(rt: HostRuntime) -> Result<(), Refusal> {
             b"v 4\nd 1 6 14\nx 6 1\n",
         ),
     ];
-    let mut disk = created(rt.alloc(), 64)?;
+    let mut disk = store.close();
     for (applies, text, want) in table {
-        let (done, out, same) = done_by(&rt, rt.alloc(), disk, applies, text);
-        assert!(rt; done && out.as_slice() == want);
+        let mut out = Vec::new(alloc);
+        let (done, same) = if applies {
+            let (outcome, disk) = apply_text(alloc, disk, text, &mut out);
+            (outcome == Ok(()), disk)
+        } else {
+            let (outcome, disk) = ask_text(&rt, alloc, disk, text, Some(5), &mut out);
+            (outcome == Ok(Done { delta: Some(5) }), disk)
+        };
+        assert!(rt; done);
+        assert!(rt; out.as_slice() == want);
         disk = same;
     }
     Ok(())
@@ -97,7 +134,7 @@ fn lines_of(text: &[u8]) -> u64 {
 #[test]
 fn applied_across_a_checkpoint(rt: HostRuntime) -> Result<(), Refusal> {
     let alloc = rt.alloc();
-    let disk = created(alloc, 2)?;
+    let (disk, _) = created(alloc, 2)?;
     let text = repeated(alloc, 762)?;
     let mut out = Vec::new(alloc);
     let (outcome, disk) = apply_text(alloc, disk, &text, &mut out);
@@ -109,51 +146,35 @@ fn applied_across_a_checkpoint(rt: HostRuntime) -> Result<(), Refusal> {
     Ok(())
 }
 
-/// What 300 commands come to on a store with one journal page whose call of this number fails: how many were told, and whether all was done. What was told is there
-/// when the store is opened again.
-fn told_before(alloc: Global, call: u64) -> Result<(u64, Result<(), Failed>), Refusal>
-    requires { 1 ≤ call }
-{
-    let text = repeated(alloc, 300)?;
-    let mut out = Vec::new(alloc);
-    let failing = FailOnce::new(created(alloc, 1)?, call);
-    let (outcome, disk) = apply_text(alloc, failing, &text, &mut out);
-    let told = lines_of(&out);
-    let version = version_on(alloc, disk.into_inner())?;
-    if told > version || version > 300 {
-        return Err(Refusal::NotYet);
-    }
-    Ok((told, outcome))
-}
-
 /// Each call of the disk that fails ends it with 43, and each command that was told is there when the store is opened again. Without a failure it
 /// opens the store by nine calls, and then makes four writes and syncs for a flush, five for a checkpoint and six for the other flush.
 #[test]
 fn nothing_told_is_lost(rt: HostRuntime) -> Result<(), Refusal> {
-    let mut whole = 0u64;
+    let alloc = rt.alloc();
+    let text = repeated(alloc, 300)?;
+    let mut whole = false;
     for call in 1..=45 {
-        let (told, outcome) = told_before(rt.alloc(), call)?;
-        if outcome.is_ok() {
-            whole = whole.saturating_add(1);
-            assert!(rt; told == 300 && call > 9 + 4 + 5 + 6, "call {call}");
-        } else {
-            assert!(rt;
-                outcome == Err(Failed::Code(Refusal::Device)),
-                "call {call}"
-            );
-            assert!(rt; (told == 0 || told == 253) && whole == 0, "call {call}");
+        let (disk, _) = created(alloc, 1)?;
+        let mut out = Vec::new(alloc);
+        let (outcome, disk) = apply_text(alloc, FailOnce::new(disk, call), &text, &mut out);
+        let version = version_on(alloc, disk.into_inner())?;
+        let told = lines_of(&out);
+        assert!(rt; told <= version && version <= 300, "call {call}");
+        match outcome {
+            Ok(_) => {
+                whole = true;
+                assert_eq!(rt; told, 300, "call {call}");
+                assert!(rt; call > 9 + 4 + 5 + 6, "call {call}");
+            }
+            Err(failed) => {
+                assert!(rt; failed == Failed::Code(Refusal::Device), "call {call}");
+                assert!(rt; told == 0 || told == 253, "call {call}");
+                assert!(rt; !whole, "call {call}");
+            }
         }
     }
-    assert!(rt; whole > 0);
+    assert!(rt; whole);
     Ok(())
-}
-
-/// A fault of the first text.
-fn fault_of(line: u64, code: Code) -> Failed {
-    Failed::Text {
-        which: 0,
-        fault: Fault { line, code },
-    }
 }
 
 /// Texts are judged before the disk is written: it stays empty.
@@ -180,27 +201,27 @@ fn faults_of_new_stores(rt: HostRuntime) -> Result<(), Refusal> {
 #[test]
 fn faults_of_texts(rt: HostRuntime) -> Result<(), Refusal> {
     let alloc = rt.alloc();
-    let mut disk = created(alloc, 64)?;
+    let (mut disk, _) = created(alloc, 64)?;
     let before = bytes_of(alloc, &mut disk)?;
     let mut out = Vec::new(alloc);
     let (applied, disk) = apply_text(alloc, disk, b"close 7\nclose x\n", &mut out);
     let pairs = b"p aux sp p2p 1\nq 1 7\n";
     let (asked, disk) = ask_text(&rt, alloc, disk, pairs, None, &mut out);
     let (made, mut disk) = create_text(alloc, disk, SIX, LANDMARKS, 64, &mut out);
-    assert!(rt; applied.err() == Some(fault_of(2, Code::BadLine)));
-    assert!(rt; asked.err() == Some(fault_of(2, Code::NodeRange)));
+    let fault = Fault {
+        line: 2,
+        code: Code::BadLine,
+    };
+    assert!(rt; applied == Err(Failed::Text { which: 0, fault }));
+    let fault = Fault {
+        line: 2,
+        code: Code::NodeRange,
+    };
+    assert!(rt; asked == Err(Failed::Text { which: 0, fault }));
     assert!(rt; made == Err(Failed::Code(Refusal::NotEmpty)));
-    assert!(rt; bytes_of(alloc, &mut disk)?.as_slice() == before.as_slice() && out.is_empty());
+    assert!(rt; bytes_of(alloc, &mut disk)?.as_slice() == before.as_slice());
+    assert!(rt; out.is_empty());
     Ok(())
-}
-
-/// The disk of a new store, of which this byte was changed.
-pub fn changed(alloc: Global, place: usize, byte: u8) -> Result<MemDisk, Refusal> {
-    let mut bytes = bytes_of(alloc, &mut created(alloc, 64)?)?;
-    if let Some(found) = bytes.get_mut(place) {
-        *found = byte;
-    }
-    with_bytes(alloc, &bytes)
 }
 
 /// A file whose byte at a place was changed is refused as it is opened, and nothing is written.
@@ -213,15 +234,18 @@ fn other_files_are_refused(rt: HostRuntime) -> Result<(), Refusal> {
         (23, 63, Refusal::Damaged { page: 0 }),
     ];
     for (place, byte, refusal) in table {
+        let (mut disk, _) = created(alloc, 64)?;
+        let mut bytes = bytes_of(alloc, &mut disk)?;
+        if let Some(found) = bytes.get_mut(place) {
+            *found = byte;
+        }
+        let disk = with_bytes(alloc, &bytes)?;
         let mut out = Vec::new(alloc);
-        let disk = changed(alloc, place, byte)?;
-        let (applied, disk) = apply_text(alloc, disk, b"close 7\n", &mut out);
-        assert!(rt; applied == Err(Failed::Code(refusal)), "{refusal}");
-        let (asked, _) = ask_text(&rt, alloc, disk, PAIR, None, &mut out);
-        assert!(rt;
-            asked == Err(Failed::Code(refusal)) && out.is_empty(),
-            "{refusal}"
-        );
+        let (outcome, disk) = apply_text(alloc, disk, b"close 7\n", &mut out);
+        assert!(rt; outcome == Err(Failed::Code(refusal)), "{refusal}");
+        let (outcome, _) = ask_text(&rt, alloc, disk, PAIR, None, &mut out);
+        assert!(rt; outcome == Err(Failed::Code(refusal)), "{refusal}");
+        assert!(rt; out.is_empty(), "{refusal}");
     }
     Ok(())
 }
@@ -231,7 +255,7 @@ fn other_files_are_refused(rt: HostRuntime) -> Result<(), Refusal> {
 #[test]
 fn lines_are_sent_page_by_page(rt: HostRuntime) -> Result<(), Refusal> {
     let alloc = rt.alloc();
-    let mut out = SendingWriter::new(alloc);
+    let mut out = sending_writer(alloc);
     let (outcome, disk) = create_text(alloc, MemDisk::new(alloc), SIX, LANDMARKS, 64, &mut out);
     assert!(rt; outcome == Ok(()));
     let (outcome, disk) = ask_text(&rt, alloc, disk, PAIR, None, &mut out);
@@ -245,53 +269,75 @@ fn lines_are_sent_page_by_page(rt: HostRuntime) -> Result<(), Refusal> {
     Ok(())
 }
 
-/// A network and its landmarks are read by themselves, and a store is made of them.
+/// The calls that count, with ample memory: each writes its bytes, and no call of a reader or of the writer fails.
 #[test]
-fn a_store_of_what_was_read(rt: HostRuntime) -> Result<(), Refusal> {
+fn counted_calls_write_their_bytes(rt: HostRuntime) -> Result<(), Refusal> {
     let alloc = rt.alloc();
-    let (mut six, mut marks) = (SIX, LANDMARKS);
-    let mut gr = Counted::new(&mut six);
-    let Ok(network) = read_planned(alloc, &mut gr, &mut Counted::new(&mut marks)) else {
-        return Err(Refusal::Broken);
-    };
     let mut out = Vec::new(alloc);
     let mut writer = CountedWriter::new(&mut out);
-    let (outcome, disk) = create_store(alloc, MemDisk::new(alloc), &network, 2, &mut writer);
-    assert!(rt; outcome == Ok(()) && out.as_slice() == b"ok 0\n".as_slice());
-    let store = opened(alloc, disk)?;
-    assert!(rt; store.network().landmarks() == [3, 6].as_slice() && store.journal_pages() == 2);
+    let (mut six, mut marks) = (SIX, LANDMARKS);
+    let planned = read_planned(
+        alloc,
+        &mut Counted::new(&mut six),
+        &mut Counted::new(&mut marks),
+    );
+    let Ok(network) = planned else {
+        return Err(Refusal::Broken);
+    };
+    assert!(rt; network.landmarks() == [3, 6].as_slice());
+    let (outcome, _) = create_store(alloc, MemDisk::new(alloc), &network, 2, &mut writer);
+    assert!(rt; outcome == Ok(()));
+    let (mut six, mut marks) = (SIX, LANDMARKS);
+    let (outcome, disk) = create_counted(
+        alloc,
+        MemDisk::new(alloc),
+        &mut Counted::new(&mut six),
+        &mut Counted::new(&mut marks),
+        64,
+        &mut writer,
+    );
+    assert!(rt; outcome == Ok(()));
+    let mut commands = b"close 7\nclose 7\nset 8 4\n".as_slice();
+    let (outcome, disk) = apply_counted(alloc, disk, &mut Counted::new(&mut commands), &mut writer);
+    assert!(rt; outcome == Ok(()));
+    let mut pair = PAIR;
+    let (outcome, _) = ask_counted(
+        &rt,
+        alloc,
+        disk,
+        &mut Counted::new(&mut pair),
+        Some(5),
+        &mut writer,
+    );
+    assert!(rt; outcome == Ok(Done { delta: Some(5) }));
+    assert_eq!(rt; writer.failed_writes(), 0);
+    assert!(rt; out.as_slice() == b"ok 0\nok 0\nok 1\nno 22\nok 2\nv 2\nd 1 6 14\n".as_slice());
     Ok(())
-}
-
-/// What so many commands come to on a disk that takes so many writes and syncs, and how many lines are told.
-fn applied_within(
-    alloc: Global,
-    journal_pages: u32,
-    count: u32,
-    calls: u64,
-) -> Result<(Result<(), Failed>, u64), Refusal> {
-    if journal_pages < 1 || journal_pages > 65536 {
-        return Err(Refusal::NumberRange);
-    }
-    let text = repeated(alloc, count)?;
-    let mut out = Vec::new(alloc);
-    let fused = FuseDisk::new(created(alloc, journal_pages)?, calls);
-    let (outcome, _) = apply_text(alloc, fused, &text, &mut out);
-    Ok((outcome, lines_of(&out)))
 }
 
 /// Opening syncs once, and a flush makes four writes and syncs where its page is closed. No checkpoint is written while no flush is refused for a
 /// full journal, so a disk that takes just so many calls takes all commands, and one that takes a call fewer does not.
 #[test]
 fn a_checkpoint_comes_for_a_full_journal_alone(rt: HostRuntime) -> Result<(), Refusal> {
+    let alloc = rt.alloc();
     let table: [(u32, u32, u64); 4] = [(64, 0, 1), (64, 1, 5), (64, 300, 9), (2, 506, 9)];
-    for (pages, count, calls) in table {
-        let (outcome, told) = applied_within(rt.alloc(), pages, count, calls)?;
-        assert!(rt;
-            outcome == Ok(()) && told == u64::from(count),
-            "{count} commands"
+    for (journal_pages, count, calls) in table {
+        if journal_pages < 1 || journal_pages > 65536 {
+            return Err(Refusal::Broken);
+        }
+        let text = repeated(alloc, count)?;
+        let (disk, _) = created(alloc, journal_pages)?;
+        let mut out = Vec::new(alloc);
+        let (outcome, _) = apply_text(alloc, FuseDisk::new(disk, calls), &text, &mut out);
+        assert!(rt; outcome == Ok(()), "{count} commands");
+        assert_eq!(rt; lines_of(&out), u64::from(count));
+        let (disk, _) = created(alloc, journal_pages)?;
+        let (outcome, _) = apply_text(
+            alloc,
+            FuseDisk::new(disk, calls.saturating_sub(1)),
+            &text,
+            &mut out,
         );
-        let (outcome, _) = applied_within(rt.alloc(), pages, count, calls.saturating_sub(1))?;
         assert!(rt;
             outcome == Err(Failed::Code(Refusal::Device)),
             "{count} commands"

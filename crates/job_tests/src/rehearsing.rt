@@ -1,13 +1,18 @@
 ghost use Rattle.std.specs.Prelude.{◌≤◌};
 
-use dimacs::{Code, Fault};
-use fixtures::{SIX, SendingWriter};
-use printing::{Done, Failed};
-use rehearsals::{joint_text, rehearse_text};
-use std::alloc::Global;
+use crate::streams::{FailingReader, FailingWriter, sending_writer};
+use dimacs::{Code, Counted, Fault};
+use printing::{CountedWriter, Done, Failed};
+use rehearsals::{joint_counted, joint_text, rehearse_counted, rehearse_text};
+use roadnet::Refusal;
+use std::io::BufReader;
 use std::process::Abort;
 use std::test::Fail;
 use std::thread::Threads;
+
+/// The network of the worked rows.
+pub const SIX: &[u8] =
+    b"c S6\np sp 6 8\na 1 2 17\na 1 3 10\na 2 4 2\na 3 5 0\na 4 3 0\na 4 6 3\na 5 2 0\na 5 6 20\n";
 
 const PARALLEL: &[u8] = b"p sp 2 3\na 1 2 5\na 1 2 3\na 1 1 0\n";
 
@@ -163,25 +168,24 @@ fn scripts_of_two_journal_pages(rt: HostRuntime) {
     }
 }
 
-/// What is told of a `close` and a flush that is stopped within its write or sync of this number, where the pick leaves a version. The flush makes four of them, so that a
-/// stop within the fifth comes behind it.
-fn told_of_a_stop(alloc: Global, call: u32, left: u32) -> Result<String, Fail> {
-    let told = match call {
-        1 | 2 => format!(in alloc; "t 1\nstopped\nv 0\n")?,
-        3 | 4 => format!(in alloc; "t 1\nstopped\nv {left}\n")?,
-        _ => format!(in alloc; "t 1\nok 1\nstopped\nv 1\n")?,
-    };
-    Ok(told)
-}
-
 #[test]
 fn stop_within_flush(rt: HostRuntime) -> Result<(), Fail> {
     for call in 1..6 {
         for (pick, left) in [("old", 0), ("new", 1), ("165", 1), ("17", 0)] {
             let script = format!(in rt.alloc(); "close 7\nstop {call} {pick} flush\n")?;
-            let want = told_of_a_stop(rt.alloc(), call, left)?;
-            let (name, script) = (script.as_str(), script.as_bytes());
-            is_rehearsed(&rt, name, SIX, 64, script, want.as_bytes());
+            let want = match call {
+                1 | 2 => format!(in rt.alloc(); "t 1\nstopped\nv 0\n")?,
+                3 | 4 => format!(in rt.alloc(); "t 1\nstopped\nv {left}\n")?,
+                _ => format!(in rt.alloc(); "t 1\nok 1\nstopped\nv 1\n")?,
+            };
+            is_rehearsed(
+                &rt,
+                script.as_str(),
+                SIX,
+                64,
+                script.as_bytes(),
+                want.as_bytes(),
+            );
         }
     }
     Ok(())
@@ -317,30 +321,132 @@ fn faults_of_joint_texts(rt: HostRuntime) {
 /// Every width of the buckets gives the same answers.
 #[test]
 fn widths_give_one_answer(rt: HostRuntime) {
-    let want = b"t 1\nok 1\nv 0\nd 1 6 15\ntask 1\nshown 1\nv 1\nd 1 6 22\n".as_slice();
     for delta in [Some(1), Some(5), Some(2147483647)] {
         let mut out = Vec::new(rt.alloc());
         let outcome = rehearse_text(&rt, rt.alloc(), SIX, CLOSED, 1, delta, &mut out);
         assert!(rt; outcome == Ok(Done { delta }), "{delta:?}");
-        assert!(rt; out.as_slice() == want, "{delta:?}");
+        assert!(rt;
+            out.as_slice()
+                == b"t 1\nok 1\nv 0\nd 1 6 15\ntask 1\nshown 1\nv 1\nd 1 6 22\n".as_slice(),
+            "{delta:?}"
+        );
+    }
+}
+
+#[test]
+fn a_reader_fails_at_each_read(rt: HostRuntime) -> Result<(), Fail> {
+    let mut text = Vec::from_slice(rt.alloc(), SIX)?;
+    text.extend_from_slice(b"run\ndist 1 6\n")?;
+    for reads in 1..30 {
+        let failing = FailingReader {
+            bytes: &text,
+            reads,
+        };
+        let mut reader = BufReader::with_capacity(rt.alloc(), 8, failing)?;
+        let mut counted = Counted::new(&mut reader);
+        let mut out = Vec::new(rt.alloc());
+        let mut writer = CountedWriter::new(&mut out);
+        let outcome = joint_counted(&rt, rt.alloc(), &mut counted, None, &mut writer);
+        let failed = counted.failed_calls();
+        if let Err(Failed::Text { which: _, fault }) = outcome {
+            assert!(rt; fault.code == Code::Read && failed == 1, "read {reads}");
+            assert!(rt; out.is_empty(), "read {reads}");
+        } else {
+            assert!(rt; outcome.is_ok() && failed == 0, "read {reads}");
+            assert!(rt; out.as_slice() == b"v 0\nd 1 6 15\n".as_slice());
+            assert!(rt; reads > 12);
+        }
+    }
+    Ok(())
+}
+
+#[test]
+fn a_reader_of_a_script_fails(rt: HostRuntime) -> Result<(), Fail> {
+    for reads in 1..10 {
+        let mut gr = SIX;
+        let failing = FailingReader {
+            bytes: b"dist 1 6\ndist 4 4\n",
+            reads,
+        };
+        let mut reader = BufReader::with_capacity(rt.alloc(), 8, failing)?;
+        let mut script = Counted::new(&mut reader);
+        let mut out = Vec::new(rt.alloc());
+        let mut writer = CountedWriter::new(&mut out);
+        let outcome = rehearse_counted(
+            &rt,
+            rt.alloc(),
+            &mut Counted::new(&mut gr),
+            &mut script,
+            64,
+            None,
+            &mut writer,
+        );
+        let failed = script.failed_calls();
+        if let Err(Failed::Text { which, fault }) = outcome {
+            assert!(rt;
+                which == 1 && fault.code == Code::Read && failed == 1,
+                "read {reads}"
+            );
+            assert!(rt; out.is_empty(), "read {reads}");
+        } else {
+            assert!(rt; outcome.is_ok() && failed == 0, "read {reads}");
+            assert!(rt; out.as_slice() == b"v 0\nd 1 6 15\nv 0\nd 4 4 0\n".as_slice());
+            assert!(rt; reads > 3);
+        }
+    }
+    Ok(())
+}
+
+#[test]
+fn a_writer_fails_at_each_write(rt: HostRuntime) {
+    for writes in 1..20 {
+        let mut failing = FailingWriter { writes, taken: 0 };
+        let (mut six, mut script) = (SIX, b"dist 1 6\ndist 6 1\n".as_slice());
+        let mut writer = CountedWriter::new(&mut failing);
+        let outcome = rehearse_counted(
+            &rt,
+            rt.alloc(),
+            &mut Counted::new(&mut six),
+            &mut Counted::new(&mut script),
+            64,
+            None,
+            &mut writer,
+        );
+        let failed = writer.failed_writes();
+        if outcome.is_ok() {
+            assert!(rt; failed == 0 && writes > 8, "write {writes}");
+        } else {
+            assert!(rt;
+                outcome == Err(Failed::Code(Refusal::Write)),
+                "write {writes}"
+            );
+            assert!(rt; failed == 1, "write {writes}");
+        }
     }
 }
 
 /// What is written is sent out, once a call.
 #[test]
 fn replies_are_sent_out(rt: HostRuntime) {
-    let mut out = SendingWriter::new(rt.alloc());
-    let done = Ok(Done { delta: None });
-    let script = b"close 7\nflush\n";
-    assert!(rt; rehearse_text(&rt, rt.alloc(), SIX, script, 64, None, &mut out) == done);
+    let mut out = sending_writer(rt.alloc());
+    let outcome = rehearse_text(
+        &rt,
+        rt.alloc(),
+        SIX,
+        b"close 7\nflush\n",
+        64,
+        None,
+        &mut out,
+    );
+    assert!(rt; outcome == Ok(Done { delta: None }));
     let mut text: &[u8] = b"p sp 1 0\nrun\ndist 1 1\n";
-    assert!(rt; joint_text(&rt, rt.alloc(), &mut text, None, &mut out) == done);
+    assert!(rt; joint_text(&rt, rt.alloc(), &mut text, None, &mut out) == Ok(Done { delta: None }));
     assert!(rt; out.sent.as_slice() == [9, 12].as_slice() && out.waiting == 0);
 }
 
 /// A network of two nodes and 2,047 arcs from 1 to 2, of length 5: three word pages.
-pub fn three_word_pages(alloc: Global) -> Result<Vec<u8>, Fail> {
-    let mut text = Vec::new(alloc);
+fn three_word_pages(rt: &(impl Abort + AllocGlobal)) -> Result<Vec<u8>, Fail> {
+    let mut text = Vec::new(rt.alloc());
     text.extend_from_slice(b"p sp 2 2047\n")?;
     for _ in 0..2047 {
         text.extend_from_slice(b"a 1 2 5\n")?;
@@ -350,7 +456,7 @@ pub fn three_word_pages(alloc: Global) -> Result<Vec<u8>, Fail> {
 
 #[test]
 fn steps_of_a_checkpoint(rt: HostRuntime) -> Result<(), Fail> {
-    let gr = three_word_pages(rt.alloc())?;
+    let gr = three_word_pages(&rt)?;
     let table: [(&str, &[u8], &[u8]); 6] = [
         (
             "flushes between steps",

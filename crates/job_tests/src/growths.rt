@@ -2,9 +2,8 @@
 // turn, up to a run in which none is refused.
 ghost use Rattle.std.specs.Prelude.{◌≤◌};
 
-use crate::rehearsing::CLOSED;
+use crate::rehearsing::{CLOSED, SIX};
 use dimacs::Code;
-use fixtures::SIX;
 use printing::Failed;
 use rehearsals::rehearse_text;
 use roadnet::{Command, Refusal};

@@ -1,5 +1,3 @@
-use crate::rehearsing::three_word_pages;
-use fixtures::Draws;
 use printing::Done;
 use rehearsals::rehearse_text;
 use std::process::Abort;
@@ -100,36 +98,40 @@ impl Numbers {
     }
 }
 
-/// A random script of 24 lines on this network, and what is told of it.
-fn random_script(
-    rt: &(impl Abort + AllocGlobal + Threads),
-    gr: &[u8],
-    draws: &mut Draws,
-) -> Result<(), Fail> {
-    let mut numbers = Numbers {
-        latest: 0,
-        durable: 0,
-        unchecked: 0,
-        going: None,
-    };
-    let mut script = Vec::new(rt.alloc());
-    let mut want = Vec::new(rt.alloc());
-    for _ in 0..24 {
-        numbers.line(rt, draws.draw() >> 7, &mut script, &mut want)?;
-    }
-    let mut out = Vec::new(rt.alloc());
-    let pages = JOURNAL_PAGES as u32;
-    let outcome = rehearse_text(rt, rt.alloc(), gr, &script, pages, None, &mut out);
-    assert!(rt; outcome == Ok(Done { delta: None }) && out == want);
-    Ok(())
-}
-
-/// A hundred random scripts of this seed, each on a network of three word pages.
+/// Random scripts from this seed on, each on a network of three word pages.
 fn random_scripts(rt: &(impl Abort + AllocGlobal + Threads), seed: u64) -> Result<(), Fail> {
-    let gr = three_word_pages(rt.alloc())?;
-    let mut draws = Draws::new(seed);
-    for _ in 0..100 {
-        random_script(rt, &gr, &mut draws)?;
+    let mut gr = Vec::new(rt.alloc());
+    gr.extend_from_slice(b"p sp 2 2047\n")?;
+    for _ in 0..2047 {
+        gr.extend_from_slice(b"a 1 2 5\n")?;
+    }
+    let mut random = seed;
+    for _ in 0..25 {
+        let mut numbers = Numbers {
+            latest: 0,
+            durable: 0,
+            unchecked: 0,
+            going: None,
+        };
+        let mut script = Vec::new(rt.alloc());
+        let mut want = Vec::new(rt.alloc());
+        for _ in 0..24 {
+            random = random
+                .wrapping_mul(6364136223846793005)
+                .wrapping_add(1442695040888963407);
+            numbers.line(rt, random >> 40, &mut script, &mut want)?;
+        }
+        let mut out = Vec::new(rt.alloc());
+        let outcome = rehearse_text(
+            rt,
+            rt.alloc(),
+            &gr,
+            &script,
+            JOURNAL_PAGES as u32,
+            None,
+            &mut out,
+        );
+        assert!(rt; outcome == Ok(Done { delta: None }) && out == want);
     }
     Ok(())
 }
@@ -142,4 +144,34 @@ fn random_scripts_of_seed_1(rt: HostRuntime) -> Result<(), Fail> {
 #[test]
 fn random_scripts_of_seed_2(rt: HostRuntime) -> Result<(), Fail> {
     random_scripts(&rt, 2)
+}
+
+#[test]
+fn random_scripts_of_seed_3(rt: HostRuntime) -> Result<(), Fail> {
+    random_scripts(&rt, 3)
+}
+
+#[test]
+fn random_scripts_of_seed_4(rt: HostRuntime) -> Result<(), Fail> {
+    random_scripts(&rt, 4)
+}
+
+#[test]
+fn random_scripts_of_seed_5(rt: HostRuntime) -> Result<(), Fail> {
+    random_scripts(&rt, 5)
+}
+
+#[test]
+fn random_scripts_of_seed_6(rt: HostRuntime) -> Result<(), Fail> {
+    random_scripts(&rt, 6)
+}
+
+#[test]
+fn random_scripts_of_seed_7(rt: HostRuntime) -> Result<(), Fail> {
+    random_scripts(&rt, 7)
+}
+
+#[test]
+fn random_scripts_of_seed_8(rt: HostRuntime) -> Result<(), Fail> {
+    random_scripts(&rt, 8)
 }

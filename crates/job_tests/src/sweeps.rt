@@ -1,0 +1,199 @@
+// A run with checkpoints between its flushes, stopped at each of its calls.
+ghost use Rattle.std.specs.Prelude.{◌≡◌, ◌<◌, length, true, IfOk};
+ghost use Rattle.store.specs.State.{is_calm};
+
+use disk::{Disk, FuseDisk, MemDisk, Pick, Stoppable};
+use keeper::Ledger;
+use roadnet::{Command, Network, Refusal, RoadArc};
+use std::alloc::Global;
+use std::test::Fail;
+use store::{Store, create, open};
+
+/// How many pages the journal has.
+const JOURNAL_PAGES: u32 = 3;
+
+/// How many rounds a run has: in each a `set` and a flush, in each second one a checkpoint.
+const ROUNDS: u64 = 40;
+
+fn arc(tail: u32, head: u32, length: u32) -> RoadArc {
+    RoadArc {
+        tail,
+        head,
+        length,
+        opened: true,
+    }
+}
+
+/// A disk with a new store of six nodes and eight arcs.
+fn six(alloc: Global) -> Result<MemDisk, Refusal> {
+    let arcs = [
+        arc(1, 2, 17),
+        arc(1, 3, 10),
+        arc(2, 4, 2),
+        arc(3, 5, 0),
+        arc(4, 3, 0),
+        arc(4, 6, 3),
+        arc(5, 2, 0),
+        arc(5, 6, 20),
+    ];
+    let network = Network::new(alloc, 6, Vec::from_slice(alloc, &arcs)?, &[])?;
+    match create(alloc, MemDisk::new(alloc), &network, JOURNAL_PAGES) {
+        Ok(store) => Ok(store.close()),
+        Err((refusal, _)) => Err(refusal),
+    }
+}
+
+/// The command of a round, counted from 0.
+fn command_of(round: u64) -> Command {
+    Command::Set {
+        arc: round % 8 + 1,
+        length: round.wrapping_add(1000),
+    }
+}
+
+/// Whether the network is that after so many rounds.
+fn is_after(network: &Network, rounds: u64) -> bool {
+    let mut lengths = [17, 10, 2, 0, 0, 3, 0, 20];
+    for round in 0..rounds {
+        lengths[(round % 8) as usize] = round.wrapping_add(1000);
+    }
+    let mut same = network.nodes() == 6 && network.arcs().len() == 8;
+    for (arc, length) in network.arcs().iter().zip(lengths) {
+        same = same && arc.opened && u64::from(arc.length) == length;
+    }
+    same
+}
+
+/// The store on a disk.
+fn opened<D: Disk + Drop>(alloc: Global, disk: D) -> Result<Store<D>, Refusal>
+    ensures { IfOk result (λ store. is_calm store ≡ true) }
+{
+    match open(alloc, disk) {
+        Ok(store) => Ok(store),
+        Err((refusal, _)) => Err(refusal),
+    }
+}
+
+/// Makes the pending commands durable, behind a checkpoint where the journal is full.
+fn flush<D: Disk>(ledger: &mut Ledger<D>) -> Result<u64, Refusal> {
+    match ledger.flush() {
+        Err(Refusal::JournalFull) => {
+            let _ = ledger.checkpoint()?;
+            ledger.flush()
+        }
+        told => told,
+    }
+}
+
+/// Runs the rounds from this one on, up to that one. Answers how many were acknowledged, and whether the disk failed.
+fn run<D: Disk>(ledger: &mut Ledger<D>, from: u64, to: u64) -> Result<(u64, bool), Refusal> {
+    for round in from..to {
+        let _ = ledger.submit(command_of(round))?;
+        match flush(ledger) {
+            Ok(_) => {}
+            Err(Refusal::Device) => return Ok((round, true)),
+            Err(refusal) => return Err(refusal),
+        }
+        if round % 2 == 1 {
+            match ledger.checkpoint() {
+                Ok(_) => {}
+                Err(Refusal::Device) => return Ok((round.wrapping_add(1), true)),
+                Err(refusal) => return Err(refusal),
+            }
+        }
+    }
+    Ok((to, false))
+}
+
+/// Opens this disk, runs the rounds from this one on, up to that one, on a disk that takes so many writes and syncs behind that of the opening,
+/// and stops. Answers the disk, the version that is then on it, and whether the disk failed. What was acknowledged is there, at most one
+/// round more is, and the network is that after so many rounds.
+fn stopped(
+    alloc: Global,
+    disk: MemDisk,
+    rounds: (u64, u64),
+    calls: u64,
+    picks: &[Pick],
+) -> Result<(MemDisk, u64, bool), Refusal>
+    requires { 0 < length picks.now }
+{
+    let fused = FuseDisk::new(disk, calls.saturating_add(1));
+    let mut ledger = match Ledger::new(alloc, opened(alloc, fused)?) {
+        Ok(ledger) => ledger,
+        Err((_, _)) => return Err(Refusal::OutOfMemory),
+    };
+    let (acknowledged, failed) = run(&mut ledger, rounds.0, rounds.1)?;
+    let (_, fused) = ledger.close();
+    let mut disk = fused.into_inner();
+    let _ = disk.stop(picks);
+    let store = opened(alloc, disk)?;
+    let version = store.version();
+    let most = if failed {
+        acknowledged.wrapping_add(1)
+    } else {
+        acknowledged
+    };
+    if version < acknowledged || version > most || !is_after(store.network(), version) {
+        return Err(Refusal::NotYet);
+    }
+    Ok((store.close(), version, failed))
+}
+
+/// Stops the run at each of its calls, and then the next rounds at each of theirs.
+fn sweep(alloc: Global, picks: &[Pick]) -> Result<u64, Refusal>
+    requires { 0 < length picks.now }
+{
+    for calls in 0..600u64 {
+        let (mut disk, mut version, failed) = stopped(
+            alloc,
+            six(alloc)?,
+            (0, ROUNDS),
+            calls,
+            picks,
+        )?;
+        if !failed {
+            return Ok(calls);
+        }
+        for more in 0..7u64 {
+            let next = version.saturating_add(1);
+            (disk, version, _) = stopped(alloc, disk, (version, next), more, picks)?;
+        }
+    }
+    Err(Refusal::NotYet)
+}
+
+/// A flush makes four writes and syncs, and a checkpoint at least five.
+fn takes_all_calls(alloc: Global, picks: &[Pick]) -> Result<(), Fail>
+    requires { 0 < length picks.now }
+{
+    match sweep(alloc, picks) {
+        Ok(calls) if calls >= 4 * 40 + 5 * 20 => Ok(()),
+        Ok(_) => Err(Fail::from(Refusal::NotYet)),
+        Err(refusal) => Err(Fail::from(refusal)),
+    }
+}
+
+#[test]
+fn stops_leave_old_bytes(rt: HostRuntime) -> Result<(), Fail> {
+    takes_all_calls(rt.alloc(), &[Pick::Old])
+}
+
+#[test]
+fn stops_leave_new_bytes(rt: HostRuntime) -> Result<(), Fail> {
+    takes_all_calls(rt.alloc(), &[Pick::New])
+}
+
+#[test]
+fn stops_leave_zeros(rt: HostRuntime) -> Result<(), Fail> {
+    takes_all_calls(rt.alloc(), &[Pick::Byte(0)])
+}
+
+#[test]
+fn stops_leave_open_gates(rt: HostRuntime) -> Result<(), Fail> {
+    takes_all_calls(rt.alloc(), &[Pick::Byte(165)])
+}
+
+#[test]
+fn stops_leave_old_and_new_bytes(rt: HostRuntime) -> Result<(), Fail> {
+    takes_all_calls(rt.alloc(), &[Pick::Old, Pick::New])
+}

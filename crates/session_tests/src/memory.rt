@@ -1,32 +1,33 @@
 // What a session answers where its desk, or one of its lines, finds no memory.
-use crate::serving::{Found, answers_of, left_by, session_over, settled_in};
+use crate::serving::{Found, answers_of, left_by, session_over, settled_in, store_of_six};
 use desk::{Gate, History};
-use fixtures::Attempts;
 use roadnet::Refusal;
 use std::alloc::Global;
 use std::marker::Brand;
 use std::sync::Wait;
+use std::sync::atomic::{AtomicU64, Ordering};
 use std::test::Fail;
 use std::thread::Threads;
 use std::time::Clock;
-use store_fixtures::store_of_six;
 
 /// So many attempts to flush, and to take a task, find no memory.
 #[derive(Drop)]
 struct Misses {
-    flushes: Attempts,
-    tasks: Attempts,
+    flushes: u64,
+    tasks: u64,
+    flushed: AtomicU64,
+    taken: AtomicU64,
 }
 
 impl Gate for Misses {
     fn before_row(&self, _worker: u32, _landmark: u32) {}
 
     fn before_flush(&self, _durable: u64) -> bool {
-        self.flushes.find()
+        self.flushed.fetch_add(1, Ordering::SeqCst) >= self.flushes
     }
 
     fn before_task(&self, _durable: u64) -> bool {
-        self.tasks.find()
+        self.taken.fetch_add(1, Ordering::SeqCst) >= self.tasks
     }
 
     fn before_step(&self, _version: u64) -> bool {
@@ -44,7 +45,7 @@ fn answers_past<R: Threads + Wait + Clock + Copy + Send + Sync + 'static>(
     gate: Misses,
     lines: &[u8],
 ) -> Result<Left, Refusal> {
-    let store = store_of_six(alloc, &[], 64)?;
+    let store = store_of_six(alloc)?;
     let history = History::new(store.network(), store.version());
     let mut input = lines;
     let mut output = Vec::new(alloc);
@@ -76,8 +77,10 @@ const MISSED: [(u64, u64, &[u8], u64, u64); 4] = [
 fn a_desk_that_finds_no_memory(rt: HostRuntime) -> Result<(), Fail> {
     for (flushes, tasks, want, accepted, durable) in MISSED {
         let gate = Misses {
-            flushes: Attempts::after(flushes),
-            tasks: Attempts::after(tasks),
+            flushes,
+            tasks,
+            flushed: AtomicU64::new(0),
+            taken: AtomicU64::new(0),
         };
         let lines = b"close 7\nwait\ndist 1 6\nclose 8\n";
         let (answers, left, version) = answers_past(rt, rt.alloc(), gate, lines)?;

@@ -1,13 +1,12 @@
-ghost use Rattle.std.specs.Prelude.{◌≡◌, true};
+ghost use Rattle.std.specs.Prelude.{◌≡◌, true, IfOk};
 ghost use Rattle.store.specs.State.{CameTidy, is_calm};
 ghost use Rattle.desk.specs.Openings.{IsNewDesk};
 
 use desk::{Closed, Desk, Gate, History, Naming, NoGate, Reader, Setup};
 use dimacs::Counted;
 use disk::{Disk, FailOnce, MemDisk};
-use fixtures::{FailingReader, FailingWriter};
 use printing::{CountedWriter, Failed};
-use roadnet::Refusal;
+use roadnet::{Network, Refusal, RoadArc};
 use sessions::serve;
 use std::alloc::Global;
 use std::io::{self, BufRead, BufReader, ErrorKind, Read, Write};
@@ -17,8 +16,40 @@ use std::sync::atomic::{AtomicBool, Ordering};
 use std::test::Fail;
 use std::thread::Threads;
 use std::time::Clock;
-use store::Store;
-use store_fixtures::{opened, store_of_six, version_on};
+use store::{Store, create, open};
+
+/// A new store of the network of the worked rows, with six nodes, eight arcs and these landmarks.
+pub(crate) fn store_of_six(alloc: Global) -> Result<Store<MemDisk>, Refusal>
+    ensures calm { IfOk result (λ store. is_calm store ≡ true) }
+{
+    let table = [
+        (1, 2, 17),
+        (1, 3, 10),
+        (2, 4, 2),
+        (3, 5, 0),
+        (4, 3, 0),
+        (4, 6, 3),
+        (5, 2, 0),
+        (5, 6, 20),
+    ];
+    let mut arcs = Vec::new(alloc);
+    for (tail, head, length) in table {
+        let arc = RoadArc {
+            tail,
+            head,
+            length,
+            opened: true,
+        };
+        if arcs.push(arc).is_err() {
+            return Err(Refusal::OutOfMemory);
+        }
+    }
+    let network = Network::new(alloc, 6, arcs, &[])?;
+    match create(alloc, MemDisk::new(alloc), &network, 64) {
+        Ok(store) => Ok(store),
+        Err((refusal, _)) => Err(refusal),
+    }
+}
 
 /// How a session ended: its outcome, how many calls of the reader and of the writer failed, and what the closed desk left.
 #[derive(Drop)]
@@ -101,7 +132,7 @@ fn session<R: Threads + Wait + Clock + Copy + Send + Sync + 'static, I: BufRead,
     input: &mut I,
     output: &mut W,
 ) -> Result<Ended<MemDisk>, Refusal> {
-    let store = store_of_six(alloc, &[], 64)?;
+    let store = store_of_six(alloc)?;
     let history = History::new(store.network(), store.version());
     session_over::<Brand, _, _, _, _, _>(rt, alloc, history, store, NoGate, found, input, output)
 }
@@ -123,123 +154,86 @@ pub(crate) fn answers_of<R: Threads + Wait + Clock + Copy + Send + Sync + 'stati
     Ok(output)
 }
 
-/// In what state a session finds its desk, its lines, and what it writes: the worked session, each kind of line and what is refused of each, line ends and bytes as no
-/// one writes them, a desk that is halted, which refuses commands and answers queries, and one that has no place for the session's reader, where commands are carried out all the
-/// same.
-const SESSIONS: [(Found, &[u8], &[u8]); 21] = [
+#[test]
+fn one_session(rt: HostRuntime) -> Result<(), Fail> {
+    let lines = b"close 7\nwait\ndist 1 6\nhello\nquit\n";
+    let answers = answers_of(rt, rt.alloc(), Found::Serving, lines)?;
+    assert!(rt; answers.as_slice() == b"ok 1\nv 1\nv 1\nd 1 6 22\nno 1\n".as_slice());
+    Ok(())
+}
+
+/// Each kind of line, and what is refused of each: lines, and what a session with them writes.
+const KINDS: [(&[u8], &[u8]); 12] = [
+    (b"", b""),
+    (b"quit", b""),
+    (b"\n \t\r\n# quit\n  #quit\n#\nquit\ndist 1 6\n", b""),
+    (b"wait\ndist 1 6\nwait", b"v 0\nv 0\nd 1 6 15\nv 0\n"),
     (
-        Found::Serving,
-        b"close 7\nwait\ndist 1 6\nhello\nquit\n",
-        b"ok 1\nv 1\nv 1\nd 1 6 22\nno 1\n",
-    ),
-    (Found::Serving, b"", b""),
-    (Found::Serving, b"quit", b""),
-    (
-        Found::Serving,
-        b"\n \t\r\n# quit\n  #quit\n#\nquit\ndist 1 6\n",
-        b"",
-    ),
-    (
-        Found::Serving,
-        b"wait\ndist 1 6\nwait",
-        b"v 0\nv 0\nd 1 6 15\nv 0\n",
-    ),
-    (
-        Found::Serving,
         b"dist 6 1\ndist 4 4\ndist 1 7\n",
         b"v 0\nx 6 1\nv 0\nd 4 4 0\nv 0\nno 24\n",
     ),
     (
-        Found::Serving,
         b"mark 3\nwait\nlower 5 6\ndist 5 6\nlower 5 1\nfrom 3 4\nfrom 1 4\n",
         b"ok 1\nv 1\nv 1\nb 5 6 5\nv 1\nd 5 6 5\nv 1\nx 5 1\nv 1\nd 3 4 2\nv 1\nno 26\n",
     ),
     (
-        Found::Serving,
         b"close 7\nset 8 4\nwait\ndist 1 6\nreopen 7\nwait\ndist 1 6\n",
         b"ok 1\nok 2\nv 2\nv 2\nd 1 6 14\nok 3\nv 3\nv 3\nd 1 6 14\n",
     ),
     (
-        Found::Serving,
         b"set 9 1\nset 1 2147483648\nset 9 2147483648\nmark 7\nunmark 3\nreopen 7\n",
         b"no 20\nno 21\nno 20\nno 24\nno 26\nno 23\n",
     ),
     (
-        Found::Serving,
         b"close 7\nclose 7\nmark 3\nmark 3\nunmark 3\n",
         b"ok 1\nno 22\nok 2\nno 25\nok 3\n",
     ),
     (
-        Found::Serving,
         b"close\nclose 1 2\nset 1\nset 1 2 3\nwait 1\nquit now\nCLOSE 7\nclosed 7\nclos 7\nt 1\nc 7\n",
         b"no 1\nno 1\nno 1\nno 1\nno 1\nno 1\nno 1\nno 1\nno 1\nno 1\nno 1\n",
     ),
     (
-        Found::Serving,
         b"close -\nclose 1-\nclose --1\nclose +1\nclose 1.0\nset 1 x\nset x 1\nflush\ncheckpoint\nstop\n",
         b"no 1\nno 1\nno 1\nno 1\nno 1\nno 1\nno 1\nno 1\nno 1\nno 1\n",
     ),
     (
-        Found::Serving,
         b"close -1\nclose -0\nclose 9223372036854775808\nclose 9223372036854775807\nset 1 99999999999999999999\nset 99999999999999999999 x\n",
         b"no 5\nno 5\nno 5\nno 20\nno 5\nno 1\n",
     ),
-    (
-        Found::Serving,
-        b"close 7\r\nwait\r\nquit\r\n",
-        b"ok 1\nv 1\n",
-    ),
-    (Found::Serving, b"\tclose \t 7 \r", b"ok 1\n"),
-    (
-        Found::Serving,
-        b"close 7\r\r\nclose 7 \r \n\rwait\n",
-        b"no 1\nno 1\nno 1\n",
-    ),
-    (
-        Found::Serving,
-        b"close\x007\nclose 7\x00\n\x00\n\x00wait\n",
-        b"no 1\nno 1\nno 1\nno 1\n",
-    ),
-    (
-        Found::Serving,
-        b"\xffclose 7\n\xc3\xa9\nclose \xb27\n",
-        b"no 1\nno 1\nno 1\n",
-    ),
-    (
-        Found::Serving,
-        b"close 0000000000000000000000000000000007\nwait\ndist 01 006\n",
-        b"ok 1\nv 1\nv 1\nd 1 6 22\n",
-    ),
-    (
-        Found::Halted,
-        b"close 7\nwait\ndist 1 6\n",
-        b"no 61\nv 0\nv 0\nd 1 6 15\n",
-    ),
-    (
-        Found::Crowded,
-        b"dist 1 6\nclose 7\nwait\nlower 1 6\n",
-        b"no 60\nok 1\nno 60\nno 60\n",
-    ),
 ];
 
-/// Whether a session that finds its desk so writes this at these lines.
-fn is_answered<R: Threads + Wait + Clock + Copy + Send + Sync + 'static>(
-    rt: R,
-    alloc: Global,
-    found: Found,
-    lines: &[u8],
-    want: &[u8],
-) -> Result<bool, Refusal> {
-    Ok(answers_of(rt, alloc, found, lines)?.as_slice() == want)
+#[test]
+fn each_kind_of_line(rt: HostRuntime) -> Result<(), Fail> {
+    for (lines, want) in KINDS {
+        let answers = answers_of(rt, rt.alloc(), Found::Serving, lines)?;
+        assert!(rt; answers.as_slice() == want, "{lines:?}");
+    }
+    Ok(())
 }
 
+/// Line ends and bytes as no one writes them.
 #[test]
-fn each_session_is_answered(rt: HostRuntime) -> Result<(), Fail> {
-    for (found, lines, want) in SESSIONS {
-        assert!(rt;
-            is_answered(rt, rt.alloc(), found, lines, want)?,
-            "{lines:?}"
-        );
+fn odd_bytes(rt: HostRuntime) -> Result<(), Fail> {
+    let table: [(&[u8], &[u8]); 6] = [
+        (b"close 7\r\nwait\r\nquit\r\n", b"ok 1\nv 1\n"),
+        (b"\tclose \t 7 \r", b"ok 1\n"),
+        (b"close 7\r\r\nclose 7 \r \n\rwait\n", b"no 1\nno 1\nno 1\n"),
+        (
+            b"close\x007\nclose 7\x00\n\x00\n\x00wait\n",
+            b"no 1\nno 1\nno 1\nno 1\n",
+        ),
+        (
+            b"\xffclose 7\n\xc3\xa9\nclose \xb27\n",
+            b"no 1\nno 1\nno 1\n",
+        ),
+        (
+            b"close 0000000000000000000000000000000007\nwait\ndist 01 006\n",
+            b"ok 1\nv 1\nv 1\nd 1 6 22\n",
+        ),
+    ];
+    for (lines, want) in table {
+        let answers = answers_of(rt, rt.alloc(), Found::Serving, lines)?;
+        assert!(rt; answers.as_slice() == want, "{lines:?}");
     }
     Ok(())
 }
@@ -280,23 +274,41 @@ fn lines_of_ten_million_bytes(rt: HostRuntime) -> Result<(), Fail> {
     ];
     for (front, byte, count, back, want) in table {
         let text = long_line(rt.alloc(), front, byte, count, back)?;
-        let answered = is_answered(rt, rt.alloc(), Found::Serving, &text, want)?;
-        assert!(rt; answered, "{front:?} {byte}");
+        let answers = answers_of(rt, rt.alloc(), Found::Serving, &text)?;
+        assert!(rt; answers.as_slice() == want, "{front:?} {byte}");
     }
     Ok(())
 }
 
-/// How a session over a store whose first flush fails ends, and what it writes.
-fn broken<R: Threads + Wait + Clock + Copy + Send + Sync + 'static>(
-    rt: R,
-    alloc: Global,
-    lines: &[u8],
-) -> Result<(Result<(), Failed>, Vec<u8>), Refusal> {
+/// A desk that is halted refuses commands, and answers queries.
+#[test]
+fn a_halted_desk(rt: HostRuntime) -> Result<(), Fail> {
+    let lines = b"close 7\nwait\ndist 1 6\n";
+    let answers = answers_of(rt, rt.alloc(), Found::Halted, lines)?;
+    assert!(rt; answers.as_slice() == b"no 61\nv 0\nv 0\nd 1 6 15\n".as_slice());
+    Ok(())
+}
+
+/// Where the desk has no place for the session's reader, commands are carried out all the same.
+#[test]
+fn no_place_for_a_reader(rt: HostRuntime) -> Result<(), Fail> {
+    let lines = b"dist 1 6\nclose 7\nwait\nlower 1 6\n";
+    let answers = answers_of(rt, rt.alloc(), Found::Crowded, lines)?;
+    assert!(rt; answers.as_slice() == b"no 60\nok 1\nno 60\nno 60\n".as_slice());
+    Ok(())
+}
+
+/// Where the disk failed, no command is taken, and queries are answered from the version that is shown.
+#[test]
+fn a_broken_store(rt: HostRuntime) -> Result<(), Fail> {
+    let alloc = rt.alloc();
+    let disk = store_of_six(alloc)?.close();
     // Opening makes nine calls of this disk, and the flush fails in its third.
-    let disk = FailOnce::new(store_of_six(alloc, &[], 64)?.close(), 12);
-    let store = opened(alloc, disk)?;
+    let Ok(store) = open(alloc, FailOnce::new(disk, 12)) else {
+        return Err(Fail::from("a store"));
+    };
     let history = History::new(store.network(), store.version());
-    let mut input = lines;
+    let mut input = b"close 7\nwait\ndist 1 6\nclose 8\n".as_slice();
     let mut output = Vec::new(alloc);
     let ended = session_over::<Brand, _, _, _, _, _>(
         rt,
@@ -308,16 +320,57 @@ fn broken<R: Threads + Wait + Clock + Copy + Send + Sync + 'static>(
         &mut input,
         &mut output,
     )?;
-    Ok((ended.outcome, output))
-}
-
-/// Where the disk failed, no command is taken, and queries are answered from the version that is shown.
-#[test]
-fn a_broken_store(rt: HostRuntime) -> Result<(), Fail> {
-    let (outcome, output) = broken(rt, rt.alloc(), b"close 7\nwait\ndist 1 6\nclose 8\n")?;
-    assert!(rt; outcome == Ok(()));
+    assert!(rt; ended.outcome == Ok(()));
     assert!(rt; output.as_slice() == b"no 45\nno 45\nv 0\nd 1 6 15\nno 45\n".as_slice());
     Ok(())
+}
+
+/// A reader whose n-th read fails.
+#[derive(Drop)]
+struct FailingReader<'a> {
+    bytes: &'a [u8],
+    reads: u32,
+}
+
+impl Read for FailingReader<'_> {
+    fn read(&mut self, buf: &mut [u8]) -> io::Result<usize> {
+        self.reads = self.reads.wrapping_sub(1);
+        if self.reads == 0 {
+            return Err(io::Error::from(ErrorKind::BrokenPipe));
+        }
+        self.bytes.read(buf)
+    }
+}
+
+/// A writer whose n-th call fails.
+#[derive(Drop)]
+struct FailingWriter {
+    calls: u32,
+    written: Vec<u8>,
+}
+
+impl FailingWriter {
+    /// Whether this call fails.
+    fn fails(&mut self) -> bool {
+        self.calls = self.calls.wrapping_sub(1);
+        self.calls == 0
+    }
+}
+
+impl Write for FailingWriter {
+    fn write(&mut self, buf: &[u8]) -> io::Result<usize> {
+        if self.fails() {
+            return Err(io::Error::from(ErrorKind::BrokenPipe));
+        }
+        self.written.write(buf)
+    }
+
+    fn flush(&mut self) -> io::Result<()> {
+        if self.fails() {
+            return Err(io::Error::from(ErrorKind::BrokenPipe));
+        }
+        Ok(())
+    }
 }
 
 /// Lines of a session whose reader or writer fails: four of them are commands that are accepted.
@@ -389,85 +442,82 @@ pub(crate) fn left_by(alloc: Global, closed: Closed<MemDisk>) -> Result<(u64, u6
         journal_pages: _,
         whole: _,
     } = closed;
-    Ok((history.len() as u64, version_on(alloc, disk)?))
+    match open(alloc, disk) {
+        Ok(store) => Ok((history.len() as u64, store.version())),
+        Err((refusal, _)) => Err(refusal),
+    }
 }
 
-/// What a session came to: its outcome, how many calls of its reader and of its writer failed, how many commands it told as durable, how many the
-/// desk accepted, and the version that the next opening finds.
-#[derive(Drop)]
-struct Came {
-    outcome: Result<(), Failed>,
-    failed_reads: u64,
-    failed_writes: u64,
-    settled: u64,
-    accepted: u64,
-    version: u64,
-}
-
-/// The reader of a session fails at this read, its writer at this call.
-fn come_of<R: Threads + Wait + Clock + Copy + Send + Sync + 'static>(
-    rt: R,
-    alloc: Global,
-    reads: u32,
-    calls: u32,
-) -> Result<Came, Refusal> {
-    let Ok(mut input) = BufReader::with_capacity(alloc, 3, FailingReader::new(LINES, reads)) else {
-        return Err(Refusal::OutOfMemory);
-    };
-    let mut output = FailingWriter::new(alloc, calls);
-    let Ended {
-        outcome,
-        failed_reads,
-        failed_writes,
-        is_kept: _,
-        closed,
-    } = session(rt, alloc, Found::Serving, &mut input, &mut output)?;
-    let (accepted, version) = left_by(alloc, closed)?;
-    Ok(Came {
-        outcome,
-        failed_reads,
-        failed_writes,
-        settled: settled_in(&output.written),
-        accepted,
-        version,
-    })
-}
-
-/// The reader fails at each of its calls in turn: the session ends with 10, and what was told is there. The lines have 60 bytes: 20 reads give
-/// them, and one more the end.
+/// The reader fails at each of its calls in turn: the session ends with 10, and what was told is there.
 #[test]
 fn reader_fails_at_each_call(rt: HostRuntime) -> Result<(), Fail> {
+    let alloc = rt.alloc();
+    let mut failed = 0u32;
     for reads in 1..40 {
-        let came = come_of(rt, rt.alloc(), reads, 0)?;
-        let told = if reads < 22 {
-            came.failed_reads == 1 && came.outcome == Err(Failed::Code(Refusal::Read))
-        } else {
-            came.failed_reads == 0 && came.outcome == Ok(())
+        let failing = FailingReader {
+            bytes: LINES,
+            reads,
         };
-        assert!(rt; told && came.failed_writes == 0, "read {reads}");
-        assert!(rt;
-            came.accepted == came.settled && came.version == came.settled,
-            "read {reads}"
-        );
+        let mut input = BufReader::with_capacity(alloc, 3, failing)?;
+        let mut output = Vec::new(alloc);
+        let Ended {
+            outcome,
+            failed_reads,
+            failed_writes,
+            is_kept: _,
+            closed,
+        } = session(rt, alloc, Found::Serving, &mut input, &mut output)?;
+        let (accepted, version) = left_by(alloc, closed)?;
+        if failed_reads == 0 {
+            assert!(rt; outcome == Ok(()), "read {reads}");
+        } else {
+            failed = failed.saturating_add(1);
+            assert!(rt; outcome == Err(Failed::Code(Refusal::Read)), "read {reads}");
+            assert_eq!(rt; failed_reads, 1);
+        }
+        assert_eq!(rt; failed_writes, 0);
+        let settled = settled_in(&output);
+        assert_eq!(rt; accepted, settled);
+        assert_eq!(rt; version, settled);
     }
+    // The lines have 60 bytes: 20 reads give them, and one more the end.
+    assert_eq!(rt; failed, 21);
     Ok(())
 }
 
 /// The writer fails at each of its calls in turn: the session ends with 12, and what was told is there.
 #[test]
 fn writer_fails_at_each_call(rt: HostRuntime) -> Result<(), Fail> {
+    let alloc = rt.alloc();
     let mut failed = 0u32;
     for calls in 1..60 {
-        let came = come_of(rt, rt.alloc(), 0, calls)?;
-        let told = if came.failed_writes == 0 {
-            came.outcome == Ok(()) && came.settled == 4
+        let mut input = LINES;
+        let mut output = FailingWriter {
+            calls,
+            written: Vec::new(alloc),
+        };
+        let Ended {
+            outcome,
+            failed_reads,
+            failed_writes,
+            is_kept: _,
+            closed,
+        } = session(rt, alloc, Found::Serving, &mut input, &mut output)?;
+        let (accepted, version) = left_by(alloc, closed)?;
+        if failed_writes == 0 {
+            assert!(rt; outcome == Ok(()), "call {calls}");
+            assert_eq!(rt; settled_in(&output.written), 4);
         } else {
             failed = failed.saturating_add(1);
-            came.failed_writes == 1 && came.outcome == Err(Failed::Code(Refusal::Write))
-        };
-        assert!(rt; told && came.failed_reads == 0, "call {calls}");
-        assert!(rt; came.settled <= came.version, "call {calls}");
-        assert!(rt; came.accepted == came.version, "call {calls}");
+            assert!(rt;
+                outcome == Err(Failed::Code(Refusal::Write)),
+                "call {calls}"
+            );
+            assert_eq!(rt; failed_writes, 1);
+        }
+        assert_eq!(rt; failed_reads, 0);
+        assert!(rt; settled_in(&output.written) <= version, "call {calls}");
+        assert_eq!(rt; accepted, version);
     }
     assert!(rt; failed > 20 && failed < 59, "{failed}");
     Ok(())

@@ -1,4 +1,4 @@
-use fixtures::network;
+use crate::keeping::network;
 use history::History;
 use machine::Ticket;
 use roadnet::Command;
@@ -10,7 +10,7 @@ const REOPEN: Command = Command::Reopen { arc: 1 };
 
 #[test]
 fn a_receipt_is_confirmed(rt: HostRuntime) -> Result<(), Fail> {
-    let network = network(rt.alloc(), 2, &[(1, 2, 5)], &[]).map_err(|_| Fail::from("a network"))?;
+    let network = network(rt.alloc(), 2, &[(1, 2, 5)]).map_err(|_| Fail::from("a network"))?;
     let mut history = History::new(&network, 7);
     let none = history.front(0);
     let first = history.write(CLOSE);

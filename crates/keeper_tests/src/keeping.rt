@@ -1,278 +1,348 @@
-ghost use Rattle.std.specs.Prelude.{IfOk};
+ghost use Rattle.std.specs.Prelude.{◌≡◌, ◌≤◌, true, IfOk};
+ghost use Rattle.store.specs.State.{is_calm};
 ghost use Rattle.machine.specs.Calls.{IsTicketOf};
 
-use crate::playing::{Call, Told, Wrong, keeper_of_six, keeper_on, plays, reopened};
 use disk::{Disk, FailOnce, MemDisk, Pick, Stoppable};
-use fixtures::parallel;
 use keeper::Keeper;
 use machine::{Receipt, Ticket};
-use roadnet::{Command, Refusal};
-use rows::Reply;
+use relax::Solo;
+use roadnet::{Command, Network, Refusal, RoadArc};
+use rows::{Query, Reply, View};
 use std::alloc::Global;
+use std::sync::Arc;
 use std::test::Fail;
 use std::thread::Threads;
+use store::{Part, Store, create, open};
 
-const CLOSE: Command = Command::Close { arc: 7 };
+pub(crate) const CLOSE: Command = Command::Close { arc: 7 };
 
-const OPEN: Command = Command::Reopen { arc: 7 };
+pub(crate) const OPEN: Command = Command::Reopen { arc: 7 };
 
 // It leaves the network as it is.
 const SAME: Command = Command::Set { arc: 1, length: 17 };
 
-// Calls of a keeper, with what it tells.
-type Calls = &'static [(Call, Told)];
-
-const CLOSED_ARC_LENGTHENS: Calls = &[
-    (Call::Submit(CLOSE), Told::Number(1)),
-    (Call::Flush, Told::Number(1)),
-    (Call::Dist(1, 6), Told::Reply(0, Reply::Length(15))),
-    (Call::Show, Told::Number(1)),
-    (Call::Dist(1, 6), Told::Reply(1, Reply::Length(22))),
-];
-
-const SHORTER_LENGTH_SHORTENS: Calls = &[
-    (Call::Submit(CLOSE), Told::Number(1)),
-    (Call::Flush, Told::Number(1)),
-    (Call::Show, Told::Number(1)),
-    (Call::Dist(1, 6), Told::Reply(1, Reply::Length(22))),
-    (
-        Call::Submit(Command::Set { arc: 8, length: 4 }),
-        Told::Number(2),
-    ),
-    (Call::Flush, Told::Number(2)),
-    (Call::Show, Told::Number(2)),
-    (Call::Dist(1, 6), Told::Reply(2, Reply::Length(14))),
-    (Call::Submit(OPEN), Told::Number(3)),
-    (Call::Flush, Told::Number(3)),
-    (Call::Show, Told::Number(3)),
-    (Call::Dist(1, 6), Told::Reply(3, Reply::Length(14))),
-];
-
-const SECOND_CLOSE_REFUSED: Calls = &[
-    (Call::Submit(CLOSE), Told::Number(1)),
-    (Call::Submit(CLOSE), Told::Refused(Refusal::AlreadyClosed)),
-    (Call::Flush, Told::Number(1)),
-    (Call::Flush, Told::Refused(Refusal::NothingPending)),
-];
-
-// A length beyond the greatest.
-const BEYOND: u64 = 2147483648;
-
-const REFUSALS_OF_COMMANDS: Calls = &[
-    (
-        Call::Submit(Command::Set { arc: 9, length: 1 }),
-        Told::Refused(Refusal::NoSuchArc),
-    ),
-    (
-        Call::Submit(Command::Set {
-            arc: 1,
-            length: BEYOND,
-        }),
-        Told::Refused(Refusal::LengthRange),
-    ),
-    (
-        Call::Submit(Command::Set {
-            arc: 9,
-            length: BEYOND,
-        }),
-        Told::Refused(Refusal::NoSuchArc),
-    ),
-    (
-        Call::Submit(Command::Mark { node: 7 }),
-        Told::Refused(Refusal::NoSuchNode),
-    ),
-    (
-        Call::Submit(Command::Unmark { node: 3 }),
-        Told::Refused(Refusal::NotALandmark),
-    ),
-    (Call::Submit(OPEN), Told::Refused(Refusal::AlreadyOpen)),
-    (Call::Pending, Told::Number(0)),
-    (Call::Durable, Told::Number(0)),
-    (Call::Shown, Told::Number(0)),
-];
-
-const QUEUE_IS_FULL_AT_4096: Calls = &[
-    (Call::Fill(4096, SAME), Told::Number(4096)),
-    (Call::Submit(SAME), Told::Refused(Refusal::QueueFull)),
-    // It is told before what the command would be refused for.
-    (Call::Submit(OPEN), Told::Refused(Refusal::QueueFull)),
-    (Call::Flush, Told::Number(253)),
-    (Call::Submit(SAME), Told::Number(4097)),
-];
-
-const BOUNDS_OF_LANDMARKS: Calls = &[
-    (Call::Submit(Command::Mark { node: 1 }), Told::Number(1)),
-    (Call::Submit(Command::Mark { node: 3 }), Told::Number(2)),
-    (Call::Flush, Told::Number(2)),
-    (Call::Lower(4, 1), Told::Reply(0, Reply::AtLeast(0))),
-    (Call::Show, Told::Number(2)),
-    (Call::Lower(1, 6), Told::Reply(2, Reply::AtLeast(15))),
-    (Call::Lower(5, 2), Told::Reply(2, Reply::AtLeast(0))),
-    (Call::Lower(4, 1), Told::Reply(2, Reply::NoWalk)),
-];
-
-const ANOTHER_VIEW_IS_REFUSED: Calls = &[
-    (Call::Offer(1, false), Told::Refused(Refusal::NoTask)),
-    (Call::Submit(CLOSE), Told::Number(1)),
-    (Call::Task, Told::Nothing),
-    (Call::Flush, Told::Number(1)),
-    (Call::Task, Told::Number(1)),
-    (Call::Task, Told::Nothing),
-    // The task's version with the network before it, and its network at another version.
-    (Call::Offer(1, false), Told::Refused(Refusal::OtherNetwork)),
-    (Call::Offer(2, true), Told::Refused(Refusal::OtherNetwork)),
-    (Call::GiveUp(2), Told::Nothing),
-    (Call::Task, Told::Nothing),
-    (Call::GiveUp(1), Told::Nothing),
-    (Call::Offer(1, true), Told::Refused(Refusal::NoTask)),
-    (Call::Show, Told::Number(1)),
-];
-
-#[test]
-fn worked_rows_of_a_keeper(rt: HostRuntime) -> Result<(), Refusal> {
-    let table = [
-        ("closed_arc_lengthens", CLOSED_ARC_LENGTHENS),
-        ("shorter_length_shortens", SHORTER_LENGTH_SHORTENS),
-        ("second_close_refused", SECOND_CLOSE_REFUSED),
-        ("refusals_of_commands", REFUSALS_OF_COMMANDS),
-        ("queue_is_full_at_4096", QUEUE_IS_FULL_AT_4096),
-        ("bounds_of_landmarks", BOUNDS_OF_LANDMARKS),
-        ("another_view_is_refused", ANOTHER_VIEW_IS_REFUSED),
-    ];
-    for (name, calls) in table {
-        let mut keeper = keeper_of_six(&rt, rt.alloc(), 64)?;
-        let played = plays(&rt, rt.alloc(), &mut keeper, calls);
-        assert!(rt; played.is_ok(), "{name}: {played:?}");
-    }
-    Ok(())
+// A call of a keeper.
+#[derive(Clone, Copy)]
+enum Call {
+    Submit(Command),
+    // A command is submitted so many times. The last number is told, or the first refusal.
+    Fill(u64, Command),
+    Flush,
+    // A step of a checkpoint, of 64 pages.
+    Step,
+    Task,
+    GiveUp(u64),
+    // A task is taken, and the view of it shown.
+    Show,
+    // A view of this version and of the network of the worked rows is offered, with the seventh arc closed or not.
+    Offer(u64, bool),
+    Dist(u64, u64),
+    Lower(u64, u64),
+    Pending,
+    Durable,
+    Shown,
+    Unchecked,
+    JournalPages,
 }
 
-#[test]
-fn parallel_arcs_and_loops(rt: HostRuntime) -> Result<(), Fail> {
-    let table = [
-        (Call::Dist(1, 2), Told::Reply(0, Reply::Length(3))),
-        (Call::Submit(Command::Close { arc: 2 }), Told::Number(1)),
-        (Call::Flush, Told::Number(1)),
-        (Call::Show, Told::Number(1)),
-        (Call::Dist(1, 2), Told::Reply(1, Reply::Length(5))),
-    ];
-    let mut keeper = keeper_on(&rt, rt.alloc(), &parallel(rt.alloc())?)?;
-    plays(&rt, rt.alloc(), &mut keeper, &table)?;
-    Ok(())
+// What a keeper tells.
+#[derive(Clone, Copy, Debug, PartialEq)]
+enum Told {
+    Number(u64),
+    // A reply, with its version.
+    Reply(u64, Reply),
+    Nothing,
+    Refused(Refusal),
 }
 
-// A life of a keeper: how many pages its journal has, at which write or sync it is cut (at none where that is 0), its calls, how many commands it has accepted then, and
-// the calls of the next life behind a stop with a pick.
-struct Life {
-    name: &'static str,
-    journal_pages: u32,
-    armed: u64,
-    calls: Calls,
-    accepted: usize,
-    pick: Pick,
-    next: Calls,
+// The first call that was told something else, and what; or why there is no keeper.
+#[derive(Clone, Copy, Debug)]
+struct Wrong {
+    at: usize,
+    told: Told,
 }
 
-const LIVES: [Life; 3] = [
-    Life {
-        name: "full_page_of_commands",
-        journal_pages: 64,
-        armed: 0,
-        calls: &[
-            (Call::Fill(254, SAME), Told::Number(254)),
-            (Call::Flush, Told::Number(253)),
-            (Call::Pending, Told::Number(1)),
-            (Call::Durable, Told::Number(253)),
-            (Call::Shown, Told::Number(0)),
-        ],
-        accepted: 254,
-        pick: Pick::New,
-        next: &[
-            (Call::Pending, Told::Number(0)),
-            (Call::Durable, Told::Number(253)),
-            (Call::Shown, Told::Number(253)),
-        ],
-    },
-    Life {
-        name: "checkpoint_frees_the_journal",
-        journal_pages: 2,
-        armed: 0,
-        calls: &[
-            (Call::Step, Told::Number(0)),
-            (Call::Submit(SAME), Told::Number(1)),
-            (Call::Flush, Told::Number(1)),
-            (
-                Call::Submit(Command::Set { arc: 1, length: 2 }),
-                Told::Number(2),
-            ),
-            (Call::Flush, Told::Number(2)),
-            (Call::Unchecked, Told::Number(2)),
-            (Call::JournalPages, Told::Number(2)),
-            (Call::Submit(CLOSE), Told::Number(3)),
-            (Call::Flush, Told::Refused(Refusal::JournalFull)),
-            (Call::Step, Told::Number(2)),
-            (Call::Unchecked, Told::Number(0)),
-            (Call::Flush, Told::Number(3)),
-        ],
-        accepted: 3,
-        pick: Pick::Old,
-        next: &[
-            (Call::Unchecked, Told::Number(1)),
-            (Call::JournalPages, Told::Number(2)),
-            (Call::Dist(1, 6), Told::Reply(3, Reply::Length(7))),
-        ],
-    },
-    Life {
-        name: "armed_flush_fails",
-        journal_pages: 64,
-        armed: 3,
-        calls: &[
-            (Call::Submit(CLOSE), Told::Number(1)),
-            (Call::Flush, Told::Refused(Refusal::Device)),
-        ],
-        accepted: 1,
-        pick: Pick::Old,
-        next: &[
-            (Call::Pending, Told::Number(0)),
-            (Call::Durable, Told::Number(0)),
-            (Call::Shown, Told::Number(0)),
-        ],
-    },
-];
-
-// How many commands a life accepted, and whether it was cut.
-fn lived<R: Threads>(rt: &R, alloc: Global, life: &Life) -> Result<(usize, bool), Wrong> {
-    if life.journal_pages < 1 || life.journal_pages > 65536 {
-        return Err(Wrong::no_keeper(Refusal::NumberRange));
-    }
-    let mut keeper = keeper_of_six(rt, alloc, life.journal_pages).map_err(|why| Wrong::no_keeper(
-        why,
-    ))?;
-    if life.armed > 0 {
-        keeper.arm(life.armed);
-    }
-    plays(rt, alloc, &mut keeper, life.calls)?;
-    let (history, mut disk) = keeper.close();
-    let came = disk.stop(&[life.pick]);
-    let mut keeper = reopened(rt, alloc, disk).map_err(|why| Wrong::no_keeper(why))?;
-    plays(rt, alloc, &mut keeper, life.next)?;
-    Ok((history.len(), came))
-}
-
-#[test]
-fn lives_of_a_keeper(rt: HostRuntime) {
-    for life in &LIVES {
-        let name = life.name;
-        match lived(&rt, rt.alloc(), life) {
-            Ok((accepted, came)) => {
-                assert!(rt;
-                    accepted == life.accepted && came == (life.armed > 0),
-                    "{name}"
-                );
-            }
-            Err(wrong) => assert!(rt; false, "{name}: {wrong:?}"),
+// A network of these arcs, without landmarks.
+pub(crate) fn network(
+    alloc: Global,
+    nodes: u32,
+    table: &[(u32, u32, u32)],
+) -> Result<Network, Refusal> {
+    let mut arcs = Vec::new(alloc);
+    for (tail, head, length) in table {
+        let arc = RoadArc {
+            tail: *tail,
+            head: *head,
+            length: *length,
+            opened: true,
+        };
+        if arcs.push(arc).is_err() {
+            return Err(Refusal::OutOfMemory);
         }
     }
+    Network::new(alloc, nodes, arcs, &[])
+}
+
+// The network of the worked rows: six nodes and eight arcs.
+pub(crate) fn six(alloc: Global) -> Result<Network, Refusal> {
+    let table = [
+        (1, 2, 17),
+        (1, 3, 10),
+        (2, 4, 2),
+        (3, 5, 0),
+        (4, 3, 0),
+        (4, 6, 3),
+        (5, 2, 0),
+        (5, 6, 20),
+    ];
+    network(alloc, 6, &table)
+}
+
+// A keeper of a store.
+fn keeper_of<R: Threads, D: Disk + Drop>(
+    rt: &R,
+    alloc: Global,
+    store: Store<D>,
+) -> Result<Keeper<D>, Refusal>
+    requires { is_calm store ≡ true }
+{
+    match Keeper::new(rt, alloc, store, None) {
+        Ok(keeper) => Ok(keeper),
+        Err((_, _)) => Err(Refusal::OutOfMemory),
+    }
+}
+
+// A keeper of a new store of this network.
+fn keeper<R: Threads>(
+    rt: &R,
+    alloc: Global,
+    network: &Network,
+    journal_pages: u32,
+) -> Result<Keeper<MemDisk>, Refusal>
+    requires some { 1 ≤ journal_pages }
+    requires few { journal_pages ≤ 65536 }
+{
+    match create(alloc, MemDisk::new(alloc), network, journal_pages) {
+        Ok(store) => keeper_of(rt, alloc, store),
+        Err((refusal, _)) => Err(refusal),
+    }
+}
+
+// A keeper of a new store of the network of the worked rows.
+fn keeper_of_six<R: Threads>(
+    rt: &R,
+    alloc: Global,
+    journal_pages: u32,
+) -> Result<Keeper<MemDisk>, Refusal>
+    requires some { 1 ≤ journal_pages }
+    requires few { journal_pages ≤ 65536 }
+{
+    let network = six(alloc)?;
+    keeper(rt, alloc, &network, journal_pages)
+}
+
+// A keeper of what this disk has.
+fn reopened<R: Threads, D: Disk + Drop>(
+    rt: &R,
+    alloc: Global,
+    disk: D,
+) -> Result<Keeper<D>, Refusal> {
+    match open(alloc, disk) {
+        Ok(store) => keeper_of(rt, alloc, store),
+        Err((refusal, _)) => Err(refusal),
+    }
+}
+
+// A keeper of what a stop with this pick leaves of the keeper's disk, how many commands it had accepted, and whether an armed call came.
+fn stopped<R: Threads, D: Stoppable + Drop>(
+    rt: &R,
+    alloc: Global,
+    keeper: Keeper<D>,
+    pick: Pick,
+) -> (Result<Keeper<D>, Refusal>, usize, bool) {
+    let (history, mut disk) = keeper.close();
+    let came = disk.stop(&[pick]);
+    (reopened(rt, alloc, disk), history.len(), came)
+}
+
+// A view of this network.
+fn view(alloc: Global, version: u64, network: Network) -> Result<Arc<View>, Refusal> {
+    let Ok(view) = View::build(alloc, version, network, None, &Solo) else {
+        return Err(Refusal::OutOfMemory);
+    };
+    match Arc::new(alloc, view) {
+        Ok(view) => Ok(view),
+        Err(_) => Err(Refusal::OutOfMemory),
+    }
+}
+
+fn number(told: Result<u64, Refusal>) -> Told {
+    match told {
+        Ok(number) => Told::Number(number),
+        Err(refusal) => Told::Refused(refusal),
+    }
+}
+
+fn submit<D: Disk>(keeper: &mut Keeper<D>, command: Command) -> Told {
+    match keeper.submit(command) {
+        Ok(ticket) => Told::Number(ticket.number),
+        Err(refusal) => Told::Refused(refusal),
+    }
+}
+
+fn fill<D: Disk>(keeper: &mut Keeper<D>, count: u64, command: Command) -> Told {
+    let mut told = Told::Nothing;
+    for _ in 0..count {
+        told = submit(keeper, command);
+        if let Told::Refused(_) = told {
+            return told;
+        }
+    }
+    told
+}
+
+fn step<D: Disk>(keeper: &mut Keeper<D>) -> Told {
+    match keeper.checkpoint_step(64) {
+        Ok(Part::Done(version)) => Told::Number(version),
+        Ok(Part::Going) => Told::Nothing,
+        Err(refusal) => Told::Refused(refusal),
+    }
+}
+
+fn task<D: Disk>(keeper: &mut Keeper<D>) -> Told {
+    match keeper.take_task() {
+        Ok(Some(task)) => Told::Number(task.version),
+        Ok(None) => Told::Nothing,
+        Err(_) => Told::Refused(Refusal::OutOfMemory),
+    }
+}
+
+// The view is published, and it is known before what is told.
+fn publish<D: Disk>(keeper: &mut Keeper<D>, view: Arc<View>) -> Told {
+    let may = keeper.may_publish(&view);
+    match keeper.publish(view) {
+        Ok(_) if may.is_err() => Told::Nothing,
+        Ok(version) => Told::Number(version),
+        Err((refusal, _)) if may == Err(refusal) => Told::Refused(refusal),
+        Err(_) => Told::Nothing,
+    }
+}
+
+fn show<D: Disk>(alloc: Global, keeper: &mut Keeper<D>) -> Told {
+    let Ok(task) = keeper.take_task() else {
+        return Told::Refused(Refusal::OutOfMemory);
+    };
+    let Some(task) = task else {
+        return Told::Nothing;
+    };
+    let Ok(network) = task.network.copy() else {
+        return Told::Refused(Refusal::OutOfMemory);
+    };
+    match view(alloc, task.version, network) {
+        Ok(view) => publish(keeper, view),
+        Err(refusal) => Told::Refused(refusal),
+    }
+}
+
+fn offer<D: Disk>(alloc: Global, keeper: &mut Keeper<D>, version: u64, closed: bool) -> Told {
+    let Ok(mut network) = six(alloc) else {
+        return Told::Refused(Refusal::OutOfMemory);
+    };
+    if closed {
+        let _ = network.apply(CLOSE);
+    }
+    match view(alloc, version, network) {
+        Ok(view) => publish(keeper, view),
+        Err(refusal) => Told::Refused(refusal),
+    }
+}
+
+fn ask<R: Threads, D: Disk>(rt: &R, keeper: &mut Keeper<D>, query: Query) -> Told {
+    match keeper.ask(rt, query) {
+        Ok(answer) => Told::Reply(answer.version, answer.reply),
+        Err(_) => Told::Refused(Refusal::OutOfMemory),
+    }
+}
+
+// What the keeper tells at a call.
+fn reply_to<R: Threads, D: Disk>(
+    rt: &R,
+    alloc: Global,
+    keeper: &mut Keeper<D>,
+    call: Call,
+) -> Told {
+    match call {
+        Call::Submit(command) => submit(keeper, command),
+        Call::Fill(count, command) => fill(keeper, count, command),
+        Call::Flush => number(keeper.flush()),
+        Call::Step => step(keeper),
+        Call::Task => task(keeper),
+        Call::GiveUp(version) => {
+            keeper.give_up(version);
+            Told::Nothing
+        }
+        Call::Show => show(alloc, keeper),
+        Call::Offer(version, closed) => offer(alloc, keeper, version, closed),
+        Call::Dist(source, target) => ask(rt, keeper, Query::Dist { source, target }),
+        Call::Lower(source, target) => ask(rt, keeper, Query::Lower { source, target }),
+        Call::Pending => Told::Number(keeper.pending()),
+        Call::Durable => Told::Number(keeper.durable()),
+        Call::Shown => Told::Number(keeper.shown()),
+        Call::Unchecked => Told::Number(u64::from(keeper.unchecked())),
+        Call::JournalPages => Told::Number(u64::from(keeper.journal_pages())),
+    }
+}
+
+// Makes these calls in turn, up to the first that is told something else.
+fn plays<R: Threads, D: Disk>(
+    rt: &R,
+    alloc: Global,
+    keeper: &mut Keeper<D>,
+    table: &[(Call, Told)],
+) -> Result<(), Wrong> {
+    for at in 0..table.len() {
+        let (call, want) = table[at];
+        let told = reply_to(rt, alloc, keeper, call);
+        if told != want {
+            return Err(Wrong { at, told });
+        }
+    }
+    Ok(())
+}
+
+// The keeper, once it was told what the table says.
+fn played<R: Threads, D: Disk + Drop>(
+    rt: &R,
+    alloc: Global,
+    keeper: Result<Keeper<D>, Refusal>,
+    table: &[(Call, Told)],
+) -> Result<Keeper<D>, Wrong> {
+    let mut keeper = match keeper {
+        Ok(keeper) => keeper,
+        Err(refusal) => {
+            return Err(Wrong {
+                at: 0,
+                told: Told::Refused(refusal),
+            });
+        }
+    };
+    plays(rt, alloc, &mut keeper, table)?;
+    Ok(keeper)
+}
+
+// The same, and the keeper is let go.
+fn plays_on<R: Threads, D: Disk + Drop>(
+    rt: &R,
+    alloc: Global,
+    keeper: Result<Keeper<D>, Refusal>,
+    table: &[(Call, Told)],
+) -> Result<(), Wrong> {
+    let _ = played(rt, alloc, keeper, table)?;
+    Ok(())
+}
+
+fn plays_on_six<R: Threads>(rt: &R, alloc: Global, table: &[(Call, Told)]) -> Result<(), Wrong> {
+    plays_on(rt, alloc, keeper_of_six(rt, alloc, 64), table)
 }
 
 // A ticket of this life.
@@ -301,12 +371,133 @@ type Received = (
     Result<Receipt, Refusal>,
 );
 
-// The same of a keeper.
 fn received<D: Disk>(keeper: &mut Keeper<D>, command: Command) -> Result<Received, Refusal> {
     let ticket = submitted(keeper, command)?;
     let before = keeper.receipt(&ticket);
     let (answer, behind) = flushed(keeper, &ticket);
     Ok((before, answer, behind))
+}
+
+#[test]
+fn closed_arc_lengthens(rt: HostRuntime) -> Result<(), Wrong> {
+    let table = [
+        (Call::Submit(CLOSE), Told::Number(1)),
+        (Call::Flush, Told::Number(1)),
+        (Call::Dist(1, 6), Told::Reply(0, Reply::Length(15))),
+        (Call::Show, Told::Number(1)),
+        (Call::Dist(1, 6), Told::Reply(1, Reply::Length(22))),
+    ];
+    plays_on_six(&rt, rt.alloc(), &table)
+}
+
+#[test]
+fn shorter_length_shortens(rt: HostRuntime) -> Result<(), Wrong> {
+    let shorter = Command::Set { arc: 8, length: 4 };
+    let table = [
+        (Call::Submit(CLOSE), Told::Number(1)),
+        (Call::Flush, Told::Number(1)),
+        (Call::Show, Told::Number(1)),
+        (Call::Dist(1, 6), Told::Reply(1, Reply::Length(22))),
+        (Call::Submit(shorter), Told::Number(2)),
+        (Call::Flush, Told::Number(2)),
+        (Call::Show, Told::Number(2)),
+        (Call::Dist(1, 6), Told::Reply(2, Reply::Length(14))),
+        (Call::Submit(OPEN), Told::Number(3)),
+        (Call::Flush, Told::Number(3)),
+        (Call::Show, Told::Number(3)),
+        (Call::Dist(1, 6), Told::Reply(3, Reply::Length(14))),
+    ];
+    plays_on_six(&rt, rt.alloc(), &table)
+}
+
+#[test]
+fn second_close_refused(rt: HostRuntime) -> Result<(), Wrong> {
+    let table = [
+        (Call::Submit(CLOSE), Told::Number(1)),
+        (Call::Submit(CLOSE), Told::Refused(Refusal::AlreadyClosed)),
+        (Call::Flush, Told::Number(1)),
+        (Call::Flush, Told::Refused(Refusal::NothingPending)),
+    ];
+    plays_on_six(&rt, rt.alloc(), &table)
+}
+
+// A `set` that is refused with this.
+fn unset(arc: u64, length: u64, refusal: Refusal) -> (Call, Told) {
+    (
+        Call::Submit(Command::Set { arc, length }),
+        Told::Refused(refusal),
+    )
+}
+
+#[test]
+fn refusals_of_commands(rt: HostRuntime) -> Result<(), Wrong> {
+    let mark = Call::Submit(Command::Mark { node: 7 });
+    let unmark = Call::Submit(Command::Unmark { node: 3 });
+    let table = [
+        unset(9, 1, Refusal::NoSuchArc),
+        unset(1, 2147483648, Refusal::LengthRange),
+        unset(9, 2147483648, Refusal::NoSuchArc),
+        (mark, Told::Refused(Refusal::NoSuchNode)),
+        (unmark, Told::Refused(Refusal::NotALandmark)),
+        (Call::Submit(OPEN), Told::Refused(Refusal::AlreadyOpen)),
+        (Call::Pending, Told::Number(0)),
+        (Call::Durable, Told::Number(0)),
+        (Call::Shown, Told::Number(0)),
+    ];
+    plays_on_six(&rt, rt.alloc(), &table)
+}
+
+// A keeper of two nodes, with two arcs between them and a loop.
+fn keeper_of_two<R: Threads>(rt: &R, alloc: Global) -> Result<Keeper<MemDisk>, Refusal> {
+    let network = network(alloc, 2, &[(1, 2, 5), (1, 2, 3), (1, 1, 0)])?;
+    keeper(rt, alloc, &network, 64)
+}
+
+#[test]
+fn parallel_arcs_and_loops(rt: HostRuntime) -> Result<(), Wrong> {
+    let alloc = rt.alloc();
+    let table = [
+        (Call::Dist(1, 2), Told::Reply(0, Reply::Length(3))),
+        (Call::Submit(Command::Close { arc: 2 }), Told::Number(1)),
+        (Call::Flush, Told::Number(1)),
+        (Call::Show, Told::Number(1)),
+        (Call::Dist(1, 2), Told::Reply(1, Reply::Length(5))),
+    ];
+    plays_on(&rt, alloc, keeper_of_two(&rt, alloc), &table)
+}
+
+#[test]
+fn full_page_of_commands(rt: HostRuntime) -> Result<(), Wrong> {
+    let alloc = rt.alloc();
+    let table = [
+        (Call::Fill(254, SAME), Told::Number(254)),
+        (Call::Flush, Told::Number(253)),
+        (Call::Pending, Told::Number(1)),
+        (Call::Durable, Told::Number(253)),
+        (Call::Shown, Told::Number(0)),
+    ];
+    let keeper = played(&rt, alloc, keeper_of_six(&rt, alloc, 64), &table)?;
+    let (reopened, accepted, _) = stopped(&rt, alloc, keeper, Pick::New);
+    assert!(rt; accepted == 254);
+    let left = [
+        (Call::Pending, Told::Number(0)),
+        (Call::Durable, Told::Number(253)),
+        (Call::Shown, Told::Number(253)),
+    ];
+    plays_on(&rt, alloc, reopened, &left)
+}
+
+#[test]
+fn queue_is_full_at_4096(rt: HostRuntime) -> Result<(), Wrong> {
+    let table = [
+        (Call::Fill(4096, SAME), Told::Number(4096)),
+        (Call::Submit(SAME), Told::Refused(Refusal::QueueFull)),
+        // It is told before what the command would be refused for.
+        (Call::Submit(OPEN), Told::Refused(Refusal::QueueFull)),
+        (Call::Flush, Told::Number(253)),
+        (Call::Submit(SAME), Told::Number(4097)),
+    ];
+    plays_on_six(&rt, rt.alloc(), &table)
 }
 
 // A keeper whose first flush fails at its second sync. Opening makes nine calls of the disk; the flush reads the gate, writes the body,
@@ -318,11 +509,11 @@ fn failing<R: Threads>(rt: &R, alloc: Global) -> Result<Keeper<FailOnce<MemDisk>
 
 #[test]
 fn sync_fails_once(rt: HostRuntime) -> Result<(), Fail> {
-    let mut keeper = failing(&rt, rt.alloc())?;
+    let alloc = rt.alloc();
+    let mut keeper = failing(&rt, alloc)?;
     let told = received(&mut keeper, CLOSE)?;
-    assert_eq!(rt;
-        told,
-        (
+    assert!(rt;
+        told == (
             Err(Refusal::NotYet),
             Err(Refusal::Device),
             Err(Refusal::Broken)
@@ -334,51 +525,126 @@ fn sync_fails_once(rt: HostRuntime) -> Result<(), Fail> {
         (Call::Step, Told::Refused(Refusal::Broken)),
         (Call::Dist(1, 6), Told::Reply(0, Reply::Length(15))),
     ];
-    plays(&rt, rt.alloc(), &mut keeper, &table)?;
+    plays(&rt, alloc, &mut keeper, &table)?;
     Ok(())
 }
 
-// What a keeper of this disk tells, and the disk behind it.
-fn tells<R: Threads, D: Disk + Drop>(
-    rt: &R,
-    alloc: Global,
-    disk: D,
-    calls: &[(Call, Told)],
-) -> Result<D, Wrong> {
-    let mut keeper = reopened(rt, alloc, disk).map_err(|why| Wrong::no_keeper(why))?;
-    plays(rt, alloc, &mut keeper, calls)?;
-    Ok(keeper.close().1)
-}
-
-// The page of the failed flush is there when the store is opened again, and stays behind a stop.
 #[test]
-fn failed_flush_is_there_when_opened(rt: HostRuntime) -> Result<(), Fail> {
+fn failed_flush_is_there_when_opened(rt: HostRuntime) -> Result<(), Wrong> {
     let alloc = rt.alloc();
-    let mut keeper = failing(&rt, alloc)?;
     let table = [
         (Call::Submit(CLOSE), Told::Number(1)),
         (Call::Flush, Told::Refused(Refusal::Device)),
     ];
-    plays(&rt, alloc, &mut keeper, &table)?;
+    let keeper = played(&rt, alloc, failing(&rt, alloc), &table)?;
+    let keeper = reopened(&rt, alloc, keeper.close().1);
     let left = [
         (Call::Pending, Told::Number(0)),
         (Call::Durable, Told::Number(1)),
         (Call::Shown, Told::Number(1)),
     ];
-    let mut disk = tells(&rt, alloc, keeper.close().1, &left)?.into_inner();
+    let keeper = played(&rt, alloc, keeper, &left)?;
+    let mut disk = keeper.close().1.into_inner();
     let _ = disk.stop(&[Pick::Old]);
     let reply = [(Call::Dist(1, 6), Told::Reply(1, Reply::Length(22)))];
-    let _ = tells(&rt, alloc, disk, &reply)?;
-    Ok(())
+    plays_on(&rt, alloc, reopened(&rt, alloc, disk), &reply)
 }
 
 #[test]
 fn receipt_behind_a_flush(rt: HostRuntime) -> Result<(), Fail> {
-    let told = received(&mut keeper_of_six(&rt, rt.alloc(), 64)?, CLOSE)?;
+    let alloc = rt.alloc();
+    let told = received(&mut keeper_of_six(&rt, alloc, 64)?, CLOSE)?;
     let receipt = Receipt {
         number: 1,
         command: CLOSE,
     };
-    assert_eq!(rt; told, (Err(Refusal::NotYet), Ok(1), Ok(receipt)));
+    assert!(rt; told == (Err(Refusal::NotYet), Ok(1), Ok(receipt)));
+    Ok(())
+}
+
+#[test]
+fn checkpoint_frees_the_journal(rt: HostRuntime) -> Result<(), Wrong> {
+    let alloc = rt.alloc();
+    let table = [
+        (Call::Step, Told::Number(0)),
+        (Call::Submit(SAME), Told::Number(1)),
+        (Call::Flush, Told::Number(1)),
+        (
+            Call::Submit(Command::Set { arc: 1, length: 2 }),
+            Told::Number(2),
+        ),
+        (Call::Flush, Told::Number(2)),
+        (Call::Unchecked, Told::Number(2)),
+        (Call::JournalPages, Told::Number(2)),
+        (Call::Submit(CLOSE), Told::Number(3)),
+        (Call::Flush, Told::Refused(Refusal::JournalFull)),
+        (Call::Step, Told::Number(2)),
+        (Call::Unchecked, Told::Number(0)),
+        (Call::Flush, Told::Number(3)),
+    ];
+    let keeper = played(&rt, alloc, keeper_of_six(&rt, alloc, 2), &table)?;
+    let left = [
+        (Call::Unchecked, Told::Number(1)),
+        (Call::JournalPages, Told::Number(2)),
+        (Call::Dist(1, 6), Told::Reply(3, Reply::Length(7))),
+    ];
+    plays_on(&rt, alloc, reopened(&rt, alloc, keeper.close().1), &left)
+}
+
+#[test]
+fn bounds_of_landmarks(rt: HostRuntime) -> Result<(), Wrong> {
+    let table = [
+        (Call::Submit(Command::Mark { node: 1 }), Told::Number(1)),
+        (Call::Submit(Command::Mark { node: 3 }), Told::Number(2)),
+        (Call::Flush, Told::Number(2)),
+        (Call::Lower(4, 1), Told::Reply(0, Reply::AtLeast(0))),
+        (Call::Show, Told::Number(2)),
+        (Call::Lower(1, 6), Told::Reply(2, Reply::AtLeast(15))),
+        (Call::Lower(5, 2), Told::Reply(2, Reply::AtLeast(0))),
+        (Call::Lower(4, 1), Told::Reply(2, Reply::NoWalk)),
+    ];
+    plays_on_six(&rt, rt.alloc(), &table)
+}
+
+#[test]
+fn another_view_is_refused(rt: HostRuntime) -> Result<(), Wrong> {
+    let other = Told::Refused(Refusal::OtherNetwork);
+    let table = [
+        (Call::Offer(1, false), Told::Refused(Refusal::NoTask)),
+        (Call::Submit(CLOSE), Told::Number(1)),
+        (Call::Task, Told::Nothing),
+        (Call::Flush, Told::Number(1)),
+        (Call::Task, Told::Number(1)),
+        (Call::Task, Told::Nothing),
+        // The task's version with the network before it, and its network at another version.
+        (Call::Offer(1, false), other),
+        (Call::Offer(2, true), other),
+        (Call::GiveUp(2), Told::Nothing),
+        (Call::Task, Told::Nothing),
+        (Call::GiveUp(1), Told::Nothing),
+        (Call::Offer(1, true), Told::Refused(Refusal::NoTask)),
+        (Call::Show, Told::Number(1)),
+    ];
+    plays_on_six(&rt, rt.alloc(), &table)
+}
+
+#[test]
+fn armed_flush_fails(rt: HostRuntime) -> Result<(), Fail> {
+    let alloc = rt.alloc();
+    let mut keeper = keeper_of_six(&rt, alloc, 64)?;
+    keeper.arm(3);
+    let table = [
+        (Call::Submit(CLOSE), Told::Number(1)),
+        (Call::Flush, Told::Refused(Refusal::Device)),
+    ];
+    plays(&rt, alloc, &mut keeper, &table)?;
+    let (reopened, _, came) = stopped(&rt, alloc, keeper, Pick::Old);
+    assert!(rt; came);
+    let left = [
+        (Call::Pending, Told::Number(0)),
+        (Call::Durable, Told::Number(0)),
+        (Call::Shown, Told::Number(0)),
+    ];
+    plays_on(&rt, alloc, reopened, &left)?;
     Ok(())
 }

@@ -2,19 +2,14 @@ ghost use Rattle.std.specs.Prelude.{◌≡◌, ◌≤◌, true, IfOk};
 ghost use Rattle.store.specs.State.{is_calm};
 ghost use Rattle.machine.specs.Calls.{IsTicketOf};
 
+use crate::keeping::{CLOSE, OPEN, six};
 use disk::{Disk, MemDisk, Pick, Stoppable};
-use fixtures::arc;
 use keeper::Ledger;
 use machine::{Receipt, Ticket};
 use roadnet::{Command, Refusal, RoadArc};
 use std::alloc::Global;
 use std::test::Fail;
-use store::{Part, Store};
-use store_fixtures::{opened, store_of_six};
-
-const CLOSE: Command = Command::Close { arc: 7 };
-
-const OPEN: Command = Command::Reopen { arc: 7 };
+use store::{Part, Store, create, open};
 
 // What a ledger tells of its numbers.
 #[derive(Clone, Copy, Debug, PartialEq)]
@@ -50,7 +45,11 @@ fn ledger_of<D: Disk + Drop>(alloc: Global, store: Store<D>) -> Result<Ledger<D>
 
 // A ledger of a new store of the network of the worked rows, with four pages for the journal.
 fn ledger_of_six(alloc: Global) -> Result<Ledger<MemDisk>, Refusal> {
-    ledger_of(alloc, store_of_six(alloc, &[], 4)?)
+    let network = six(alloc)?;
+    match create(alloc, MemDisk::new(alloc), &network, 4) {
+        Ok(store) => ledger_of(alloc, store),
+        Err((refusal, _)) => Err(refusal),
+    }
 }
 
 // A ticket of this life.
@@ -96,8 +95,10 @@ fn ledger_makes_commands_durable(rt: HostRuntime) -> Result<(), Fail> {
     assert_eq!(rt; told_by(&ledger), now);
     assert!(rt; ledger.commands() == [CLOSE, OPEN].as_slice());
     let closed = RoadArc {
+        tail: 5,
+        head: 2,
+        length: 0,
         opened: false,
-        ..arc(5, 2, 0)
     };
     assert_eq!(rt; ledger.network().arc(7), Some(closed));
     Ok(())
@@ -130,7 +131,10 @@ fn stopped_ledger_is_opened_again(rt: HostRuntime) -> Result<(), Fail> {
     let (commands, mut disk) = ledger.close();
     assert!(rt; commands.as_slice() == [CLOSE, OPEN].as_slice());
     let _ = disk.stop(&[Pick::Old]);
-    let store = opened(alloc, disk)?;
+    let store = match open(alloc, disk) {
+        Ok(store) => store,
+        Err((refusal, _)) => return Err(Fail::from(refusal)),
+    };
     let now = Numbers {
         opened: 1,
         durable: 1,

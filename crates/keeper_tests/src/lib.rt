@@ -8,4 +8,4 @@ mod keeping;
 #[cfg(test)]
 mod ledgers;
 #[cfg(test)]
-mod playing;
+mod rehearsing;

@@ -1,5 +1,7 @@
-ghost use Rattle.std.specs.Prelude.{◌≤◌};
+ghost use Rattle.std.specs.Prelude.{◌≡◌, ◌≤◌, true, IfOk};
+ghost use Rattle.store.specs.State.{is_calm};
 
+use crate::keeping::six as network_of_six;
 use disk::{Disk, MemDisk, Pick};
 use keeper::{Rehearsal, rehearse};
 use machine::{Answer, Event, Replied, Writing};
@@ -8,8 +10,20 @@ use rows::{Query, Reply};
 use std::alloc::Global;
 use std::test::Fail;
 use std::thread::Threads;
-use store::open;
-use store_fixtures::store_of_six;
+use store::{Store, create, open};
+
+// A new store of six nodes and eight arcs.
+fn six(alloc: Global, journal_pages: u32) -> Result<Store<MemDisk>, Refusal>
+    requires some { 1 ≤ journal_pages }
+    requires few { journal_pages ≤ 65536 }
+    ensures { IfOk result (λ store. is_calm store ≡ true) }
+{
+    let network = network_of_six(alloc)?;
+    match create(alloc, MemDisk::new(alloc), &network, journal_pages) {
+        Ok(store) => Ok(store),
+        Err((refusal, _)) => Err(refusal),
+    }
+}
 
 // What ended the run early, or the first reply of a want: of memory, or of a disk that failed.
 fn want_of(run: &Rehearsal<MemDisk>) -> Option<Refusal> {
@@ -40,7 +54,7 @@ fn rehearsed<R: Threads>(
     requires some { 1 ≤ journal_pages }
     requires few { journal_pages ≤ 65536 }
 {
-    let store = store_of_six(alloc, &[], journal_pages)?;
+    let store = six(alloc, journal_pages)?;
     let run = rehearse(rt, alloc, store, None, events);
     match want_of(&run) {
         Some(refusal) => Err(refusal),

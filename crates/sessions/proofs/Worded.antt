@@ -1,6 +1,5 @@
 -- What a line asks for, by its word and the numbers behind it.
-use Rattle.std.proofs.Common.{◌≡◌, ◌≢◌, ◌∙◌, ℕ, ◌<◌, Bool, true, false, ◌||◌, cond, eqb, ltb, List, [], ◌∷◌, Option, None, Some, length, refl, sym, ap, subst, inl, inr, arith}
-use Rattle.std.specs.List.{find}
+use Rattle.std.proofs.Common.{◌≡◌, ◌≢◌, ◌∙◌, ℕ, ◌<◌, Bool, true, false, ◌||◌, cond, eqb, ltb, List, [], ◌∷◌, Option, None, Some, length, refl, sym, ap, inl, inr, arith}
 use Rattle.std.specs.Str.{bytes_eq}
 use Rattle.std.proofs.lemmas.Bool.{or_parts, lt-ltb, ne_eqb, false_from_ne_true}
 use Rattle.std.proofs.lemmas.Slice.Eq.{bytes_eq-Decides}
@@ -20,7 +19,6 @@ use Rattle.dimacs.proofs.Items.{known, or-false}
 use Rattle.dimacs.proofs.Spelled.{unformed}
 use Rattle.sessions.specs.declared.words.Bare.{Bare}
 use Rattle.sessions.specs.declared.words.Bare.TheVariants.{Wait, Quit}
-use Rattle.sessions.specs.declared.words.Word.{Word}
 use Rattle.sessions.specs.declared.words.Word.TheVariants.{WithNone, WithOne, WithTwo}
 use Rattle.sessions.specs.declared.lines.Line.TheVariants.{Refused}
 use Rattle.sessions.specs.declared.fields.Numbers.{Numbers}

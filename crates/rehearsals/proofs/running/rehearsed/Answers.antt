@@ -1,4 +1,3 @@
-use Rattle.std.proofs.Common.{◌≡◌, Err, ap, sym}
 use Rattle.std.proofs.lemmas.Result.{err_from_is_err_and}
 use Rattle.rehearsals.proofs.BrokenOff.{unmade_passing}
 use Rattle.rehearsals.proofs.NewRuns.{replies_to, run_ends_passing}

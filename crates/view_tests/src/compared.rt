@@ -1,30 +1,37 @@
 ghost use Rattle.rows.specs.Cached.{HasRowsOf};
 
-use fixtures::Draws;
 use relax::Solo;
 use roadnet::{Network, OutOfMemory, Refusal, RoadArc};
 use rows::{Query, RowCache, View, answer_plain};
 use std::alloc::{AllocError, Global};
 use std::thread::Threads;
 
+/// A number drawn by a linear rule, which the next draw follows.
+fn next(state: &mut u64) -> u64 {
+    *state = state
+        .wrapping_mul(6364136223846793005)
+        .wrapping_add(1442695040888963407);
+    *state >> 33
+}
+
 /// A network of seven nodes, whose 14 arcs and up to three landmarks are drawn by the seed: with lengths 0 to 9, closed and parallel
 /// arcs and loops. No arc ends at node 7.
 fn drawn(alloc: Global, seed: u64) -> Result<Network, Refusal> {
-    let mut draws = Draws::new(seed);
+    let mut state = seed;
     let mut arcs = Vec::new(alloc);
     for _ in 0..14 {
         arcs.push(RoadArc {
-            tail: (draws.draw() % 7 + 1) as u32,
-            head: (draws.draw() % 6 + 1) as u32,
-            length: (draws.draw() % 10) as u32,
-            opened: !draws.draw().is_multiple_of(5),
+            tail: (next(&mut state) % 7 + 1) as u32,
+            head: (next(&mut state) % 6 + 1) as u32,
+            length: (next(&mut state) % 10) as u32,
+            opened: !next(&mut state).is_multiple_of(5),
         })
         .map_err(AllocError::from)?;
     }
     let landmarks = [
-        (draws.draw() % 7 + 1) as u32,
-        (draws.draw() % 7 + 1) as u32,
-        (draws.draw() % 7 + 1) as u32,
+        (next(&mut state) % 7 + 1) as u32,
+        (next(&mut state) % 7 + 1) as u32,
+        (next(&mut state) % 7 + 1) as u32,
     ];
     let count = (seed % 4) as usize;
     Network::new(alloc, 7, arcs, &landmarks[..count])

@@ -1,9 +1,11 @@
-//! Tests of views and of replies to queries by their public calls.
+//! Tests of rows and views by their public calls.
 #![tactic(auto)]
 
 #[cfg(test)]
 mod answering;
 #[cfg(test)]
 mod compared;
+#[cfg(test)]
+mod shared;
 #[cfg(test)]
 mod viewing;

@@ -1,80 +1,60 @@
-ghost use Rattle.std.specs.Prelude.{◌≡◌, ◌≢◌, ◌≤◌, [], IfOk};
+ghost use Rattle.std.specs.Prelude.{◌≡◌, ◌≢◌, ◌≤◌, []};
 ghost use Rattle.rows.specs.Cached.{HasRowsOf, KeepsOthers, rows_of};
 
-use fixtures::six_with;
+use crate::shared::six_with;
 use relax::Solo;
 use roadnet::{Command, Network, OutOfMemory, Refusal};
-use rows::{Reply, Row, RowCache, Searches, View};
+use rows::{Query, Reply, Row, RowCache, Searches, View, answer_plain};
 use std::alloc::Global;
 use std::thread::Threads;
 
-/// The network of the worked rows at this version, with these landmarks.
-fn view_of_six(alloc: Global, version: u64, landmarks: &[u32]) -> Result<View, Refusal>
-    ensures version { IfOk result (λ view. view.version ≡ version) }
-{
-    let network = six_with(alloc, landmarks)?;
-    Ok(View::build(alloc, version, network, None, &Solo)?)
-}
-
-/// The version of a pinned view, and how many rows its new cache may keep.
-fn told_by(alloc: Global, view: &View) -> (u64, usize) {
-    let mut cache = RowCache::new(alloc, 16);
-    let capacity = cache.capacity();
-    (view.pinned(&mut cache).version(), capacity)
-}
-
-/// The reply from a landmark.
-fn from_landmark(alloc: Global, view: &View, landmark: u64, target: u64) -> Reply {
-    let mut cache = RowCache::new(alloc, 16);
-    let pinned = view.pinned(&mut cache);
-    pinned.from_landmark(landmark, target)
-}
-
-/// How long each walk is at least.
-fn lower(alloc: Global, view: &View, source: u64, target: u64) -> Reply {
-    let mut cache = RowCache::new(alloc, 16);
-    let pinned = view.pinned(&mut cache);
-    pinned.lower(source, target)
-}
-
-/// A landmark, a node, and the reply from the one to the other where 3 and 6 are landmarks.
-const FROM_LANDMARKS: [(u64, u64, Reply); 8] = [
-    (3, 4, Reply::Length(2)),
-    (3, 1, Reply::NoWalk),
-    (6, 6, Reply::Length(0)),
-    (6, 4, Reply::NoWalk),
-    (1, 4, Reply::Refused(Refusal::NotALandmark)),
-    (1, 7, Reply::Refused(Refusal::NoSuchNode)),
-    (7, 1, Reply::Refused(Refusal::NoSuchNode)),
-    (u64::MAX, 0, Reply::Refused(Refusal::NoSuchNode)),
-];
-
 #[test]
 fn bounds_and_rows(rt: HostRuntime) -> Result<(), Refusal> {
-    let view = view_of_six(rt.alloc(), 1, &[6, 3])?;
-    assert!(rt; view.rows().len() == 2 && told_by(rt.alloc(), &view) == (1, 16));
-    for (landmark, target, want) in FROM_LANDMARKS {
-        let reply = from_landmark(rt.alloc(), &view, landmark, target);
+    let network = six_with(rt.alloc(), &[6, 3])?;
+    let view = View::build(rt.alloc(), 1, network, None, &Solo)?;
+    assert!(rt; view.rows().len() == 2);
+    let mut cache = RowCache::new(rt.alloc(), 16);
+    assert!(rt; cache.capacity() == 16);
+    let pinned = view.pinned(&mut cache);
+    assert!(rt; pinned.version() == 1);
+    let table = [
+        (3, 4, Reply::Length(2)),
+        (3, 1, Reply::NoWalk),
+        (6, 6, Reply::Length(0)),
+        (6, 4, Reply::NoWalk),
+        (1, 4, Reply::Refused(Refusal::NotALandmark)),
+        (1, 7, Reply::Refused(Refusal::NoSuchNode)),
+        (7, 1, Reply::Refused(Refusal::NoSuchNode)),
+        (u64::MAX, 0, Reply::Refused(Refusal::NoSuchNode)),
+    ];
+    for (landmark, target, want) in table {
+        let reply = pinned.from_landmark(landmark, target);
         assert!(rt; reply == want, "{landmark} to {target}");
     }
     Ok(())
 }
 
-/// Two nodes, and the bound where 1 and 3 are landmarks.
-const BOUNDS: [(u64, u64, Reply); 5] = [
-    (1, 6, Reply::AtLeast(15)),
-    (5, 2, Reply::AtLeast(0)),
-    (4, 1, Reply::NoWalk),
-    (5, 6, Reply::AtLeast(5)),
-    (1, 7, Reply::Refused(Refusal::NoSuchNode)),
-];
-
 #[test]
 fn bounds_by_landmarks(rt: HostRuntime) -> Result<(), Refusal> {
-    let view = view_of_six(rt.alloc(), 2, &[1, 3])?;
-    for (source, target, want) in BOUNDS {
-        let reply = lower(rt.alloc(), &view, source, target);
+    let network = six_with(rt.alloc(), &[1, 3])?;
+    let view = View::build(rt.alloc(), 2, network, None, &Solo)?;
+    let mut cache = RowCache::new(rt.alloc(), 16);
+    let pinned = view.pinned(&mut cache);
+    let table = [
+        (1, 6, Reply::AtLeast(15)),
+        (5, 2, Reply::AtLeast(0)),
+        (4, 1, Reply::NoWalk),
+        (5, 6, Reply::AtLeast(5)),
+        (1, 7, Reply::Refused(Refusal::NoSuchNode)),
+    ];
+    for (source, target, want) in table {
+        let reply = pinned.lower(source, target);
         assert!(rt; reply == want, "{source} to {target}");
+        let query = Query::Lower { source, target };
+        assert!(rt;
+            answer_plain(rt.alloc(), view.network(), &query)? == want,
+            "{source} to {target}"
+        );
     }
     Ok(())
 }
@@ -113,25 +93,44 @@ fn ask_in_turn<R: Threads>(
     Ok((before, after, again))
 }
 
-/// The network of the worked rows at version 0, and once its seventh arc is closed at version 1.
-fn before_and_after(alloc: Global) -> Result<(View, View), Refusal>
-    ensures apart { IfOk result (λ views. views.0.version ≢ views.1.version) }
-{
-    let before = view_of_six(alloc, 0, &[])?;
-    let mut network = six_with(alloc, &[])?;
-    network.apply(Command::Close { arc: 7 })?;
-    let after = View::build(alloc, 1, network, Some(1), &Solo)?;
-    Ok((before, after))
-}
-
-/// The row of node 1 is kept for each of the two versions.
 #[test]
 fn closed_arc_lengthens(rt: HostRuntime) -> Result<(), Refusal> {
-    let (before, after) = before_and_after(rt.alloc())?;
+    let mut network = six_with(rt.alloc(), &[])?;
+    let before = View::build(rt.alloc(), 0, network.copy()?, Some(1), &Solo)?;
+    network.apply(Command::Close { arc: 7 })?;
+    let after = View::build(rt.alloc(), 1, network, None, &Solo)?;
+    assert!(rt; !after.network().arcs()[6].opened);
     let mut cache = RowCache::new(rt.alloc(), 16);
-    let told = ask_in_turn(&rt, rt.alloc(), &before, &after, &mut cache)?;
-    let want = (Reply::Length(15), Reply::Length(22), Reply::Length(15));
-    assert!(rt; told == want && cache.len() == 2);
+    let (first, second, again) = ask_in_turn(&rt, rt.alloc(), &before, &after, &mut cache)?;
+    assert!(rt; first == Reply::Length(15) && again == first);
+    assert!(rt; second == Reply::Length(22));
+    // The row of node 1 is kept for each of the two versions.
+    assert!(rt; cache.len() == 2);
+    Ok(())
+}
+
+#[test]
+fn answers_of_a_pinned_view(rt: HostRuntime) -> Result<(), Refusal> {
+    let mut network = six_with(rt.alloc(), &[])?;
+    network.apply(Command::Close { arc: 7 })?;
+    let view = View::build(rt.alloc(), 1, network, None, &Solo)?;
+    let mut cache = RowCache::new(rt.alloc(), 1);
+    let mut pinned = view.pinned(&mut cache);
+    let query = Query::Dist {
+        source: 1,
+        target: 6,
+    };
+    assert!(rt; pinned.answer(&rt, rt.alloc(), &query)? == Reply::Length(22));
+    let query = Query::From {
+        landmark: 1,
+        target: 4,
+    };
+    assert!(rt; pinned.answer(&rt, rt.alloc(), &query)? == Reply::Refused(Refusal::NotALandmark));
+    let query = Query::Lower {
+        source: 1,
+        target: 4,
+    };
+    assert!(rt; pinned.answer(&rt, rt.alloc(), &query)? == Reply::AtLeast(0));
     Ok(())
 }
 
@@ -153,32 +152,20 @@ fn kept_of_three<R: Threads>(
 
 #[test]
 fn rows_give_way(rt: HostRuntime) -> Result<(), Refusal> {
-    let view = view_of_six(rt.alloc(), 0, &[])?;
+    let network = six_with(rt.alloc(), &[])?;
+    let view = View::build(rt.alloc(), 0, network, None, &Solo)?;
     for (capacity, kept) in [(1, 1), (2, 2), (3, 3), (16, 3)] {
-        let count = kept_of_three(&rt, rt.alloc(), &view, capacity)?;
-        assert!(rt; count == kept, "{capacity}");
+        assert!(rt;
+            kept_of_three(&rt, rt.alloc(), &view, capacity)? == kept,
+            "{capacity}"
+        );
     }
-    Ok(())
-}
-
-/// How many rows a cache has as it is made, once one was asked for, and once it was emptied.
-fn kept_of_one<R: Threads>(
-    rt: &R,
-    alloc: Global,
-    view: &View,
-) -> Result<(usize, usize, usize), OutOfMemory> {
-    let mut cache = RowCache::new(alloc, 1);
-    let none = cache.len();
-    let _reply = ask(rt, alloc, view, &mut cache, 1, 6)?;
-    let one = cache.len();
+    let mut cache = RowCache::new(rt.alloc(), 1);
+    assert!(rt; cache.len() == 0);
+    let reply = ask(&rt, rt.alloc(), &view, &mut cache, 1, 6)?;
+    assert!(rt; reply == Reply::Length(15) && cache.len() == 1);
     cache.clear();
-    Ok((none, one, cache.len()))
-}
-
-#[test]
-fn a_cache_is_emptied(rt: HostRuntime) -> Result<(), Refusal> {
-    let view = view_of_six(rt.alloc(), 0, &[])?;
-    assert!(rt; kept_of_one(&rt, rt.alloc(), &view)? == (0, 1, 0));
+    assert!(rt; cache.len() == 0);
     Ok(())
 }
 
@@ -202,12 +189,9 @@ fn search_in_turn<R: Threads>(
 fn searches_of_alternating_sources(rt: HostRuntime) -> Result<(), Refusal> {
     let network = six_with(rt.alloc(), &[])?;
     let want = (Reply::Length(15), Reply::NoWalk, Reply::Length(12));
-    for capacity in [1, 16, 64] {
-        assert!(rt;
-            search_in_turn(&rt, rt.alloc(), &network, capacity)? == want,
-            "{capacity}"
-        );
-    }
+    assert!(rt; search_in_turn(&rt, rt.alloc(), &network, 1)? == want);
+    assert!(rt; search_in_turn(&rt, rt.alloc(), &network, 16)? == want);
+    assert!(rt; search_in_turn(&rt, rt.alloc(), &network, 64)? == want);
     Ok(())
 }
 
@@ -230,7 +214,8 @@ fn two_batches<R: Threads>(
 
 #[test]
 fn batch_of_pairs(rt: HostRuntime) -> Result<(), Refusal> {
-    let view = view_of_six(rt.alloc(), 0, &[])?;
+    let network = six_with(rt.alloc(), &[])?;
+    let view = View::build(rt.alloc(), 0, network, None, &Solo)?;
     let pairs = [(1, 6), (6, 1), (4, 4), (1, 7), (1, 6), (0, 1)];
     let want = [
         Reply::Length(15),
@@ -240,17 +225,18 @@ fn batch_of_pairs(rt: HostRuntime) -> Result<(), Refusal> {
         Reply::Length(15),
         Reply::Refused(Refusal::NoSuchNode),
     ];
-    for capacity in [1, 16, 64] {
+    for (capacity, name) in [(1, "1"), (16, "16"), (64, "64")] {
         let (first, again) = two_batches(&rt, rt.alloc(), &view, capacity, &pairs)?;
-        assert!(rt; first.as_slice() == want.as_slice(), "{capacity}");
-        assert!(rt; again.as_slice() == want.as_slice(), "{capacity}");
+        assert!(rt; first.as_slice() == want.as_slice(), "{name}");
+        assert!(rt; again.as_slice() == want.as_slice(), "{name}");
     }
     Ok(())
 }
 
 #[test]
 fn row_of_a_node(rt: HostRuntime) -> Result<(), Refusal> {
-    let view = view_of_six(rt.alloc(), 0, &[])?;
+    let network = six_with(rt.alloc(), &[])?;
+    let view = View::build(rt.alloc(), 0, network, None, &Solo)?;
     assert!(rt; view.snapshot().has_node(3));
     let row = Row::build(rt.alloc(), 4, view.snapshot(), 3, &Solo)?;
     assert!(rt; row.version == 4 && row.landmark == 3);

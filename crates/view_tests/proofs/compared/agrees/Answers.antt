@@ -2,7 +2,7 @@ use Rattle.std.proofs.Common.{◌≡◌, ◌∙◌, sym, subst}
 use Rattle.rows.specs.Views.{Viewed}
 use Rattle.rows.specs.declared.caches.RowCache.{RowCache}
 use Rattle.rows.specs.Cached.{HasRowsOf}
-use Rattle.network_tests.proofs.compared.agrees.Goals as goal
+use Rattle.view_tests.proofs.compared.agrees.Goals as goal
 
 pub returns : goal.returns
 returns g c =

@@ -2,7 +2,7 @@ use Rattle.std.proofs.Common.{◌≡◌, ◌∙◌, sym, subst, ap, Contains}
 use Rattle.rows.specs.Views.{Viewed}
 use Rattle.rows.specs.declared.caches.RowCache.{RowCache}
 use Rattle.rows.specs.Cached.{HasRowsOf, kept_row, rows_of}
-use Rattle.network_tests.proofs.viewing.ask.Goals as goal
+use Rattle.view_tests.proofs.viewing.ask.Goals as goal
 
 pub returns-clause-kept : goal.returns-clause-kept
 returns-clause-kept g c =

@@ -1,6 +1,6 @@
 use Rattle.std.proofs.Common.{◌≡◌, List, [], sym, subst, arith, Contains}
 use Rattle.rows.specs.Cached.{KeptRow, kept_row, rows_of}
-use Rattle.network_tests.proofs.viewing.ask_in_turn.Goals as goal
+use Rattle.view_tests.proofs.viewing.ask_in_turn.Goals as goal
 
 none_kept : (rows : List KeptRow) (kept : KeptRow) → rows ≡ [] → Contains rows kept → ⊥
 none_kept rows kept is there = let in_none : Contains [] kept = subst (λ (l : List KeptRow). Contains l kept) is there in omega (arith, in_none.1)

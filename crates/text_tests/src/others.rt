@@ -1,14 +1,13 @@
 //! Tests of the texts of landmarks, of pairs and of commands.
 
-use crate::readers::line_behind;
 use dimacs::{
     Code, Counted, Fault, Pair, parse_commands, parse_p2p, parse_ss, read_commands,
     read_commands_counted, read_p2p, read_p2p_counted, read_ss, read_ss_counted,
 };
-use fixtures::FailingReader;
 use roadnet::Command;
 use std::alloc::Global;
-use std::io::{BufRead, BufReader};
+use std::io;
+use std::io::{BufReader, ErrorKind, Read};
 use std::process::Abort;
 use std::test::Fail;
 
@@ -37,228 +36,245 @@ const WRITTEN: [Command; 7] = [
     },
 ];
 
-/// A kind of text.
-#[derive(Clone, Copy, Debug)]
-enum Text {
-    Landmarks,
-    Pairs,
-    Commands,
+fn are_landmarks(rt: &impl Abort, landmarks: &[u32]) {
+    assert_eq!(rt; landmarks.len(), 2);
+    assert_eq!(rt; landmarks[0], 3);
+    assert_eq!(rt; landmarks[1], 6);
 }
 
-/// The fault of a text for six nodes, as it is parsed.
-fn fault_parsed(alloc: Global, kind: Text, text: &[u8]) -> Option<Fault> {
-    match kind {
-        Text::Landmarks => parse_ss(alloc, text, 6).err(),
-        Text::Pairs => parse_p2p(alloc, text, 6).err(),
-        Text::Commands => parse_commands(alloc, text).err(),
+fn are_pairs(rt: &impl Abort, pairs: &[Pair]) {
+    assert_eq!(rt; pairs.len(), 2);
+    assert_eq!(rt;
+        pairs[0],
+        Pair {
+            source: 1,
+            target: 6
+        }
+    );
+    assert_eq!(rt;
+        pairs[1],
+        Pair {
+            source: 6,
+            target: 1
+        }
+    );
+}
+
+fn are_commands(rt: &impl Abort, commands: &[Command]) {
+    assert_eq!(rt; commands.len(), 7);
+    for (command, written) in commands.iter().zip(WRITTEN.iter()) {
+        assert_eq!(rt; *command, *written);
     }
 }
 
-/// The fault of a text for six nodes, as it is read.
-fn fault_read(alloc: Global, kind: Text, text: &[u8]) -> Option<Fault> {
-    let mut reader = text;
-    match kind {
-        Text::Landmarks => read_ss(alloc, &mut reader, 6).err(),
-        Text::Pairs => read_p2p(alloc, &mut reader, 6).err(),
-        Text::Commands => read_commands(alloc, &mut reader).err(),
+/// The fault of a text, if it has one.
+fn fault_of<T: Drop>(read: Result<T, Fault>) -> Option<Fault> {
+    match read {
+        Ok(_) => None,
+        Err(fault) => Some(fault),
     }
 }
 
-/// The fault of a text for six nodes by a reader whose failed calls are counted.
-fn fault_counted<R: BufRead>(
-    alloc: Global,
-    kind: Text,
-    reader: &mut Counted<'_, R>,
-) -> Option<Fault> {
-    match kind {
-        Text::Landmarks => read_ss_counted(alloc, reader, 6).err(),
-        Text::Pairs => read_p2p_counted(alloc, reader, 6).err(),
-        Text::Commands => read_commands_counted(alloc, reader).err(),
-    }
+fn refuses_landmarks(rt: &impl Abort, alloc: Global, text: &[u8], line: u64, code: Code) {
+    let fault = Some(Fault { line, code });
+    assert_eq!(rt; fault_of(parse_ss(alloc, text, 6)), fault);
+    let mut rest = text;
+    assert_eq!(rt; fault_of(read_ss(alloc, &mut rest, 6)), fault);
 }
 
-fn are_pairs(pairs: &[Pair]) -> bool {
-    let there = Pair {
-        source: 1,
-        target: 6,
-    };
-    let back = Pair {
-        source: 6,
-        target: 1,
-    };
-    pairs == [there, back].as_slice()
+fn refuses_pairs(rt: &impl Abort, alloc: Global, text: &[u8], line: u64, code: Code) {
+    let fault = Some(Fault { line, code });
+    assert_eq!(rt; fault_of(parse_p2p(alloc, text, 6)), fault);
+    let mut rest = text;
+    assert_eq!(rt; fault_of(read_p2p(alloc, &mut rest, 6)), fault);
 }
 
-/// Whether the three texts are what they say, as they are parsed.
-fn are_parsed(alloc: Global) -> Result<bool, Fault> {
-    Ok(
-        parse_ss(alloc, LANDMARKS, 6)?.as_slice() == [3, 6].as_slice()
-            && are_pairs(&parse_p2p(alloc, PAIRS, 6)?)
-            && parse_commands(alloc, COMMANDS)?.as_slice() == WRITTEN.as_slice(),
-    )
-}
-
-/// Whether the three texts are what they say, as they are read by so many bytes at once.
-fn are_read(alloc: Global, capacity: usize) -> Result<bool, Fail> {
-    let mut landmarks = BufReader::with_capacity(alloc, capacity, LANDMARKS)?;
-    let mut pairs = BufReader::with_capacity(alloc, capacity, PAIRS)?;
-    let mut commands = BufReader::with_capacity(alloc, capacity, COMMANDS)?;
-    Ok(
-        read_ss(alloc, &mut landmarks, 6)?.as_slice() == [3, 6].as_slice()
-            && are_pairs(&read_p2p(alloc, &mut pairs, 6)?)
-            && read_commands(alloc, &mut commands)?.as_slice() == WRITTEN.as_slice(),
-    )
+fn refuses_commands(rt: &impl Abort, alloc: Global, text: &[u8], line: u64, code: Code) {
+    let fault = Some(Fault { line, code });
+    assert_eq!(rt; fault_of(parse_commands(alloc, text)), fault);
+    let mut rest = text;
+    assert_eq!(rt; fault_of(read_commands(alloc, &mut rest)), fault);
 }
 
 #[test]
 fn other_texts_as_written(rt: HostRuntime) -> Result<(), Fail> {
-    assert!(rt; are_parsed(rt.alloc())?);
+    let alloc = rt.alloc();
+    are_landmarks(&rt, &parse_ss(alloc, b"p aux sp ss 3\ns 6\ns 3\ns 6", 6)?);
+    are_landmarks(&rt, &parse_ss(alloc, LANDMARKS, 6)?);
+    are_pairs(
+        &rt,
+        &parse_p2p(alloc, b"p aux sp p2p 2\nq 1 6\nq 6 1\n", 6)?,
+    );
+    are_pairs(&rt, &parse_p2p(alloc, PAIRS, 6)?);
+    are_commands(&rt, &parse_commands(alloc, COMMANDS)?);
     for capacity in 1..20 {
-        assert!(rt; are_read(rt.alloc(), capacity)?, "{capacity}");
+        let mut reader = BufReader::with_capacity(alloc, capacity, LANDMARKS)?;
+        are_landmarks(&rt, &read_ss(alloc, &mut reader, 6)?);
+        let mut reader = BufReader::with_capacity(alloc, capacity, PAIRS)?;
+        are_pairs(&rt, &read_p2p(alloc, &mut reader, 6)?);
+        let mut reader = BufReader::with_capacity(alloc, capacity, COMMANDS)?;
+        are_commands(&rt, &read_commands(alloc, &mut reader)?);
     }
+    assert!(rt; parse_ss(alloc, b"p aux sp ss 0", 6)?.is_empty());
+    assert!(rt; parse_p2p(alloc, b"p aux sp p2p -0", 6)?.is_empty());
+    assert!(rt; parse_commands(alloc, b"")?.is_empty());
     Ok(())
 }
 
 #[test]
-fn empty_texts(rt: HostRuntime) -> Result<(), Fail> {
-    assert!(rt; parse_ss(rt.alloc(), b"p aux sp ss 0", 6)?.is_empty());
-    assert!(rt; parse_p2p(rt.alloc(), b"p aux sp p2p -0", 6)?.is_empty());
-    assert!(rt; parse_commands(rt.alloc(), b"")?.is_empty());
-    Ok(())
-}
-
-/// Texts of each kind for six nodes, each with its first fault: the line and the code.
-const FAULTS: [(Text, &[u8], u64, Code); 32] = [
-    (Text::Landmarks, b"p aux sp ss 3\ns 7\n", 2, Code::NodeRange),
-    (Text::Landmarks, b"p sp 6 8\n", 1, Code::WrongKind),
-    (Text::Landmarks, b"p aux sp p2p 1\n", 1, Code::WrongKind),
-    (Text::Landmarks, b"p aux sp ss", 1, Code::BadLine),
-    (Text::Landmarks, b"p aux sp ss 1 1", 1, Code::BadLine),
-    (Text::Landmarks, b"", 0, Code::NoProblemLine),
-    (Text::Landmarks, b"s 1", 1, Code::NoProblemLine),
-    (Text::Landmarks, b"p aux sp ss 1\nq 1 2\n", 2, Code::BadLine),
-    (
-        Text::Landmarks,
+fn faults_of_landmarks(rt: HostRuntime) {
+    let alloc = rt.alloc();
+    refuses_landmarks(&rt, alloc, b"p aux sp ss 3\ns 7\n", 2, Code::NodeRange);
+    refuses_landmarks(&rt, alloc, b"p sp 6 8\n", 1, Code::WrongKind);
+    refuses_landmarks(&rt, alloc, b"p aux sp p2p 1\n", 1, Code::WrongKind);
+    refuses_landmarks(&rt, alloc, b"p aux sp ss", 1, Code::BadLine);
+    refuses_landmarks(&rt, alloc, b"p aux sp ss 1 1", 1, Code::BadLine);
+    refuses_landmarks(&rt, alloc, b"", 0, Code::NoProblemLine);
+    refuses_landmarks(&rt, alloc, b"s 1", 1, Code::NoProblemLine);
+    refuses_landmarks(&rt, alloc, b"p aux sp ss 1\nq 1 2\n", 2, Code::BadLine);
+    refuses_landmarks(
+        &rt,
+        alloc,
         b"p aux sp ss 1\np aux sp\n",
         2,
         Code::SecondProblemLine,
-    ),
-    (Text::Landmarks, b"p aux sp ss -1", 1, Code::NumberRange),
-    (Text::Landmarks, b"p aux sp ss 16777217", 1, Code::TooLarge),
-    (
-        Text::Landmarks,
-        b"p aux sp ss 16777216\n\n",
-        2,
-        Code::LineCount,
-    ),
-    (
-        Text::Landmarks,
-        b"p aux sp ss 1\ns 1\ns 1",
-        3,
-        Code::LineCount,
-    ),
-    (Text::Landmarks, b"p aux sp ss 1\ns 0", 2, Code::NodeRange),
-    (
-        Text::Landmarks,
+    );
+    refuses_landmarks(&rt, alloc, b"p aux sp ss -1", 1, Code::NumberRange);
+    refuses_landmarks(&rt, alloc, b"p aux sp ss 16777217", 1, Code::TooLarge);
+    refuses_landmarks(&rt, alloc, b"p aux sp ss 16777216\n\n", 2, Code::LineCount);
+    refuses_landmarks(&rt, alloc, b"p aux sp ss 1\ns 1\ns 1", 3, Code::LineCount);
+    refuses_landmarks(&rt, alloc, b"p aux sp ss 1\ns 0", 2, Code::NodeRange);
+    refuses_landmarks(
+        &rt,
+        alloc,
         b"p aux sp ss 1\ns -9223372036854775808",
         2,
         Code::NumberRange,
-    ),
-    (Text::Pairs, b"p aux sp p2p 1\nq 1 7", 2, Code::NodeRange),
-    (Text::Pairs, b"p aux sp p2p 1\nq 0 1", 2, Code::NodeRange),
-    (Text::Pairs, b"p aux sp p2p 1\nq 1", 2, Code::BadLine),
-    (Text::Pairs, b"p aux sp p2p 1\nq 1 2 3", 2, Code::BadLine),
-    (
-        Text::Pairs,
+    );
+}
+
+#[test]
+fn faults_of_pairs(rt: HostRuntime) {
+    let alloc = rt.alloc();
+    refuses_pairs(&rt, alloc, b"p aux sp p2p 1\nq 1 7", 2, Code::NodeRange);
+    refuses_pairs(&rt, alloc, b"p aux sp p2p 1\nq 0 1", 2, Code::NodeRange);
+    refuses_pairs(&rt, alloc, b"p aux sp p2p 1\nq 1", 2, Code::BadLine);
+    refuses_pairs(&rt, alloc, b"p aux sp p2p 1\nq 1 2 3", 2, Code::BadLine);
+    refuses_pairs(
+        &rt,
+        alloc,
         b"q 1 9223372036854775808",
         1,
         Code::NoProblemLine,
-    ),
-    (Text::Pairs, b"p aux sp ss 1", 1, Code::WrongKind),
-    (Text::Pairs, b"p aux sp p2p 16777217", 1, Code::TooLarge),
-    (
-        Text::Pairs,
-        b"p aux sp p2p 2\nq 1 6\n# \n",
-        3,
-        Code::BadLine,
-    ),
-    (
-        Text::Pairs,
+    );
+    refuses_pairs(&rt, alloc, b"p aux sp ss 1", 1, Code::WrongKind);
+    refuses_pairs(&rt, alloc, b"p aux sp p2p 16777217", 1, Code::TooLarge);
+    refuses_pairs(&rt, alloc, b"p aux sp p2p 2\nq 1 6\n# \n", 3, Code::BadLine);
+    refuses_pairs(
+        &rt,
+        alloc,
         b"p aux sp p2p 2\nq 1 6\nc \n",
         3,
         Code::LineCount,
-    ),
-    (Text::Commands, b"close -1", 1, Code::NumberRange),
-    (Text::Commands, b"set 1 -0", 1, Code::NumberRange),
-    (Text::Commands, b"# \nset 1", 2, Code::BadLine),
-    (Text::Commands, b"mark 1\nunmark 1 2\n", 2, Code::BadLine),
-    (Text::Commands, b"Mark 1", 1, Code::BadLine),
-    (Text::Commands, b"c mark 1", 1, Code::BadLine),
-    (Text::Commands, b"reopen x", 1, Code::BadLine),
-    (
-        Text::Commands,
+    );
+}
+
+#[test]
+fn faults_of_commands(rt: HostRuntime) {
+    let alloc = rt.alloc();
+    refuses_commands(&rt, alloc, b"close -1", 1, Code::NumberRange);
+    refuses_commands(&rt, alloc, b"set 1 -0", 1, Code::NumberRange);
+    refuses_commands(&rt, alloc, b"# \nset 1", 2, Code::BadLine);
+    refuses_commands(&rt, alloc, b"mark 1\nunmark 1 2\n", 2, Code::BadLine);
+    refuses_commands(&rt, alloc, b"Mark 1", 1, Code::BadLine);
+    refuses_commands(&rt, alloc, b"c mark 1", 1, Code::BadLine);
+    refuses_commands(&rt, alloc, b"reopen x", 1, Code::BadLine);
+    refuses_commands(
+        &rt,
+        alloc,
         b"unmark 9223372036854775808",
         1,
         Code::NumberRange,
-    ),
-];
+    );
+}
 
-#[test]
-fn faults_of_other_texts(rt: HostRuntime) {
-    for (kind, text, line, code) in FAULTS {
-        let fault = Some(Fault { line, code });
-        assert!(rt; fault_parsed(rt.alloc(), kind, text) == fault, "{text:?}");
-        assert!(rt; fault_read(rt.alloc(), kind, text) == fault, "{text:?}");
+/// A reader whose n-th read fails.
+#[derive(Drop)]
+struct Failing<'a> {
+    bytes: &'a [u8],
+    reads: u64,
+}
+
+impl Read for Failing<'_> {
+    fn read(&mut self, buf: &mut [u8]) -> io::Result<usize> {
+        self.reads = self.reads.wrapping_sub(1);
+        if self.reads == 0 {
+            return Err(io::Error::from(ErrorKind::BrokenPipe));
+        }
+        self.bytes.read(buf)
     }
 }
 
-/// The fault of a text whose reader of four bytes at once fails at this read, and how many reads failed.
-fn come_of(
-    alloc: Global,
-    kind: Text,
-    text: &[u8],
-    reads: u32,
-) -> Result<(Option<Fault>, u64), Fail> {
-    let mut reader = BufReader::with_capacity(alloc, 4, FailingReader::new(text, reads))?;
-    let mut counted = Counted::new(&mut reader);
-    let fault = fault_counted(alloc, kind, &mut counted);
-    Ok((fault, counted.failed_calls()))
+/// The fault of a read that failed behind these bytes.
+fn failed_behind(front: &[u8]) -> Option<Fault> {
+    let mut line = 1u64;
+    for byte in front {
+        if *byte == b'\n' {
+            line = line.wrapping_add(1);
+        }
+    }
+    Some(Fault {
+        line,
+        code: Code::Read,
+    })
 }
 
 #[test]
 fn other_readers_fail_midway(rt: HostRuntime) -> Result<(), Fail> {
-    for (kind, text) in [
-        (Text::Landmarks, LANDMARKS),
-        (Text::Pairs, PAIRS),
-        (Text::Commands, COMMANDS),
-    ] {
-        for reads in 1..9 {
-            let (told, failed) = come_of(rt.alloc(), kind, text, reads)?;
-            let line = line_behind(text, (reads as usize).saturating_sub(1).saturating_mul(4));
-            let fault = Fault {
-                line,
-                code: Code::Read,
-            };
-            assert!(rt; told == Some(fault) && failed == 1, "{kind:?} {reads}");
-        }
+    let alloc = rt.alloc();
+    for reads in 1..9 {
+        let front = (reads as usize).wrapping_sub(1).wrapping_mul(4);
+        let bytes = LANDMARKS;
+        let mut reader = BufReader::with_capacity(alloc, 4, Failing { bytes, reads })?;
+        let mut counted = Counted::new(&mut reader);
+        let fault = fault_of(read_ss_counted(alloc, &mut counted, 6));
+        assert_eq!(rt; fault, failed_behind(&bytes[..front]));
+        assert_eq!(rt; counted.failed_calls(), 1);
+        let bytes = PAIRS;
+        let mut reader = BufReader::with_capacity(alloc, 4, Failing { bytes, reads })?;
+        let mut counted = Counted::new(&mut reader);
+        let fault = fault_of(read_p2p_counted(alloc, &mut counted, 6));
+        assert_eq!(rt; fault, failed_behind(&bytes[..front]));
+        assert_eq!(rt; counted.failed_calls(), 1);
+        let bytes = COMMANDS;
+        let mut reader = BufReader::with_capacity(alloc, 4, Failing { bytes, reads })?;
+        let mut counted = Counted::new(&mut reader);
+        let fault = fault_of(read_commands_counted(alloc, &mut counted));
+        assert_eq!(rt; fault, failed_behind(&bytes[..front]));
+        assert_eq!(rt; counted.failed_calls(), 1);
     }
     Ok(())
 }
 
-/// A value that is right, or none for want of memory.
-fn is_right_or_starved(rt: &impl Abort, read: Result<bool, Fault>) {
-    match read {
-        Ok(right) => assert!(rt; right),
-        Err(fault) => assert!(rt; fault.code == Code::OutOfMemory),
-    }
+fn is_starved(fault: Fault) -> bool {
+    fault.code == Code::OutOfMemory
 }
 
-/// To be run with each allocation failing in turn.
 #[test]
 fn other_allocations_fail_in_turn(rt: HostRuntime) {
-    is_right_or_starved(&rt, are_parsed(rt.alloc()));
-    if let Ok(mut reader) = BufReader::with_capacity(rt.alloc(), 5, COMMANDS) {
-        let read = read_commands(rt.alloc(), &mut reader);
-        is_right_or_starved(&rt, read.map(|read| read.as_slice() == WRITTEN.as_slice()));
+    let alloc = rt.alloc();
+    match parse_ss(alloc, LANDMARKS, 6) {
+        Ok(landmarks) => are_landmarks(&rt, &landmarks),
+        Err(fault) => assert!(&rt; is_starved(fault)),
+    }
+    match parse_p2p(alloc, PAIRS, 6) {
+        Ok(pairs) => are_pairs(&rt, &pairs),
+        Err(fault) => assert!(&rt; is_starved(fault)),
+    }
+    if let Ok(mut reader) = BufReader::with_capacity(alloc, 5, COMMANDS) {
+        match read_commands(alloc, &mut reader) {
+            Ok(commands) => are_commands(&rt, &commands),
+            Err(fault) => assert!(&rt; is_starved(fault)),
+        }
     }
 }

@@ -1,4 +1,4 @@
-//! Tests of the texts and of scripts by their public calls.
+//! Tests of texts by their public calls.
 #![tactic(auto)]
 
 #[cfg(test)]

@@ -9,7 +9,7 @@ const CLOSE: Command = Command::Close { arc: 1 };
 const REOPEN: Command = Command::Reopen { arc: 1 };
 
 #[test]
-fn a_receipt_is_confirmed(rt: HostRuntime) -> Result<(), Fail> {
+fn fronts_of_a_history(rt: HostRuntime) -> Result<(), Fail> {
     let network = network(rt.alloc(), 2, &[(1, 2, 5)]).map_err(|_| Fail::from("a network"))?;
     let mut history = History::new(&network, 7);
     let none = history.front(0);
@@ -33,6 +33,19 @@ fn a_receipt_is_confirmed(rt: HostRuntime) -> Result<(), Fail> {
         (2, 2, 1)
     );
     assert!(rt; history.begins(&two) && history.begins(&none));
+    Ok(())
+}
+
+#[test]
+fn a_receipt_is_confirmed(rt: HostRuntime) -> Result<(), Fail> {
+    let network = network(rt.alloc(), 2, &[(1, 2, 5)]).map_err(|_| Fail::from("a network"))?;
+    let mut history = History::new(&network, 7);
+    let first = history.write(CLOSE);
+    let one = history.front(history.len());
+    if !first || !history.write(REOPEN) {
+        return Err(Fail::from("a history with room"));
+    }
+    let two = history.front(2);
     let ticket = Ticket {
         number: 9,
         command: REOPEN,

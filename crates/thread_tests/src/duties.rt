@@ -291,6 +291,7 @@ fn gate_is_asked_without_the_lock(rt: HostRuntime) -> Result<(), Fail> {
             Move::Let(Post::Step, u64::MAX),
             Move::Let(Post::Task, u64::MAX),
             Move::SeeLast,
+            Move::Await(Post::Step, 4),
             Move::Numbers(Post::Task),
         ],
         ..PLAIN

@@ -50,14 +50,18 @@ class Disk:
 
 
 class Network:
-    def __init__(self, nodes, arcs, landmarks=()):
+    def __init__(self, nodes, arcs, landmarks=(), room=0):
         self.nodes, self.arcs, self.landmarks = nodes, [list(arc) for arc in arcs], set(landmarks)
+        self.room = max(room, len(self.arcs))
 
     def copy(self):
-        return Network(self.nodes, self.arcs, self.landmarks)
+        return Network(self.nodes, self.arcs, self.landmarks, self.room)
 
     def refusal(self, command):
         word, number, *more = command
+        if word == "lay":
+            are_nodes = all(1 <= it <= self.nodes for it in (number, more[0]))
+            return 21 if more[1] > 2147483647 else 24 if not are_nodes else 29 if len(self.arcs) == self.room else None
         if word in ("mark", "unmark"):
             marked = number in self.landmarks
             if not 1 <= number <= self.nodes:
@@ -72,12 +76,23 @@ class Network:
 
     def apply(self, command):
         word, number, *more = command
-        if word == "set":
+        if word == "lay":
+            self.arcs.append([number, *more, True])
+        elif word == "set":
             self.arcs[number - 1][2] = more[0]
         elif word in ("close", "reopen"):
             self.arcs[number - 1][3] = word == "reopen"
         else:
             (self.landmarks.add if word == "mark" else self.landmarks.discard)(number)
+
+    def after(self, group):
+        """The network after a group of commands, or the refusal of its first command that is not admitted after those before it."""
+        network = self.copy()
+        for command in group:
+            if (code := network.refusal(command)) is not None:
+                return None, code
+            network.apply(command)
+        return network, None
 
     def row(self, source):
         legs, found, queue = {}, {}, [(0, source)]
@@ -109,17 +124,23 @@ class Network:
         return f"b {source} {target} {bound}"
 
 
-KINDS = ["set", "close", "reopen", "mark", "unmark"]
+KINDS = ["set", "close", "reopen", "mark", "unmark", "lay"]
+
+
+def record(command, goes_on):
+    word, number, *more = command
+    return struct.pack(">BBHIII", KINDS.index(word) + 1, goes_on, 0, number, *(more + [0, 0])[:2])
 
 
 class Store:
     """A store on a disk, and how it is made, opened and written."""
 
-    def __init__(self, disk, nodes, ends, places):
-        self.disk, self.nodes, self.ends, self.places = disk, nodes, ends, places
-        self.words = -(-len(ends) // 1023)
-        self.heads = [-(-len(ends) // 511) + 1, -(-len(ends) // 511) + self.words + 2]
-        self.ring = self.heads[1] + self.words + 1
+    def __init__(self, disk, nodes, ends, room, places):
+        self.disk, self.nodes, self.ends, self.room, self.places = disk, nodes, ends, room, places
+        self.words, self.laid = -(-room // 1023), -(-(room - len(ends)) // 511)
+        arcs = -(-len(ends) // 511)
+        self.heads = [arcs + 1, arcs + self.words + self.laid + 2]
+        self.ring = self.heads[1] + self.words + self.laid + 1
         self.going = None
 
     def pages(self):
@@ -137,25 +158,29 @@ class Store:
 
     def head(self, epoch, version, sequence, network):
         marks = sorted(network.landmarks)
-        return struct.pack(">QQQI", epoch, version, sequence, len(marks)) + b"".join(struct.pack(">I", it) for it in marks)
+        return struct.pack(">QQQII", epoch, version, sequence, len(marks), len(network.arcs)) + b"".join(struct.pack(">I", it) for it in marks)
 
-    def word_pages(self, network, first, count):
-        pages = b""
-        for page in range(first, first + count):
+    def slot_page(self, network, page):
+        """A word page, or an end page behind these."""
+        if page < self.words:
             words = [length | (0 if is_open else 1 << 31) for _, _, length, is_open in network.arcs[page * 1023 : (page + 1) * 1023]]
-            pages += b"".join(struct.pack(">I", it) for it in words).ljust(PAGE, b"\0")
-        return pages
+            return b"".join(struct.pack(">I", it) for it in words).ljust(PAGE, b"\0")
+        first = len(self.ends) + (page - self.words) * 511
+        return b"".join(struct.pack(">II", tail, head) for tail, head, _, _ in network.arcs[first : first + 511]).ljust(PAGE, b"\0")
+
+    def slot_pages(self, network, first, count):
+        return b"".join(self.slot_page(network, page) for page in range(first, first + count))
 
     def create(self, network):
         out = bytearray(self.pages() * PAGE)
-        out[0:24] = b"ROADMRK1" + struct.pack(">IIII", 1, self.nodes, len(self.ends), self.places)
+        out[0:28] = b"ROADMRK1" + struct.pack(">IIIII", 2, self.nodes, len(self.ends), self.places, self.room)
         for i, (tail, head) in enumerate(self.ends):
             at = (1 + i // 511) * PAGE + i % 511 * 8
             out[at : at + 8] = struct.pack(">II", tail, head)
         head = self.head(1, 0, 0, network)
         at = self.heads[0] * PAGE
         out[at : at + len(head)] = head
-        out[at + PAGE : at + PAGE * (1 + self.words)] = self.word_pages(network, 0, self.words)
+        out[at + PAGE : at + PAGE * (1 + self.words)] = self.slot_pages(network, 0, self.words)
         self.disk.write(0, bytes(out))
         self.disk.sync()
         self.gate(self.heads[0], OPEN)
@@ -170,14 +195,19 @@ class Store:
         assert slots and len(set(epochs.values())) == len(slots)
         self.slot = max(slots, key=epochs.get)
         page = self.read(self.heads[self.slot])
-        self.epoch, self.version, sequence, count = struct.unpack(">QQQI", page[:28])
-        marks = struct.unpack(f">{count}I", page[28 : 28 + 4 * count])
-        assert 1 <= self.epoch <= sequence + 1 and sequence <= self.version and not any(page[28 + 4 * count : PAGE - 1])
-        assert list(marks) == sorted(set(marks))
-        words = b"".join(self.read(self.heads[self.slot] + 1 + i)[:4092] for i in range(self.words))
-        lengths = struct.unpack(f">{len(self.ends)}I", words[: 4 * len(self.ends)])
-        arcs = [[*ends, word & 0x7FFFFFFF, not word >> 31] for ends, word in zip(self.ends, lengths)]
-        self.network = Network(self.nodes, arcs, marks)
+        self.epoch, self.version, sequence, count, size = struct.unpack(">QQQII", page[:32])
+        marks = struct.unpack(f">{count}I", page[32 : 32 + 4 * count])
+        assert 1 <= self.epoch <= sequence + 1 and sequence <= self.version and not any(page[32 + 4 * count : PAGE - 1])
+        assert list(marks) == sorted(set(marks)) and len(self.ends) <= size <= self.room
+        first = self.heads[self.slot] + 1
+        words = b"".join(self.read(first + i)[:4092] for i in range(self.words))
+        laid = b"".join(self.read(first + self.words + i)[:4088] for i in range(self.laid))
+        new = size - len(self.ends)
+        assert not any(words[4 * size :]) and not any(laid[8 * new :])
+        ends = [*self.ends, *struct.iter_unpack(">II", laid[: 8 * new])]
+        lengths = struct.unpack(f">{size}I", words[: 4 * size])
+        arcs = [[*pair, word & 0x7FFFFFFF, not word >> 31] for pair, word in zip(ends, lengths)]
+        self.network = Network(self.nodes, arcs, marks, self.room)
         self.unchecked = 0
         while self.unchecked < self.places:
             page = self.read(self.ring + (sequence + self.unchecked) % self.places)
@@ -185,12 +215,15 @@ class Store:
                 break
             first, count = struct.unpack(">QH", page[8:18])
             assert first == self.version + 1 and 1 <= count <= 253 and not any(page[18:32]) and not any(page[32 + 16 * count : PAGE - 1])
+            goes_on = 0
             for at in range(32, 32 + 16 * count, 16):
-                kind, number, length, zero = struct.unpack(">IIII", page[at : at + 16])
-                command = (KINDS[(kind >> 24) - 1], number) + ((length,) if kind >> 24 == 1 else ())
-                assert not kind & 0xFFFFFF and not zero and self.network.refusal(command) is None
+                kind, goes_on, zero, *fields = struct.unpack(">BBHIII", page[at : at + 16])
+                size = {1: 2, 6: 3}.get(kind, 1)
+                command = (KINDS[kind - 1], *fields[:size])
+                assert goes_on < 2 and not zero and not any(fields[size:]) and self.network.refusal(command) is None
                 self.network.apply(command)
-            self.version += count
+                self.version += not goes_on
+            assert not goes_on
             self.unchecked += 1
         self.sequence = sequence + self.unchecked
         self.going = None
@@ -200,17 +233,16 @@ class Store:
         self.disk.sync()
         self.gate(page, OPEN)
 
-    def commit(self, commands):
+    def commit(self, groups):
         page = self.ring + self.sequence % self.places
-        body = struct.pack(">QQH", self.sequence, self.version + 1, len(commands)).ljust(32, b"\0")
-        for word, number, *more in commands:
-            body += struct.pack(">IIII", (KINDS.index(word) + 1) << 24, number, *(more or [0]), 0)
+        records = b"".join(record(it, i + 1 < len(group)) for group in groups for i, it in enumerate(group))
+        body = struct.pack(">QQH", self.sequence, self.version + 1, len(records) // 16).ljust(32, b"\0") + records
         if self.is_open(page):
             self.gate(page, 0)
         self.write_gated(page, body)
-        for command in commands:
-            self.network.apply(command)
-        self.version, self.sequence, self.unchecked = self.version + len(commands), self.sequence + 1, self.unchecked + 1
+        for group in groups:
+            self.network, _ = self.network.after(group)
+        self.version, self.sequence, self.unchecked = self.version + len(groups), self.sequence + 1, self.unchecked + 1
 
     def step(self, most):
         """A part of a checkpoint: the version in the slot once it is whole, else nothing."""
@@ -222,10 +254,10 @@ class Store:
             if self.is_open(other):
                 self.gate(other, 0)
         network, version, sequence, done = self.going
-        count = min(most, self.words - done)
+        count = min(most, self.words + self.laid - done)
         if count:
-            self.disk.write((other + 1 + done) * PAGE, self.word_pages(network, done, count))
-        if done + count < self.words:
+            self.disk.write((other + 1 + done) * PAGE, self.slot_pages(network, done, count))
+        if done + count < self.words + self.laid:
             self.disk.sync()
             self.going[3] += count
             return None
@@ -237,8 +269,9 @@ class Store:
 class Keeper:
     def __init__(self, network, places):
         self.disk = Disk()
-        self.store = Store(self.disk, network.nodes, [tuple(arc[:2]) for arc in network.arcs], places)
+        self.store = Store(self.disk, network.nodes, [tuple(arc[:2]) for arc in network.arcs], network.room, places)
         self.store.create(network)
+        self.group = None
         self.begin()
 
     def begin(self):
@@ -251,8 +284,9 @@ class Keeper:
         if word == "flush":
             if not self.pending or store.unchecked == store.places:
                 return "no 44" if self.pending else "no 53"
-            store.commit(self.pending[:253])
-            del self.pending[:253]
+            count = sum(sum(map(len, self.pending[: i + 1])) <= 253 for i in range(len(self.pending)))
+            store.commit(self.pending[:count])
+            del self.pending[:count]
             return f"ok {store.version}"
         if word == "step":
             version = store.step(numbers[0])
@@ -261,16 +295,31 @@ class Keeper:
             pass
         return f"ok {version}"
 
+    def submit(self, group):
+        if sum(map(len, self.pending)) + len(group) > 4096:
+            return "no 50"
+        network, code = self.accepted.after(group)
+        if code is not None:
+            return f"no {code}"
+        self.pending.append(group)
+        self.accepted = network
+        return f"t {self.store.version + len(self.pending)}"
+
     def event(self, line):
         """The lines that this line of a script prints."""
         word, *fields = line.split()
         numbers = [int(it) if it.isdigit() else it for it in fields]
+        if word == "begin":
+            self.group = []
+            return []
+        if word == "end":
+            group, self.group = self.group, None
+            return [self.submit(group)]
+        if self.group is not None:
+            self.group.append((word, *numbers))
+            return []
         if word in KINDS:
-            if (code := self.accepted.refusal((word, *numbers))) is not None:
-                return [f"no {code}"]
-            self.pending.append((word, *numbers))
-            self.accepted.apply((word, *numbers))
-            return [f"t {self.store.version + len(self.pending)}"]
+            return [self.submit([(word, *numbers)])]
         if word in ("flush", "checkpoint", "step"):
             return [self.write(word, *numbers)]
         if word == "task":
@@ -303,20 +352,37 @@ def random_network(dice):
     nodes = dice.choice([1, 2, 3, 6, 9])
     count = dice.choice([0, 1, 4, 12, 12, 1023, 1024, 2100, 3500])
     most = dice.choice([3, 20, 20, 2147483647])
-    return Network(nodes, [(dice.randint(1, nodes), dice.randint(1, nodes), dice.randint(0, most), True) for _ in range(count)])
+    arcs = [(dice.randint(1, nodes), dice.randint(1, nodes), dice.randint(0, most), True) for _ in range(count)]
+    return Network(nodes, arcs, room=count + dice.choice([0, 1, 3, 40, 511, 600]))
 
 
-def random_line(dice, network):
-    arc = dice.randint(0 if dice.random() < 0.05 else 1, max(1, min(len(network.arcs) + (dice.random() < 0.05), 12)))
+def random_command(dice, network):
+    arc = dice.randint(0 if dice.random() < 0.05 else 1, max(1, min(len(network.arcs) + dice.choice([0, 0, 1, 3]), 12)))
     node = lambda: dice.randint(0 if dice.random() < 0.03 else 1, network.nodes + (dice.random() < 0.03))
-    picks = lambda: " ".join(dice.choice(["old", "new", "0", "165", str(dice.randint(0, 255))]) for _ in range(dice.choice([1, 1, 2, 3, 8])))
-    step = lambda: f"step {dice.choice([1, 1, 2, 64])}"
+    length = lambda: dice.choice([0, 1, 2, 5, 17, 2147483647, 2147483648, dice.randint(0, 99)])
     kinds = [
-        (6, lambda: f"set {arc} {dice.choice([0, 1, 2, 5, 17, 2147483647, 2147483648, dice.randint(0, 99)])}"),
+        (6, lambda: f"set {arc} {length()}"),
         (3, lambda: f"close {arc}"),
         (3, lambda: f"reopen {arc}"),
         (2, lambda: f"mark {node()}"),
         (1, lambda: f"unmark {node()}"),
+        (4, lambda: f"lay {node()} {node()} {length()}"),
+    ]
+    return dice.choices([it for _, it in kinds], [weight for weight, _ in kinds])[0]()
+
+
+def random_lines(dice, network):
+    """A line of a script, or those of a group."""
+    if dice.random() < 0.1:
+        return ["begin", *(random_command(dice, network) for _ in range(dice.choice([1, 2, 2, 3, 9, 120, 253]))), "end"]
+    return [random_command(dice, network) if dice.random() < 0.35 else random_event(dice, network)]
+
+
+def random_event(dice, network):
+    node = lambda: dice.randint(0 if dice.random() < 0.03 else 1, network.nodes + (dice.random() < 0.03))
+    picks = lambda: " ".join(dice.choice(["old", "new", "0", "165", str(dice.randint(0, 255))]) for _ in range(dice.choice([1, 1, 2, 3, 8])))
+    step = lambda: f"step {dice.choice([1, 1, 2, 64])}"
+    kinds = [
         (6, lambda: "flush"),
         (2, lambda: "checkpoint"),
         (3, step),
@@ -339,14 +405,15 @@ def main():
         for number in range(seed, seed + count):
             dice = random.Random(number)
             network, places = random_network(dice), dice.choice([1, 1, 2, 2, 3, 5])
-            script = [random_line(dice, network) for _ in range(dice.choice([10, 40, 120]))]
+            script = [line for _ in range(dice.choice([10, 40, 120])) for line in random_lines(dice, network)]
             with open(f"{room}/net.gr", "w") as out:
                 out.write(f"p sp {network.nodes} {len(network.arcs)}\n" + "".join(f"a {t} {h} {w}\n" for t, h, w, _ in network.arcs))
             with open(f"{room}/script", "w") as out:
                 out.write("".join(f"{it}\n" for it in script))
             keeper = Keeper(network, places)
             wanted = [line for it in script for line in keeper.event(it)]
-            run = subprocess.run([program, "rehearse", f"{room}/net.gr", f"{room}/script", "--journal", str(places)], capture_output=True, text=True)
+            words = ["rehearse", f"{room}/net.gr", f"{room}/script", "--journal", str(places), "--room", str(network.room)]
+            run = subprocess.run([program, *words], capture_output=True, text=True)
             told = run.stdout.splitlines()
             if run.returncode or told != wanted:
                 at = next((i for i, pair in enumerate(zip(told, wanted)) if pair[0] != pair[1]), min(len(told), len(wanted)))

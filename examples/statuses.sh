@@ -28,6 +28,8 @@ cp six.store other.store
 ends 0 '' apply other.store six.commands > out
 ends 0 '' serve other.store > out < <(printf 'close 7\nclose 7\nhello\n')
 ends 0 '' create new.store six.gr six.ss > out
+cp "$top/examples/old.store" .
+ends 0 '' migrate old.store moved.store --room 10 > out
 # 1: a fault of a text, a file, a store, the output, the input of a session
 printf 'p sp 2 1\na 1 2 -5\n' > bad.gr
 head -c 4000 six.store > short.store
@@ -35,6 +37,10 @@ ends 1 'roadmark: bad.gr: line 2: 7 LengthRange' once bad.gr 1 2 > out
 ends 1 'roadmark: none.gr: line 0: 10 Read' once none.gr 1 2 > out
 ends 1 'roadmark: a\nb\u{1b}: line 0: 10 Read' once $'a\nb\e' 1 2 > out
 ends 1 'roadmark: 46 NotEmpty' create six.store six.gr six.ss > out
+ends 1 'roadmark: 46 NotEmpty' migrate old.store six.store > out
+ends 1 'roadmark: 41 WrongFormat' ask old.store six.p2p > out
+ends 1 'roadmark: 41 WrongFormat' migrate six.store none.store > out
+ends 1 'roadmark: 9 TooLarge' create none.store six.gr six.ss --room 7 > out
 ends 1 'roadmark: 40 NotAStore' check short.store > out
 ends 1 'roadmark: 12 Write' once six.gr 1 6 > /dev/full
 ends 1 'roadmark: 12 Write' --help > /dev/full

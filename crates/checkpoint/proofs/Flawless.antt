@@ -1,9 +1,9 @@
 -- What is read has no flaw: a network can be made of it.
-use Rattle.std.proofs.Common.{◌≡◌, ◌∙◌, ◌⊎◌, ⊎_elim, ℕ, ◌+◌, ◌*◌, ◌^◌, ◌<◌, ◌≤◌, true, false, not, ◌&&◌, List, [], ◌∷◌, ◌++◌, length, take, Option, Some, None, Ok, refl, sym, ap, subst, arith}
+use Rattle.std.proofs.Common.{◌≡◌, ◌∙◌, ◌⊎◌, ⊎_elim, ℕ, ◌+◌, ◌-◌, ◌*◌, ◌^◌, ◌<◌, ◌≤◌, true, false, not, ◌&&◌, List, [], ◌∷◌, ◌++◌, length, take, drop, Option, Some, None, Ok, refl, sym, ap, subst, arith}
 use Rattle.std.specs.Prelude.{map, min}
 use Rattle.std.specs.List.{AllByRecursion}
 use Rattle.std.proofs.lemmas.Bool.Decides.{nat_tests}
-use Rattle.std.proofs.lemmas.List.{take_all}
+use Rattle.std.proofs.lemmas.List.{take_all, length-drop}
 use Rattle.roadnet.specs.declared.arcs.RoadArc.{RoadArc}
 use Rattle.roadnet.specs.declared.refusals.Refusal.{Refusal}
 use Rattle.roadnet.specs.declared.refusals.Refusal.TheVariants.{TooManyLandmarks, OutOfMemory}
@@ -14,12 +14,13 @@ use Rattle.pages.specs.declared.header.Header.{Header}
 use Rattle.pages.specs.declared.content.Slot.{Slot}
 use Rattle.pages.specs.Contents.{Head}
 use Rattle.pages.specs.Spelling.{IsHeader, IsHead, IsEnds, IsWord, ends_of, word_of}
-use Rattle.pages.specs.Layout.{Words, page_number, places_in_use, word_pages}
+use Rattle.pages.specs.Layout.{Words, EndsOf, page_number, places_in_use, word_pages, end_pages}
 use Rattle.storefile.specs.Judging.{spelled_at, arcs_in, words_in}
 use Rattle.storefile.proofs.Sound.{arcs_spelled, words_spelled}
+use Rattle.storefile.proofs.Opening.{both_ends}
 use Rattle.checkpoint.specs.Loading.{EndsArePut, WordsArePut}
 use Rattle.checkpoint.proofs.Ascending.{set_of_ascending}
-use Rattle.checkpoint.proofs.SoFar.{ends_told, words_of_page}
+use Rattle.checkpoint.proofs.SoFar.{ends_told, words_of_page, laid_of_page}
 
 -- ---- what a page spells is fit
 
@@ -38,22 +39,41 @@ more_ends h i bytes old new put before =
     subst (AllByRecursion (IsEnds h.nodes)) (sym put.put) (all_joined (IsEnds h.nodes) (map ends_of old) put.ends before spelled.fits)
 
 -- the words of one page more
-pub more_words : (h : Header) (slot : Slot) (i : ℕ) (bytes : List ℕ) (old new : List RoadArc) → WordsArePut (words_of_page h slot i bytes) old new → AllByRecursion IsWord (map word_of old) → AllByRecursion IsWord (map word_of new)
-more_words h slot i bytes old new put before =
-    let spelled = words_spelled (places_in_use 1023 i h.arcs) bytes put.words (is_found (page_number h (Words slot i)) (words_in (places_in_use 1023 i h.arcs) bytes) put.words put.said_is) in
+pub more_words : (h : Header) (slot : Slot) (m i : ℕ) (bytes : List ℕ) (old new : List RoadArc) → WordsArePut (words_of_page h slot m i bytes) old new → AllByRecursion IsWord (map word_of old) → AllByRecursion IsWord (map word_of new)
+more_words h slot m i bytes old new put before =
+    let spelled = words_spelled (places_in_use 1023 i m) bytes put.words (is_found (page_number h (Words slot i)) (words_in (places_in_use 1023 i m) bytes) put.words put.said_is) in
     subst (AllByRecursion IsWord) (sym put.put) (all_joined IsWord (map word_of old) put.words before spelled.fits)
 
 -- of no page
-pub none_yet : (h : Header) (arcs : List RoadArc) → AllByRecursion IsWord (map word_of (take (min (1023 * 0) h.arcs) arcs))
-none_yet h arcs =
-    let none : 0 ≡ min (1023 * 0) h.arcs = omega arith in
+pub none_yet : (m : ℕ) (arcs : List RoadArc) → AllByRecursion IsWord (map word_of (take (min (1023 * 0) m) arcs))
+none_yet m arcs =
+    let none : 0 ≡ min (1023 * 0) m = omega arith in
     subst (λ (n : ℕ). AllByRecursion IsWord (map word_of (take n arcs))) none tt
 
 -- behind the last page
-pub whole_fits : (h : Header) (arcs : List RoadArc) (i : ℕ) → word_pages h ≤ i → length arcs ≡ h.arcs → AllByRecursion IsWord (map word_of (take (min (1023 * i) h.arcs) arcs)) → AllByRecursion IsWord (map word_of arcs)
-whole_fits h arcs i past count fit =
-    let whole : length arcs ≤ min (1023 * i) h.arcs = omega arith in
-    subst (λ (xs : List RoadArc). AllByRecursion IsWord (map word_of xs)) (take_all (min (1023 * i) h.arcs) arcs whole) fit
+pub whole_fits : (h : Header) (m : ℕ) (arcs : List RoadArc) (i : ℕ) → word_pages h ≤ i → length arcs ≡ m → m ≤ h.room → AllByRecursion IsWord (map word_of (take (min (1023 * i) m) arcs)) → AllByRecursion IsWord (map word_of arcs)
+whole_fits h m arcs i past count within fit =
+    let whole : length arcs ≤ min (1023 * i) m = omega arith in
+    subst (λ (xs : List RoadArc). AllByRecursion IsWord (map word_of xs)) (take_all (min (1023 * i) m) arcs whole) fit
+
+-- the ends of one page more
+pub more_laid : (h : Header) (slot : Slot) (m i : ℕ) (bytes : List ℕ) (old new : List RoadArc) → EndsArePut (laid_of_page h slot m i bytes) old new → AllByRecursion (IsEnds h.nodes) (map ends_of old) → AllByRecursion (IsEnds h.nodes) (map ends_of new)
+more_laid h slot m i bytes old new put before =
+    let spelled = arcs_spelled h.nodes (places_in_use 511 i (m - h.arcs)) bytes put.ends (is_found (page_number h (EndsOf slot i)) (arcs_in h.nodes (places_in_use 511 i (m - h.arcs)) bytes) put.ends put.said_is) in
+    subst (AllByRecursion (IsEnds h.nodes)) (sym put.put) (all_joined (IsEnds h.nodes) (map ends_of old) put.ends before spelled.fits)
+
+pub none_laid : (h : Header) (m : ℕ) (arcs : List RoadArc) → AllByRecursion (IsEnds h.nodes) (map ends_of (take (min (511 * 0) (m - h.arcs)) (drop h.arcs arcs)))
+none_laid h m arcs =
+    let none : 0 ≡ min (511 * 0) (m - h.arcs) = omega arith in
+    subst (λ (n : ℕ). AllByRecursion (IsEnds h.nodes) (map ends_of (take n (drop h.arcs arcs)))) none tt
+
+-- the first arcs and the laid ones
+pub all_ends : (h : Header) (m : ℕ) (arcs : List RoadArc) (i : ℕ) → end_pages h ≤ i → length arcs ≡ m → m ≤ h.room → AllByRecursion (IsEnds h.nodes) (map ends_of (take h.arcs arcs))
+    → AllByRecursion (IsEnds h.nodes) (map ends_of (take (min (511 * i) (m - h.arcs)) (drop h.arcs arcs))) → AllByRecursion (IsEnds h.nodes) (map ends_of arcs)
+all_ends h m arcs i past count within first laid =
+    let whole : length (drop h.arcs arcs) ≤ min (511 * i) (m - h.arcs) = omega (arith, length-drop h.arcs arcs) in
+    let others = subst (λ (xs : List RoadArc). AllByRecursion (IsEnds h.nodes) (map ends_of xs)) (take_all (min (511 * i) (m - h.arcs)) (drop h.arcs arcs) whole) laid in
+    subst (AllByRecursion (IsEnds h.nodes)) (both_ends h.arcs arcs) (all_joined (IsEnds h.nodes) (map ends_of (take h.arcs arcs)) (map ends_of (drop h.arcs arcs)) first others)
 
 -- ---- parts without a flaw
 
@@ -84,10 +104,10 @@ all_nodes nodes (x ∷ xs) fit = neither (not (is_node_among nodes x)) (has_stra
 fit_count : (nodes : ℕ) → 1 ≤ nodes → nodes ≤ 33554432 → is_node_count nodes ≡ true
 fit_count nodes from to = grind (arith, nat_tests)
 
-no_flaw : (h : Header) (arcs : List RoadArc) (head : Head) → IsHeader h → IsHead h.nodes head → length arcs ≡ h.arcs → AllByRecursion (IsEnds h.nodes) (map ends_of arcs) → AllByRecursion IsWord (map word_of arcs)
+no_flaw : (h : Header) (arcs : List RoadArc) (head : Head) → IsHeader h → IsHead h head → length arcs ≡ head.arcs → AllByRecursion (IsEnds h.nodes) (map ends_of arcs) → AllByRecursion IsWord (map word_of arcs)
     → flaw_of h.nodes arcs head.landmarks ≡ None
 no_flaw h arcs head fits is count ends words =
-    let few : length arcs ≤ 67108864 = omega (arith, count, fits.arcs_to) in
+    let few : length arcs ≤ 67108864 = omega (arith, count, is.arcs.1, fits.room_to) in
     let all : set_of head.landmarks ≡ head.landmarks = set_of_ascending head.landmarks is.ascending in
     let landmarks_to : length (set_of head.landmarks) ≤ 1000 = omega (arith, ap length all, is.numbers.count_to) in
     flaw-none h.nodes arcs head.landmarks (fit_count h.nodes fits.some_node fits.nodes_to) few (none_long arcs words)
@@ -97,7 +117,7 @@ is_not_some : (refusal : Refusal) → ¬ (None ≡ Some refusal)
 is_not_some refusal e = absurd cc
 
 -- Of such parts a network is refused for want of memory alone.
-pub for_memory : (h : Header) (arcs : List RoadArc) (head : Head) (refusal : Refusal) → IsHeader h → IsHead h.nodes head → length arcs ≡ h.arcs → AllByRecursion (IsEnds h.nodes) (map ends_of arcs) → AllByRecursion IsWord (map word_of arcs)
+pub for_memory : (h : Header) (arcs : List RoadArc) (head : Head) (refusal : Refusal) → IsHeader h → IsHead h head → length arcs ≡ head.arcs → AllByRecursion (IsEnds h.nodes) (map ends_of arcs) → AllByRecursion IsWord (map word_of arcs)
     → MayRefuseParts h.nodes arcs head.landmarks refusal → refusal ≡ OutOfMemory
 for_memory h arcs head refusal fits is count ends words may =
     ⊎_elim

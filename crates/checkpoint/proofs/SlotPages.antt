@@ -1,5 +1,5 @@
 -- What a file holds, and what a stop leaves of it, while the pages of a slot are written.
-use Rattle.std.proofs.Common.{◌≡◌, ◌≢◌, ◌⊎◌, inl, inr, ⊎_elim, ℕ, ◌+◌, ◌-◌, ◌*◌, ◌<◌, ◌≤◌, List, [], ◌∷◌, ◌++◌, length, get_or, take, drop, sym, ◌∙◌, ap, subst, arith, append_assoc, length-take}
+use Rattle.std.proofs.Common.{◌≡◌, ◌≢◌, ◌⊎◌, inl, inr, ⊎_elim, ℕ, ◌+◌, ◌-◌, ◌*◌, ◌<◌, ◌≤◌, List, [], ◌∷◌, ◌++◌, length, get_or, take, drop, refl, sym, ◌∙◌, ap, subst, arith, append_assoc, length-take}
 use Rattle.std.proofs.lemmas.Bool.{cases_lt}
 use Rattle.std.proofs.lemmas.List.{ext_get_or, get_or-take, drop-drop}
 use borrow.Rule.Slice.PartMut.{put_mid}
@@ -14,19 +14,20 @@ use Rattle.roadnet.specs.Net.{Net}
 use Rattle.pages.specs.declared.header.Header.{Header}
 use Rattle.pages.specs.declared.content.Slot.{Slot}
 use Rattle.pages.specs.declared.content.Slot.TheVariants.{A, B}
+use Rattle.pages.specs.declared.content.Format.{Format}
 use Rattle.pages.specs.Contents.{Head}
 use Rattle.pages.specs.Spelling.{body, head_fields, head_page}
-use Rattle.pages.specs.Layout.{HeadOf, Words, word_pages, page_number, page_count}
+use Rattle.pages.specs.Layout.{HeadOf, slot_pages, page_number, page_count}
 use Rattle.pages.proofs.Heads.{length-fields}
 use Rattle.storefile.specs.StoreFile.{page, part}
 use Rattle.storefile.proofs.Meaning.{length-page_of, length-body}
 use Rattle.storefile.proofs.PageBytes.{page_byte, page_length, outside_pages, same_but, written_outside, written_page, gate_pages, gate_body, gate_opens}
-use Rattle.checkpoint.specs.Writing.{slot_at, slot_size, slot_gate, words_page, HoldsWords, IsSlotShut, LeavesSlotShut, IsSlotWhole, IsSlotShutOrWhole}
+use Rattle.checkpoint.specs.Writing.{Draft, head_of, slot_at, slot_size, slot_gate, slot_page, slot_page_at, HoldsPages, IsSlotShut, LeavesSlotShut, IsSlotWhole, IsSlotShutOrWhole}
 
 -- ---- places
 
 -- a slot lies within the file
-pub slot_within : (h : Header) (slot : Slot) → page_number h (HeadOf slot) + (word_pages h + 1) ≤ page_count h
+pub slot_within : (h : Header) (slot : Slot) → page_number h (HeadOf slot) + (slot_pages h + 1) ≤ page_count h
 slot_within h A = omega arith
 slot_within h B = omega arith
 
@@ -36,7 +37,7 @@ pub record AreBesideGate (h : Header) (slot : Slot) (from count : ℕ) : Type 0 
   pub high : from + count ≤ slot_at h slot + slot_size h
   pub beside : (slot_gate h slot < from) ⊎ (from + count ≤ slot_gate h slot)
 
-pub words_beside : (h : Header) (slot : Slot) (first count : ℕ) → 4096 * first + count ≤ 4096 * word_pages h → AreBesideGate h slot (4096 * page_number h (Words slot first)) count
+pub words_beside : (h : Header) (slot : Slot) (first count : ℕ) → 4096 * first + count ≤ 4096 * slot_pages h → AreBesideGate h slot (4096 * slot_page_at h slot first) count
 words_beside h slot first count fits = record { low = omega arith; high = omega (arith, fits); beside = inl (omega arith) }
 
 pub head_beside : (h : Header) (slot : Slot) (count : ℕ) → count ≤ 4095 → AreBesideGate h slot (slot_at h slot) count
@@ -65,7 +66,7 @@ module _ (h : Header) (slot : Slot) where
     outside = outside_twice (slot_at h slot) (slot_size h) old mid c first.outside second.outside;
     opened = second.opened;
     head_is = second.head_is;
-    words = second.words;
+    pages = second.pages;
   }
 
   torn_shut : (old mid c : List ℕ) (from count : ℕ) → length old ≡ 4096 * page_count h → AreBesideGate h slot from count → IsSlotShut h slot old mid → Torn from count mid c → IsSlotShut h slot old c
@@ -99,10 +100,10 @@ pub record IsGoing {D : Type 0} (content : D → List ℕ) (left : D → List �
   pub meanwhile : LeavesOnly moment left_since old new (IsSlotShut h slot (content old))
   pub now_shut : IsSlotShut h slot (content old) (content new)
   pub left_shut : LeavesSlotShut h slot (content new) (left new)
-  pub words : HoldsWords (page (content new)) h slot net written
+  pub words : HoldsPages (page (content new)) h slot net written
 
 module _ {D : Type 0} (content : D → List ℕ) (left : D → List ℕ → Type 0) (moment : D → ℕ) (left_since : D → ℕ → List ℕ → Type 0) (h : Header) (slot : Slot) (net : Net) where
-  pub going_starts : (old : D) (written : ℕ) → LeavesSlotShut h slot (content old) (left old) → HoldsWords (page (content old)) h slot net written
+  pub going_starts : (old : D) (written : ℕ) → LeavesSlotShut h slot (content old) (left old) → HoldsPages (page (content old)) h slot net written
       → ((c : List ℕ) → left_since old (moment old) c → left old c) → left old (content old) → IsGoing content left moment left_since h slot net old old written
   going_starts old written shut words only now = record {
     meanwhile = started moment left_since old (IsSlotShut h slot (content old)) (λ c since. shut c (only c since));
@@ -112,7 +113,7 @@ module _ {D : Type 0} (content : D → List ℕ) (left : D → List ℕ → Type
   }
 
   pub going_on : (old mid new : D) (written more : ℕ) → IsGoing content left moment left_since h slot net old mid written → LeavesOnly moment left_since mid new (IsSlotShut h slot (content mid))
-      → IsSlotShut h slot (content mid) (content new) → LeavesSlotShut h slot (content new) (left new) → HoldsWords (page (content new)) h slot net more → IsGoing content left moment left_since h slot net old new more
+      → IsSlotShut h slot (content mid) (content new) → LeavesSlotShut h slot (content new) (left new) → HoldsPages (page (content new)) h slot net more → IsGoing content left moment left_since h slot net old new more
   going_on old mid new written more going run now shut words = record {
     meanwhile = and_then moment left_since old mid new (IsSlotShut h slot (content old)) (IsSlotShut h slot (content mid)) going.meanwhile run (λ c shut_there. then_shut h slot (content old) (content mid) c going.now_shut shut_there);
     now_shut = then_shut h slot (content old) (content mid) (content new) going.now_shut now;
@@ -195,28 +196,28 @@ page_of_front buffer n j room lt =
     page_byte (take (4096 * n) buffer) j i within ∙ get_or-take (4096 * n) buffer (4096 * j + i) 0 (omega (arith, lt)) ∙ sym (page_byte buffer j i within))
 
 -- so many word pages more
-pub more_words : (h : Header) (slot : Slot) (net : Net) (old new buffer : List ℕ) (written count : ℕ) → length old ≡ 4096 * page_count h → written + count ≤ word_pages h → 4096 * count ≤ length buffer
-    → HoldsWords (page old) h slot net written → ((i : ℕ) → i < count → page buffer i ≡ words_page net (written + i))
-    → new ≡ overwritten old (4096 * page_number h (Words slot written)) (take (4096 * count) buffer) → HoldsWords (page new) h slot net (written + count)
+pub more_words : (h : Header) (slot : Slot) (net : Net) (old new buffer : List ℕ) (written count : ℕ) → length old ≡ 4096 * page_count h → written + count ≤ slot_pages h → 4096 * count ≤ length buffer
+    → HoldsPages (page old) h slot net written → ((i : ℕ) → i < count → page buffer i ≡ slot_page h net (written + i))
+    → new ≡ overwritten old (4096 * slot_page_at h slot written) (take (4096 * count) buffer) → HoldsPages (page new) h slot net (written + count)
 more_words h slot net old new buffer written count whole few room held put is i lt =
-    let k : ℕ = page_number h (Words slot written) in
+    let k : ℕ = slot_page_at h slot written in
     let bytes : List ℕ = take (4096 * count) buffer in
     let size : length (take (4096 * count) buffer) ≡ 4096 * count = omega (arith, length-take (4096 * count) buffer, room) in
-    let fits : 4096 * (page_number h (Words slot written) + count) ≤ length old = omega (arith, whole, few, slot_within h slot) in
-    ap (λ (file : List ℕ). page file (page_number h (Words slot i))) is ∙ ⊎_elim
-    (λ before. page_beside old (take (4096 * count) buffer) (page_number h (Words slot written)) count (page_number h (Words slot i)) fits size (inl (omega arith)) ∙ held i before)
+    let fits : 4096 * (slot_page_at h slot written + count) ≤ length old = omega (arith, whole, few, slot_within h slot) in
+    ap (λ (file : List ℕ). page file (slot_page_at h slot i)) is ∙ ⊎_elim
+    (λ before. page_beside old (take (4096 * count) buffer) (slot_page_at h slot written) count (slot_page_at h slot i) fits size (inl (omega arith)) ∙ held i before)
     (λ from.
-    let at : page_number h (Words slot i) ≡ page_number h (Words slot written) + (i - written) = omega arith in
+    let at : slot_page_at h slot i ≡ slot_page_at h slot written + (i - written) = omega arith in
     let same : written + (i - written) ≡ i = omega arith in
-    ap (page (overwritten old (4096 * page_number h (Words slot written)) (take (4096 * count) buffer))) at
-    ∙ page_among old (take (4096 * count) buffer) (page_number h (Words slot written)) count (i - written) fits size (omega arith)
-    ∙ page_of_front buffer count (i - written) room (omega arith) ∙ put (i - written) (omega arith) ∙ ap (words_page net) same)
+    ap (page (overwritten old (4096 * slot_page_at h slot written) (take (4096 * count) buffer))) at
+    ∙ page_among old (take (4096 * count) buffer) (slot_page_at h slot written) count (i - written) fits size (omega arith)
+    ∙ page_of_front buffer count (i - written) room (omega arith) ∙ put (i - written) (omega arith) ∙ ap (slot_page h net) same)
     (cases_lt i written)
 
 -- ---- the head, and the gate behind it
 
-pub head_body_length : (head : Head) → length head.landmarks ≤ 1000 → length (body (head_page head)) ≡ 4095
-head_body_length head few = length-body (head_page head) (length-page_of (head_fields head) (omega (arith, length-fields head few)))
+pub head_body_length : (f : Format) (head : Head) → length head.landmarks ≤ 1000 → length (body (head_page f head)) ≡ 4095
+head_body_length f head few = length-body (head_page f head) (length-page_of (head_fields f head) (omega (arith, length-fields f head few)))
 
 module _ (h : Header) (slot : Slot) (head : Head) (net : Net) (old mid b : List ℕ) (whole : length old ≡ 4096 * page_count h) (long : length b ≡ 4095) (is : mid ≡ overwritten old (slot_at h slot) b) where
   abbrev number : ℕ
@@ -259,23 +260,28 @@ module _ (h : Header) (slot : Slot) (head : Head) (net : Net) (old mid b : List 
       ∙ overwritten_inside old b (4096 * number) place i (omega (arith, long)))
 
   -- the words stay
-  words_stay : HoldsWords (page old) h slot net (word_pages h) → HoldsWords (page last) h slot net (word_pages h)
+  words_stay : HoldsPages (page old) h slot net (slot_pages h) → HoldsPages (page last) h slot net (slot_pages h)
   words_stay held i lt =
-      gate_pages number mid mid_fits (page_number h (Words slot i)) (λ e. omega (arith, e))
-      ∙ same_but number old mid head_outside (page_number h (Words slot i)) (λ e. omega (arith, e)) ∙ held i lt
+      gate_pages number mid mid_fits (slot_page_at h slot i) (λ e. omega (arith, e))
+      ∙ same_but number old mid head_outside (slot_page_at h slot i) (λ e. omega (arith, e)) ∙ held i lt
 
   -- the slot is whole
-  pub now_whole : b ≡ body (head_page head) → HoldsWords (page old) h slot net (word_pages h) → IsSlotWhole h slot head net old last
+  pub now_whole : b ≡ body (head_page h.format head) → HoldsPages (page old) h slot net (slot_pages h) → IsSlotWhole h slot head net old last
   now_whole spells held = record {
     outside = all_outside;
     opened = gate_opens number mid mid_fits;
     head_is = gate_body number mid mid_fits ∙ head_written ∙ spells;
-    words = words_stay held;
+    pages = words_stay held;
   }
 
   -- the gate is torn on its way to open
-  pub while_opening : b ≡ body (head_page head) → HoldsWords (page old) h slot net (word_pages h) → IsSlotShut h slot old mid → (c : List ℕ) → IsShutOrOpened mid (slot_gate h slot) c → IsSlotShutOrWhole h slot head net old c
+  pub while_opening : b ≡ body (head_page h.format head) → HoldsPages (page old) h slot net (slot_pages h) → IsSlotShut h slot old mid → (c : List ℕ) → IsShutOrOpened mid (slot_gate h slot) c → IsSlotShutOrWhole h slot head net old c
   while_opening spells held shut c way = ⊎_elim
       (λ still. inl (shut_twice (slot_at h slot) (slot_size h) (slot_gate h slot) old mid c (omega arith) (omega arith) shut.outside still))
       (λ opened. inr (subst (λ (d : List ℕ). IsSlotWhole h slot head net old d) (sym opened) (now_whole spells held)))
       way
+
+-- the head's page, by what is told of the network
+pub same_head_page : (f : Format) (d : Draft) (net : Net) (n : ℕ) (xs : List ℕ) → n ≡ length net.arcs → xs ≡ net.landmarks
+    → head_page f (record { epoch = d.epoch; version = d.version; next_sequence = d.next_sequence; arcs = n; landmarks = xs }) ≡ head_page f (head_of d net)
+same_head_page f d net n xs p q = rw (p, q) refl

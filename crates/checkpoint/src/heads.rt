@@ -69,7 +69,7 @@ pub fn read_head<D: Disk>(
     requires header { IsHeader header.now }
     requires whole { D.honest disk.old → length (D.content disk.old) ≡ 4096 * page_count header.now }
     ensures spelled { D.honest disk.old → IfOk result (λ head. head_from (page (D.content disk.old)) header.now slot ≡ Ok head) }
-    ensures fits { IfOk result (λ head. IsHead header.now.nodes head) }
+    ensures fits { IfOk result (λ head. IsHead header.now head) }
     ensures refused { D.honest disk.old → IfErr result (λ refusal. MayRefuse (head_from (page (D.content disk.old)) header.now slot) refusal) }
     ensures causes { IfErr result MayEndOpening }
     ensures same { D.honest disk.old → StaysSame D.content D.left D.moment D.left_since disk.old disk.new }
@@ -91,13 +91,14 @@ fn judge_head(
     header: &Header,
     number: u64,
 ) -> Result<SlotHead, Refusal>
-    ensures spelled { IfOk result (λ head. spelled_at number (head_in header.now.nodes page.now) ≡ Ok head) }
-    ensures fits { IfOk result (λ head. IsHead header.now.nodes head) }
-    ensures refused { IfErr result (λ refusal. MayLack (spelled_at number (head_in header.now.nodes page.now)) refusal) }
+    requires { IsHeader header.now }
+    ensures spelled { IfOk result (λ head. spelled_at number (head_in header.now page.now) ≡ Ok head) }
+    ensures fits { IfOk result (λ head. IsHead header.now head) }
+    ensures refused { IfErr result (λ refusal. MayLack (spelled_at number (head_in header.now page.now)) refusal) }
     ensures causes { IfErr result MayEndOpening }
     ensures quiet { IsQuiet result }
 {
-    let Ok(found) = decode_slot_head(alloc, page, header.nodes) else {
+    let Ok(found) = decode_slot_head(alloc, page, header) else {
         return Err(Refusal::OutOfMemory);
     };
     let Some(head) = found else {

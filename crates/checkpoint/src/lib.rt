@@ -3,6 +3,7 @@
 
 mod arcs;
 mod heads;
+mod laid;
 mod slot_pages;
 mod slots;
 mod words;

@@ -1,14 +1,16 @@
 // The pages of a slot that is written.
-ghost use Rattle.std.specs.Prelude.{◌≡◌, ◌≢◌, ◌+◌, ◌*◌, ◌<◌, ◌≤◌, ◌^◌, ◌↔◌, ℕ, length, OnOk};
+ghost use Rattle.std.specs.Prelude.{◌≡◌, ◌≢◌, ◌+◌, ◌*◌, ◌<◌, ◌≤◌, ◌^◌, ◌↔◌, ℕ, length, drop, OnOk};
 ghost use Rattle.disk.specs.Contents.{overwritten, failures_after};
 ghost use Rattle.disk.specs.Moments.{LeavesOnly};
 ghost use Rattle.pages.specs.Spelling.{IsHeader, body};
-ghost use Rattle.pages.specs.Layout.{Words, word_pages, page_number, page_count};
+ghost use Rattle.pages.specs.Layout.{slot_pages, page_count};
 ghost use Rattle.storefile.specs.StoreFile.{page, part};
-ghost use Rattle.checkpoint.specs.Writing.{slot_at, slot_gate, words_page, IsSlotShut, LeavesSlotShut};
+ghost use Rattle.checkpoint.specs.Writing.{slot_at, slot_gate, words_page, ends_page, slot_page, slot_page_at, IsSlotShut, LeavesSlotShut};
 
 use disk::{Disk, DiskError};
-use pages::{GATE_AT, Header, PAGE_SIZE, Slot, WORDS_A_PAGE, encode_word_page};
+use pages::{
+    ARCS_A_PAGE, GATE_AT, Header, PAGE_SIZE, Slot, WORDS_A_PAGE, encode_arc_page, encode_word_page,
+};
 use roadnet::{Network, RoadArc};
 
 /// Where the gate of a slot is in the file.
@@ -40,21 +42,55 @@ fn put_page(buffer: &mut [u8], i: usize, bytes: &[u8; PAGE_SIZE])
     buffer[from..from + PAGE_SIZE].copy_from_slice(bytes);
 }
 
-/// Puts so many word pages of the network, from the `first` on, at the front of the buffer.
-pub fn put_words(buffer: &mut [u8], network: &Network, first: u64, count: usize)
+/// The arcs behind the first ones, so many.
+fn behind(arcs: &[RoadArc], first: usize) -> &[RoadArc]
+    ensures { result.now ≡ drop first arcs.now }
+{
+    &arcs[first.min(arcs.len())..]
+}
+
+/// The `i`-th word page of the network.
+fn words_page(network: &Network, i: u64) -> [u8; PAGE_SIZE]
+    ensures { result ≡ words_page network.now i }
+{
+    encode_word_page(part_of(network.arcs(), i, WORDS_A_PAGE))
+}
+
+/// The `i`-th end page of the network.
+fn ends_page(header: &Header, network: &Network, i: u64) -> [u8; PAGE_SIZE]
+    ensures { result ≡ ends_page header.now network.now i }
+{
+    let laid = behind(network.arcs(), header.arcs as usize);
+    encode_arc_page(part_of(laid, i, ARCS_A_PAGE))
+}
+
+/// The `i`-th page behind a slot's head.
+fn page_behind(header: &Header, network: &Network, i: u64) -> [u8; PAGE_SIZE]
+    ensures { result ≡ slot_page header.now network.now i }
+{
+    let words = header.word_pages();
+    if i < words {
+        words_page(network, i)
+    } else {
+        ends_page(header, network, i - words)
+    }
+}
+
+/// Puts so many of the pages behind a slot's head, from the `first` on, at the front of the buffer.
+pub fn put_pages(buffer: &mut [u8], header: &Header, network: &Network, first: u64, count: usize)
     requires few { first + count ≤ 2 ^ 32 }
     requires room { 4096 * count ≤ length buffer.old }
-    ensures pages { (i : ℕ) → i < count → page buffer.new i ≡ words_page network.now (first + i) }
+    ensures pages { (i : ℕ) → i < count → page buffer.new i ≡ slot_page header.now network.now (first + i) }
     ensures size { length buffer.new ≡ length buffer.old }
 {
     for i in 0..count {
-        let page = encode_word_page(part_of(network.arcs(), first + i as u64, WORDS_A_PAGE));
+        let page = page_behind(header, network, first + i as u64);
         put_page(buffer, i, &page);
     }
 }
 
-/// Writes these word pages, from the slot's `first` on.
-pub fn write_word_pages<D: Disk>(
+/// Writes these pages behind a slot's head, from the `first` on.
+pub fn write_pages<D: Disk>(
     disk: &mut D,
     header: &Header,
     slot: Slot,
@@ -62,19 +98,28 @@ pub fn write_word_pages<D: Disk>(
     pages: &[u8],
 ) -> Result<(), DiskError>
     requires header { IsHeader header.now }
-    requires within { first < word_pages header.now }
-    requires room { 4096 * first + length pages.now ≤ 4096 * word_pages header.now }
+    requires within { first < slot_pages header.now }
+    requires room { 4096 * first + length pages.now ≤ 4096 * slot_pages header.now }
     requires whole { D.honest disk.old → length (D.content disk.old) ≡ 4096 * page_count header.now }
     requires shut { D.honest disk.old → LeavesSlotShut header.now slot (D.content disk.old) (D.left disk.old) }
-    ensures written { D.honest disk.old → OnOk result (D.content disk.new ≡ overwritten (D.content disk.old) (4096 * page_number header.now (Words slot first)) pages.now) }
+    ensures written { D.honest disk.old → OnOk result (D.content disk.new ≡ overwritten (D.content disk.old) (4096 * slot_page_at header.now slot first) pages.now) }
     ensures content { D.honest disk.old → IsSlotShut header.now slot (D.content disk.old) (D.content disk.new) }
     ensures shut { D.honest disk.old → LeavesSlotShut header.now slot (D.content disk.new) (D.left disk.new) }
     ensures any_moment { D.honest disk.old → LeavesOnly D.moment D.left_since disk.old disk.new (IsSlotShut header.now slot (D.content disk.old)) }
     ensures counted { D.failures disk.new ≡ failures_after result (D.failures disk.old) }
     ensures honest { D.honest disk.new ↔ D.honest disk.old }
 {
-    let at = PAGE_SIZE as u64 * header.word_page(slot, first);
-    disk.write_at(at, pages)
+    let number = slot_page_at(header, slot, first);
+    disk.write_at(PAGE_SIZE as u64 * number, pages)
+}
+
+/// The number of the page at this place behind a slot's head.
+fn slot_page_at(header: &Header, slot: Slot, i: u64) -> u64
+    requires header { IsHeader header.now }
+    requires within { i < slot_pages header.now }
+    ensures { result ≡ slot_page_at header.now slot i }
+{
+    header.head_page(slot) + 1 + i
 }
 
 /// Writes a slot's head, all of the page but its gate.

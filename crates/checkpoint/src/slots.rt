@@ -1,4 +1,4 @@
-ghost use Rattle.std.specs.Prelude.{◌≡◌, ◌*◌, ◌↔◌, Ok, length, map, IfOk, IfErr};
+ghost use Rattle.std.specs.Prelude.{◌≡◌, ◌*◌, ◌≤◌, ◌↔◌, Ok, length, take, drop, map, IfOk, IfErr, OnOk};
 ghost use Rattle.std.specs.List.{AllByRecursion};
 ghost use Rattle.roadnet.specs.declared.refusals.Refusal.TheVariants.{OutOfMemory as out_of_memory};
 ghost use Rattle.disk.specs.Moments.{StaysSame};
@@ -7,15 +7,18 @@ ghost use Rattle.pages.specs.Layout.{page_count};
 ghost use Rattle.storefile.specs.StoreFile.{page};
 ghost use Rattle.pagereader.specs.Runs.{IsRunOf};
 ghost use Rattle.pagereader.specs.Outcomes.{failures_told, MayRefuse, MayEndOpening};
-ghost use Rattle.checkpoint.specs.Loading.{head_of, loaded_from};
+ghost use Rattle.roadnet.specs.Net.{IsRoomFor};
+ghost use Rattle.storefile.specs.Judging.{words_from, laid_from};
+ghost use Rattle.checkpoint.specs.Loading.{head_of, loaded_from, parts_from};
 
 use crate::heads::read_head;
+use crate::laid::read_laid;
 use crate::words::read_words;
 use disk::Disk;
 use pagereader::PageReader;
 use pages::{Header, Slot, SlotHead};
 use roadnet::{Network, Refusal, RoadArc};
-use std::alloc::Global;
+use std::alloc::{AllocError, Global};
 
 /// What a slot holds: its epoch, the version of its network, the sequence of the journal page that follows, and the network.
 #[derive(Debug, Drop)]
@@ -42,7 +45,7 @@ pub fn load<D: Disk>(
     requires count { length arcs.items ≡ header.now.arcs }
     requires ends { AllByRecursion (IsEnds header.now.nodes) (map ends_of arcs.items) }
     ensures loaded { D.honest disk.old → IfOk result (λ c. loaded_from (page (D.content disk.old)) header.now slot (map ends_of arcs.items) ≡ Ok (head_of c, c.network)) }
-    ensures fits { IfOk result (λ c. IsHead header.now.nodes (head_of c)) }
+    ensures fits { IfOk result (λ c. IsHead header.now (head_of c)) }
     ensures refused { D.honest disk.old → IfErr result (λ refusal. MayRefuse (loaded_from (page (D.content disk.old)) header.now slot (map ends_of arcs.items)) refusal) }
     ensures causes { IfErr result MayEndOpening }
     ensures same { D.honest disk.old → StaysSame D.content D.left D.moment D.left_since disk.old disk.new }
@@ -51,7 +54,10 @@ pub fn load<D: Disk>(
 {
     let mut arcs = arcs;
     let head = read_head(alloc, disk, header, slot)?;
-    read_words(alloc, disk, header, slot, reader, &mut arcs)?;
+    let Ok(()) = add_blank(&mut arcs, head.arcs()) else {
+        return Err(Refusal::OutOfMemory);
+    };
+    read_parts(alloc, disk, header, slot, reader, &mut arcs)?;
     let network = network_of(alloc, header, arcs, &head)?;
     Ok(Checkpoint {
         epoch: head.epoch(),
@@ -59,6 +65,38 @@ pub fn load<D: Disk>(
         next_sequence: head.next_sequence(),
         network,
     })
+}
+
+// Gives the arcs of a store the words that a slot spells, and those behind the first ones their ends. The first page that isn't spelled rightly
+// is damaged. On the disk nothing is changed.
+fn read_parts<D: Disk>(
+    alloc: Global,
+    disk: &mut D,
+    header: &Header,
+    slot: Slot,
+    reader: &mut PageReader,
+    arcs: &mut [RoadArc],
+) -> Result<(), Refusal>
+    requires header { IsHeader header.now }
+    requires whole { D.honest disk.old → length (D.content disk.old) ≡ 4096 * page_count header.now }
+    requires run { D.honest disk.old → IsRunOf (D.content disk.old) reader.old }
+    requires from { header.now.arcs ≤ length arcs.old }
+    requires count { length arcs.old ≤ header.now.room }
+    requires ends { AllByRecursion (IsEnds header.now.nodes) (map ends_of (take header.now.arcs arcs.old)) }
+    ensures words { D.honest disk.old → OnOk result (words_from (page (D.content disk.old)) header.now slot (length arcs.old) ≡ Ok (map word_of arcs.new)) }
+    ensures laid { D.honest disk.old → OnOk result (laid_from (page (D.content disk.old)) header.now slot (length arcs.old) ≡ Ok (map ends_of (drop header.now.arcs arcs.new))) }
+    ensures first { OnOk result (map ends_of (take header.now.arcs arcs.new) ≡ map ends_of (take header.now.arcs arcs.old)) }
+    ensures word_fits { OnOk result (AllByRecursion IsWord (map word_of arcs.new)) }
+    ensures ends_fit { OnOk result (AllByRecursion (IsEnds header.now.nodes) (map ends_of arcs.new)) }
+    ensures count { length arcs.new ≡ length arcs.old }
+    ensures refused { D.honest disk.old → IfErr result (λ refusal. MayRefuse (parts_from (page (D.content disk.old)) header.now slot (length arcs.old)) refusal) }
+    ensures causes { IfErr result MayEndOpening }
+    ensures same { D.honest disk.old → StaysSame D.content D.left D.moment D.left_since disk.old disk.new }
+    ensures counted { D.failures disk.new ≡ failures_told result (D.failures disk.old) }
+    ensures honest { D.honest disk.new ↔ D.honest disk.old }
+{
+    read_words(alloc, disk, header, slot, reader, arcs)?;
+    read_laid(alloc, disk, header, slot, reader, arcs)
 }
 
 // The network of these parts, which have no flaw.
@@ -69,12 +107,59 @@ fn network_of(
     head: &SlotHead,
 ) -> Result<Network, Refusal>
     requires header { IsHeader header.now }
-    requires head { IsHead header.now.nodes head.now }
-    requires count { length arcs.items ≡ header.now.arcs }
+    requires head { IsHead header.now head.now }
+    requires count { length arcs.items ≡ head.now.arcs }
     requires ends { AllByRecursion (IsEnds header.now.nodes) (map ends_of arcs.items) }
     requires words { AllByRecursion IsWord (map word_of arcs.items) }
-    ensures network { IfOk result (λ net. net ≡ record { nodes = header.now.nodes; arcs = arcs.items; landmarks = head.now.landmarks }) }
+    ensures network { IfOk result (λ net. net ≡ record { nodes = header.now.nodes; arcs = arcs.items; landmarks = head.now.landmarks; room = header.now.room }) }
+    ensures refused { IfErr result (λ refusal. refusal ≡ out_of_memory) }
+{
+    let network = made_of(alloc, header, arcs, head)?;
+    Ok(with_room(network, header.room))
+}
+
+// The same with no room besides.
+fn made_of(
+    alloc: Global,
+    header: &Header,
+    arcs: Vec<RoadArc>,
+    head: &SlotHead,
+) -> Result<Network, Refusal>
+    requires header { IsHeader header.now }
+    requires head { IsHead header.now head.now }
+    requires count { length arcs.items ≡ head.now.arcs }
+    requires ends { AllByRecursion (IsEnds header.now.nodes) (map ends_of arcs.items) }
+    requires words { AllByRecursion IsWord (map word_of arcs.items) }
+    ensures network { IfOk result (λ net. net ≡ record { nodes = header.now.nodes; arcs = arcs.items; landmarks = head.now.landmarks; room = length arcs.items }) }
     ensures refused { IfErr result (λ refusal. refusal ≡ out_of_memory) }
 {
     Network::new(alloc, header.nodes, arcs, head.landmarks())
+}
+
+// The network with this room, which is one for its arcs.
+fn with_room(network: Network, room: u32) -> Network
+    requires { IsRoomFor network room }
+    ensures { result ≡ record network { room = room } }
+{
+    match network.with_room(u64::from(room)) {
+        Ok(network) => network,
+        Err(_) => unreachable!(),
+    }
+}
+
+// Arcs whose ends and words aren't known yet, behind those before them, so that there are so many.
+fn add_blank(arcs: &mut Vec<RoadArc>, count: u32) -> Result<(), AllocError>
+    requires { length arcs.old.items ≤ count }
+    ensures count { OnOk result (length arcs.new.items ≡ count) }
+    ensures first { OnOk result (take (length arcs.old.items) arcs.new.items ≡ arcs.old.items) }
+{
+    for _ in arcs.len()..count as usize {
+        arcs.push(RoadArc {
+            tail: 0,
+            head: 0,
+            length: 0,
+            opened: true,
+        })?;
+    }
+    Ok(())
 }

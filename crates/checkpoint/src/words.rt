@@ -11,7 +11,7 @@ ghost use Rattle.checkpoint.specs.Loading.{WordsArePut};
 
 use disk::Disk;
 use pagereader::PageReader;
-use pages::{Header, PAGE_SIZE, Slot, WORDS_A_PAGE, Word, decode_word_page};
+use pages::{Header, PAGE_SIZE, Slot, WORDS_A_PAGE, Word, decode_word_page, words_on_page};
 use roadnet::{Refusal, RoadArc};
 use std::alloc::Global;
 
@@ -28,11 +28,12 @@ pub fn read_words<D: Disk>(
     requires header { IsHeader header.now }
     requires whole { D.honest disk.old → length (D.content disk.old) ≡ 4096 * page_count header.now }
     requires run { D.honest disk.old → IsRunOf (D.content disk.old) reader.old }
-    requires count { length arcs.old ≡ header.now.arcs }
-    ensures spelled { D.honest disk.old → OnOk result (words_from (page (D.content disk.old)) header.now slot ≡ Ok (map word_of arcs.new)) }
+    requires count { length arcs.old ≤ header.now.room }
+    ensures spelled { D.honest disk.old → OnOk result (words_from (page (D.content disk.old)) header.now slot (length arcs.old) ≡ Ok (map word_of arcs.new)) }
     ensures fits { OnOk result (AllByRecursion IsWord (map word_of arcs.new)) }
     ensures ends { map ends_of arcs.new ≡ map ends_of arcs.old }
-    ensures refused { D.honest disk.old → IfErr result (λ refusal. MayRefuse (words_from (page (D.content disk.old)) header.now slot) refusal) }
+    ensures count { length arcs.new ≡ length arcs.old }
+    ensures refused { D.honest disk.old → IfErr result (λ refusal. MayRefuse (words_from (page (D.content disk.old)) header.now slot (length arcs.old)) refusal) }
     ensures run { D.honest disk.old → IsRunOf (D.content disk.old) reader.new }
     ensures causes { IfErr result MayEndOpening }
     ensures same { D.honest disk.old → StaysSame D.content D.left D.moment D.left_since disk.old disk.new }
@@ -60,14 +61,16 @@ fn take_page(
     arcs: &mut [RoadArc],
 ) -> Result<(), Refusal>
     requires within { i < word_pages header.now }
-    requires count { length arcs.old ≡ header.now.arcs }
-    ensures spelled { OnOk result (WordsArePut (spelled_at (page_number header.now (Words slot i)) (words_in (places_in_use 1023 i header.now.arcs) page.now)) (take (min (1023 * i) header.now.arcs) arcs.old) (take (min (1023 * (i + 1)) header.now.arcs) arcs.new)) }
+    requires header { IsHeader header.now }
+    requires count { length arcs.old ≤ header.now.room }
+    ensures count { length arcs.new ≡ length arcs.old }
+    ensures spelled { OnOk result (WordsArePut (spelled_at (page_number header.now (Words slot i)) (words_in (places_in_use 1023 i (length arcs.old)) page.now)) (take (min (1023 * i) (length arcs.old)) arcs.old) (take (min (1023 * (i + 1)) (length arcs.old)) arcs.new)) }
     ensures ends { map ends_of arcs.new ≡ map ends_of arcs.old }
-    ensures refused { IfErr result (λ refusal. MayLack (spelled_at (page_number header.now (Words slot i)) (words_in (places_in_use 1023 i header.now.arcs) page.now)) refusal) }
+    ensures refused { IfErr result (λ refusal. MayLack (spelled_at (page_number header.now (Words slot i)) (words_in (places_in_use 1023 i (length arcs.old)) page.now)) refusal) }
     ensures causes { IfErr result MayEndOpening }
     ensures quiet { IsQuiet result }
 {
-    let Ok(found) = decode_word_page(alloc, page, header.words_on_page(i)) else {
+    let Ok(found) = decode_word_page(alloc, page, words_on_page(i, arcs.len() as u32)) else {
         return Err(Refusal::OutOfMemory);
     };
     let Some(spelled) = found else {
@@ -75,7 +78,8 @@ fn take_page(
             page: header.word_page(slot, i),
         });
     };
-    put_words(spelled.words(), WORDS_A_PAGE * i as usize, arcs);
+    let first = (WORDS_A_PAGE * i as usize).min(arcs.len());
+    put_words(spelled.words(), first, arcs);
     Ok(())
 }
 

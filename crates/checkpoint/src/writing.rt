@@ -4,11 +4,11 @@ ghost use Rattle.disk.specs.Contents.{Only, failures_after};
 ghost use Rattle.disk.specs.Moments.{LeavesOnly};
 ghost use Rattle.disk.specs.Gated.{IsOpen, IsShut, IsOldOrShut};
 ghost use Rattle.pages.specs.Spelling.{IsHeader};
-ghost use Rattle.pages.specs.Layout.{other, word_pages, page_count};
+ghost use Rattle.pages.specs.Layout.{other, slot_pages, page_count};
 ghost use Rattle.storefile.specs.StoreFile.{page};
-ghost use Rattle.checkpoint.specs.Writing.{head_of, slot_gate, HoldsWords, IsSlotShut, LeavesSlotShut, IsSlotWhole, IsSlotShutOrWhole};
+ghost use Rattle.checkpoint.specs.Writing.{head_of, slot_gate, HoldsPages, IsSlotShut, LeavesSlotShut, IsSlotWhole, IsSlotShutOrWhole};
 
-use crate::slot_pages::{gate_at, put_words, write_head, write_word_pages};
+use crate::slot_pages::{gate_at, put_pages, write_head, write_pages};
 use disk::{Disk, DiskError, close_gate, open_gate, settle};
 use pages::{Header, PAGE_SIZE, PAGES_AT_ONCE, Slot, encode_slot_head};
 use roadnet::Network;
@@ -20,7 +20,7 @@ const BUFFER_SIZE: usize = PAGES_AT_ONCE * PAGE_SIZE;
 /// A checkpoint that is being written to the slot that is not current: of the network that its calls are lent, the same in each, with
 /// the version and next sequence that it had at the beginning.
 ///
-/// It is written by `begin`, by `write_part` while word pages are left, and by `finish`. Between these calls the rest of the file may
+/// It is written by `begin`, by `write_part` while pages are left, and by `finish`. Between these calls the rest of the file may
 /// be written. After a failure of the disk nothing more may be written.
 ///
 /// It takes a buffer of 256 KiB, and its calls take no memory.
@@ -30,7 +30,7 @@ pub struct NextCheckpoint {
     epoch: u64,
     version: u64,
     next_sequence: u64,
-    // How many of the word pages are written.
+    // How many of the pages behind the head are written.
     written: u64,
     // The pages of one write.
     buffer: Vec<u8>,
@@ -92,11 +92,11 @@ impl NextCheckpoint {
         self.version
     }
 
-    /// How many word pages are still to be written.
+    /// How many word pages and end pages are still to be written.
     pub fn pages_left(&self, header: &Header) -> u64
-        ensures { result ≡ word_pages header.now - self.now.written }
+        ensures { result ≡ slot_pages header.now - self.now.written }
     {
-        header.word_pages().saturating_sub(self.written)
+        header.slot_pages().saturating_sub(self.written)
     }
 
     /// Closes the slot's gate, and syncs, where it reads open. Where it reads closed nothing is written.
@@ -117,7 +117,7 @@ impl NextCheckpoint {
         close_gate(disk, gate_at(header, self.slot))
     }
 
-    /// Writes the next word pages of this network, in order, at most `max_pages` (1 to 64) of those that are left, in one write. A sync
+    /// Writes the next word pages and end pages of this network, in order, at most `max_pages` (1 to 64) of those that are left, in one write. A sync
     /// follows where some are left then; else that of `finish` covers them.
     pub fn write_part<D: Disk>(
         &mut self,
@@ -129,18 +129,18 @@ impl NextCheckpoint {
         requires header { IsHeader header.now }
         requires some { 1 ≤ max_pages }
         requires few { max_pages ≤ 64 }
-        requires left { self.old.written < word_pages header.now }
+        requires left { self.old.written < slot_pages header.now }
         requires whole { D.honest disk.old → length (D.content disk.old) ≡ 4096 * page_count header.now }
         requires shut { D.honest disk.old → LeavesSlotShut header.now self.old.slot (D.content disk.old) (D.left disk.old) }
-        requires words { D.honest disk.old → HoldsWords (page (D.content disk.old)) header.now self.old.slot network.now self.old.written }
-        ensures written { OnOk result (self.new ≡ record self.old { written = min (self.old.written + max_pages) (word_pages header.now) }) }
+        requires pages { D.honest disk.old → HoldsPages (page (D.content disk.old)) header.now self.old.slot network.now self.old.written }
+        ensures written { OnOk result (self.new ≡ record self.old { written = min (self.old.written + max_pages) (slot_pages header.now) }) }
         ensures same { OnErr result (self.new ≡ self.old) }
-        // The slot holds the word pages so far, its gate is closed, and the rest of the content is as it was.
-        ensures words { D.honest disk.old → OnOk result (HoldsWords (page (D.content disk.new)) header.now self.old.slot network.now self.new.written) }
+        // The slot holds the pages so far, its gate is closed, and the rest of the content is as it was.
+        ensures pages { D.honest disk.old → OnOk result (HoldsPages (page (D.content disk.new)) header.now self.old.slot network.now self.new.written) }
         ensures content { D.honest disk.old → OnOk result (IsSlotShut header.now self.old.slot (D.content disk.old) (D.content disk.new)) }
         ensures shut { D.honest disk.old → OnOk result (LeavesSlotShut header.now self.old.slot (D.content disk.new) (D.left disk.new)) }
-        // Where word pages are left, the content is all that a stop may leave.
-        ensures at_rest { D.honest disk.old → OnOk result (self.new.written < word_pages header.now → Only (D.content disk.new) (D.left disk.new)) }
+        // Where pages are left, the content is all that a stop may leave.
+        ensures at_rest { D.honest disk.old → OnOk result (self.new.written < slot_pages header.now → Only (D.content disk.new) (D.left disk.new)) }
         ensures any_moment { D.honest disk.old → LeavesOnly D.moment D.left_since disk.old disk.new (IsSlotShut header.now self.old.slot (D.content disk.old)) }
         ensures counted { D.failures disk.new ≡ failures_after result (D.failures disk.old) }
         ensures honest { D.honest disk.new ↔ D.honest disk.old }
@@ -148,8 +148,14 @@ impl NextCheckpoint {
         let left = self.pages_left(header);
         let count = left.min(u64::from(max_pages));
         let size = PAGE_SIZE * count as usize;
-        put_words(&mut self.buffer, network, self.written, count as usize);
-        write_word_pages(disk, header, self.slot, self.written, &self.buffer[..size])?;
+        put_pages(
+            &mut self.buffer,
+            header,
+            network,
+            self.written,
+            count as usize,
+        );
+        write_pages(disk, header, self.slot, self.written, &self.buffer[..size])?;
         if count < left {
             settle(disk)?;
         }
@@ -157,7 +163,7 @@ impl NextCheckpoint {
         Ok(())
     }
 
-    /// Writes the head, syncs, opens the gate and syncs: the slot is whole then. All word pages are written before it; whether they are
+    /// Writes the head, syncs, opens the gate and syncs: the slot is whole then. All other pages of the slot are written before it; whether they are
     /// synced makes no difference.
     pub fn finish<D: Disk>(
         &self,
@@ -166,10 +172,10 @@ impl NextCheckpoint {
         network: &Network,
     ) -> Result<(), DiskError>
         requires header { IsHeader header.now }
-        requires none_left { self.now.written ≡ word_pages header.now }
+        requires none_left { self.now.written ≡ slot_pages header.now }
         requires whole { D.honest disk.old → length (D.content disk.old) ≡ 4096 * page_count header.now }
         requires shut { D.honest disk.old → LeavesSlotShut header.now self.now.slot (D.content disk.old) (D.left disk.old) }
-        requires words { D.honest disk.old → HoldsWords (page (D.content disk.old)) header.now self.now.slot network.now self.now.written }
+        requires pages { D.honest disk.old → HoldsPages (page (D.content disk.old)) header.now self.now.slot network.now self.now.written }
         ensures content { D.honest disk.old → OnOk result (IsSlotWhole header.now self.now.slot (head_of self.now network.now) network.now (D.content disk.old) (D.content disk.new)) }
         ensures at_rest { D.honest disk.old → OnOk result (Only (D.content disk.new) (D.left disk.new)) }
         // A stop at any moment of the call leaves the slot with a closed gate, or whole, and the rest of the content as it was.
@@ -178,9 +184,11 @@ impl NextCheckpoint {
         ensures honest { D.honest disk.new ↔ D.honest disk.old }
     {
         let page = encode_slot_head(
+            header.format,
             self.epoch,
             self.version,
             self.next_sequence,
+            network.arcs().len() as u32,
             network.landmarks(),
         );
         write_head(disk, header, self.slot, &page)?;
@@ -188,7 +196,7 @@ impl NextCheckpoint {
         open_gate(disk, gate_at(header, self.slot))
     }
 
-    /// Writes a part of what is left: the next word pages of this network, at most `max_pages` (1 to 64) in one write, with a sync behind
+    /// Writes a part of what is left: the next word pages and end pages of this network, at most `max_pages` (1 to 64) in one write, with a sync behind
     /// them where some are left then; else the head and the gate too, as `finish`. Answers whether the slot is whole. After a failure it is
     /// as far as it was.
     ///
@@ -203,18 +211,18 @@ impl NextCheckpoint {
         requires header { IsHeader header.now }
         requires some { 1 ≤ max_pages }
         requires few { max_pages ≤ 64 }
-        requires within { self.old.written ≤ word_pages header.now }
+        requires within { self.old.written ≤ slot_pages header.now }
         requires whole { D.honest disk.old → length (D.content disk.old) ≡ 4096 * page_count header.now }
         requires at_rest { D.honest disk.old → Only (D.content disk.old) (D.left disk.old) }
         requires closed { D.honest disk.old → IsOpen (slot_gate header.now self.old.slot) (D.content disk.old) → ⊥ }
-        requires words { D.honest disk.old → HoldsWords (page (D.content disk.old)) header.now self.old.slot network.now self.old.written }
-        // The slot is whole where no more word pages were left than this part may write.
-        ensures answers { IfOk result (λ whole. nat_lt max_pages (word_pages header.now - self.old.written) ≡ not whole) }
+        requires pages { D.honest disk.old → HoldsPages (page (D.content disk.old)) header.now self.old.slot network.now self.old.written }
+        // The slot is whole where no more pages were left than this part may write.
+        ensures answers { IfOk result (λ whole. nat_lt max_pages (slot_pages header.now - self.old.written) ≡ not whole) }
         ensures part { IfOk result (λ whole. whole ≡ false → self.new ≡ record self.old { written = self.old.written + max_pages }) }
         ensures own { self.new ≡ record self.old { written = self.new.written } }
         ensures same { OnErr result (self.new ≡ self.old) }
-        // While it goes on, the slot holds the word pages so far and its gate is closed.
-        ensures words { D.honest disk.old → IfOk result (λ whole. whole ≡ false → HoldsWords (page (D.content disk.new)) header.now self.old.slot network.now self.new.written) }
+        // While it goes on, the slot holds the pages so far and its gate is closed.
+        ensures pages { D.honest disk.old → IfOk result (λ whole. whole ≡ false → HoldsPages (page (D.content disk.new)) header.now self.old.slot network.now self.new.written) }
         ensures shut { D.honest disk.old → IfOk result (λ whole. whole ≡ false → IsSlotShut header.now self.old.slot (D.content disk.old) (D.content disk.new)) }
         ensures content { D.honest disk.old → IfOk result (λ whole. whole ≡ true → IsSlotWhole header.now self.old.slot (head_of self.old network.now) network.now (D.content disk.old) (D.content disk.new)) }
         ensures at_rest { D.honest disk.old → OnOk result (Only (D.content disk.new) (D.left disk.new)) }
@@ -231,7 +239,7 @@ impl NextCheckpoint {
         Ok(true)
     }
 
-    // Writes all word pages that are left.
+    // Writes all pages that are left.
     fn write_parts<D: Disk>(
         &mut self,
         disk: &mut D,
@@ -242,13 +250,13 @@ impl NextCheckpoint {
         requires header { IsHeader header.now }
         requires some { 1 ≤ max_pages }
         requires few { max_pages ≤ 64 }
-        requires within { self.old.written ≤ word_pages header.now }
+        requires within { self.old.written ≤ slot_pages header.now }
         requires whole { D.honest disk.old → length (D.content disk.old) ≡ 4096 * page_count header.now }
         requires shut { D.honest disk.old → LeavesSlotShut header.now self.old.slot (D.content disk.old) (D.left disk.old) }
-        requires words { D.honest disk.old → HoldsWords (page (D.content disk.old)) header.now self.old.slot network.now self.old.written }
-        ensures written { OnOk result (self.new ≡ record self.old { written = word_pages header.now }) }
+        requires pages { D.honest disk.old → HoldsPages (page (D.content disk.old)) header.now self.old.slot network.now self.old.written }
+        ensures written { OnOk result (self.new ≡ record self.old { written = slot_pages header.now }) }
         ensures same { self.new ≡ record self.old { written = self.new.written } }
-        ensures words { D.honest disk.old → OnOk result (HoldsWords (page (D.content disk.new)) header.now self.old.slot network.now (word_pages header.now)) }
+        ensures pages { D.honest disk.old → OnOk result (HoldsPages (page (D.content disk.new)) header.now self.old.slot network.now (slot_pages header.now)) }
         ensures content { D.honest disk.old → OnOk result (IsSlotShut header.now self.old.slot (D.content disk.old) (D.content disk.new)) }
         ensures shut { D.honest disk.old → OnOk result (LeavesSlotShut header.now self.old.slot (D.content disk.new) (D.left disk.new)) }
         ensures any_moment { D.honest disk.old → LeavesOnly D.moment D.left_since disk.old disk.new (IsSlotShut header.now self.old.slot (D.content disk.old)) }
@@ -261,7 +269,7 @@ impl NextCheckpoint {
         Ok(())
     }
 
-    // The word pages that are left, and then as `finish`.
+    // The pages that are left, and then as `finish`.
     fn write_all<D: Disk>(
         &mut self,
         disk: &mut D,
@@ -272,10 +280,10 @@ impl NextCheckpoint {
         requires header { IsHeader header.now }
         requires some { 1 ≤ max_pages }
         requires few { max_pages ≤ 64 }
-        requires within { self.old.written ≤ word_pages header.now }
+        requires within { self.old.written ≤ slot_pages header.now }
         requires whole { D.honest disk.old → length (D.content disk.old) ≡ 4096 * page_count header.now }
         requires shut { D.honest disk.old → LeavesSlotShut header.now self.old.slot (D.content disk.old) (D.left disk.old) }
-        requires words { D.honest disk.old → HoldsWords (page (D.content disk.old)) header.now self.old.slot network.now self.old.written }
+        requires pages { D.honest disk.old → HoldsPages (page (D.content disk.old)) header.now self.old.slot network.now self.old.written }
         ensures same { self.new ≡ record self.old { written = self.new.written } }
         ensures content { D.honest disk.old → OnOk result (IsSlotWhole header.now self.old.slot (head_of self.old network.now) network.now (D.content disk.old) (D.content disk.new)) }
         ensures at_rest { D.honest disk.old → OnOk result (Only (D.content disk.new) (D.left disk.new)) }
@@ -288,7 +296,7 @@ impl NextCheckpoint {
         self.finish(disk, header, network)
     }
 
-    /// Writes all that is left: the word pages, at most `max_pages` (1 to 64) in a write, and then as `finish`. After a failure it is as
+    /// Writes all that is left: the word pages and end pages, at most `max_pages` (1 to 64) in a write, and then as `finish`. After a failure it is as
     /// far as it was.
     pub fn complete<D: Disk>(
         &mut self,
@@ -300,10 +308,10 @@ impl NextCheckpoint {
         requires header { IsHeader header.now }
         requires some { 1 ≤ max_pages }
         requires few { max_pages ≤ 64 }
-        requires within { self.old.written ≤ word_pages header.now }
+        requires within { self.old.written ≤ slot_pages header.now }
         requires whole { D.honest disk.old → length (D.content disk.old) ≡ 4096 * page_count header.now }
         requires shut { D.honest disk.old → LeavesSlotShut header.now self.old.slot (D.content disk.old) (D.left disk.old) }
-        requires words { D.honest disk.old → HoldsWords (page (D.content disk.old)) header.now self.old.slot network.now self.old.written }
+        requires pages { D.honest disk.old → HoldsPages (page (D.content disk.old)) header.now self.old.slot network.now self.old.written }
         ensures same { self.new ≡ record self.old { written = self.new.written } }
         // After a failure it is as far as it was.
         ensures back { OnErr result (self.new ≡ self.old) }

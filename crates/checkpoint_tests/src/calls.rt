@@ -51,20 +51,31 @@ fn first_other(disk: &MemDisk, calls: &[Call]) -> Option<usize> {
     }
 }
 
-// Two nodes, and so many arcs from the one to the other.
-fn parallel(alloc: Global, arcs: usize) -> Result<Network, Refusal> {
-    Network::new(alloc, 2, vec![in alloc; arc(1, 2, 5); arcs]?, &[])
+// Two nodes, and so many arcs from the one to the other, with room for so many.
+fn parallel(alloc: Global, arcs: usize, room: u64) -> Result<Network, Refusal> {
+    let arcs = vec![in alloc; arc(1, 2, 5); arcs]?;
+    match Network::new(alloc, 2, arcs, &[])?.with_room(room) {
+        Ok(network) => Ok(network),
+        Err((refusal, _)) => Err(refusal),
+    }
 }
 
-// What is done with a store: a commit of one command, a checkpoint, or a part of one, of so many word pages.
+// What is done with a store: a commit of one command, or of one that lays an arc, a checkpoint, or a part of one, of so many word pages and end pages.
 #[derive(Clone, Copy)]
 enum Work {
     Commit,
+    Lay,
     Whole,
     Part(u32),
 }
 
-use Work::{Commit, Part, Whole};
+use Work::{Commit, Lay, Part, Whole};
+
+const LAY: Command = Command::Lay {
+    tail: 2,
+    head: 1,
+    length: 7,
+};
 
 fn work_on(store: &mut Store<MemDisk>, works: &[Work]) -> Result<(), Refusal> {
     for &work in works {
@@ -74,6 +85,9 @@ fn work_on(store: &mut Store<MemDisk>, works: &[Work]) -> Result<(), Refusal> {
             }
             Commit => {
                 store.commit(&[Command::Mark { node: 1 }])?;
+            }
+            Lay => {
+                store.commit(&[LAY])?;
             }
             Whole => {
                 store.checkpoint()?;
@@ -86,27 +100,31 @@ fn work_on(store: &mut Store<MemDisk>, works: &[Work]) -> Result<(), Refusal> {
     Ok(())
 }
 
-// A store of so many arcs, with a journal of two pages; what was done with it before, and what is done once it is opened again; and the calls
+// A store of so many arcs with room for so many, with a journal of two pages; what was done with it before, and what is done once it is opened again; and the calls
 // of the disk from the opening on.
 struct Row {
     arcs: usize,
+    room: u64,
     before: &'static [Work],
     works: &'static [Work],
     calls: &'static [Call],
 }
 
 // Of 8 arcs the heads of slots A and B are pages 2 and 4 and the journal begins at page 6, of 2,047 (three word pages) they are 6, 10 and 14, of
-// none 1, 2 and 3, and of 66,000 (65 word pages) 131, 197 and 263.
-const ROWS: [Row; 18] = [
+// none 1, 2 and 3, and of 66,000 (65 word pages) 131, 197 and 263. Of 8 arcs with room for 2,047 (three word pages and four end pages) they are 2, 10 and
+// 18, with room for 10 (one of each) 2, 5 and 8; of none with room for one (one of each) 1, 4 and 7, and for 22,506 (22 and 45) 1, 69 and 137.
+const ROWS: [Row; 26] = [
     // Opening syncs, and writes nothing.
     Row {
         arcs: 8,
+        room: 8,
         before: &[],
         works: &[],
         calls: &[Sync],
     },
     Row {
         arcs: 8,
+        room: 8,
         before: &[Commit, Whole, Commit],
         works: &[],
         calls: &[Sync],
@@ -114,12 +132,14 @@ const ROWS: [Row; 18] = [
     // A flush to a page whose gate reads closed: body, sync, gate, sync.
     Row {
         arcs: 8,
+        room: 8,
         before: &[],
         works: &[Commit],
         calls: &[Sync, Body(6), Sync, Gate(6), Sync],
     },
     Row {
         arcs: 8,
+        room: 8,
         before: &[Commit],
         works: &[Commit],
         calls: &[Sync, Body(7), Sync, Gate(7), Sync],
@@ -127,6 +147,7 @@ const ROWS: [Row; 18] = [
     // To one whose gate reads open, which a checkpoint made free: first the gate is closed, and that is synced.
     Row {
         arcs: 8,
+        room: 8,
         before: &[Commit, Commit, Whole],
         works: &[Commit],
         calls: &[Sync, Gate(6), Sync, Body(6), Sync, Gate(6), Sync],
@@ -134,6 +155,7 @@ const ROWS: [Row; 18] = [
     // A checkpoint of three word pages, whole: one write of words, the head, a sync, the gate, a sync.
     Row {
         arcs: 2047,
+        room: 2047,
         before: &[Commit],
         works: &[Whole],
         calls: &[Sync, Pages(11, 3), Body(10), Sync, Gate(10), Sync],
@@ -141,6 +163,7 @@ const ROWS: [Row; 18] = [
     // As a part of three pages it is the same.
     Row {
         arcs: 2047,
+        room: 2047,
         before: &[Commit],
         works: &[Part(3)],
         calls: &[Sync, Pages(11, 3), Body(10), Sync, Gate(10), Sync],
@@ -148,6 +171,7 @@ const ROWS: [Row; 18] = [
     // In parts of one page each part but the last syncs.
     Row {
         arcs: 2047,
+        room: 2047,
         before: &[Commit],
         works: &[Part(1), Part(1), Part(1)],
         calls: &[
@@ -166,6 +190,7 @@ const ROWS: [Row; 18] = [
     // A commit between two parts makes its own calls.
     Row {
         arcs: 2047,
+        room: 2047,
         before: &[Commit],
         works: &[Part(2), Commit, Part(64)],
         calls: &[
@@ -186,6 +211,7 @@ const ROWS: [Row; 18] = [
     // All that is left of one that is going.
     Row {
         arcs: 2047,
+        room: 2047,
         before: &[Commit],
         works: &[Part(2), Whole],
         calls: &[
@@ -202,6 +228,7 @@ const ROWS: [Row; 18] = [
     // The other slot's gate reads open: it is closed first, and that is synced, once.
     Row {
         arcs: 2047,
+        room: 2047,
         before: &[Commit, Whole, Commit],
         works: &[Whole],
         calls: &[
@@ -217,6 +244,7 @@ const ROWS: [Row; 18] = [
     },
     Row {
         arcs: 2047,
+        room: 2047,
         before: &[Commit, Whole, Commit],
         works: &[Part(2), Part(2)],
         calls: &[
@@ -235,12 +263,14 @@ const ROWS: [Row; 18] = [
     // With no word page the first part writes the head.
     Row {
         arcs: 0,
+        room: 0,
         before: &[Commit],
         works: &[Whole],
         calls: &[Sync, Body(2), Sync, Gate(2), Sync],
     },
     Row {
         arcs: 0,
+        room: 0,
         before: &[Commit],
         works: &[Part(1)],
         calls: &[Sync, Body(2), Sync, Gate(2), Sync],
@@ -248,6 +278,7 @@ const ROWS: [Row; 18] = [
     // No write has more than 64 word pages.
     Row {
         arcs: 66000,
+        room: 66000,
         before: &[Commit],
         works: &[Whole],
         calls: &[
@@ -263,6 +294,7 @@ const ROWS: [Row; 18] = [
     },
     Row {
         arcs: 66000,
+        room: 66000,
         before: &[Commit],
         works: &[Part(64), Part(64)],
         calls: &[
@@ -279,21 +311,148 @@ const ROWS: [Row; 18] = [
     // With no page unchecked no call is made.
     Row {
         arcs: 8,
+        room: 8,
         before: &[],
         works: &[Whole, Part(1)],
         calls: &[Sync],
     },
     Row {
         arcs: 2047,
+        room: 2047,
         before: &[Commit, Whole],
         works: &[Whole, Part(1)],
         calls: &[Sync],
+    },
+    // A flush where a slot has an end page.
+    Row {
+        arcs: 8,
+        room: 10,
+        before: &[],
+        works: &[Lay],
+        calls: &[Sync, Body(8), Sync, Gate(8), Sync],
+    },
+    // Word pages and end pages are one list: all of them are written, those past the arcs too.
+    Row {
+        arcs: 8,
+        room: 2047,
+        before: &[Commit],
+        works: &[Whole],
+        calls: &[Sync, Pages(11, 7), Body(10), Sync, Gate(10), Sync],
+    },
+    // The second part is the last word page and the first end page, in one write.
+    Row {
+        arcs: 8,
+        room: 2047,
+        before: &[Lay],
+        works: &[Part(2), Part(2), Part(2), Part(2)],
+        calls: &[
+            Sync,
+            Pages(11, 2),
+            Sync,
+            Pages(13, 2),
+            Sync,
+            Pages(15, 2),
+            Sync,
+            Pages(17, 1),
+            Body(10),
+            Sync,
+            Gate(10),
+            Sync,
+        ],
+    },
+    // A commit between the word pages and the end pages.
+    Row {
+        arcs: 8,
+        room: 2047,
+        before: &[Lay],
+        works: &[Part(3), Lay, Part(64)],
+        calls: &[
+            Sync,
+            Pages(11, 3),
+            Sync,
+            Body(19),
+            Sync,
+            Gate(19),
+            Sync,
+            Pages(14, 4),
+            Body(10),
+            Sync,
+            Gate(10),
+            Sync,
+        ],
+    },
+    Row {
+        arcs: 8,
+        room: 2047,
+        before: &[Lay, Whole, Lay],
+        works: &[Part(4), Whole],
+        calls: &[
+            Sync,
+            Gate(2),
+            Sync,
+            Pages(3, 4),
+            Sync,
+            Pages(7, 3),
+            Body(2),
+            Sync,
+            Gate(2),
+            Sync,
+        ],
+    },
+    Row {
+        arcs: 0,
+        room: 1,
+        before: &[Lay],
+        works: &[Part(1), Part(1)],
+        calls: &[
+            Sync,
+            Pages(5, 1),
+            Sync,
+            Pages(6, 1),
+            Body(4),
+            Sync,
+            Gate(4),
+            Sync,
+        ],
+    },
+    // Nor has a write more than 64 word pages and end pages together.
+    Row {
+        arcs: 0,
+        room: 22506,
+        before: &[Lay],
+        works: &[Whole],
+        calls: &[
+            Sync,
+            Pages(70, 64),
+            Sync,
+            Pages(134, 3),
+            Body(69),
+            Sync,
+            Gate(69),
+            Sync,
+        ],
+    },
+    Row {
+        arcs: 0,
+        room: 22506,
+        before: &[Lay],
+        works: &[Part(64), Part(64)],
+        calls: &[
+            Sync,
+            Pages(70, 64),
+            Sync,
+            Pages(134, 3),
+            Body(69),
+            Sync,
+            Gate(69),
+            Sync,
+        ],
     },
 ];
 
 // The number of the first call of a row that is made otherwise.
 fn first_wrong(alloc: Global, row: &Row) -> Result<Option<usize>, Refusal> {
-    let network = parallel(alloc, row.arcs)?;
+    let network = parallel(alloc, row.arcs, row.room)?;
     let mut store = opened(alloc, created(alloc, &network, 2)?)?;
     work_on(&mut store, row.before)?;
     let mut disk = store.close();
@@ -319,9 +478,10 @@ fn calls_of_a_store(rt: HostRuntime) -> Result<(), Fail> {
 #[test]
 fn calls_of_create(rt: HostRuntime) -> Result<(), Fail> {
     let alloc = rt.alloc();
-    let rows: [(usize, u32, &[Call]); 3] = [
-        (8, 2, &[Pages(0, 8), Sync, Gate(2), Sync, Gate(0), Sync]),
+    let rows: [(usize, u64, u32, &[Call]); 5] = [
+        (8, 8, 2, &[Pages(0, 8), Sync, Gate(2), Sync, Gate(0), Sync]),
         (
+            8,
             8,
             64,
             &[
@@ -334,12 +494,27 @@ fn calls_of_create(rt: HostRuntime) -> Result<(), Fail> {
                 Sync,
             ],
         ),
-        (0, 1, &[Pages(0, 4), Sync, Gate(1), Sync, Gate(0), Sync]),
+        (
+            8,
+            10,
+            64,
+            &[
+                Pages(0, 64),
+                Pages(64, 8),
+                Sync,
+                Gate(2),
+                Sync,
+                Gate(0),
+                Sync,
+            ],
+        ),
+        (0, 0, 1, &[Pages(0, 4), Sync, Gate(1), Sync, Gate(0), Sync]),
+        (0, 1, 1, &[Pages(0, 8), Sync, Gate(1), Sync, Gate(0), Sync]),
     ];
-    for (arcs, journal_pages, calls) in rows {
-        let network = parallel(alloc, arcs)?;
+    for (arcs, room, journal_pages, calls) in rows {
+        let network = parallel(alloc, arcs, room)?;
         let disk = created(alloc, &network, journal_pages.clamp(1, 64))?;
-        assert_eq!(rt; first_other(&disk, calls), None, "{arcs} arcs");
+        assert_eq!(rt; first_other(&disk, calls), None, "{arcs} arcs, room {room}");
     }
     Ok(())
 }
@@ -348,7 +523,7 @@ fn calls_of_create(rt: HostRuntime) -> Result<(), Fail> {
 #[test]
 fn calls_of_a_look(rt: HostRuntime) -> Result<(), Fail> {
     let alloc = rt.alloc();
-    let mut disk = created(alloc, &parallel(alloc, 8)?, 2)?;
+    let mut disk = created(alloc, &parallel(alloc, 8, 8)?, 2)?;
     let _ = disk.stop(&[Pick::Old]);
     inspect(alloc, &mut disk)?;
     assert_eq!(rt; first_other(&disk, &[Sync]), None);

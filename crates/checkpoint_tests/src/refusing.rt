@@ -5,7 +5,7 @@ ghost use Rattle.store.specs.Opening.{MayRefuseToOpen};
 ghost use Rattle.store.specs.State.{StandsAs, told};
 
 use crate::checkpointing::{full, reused, set};
-use crate::parts::one_closed;
+use crate::parts::{PLANS, one_closed};
 use crate::worked::opened;
 use disk::{Disk, FailOnce, MemDisk};
 use roadnet::Refusal;
@@ -31,20 +31,20 @@ fn opened_again<D: Disk>(alloc: Global, disk: D) -> Result<Store<D>, (Refusal, D
 enum Work {
     Commit,
     Checkpoint,
-    Parts,
+    Parts(usize),
 }
 
-// The disk on which it is done: the page that the commit writes is open, and so is the slot that the checkpoint writes. That which goes in
-// parts has three word pages.
+// The disk on which it is done: the page that the commit writes is open, and so is the slot that the checkpoint writes, of words and ends. That which goes
+// in parts goes by the plan of this number.
 fn disk_for(alloc: Global, work: Work) -> Result<MemDisk, Refusal> {
     match work {
         Work::Commit => {
-            let mut store = opened(alloc, full(alloc)?)?;
+            let mut store = opened(alloc, full(alloc, 8)?)?;
             store.checkpoint()?;
             Ok(store.close())
         }
-        Work::Checkpoint => reused(alloc),
-        Work::Parts => one_closed(alloc),
+        Work::Checkpoint => reused(alloc, 9),
+        Work::Parts(plan) => one_closed(alloc, &PLANS[plan % 2]),
     }
 }
 
@@ -56,9 +56,9 @@ fn work_on<D: Disk>(store: &mut Store<D>, work: Work) -> Result<(), Refusal> {
         Work::Checkpoint => {
             store.checkpoint()?;
         }
-        Work::Parts => {
-            for _ in 0..3 {
-                store.checkpoint_part(1)?;
+        Work::Parts(plan) => {
+            for pages in PLANS[plan % 2].parts {
+                store.checkpoint_part(pages.clamp(1, 64))?;
             }
         }
     }
@@ -129,19 +129,20 @@ fn in_the_end(
 }
 
 // How many calls of the disk an opening and the work make, and what stands in the end: the version, the length of arc 1, the unchecked pages.
-// Opening makes nine calls, and two more for a page that is unchecked. The commit reads the gate, closes it, syncs, writes the body, syncs, opens
+// Opening makes nine calls, one more where there are ends, and two more for a page that is unchecked. The commit reads the gate, closes it, syncs, writes the body, syncs, opens
 // the gate and syncs; the checkpoint does so with the words and the head. The first part reads the gate, which is closed, writes words and syncs;
 // the second writes and syncs; the third writes words and the head, syncs, opens the gate and syncs.
-const ROWS: [(Work, u64, (u64, u32, u32)); 3] = [
+const ROWS: [(Work, u64, (u64, u32, u32)); 4] = [
     (Work::Commit, 16, (3, 9, 1)),
-    (Work::Checkpoint, 19, (3, 3, 0)),
-    (Work::Parts, 21, (1, 5, 0)),
+    (Work::Checkpoint, 20, (3, 3, 0)),
+    (Work::Parts(0), 21, (1, 5, 0)),
+    (Work::Parts(1), 22, (1, 5, 0)),
 ];
 
 #[test]
 fn works_are_tried_again(rt: HostRuntime) -> Result<(), Fail> {
     for (i, &(work, calls, stands)) in ROWS.iter().enumerate() {
-        for k in 1..=22 {
+        for k in 1..=23 {
             let refusal = if k <= calls {
                 Some(Refusal::Device)
             } else {

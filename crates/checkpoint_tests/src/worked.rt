@@ -22,13 +22,29 @@ pub(crate) fn created(
     }
 }
 
-// The disk of a new store of six nodes and eight arcs, without landmarks.
+// The network of six nodes and eight arcs with these landmarks, and room for so many arcs.
+pub(crate) fn six_in_room(alloc: Global, landmarks: &[u32], room: u64) -> Result<Network, Refusal> {
+    match six_with(alloc, landmarks)?.with_room(room) {
+        Ok(network) => Ok(network),
+        Err((refusal, _)) => Err(refusal),
+    }
+}
+
+// The disk of a new store of six nodes and eight arcs, without landmarks, with room for so many arcs.
+pub(crate) fn roomy(alloc: Global, room: u64, journal_pages: u32) -> Result<MemDisk, Refusal>
+    requires some { 1 ≤ journal_pages }
+    requires few { journal_pages ≤ 65536 }
+{
+    let network = six_in_room(alloc, &[], room)?;
+    created(alloc, &network, journal_pages)
+}
+
+// The same with room for no more.
 pub(crate) fn six(alloc: Global, journal_pages: u32) -> Result<MemDisk, Refusal>
     requires some { 1 ≤ journal_pages }
     requires few { journal_pages ≤ 65536 }
 {
-    let network = six_with(alloc, &[])?;
-    created(alloc, &network, journal_pages)
+    roomy(alloc, 8, journal_pages)
 }
 
 pub(crate) fn opened<D: Disk + Drop>(alloc: Global, disk: D) -> Result<Store<D>, Refusal> {

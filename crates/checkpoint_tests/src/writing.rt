@@ -5,17 +5,25 @@ use crate::worked::is_page;
 use checkpoint::NextCheckpoint;
 use disk::{Disk, DiskError, MemDisk, Pick, Stoppable, length_of, settle};
 use fixtures::arc;
-use pages::{Header, Slot};
+use pages::{Format, Header, Slot};
 use roadnet::{Network, Refusal, RoadArc};
 use std::alloc::Global;
 
 // The head of slot B after the first checkpoint, at version 1.
-const HEAD: [u8; 28] =
-    *b"\x00\x00\x00\x00\x00\x00\x00\x02\x00\x00\x00\x00\x00\x00\x00\x01\x00\x00\x00\x00\x00\x00\x00\x01\x00\x00\x00\x00";
+const HEAD: [u8; 32] =
+    *b"\x00\x00\x00\x00\x00\x00\x00\x02\x00\x00\x00\x00\x00\x00\x00\x01\x00\x00\x00\x00\x00\x00\x00\x01\x00\x00\x00\x00\x00\x00\x00\x08";
 
 // The same with landmarks 3 and 6.
-const HEAD_WITH_LANDMARKS: [u8; 36] =
-    *b"\x00\x00\x00\x00\x00\x00\x00\x02\x00\x00\x00\x00\x00\x00\x00\x01\x00\x00\x00\x00\x00\x00\x00\x01\x00\x00\x00\x02\x00\x00\x00\x03\x00\x00\x00\x06";
+const HEAD_WITH_LANDMARKS: [u8; 40] =
+    *b"\x00\x00\x00\x00\x00\x00\x00\x02\x00\x00\x00\x00\x00\x00\x00\x01\x00\x00\x00\x00\x00\x00\x00\x01\x00\x00\x00\x02\x00\x00\x00\x08\x00\x00\x00\x03\x00\x00\x00\x06";
+
+// The same with 602 arcs.
+const HEAD_OF_602: [u8; 32] =
+    *b"\x00\x00\x00\x00\x00\x00\x00\x02\x00\x00\x00\x00\x00\x00\x00\x01\x00\x00\x00\x00\x00\x00\x00\x01\x00\x00\x00\x00\x00\x00\x02\x5a";
+
+// The same with 2,047 arcs.
+const HEAD_OF_2047: [u8; 32] =
+    *b"\x00\x00\x00\x00\x00\x00\x00\x02\x00\x00\x00\x00\x00\x00\x00\x01\x00\x00\x00\x00\x00\x00\x00\x01\x00\x00\x00\x00\x00\x00\x07\xff";
 
 // The words of the six nodes' arcs, the seventh of them closed.
 const WORDS: [u8; 32] =
@@ -43,21 +51,53 @@ fn six(alloc: Global, landmarks: &[u32]) -> Result<Network, Refusal> {
 }
 
 const SIX: Header = Header {
+    format: Format::Two,
     nodes: 6,
     arcs: 8,
+    room: 8,
     journal_pages: 2,
 };
 
-// So many arcs from node 1 to node 2, each as long as its number.
-fn parallel(alloc: Global, count: u32) -> Result<Network, Refusal> {
+const THREE_PAGES: Header = Header {
+    format: Format::Two,
+    nodes: 2,
+    arcs: 2047,
+    room: 2047,
+    journal_pages: 2,
+};
+
+const MANY_PAGES: Header = Header {
+    format: Format::Two,
+    nodes: 2,
+    arcs: 66000,
+    room: 66000,
+    journal_pages: 1,
+};
+
+const ROOMY: Header = Header {
+    format: Format::Two,
+    nodes: 1000,
+    arcs: 2,
+    room: 1030,
+    journal_pages: 1,
+};
+
+// So many arcs, each as long as its number, from the node of that number, or from node 1 where there is no such node, to the last node. There is room for
+// so many.
+fn numbered(alloc: Global, nodes: u32, count: u32, room: u64) -> Result<Network, Refusal> {
     let mut arcs = Vec::new(alloc);
     for i in 0..count {
-        match arcs.push(arc(1, 2, i.saturating_add(1))) {
+        let number = i.saturating_add(1);
+        let tail = if number <= nodes { number } else { 1 };
+        match arcs.push(arc(tail, nodes, number)) {
             Ok(()) => {}
             Err(_) => return Err(Refusal::OutOfMemory),
         }
     }
-    Network::new(alloc, 2, arcs, &[])
+    match Network::new(alloc, nodes, arcs, &[])?.with_room(room) {
+        Ok(network) => Ok(network),
+        Err((refusal, _)) => Err(refusal),
+    }
 }
 
 // A file of zeros, of the size of this header, but for the gate of slot B, which has this byte.
@@ -77,7 +117,7 @@ fn file(alloc: Global, header: &Header, gate: u8) -> Result<MemDisk, Refusal>
     Ok(disk)
 }
 
-// Syncs, and then writes this checkpoint, of which nothing is written, with so many word pages in a write.
+// Syncs, and then writes this checkpoint, of which nothing is written, with so many pages in a write.
 fn write_whole<D: Disk>(
     next: &mut NextCheckpoint,
     disk: &mut D,
@@ -98,7 +138,7 @@ fn write_whole<D: Disk>(
     next.complete(disk, header, network, max_pages)
 }
 
-// Syncs, and then writes the checkpoint of slot B, of epoch 2, version 1 and next sequence 1, with so many word pages in a write.
+// Syncs, and then writes the checkpoint of slot B, of epoch 2, version 1 and next sequence 1, with so many pages in a write.
 fn write<D: Disk>(
     alloc: Global,
     disk: &mut D,
@@ -156,16 +196,11 @@ fn five_writes_and_syncs_or_seven(rt: HostRuntime) -> Result<(), Refusal> {
 // 2,047 arcs have three word pages, the last of which holds one word.
 #[test]
 fn three_word_pages(rt: HostRuntime) -> Result<(), Refusal> {
-    let network = parallel(rt.alloc(), 2047)?;
-    let header = Header {
-        nodes: 2,
-        arcs: 2047,
-        journal_pages: 2,
-    };
-    let mut disk = file(rt.alloc(), &header, 0)?;
-    write(rt.alloc(), &mut disk, &header, &network, 2)?;
+    let network = numbered(rt.alloc(), 2, 2047, 2047)?;
+    let mut disk = file(rt.alloc(), &THREE_PAGES, 0)?;
+    write(rt.alloc(), &mut disk, &THREE_PAGES, &network, 2)?;
     assert!(rt; !disk.stop(&[Pick::Byte(7)]));
-    assert!(rt; is_page(&mut disk, 10, &HEAD, 165)?);
+    assert!(rt; is_page(&mut disk, 10, &HEAD_OF_2047, 165)?);
     assert!(rt; is_page(&mut disk, 13, &[0, 0, 7, 255], 0)?);
     assert!(rt; is_page(&mut disk, 14, &[], 0)?);
     Ok(())
@@ -173,7 +208,10 @@ fn three_word_pages(rt: HostRuntime) -> Result<(), Refusal> {
 
 // The word at a byte of the disk.
 fn word_at(disk: &mut MemDisk, at: u64) -> Result<u32, Refusal> {
-    if disk.len() != Ok(4096 * 264) || at > 4096 * 263 {
+    let Ok(length) = disk.len() else {
+        return Err(Refusal::Device);
+    };
+    if length < 4 || at > length - 4 {
         return Err(Refusal::NotAStore);
     }
     let mut word = [0; 4];
@@ -183,27 +221,63 @@ fn word_at(disk: &mut MemDisk, at: u64) -> Result<u32, Refusal> {
     }
 }
 
+// The first of these places of the disk at which another word stands, if there is one.
+fn first_other(disk: &mut MemDisk, words: &[(u64, u32)]) -> Result<Option<u64>, Refusal> {
+    for &(at, word) in words {
+        if word_at(disk, at)? != word {
+            return Ok(Some(at));
+        }
+    }
+    Ok(None)
+}
+
 // 66,000 arcs have 65 word pages, so there are two writes of words.
 #[test]
 fn sixty_five_word_pages(rt: HostRuntime) -> Result<(), Refusal> {
-    let network = parallel(rt.alloc(), 66_000)?;
-    let header = Header {
-        nodes: 2,
-        arcs: 66_000,
-        journal_pages: 1,
-    };
-    let mut disk = file(rt.alloc(), &header, 0)?;
-    write(rt.alloc(), &mut disk, &header, &network, 64)?;
+    let network = numbered(rt.alloc(), 2, 66_000, 66_000)?;
+    let mut disk = file(rt.alloc(), &MANY_PAGES, 0)?;
+    write(rt.alloc(), &mut disk, &MANY_PAGES, &network, 64)?;
     assert!(rt; !disk.stop(&[Pick::Byte(7)]));
-    for (at, length) in [
+    assert_eq!(rt; disk.len(), Ok(4096 * 264));
+    let words = [
         (4096 * 198, 1),
         (4096 * 198 + 4088, 1023),
         (4096 * 262, 65473),
         (4096 * 262 + 2104, 65999),
         (4096 * 262 + 2108, 66000),
         (4096 * 262 + 2112, 0),
-    ] {
-        assert_eq!(rt; word_at(&mut disk, at)?, length, "byte {at}");
+    ];
+    assert_eq!(rt; first_other(&mut disk, &words)?, None);
+    Ok(())
+}
+
+// A store of two arcs with room for 1,030, of which 602 are there: slot B's head is page 8, pages 9 and 10 are words, the second of them past the arcs, and
+// pages 11 to 13 ends, of arc 3 and those behind it, the last of them past the arcs. The first write has words and ends.
+#[test]
+fn words_and_then_ends(rt: HostRuntime) -> Result<(), Refusal> {
+    let network = numbered(rt.alloc(), 1000, 602, 1030)?;
+    let mut disk = file(rt.alloc(), &ROOMY, 0)?;
+    write(rt.alloc(), &mut disk, &ROOMY, &network, 3)?;
+    assert!(rt; !disk.stop(&[Pick::Byte(7)]));
+    assert_eq!(rt; disk.len(), Ok(4096 * 15));
+    assert!(rt; is_page(&mut disk, 8, &HEAD_OF_602, 165)?);
+    for number in [0, 1, 2, 3, 4, 5, 6, 7, 10, 13, 14] {
+        assert!(rt; is_page(&mut disk, number, &[], 0)?, "page {number}");
     }
+    let words = [
+        (4096 * 9, 1),
+        (4096 * 9 + 2404, 602),
+        (4096 * 9 + 2408, 0),
+        (4096 * 11, 3),
+        (4096 * 11 + 4, 1000),
+        (4096 * 11 + 4080, 513),
+        (4096 * 11 + 4084, 1000),
+        (4096 * 11 + 4088, 0),
+        (4096 * 12, 514),
+        (4096 * 12 + 704, 602),
+        (4096 * 12 + 708, 1000),
+        (4096 * 12 + 712, 0),
+    ];
+    assert_eq!(rt; first_other(&mut disk, &words)?, None);
     Ok(())
 }

@@ -1,42 +1,59 @@
-use crate::worked::is_page;
-use disk::{Disk, MemDisk, Pick, Stoppable};
+use crate::worked::{is_page, opened, six_in_room};
+use disk::{Disk, FuseDisk, MemDisk, Pick, Stoppable};
 use fixtures::six_with;
-use roadnet::Refusal;
+use roadnet::{Network, Refusal};
+use std::alloc::Global;
 use store::create;
 
-const HEADER: [u8; 24] =
-    *b"ROADMRK1\x00\x00\x00\x01\x00\x00\x00\x06\x00\x00\x00\x08\x00\x00\x00\x40";
+// The header of six nodes and eight arcs with a journal of 64 pages, with room for no more arcs and with room for ten.
+const HEADER: [u8; 28] =
+    *b"ROADMRK1\x00\x00\x00\x02\x00\x00\x00\x06\x00\x00\x00\x08\x00\x00\x00\x40\x00\x00\x00\x08";
+
+const ROOMY_HEADER: [u8; 28] =
+    *b"ROADMRK1\x00\x00\x00\x02\x00\x00\x00\x06\x00\x00\x00\x08\x00\x00\x00\x40\x00\x00\x00\x0a";
 
 const ARCS: [u8; 64] =
     *b"\x00\x00\x00\x01\x00\x00\x00\x02\x00\x00\x00\x01\x00\x00\x00\x03\x00\x00\x00\x02\x00\x00\x00\x04\x00\x00\x00\x03\x00\x00\x00\x05\x00\x00\x00\x04\x00\x00\x00\x03\x00\x00\x00\x04\x00\x00\x00\x06\x00\x00\x00\x05\x00\x00\x00\x02\x00\x00\x00\x05\x00\x00\x00\x06";
 
-const HEAD: [u8; 36] =
-    *b"\x00\x00\x00\x00\x00\x00\x00\x01\x00\x00\x00\x00\x00\x00\x00\x00\x00\x00\x00\x00\x00\x00\x00\x00\x00\x00\x00\x02\x00\x00\x00\x03\x00\x00\x00\x06";
+// The head of slot A: two landmarks, eight arcs, and the landmarks.
+const HEAD: [u8; 40] =
+    *b"\x00\x00\x00\x00\x00\x00\x00\x01\x00\x00\x00\x00\x00\x00\x00\x00\x00\x00\x00\x00\x00\x00\x00\x00\x00\x00\x00\x02\x00\x00\x00\x08\x00\x00\x00\x03\x00\x00\x00\x06";
 
 const WORDS: [u8; 32] =
     *b"\x00\x00\x00\x11\x00\x00\x00\x0a\x00\x00\x00\x02\x00\x00\x00\x00\x00\x00\x00\x00\x00\x00\x00\x03\x00\x00\x00\x00\x00\x00\x00\x14";
 
+// The disk of a new store of this network with 64 journal pages.
+fn made(alloc: Global, network: &Network) -> Result<MemDisk, Refusal> {
+    match create(alloc, MemDisk::new(alloc), network, 64) {
+        Ok(store) => {
+            let told = (store.version(), store.unchecked(), store.journal_pages());
+            if told != (0, 0, 64) || !store.calm() {
+                return Err(Refusal::NotYet);
+            }
+            Ok(store.close())
+        }
+        Err((refusal, _)) => Err(refusal),
+    }
+}
+
+// Without room each slot is a head and a page of words, and with room a page of ends besides: of page 4 on all are zeros in either, the end pages 4 and 7
+// too.
 #[test]
 fn pages_of_a_new_store(rt: HostRuntime) -> Result<(), Refusal> {
-    let network = six_with(rt.alloc(), &[6, 3])?;
-    let store = match create(rt.alloc(), MemDisk::new(rt.alloc()), &network, 64) {
-        Ok(store) => store,
-        Err((refusal, _)) => return Err(refusal),
-    };
-    assert_eq!(rt;
-        (store.version(), store.unchecked(), store.journal_pages()),
-        (0, 0, 64)
-    );
-    assert!(rt; store.calm());
-    let mut disk = store.close();
-    assert_eq!(rt; disk.len(), Ok(286_720));
-    assert!(rt; !disk.stop(&[Pick::Byte(7)]));
-    assert!(rt; is_page(&mut disk, 0, &HEADER, 165)?);
-    assert!(rt; is_page(&mut disk, 1, &ARCS, 0)?);
-    assert!(rt; is_page(&mut disk, 2, &HEAD, 165)?);
-    assert!(rt; is_page(&mut disk, 3, &WORDS, 0)?);
-    for number in 4..70 {
-        assert!(rt; is_page(&mut disk, number, &[], 0)?, "page {number}");
+    for (room, header, pages) in [(8, HEADER, 70), (10, ROOMY_HEADER, 72)] {
+        let mut disk = made(rt.alloc(), &six_in_room(rt.alloc(), &[6, 3], room)?)?;
+        assert_eq!(rt; disk.len(), Ok(4096 * pages), "room {room}");
+        assert!(rt; !disk.stop(&[Pick::Byte(7)]));
+        assert!(rt; is_page(&mut disk, 0, &header, 165)?, "room {room}");
+        assert!(rt; is_page(&mut disk, 1, &ARCS, 0)?, "room {room}");
+        assert!(rt; is_page(&mut disk, 2, &HEAD, 165)?, "room {room}");
+        assert!(rt; is_page(&mut disk, 3, &WORDS, 0)?, "room {room}");
+        for number in 4..pages {
+            assert!(rt;
+                is_page(&mut disk, number, &[], 0)?,
+                "room {room}, page {number}"
+            );
+        }
     }
     Ok(())
 }
@@ -53,5 +70,53 @@ fn a_disk_with_bytes_is_refused(rt: HostRuntime) -> Result<(), Refusal> {
     };
     assert_eq!(rt; refusal, Refusal::NotEmpty);
     assert_eq!(rt; disk.len(), Ok(1));
+    Ok(())
+}
+
+// Whether a disk that passes k writes and syncs fails to take the store with room for ten arcs, and what opening answers of what a stop with this pick
+// leaves: the version, the number of arcs and the room.
+fn stopped(
+    alloc: Global,
+    k: u64,
+    pick: Pick,
+) -> Result<(bool, Result<(u64, usize, u32), Refusal>), Refusal> {
+    let network = six_in_room(alloc, &[6, 3], 10)?;
+    let fuse = FuseDisk::new(MemDisk::new(alloc), k);
+    let (fails, disk) = match create(alloc, fuse, &network, 64) {
+        Ok(store) => (false, store.close()),
+        Err((Refusal::Device, disk)) => (true, disk),
+        Err((refusal, _)) => return Err(refusal),
+    };
+    let mut disk = disk.into_inner();
+    let _ = disk.stop(&[pick]);
+    let opens = opened(alloc, disk).map(|store| {
+        let network = store.network();
+        (store.version(), network.arcs().len(), network.room())
+    });
+    Ok((fails, opens))
+}
+
+// What stands after a stop at each of the seven writes and syncs, by the pick: two writes of pages, a sync, slot A's gate, a sync, the header's gate, a
+// sync. Before the last sync no store is promised; but what stands is no store or the new one.
+const STOPS: [(Pick, u64); 4] = [
+    (Pick::Old, 7),
+    (Pick::New, 6),
+    (Pick::Byte(165), 6),
+    (Pick::Byte(17), 7),
+];
+
+#[test]
+fn creation_is_stopped(rt: HostRuntime) -> Result<(), Refusal> {
+    for (pick, from) in STOPS {
+        for k in 0..8 {
+            let opens = if k >= from {
+                Ok((0, 8, 10))
+            } else {
+                Err(Refusal::NotAStore)
+            };
+            let found = stopped(rt.alloc(), k, pick)?;
+            assert!(rt; found == (k < 7, opens), "{pick:?}, call {k}");
+        }
+    }
     Ok(())
 }

@@ -1,7 +1,7 @@
 // Commits at the last version, and one that fails at its last sync.
 use crate::worked::{opened, six};
 use disk::{Disk, FailOnce, MemDisk, Pick, Stoppable};
-use roadnet::{Command, Refusal};
+use roadnet::{Command, Group, Refusal};
 use std::alloc::Global;
 use std::test::Fail;
 
@@ -57,6 +57,23 @@ fn one_version_is_left(rt: HostRuntime) -> Result<(), Fail> {
     let mut store = opened(alloc, store.close())?;
     assert!(rt; store.version() == MOST_VERSIONS && store.unchecked() == 1);
     assert_eq!(rt; store.commit(&[REOPEN]), Err(Refusal::VersionsExhausted));
+    Ok(())
+}
+
+// Versions are counted by groups: two commands in one pass where in two they are refused.
+#[test]
+fn one_version_is_left_for_a_group(rt: HostRuntime) -> Result<(), Fail> {
+    let alloc = rt.alloc();
+    let mut store = opened(alloc, at_version(alloc, MOST_VERSIONS - 1)?)?;
+    assert_eq!(rt;
+        store.commit(&[CLOSE, REOPEN]),
+        Err(Refusal::VersionsExhausted)
+    );
+    let group = Group::new(Vec::from_slice(alloc, &[CLOSE, REOPEN, CLOSE])?)?;
+    assert_eq!(rt; store.commit_groups(&[group]), Ok(MOST_VERSIONS));
+    let store = opened(alloc, store.close())?;
+    assert!(rt; store.version() == MOST_VERSIONS && store.unchecked() == 1);
+    assert!(rt; store.network().arc(7).is_some_and(|arc| !arc.opened));
     Ok(())
 }
 

@@ -1,80 +1,96 @@
 // Runs of commits that are stopped at each of their calls.
 ghost use Rattle.std.specs.Prelude.{◌<◌, length};
 
-use crate::worked::{opened, six};
+use crate::worked::{opened, roomy};
 use disk::{Disk, FuseDisk, MemDisk, Pick, Stoppable};
-use roadnet::{Command, Network, Refusal};
+use fixtures::arc;
+use roadnet::{Command, Group, Network, Refusal, RoadArc};
 use std::alloc::Global;
 use std::test::Fail;
 use store::Store;
 
-const ENDS: [(u32, u32); 8] = [
-    (1, 2),
-    (1, 3),
-    (2, 4),
-    (3, 5),
-    (4, 3),
-    (4, 6),
-    (5, 2),
-    (5, 6),
-];
+// The room of the store: eight arcs are there, and four are laid along a run of 16 commits and the next.
+const ROOM: u64 = 13;
 
-// The network of six nodes and eight arcs as this test keeps it: by arc, and by node.
+// The network of six nodes and eight arcs, and those that are laid, as this test keeps it: by arc, and by node.
 #[derive(Drop)]
 struct Roads {
-    lengths: [u64; 8],
-    opened: [bool; 8],
+    arcs: [Option<RoadArc>; 13],
     marked: [bool; 6],
 }
 
+fn first_roads() -> Roads {
+    let mut arcs = [None; 13];
+    let table = [
+        (1, 2, 17),
+        (1, 3, 10),
+        (2, 4, 2),
+        (3, 5, 0),
+        (4, 3, 0),
+        (4, 6, 3),
+        (5, 2, 0),
+        (5, 6, 20),
+    ];
+    for (place, &(tail, head, length)) in arcs.iter_mut().zip(&table) {
+        *place = Some(arc(tail, head, length));
+    }
+    Roads {
+        arcs,
+        marked: [false; 6],
+    }
+}
+
+// A number that is given to a length or a node.
+fn short(number: u64) -> u32 {
+    u32::try_from(number).unwrap_or(u32::MAX)
+}
+
 impl Roads {
+    // Changes the arc of this number, where there is one.
+    fn change(&mut self, number: u64, length: Option<u32>, opened: Option<bool>) {
+        if let Some(Some(arc)) = self.arcs.get_mut(number.wrapping_sub(1) as usize) {
+            arc.length = length.unwrap_or(arc.length);
+            arc.opened = opened.unwrap_or(arc.opened);
+        }
+    }
+
+    fn mark(&mut self, node: u64, marked: bool) {
+        if let Some(place) = self.marked.get_mut(node.wrapping_sub(1) as usize) {
+            *place = marked;
+        }
+    }
+
+    fn lay(&mut self, laid: RoadArc) {
+        for place in &mut self.arcs {
+            if place.is_none() {
+                *place = Some(laid);
+                return;
+            }
+        }
+    }
+
     fn carry_out(&mut self, command: Command) {
         match command {
-            Command::Set { arc, length } => {
-                if let Some(place) = self.lengths.get_mut(arc.wrapping_sub(1) as usize) {
-                    *place = length;
-                }
-            }
-            Command::Close { arc } => {
-                if let Some(place) = self.opened.get_mut(arc.wrapping_sub(1) as usize) {
-                    *place = false;
-                }
-            }
-            Command::Reopen { arc } => {
-                if let Some(place) = self.opened.get_mut(arc.wrapping_sub(1) as usize) {
-                    *place = true;
-                }
-            }
-            Command::Mark { node } => {
-                if let Some(place) = self.marked.get_mut(node.wrapping_sub(1) as usize) {
-                    *place = true;
-                }
-            }
-            Command::Unmark { node } => {
-                if let Some(place) = self.marked.get_mut(node.wrapping_sub(1) as usize) {
-                    *place = false;
-                }
+            Command::Set { arc, length } => self.change(arc, Some(short(length)), None),
+            Command::Close { arc } => self.change(arc, None, Some(false)),
+            Command::Reopen { arc } => self.change(arc, None, Some(true)),
+            Command::Mark { node } => self.mark(node, true),
+            Command::Unmark { node } => self.mark(node, false),
+            Command::Lay { tail, head, length } => {
+                self.lay(arc(short(tail), short(head), short(length)));
             }
         }
     }
 
     fn are_those_of(&self, network: &Network) -> bool {
-        if network.nodes() != 6 || network.arcs().len() != 8 {
-            return false;
-        }
-        for (i, &(tail, head)) in ENDS.iter().enumerate() {
-            let arc = network.arcs()[i];
-            let same = arc.tail == tail && arc.head == head && arc.opened == self.opened[i];
-            if !same || u64::from(arc.length) != self.lengths[i] {
-                return false;
-            }
+        let mut same = network.nodes() == 6 && u64::from(network.room()) == ROOM;
+        for (i, &wanted) in self.arcs.iter().enumerate() {
+            same = same && network.arc(i as u64 + 1) == wanted;
         }
         for (i, &marked) in self.marked.iter().enumerate() {
-            if network.is_landmark(i as u64 + 1) != marked {
-                return false;
-            }
+            same = same && network.is_landmark(i as u64 + 1) == marked;
         }
-        true
+        same
     }
 }
 
@@ -89,8 +105,13 @@ fn batch(i: u64) -> [Command; 3] {
     };
     let third = match i % 4 {
         0 => Command::Mark { node },
+        1 => Command::Set { arc, length: 0 },
         2 => Command::Unmark { node },
-        _ => Command::Set { arc, length: 0 },
+        _ => Command::Lay {
+            tail: node,
+            head: 6,
+            length: 100 + i % 100,
+        },
     };
     let first = Command::Set {
         arc: i % 8 + 1,
@@ -99,34 +120,45 @@ fn batch(i: u64) -> [Command; 3] {
     [first, second, third]
 }
 
+// Makes the i-th commit: each command a group of its own, or, each second time, the last two in one group.
+fn make<D: Disk>(alloc: Global, store: &mut Store<D>, i: u64) -> Result<u64, Refusal> {
+    let [first, second, third] = batch(i);
+    if i % 2 == 0 {
+        return store.commit(&[first, second, third]);
+    }
+    let two = Group::new(Vec::from_slice(alloc, &[second, third])?)?;
+    store.commit_groups(&[Group::one(first), two])
+}
+
+// The version after so many commits: three groups and two in turn.
+fn version_after(commits: u64) -> u64 {
+    commits.wrapping_mul(2).wrapping_add(commits.div_ceil(2))
+}
+
 // Whether the store is that after so many commits of a run.
 fn stands<D: Disk>(store: &Store<D>, commits: u64) -> bool {
-    let mut roads = Roads {
-        lengths: [17, 10, 2, 0, 0, 3, 0, 20],
-        opened: [true; 8],
-        marked: [false; 6],
-    };
+    let mut roads = first_roads();
     for i in 0..commits {
         for &command in &batch(i) {
             roads.carry_out(command);
         }
     }
     store.calm()
-        && store.version() == commits.wrapping_mul(3)
+        && store.version() == version_after(commits)
         && u64::from(store.unchecked()) == commits
         && roads.are_those_of(store.network())
 }
 
 // Makes the commits from this one on, up to that one. The first that the disk refuses is told as that, and each later one as of a broken
 // store. Answers how many stand in the run, or nothing where an answer is wrong.
-fn run<D: Disk>(store: &mut Store<D>, from: u64, to: u64) -> Option<u64> {
+fn run<D: Disk>(alloc: Global, store: &mut Store<D>, from: u64, to: u64) -> Option<u64> {
     let mut done = from;
     let mut failed = false;
     for i in from..to {
-        match store.commit(&batch(i)) {
+        match make(alloc, store, i) {
             Ok(version) => {
                 done = i.wrapping_add(1);
-                if failed || version != done.wrapping_mul(3) {
+                if failed || version != version_after(done) {
                     return None;
                 }
             }
@@ -143,7 +175,7 @@ fn run<D: Disk>(store: &mut Store<D>, from: u64, to: u64) -> Option<u64> {
             }
         }
     }
-    if store.calm() == failed || store.version() != done.wrapping_mul(3) {
+    if store.calm() == failed || store.version() != version_after(done) {
         return None;
     }
     Some(done)
@@ -164,7 +196,7 @@ fn stopped(
 {
     let mut store = opened(alloc, FuseDisk::new(disk, calls.saturating_add(1)))?;
     let wanted = from.saturating_add(calls / 4);
-    if !stands(&store, from) || run(&mut store, from, to) != Some(wanted) {
+    if !stands(&store, from) || run(alloc, &mut store, from, to) != Some(wanted) {
         return Err(Refusal::NotYet);
     }
     let mut disk = store.close().into_inner();
@@ -182,7 +214,14 @@ fn sweep(alloc: Global, picks: &[Pick]) -> Result<(), Refusal>
     requires { 0 < length picks.now }
 {
     for calls in 0..41u64 {
-        let (mut disk, mut standing) = stopped(alloc, six(alloc, 16)?, 0, 10, calls, picks)?;
+        let (mut disk, mut standing) = stopped(
+            alloc,
+            roomy(alloc, ROOM, 16)?,
+            0,
+            10,
+            calls,
+            picks,
+        )?;
         for more in 0..5u64 {
             let next = standing.saturating_add(1);
             (disk, standing) = stopped(alloc, disk, standing, next, more, picks)?;
@@ -223,15 +262,15 @@ fn stops_leave_old_and_new_bytes(rt: HostRuntime) -> Result<(), Fail> {
 #[test]
 fn close_and_open(rt: HostRuntime) -> Result<(), Fail> {
     let alloc = rt.alloc();
-    let mut store = opened(alloc, six(alloc, 16)?)?;
-    assert!(rt; run(&mut store, 0, 5) == Some(5) && stands(&store, 5));
+    let mut store = opened(alloc, roomy(alloc, ROOM, 16)?)?;
+    assert!(rt; run(alloc, &mut store, 0, 5) == Some(5) && stands(&store, 5));
     let mut disk = store.close();
     let _ = disk.stop(&[Pick::Byte(9)]);
     let store = opened(alloc, disk)?;
     assert!(rt; stands(&store, 5) && store.journal_pages() == 16);
     let mut store = opened(alloc, store.close())?;
-    assert!(rt; run(&mut store, 5, 16) == Some(16) && stands(&store, 16));
-    assert!(rt; store.commit(&batch(16)) == Err(Refusal::JournalFull));
+    assert!(rt; run(alloc, &mut store, 5, 16) == Some(16) && stands(&store, 16));
+    assert!(rt; make(alloc, &mut store, 16) == Err(Refusal::JournalFull));
     assert!(rt; stands(&opened(alloc, store.close())?, 16));
     Ok(())
 }

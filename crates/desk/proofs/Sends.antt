@@ -5,7 +5,7 @@ use Rattle.std.proofs.Crossing.{crosses}
 use Rattle.disk.specs.declared.disk.Disk.{Ghosts as DiskGhosts}
 use Rattle.office.specs.declared.naming.Naming.{Ghosts as NamingGhosts}
 use Rattle.roadnet.proofs.networks.Network.TheSendSync as Networks
-use Rattle.roadnet.proofs.commands.Command.TheSendSync as Commands
+use Rattle.roadnet.proofs.groups.Group.TheSendSync as Groups
 use Rattle.store.proofs.paged.Paged.TheSendSync as Pages
 use Rattle.history.proofs.histories.History.TheSendSync as Histories
 use Rattle.published.proofs.publishers.Publisher.TheSendSync as Publishers
@@ -31,7 +31,7 @@ store_inside D d s = search (pages, sendable, crosses) depth 20
 store_send : (D : RattleType) (d : DiskGhosts D.Denot) → IsSend D → IsSend (Store.the_row D d)
 store_send D d s = view_send _ _ _ _ _ (store_inside D d s)
 
-ruleset entries = (store_send, Networks.the_send, Networks.the_sync, Commands.the_field_send)
+ruleset entries = (store_send, Networks.the_send, Networks.the_sync, Groups.the_send)
 
 ledger_inside : (D : RattleType) (d : DiskGhosts D.Denot) → IsSend D → IsSend (LedgerInside.the_row D d)
 ledger_inside D d s = search (entries, sendable, crosses) depth 20

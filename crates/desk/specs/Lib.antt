@@ -1,3 +1,4 @@
+pub mod Leaves
 pub mod Openings
 pub mod Readings
 pub mod Shares

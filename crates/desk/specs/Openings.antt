@@ -10,7 +10,7 @@ pub record IsNewDesk {D : Type 0} (origin : Origin) (history : Beginning) (store
   pub base : origin.base ≡ store.network
   pub version : origin.version ≡ store.version
   pub named : history.origin ≡ origin
-  pub no_command : history.commands ≡ []
+  pub no_group : history.groups ≡ []
   pub none_acknowledged : history.acknowledged ≡ 0
 
 -- for what no desk is started: want of memory, or of threads

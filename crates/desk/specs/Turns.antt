@@ -1,10 +1,10 @@
 -- What the threads of a desk are to do, and who has to wait, by the machine's numbers.
 use Rattle.std.specs.Prelude.{◌≡◌, ◌≢◌, ◌⊎◌, ℕ, List, ◌*◌, ◌+◌, Bool, true, false, ◌&&◌, not, if◌then◌else◌, nat_le, nat_lt, ◌==◌, min, Err}
-use Rattle.roadnet.specs.declared.commands.Command.{Command}
+use Rattle.roadnet.specs.declared.groups.Group.{Group}
 use Rattle.roadnet.specs.declared.refusals.Refusal.{Refusal}
 use Rattle.roadnet.specs.declared.refusals.Refusal.TheVariants.{OutOfMemory, Device, JournalFull, Broken, Closed}
 use Rattle.history.specs.Origins.{Origin}
-use Rattle.machine.specs.Machine.{Machine, pending, commands_to}
+use Rattle.machine.specs.Machine.{Machine, pending, groups_to}
 use Rattle.machine.specs.Calls.{Submits}
 use Rattle.office.specs.Offices.{RunsFrom}
 use Rattle.desk.specs.declared.attempts.Attempt.{Attempt}
@@ -18,7 +18,7 @@ use Rattle.desk.specs.declared.locked.BuilderTurn.TheVariants.{Rest as rest, Bui
 abbrev pub is_checkpoint_due : Machine → Bool
 is_checkpoint_due m = nat_le m.sizes.journal_pages (2 * m.unchecked)
 
--- behind a flush a step of a checkpoint, where one is due; else flush while commands are pending; then end where the desk is halted; then
+-- behind a flush a step of a checkpoint, where one is due; else flush while groups are pending; then end where the desk is halted; then
 -- go on with a checkpoint that is due
 abbrev pub flusher_turn_of : Machine → Bool → Bool → FlusherTurn
 flusher_turn_of m has_flushed halted =
@@ -70,7 +70,7 @@ is_unsettled m flusher_ended number = nat_lt m.durable number && (not m.broken &
 abbrev pub is_lost : Machine → ℕ → Bool
 is_lost m number = nat_lt m.durable number && m.broken
 
--- Who waits for a view with this number's command goes on waiting: none is shown, and one may still be.
+-- Who waits for a view with this number's group goes on waiting: none is shown, and one may still be.
 abbrev pub is_unseen : Machine → Bool → ℕ → Bool
 is_unseen m builder_ended number = nat_lt m.shown number && (not (is_lost m number) && not builder_ended)
 
@@ -78,10 +78,10 @@ is_unseen m builder_ended number = nat_lt m.shown number && (not (is_lost m numb
 abbrev pub IsUnserved : Refusal → Type 0
 IsUnserved refusal = (refusal ≡ Broken) ⊎ (refusal ≡ Closed)
 
--- Some state of the machine over the desk's network and version shows the version after these commands.
-abbrev pub WereShown : Origin → List Command → Type 0
-WereShown origin commands = (m : Machine) × RunsFrom origin m × (commands ≡ commands_to m m.shown)
+-- Some state of the machine over the desk's network and version shows the version after these groups.
+abbrev pub WereShown : Origin → List Group → Type 0
+WereShown origin groups = (m : Machine) × RunsFrom origin m × (groups ≡ groups_to m m.shown)
 
--- for what a command is refused: the desk is halted, or else some state of the machine over the desk's network and version refuses this command so
-abbrev pub IsUntaken : Origin → Command → Refusal → Type 0
-IsUntaken origin command refusal = refusal ≢ Closed → (m : Machine) × RunsFrom origin m × Submits m command (Err refusal) m
+-- for what a group is refused: the desk is halted, or else some state of the machine over the desk's network and version refuses this group so
+abbrev pub IsUntaken : Origin → Group → Refusal → Type 0
+IsUntaken origin group refusal = refusal ≢ Closed → (m : Machine) × RunsFrom origin m × Submits m group (Err refusal) m

@@ -1,4 +1,4 @@
-ghost use Rattle.std.specs.Prelude.{◌≡◌, ◌≤◌, true, IfOk, IfErr};
+ghost use Rattle.std.specs.Prelude.{◌≡◌, ◌≤◌, ◌∷◌, [], true, Some, IfOk, IfErr};
 ghost use Rattle.std.specs.Option.{ForSome};
 ghost use Rattle.roadnet.specs.declared.refusals.Refusal.TheVariants.{Closed as closed};
 ghost use Rattle.rows.specs.Kept.{IsWidth};
@@ -22,7 +22,8 @@ use disk::Disk;
 use history::History;
 use office::{Closed, Naming, Office, Receipt, Ticket};
 use published::Shown;
-use roadnet::{Command, Refusal};
+use roadnet::{Command, Group, Refusal};
+use rows::Ran;
 use std::alloc::Global;
 use std::sync::{Arc, Wait};
 use std::thread::Threads;
@@ -55,18 +56,38 @@ fn start_both<
     )
 }
 
-/// A store that is served: commands are made durable by one thread, and shown by another. Its handle has its calls for other threads.
+/// A store that is served: groups are made durable by one thread, and shown by another. Its handle has its calls for other threads.
 ///
 /// A desk that is let go without `close` halts, waits for its threads, and ends the readers' copy: its readers can't look any more.
 pub struct Desk<N: Naming, D: Disk + Drop, G: Gate + Drop, R: Threads + Wait + Copy> {
     handle: Handle<N, D, G, R>,
     threads: Started,
+    // How the builder builds views.
+    plan: Plan,
+}
+
+impl<N: Naming, D: Disk + Drop, G: Gate + Drop, R: Threads + Wait + Copy> Ran for Desk<N, D, G, R> {
+    ghost width_given = { λ desk. desk.plan.delta };
+
+    ghost workers_given = { λ desk. Some desk.plan.workers };
+
+    fn width(&self) -> Option<u32> {
+        self.plan.delta
+    }
+
+    fn workers(&self) -> Option<u32> {
+        Some(self.plan.workers)
+    }
 }
 
 impl<N: Naming, D: Disk + Drop, G: Gate + Drop, R: Threads + Wait + Copy> Drop
     for Desk<N, D, G, R> {
     fn drop(self) {
-        let Desk { handle, threads } = self;
+        let Desk {
+            handle,
+            threads,
+            plan: _,
+        } = self;
         let _ = handle.close(threads);
     }
 }
@@ -97,6 +118,9 @@ impl<
         requires new { IsNewDesk N.origin history store }
         requires came_tidy { N.came_tidy → CameTidy D.honest D.content store.given }
         ensures causes { IfErr result IsUnstarted }
+        // It builds by the setup.
+        ensures width { IfOk result (λ desk. desk.plan.delta ≡ setup.delta) }
+        ensures workers { IfOk result (λ desk. desk.plan.workers ≡ setup.workers) }
     {
         let plan = Plan {
             alloc,
@@ -116,21 +140,31 @@ impl<
         Ok(Desk {
             handle: Handle { rt, alloc, shared },
             threads,
+            plan,
         })
     }
 
-    /// Accepts the command as the next number, and gives a ticket for it. It is not acknowledged yet.
+    /// Accepts the group as the next number, and gives a ticket for it. It is not acknowledged yet.
     ///
     /// Refused is a desk that is halted (61), then what the keeper refuses.
-    pub fn submit(&self, command: Command) -> Result<Ticket, Refusal>
+    pub fn submit_group(&self, group: Group) -> Result<Ticket, Refusal>
         ensures origin { IfOk result (λ ticket. ticket.origin ≡ N.origin) }
-        ensures command { IfOk result (λ ticket. ticket.ticket.command ≡ command) }
-        ensures causes { IfErr result (IsUntaken N.origin command) }
+        ensures group { IfOk result (λ ticket. ticket.ticket.group ≡ group) }
+        ensures causes { IfErr result (IsUntaken N.origin group) }
     {
-        self.handle.submit(command)
+        self.handle.submit_group(group)
     }
 
-    /// Waits until the ticket's command is durable: no stop takes it back then. The receipt is for the ticket's number and command.
+    /// Accepts the command as a group of one, as `submit_group` does.
+    pub fn submit(&self, command: Command) -> Result<Ticket, Refusal>
+        ensures origin { IfOk result (λ ticket. ticket.origin ≡ N.origin) }
+        ensures group { IfOk result (λ ticket. ticket.ticket.group ≡ command ∷ []) }
+        ensures causes { IfErr result (IsUntaken N.origin (command ∷ [])) }
+    {
+        self.submit_group(Group::one(command))
+    }
+
+    /// Waits until the ticket's group is durable: no stop takes it back then. The receipt is for the ticket's number and group.
     ///
     /// Refused is a store that broke before that (45), and a desk whose flusher ended before that (61). The ticket is handed back then.
     pub fn settle(&self, ticket: Ticket) -> Result<Receipt, (Refusal, Ticket)>
@@ -142,32 +176,32 @@ impl<
         self.handle.settle(ticket)
     }
 
-    /// Waits until a view is shown that has the ticket's command, and tells the commands after which it is shown.
+    /// Waits until a view is shown that has the ticket's group, and tells the groups after which it is shown.
     ///
-    /// Refused is a store that broke before the command was durable (45), and a desk whose builder ended before that (61).
+    /// Refused is a store that broke before the group was durable (45), and a desk whose builder ended before that (61).
     pub fn wait_shown(&self, ticket: &Ticket) -> Result<Shown, Refusal>
         requires { ticket.now.origin ≡ N.origin }
         ensures origin { IfOk result (λ shown. shown.origin ≡ N.origin) }
-        ensures there { IfOk result (λ shown. IsAt N.origin.version shown.commands ticket.now.ticket) }
-        ensures state { IfOk result (λ shown. WereShown N.origin shown.commands) }
+        ensures there { IfOk result (λ shown. IsAt N.origin.version shown.groups ticket.now.ticket) }
+        ensures state { IfOk result (λ shown. WereShown N.origin shown.groups) }
         ensures causes { IfErr result IsUnserved }
     {
         self.handle.wait_shown(ticket)
     }
 
-    /// A reader of the views that are shown. It has looked once, and knows the commands after which it saw the view.
+    /// A reader of the views that are shown. It has looked once, and knows the groups after which it saw the view.
     ///
     /// Refused is a place for it that is not found (60): there are 64, and while readers come and go a free one may be missed. Then want of
     /// memory (11), and a copy that can't be entered (61), which doesn't come while there is the desk.
     pub fn reader(&self) -> Result<Reader<N>, Refusal>
         ensures origin { IfOk result (λ reader. reader.known.origin ≡ N.origin) }
-        ensures view { IfOk result (λ reader. IsViewAfter N.origin reader.known.commands reader.view) }
+        ensures view { IfOk result (λ reader. IsViewAfter N.origin reader.known.groups reader.view) }
         ensures causes { IfErr result IsNoReader }
     {
         self.handle.reader()
     }
 
-    /// No command is taken any more: the flusher makes durable what is pending, the builder shows the last view, and both end. It takes no
+    /// No group is taken any more: the flusher makes durable what is pending, the builder shows the last view, and both end. It takes no
     /// memory.
     pub fn halt(&self) {
         self.handle.halt()
@@ -196,7 +230,11 @@ impl<
         // What a stop may leave of the disk stands for the network after a beginning of the history, with all that was acknowledged or shown.
         ensures left { N.came_tidy → IfOk result (λ closed. AreAmong (D.left closed.disk) (KeepsDesk closed.whole closed.shown closed.journal_pages)) }
     {
-        let Desk { handle, threads } = self;
+        let Desk {
+            handle,
+            threads,
+            plan: _,
+        } = self;
         handle.close(threads)
     }
 }

@@ -1,4 +1,4 @@
-// The flusher: the thread that makes commands durable and writes checkpoints.
+// The flusher: the thread that makes groups durable and writes checkpoints.
 use crate::attempts::{Attempt, Misses, attempt_of};
 use crate::gates::Gate;
 use crate::locked::FlusherTurn;

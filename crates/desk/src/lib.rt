@@ -1,4 +1,4 @@
-//! The desk of a store: an office under a lock, a thread that makes commands durable, a thread that builds views, and readers that wait
+//! The desk of a store: an office under a lock, a thread that makes groups durable, a thread that builds views, and readers that wait
 //! for neither.
 #![tactic(auto)]
 
@@ -9,6 +9,7 @@ mod flushing;
 mod gates;
 mod handles;
 mod last;
+mod leaves;
 mod locked;
 mod pins;
 mod plans;

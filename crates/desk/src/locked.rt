@@ -13,7 +13,7 @@ use roadnet::Refusal;
 #[derive(Drop)]
 pub(crate) struct Locked<O> {
     pub(crate) office: O,
-    /// No command is taken any more.
+    /// No group is taken any more.
     pub(crate) halted: bool,
     pub(crate) flusher_ended: bool,
     pub(crate) builder_ended: bool,
@@ -23,7 +23,7 @@ pub(crate) struct Locked<O> {
 #[derive(Clone, Copy, Debug, PartialEq, Eq)]
 pub(crate) enum FlusherTurn {
     Rest,
-    /// The first pending commands are made durable. The versions up to this one are.
+    /// The first pending groups are made durable. The versions up to this one are.
     Flush { durable: u64 },
     /// A step of a checkpoint is made. The versions up to this one are durable.
     Checkpoint { durable: u64 },
@@ -61,7 +61,7 @@ impl<N: Naming, D: Disk> Locked<Office<N, D>> {
         2 * u64::from(self.office.unchecked()) >= u64::from(self.office.journal_pages())
     }
 
-    /// What the flusher is to do: behind a flush a step of a checkpoint, where one is due; else flush while commands are pending; then end
+    /// What the flusher is to do: behind a flush a step of a checkpoint, where one is due; else flush while groups are pending; then end
     /// where the desk is halted; then go on with a checkpoint that is due.
     pub(crate) fn flusher_turn(&self, has_flushed: bool) -> FlusherTurn
         ensures { result ≡ flusher_turn_of self.now.office.machine has_flushed self.now.halted }
@@ -120,16 +120,16 @@ impl<N: Naming, D: Disk> Locked<Office<N, D>> {
         self.office.durable() < number && self.office.broken()
     }
 
-    /// Whether who waits for a view with this number's command has to go on waiting.
+    /// Whether who waits for a view with this number's group has to go on waiting.
     pub(crate) fn is_unseen(&self, number: u64) -> bool
         ensures { result ≡ is_unseen self.now.office.machine self.now.builder_ended number }
     {
         self.office.shown() < number && !self.is_lost(number) && !self.builder_ended
     }
 
-    /// A receipt for the ticket, where its command is durable.
+    /// A receipt for the ticket, where its group is durable.
     ///
-    /// Refused is a number that isn't: with 45 where the store is broken, else with 61, which so is told of no command that is lost. The ticket is
+    /// Refused is a number that isn't: with 45 where the store is broken, else with 61, which so is told of no group that is lost. The ticket is
     /// handed back then.
     pub(crate) fn settle(&mut self, ticket: Ticket) -> Result<Receipt, (Refusal, Ticket)>
         requires { ticket.origin ≡ N.origin }
@@ -149,14 +149,14 @@ impl<N: Naming, D: Disk> Locked<Office<N, D>> {
         }
     }
 
-    /// What is shown, where that is the ticket's command or behind it.
+    /// What is shown, where that is the ticket's group or behind it.
     ///
-    /// Refused is a view that isn't shown: with 45 where the store is broken and the command is not durable, else with 61.
+    /// Refused is a view that isn't shown: with 45 where the store is broken and the group is not durable, else with 61.
     pub(crate) fn shown_since(&self, ticket: &Ticket) -> Result<Shown, Refusal>
         requires { ticket.now.origin ≡ N.origin }
         ensures origin { IfOk result (λ shown. shown.origin ≡ N.origin) }
-        ensures there { IfOk result (λ shown. IsAt N.origin.version shown.commands ticket.now.ticket) }
-        ensures state { IfOk result (λ shown. WereShown N.origin shown.commands) }
+        ensures there { IfOk result (λ shown. IsAt N.origin.version shown.groups ticket.now.ticket) }
+        ensures state { IfOk result (λ shown. WereShown N.origin shown.groups) }
         ensures refused { IfErr result (λ _. self.now.office.machine.shown < ticket.now.ticket.number) }
         ensures lost { IfErr result (λ refusal. refusal ≢ closed → (refusal ≡ broken) × (is_lost self.now.office.machine ticket.now.ticket.number ≡ true)) }
         ensures causes { IfErr result IsUnserved }

@@ -31,6 +31,13 @@ impl<'a, N: Naming> Pinned<'a, N> {
         self.reader.sight().version()
     }
 
+    /// The width of the buckets of its searches. It takes no memory.
+    pub fn width(&self) -> u32
+        ensures { result ≡ self.now.reader.now.view.delta }
+    {
+        self.reader.sight().width()
+    }
+
     /// The reply to `From`, by the landmark's row. It takes no memory.
     pub fn from_landmark(&self, landmark: u64, target: u64) -> Reply
         ensures { IsRight self.now.reader.now.view.network (From landmark target) result }

@@ -17,7 +17,7 @@ use std::alloc::Global;
 use std::marker::{Model, PhantomData};
 use std::thread::Threads;
 
-/// A reader of the views that a desk shows. It takes no lock and waits for nobody. Contracts see it as the commands that it has seen or was
+/// A reader of the views that a desk shows. It takes no lock and waits for nobody. Contracts see it as the groups that it has seen or was
 /// told of, with the view that it looked at last. It keeps up to 16 rows of that view, of 8 bytes a node.
 #[derive(Drop)]
 pub struct Reader<N: Naming> {
@@ -45,7 +45,7 @@ impl<N: Naming> Reader<N> {
     pub(crate) fn new(alloc: Global, mut reader: published::Reader) -> Result<Reader<N>, Refusal>
         requires { reader.origin ≡ N.origin }
         ensures origin { IfOk result (λ made. made.known.origin ≡ N.origin) }
-        ensures view { IfOk result (λ made. IsViewAfter N.origin made.known.commands made.view) }
+        ensures view { IfOk result (λ made. IsViewAfter N.origin made.known.groups made.view) }
         ensures causes { IfErr result IsUnseen }
     {
         let view = reader.look()?;
@@ -58,19 +58,19 @@ impl<N: Naming> Reader<N> {
 
     /// The beginning of the desk's history that it has seen or was told of.
     pub fn known(&self) -> &Front
-        ensures commands { result.now ≡ self.now.known }
+        ensures groups { result.now ≡ self.now.known }
         ensures origin { result.now.origin ≡ N.origin }
     {
         self.reader.known()
     }
 
-    /// Looks at the view that is shown. The commands after which it stands begin with all that the reader has seen and was told of, and the
+    /// Looks at the view that is shown. The groups after which it stands begin with all that the reader has seen and was told of, and the
     /// reader has then seen them.
     ///
     /// Refused is a share of the view for which there is no room (11), and a desk that is closed (61). Then nothing has changed.
     pub fn look(&mut self) -> Result<(), Refusal>
-        ensures view { IfOk result (λ _. IsViewAfter N.origin self.new.known.commands self.new.view) }
-        ensures begins { IsPrefix self.old.known.commands self.new.known.commands }
+        ensures view { IfOk result (λ _. IsViewAfter N.origin self.new.known.groups self.new.view) }
+        ensures begins { IsPrefix self.old.known.groups self.new.known.groups }
         ensures refused { OnErr result (self.new ≡ self.old) }
         ensures causes { IfErr result IsUnseen }
     {
@@ -79,7 +79,7 @@ impl<N: Naming> Reader<N> {
         Ok(())
     }
 
-    /// The view that it looked at last, for queries. It is of the desk's network after commands with which those begin that the reader knows.
+    /// The view that it looked at last, for queries. It is of the desk's network after groups with which those begin that the reader knows.
     pub fn pinned(&mut self) -> Pinned<'_, N>
         ensures reader { result.reader.now ≡ self.old }
         ensures origin { result.reader.now.known.origin ≡ N.origin }
@@ -92,8 +92,8 @@ impl<N: Naming> Reader<N> {
 
     /// Looks at the view that is shown, as `look` does, and lends the reader for queries of it. After a refusal nothing has changed.
     pub fn pin(&mut self) -> Result<Pinned<'_, N>, Refusal>
-        ensures view { IfOk result (λ pinned. IsViewAfter N.origin pinned.reader.now.known.commands pinned.reader.now.view) }
-        ensures begins { IfOk result (λ pinned. IsPrefix self.old.known.commands pinned.reader.now.known.commands) }
+        ensures view { IfOk result (λ pinned. IsViewAfter N.origin pinned.reader.now.known.groups pinned.reader.now.view) }
+        ensures begins { IfOk result (λ pinned. IsPrefix self.old.known.groups pinned.reader.now.known.groups) }
         ensures same { IfOk result (λ pinned. pinned.reader.ghost_name ≡ self.entry.ghost_name) }
         ensures* refused { sem 𝓛 (RestsIfErr (the_row N.row N.Naming) self.entry (λ pinned. pinned.reader.ghost_name) result (λ left. left ≡ self.old)) }
         ensures causes { IfErr result IsUnseen }
@@ -102,12 +102,12 @@ impl<N: Naming> Reader<N> {
         Ok(self.pinned())
     }
 
-    /// Takes in what was shown: the reader knows the longer of both lists of commands, which the other begins.
+    /// Takes in what was shown: the reader knows the longer of both lists of groups, which the other begins.
     pub fn learn(&mut self, shown: &Shown)
         requires { shown.now.origin ≡ N.origin }
         ensures one { (self.new.known ≡ self.old.known) ⊎ (self.new.known ≡ shown.now) }
-        ensures this { IsPrefix self.old.known.commands self.new.known.commands }
-        ensures that { IsPrefix shown.now.commands self.new.known.commands }
+        ensures this { IsPrefix self.old.known.groups self.new.known.groups }
+        ensures that { IsPrefix shown.now.groups self.new.known.groups }
         ensures view { self.new.view ≡ self.old.view }
     {
         self.reader.learn(shown);

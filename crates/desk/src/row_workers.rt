@@ -2,10 +2,12 @@
 ghost use Rattle.std.specs.Prelude.{◌≡◌, ◌≤◌, ◌<◌, IfOk, Ok, map, drop, length, slice_index};
 ghost use Rattle.snapshot.specs.Groups.{IsSnapshotOf};
 ghost use Rattle.rows.specs.Views.{AreLandmarkRows, IsRowAt};
+ghost use Rattle.desk.specs.Leaves.{landmark_of};
 ghost use Rattle.desk.specs.Shares.{share_of, AreRowsOf, AreDealt};
 
 use crate::gates::Gate;
 use crate::last::{Unbuilt, is_passed};
+use crate::leaves::Leave;
 use deltastep::{RowError, Workspace, row_in};
 use relax::{CHUNK, Crew, Team};
 use roadnet::Network;
@@ -29,18 +31,20 @@ pub(crate) struct RowJob<'a, G> {
 }
 
 impl<G> RowJob<'_, G> {
-    /// The row of one landmark. The search takes up what an earlier one left in the workspace, and leaves its own memory there.
+    /// The row of the landmark for which the gate gave leave. The search takes up what an earlier one left in the workspace, and leaves its
+    /// own memory there.
     fn row_of<T: Team>(
         &self,
-        landmark: u32,
+        leave: Leave,
         team: &T,
         workspace: &mut Workspace,
     ) -> Result<Row, Unbuilt>
         requires snapshot { IsSnapshotOf self.now.network.now self.now.snapshot.now }
-        requires node { (1 ≤ landmark) × (landmark ≤ self.now.snapshot.now.nodes) }
-        ensures landmark { IfOk result (λ row. row.landmark ≡ landmark) }
+        requires node { (1 ≤ landmark_of leave) × (landmark_of leave ≤ self.now.snapshot.now.nodes) }
+        ensures landmark { IfOk result (λ row. row.landmark ≡ landmark_of leave) }
         ensures right { IfOk result (IsRowAt self.now.version self.now.network.now) }
     {
+        let landmark = leave.landmark();
         match row_in(self.alloc, self.snapshot, landmark, team, workspace) {
             Ok(distances) => Ok(Row {
                 landmark,
@@ -74,8 +78,8 @@ impl<G: Gate> RowJob<'_, G> {
             if is_passed(self.last, self.version) {
                 return Err(Unbuilt::PassedOver);
             }
-            self.gate.before_row(worker + 1, *landmark);
-            let row = self.row_of(*landmark, &crew, &mut workspace)?;
+            let leave = Leave::by(self.gate, worker + 1, *landmark);
+            let row = self.row_of(leave, &crew, &mut workspace)?;
             if rows.push_back(row).is_err() {
                 return Err(Unbuilt::OutOfMemory);
             }

@@ -11,7 +11,7 @@ use crate::locked::{BuilderTurn, FlusherTurn, Locked};
 use disk::Disk;
 use office::{Naming, Office, Receipt, Ticket};
 use published::{Reader, Shown};
-use roadnet::{Command, Refusal};
+use roadnet::{Group, Refusal};
 use std::sync::atomic::{AtomicU64, Ordering};
 use std::sync::{Condvar, Mutex, MutexGuard, Wait};
 use std::time::{Clock, Duration};
@@ -20,9 +20,9 @@ use std::time::{Clock, Duration};
 #[derive(Drop)]
 pub(crate) struct Shared<O, G> {
     pub(crate) locked: Mutex<Locked<O>>,
-    /// A command was submitted, or the desk was halted: the flusher waits for it.
+    /// A group was submitted, or the desk was halted: the flusher waits for it.
     pub(crate) submitted: Condvar,
-    /// Commands became durable, or the flusher ended: the builder and those that settle wait for it.
+    /// Groups became durable, or the flusher ended: the builder and those that settle wait for it.
     pub(crate) flushed: Condvar,
     /// A view was shown, or a thread ended: those that wait for a view do so by it.
     pub(crate) published: Condvar,
@@ -60,24 +60,24 @@ impl<N: Naming, D: Disk + Drop, G: Gate + Drop> Shared<Office<N, D>, G> {
         guard.builder_turn()
     }
 
-    /// Takes a command, unless the desk is halted.
-    pub(crate) fn submit<R: Wait>(&self, rt: &R, command: Command) -> Result<Ticket, Refusal>
+    /// Takes a group, unless the desk is halted.
+    pub(crate) fn submit_group<R: Wait>(&self, rt: &R, group: Group) -> Result<Ticket, Refusal>
         ensures origin { IfOk result (λ ticket. ticket.origin ≡ N.origin) }
-        ensures command { IfOk result (λ ticket. ticket.ticket.command ≡ command) }
-        ensures causes { IfErr result (IsUntaken N.origin command) }
+        ensures group { IfOk result (λ ticket. ticket.ticket.group ≡ group) }
+        ensures causes { IfErr result (IsUntaken N.origin group) }
     {
         let mut guard = self.locked.lock(rt);
         if guard.halted {
             return Err(Refusal::Closed);
         }
         let _ = guard.office.durable();
-        let ticket = guard.office.submit(command)?;
+        let ticket = guard.office.submit_group(group)?;
         drop(guard);
         self.submitted.notify_one();
         Ok(ticket)
     }
 
-    /// Waits until the ticket's command is durable, or won't be.
+    /// Waits until the ticket's group is durable, or won't be.
     pub(crate) fn settle<R: Wait>(
         &self,
         rt: &R,
@@ -97,12 +97,12 @@ impl<N: Naming, D: Disk + Drop, G: Gate + Drop> Shared<Office<N, D>, G> {
         guard.settle(ticket)
     }
 
-    /// Waits until a view is shown that has the ticket's command, or none will be.
+    /// Waits until a view is shown that has the ticket's group, or none will be.
     pub(crate) fn wait_shown<R: Wait>(&self, rt: &R, ticket: &Ticket) -> Result<Shown, Refusal>
         requires { ticket.now.origin ≡ N.origin }
         ensures origin { IfOk result (λ shown. shown.origin ≡ N.origin) }
-        ensures there { IfOk result (λ shown. IsAt N.origin.version shown.commands ticket.now.ticket) }
-        ensures state { IfOk result (λ shown. WereShown N.origin shown.commands) }
+        ensures there { IfOk result (λ shown. IsAt N.origin.version shown.groups ticket.now.ticket) }
+        ensures state { IfOk result (λ shown. WereShown N.origin shown.groups) }
         ensures causes { IfErr result IsUnserved }
     {
         let number = ticket.ticket().number;
@@ -147,7 +147,7 @@ impl<O, G> Shared<O, G> {
         }
     }
 
-    /// No command is taken any more.
+    /// No group is taken any more.
     pub(crate) fn halt<R: Wait>(&self, rt: &R) {
         self.locked.lock(rt).halted = true;
         self.submitted.notify_all();

@@ -50,6 +50,13 @@ impl Sight {
         self.view.version()
     }
 
+    /// The width of the buckets of its searches.
+    pub(crate) fn width(&self) -> u32
+        ensures { result ≡ self.now.delta }
+    {
+        self.view.width()
+    }
+
     /// Another view of the desk. The rows are kept where it is of the same version.
     pub(crate) fn look_at(&mut self, view: Arc<View>)
         requires { view.value.version ≡ self.old.version → view.value.network ≡ self.old.network }

@@ -6,7 +6,7 @@ ghost use Rattle.desk.specs.Openings.{IsNewDesk};
 use crate::desks::{network, setup};
 use desk::{Closed, Desk, Handle, History, Naming, NoGate, Reader, Receipt};
 use disk::{Disk, MemDisk};
-use roadnet::{Command, Refusal};
+use roadnet::{Command, Group, Refusal};
 use rows::Reply;
 use std::alloc::Global;
 use std::marker::{Brand, PhantomData};
@@ -19,15 +19,15 @@ use store::{Store, create};
 /// How often a reader looks at most, a millisecond apart.
 const MOST_TURNS: u32 = 10000;
 
-/// How many callers there are, as many as readers, and how many commands each settles.
+/// How many callers there are, as many as readers, and how many groups each settles.
 const CALLERS: usize = 8;
 
 const EACH: u64 = 250;
 
-/// How many commands there are in all.
+/// How many groups there are in all.
 const ALL: u64 = 2000;
 
-/// A receipt of this desk, and the length that its command set.
+/// A receipt of this desk, and the length that its group set.
 #[derive(Drop)]
 struct Signed<N: Naming> {
     receipt: Receipt,
@@ -43,7 +43,7 @@ struct Noted<N: Naming> {
     seen: Vec<(u64, Reply)>,
 }
 
-/// The arc's length after the k-th command of a caller: each of all commands sets another.
+/// The length of both arcs after the k-th group of a caller: each of all groups sets another.
 fn length_of(caller: usize, k: u64) -> u64
     requires few { caller < 8 }
     requires within { k < 250 }
@@ -51,12 +51,24 @@ fn length_of(caller: usize, k: u64) -> u64
     1000 * (caller as u64 + 1) + k
 }
 
-/// Settles one command. The answer is a refusal, or the receipt beside the length.
+/// The commands that give both arcs this length.
+fn pair_of(length: u64) -> [Command; 2] {
+    [
+        Command::Set { arc: 1, length },
+        Command::Set { arc: 2, length },
+    ]
+}
+
+/// Settles one group. The answer is a refusal, or the receipt beside the length.
 fn settle_one<N: Naming, D: Disk + Drop, R: Wait + Copy>(
+    alloc: Global,
     desk: &Handle<N, D, NoGate, R>,
     length: u64,
 ) -> Result<Signed<N>, Refusal> {
-    let ticket = desk.submit(Command::Set { arc: 1, length })?;
+    let Ok(commands) = Vec::from_slice(alloc, &pair_of(length)) else {
+        return Err(Refusal::OutOfMemory);
+    };
+    let ticket = desk.submit_group(Group::new(commands)?)?;
     match desk.settle(ticket) {
         Ok(receipt) => Ok(Signed {
             receipt,
@@ -67,7 +79,7 @@ fn settle_one<N: Naming, D: Disk + Drop, R: Wait + Copy>(
     }
 }
 
-/// Settles its commands one after the other. The answer is a refusal, or the receipts.
+/// Settles its groups one after the other. The answer is a refusal, or the receipts.
 fn settle_all<N: Naming, D: Disk + Drop, R: Wait + Copy>(
     alloc: Global,
     desk: &Handle<N, D, NoGate, R>,
@@ -77,7 +89,7 @@ fn settle_all<N: Naming, D: Disk + Drop, R: Wait + Copy>(
 {
     let mut receipts = Vec::new(alloc);
     for k in 0..EACH {
-        let signed = settle_one(desk, length_of(caller, k))?;
+        let signed = settle_one(alloc, desk, length_of(caller, k))?;
         if receipts.push(signed).is_err() {
             return Err(Refusal::OutOfMemory);
         }
@@ -85,14 +97,19 @@ fn settle_all<N: Naming, D: Disk + Drop, R: Wait + Copy>(
     Ok(receipts)
 }
 
-/// The version that is shown, and the arc's length in it.
+/// The version that is shown, and the arcs' length in it. Where one has another length than the other, half of a group is seen: then the answer
+/// is a refusal that no look has.
 fn look_once<N: Naming>(reader: &mut Reader<N>) -> Result<(u64, Reply), Refusal> {
     let pinned = reader.pin()?;
     let version = pinned.version();
-    Ok((version, pinned.from_landmark(1, 2)))
+    let first = pinned.from_landmark(1, 2);
+    if pinned.from_landmark(1, 3) != first {
+        return Err(Refusal::OtherNetwork);
+    }
+    Ok((version, first))
 }
 
-/// Pins until it has seen the last version, 10,000 times at most. The answer is a refusal, or the versions with the arc's length.
+/// Pins until it has seen the last version, 10,000 times at most. The answer is a refusal, or the versions with the arcs' length.
 fn look_until_last<N: Naming, R: Clock>(
     rt: &R,
     alloc: Global,
@@ -183,15 +200,11 @@ fn all_at_once<
     )
 }
 
-/// Whether the closed desk confirms the receipt's command.
+/// Whether the closed desk confirms the receipt's group.
 fn is_confirmed<N: Naming, D: Disk>(closed: &Closed<D>, signed: &Signed<N>) -> bool
     requires { closed.now.whole.origin ≡ N.origin }
 {
-    let set = Command::Set {
-        arc: 1,
-        length: signed.length,
-    };
-    closed.confirm(&signed.receipt) == set
+    closed.confirm(&signed.receipt).commands() == pair_of(signed.length).as_slice()
 }
 
 /// Whether it confirms each.
@@ -206,22 +219,22 @@ fn all_confirmed<N: Naming, D: Disk>(closed: &Closed<D>, settled: &[Signed<N>]) 
     true
 }
 
-/// The arc's length at this version: that of the last command up to it.
-fn length_at(history: &[Command], version: u64) -> Option<u64> {
+/// The arcs' length at this version: that of the last group up to it.
+fn length_at(history: &[Group], version: u64) -> Option<u64> {
     if version == 0 {
         return Some(5);
     }
     if version > history.len() as u64 {
         return None;
     }
-    match history[version as usize - 1] {
-        Command::Set { length, .. } => Some(length),
+    match history[version as usize - 1].commands() {
+        [Command::Set { length, .. }, _] => Some(*length),
         _ => None,
     }
 }
 
 /// Whether no version is below the one before, and each reply is that of its version.
-fn all_right(history: &[Command], seen: &[(u64, Reply)]) -> bool {
+fn all_right(history: &[Group], seen: &[(u64, Reply)]) -> bool {
     let mut last = 0;
     for (version, reply) in seen {
         let right = match (length_at(history, *version), reply) {
@@ -259,7 +272,7 @@ fn all_agree<N: Naming, D: Disk>(closed: &Closed<D>, made: &[Result<Noted<N>, Re
     true
 }
 
-/// How many commands the closed desk has, and whether all agrees with them.
+/// How many groups the closed desk has, and whether all agrees with them.
 fn agreed<
     N: Naming + Send + Sync + 'static,
     D: Disk + Drop + Send + 'static,
@@ -273,7 +286,7 @@ fn agreed<
     Ok((closed.history.len(), right))
 }
 
-/// Callers settle and readers look, all at once; the desk is closed behind them. Told is how many commands there were, and whether all agrees.
+/// Callers settle and readers look, all at once; the desk is closed behind them. Told is how many groups there were, and whether all agrees.
 fn crowd<
     N: Naming + Send + Sync + 'static,
     D: Disk + Drop + Send + 'static,
@@ -291,7 +304,7 @@ fn crowd<
 #[test]
 fn callers_and_readers_agree(rt: HostRuntime) -> Result<(), Fail> {
     let alloc = rt.alloc();
-    let network = network(alloc, 2, &[(1, 2, 5)], &[1])?;
+    let network = network(alloc, 3, &[(1, 2, 5), (1, 3, 5)], &[1])?;
     let Ok(store) = create(alloc, MemDisk::new(alloc), &network, 64) else {
         return Err(Fail::from("a store"));
     };

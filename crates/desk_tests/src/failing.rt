@@ -6,7 +6,7 @@ ghost use Rattle.desk.specs.Openings.{IsNewDesk};
 use crate::desks::{CLOSE, SHORTER, Told, seen, settled, setup, six, store_of_six, told_of};
 use desk::{Closed, Desk, History, Naming, NoGate, Reader, Receipt};
 use disk::{Disk, FailOnce, MemDisk, Pick, Stoppable};
-use roadnet::{Command, Network, Refusal};
+use roadnet::{Group, Network, Refusal};
 use rows::Reply;
 use std::alloc::Global;
 use std::marker::Brand;
@@ -22,7 +22,7 @@ type Failed = (Told, (u64, Reply));
 /// What a desk leaves, and whether it confirmed the command before the failure.
 #[derive(Drop)]
 struct Left<D: Disk> {
-    history: Vec<Command>,
+    history: Vec<Group>,
     disk: D,
     confirmed: bool,
 }
@@ -87,7 +87,7 @@ fn left_of<
     requires { first.now.origin ≡ N.origin }
 {
     let closed = desk.close()?;
-    let confirmed = closed.confirm(first) == CLOSE;
+    let confirmed = closed.confirm(first).commands() == [CLOSE].as_slice();
     let Closed {
         history,
         shown: _,
@@ -151,20 +151,20 @@ fn fail_at<R: Threads + Wait + Clock + Copy + Send + Sync + 'static>(
     }
 }
 
-/// The network of the worked rows after these commands.
-fn after_these(alloc: Global, commands: &[Command]) -> Result<Network, Refusal> {
+/// The network of the worked rows after these groups.
+fn after_these(alloc: Global, groups: &[Group]) -> Result<Network, Refusal> {
     let mut network = six(alloc, &[3])?;
-    for command in commands {
-        network.apply(*command)?;
+    for group in groups {
+        network.apply_group(group)?;
     }
     Ok(network)
 }
 
-/// Whether the store stands for the network after so many of these commands as its version says.
+/// Whether the store stands for the network after so many of these groups as its version says.
 fn is_beginning<D: Disk>(
     alloc: Global,
     store: &Store<D>,
-    history: &[Command],
+    history: &[Group],
 ) -> Result<bool, Refusal> {
     if store.version() > history.len() as u64 {
         return Ok(false);
@@ -176,8 +176,8 @@ fn is_beginning<D: Disk>(
     )
 }
 
-/// The version that the disk opens to, which stands for a beginning of these commands.
-fn opens_to<D: Disk + Drop>(alloc: Global, disk: D, history: &[Command]) -> Result<u64, Refusal> {
+/// The version that the disk opens to, which stands for a beginning of these groups.
+fn opens_to<D: Disk + Drop>(alloc: Global, disk: D, history: &[Group]) -> Result<u64, Refusal> {
     match open(alloc, disk) {
         Ok(store) => {
             if is_beginning(alloc, &store, history)? {

@@ -29,7 +29,7 @@ fn close_behind<
     ensures left { IfOk result (λ closed. AreAmong (D.left closed.disk) (KeepsDesk closed.whole closed.shown closed.journal_pages)) }
 {
     let closed = desk.close()?;
-    if closed.confirm(receipt) != CLOSE {
+    if closed.confirm(receipt).commands() != [CLOSE].as_slice() {
         return Err(Refusal::OtherNetwork);
     }
     Ok(closed)

@@ -179,7 +179,7 @@ none_found field others (f ∷ forms) long short =
 
 -- a line is bad by its forms, each of which has a short word and few numbers
 pub bad_by_forms : (forms : List Form) (earlier : List Row) (before : Row) (field : List ℕ) (after : Row) → list_all (λ f. not (ltb 16 (length f.word))) forms ≡ true
-    → ((numbers : Row) → is_malformed 0 numbers ≡ true → is_malformed 1 numbers ≡ true → is_malformed 2 numbers ≡ true → list_all (λ f. is_malformed f.numbers numbers) forms ≡ true)
+    → ((numbers : Row) → is_malformed 0 numbers ≡ true → is_malformed 1 numbers ≡ true → is_malformed 2 numbers ≡ true → is_malformed 3 numbers ≡ true → list_all (λ f. is_malformed f.numbers numbers) forms ≡ true)
     → overflows before field ≡ true → is_remark 35 (before ++ field ∷ after) ≡ false → command_code forms earlier (before ++ field ∷ after) ≡ Some BadLine
 unfolding command_code
 bad_by_forms forms earlier [] field after short all e other =
@@ -188,10 +188,11 @@ bad_by_forms forms earlier (x ∷ xs) field after short all e other =
     let numbers = xs ++ field ∷ after in
     let bad : command_applies forms (x ∷ (xs ++ field ∷ after)) BadLine ≡ true
     = found_true (λ f. is_malformed f.numbers (xs ++ field ∷ after)) _ forms
-    (all (xs ++ field ∷ after) (malformed_beyond 0 x xs field after (omega arith) e) (malformed_beyond 1 x xs field after (omega arith) e) (malformed_beyond 2 x xs field after (omega arith) e)) in
+    (all (xs ++ field ∷ after) (malformed_beyond 0 x xs field after (omega arith) e) (malformed_beyond 1 x xs field after (omega arith) e)
+    (malformed_beyond 2 x xs field after (omega arith) e) (malformed_beyond 3 x xs field after (omega arith) e)) in
     rw (other, bad) refl
 
 pub command_overflows : (earlier : List Row) (before : Row) (field : List ℕ) (after : Row) → overflows before field ≡ true → is_remark 35 (before ++ field ∷ after) ≡ false
     → command_code commands earlier (before ++ field ∷ after) ≡ Some BadLine
 command_overflows earlier before field after e other =
-    bad_by_forms commands earlier before field after refl (λ numbers none one two. rw (one, two) refl) e other
+    bad_by_forms commands earlier before field after refl (λ numbers none one two three. rw (one, two, three) refl) e other

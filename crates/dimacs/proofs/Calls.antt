@@ -106,7 +106,7 @@ module _ {S : Type 0} (judge : Judge) (has_taken : List Row → S → Type 0) (m
 
   -- What a reading answers.
 
-  at_first : (text : List ℕ) (feed : Feed S) → has_taken [] feed.taker → feed.kept.items ≡ [] → feed.lines ≡ 0 → Within judge has_taken mark text text feed
+  at_first : (text : List ℕ) (feed : Feed S) → has_taken [] feed.taker → feed.kept.bytes.items ≡ [] → feed.lines ≡ 0 → Within judge has_taken mark text text feed
   at_first text feed taken none zero =
       record {
         earlier = [];
@@ -114,7 +114,7 @@ module _ {S : Type 0} (judge : Judge) (has_taken : List Row → S → Type 0) (m
         before = [];
         lines = refl;
         in_line = All-nil (λ b. b ≢ 10);
-        kept = nothing_kept mark feed.kept.items none;
+        kept = nothing_kept mark feed.kept.bytes.items none;
         count = sym zero;
         clean = refl;
         no_run = λ u. refl;
@@ -123,7 +123,7 @@ module _ {S : Type 0} (judge : Judge) (has_taken : List Row → S → Type 0) (m
         feeds = sym zero;
       }
 
-  pub begins : (known : Option (List ℕ)) (feed : Feed S) → has_taken [] feed.taker → feed.kept.items ≡ [] → feed.lines ≡ 0 → FarFrom judge has_taken mark known known feed
+  pub begins : (known : Option (List ℕ)) (feed : Feed S) → has_taken [] feed.taker → feed.kept.bytes.items ≡ [] → feed.lines ≡ 0 → FarFrom judge has_taken mark known known feed
   begins None feed taken none zero = λ left. (left, at_first left feed taken none zero)
   begins (Some text) feed taken none zero = at_first text feed taken none zero
 

@@ -2,26 +2,23 @@
 use Rattle.std.proofs.Common.{◌≡◌, ◌∙◌, ℕ, Bool, true, false, ◌||◌, cond, List, [], ◌∷◌, ◌++◌, None, Some, Result, Ok, Err, length, ltb, refl, sym, ap, subst, inl, inr, arith}
 use Rattle.std.specs.List.{find}
 use Rattle.std.proofs.lemmas.Bool.{or_parts, eqb-true, lt-ltb}
-use Rattle.std.proofs.lemmas.List.{append-nil}
 use lib.Chars.{codes}
 use Rattle.roadnet.specs.declared.commands.Command.{Command}
-use Rattle.roadnet.specs.declared.commands.Command.TheVariants.{Set}
-use Rattle.dimacs.specs.declared.commands.CommandLines.{CommandLines}
+use Rattle.roadnet.specs.declared.commands.Command.TheVariants.{Set, Lay}
 use Rattle.dimacs.specs.declared.fault.Code.{Code}
 use Rattle.dimacs.specs.declared.fault.Code.TheVariants.{BadLine, NumberRange, Read}
 use Rattle.dimacs.specs.declared.numeral.Numeral.{Numeral}
 use Rattle.dimacs.specs.declared.words.OneNumber.{OneNumber}
 use Rattle.dimacs.specs.declared.words.OneNumber.TheVariants.{Close, Reopen, Mark, Unmark}
 use Rattle.dimacs.specs.Commands.{Form, form, commands, form_of, is_refused, command_applies, command_code}
-use Rattle.dimacs.specs.Commanded.{command_of, commands_in}
-use Rattle.dimacs.specs.CommandReading.{number_read, numbers_read, ReadsLine, HasCommands}
+use Rattle.dimacs.specs.Commanded.{command_of}
+use Rattle.dimacs.specs.CommandReading.{number_read, numbers_read, three_read, ReadsLine}
 use Rattle.dimacs.specs.Content.{size_at}
 use Rattle.dimacs.specs.Faults.{Row, is_empty, is_remark, is_malformed}
 use Rattle.dimacs.specs.Numerals.{numeral, kept}
-use Rattle.dimacs.specs.Reading.{one_numeral, two_numerals}
+use Rattle.dimacs.specs.Reading.{one_numeral, two_numerals, three_numerals}
 use Rattle.dimacs.specs.Spelling.{one_spelling, one_command}
-use Rattle.dimacs.specs.Taking.{Takes}
-use Rattle.dimacs.proofs.Items.{kept_is, unreadable_kept, filter_map_push, or-false, IsOfTable, found_of_table, told}
+use Rattle.dimacs.proofs.Items.{kept_is, unreadable_kept, or-false, IsOfTable, found_of_table, three_cases}
 use Rattle.dimacs.proofs.NodeRows.{one_cases}
 use Rattle.dimacs.proofs.Problems.{two_cases}
 
@@ -98,6 +95,36 @@ module _ (Right : Row → Result (ℕ × ℕ) Code → Type 0) (malformed : (num
             let result : numbers_read (two_numerals (two.nodes ∷ two.items ∷ [])) ≡ cond (is_refused two.a || is_refused two.b) (Err NumberRange) (Ok ((kept two.a).size, (kept two.b).size)) =
             ap numbers_read read ∙ ap (λ (x : Bool). cond x (Err NumberRange) (Ok ((kept two.a).size, (kept two.b).size))) same in
             rw two.fields (subst (Right (two.nodes ∷ two.items ∷ [])) (sym result) (of_numerals two.nodes two.items two.a two.b two.nodes_is two.items_is (is_refused two.a || is_refused two.b) refl))
+      ]
+
+-- the same of three numbers
+module _ (Right : Row → Result (ℕ × ℕ × ℕ) Code → Type 0) (malformed : (numbers : Row) → is_malformed 3 numbers ≡ true → Right numbers (Err BadLine))
+    (refused : (u v w : List ℕ) (a b d : Numeral) → numeral u ≡ Some a → numeral v ≡ Some b → numeral w ≡ Some d → (is_refused a || (is_refused b || is_refused d)) ≡ true → Right (u ∷ v ∷ w ∷ []) (Err NumberRange))
+    (plain : (u v w : List ℕ) (a b d : Numeral) → numeral u ≡ Some a → numeral v ≡ Some b → numeral w ≡ Some d → (is_refused a || (is_refused b || is_refused d)) ≡ false
+    → Right (u ∷ v ∷ w ∷ []) (Ok (size_at (u ∷ v ∷ w ∷ []) 0, size_at (u ∷ v ∷ w ∷ []) 1, size_at (u ∷ v ∷ w ∷ []) 2))) where
+  of_three : (u v w : List ℕ) (a b d : Numeral) → numeral u ≡ Some a → numeral v ≡ Some b → numeral w ≡ Some d → (c : Bool) → (is_refused a || (is_refused b || is_refused d)) ≡ c
+      → Right (u ∷ v ∷ w ∷ []) (cond c (Err NumberRange) (Ok ((kept a).size, (kept b).size, (kept d).size)))
+  of_three u v w a b d e f g true is = refused u v w a b d e f g is
+  of_three u v w a b d e f g false is =
+      let parts = or_parts _ _ is in
+      let later = or_parts _ _ parts.1 in
+      let first : size_at (u ∷ v ∷ w ∷ []) 0 ≡ (kept a).size = rw e (sym (ap (λ (n : Numeral). n.size) (kept_number a parts.0))) in
+      let second : size_at (u ∷ v ∷ w ∷ []) 1 ≡ (kept b).size = rw f (sym (ap (λ (n : Numeral). n.size) (kept_number b later.0))) in
+      let third : size_at (u ∷ v ∷ w ∷ []) 2 ≡ (kept d).size = rw g (sym (ap (λ (n : Numeral). n.size) (kept_number d later.1))) in
+      subst (λ (x : ℕ). Right (u ∷ v ∷ w ∷ []) (Ok ((kept a).size, (kept b).size, x))) third
+      (subst (λ (m : ℕ). Right (u ∷ v ∷ w ∷ []) (Ok ((kept a).size, m, size_at (u ∷ v ∷ w ∷ []) 2))) second
+      (subst (λ (n : ℕ). Right (u ∷ v ∷ w ∷ []) (Ok (n, size_at (u ∷ v ∷ w ∷ []) 1, size_at (u ∷ v ∷ w ∷ []) 2))) first (plain u v w a b d e f g is)))
+
+  pub three_right : (numbers : Row) → Right numbers (three_read (three_numerals numbers))
+  three_right numbers =
+      elim (three_cases numbers) [
+        | inl bad ↦ rw bad.0 (malformed numbers bad.1)
+        | inr all ↦
+            let read : three_numerals (all.tail ∷ all.head ∷ all.length ∷ []) ≡ Some (kept all.a, kept all.b, kept all.c) = rw (all.tail_is, all.head_is, all.length_is) refl in
+            let same : (is_refused (kept all.a) || (is_refused (kept all.b) || is_refused (kept all.c))) ≡ (is_refused all.a || (is_refused all.b || is_refused all.c)) = rw (kept_refused all.a, kept_refused all.b, kept_refused all.c) refl in
+            let result : three_read (three_numerals (all.tail ∷ all.head ∷ all.length ∷ [])) ≡ cond (is_refused all.a || (is_refused all.b || is_refused all.c)) (Err NumberRange) (Ok ((kept all.a).size, (kept all.b).size, (kept all.c).size)) =
+            ap three_read read ∙ ap (λ (x : Bool). cond x (Err NumberRange) (Ok ((kept all.a).size, (kept all.b).size, (kept all.c).size))) same in
+            rw all.fields (subst (Right (all.tail ∷ all.head ∷ all.length ∷ [])) (sym result) (of_three all.tail all.head all.length all.a all.b all.c all.tail_is all.head_is all.length_is (is_refused all.a || (is_refused all.b || is_refused all.c)) refl))
       ]
 
 -- a word with one number
@@ -180,13 +207,32 @@ set_says row numbers x y e is = rw e (subst (RightNumbers numbers) (sym is) (num
 pub set_fault : (row numbers : Row) (code : Code) → row ≡ codes "set" ∷ numbers → Err code ≡ numbers_read (two_numerals numbers) → ReadsLine row (Err code)
 set_fault row numbers code e is = rw e (subst (RightNumbers numbers) (sym is) (numbers_row numbers))
 
--- ---- lines taken, and one more
-pub takes_nothing : (earlier : List Row) (row : Row) (taken : CommandLines) → ReadsLine row (Ok None) → HasCommands earlier taken → Takes (command_code commands) HasCommands earlier row taken (Ok tt)
-takes_nothing earlier row taken reads has = (reads.0 earlier, has ∙ sym (filter_map_push command_of earlier row ∙ rw reads.1 (append-nil (commands_in earlier))))
+-- `lay` and its three numbers
+code_of_three : (earlier : List Row) (u v w : List ℕ) (a b d : Numeral) → numeral u ≡ Some a → numeral v ≡ Some b → numeral w ≡ Some d
+    → command_code commands earlier (codes "lay" ∷ u ∷ v ∷ w ∷ []) ≡ cond (is_refused a || (is_refused b || is_refused d)) (Some NumberRange) None
+unfolding command_code
+code_of_three earlier u v w a b d e f g = rw (e, f, g) (simp or-false)
 
-pub takes_command : (earlier : List Row) (row : Row) (command : Command) (old new : CommandLines) → ReadsLine row (Ok (Some command)) → HasCommands earlier old
-    → new.commands.items ≡ old.commands.items ++ command ∷ [] → Takes (command_code commands) HasCommands earlier row new (Ok tt)
-takes_command earlier row command old new reads has pushed = (reads.0 earlier, pushed ∙ rw has (sym (filter_map_push command_of earlier row ∙ rw reads.1 refl)))
+malformed_three : (earlier : List Row) (numbers : Row) → is_malformed 3 numbers ≡ true → command_code commands earlier (codes "lay" ∷ numbers) ≡ Some BadLine
+unfolding command_code
+malformed_three earlier numbers e = rw e refl
+
+abbrev RightThree : Row → Result (ℕ × ℕ × ℕ) Code → Type 0
+RightThree numbers (Ok x) = ReadsLine (codes "lay" ∷ numbers) (Ok (Some (Lay x.0 x.1 x.2)))
+RightThree numbers (Err code) = ReadsLine (codes "lay" ∷ numbers) (Err code)
+
+three_row : (numbers : Row) → RightThree numbers (three_read (three_numerals numbers))
+three_row =
+    three_right RightThree
+    (λ numbers bad earlier. malformed_three earlier numbers bad)
+    (λ u v w a b d e f g bad earlier. code_of_three earlier u v w a b d e f g ∙ rw bad refl)
+    (λ u v w a b d e f g good. ((λ earlier. code_of_three earlier u v w a b d e f g ∙ rw good refl), refl))
+
+pub lay_says : (row numbers : Row) (x y z : ℕ) → row ≡ codes "lay" ∷ numbers → Ok (x, y, z) ≡ three_read (three_numerals numbers) → ReadsLine row (Ok (Some (Lay x y z)))
+lay_says row numbers x y z e is = rw e (subst (RightThree numbers) (sym is) (three_row numbers))
+
+pub lay_fault : (row numbers : Row) (code : Code) → row ≡ codes "lay" ∷ numbers → Err code ≡ three_read (three_numerals numbers) → ReadsLine row (Err code)
+lay_fault row numbers code e is = rw e (subst (RightThree numbers) (sym is) (three_row numbers))
 
 pub code_of_table : (forms : List Form) (earlier : List Row) (row : Row) (code : Code) → command_code forms earlier row ≡ Some code → IsOfTable code
 unfolding command_code
@@ -198,14 +244,3 @@ code_of_table forms earlier row code e = listed (is_empty row || is_remark 35 ro
 
 pub never_read : (row : Row) → command_code commands [] row ≡ Some Read → ⊥
 never_read row e = code_of_table commands [] row Read e
-
-pub takes_fault : (earlier : List Row) (row : Row) (code : Code) (taken : CommandLines) → ReadsLine row (Err code) → Takes (command_code commands) HasCommands earlier row taken (Err code)
-takes_fault earlier row code taken reads = told (command_code commands) earlier row code (code_of_table commands earlier row code (reads earlier)) (reads earlier)
-
-or_right : (a b : Bool) → b ≡ true → (a || b) ≡ true
-or_right true b e = refl
-or_right false b e = e
-
-pub takes_remark : (earlier : List Row) (row : Row) (taken : CommandLines) → is_remark 35 row ≡ true → HasCommands earlier taken
-    → (command_code commands earlier row ≡ None) × HasCommands (earlier ++ row ∷ []) taken
-takes_remark earlier row taken e has = takes_nothing earlier row taken (ignored_row row (or_right (is_empty row) (is_remark 35 row) e)) has

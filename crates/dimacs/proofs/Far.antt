@@ -166,7 +166,7 @@ module _ {S : Type 0} (judge : Judge) (has_taken : List Row → S → Type 0) (m
       → judge at.earlier (fields (strip_last 13 (at.front ++ piece))) ≡ None
       → has_taken (at.earlier ++ fields (strip_last 13 (at.front ++ piece)) ∷ []) new.taker
       → (old.until_run ≡ true → is_run (fields (strip_last 13 (at.front ++ piece))) ≡ false)
-      → new.until_run ≡ old.until_run → new.lines ≡ old.lines + 1 → new.kept.items ≡ []
+      → new.until_run ≡ old.until_run → new.lines ≡ old.lines + 1 → new.kept.bytes.items ≡ []
       → Within judge has_taken mark text (more ++ after) new
   took_line rest piece more after old new at e in_piece none taken other until lines kept =
       let row = fields (strip_last 13 (at.front ++ piece)) in
@@ -176,7 +176,7 @@ module _ {S : Type 0} (judge : Judge) (has_taken : List Row → S → Type 0) (m
         before = at.before ++ (piece ++ 10 ∷ []);
         lines = at.lines ∙ ap (λ (l : List Row). at.earlier ++ l) (next_row at.front rest piece more after at.in_line in_piece e) ∙ sym (append_assoc at.earlier (row ∷ []) (rows (more ++ after)));
         in_line = All-nil (λ b. b ≢ 10);
-        kept = nothing_kept mark new.kept.items kept;
+        kept = nothing_kept mark new.kept.bytes.items kept;
         count = omega (arith, length-append at.earlier (row ∷ []), at.count, lines);
         clean = clean_more judge at.earlier row at.clean none;
         no_run = λ u. no_run_more at.earlier row (at.no_run (sym until ∙ u)) (other (sym until ∙ u));
@@ -220,7 +220,7 @@ module _ {S : Type 0} (judge : Judge) (has_taken : List Row → S → Type 0) (m
       }
 
   pub kept_front : (rest after : List ℕ) (old new : Feed S) → (at : Within judge has_taken mark text (rest ++ after) old) → All (λ b. b ≢ 10) rest
-      → ((front : List ℕ) → StandsFor mark front old.kept.items → StandsFor mark (front ++ rest) new.kept.items)
+      → ((front : List ℕ) → StandsFor mark front old.kept.bytes.items → StandsFor mark (front ++ rest) new.kept.bytes.items)
       → new.taker ≡ old.taker → new.until_run ≡ old.until_run → new.lines ≡ old.lines
       → Within judge has_taken mark text after new
   kept_front rest after old new at in_rest stands taker same lines =

@@ -8,7 +8,7 @@ use Rattle.dimacs.specs.declared.numeral.Numeral.{Numeral}
 use Rattle.dimacs.specs.declared.problem.Problem.{Problem}
 use Rattle.roadnet.specs.declared.arcs.RoadArc.{RoadArc}
 use Rattle.dimacs.specs.declared.fault.Code.{Code}
-use Rattle.dimacs.specs.declared.fault.Code.TheVariants.{BadLine, NoProblemLine, SecondProblemLine, WrongKind, NumberRange, NodeRange, LengthRange, LineCount, TooLarge, Read, OutOfMemory}
+use Rattle.dimacs.specs.declared.fault.Code.TheVariants.{BadLine, NoProblemLine, SecondProblemLine, WrongKind, NumberRange, NodeRange, LengthRange, LineCount, TooLarge, Read, OutOfMemory, GroupSize, OpenGroup}
 use Rattle.roadnet.specs.Net.{longest_arc}
 use Rattle.dimacs.specs.Format.{Format, gr}
 use Rattle.dimacs.specs.Numerals.{numeral, kept}
@@ -235,6 +235,8 @@ by_code_of F' LineCount m f g = f m
 by_code_of F' TooLarge m f g = f m
 by_code_of F' Read m f g = absurd m
 by_code_of F' OutOfMemory m f g = g m
+by_code_of F' GroupSize m f g = f m
+by_code_of F' OpenGroup m f g = f m
 
 pub by_memory_of : {P P' Q Q' : Type 0} (code : Code) → ByMemory code P Q → (P → P') → (Q → Q') → ByMemory code P' Q'
 by_memory_of code m f g = by_code_of ⊥ code m f g

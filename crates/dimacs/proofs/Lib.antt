@@ -20,6 +20,8 @@ mod NodeItems
 mod TextNodes
 pub mod Sets
 pub mod CommandRows
+pub mod GroupCodes
+pub mod GroupRows
 pub mod Spelled
 mod FirstFaultLemmas
 mod NextBytes

@@ -6,7 +6,7 @@ use Rattle.dimacs.specs.declared.feed.Ended.{Ended}
 use Rattle.dimacs.specs.declared.gr_lines.GrLines.{GrLines}
 use Rattle.dimacs.specs.declared.fault.Code.{Code}
 use Rattle.dimacs.specs.declared.fault.Fault.{Fault}
-use Rattle.dimacs.specs.declared.fault.Code.TheVariants.{BadLine, NoProblemLine, SecondProblemLine, WrongKind, NumberRange, NodeRange, LengthRange, LineCount, TooLarge, Read, OutOfMemory}
+use Rattle.dimacs.specs.declared.fault.Code.TheVariants.{BadLine, NoProblemLine, SecondProblemLine, WrongKind, NumberRange, NodeRange, LengthRange, LineCount, TooLarge, Read, OutOfMemory, GroupSize, OpenGroup}
 use Rattle.dimacs.specs.Format.{gr}
 use Rattle.dimacs.specs.Lines.{rows}
 use Rattle.dimacs.specs.Faults.{Row, code_of, first_fault, fault_at, end_code}
@@ -59,6 +59,8 @@ by_same Q LineCount p n = p
 by_same Q TooLarge p n = p
 by_same Q Read p n = absurd (n refl)
 by_same Q OutOfMemory p n = p
+by_same Q GroupSize p n = p
+by_same Q OpenGroup p n = p
 
 pub counts_same : {X : Type 0} (old new : ℕ) (result : Result X Fault) → new ≡ old → IfErr result (λ fault. fault.code ≢ Read) → CountsFailures old new result
 counts_same old new (Ok x) e none = e
@@ -76,6 +78,8 @@ same_code F Q LineCount m f = f m
 same_code F Q TooLarge m f = f m
 same_code F Q Read m f = m
 same_code F Q OutOfMemory m f = m
+same_code F Q GroupSize m f = f m
+same_code F Q OpenGroup m f = f m
 
 pub read_fault : (known left : Option (List ℕ)) (until : Bool) (fault : Fault) → IfSome known (λ text. ReadsLines {S = GrLines} (code_of gr) HasTaken until text left (Err fault)) → IfSome known (λ text. ReadsUntil until text left (Err fault))
 read_fault None left until fault read = tt

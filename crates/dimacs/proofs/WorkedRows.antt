@@ -1,17 +1,17 @@
 -- The definitions computed on worked texts.
-use Rattle.std.proofs.Common.{◌≡◌, ℕ, List, [], ◌∷◌, ◌++◌, Option, Some, None, Ok, refl}
+use Rattle.std.proofs.Common.{◌≡◌, ℕ, List, [], ◌∷◌, ◌++◌, Option, Some, None, Ok, Err, refl}
 use lib.Chars.{codes}
-use Rattle.dimacs.specs.declared.fault.Code.TheVariants.{BadLine, NoProblemLine, SecondProblemLine, WrongKind, NumberRange, NodeRange, LengthRange, LineCount, TooLarge}
+use Rattle.dimacs.specs.declared.fault.Code.TheVariants.{BadLine, NoProblemLine, SecondProblemLine, WrongKind, NumberRange, NodeRange, LengthRange, LineCount, TooLarge, GroupSize, OpenGroup}
 use Rattle.dimacs.specs.declared.fault.Fault.{Fault}
 use Rattle.dimacs.specs.Format.{Format, gr, ss, p2p}
 use Rattle.dimacs.specs.Lines.{lines, fields, rows}
 use Rattle.dimacs.specs.Faults.{code_of, applies, fault_at, fault_of, end_code}
 use Rattle.dimacs.specs.Commands.{command_code, commands}
 use Rattle.dimacs.specs.Joint.{before_run, after_run}
-use Rattle.roadnet.specs.declared.commands.Command.TheVariants.{Set, Mark, Unmark, Reopen}
+use Rattle.roadnet.specs.declared.commands.Command.TheVariants.{Set, Mark, Unmark, Reopen, Lay}
 use Rattle.dimacs.specs.Landmarks.{ss_text}
 use Rattle.dimacs.specs.Pairs.{p2p_text}
-use Rattle.dimacs.specs.Commanded.{command_text}
+use Rattle.dimacs.specs.Commanded.{group_code, group_text}
 use Rattle.dimacs.specs.Texts.{content_by}
 
 abbrev fault : Format → List ℕ → Option Fault
@@ -157,10 +157,40 @@ pairs_in_order : content_by (p2p_text 6) (rows (at 10 (codes "p aux sp p2p 2") +
 unfolding code_of applies
 pairs_in_order = refl
 
-six_commands : content_by command_text (rows (at 10 (codes "set 9 1") ++ at 10 (codes "set 1 2147483648") ++ at 10 (codes "set 9 2147483648") ++ at 10 (codes "mark 7") ++ at 10 (codes "unmark 3") ++ codes "reopen 7"))
-    ≡ Ok (Set 9 1 ∷ Set 1 2147483648 ∷ Set 9 2147483648 ∷ Mark 7 ∷ Unmark 3 ∷ Reopen 7 ∷ [])
-unfolding command_code
+six_commands : content_by group_text (rows (at 10 (codes "set 9 1") ++ at 10 (codes "set 1 2147483648") ++ at 10 (codes "set 9 2147483648") ++ at 10 (codes "mark 7") ++ at 10 (codes "unmark 3") ++ codes "reopen 7"))
+    ≡ Ok ((Set 9 1 ∷ []) ∷ (Set 1 2147483648 ∷ []) ∷ (Set 9 2147483648 ∷ []) ∷ (Mark 7 ∷ []) ∷ (Unmark 3 ∷ []) ∷ (Reopen 7 ∷ []) ∷ [])
+unfolding command_code group_code
 six_commands = refl
+
+-- groups
+two_groups : content_by group_text (rows (at 10 (codes "begin") ++ at 10 (codes "set 8 4") ++ at 10 (codes "# end") ++ at 10 [] ++ at 10 (codes "lay 6 1 7") ++ at 10 (codes " end ") ++ codes "reopen 7"))
+    ≡ Ok ((Set 8 4 ∷ Lay 6 1 7 ∷ []) ∷ (Reopen 7 ∷ []) ∷ [])
+unfolding command_code group_code
+two_groups = refl
+
+empty_group : content_by group_text (rows (at 10 (codes "begin") ++ codes "end")) ≡ Err (fault_at 2 GroupSize)
+unfolding command_code group_code
+empty_group = refl
+
+open_group : content_by group_text (rows (at 10 (codes "begin") ++ codes "reopen 7")) ≡ Err (fault_at 2 OpenGroup)
+unfolding command_code group_code
+open_group = refl
+
+begun_twice : content_by group_text (rows (at 10 (codes "begin") ++ codes "begin")) ≡ Err (fault_at 2 BadLine)
+unfolding command_code group_code
+begun_twice = refl
+
+end_alone : content_by group_text (rows (codes "end")) ≡ Err (fault_at 1 BadLine)
+unfolding command_code group_code
+end_alone = refl
+
+two_fields : content_by group_text (rows (codes "begin 1")) ≡ Err (fault_at 1 BadLine)
+unfolding command_code group_code
+two_fields = refl
+
+short_lay : content_by group_text (rows (codes "lay 1 2")) ≡ Err (fault_at 1 BadLine)
+unfolding command_code group_code
+short_lay = refl
 
 too_many_landmarks : fault (ss 6) (codes "p aux sp ss 16777217") ≡ Some (fault_at 1 TooLarge)
 unfolding code_of applies

@@ -18,7 +18,7 @@ abbrev pub form : List ℕ → ℕ → Form
 form word n = record { word = word; numbers = n }
 
 abbrev pub commands : List Form
-commands = form (codes "set") 2 ∷ form (codes "close") 1 ∷ form (codes "reopen") 1 ∷ form (codes "mark") 1 ∷ form (codes "unmark") 1 ∷ []
+commands = form (codes "set") 2 ∷ form (codes "close") 1 ∷ form (codes "reopen") 1 ∷ form (codes "mark") 1 ∷ form (codes "unmark") 1 ∷ form (codes "lay") 3 ∷ []
 
 -- the form of a line by its first field
 abbrev pub form_of : List Form → Row → Option Form

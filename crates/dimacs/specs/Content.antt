@@ -1,5 +1,5 @@
 -- What a `.gr` text says.
-use Rattle.std.specs.Prelude.{ℕ, true, List, [], Option, None, Some, Result, slice_index_or, if◌then◌else◌}
+use Rattle.std.specs.Prelude.{ℕ, true, List, [], Option, None, Some, Result, slice_index_or, if◌then◌else◌, length}
 use Rattle.std.specs.List.{filter_map}
 use Rattle.roadnet.specs.Net.{Net}
 use Rattle.roadnet.specs.declared.arcs.RoadArc.{RoadArc}
@@ -22,7 +22,7 @@ arc_of row = if is_item gr row then Some (arc_from (item_fields row)) else None
 
 -- the network that lines without a fault give: the announced nodes, the arcs in the order of their lines, and no landmark
 abbrev pub network_of : List Row → Net
-network_of rs = record { nodes = nodes_of gr rs; arcs = filter_map arc_of rs; landmarks = [] }
+network_of rs = record { nodes = nodes_of gr rs; arcs = filter_map arc_of rs; landmarks = []; room = length (filter_map arc_of rs) }
 
 -- the kind of text that gives a network
 abbrev pub gr_text : TextKind Net

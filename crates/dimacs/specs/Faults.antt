@@ -6,7 +6,7 @@ use Rattle.std.specs.Str.{bytes_eq}
 use lib.Chars.{codes}
 use Rattle.dimacs.specs.declared.numeral.Numeral.{Numeral}
 use Rattle.dimacs.specs.declared.fault.Code.{Code}
-use Rattle.dimacs.specs.declared.fault.Code.TheVariants.{BadLine, NoProblemLine, SecondProblemLine, WrongKind, NumberRange, NodeRange, LengthRange, LineCount, TooLarge, Read, OutOfMemory}
+use Rattle.dimacs.specs.declared.fault.Code.TheVariants.{BadLine, NoProblemLine, SecondProblemLine, WrongKind, NumberRange, NodeRange, LengthRange, LineCount, TooLarge, Read, OutOfMemory, GroupSize, OpenGroup}
 use Rattle.dimacs.specs.declared.fault.Fault.{Fault}
 use Rattle.roadnet.specs.Net.{longest_arc}
 use Rattle.dimacs.specs.Format.{Format, Quantity, Node, Length}
@@ -125,6 +125,8 @@ applies f earlier row LineCount = is_item f row && nat_le (announced_items f ear
 applies f earlier row TooLarge = has_kind f row && some_at (λ range. is_over range.most) f.counts (count_fields f row)
 applies f earlier row Read = false
 applies f earlier row OutOfMemory = false
+applies f earlier row GroupSize = false
+applies f earlier row OpenGroup = false
 
 -- by their numbers, the lowest first
 abbrev pub line_codes : List Code

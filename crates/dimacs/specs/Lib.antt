@@ -24,4 +24,5 @@ pub mod ListedReading
 pub mod Landmarks
 pub mod Pairs
 pub mod Commanded
+pub mod OpenGroups
 pub mod CommandReading

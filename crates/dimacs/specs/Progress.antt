@@ -64,7 +64,7 @@ pub record Within {S : Type 0} (judge : Judge) (has_taken : List Row → S → T
   pub before : List ℕ
   pub lines : rows text ≡ earlier ++ rows (front ++ left)
   pub in_line : All (λ b. b ≢ 10) front
-  pub kept : StandsFor mark front feed.kept.items
+  pub kept : StandsFor mark front feed.kept.bytes.items
   pub count : length earlier ≡ feed.lines
   pub clean : first_fault judge [] earlier ≡ None
   pub no_run : feed.until_run ≡ true → has_run earlier ≡ false

@@ -1,7 +1,7 @@
 -- What a call that is given one line answers.
 use Rattle.std.specs.Prelude.{◌≡◌, List, [], ◌∷◌, ◌++◌, None, Some, Result, Ok, Err}
 use Rattle.dimacs.specs.declared.fault.Code.{Code}
-use Rattle.dimacs.specs.declared.fault.Code.TheVariants.{BadLine, NoProblemLine, SecondProblemLine, WrongKind, NumberRange, NodeRange, LengthRange, LineCount, TooLarge, Read, OutOfMemory}
+use Rattle.dimacs.specs.declared.fault.Code.TheVariants.{BadLine, NoProblemLine, SecondProblemLine, WrongKind, NumberRange, NodeRange, LengthRange, LineCount, TooLarge, Read, OutOfMemory, GroupSize, OpenGroup}
 use Rattle.dimacs.specs.Faults.{Row, Judge}
 
 -- which fact a code means: the first, unless the reader failed or memory ran out
@@ -17,6 +17,8 @@ ByCode LineCount fault failed refused = fault
 ByCode TooLarge fault failed refused = fault
 ByCode Read fault failed refused = failed
 ByCode OutOfMemory fault failed refused = refused
+ByCode GroupSize fault failed refused = fault
+ByCode OpenGroup fault failed refused = fault
 
 -- the same where nothing is read: no reader can fail
 abbrev pub ByMemory : Code → Type 0 → Type 0 → Type 0

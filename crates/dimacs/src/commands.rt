@@ -1,24 +1,28 @@
 //! The texts of commands.
-ghost use Rattle.std.specs.Prelude.{◌≡◌, IfSome, length, vec_items};
+ghost use Rattle.std.specs.Prelude.{◌≡◌, ◌≢◌, ◌++◌, [], ◌∷◌, if◌then◌else◌, ℕ, false, None, Some, List, IfErr, IfSome, length, vec_items};
 ghost use Rattle.dimacs.specs.Lines.{fields};
-ghost use Rattle.dimacs.specs.Reading.{one_numeral, two_numerals};
-ghost use Rattle.dimacs.specs.CommandReading.{IsKind, number_read, numbers_read, ReadsLine};
+ghost use Rattle.dimacs.specs.Faults.{Row, is_empty};
+ghost use Rattle.dimacs.specs.Reading.{one_numeral, two_numerals, three_numerals};
+ghost use Rattle.dimacs.specs.CommandReading.{HasGroups, IsBound, IsKind, number_read, numbers_read, three_read, ReadsLine};
 
 use crate::counted::Counted;
 use crate::fault::{Code, Fault};
 use crate::feed::{Ended, parse_lines, read_lines};
 use crate::line::split_field;
-use crate::reading::{split_one, split_two};
+use crate::open_group::OpenGroup;
+use crate::reading::{split_one, split_three, split_two};
 use crate::taking::TakeLines;
 use crate::words::{OneNumber, word_of_one};
-use roadnet::Command;
+use roadnet::{Command, Group};
 use std::alloc::Global;
 use std::io::BufRead;
 
-/// The commands of the lines so far.
+/// The groups of the lines so far.
 #[derive(Drop)]
-pub(crate) struct CommandLines {
-    commands: Vec<Command>,
+pub(crate) struct GroupLines {
+    closed: Vec<Group>,
+    /// The group that is open, if one is.
+    open: OpenGroup,
 }
 
 /// A line by its kind, with what follows its first field.
@@ -26,6 +30,7 @@ enum Kind<'a> {
     /// A line with no field, or a comment.
     Ignored,
     Set(&'a [u8]),
+    Lay(&'a [u8]),
     One(OneNumber, &'a [u8]),
     Unknown,
 }
@@ -36,6 +41,7 @@ fn kind_of(line: &[u8]) -> Kind<'_>
     match split_field(line) {
         None | Some(([b'#', ..], _)) => Kind::Ignored,
         Some((b"set", numbers)) => Kind::Set(numbers),
+        Some((b"lay", numbers)) => Kind::Lay(numbers),
         Some((word, numbers)) => match word_of_one(word) {
             Some(word) => Kind::One(word, numbers),
             None => Kind::Unknown,
@@ -76,8 +82,24 @@ pub fn two_numbers(numbers: &[u8]) -> Result<(u64, u64), Code>
     }
 }
 
-/// What a line of a command text says: a command, or nothing.
-fn read_line(line: &[u8]) -> Result<Option<Command>, Code>
+/// The three numbers behind such a word, as `number`.
+pub fn three_numbers(numbers: &[u8]) -> Result<(u64, u64, u64), Code>
+    ensures { result ≡ three_read (three_numerals (fields numbers.now)) }
+{
+    match split_three(numbers) {
+        None => Err(Code::BadLine),
+        Some((first, second, third)) => {
+            if first.is_refused() || (second.is_refused() || third.is_refused()) {
+                return Err(Code::NumberRange);
+            }
+            Ok((first.size, second.size, third.size))
+        }
+    }
+}
+
+/// What a line of a command text says that neither begins nor ends a group: a command, or nothing. Refused are another word or other
+/// numbers than a command has (`BadLine`), and a number with a minus or above 2^63 - 1 (`NumberRange`).
+pub fn read_command(line: &[u8]) -> Result<Option<Command>, Code>
     ensures { ReadsLine (fields line.now) result }
 {
     match kind_of(line) {
@@ -86,33 +108,123 @@ fn read_line(line: &[u8]) -> Result<Option<Command>, Code>
             let (arc, length) = two_numbers(numbers)?;
             Ok(Some(Command::Set { arc, length }))
         }
+        Kind::Lay(numbers) => {
+            let (tail, head, length) = three_numbers(numbers)?;
+            Ok(Some(Command::Lay { tail, head, length }))
+        }
         Kind::One(word, numbers) => Ok(Some(word.command(number(numbers)?))),
         Kind::Unknown => Err(Code::BadLine),
     }
 }
 
-impl CommandLines {
-    ghost use Rattle.std.specs.Prelude.{[]};
-    ghost use Rattle.dimacs.specs.CommandReading.{HasCommands};
+/// Whether a line begins a group or ends one, with what follows its first field.
+pub enum Bound<'a> {
+    Begin(&'a [u8]),
+    End(&'a [u8]),
+    Other,
+}
 
-    fn new(alloc: Global) -> CommandLines
-        ensures { HasCommands [] result }
+/// Whether the line begins a group or ends one. What follows its word is not looked at.
+pub fn bound_of(line: &[u8]) -> Bound<'_>
+    ensures { IsBound (fields line.now) result }
+{
+    match split_field(line) {
+        Some((b"begin", rest)) => Bound::Begin(rest),
+        Some((b"end", rest)) => Bound::End(rest),
+        _ => Bound::Other,
+    }
+}
+
+/// Adds a group. Says whether there was memory for it.
+fn keep(closed: &mut Vec<Group>, group: Group) -> bool
+    ensures { closed.new.items ≡ (if result then closed.old.items ++ group ∷ [] else closed.old.items) }
+{
+    closed.push(group).is_ok()
+}
+
+/// Whether no field is there.
+pub fn is_blank(rest: &[u8]) -> bool
+    ensures { result ≡ is_empty (fields rest.now) }
+{
+    split_field(rest).is_none()
+}
+
+impl GroupLines {
+    ghost use Rattle.std.specs.Prelude.{[], ◌∷◌};
+    ghost use lib.Chars.{codes};
+    ghost use Rattle.dimacs.specs.Commanded.{command_of, begins, ends, group_code};
+    ghost use Rattle.dimacs.specs.Commands.{commands, command_code};
+    ghost use Rattle.dimacs.specs.CommandReading.{HasGroups};
+    ghost use Rattle.dimacs.specs.Taking.{Takes};
+
+    fn new(alloc: Global) -> GroupLines
+        ensures { HasGroups [] result }
     {
-        CommandLines {
-            commands: Vec::new(alloc),
+        GroupLines {
+            closed: Vec::new(alloc),
+            open: OpenGroup::none(alloc),
+        }
+    }
+
+    /// Takes a line `begin`, with what follows the word.
+    fn begin(&mut self, rest: &[u8]) -> Result<(), Code>
+        ensures reads_nothing { IfErr result (λ code. code ≢ Code.Read) }
+        ensures takes { (earlier : List Row) → HasGroups earlier self.old → Takes group_code HasGroups earlier (codes "begin" ∷ fields rest.now) self.new result }
+    {
+        if !is_blank(rest) {
+            return Err(Code::BadLine);
+        }
+        match self.open.begin() {
+            Ok(()) => Ok(()),
+            Err(code) => Err(code),
+        }
+    }
+
+    /// Takes a line `end`, with what follows the word.
+    fn end(&mut self, rest: &[u8]) -> Result<(), Code>
+        ensures reads_nothing { IfErr result (λ code. code ≢ Code.Read) }
+        ensures takes { (earlier : List Row) → HasGroups earlier self.old → Takes group_code HasGroups earlier (codes "end" ∷ fields rest.now) self.new result }
+    {
+        if !is_blank(rest) {
+            return Err(Code::BadLine);
+        }
+        let group = match self.open.end() {
+            Ok(group) => group,
+            Err(code) => return Err(code),
+        };
+        if !keep(&mut self.closed, group) {
+            return Err(Code::OutOfMemory);
+        }
+        Ok(())
+    }
+
+    /// Takes a line that says this command.
+    fn add(&mut self, command: Command) -> Result<(), Code>
+        ensures reads_nothing { IfErr result (λ code. code ≢ Code.Read) }
+        ensures takes { (earlier : List Row) (row : Row) → begins row ≡ false → ends row ≡ false → command_code commands earlier row ≡ None → command_of row ≡ Some command → HasGroups earlier self.old → Takes group_code HasGroups earlier row self.new result }
+    {
+        if !self.open.is_open() {
+            if !keep(&mut self.closed, Group::one(command)) {
+                return Err(Code::OutOfMemory);
+            }
+            return Ok(());
+        }
+        match self.open.add(command) {
+            Ok(()) => Ok(()),
+            Err(code) => Err(code),
         }
     }
 }
 
-impl TakeLines for CommandLines {
+impl TakeLines for GroupLines {
     ghost use Rattle.std.specs.Prelude.{refl};
-    ghost use Rattle.dimacs.specs.Commands.{commands, command_code};
-    ghost use Rattle.dimacs.specs.CommandReading.{HasCommands};
+    ghost use Rattle.dimacs.specs.Commanded.{group_code};
+    ghost use Rattle.dimacs.specs.CommandReading.{HasGroups};
     ghost use Rattle.dimacs.specs.Overflow.{bad_line};
 
-    ghost judge = { command_code commands };
+    ghost judge = { group_code };
 
-    ghost has_taken = { HasCommands };
+    ghost has_taken = { HasGroups };
 
     ghost COMMENT = { 35 };
 
@@ -121,12 +233,15 @@ impl TakeLines for CommandLines {
     const COMMENT: u8 = b'#';
 
     fn take_line(&mut self, line: &[u8]) -> Result<(), Code> {
-        let Some(command) = read_line(line)? else {
-            return Ok(());
-        };
-        match self.commands.push(command) {
-            Ok(()) => Ok(()),
-            Err(_) => Err(Code::OutOfMemory),
+        match bound_of(line) {
+            Bound::Begin(rest) => self.begin(rest),
+            Bound::End(rest) => self.end(rest),
+            Bound::Other => {
+                let Some(command) = read_command(line)? else {
+                    return Ok(());
+                };
+                self.add(command)
+            }
         }
     }
 
@@ -141,40 +256,61 @@ impl TakeLines for CommandLines {
     ghost blank_is_no_comment = { refl };
 }
 
-ghost use Rattle.dimacs.specs.Commanded.{command_text};
-ghost use Rattle.dimacs.specs.Texts.{Parses, Reads, map_ok};
+ghost use Rattle.dimacs.specs.Commanded.{group_text};
+ghost use Rattle.dimacs.specs.Texts.{Ends, Parses, Reads, map_ok};
 ghost use Rattle.dimacs.specs.Counts.{CountsFailures, IsSameReader, failed_calls, reader_of};
 
-/// The commands that a text gives, in the order of their lines, or the text's first fault. Whether their numbers are in range is
-/// judged where they are carried out. It takes 24 bytes a command.
-///
-/// With `/` for a line feed, `close 7 / # again / set 8 4` gives `Close { arc: 7 }` and `Set { arc: 8, length: 4 }`; no network is asked
-/// whether it has these arcs. `close 7 / close -7` gives line 2, `NumberRange`.
-pub fn parse_commands(alloc: Global, bytes: &[u8]) -> Result<Vec<Command>, Fault>
-    ensures { Parses command_text bytes.now (map_ok vec_items result) }
+/// The groups at the end of a text, which must not be within one.
+fn groups_at_end(ended: Ended<GroupLines>) -> Result<Vec<Group>, Fault>
+    ensures reads_nothing { IfErr result (λ fault. fault.code ≢ Code.Read) }
+    ensures ends { (lines : List Row) → HasGroups lines ended.taker → ended.lines ≡ length lines → Ends group_text lines (map_ok vec_items result) }
 {
-    let ended = parse_lines(CommandLines::new(alloc), bytes)?;
-    Ok(ended.taker.commands)
+    let Ended {
+        taker,
+        lines,
+        at_run: _,
+    } = ended;
+    let GroupLines { closed, open } = taker;
+    if open.is_open() {
+        return Err(Fault {
+            line: lines,
+            code: Code::OpenGroup,
+        });
+    }
+    Ok(closed)
 }
 
-/// The commands that a reader's text gives, as `parse_commands`. The count of failed calls tells a failed read from a fault of the
+/// The groups of commands that a text gives, in the order of their lines, or the text's first fault. The lines `begin` and `end` enclose
+/// the commands of a group; a command elsewhere is a group of one. Whether numbers are in range is judged where the commands are carried
+/// out. It takes 40 bytes a group, and 32 a command of a group that is enclosed.
+///
+/// With `/` for a line feed, `begin / close 7 / set 8 4 / end / reopen 7` gives two groups, of two commands and of one. `begin / end` gives
+/// line 2, `GroupSize`; `begin / close 7` gives line 2, `OpenGroup`; `begin / begin` and `end` give `BadLine`.
+pub fn parse_commands(alloc: Global, bytes: &[u8]) -> Result<Vec<Group>, Fault>
+    ensures { Parses group_text bytes.now (map_ok vec_items result) }
+{
+    let ended = parse_lines(GroupLines::new(alloc), bytes)?;
+    groups_at_end(ended)
+}
+
+/// The groups of commands that a reader's text gives, as `parse_commands`. The count of failed calls tells a failed read from a fault of the
 /// text. After an `Err` the reader is not used again.
 pub fn read_commands_counted<R: BufRead>(
     alloc: Global,
     counted: &mut Counted<'_, R>,
-) -> Result<Vec<Command>, Fault>
+) -> Result<Vec<Group>, Fault>
     ensures read { IfSome (R.remaining (reader_of counted.old))
-        (λ text. Reads command_text text (R.remaining (reader_of counted.new)) (map_ok vec_items result)) }
+        (λ text. Reads group_text text (R.remaining (reader_of counted.new)) (map_ok vec_items result)) }
     ensures counts { CountsFailures (failed_calls counted.old) (failed_calls counted.new) result }
     ensures same { IsSameReader counted.old counted.new }
 {
-    let ended = read_lines(alloc, counted, false, CommandLines::new(alloc))?;
-    Ok(ended.taker.commands)
+    let ended = read_lines(alloc, counted, false, GroupLines::new(alloc))?;
+    groups_at_end(ended)
 }
 
-/// The commands that a reader's text gives, as `parse_commands`. After an `Err` the reader is not used again.
-pub fn read_commands<R: BufRead>(alloc: Global, reader: &mut R) -> Result<Vec<Command>, Fault>
-    ensures { IfSome (R.remaining reader.old) (λ text. Reads command_text text (R.remaining reader.new) (map_ok vec_items result)) }
+/// The groups of commands that a reader's text gives, as `parse_commands`. After an `Err` the reader is not used again.
+pub fn read_commands<R: BufRead>(alloc: Global, reader: &mut R) -> Result<Vec<Group>, Fault>
+    ensures { IfSome (R.remaining reader.old) (λ text. Reads group_text text (R.remaining reader.new) (map_ok vec_items result)) }
 {
     let mut counted = Counted::new(reader);
     read_commands_counted(alloc, &mut counted)

@@ -40,6 +40,12 @@ pub enum Code {
     /// gives it, the line may have a fault, where there was no room for its bytes.
     #[error("11 OutOfMemory")]
     OutOfMemory,
+    /// The end of a group without a command, or a 254th command of a group.
+    #[error("13 GroupSize")]
+    GroupSize,
+    /// The text ends within a group.
+    #[error("14 OpenGroup")]
+    OpenGroup,
 }
 
 /// A fault, and the line that has it, counted from 1. A fault found at the end of a text names its last line, and line 0 is

@@ -11,9 +11,9 @@ ghost use Rattle.dimacs.specs.Counts.{CountsFailures, IsSameReader, failed_calls
 
 use crate::counted::{Counted, Turn};
 use crate::fault::{Code, Fault};
+use crate::front::Front;
 use crate::line::{
-    ends_in_blank, is_remark, is_run, overflows, split_at_feed, split_line, without_blanks,
-    without_carriage_return,
+    is_remark, overflows, split_at_feed, split_line, without_blanks, without_carriage_return,
 };
 use crate::taking::TakeLines;
 use std::alloc::Global;
@@ -23,9 +23,7 @@ use std::io::BufRead;
 #[derive(Drop)]
 pub(crate) struct Feed<T> {
     pub(crate) taker: T,
-    pub(crate) kept: Vec<u8>,
-    /// How many of the bytes that are kept were looked at for what is certain of the line.
-    pub(crate) judged: usize,
+    pub(crate) kept: Front,
     pub(crate) lines: u64,
     pub(crate) until_run: bool,
     pub(crate) left: u64,
@@ -47,98 +45,54 @@ pub struct Ended<T> {
     pub at_run: bool,
 }
 
-/// Takes a line, unless it is the line `run` at which to stop. Says whether it is.
-fn take_or_run<T: TakeLines>(taker: &mut T, until_run: bool, line: &[u8]) -> Result<bool, Code>
-    ensures reads_nothing { IfErr result (λ code. code ≢ Code.Read) }
-    ensures takes { (earlier : List Row) → T.has_taken earlier taker.old
-        → TakesOrRuns T.judge T.has_taken until_run earlier (fields line.now) taker.new result }
-{
-    if until_run && is_run(line) {
-        return Ok(true);
-    }
-    taker.take_line(line)?;
-    Ok(false)
-}
-
 impl<T: TakeLines> Feed<T> {
-    /// Takes the line that begins with what is kept and ends with this piece.
+    /// Takes the line that begins with what is kept and ends with this piece. Nothing is kept then.
     fn take_whole(&mut self, piece: &[u8]) -> Result<bool, Code>
         ensures reads_nothing { IfErr result (λ code. code ≢ Code.Read) }
+        ensures empty { OnOk result (self.new.kept.bytes.items ≡ []) }
         ensures taken { (earlier : List Row) (front : List ℕ) → T.has_taken earlier self.old.taker
-            → StandsFor T.COMMENT front self.old.kept.items
+            → StandsFor T.COMMENT front self.old.kept.bytes.items
             → TakesOrRuns T.judge T.has_taken self.old.until_run earlier
             (fields (strip_last 13 (front ++ piece.now))) self.new.taker result }
         ensures lines { self.new.lines ≡ self.old.lines }
         ensures until { self.new.until_run ≡ self.old.until_run }
         ensures left { self.new.left ≡ self.old.left }
     {
-        if self.kept.is_empty() {
-            return take_or_run(
-                &mut self.taker,
-                self.until_run,
-                without_carriage_return(piece),
-            );
-        }
         if self.is_comment() {
             self.taker.pass_comment();
+            self.kept.clear();
             return Ok(false);
         }
-        match self.kept.extend_from_slice(piece) {
-            Ok(()) => {}
-            Err(_) => return Err(Code::OutOfMemory),
-        }
-        take_or_run(
-            &mut self.taker,
-            self.until_run,
-            without_carriage_return(&self.kept),
-        )
+        self.kept.take_whole(&mut self.taker, self.until_run, piece)
     }
 
     /// Whether what is kept is the mark of a comment alone.
     fn is_comment(&self) -> bool
-        ensures yes { result ≡ true → self.now.kept.items ≡ T.COMMENT ∷ [] }
-        ensures no { self.now.kept.items ≡ T.COMMENT ∷ [] → result ≡ true }
+        ensures yes { result ≡ true → self.now.kept.bytes.items ≡ T.COMMENT ∷ [] }
+        ensures no { self.now.kept.bytes.items ≡ T.COMMENT ∷ [] → result ≡ true }
     {
-        match self.kept.as_slice() {
-            [mark] => *mark == T::COMMENT,
-            _ => false,
-        }
+        self.kept.is_byte(T::COMMENT)
     }
 
-    /// Appends bytes to what is kept.
-    fn append(&mut self, bytes: &[u8]) -> Result<(), Code>
-        ensures kept { OnOk result (self.new.kept.items ≡ self.old.kept.items ++ bytes.now) }
-        ensures refused { IfErr result (λ code. code ≡ Code.OutOfMemory) }
-        ensures taker { self.new.taker ≡ self.old.taker }
-        ensures lines { self.new.lines ≡ self.old.lines }
-        ensures until { self.new.until_run ≡ self.old.until_run }
-        ensures left { self.new.left ≡ self.old.left }
-    {
-        match self.kept.extend_from_slice(bytes) {
-            Ok(()) => Ok(()),
-            Err(_) => Err(Code::OutOfMemory),
-        }
-    }
-
-    /// Appends bytes to what is kept, without blanks behind a blank.
+    /// Keeps bytes too, without blanks behind a blank.
     fn append_fields(&mut self, piece: &[u8]) -> Result<(), Code>
-        ensures kept { OnOk result ((front : List ℕ) → StandsFor T.COMMENT front self.old.kept.items
-            → (self.old.kept.items ≡ T.COMMENT ∷ [] → ⊥) → StandsFor T.COMMENT (front ++ piece.now) self.new.kept.items) }
+        ensures kept { OnOk result ((front : List ℕ) → StandsFor T.COMMENT front self.old.kept.bytes.items
+            → (self.old.kept.bytes.items ≡ T.COMMENT ∷ [] → ⊥) → StandsFor T.COMMENT (front ++ piece.now) self.new.kept.bytes.items) }
         ensures refused { IfErr result (λ code. code ≡ Code.OutOfMemory) }
         ensures taker { self.new.taker ≡ self.old.taker }
         ensures lines { self.new.lines ≡ self.old.lines }
         ensures until { self.new.until_run ≡ self.old.until_run }
         ensures left { self.new.left ≡ self.old.left }
     {
-        if ends_in_blank(&self.kept) {
-            return self.append(without_blanks(piece));
+        if self.kept.ends_in_blank() {
+            return self.kept.append(without_blanks(piece));
         }
-        self.append(piece)
+        self.kept.append(piece)
     }
 
     /// Keeps of a comment its mark alone.
     fn keep_mark(&mut self) -> Result<(), Code>
-        ensures kept { OnOk result (self.new.kept.items ≡ T.COMMENT ∷ []) }
+        ensures kept { OnOk result (self.new.kept.bytes.items ≡ T.COMMENT ∷ []) }
         ensures refused { IfErr result (λ code. code ≡ Code.OutOfMemory) }
         ensures taker { self.new.taker ≡ self.old.taker }
         ensures lines { self.new.lines ≡ self.old.lines }
@@ -146,16 +100,16 @@ impl<T: TakeLines> Feed<T> {
         ensures left { self.new.left ≡ self.old.left }
     {
         self.kept.clear();
-        self.append(&[T::COMMENT])
+        self.kept.append(&[T::COMMENT])
     }
 
     /// Looks at what is kept, once it is twice as much as at the last look: of a comment its mark is kept, and the fault of a line
     /// that overflows is told.
     fn look(&mut self) -> Result<(), Code>
-        ensures kept { OnOk result ((front : List ℕ) → StandsFor T.COMMENT front self.old.kept.items
-            → StandsFor T.COMMENT front self.new.kept.items) }
+        ensures kept { OnOk result ((front : List ℕ) → StandsFor T.COMMENT front self.old.kept.bytes.items
+            → StandsFor T.COMMENT front self.new.kept.bytes.items) }
         ensures refused { (earlier : List Row) (front : List ℕ) → T.has_taken earlier self.old.taker
-            → StandsFor T.COMMENT front self.old.kept.items
+            → StandsFor T.COMMENT front self.old.kept.bytes.items
             → IfErr result (λ code. ByMemory code (IsFaultOfFront T.judge earlier front code) ⊤) }
         ensures reads_nothing { IfErr result (λ code. code ≢ Code.Read) }
         ensures taker { OnOk result (self.new.taker ≡ self.old.taker) }
@@ -163,14 +117,13 @@ impl<T: TakeLines> Feed<T> {
         ensures until { self.new.until_run ≡ self.old.until_run }
         ensures left { self.new.left ≡ self.old.left }
     {
-        if self.kept.len() / 2 < self.judged {
+        if !self.kept.is_due() {
             return Ok(());
         }
-        self.judged = self.kept.len();
-        if is_remark(&self.kept, T::COMMENT) {
+        if is_remark(self.kept.seen(), T::COMMENT) {
             return self.keep_mark();
         }
-        let front = without_carriage_return(&self.kept);
+        let front = without_carriage_return(self.kept.seen());
         if !overflows(front) {
             return Ok(());
         }
@@ -185,10 +138,10 @@ impl<T: TakeLines> Feed<T> {
     /// Keeps the front of the next line, but for blanks behind a blank; of a comment only its mark. The fault of a line that
     /// overflows is told at once.
     fn keep(&mut self, piece: &[u8]) -> Result<(), Code>
-        ensures kept { OnOk result ((front : List ℕ) → StandsFor T.COMMENT front self.old.kept.items
-            → StandsFor T.COMMENT (front ++ piece.now) self.new.kept.items) }
+        ensures kept { OnOk result ((front : List ℕ) → StandsFor T.COMMENT front self.old.kept.bytes.items
+            → StandsFor T.COMMENT (front ++ piece.now) self.new.kept.bytes.items) }
         ensures refused { (earlier : List Row) (front : List ℕ) → T.has_taken earlier self.old.taker
-            → StandsFor T.COMMENT front self.old.kept.items
+            → StandsFor T.COMMENT front self.old.kept.bytes.items
             → IfErr result (λ code. ByMemory code (IsFaultOfFront T.judge earlier (front ++ piece.now) code) ⊤) }
         ensures some { OnErr result (0 < length piece.now) }
         ensures reads_nothing { IfErr result (λ code. code ≢ Code.Read) }
@@ -232,8 +185,6 @@ impl<T: TakeLines> Feed<T> {
                     at_run: true,
                 });
             }
-            self.kept.clear();
-            self.judged = 0;
             self.lines += 1;
             rest = more;
         }
@@ -277,7 +228,6 @@ impl<T: TakeLines> Feed<T> {
         let Feed {
             taker,
             kept: _,
-            judged: _,
             lines,
             until_run: _,
             left: _,
@@ -333,8 +283,7 @@ pub fn read_lines<T: TakeLines, R: BufRead>(
 {
     let mut feed = Feed {
         taker,
-        kept: Vec::new(alloc),
-        judged: 0,
+        kept: Front::new(alloc),
         lines: 0,
         until_run,
         left: u64::MAX - 1,

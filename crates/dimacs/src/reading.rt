@@ -43,7 +43,7 @@ pub fn split_two(numbers: &[u8]) -> Option<(Numeral, Numeral)>
 }
 
 /// Three numerals and no other field.
-fn split_three(numbers: &[u8]) -> Option<(Numeral, Numeral, Numeral)>
+pub fn split_three(numbers: &[u8]) -> Option<(Numeral, Numeral, Numeral)>
     ensures { result ≡ three_numerals (fields numbers.now) }
 {
     let (first, rest) = split_numeral(numbers)?;

@@ -4,9 +4,11 @@ ghost use Rattle.dimacs.specs.Lines.{fields, is_blank};
 ghost use Rattle.dimacs.specs.Faults.{Row, Judge, is_remark};
 ghost use Rattle.dimacs.specs.Taking.{Takes};
 ghost use Rattle.dimacs.specs.Overflow.{overflows};
+ghost use Rattle.dimacs.specs.Progress.{TakesOrRuns};
 ghost use Rattle.dimacs.specs.declared.fault.Code.{Code};
 
 use crate::fault::Code;
+use crate::line::is_run;
 
 /// A kind of text: it judges each line after the lines before it, and keeps what they say.
 pub trait TakeLines: Drop {
@@ -49,4 +51,21 @@ pub trait TakeLines: Drop {
     ghost return_is_no_comment: { (13 == COMMENT) ≡ false };
 
     ghost blank_is_no_comment: { is_blank COMMENT ≡ false };
+}
+
+/// Takes a line, unless it is the line `run` at which to stop. Says whether it is.
+pub(crate) fn take_or_run<T: TakeLines>(
+    taker: &mut T,
+    until_run: bool,
+    line: &[u8],
+) -> Result<bool, Code>
+    ensures reads_nothing { IfErr result (λ code. code ≢ Code.Read) }
+    ensures takes { (earlier : List Row) → T.has_taken earlier taker.old
+        → TakesOrRuns T.judge T.has_taken until_run earlier (fields line.now) taker.new result }
+{
+    if until_run && is_run(line) {
+        return Ok(true);
+    }
+    taker.take_line(line)?;
+    Ok(false)
 }

@@ -22,6 +22,8 @@ pub data FileCall : Type 0 where
   SyncData : FileCall
   Lock : Share → FileCall
   SyncFolder : FileCall
+  Duplicate : FileCall
+  Unlock : FileCall
 
 -- what a call answered: that it is done, a length or how many bytes were written, the bytes that were read, or why it failed
 pub data Outcome : Type 0 where
@@ -43,6 +45,8 @@ call_of asked.SyncAll = SyncAll
 call_of asked.SyncData = SyncData
 call_of (asked.Lock share) = Lock share
 call_of asked.SyncFolder = SyncFolder
+call_of asked.Duplicate = Duplicate
+call_of asked.Unlock = Unlock
 
 abbrev pub outcome_of : Answer → Outcome
 outcome_of answer.Done = Done
@@ -91,6 +95,8 @@ is_sync SyncAll = true
 is_sync SyncData = true
 is_sync (Lock _) = false
 is_sync SyncFolder = false
+is_sync Duplicate = false
+is_sync Unlock = false
 
 abbrev pub is_failure : Outcome → Bool
 is_failure Done = false
@@ -116,6 +122,8 @@ keeps_length_synced SyncAll (Failed _) before = before
 keeps_length_synced SyncData outcome before = before
 keeps_length_synced (Lock _) outcome before = before
 keeps_length_synced SyncFolder outcome before = before
+keeps_length_synced Duplicate outcome before = before
+keeps_length_synced Unlock outcome before = before
 
 -- whether the length is as it was at a sync of all that tells of the file
 abbrev pub has_synced_length : List NotedCall → Bool

@@ -57,8 +57,15 @@ impl<F> FileDisk<F> {
 }
 
 impl FileDisk<SystemFile> {
-    /// The lock of the disk's file, to be let go before the disk is dropped. The one error is of the system, which gives no further handle.
-    pub fn lock(&self) -> io::Result<FileLock> {
+    ghost use Rattle.std.specs.Prelude.{◌∷◌, IfOk};
+    ghost use Rattle.filedisk.specs.Noted.{Duplicate, Done};
+    ghost use Rattle.filedisk.specs.SystemFiles.{calls_of, calls_by};
+
+    /// The lock of the disk's file, to be let go before the disk is dropped. It is held still. The one error is of the system, which gives no
+    /// further handle.
+    pub fn lock(&self) -> io::Result<FileLock>
+        ensures { IfOk result (λ lock. calls_by lock ≡ (Duplicate, Done) ∷ calls_of self.now) }
+    {
         self.file.held()
     }
 }

@@ -26,6 +26,9 @@ pub(crate) enum Asked<'a> {
     SyncData,
     Lock(Share),
     SyncFolder,
+    /// Another handle of the file is made, with which the list of its calls goes on.
+    Duplicate,
+    Unlock,
 }
 
 /// What a call answered.

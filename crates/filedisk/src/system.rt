@@ -2,7 +2,7 @@
 //! which it notes, of this file, is to be read here, and nowhere else. They are the calls of any file, so that tests can hold one that tells
 //! which call it got.
 ghost use Rattle.std.specs.Prelude.{◌≡◌, ◌≤◌, [], ◌∷◌, length, IfOk};
-ghost use Rattle.filedisk.specs.Noted.{Size, Read, Write, Lengthen, SyncAll, SyncData, Lock, SyncFolder, call_of, outcome_of, told, done, gave};
+ghost use Rattle.filedisk.specs.Noted.{Size, Read, Write, Lengthen, SyncAll, SyncData, Lock, SyncFolder, Duplicate, Unlock, Done, call_of, outcome_of, told, done, gave};
 
 use crate::notes::{Answer, Asked, Note, Notes, Share};
 use std::fs::{File, OpenFile};
@@ -17,16 +17,20 @@ pub(crate) struct NotedFile<F> {
 }
 
 /// The lock of a file that a disk has open, which may be let go before the disk is dropped: once nothing more is read of the disk and nothing
-/// written, others need not wait for its end. It is another handle of the file; dropped, it leaves the lock as it is. That call is not among
-/// those that are noted of the file.
+/// written, others need not wait for its end. It is another handle of the file; dropped, it leaves the lock as it is. What it does is noted
+/// of this handle, and not of the disk's.
 #[derive(Drop)]
 pub struct FileLock {
-    file: File,
+    file: NotedFile<File>,
 }
 
 impl FileLock {
+    ghost use Rattle.filedisk.specs.SystemFiles.{calls_by};
+
     /// Lets the lock go: others may lock the file from then on.
-    pub fn let_go(self) -> io::Result<()> {
+    pub fn let_go(&mut self) -> io::Result<()>
+        ensures { calls_by self.new ≡ (Unlock, done result) ∷ calls_by self.old }
+    {
         self.file.unlock()
     }
 }
@@ -167,10 +171,26 @@ impl NotedFile<File> {
         answer
     }
 
+    /// Lets the lock go that this opening of the file has.
+    fn unlock(&mut self) -> io::Result<()>
+        ensures { self.new.notes.calls ≡ (Unlock, done result) ∷ self.old.notes.calls }
+    {
+        let answer = self.file.unlock();
+        self.note(Asked::Unlock, as_done(&answer));
+        answer
+    }
+
     /// The lock of the file, to be let go before the file is closed.
-    pub(crate) fn held(&self) -> io::Result<FileLock> {
+    pub(crate) fn held(&self) -> io::Result<FileLock>
+        ensures { IfOk result (λ lock. lock.file.notes.calls ≡ (Duplicate, Done) ∷ self.now.notes.calls) }
+    {
+        let file = self.file.try_clone()?;
+        let notes = self.notes.then(&Note {
+            asked: Asked::Duplicate,
+            answer: Answer::Done,
+        });
         Ok(FileLock {
-            file: self.file.try_clone()?,
+            file: NotedFile { file, notes },
         })
     }
 }

@@ -55,7 +55,8 @@ fn read_uninterrupted(file: &mut NotedFile<File>, at: u64, into: &mut [u8]) -> i
 }
 
 impl SystemFile {
-    ghost use Rattle.filedisk.specs.SystemFiles.{calls_made};
+    ghost use Rattle.filedisk.specs.Noted.{Duplicate, Done};
+    ghost use Rattle.filedisk.specs.SystemFiles.{calls_made, calls_by};
 
     /// A file of which these calls have been made, with no sync that failed.
     pub(crate) fn new(file: NotedFile<File>) -> SystemFile
@@ -70,7 +71,9 @@ impl SystemFile {
     }
 
     /// The file's lock.
-    pub(crate) fn held(&self) -> io::Result<FileLock> {
+    pub(crate) fn held(&self) -> io::Result<FileLock>
+        ensures { IfOk result (λ lock. calls_by lock ≡ (Duplicate, Done) ∷ calls_made self.now.file) }
+    {
         self.file.held()
     }
 }

@@ -143,17 +143,44 @@ fn a_file_that_another_holds(rt: HostRuntime) -> Result<(), Fail> {
     other.unlock()?;
     let disk = open_file(&rt, path);
     assert!(rt; disk.is_ok() && other.try_lock().is_err() && other.try_lock_shared().is_err());
-    if let Ok(disk) = &disk {
-        drop(disk.lock()?);
-        assert!(rt; other.try_lock_shared().is_err());
-        disk.lock()?.let_go()?;
-        assert!(rt; other.try_lock().is_ok());
-        other.unlock()?;
-    }
     drop(disk);
     let disk = open_to_read(&rt, path);
     assert!(rt; disk.is_ok() && other.try_lock().is_err() && other.try_lock_shared().is_ok());
     fs::remove_file(&rt, path)?;
+    Ok(())
+}
+
+/// The lock of a disk is that of its file, of no other file, and is held until it is let go: not by a handle that is made or dropped. Behind
+/// that the disk is read and written still. Refused is a body that lets go of nothing, or of a part (the file may be read, and not written),
+/// and one that lets go at once, or where the handle is dropped.
+#[test]
+fn the_lock_of_a_disk(rt: HostRuntime) -> Result<(), Fail> {
+    let folder = env::temp_dir(&rt)?;
+    let id = process::id(rt.process());
+    let path = format!(in rt.alloc(); "{}/filedisk-lock-{id}", folder.as_str())?;
+    let second = format!(in rt.alloc(); "{}/filedisk-second-{id}", folder.as_str())?;
+    fs::write(&rt, path.as_str(), "abc")?;
+    fs::write(&rt, second.as_str(), "abc")?;
+    let other = File::open(&rt, path.as_str())?;
+    let beside = File::open(&rt, second.as_str())?;
+    match (
+        open_file(&rt, path.as_str()),
+        open_file(&rt, second.as_str()),
+    ) {
+        (Ok(mut disk), Ok(second)) => {
+            drop(disk.lock()?);
+            assert!(rt; other.try_lock_shared().is_err());
+            let mut lock = disk.lock()?;
+            assert!(rt; other.try_lock_shared().is_err());
+            lock.let_go()?;
+            assert!(rt; other.try_lock().is_ok() && beside.try_lock_shared().is_err());
+            assert!(rt; disk.write_at(3, b"d") == Ok(()) && disk.len() == Ok(4));
+            assert_eq!(rt; second.failed_calls(), 0);
+        }
+        _ => assert!(rt; false),
+    }
+    fs::remove_file(&rt, path.as_str())?;
+    fs::remove_file(&rt, second.as_str())?;
     Ok(())
 }
 

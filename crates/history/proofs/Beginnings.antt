@@ -13,7 +13,7 @@ use Rattle.history.specs.Claims.{EndsWith, IsAcknowledgedIn}
 use Rattle.machine.specs.declared.calls.Ticket.{Ticket}
 use Rattle.machine.specs.Laws.{IsAt}
 use Rattle.machine.proofs.Acknowledged.{nth_of_more}
-use Rattle.roadnet.specs.declared.commands.Command.{Command}
+use Rattle.roadnet.specs.declared.groups.Group.{Group}
 use Rattle.roadnet.specs.Net.{nth}
 
 pub prefix_self : {A : Type 0} (xs : List A) → IsPrefix xs xs
@@ -50,14 +50,14 @@ prefix_whole (x ∷ xs) (y ∷ ys) p le =
 pub accepted_both : (xs ys : List Entry) → accepted (xs ++ ys) ≡ accepted xs ++ accepted ys
 accepted_both [] ys = refl
 accepted_both (Opened b ∷ xs) ys = accepted_both xs ys
-accepted_both (Accepted c ∷ xs) ys = ap (λ cs. c ∷ cs) (accepted_both xs ys)
+accepted_both (Accepted c ∷ xs) ys = ap (λ cs. c.value ∷ cs) (accepted_both xs ys)
 accepted_both (Acknowledged n ∷ xs) ys = accepted_both xs ys
 accepted_both (Closed ∷ xs) ys = accepted_both xs ys
 
 pub open_endless : (log : List Entry) → IsOpen log → is_endless log ≡ true
 open_endless log o = subst (λ (l : List Entry). is_endless l ≡ true) (sym o.log_is) o.endless
 
--- what begins with more entries has more commands
+-- what begins with more entries has more groups
 pub accepted_prefix : (xs ys : List Entry) → IsPrefix xs ys → IsPrefix (accepted xs) (accepted ys)
 accepted_prefix xs ys p = (accepted p.0, sym (accepted_both xs p.0) ∙ ap accepted p.1)
 
@@ -123,25 +123,25 @@ origin_more name log more o =
 -- a log with an entry more
 pub beginning_more : (name : Name) (log : List Entry) (e : Entry) → IsOpen log → beginning name (log ++ e ∷ []) ≡ with_entry (beginning name log) e
 beginning_more name log (Opened b) o =
-    let origin = origin_more name log (Opened b ∷ []) o in let commands = accepted_both log (Opened b ∷ []) ∙ append-nil (accepted log) in
+    let origin = origin_more name log (Opened b ∷ []) o in let groups = accepted_both log (Opened b ∷ []) ∙ append-nil (accepted log) in
     let told : acknowledged (log ++ Opened b ∷ []) ≡ acknowledged log = omega (arith, acknowledged_both log (Opened b ∷ [])) in
-    λ i. record { origin = origin i; commands = commands i; acknowledged = told i }
+    λ i. record { origin = origin i; groups = groups i; acknowledged = told i }
 beginning_more name log (Accepted c) o =
-    let origin = origin_more name log (Accepted c ∷ []) o in let commands = accepted_both log (Accepted c ∷ []) in
+    let origin = origin_more name log (Accepted c ∷ []) o in let groups = accepted_both log (Accepted c ∷ []) in
     let told : acknowledged (log ++ Accepted c ∷ []) ≡ acknowledged log = omega (arith, acknowledged_both log (Accepted c ∷ [])) in
-    λ i. record { origin = origin i; commands = commands i; acknowledged = told i }
+    λ i. record { origin = origin i; groups = groups i; acknowledged = told i }
 beginning_more name log (Acknowledged n) o =
-    let origin = origin_more name log (Acknowledged n ∷ []) o in let commands = accepted_both log (Acknowledged n ∷ []) ∙ append-nil (accepted log) in
+    let origin = origin_more name log (Acknowledged n ∷ []) o in let groups = accepted_both log (Acknowledged n ∷ []) ∙ append-nil (accepted log) in
     let told : acknowledged (log ++ Acknowledged n ∷ []) ≡ max (acknowledged log) n = omega (arith, acknowledged_both log (Acknowledged n ∷ [])) in
-    λ i. record { origin = origin i; commands = commands i; acknowledged = told i }
+    λ i. record { origin = origin i; groups = groups i; acknowledged = told i }
 beginning_more name log Closed o =
-    let origin = origin_more name log (Closed ∷ []) o in let commands = accepted_both log (Closed ∷ []) ∙ append-nil (accepted log) in
+    let origin = origin_more name log (Closed ∷ []) o in let groups = accepted_both log (Closed ∷ []) ∙ append-nil (accepted log) in
     let told : acknowledged (log ++ Closed ∷ []) ≡ acknowledged log = omega (arith, acknowledged_both log (Closed ∷ [])) in
-    λ i. record { origin = origin i; commands = commands i; acknowledged = told i }
+    λ i. record { origin = origin i; groups = groups i; acknowledged = told i }
 
 pub count_more : (log : List Entry) (e : Entry) → length (accepted (log ++ e ∷ [])) ≡ length (accepted log) + counted e
 count_more log (Opened b) = omega (arith, ap length (accepted_both log (Opened b ∷ [])), length-append (accepted log) [])
-count_more log (Accepted c) = omega (arith, ap length (accepted_both log (Accepted c ∷ [])), length-append (accepted log) (c ∷ []))
+count_more log (Accepted c) = omega (arith, ap length (accepted_both log (Accepted c ∷ [])), length-append (accepted log) (c.value ∷ []))
 count_more log (Acknowledged n) = omega (arith, ap length (accepted_both log (Acknowledged n ∷ [])), length-append (accepted log) [])
 count_more log Closed = omega (arith, ap length (accepted_both log (Closed ∷ [])), length-append (accepted log) [])
 
@@ -153,7 +153,7 @@ take_length (suc n) (x ∷ xs) le = ap suc (take_length n xs (omega arith))
 taken_prefix : (a both : List Entry) (m : ℕ) → IsPrefix a both → IsPrefix (take m (accepted a)) (accepted both)
 taken_prefix a both m p = prefix_trans (take m (accepted a)) (accepted a) (accepted both) (take_prefix m (accepted a)) (accepted_prefix a both p)
 
--- of the commands of two beginnings of one log the fewer begin the more
+-- of the groups of two beginnings of one log the fewer begin the more
 pub taken_shorter : (a b both : List Entry) (m n : ℕ) → IsPrefix a both → IsPrefix b both → m ≤ n → m ≤ length (accepted a) → n ≤ length (accepted b)
     → IsPrefix (take m (accepted a)) (take n (accepted b))
 taken_shorter a b both m n p q le fits fits' =
@@ -198,30 +198,30 @@ nth_in_take n xs zero le = refl
 nth_in_take n xs (suc j) le = got_in_take n xs j (omega arith)
 
 -- what has its number in a list has it in each list that begins with it
-pub at_more : (version : ℕ) (xs ys : List Command) (ticket : Ticket) → IsPrefix xs ys → IsAt version xs ticket → IsAt version ys ticket
+pub at_more : (version : ℕ) (xs ys : List Group) (ticket : Ticket) → IsPrefix xs ys → IsAt version xs ticket → IsAt version ys ticket
 at_more version xs ys ticket p h =
-    (h.0, subst (λ (l : List Command). nth l (ticket.number - version) ≡ Some ticket.command) p.1 (nth_of_more xs p.0 (ticket.number - version) ticket.command h.1))
+    (h.0, subst (λ (l : List Group). nth l (ticket.number - version) ≡ Some ticket.group) p.1 (nth_of_more xs p.0 (ticket.number - version) ticket.group h.1))
 
 take_front : {X : Type 0} (xs more : List X) → take (length xs) (xs ++ more) ≡ xs
 take_front [] more = refl
 take_front (x ∷ xs) more = ap (λ l. x ∷ l) (take_front xs more)
 
 -- what has its number in a list has it in each beginning of that which is long enough
-pub at_less : (version : ℕ) (xs ys : List Command) (ticket : Ticket) → IsPrefix xs ys → ticket.number ≤ version + length xs → IsAt version ys ticket → IsAt version xs ticket
+pub at_less : (version : ℕ) (xs ys : List Group) (ticket : Ticket) → IsPrefix xs ys → ticket.number ≤ version + length xs → IsAt version ys ticket → IsAt version xs ticket
 at_less version xs ys ticket p le h =
     let n = length xs in
     let front : take n ys ≡ xs = ap (take n) (sym p.1) ∙ take_front xs p.0 in
-    (h.0, subst (λ (l : List Command). nth l (ticket.number - version) ≡ Some ticket.command) front (nth_in_take n ys (ticket.number - version) (omega (arith, le)) ∙ h.1))
+    (h.0, subst (λ (l : List Group). nth l (ticket.number - version) ≡ Some ticket.group) front (nth_in_take n ys (ticket.number - version) (omega (arith, le)) ∙ h.1))
 
--- the commands up to a ticket's end with its command
-pub ends_there : (b : Beginning) (ticket : Ticket) → IsAt b.origin.version b.commands ticket
-    → EndsWith (record b { commands = take (ticket.number - b.origin.version) b.commands }) ticket
+-- the groups up to a ticket's end with its group
+pub ends_there : (b : Beginning) (ticket : Ticket) → IsAt b.origin.version b.groups ticket
+    → EndsWith (record b { groups = take (ticket.number - b.origin.version) b.groups }) ticket
 ends_there b ticket h =
     let n = ticket.number - b.origin.version in
-    let within = nth_within b.commands n ticket.command h.1 in
+    let within = nth_within b.groups n ticket.group h.1 in
     record {
-      at = (h.0, nth_in_take n b.commands n (omega arith) ∙ h.1);
-      last = omega (arith, take_length n b.commands within, h.0);
+      at = (h.0, nth_in_take n b.groups n (omega arith) ∙ h.1);
+      last = omega (arith, take_length n b.groups within, h.0);
     }
 
 -- ---- a log that has begun
@@ -237,7 +237,7 @@ origin_begun name other a both same p b =
     ap (λ (n : Name). origin_of n both) same ∙ (ap (λ (l : List Entry). origin_of other l) (sym p.1)
     ∙ (ap (λ (l : List Entry). origin_of other (l ++ p.0)) b.log_is ∙ sym (ap (λ (l : List Entry). origin_of other l) b.log_is)))
 
--- a longer log has the commands of each that begins it
+-- a longer log has the groups of each that begins it
 pub fits_longer : (a both : List Entry) (m : ℕ) → IsPrefix a both → m ≤ length (accepted a) → m ≤ length (accepted both)
 fits_longer a both m p fits =
     let q = accepted_prefix a both p in
@@ -248,9 +248,9 @@ pub taken_of_longer : (a both : List Entry) (m n : ℕ) → IsPrefix a both → 
 taken_of_longer a both m n p le fits fits' = taken_shorter a both both m n p (prefix_self both) le fits fits'
 
 -- what was acknowledged in a beginning was acknowledged in each longer one
-pub acknowledged_more : (front longer : Beginning) (ticket : Ticket) → longer.origin ≡ front.origin → IsPrefix front.commands longer.commands
+pub acknowledged_more : (front longer : Beginning) (ticket : Ticket) → longer.origin ≡ front.origin → IsPrefix front.groups longer.groups
     → front.acknowledged ≤ longer.acknowledged → IsAcknowledgedIn front ticket → IsAcknowledgedIn longer ticket
 acknowledged_more front longer ticket same begins le is = record {
-  at = rw same (at_more front.origin.version front.commands longer.commands ticket begins is.at);
+  at = rw same (at_more front.origin.version front.groups longer.groups ticket begins is.at);
   acknowledged = let told = is.acknowledged in omega (arith, told, le);
 }

@@ -21,7 +21,7 @@ named_first (name ∷ names) = name.value.nib.key
 -- an entry, with what stands behind it: nothing stands behind the end
 abbrev pub with_rest : Entry → List Entry → List Entry
 with_rest (Opened base) rest = Opened base ∷ rest
-with_rest (Accepted command) rest = Accepted command ∷ rest
+with_rest (Accepted group) rest = Accepted group ∷ rest
 with_rest (Acknowledged number) rest = Acknowledged number ∷ rest
 with_rest Closed rest = Closed ∷ []
 

@@ -9,12 +9,12 @@ pub record Claimed : Type 0 where
   pub origin : Origin
   pub ticket : Ticket
 
--- the ticket's command has its number in this beginning of its desk's history, and is the last of it
+-- the ticket's group has its number in this beginning of its desk's history, and is the last of it
 pub record EndsWith (front : Beginning) (ticket : Ticket) : Type 0 where
-  pub at : IsAt front.origin.version front.commands ticket
-  pub last : front.origin.version + length front.commands ≡ ticket.number
+  pub at : IsAt front.origin.version front.groups ticket
+  pub last : front.origin.version + length front.groups ≡ ticket.number
 
--- the ticket's command has its number in this beginning of its desk's history, and was acknowledged by then
+-- the ticket's group has its number in this beginning of its desk's history, and was acknowledged by then
 pub record IsAcknowledgedIn (front : Beginning) (ticket : Ticket) : Type 0 where
-  pub at : IsAt front.origin.version front.commands ticket
+  pub at : IsAt front.origin.version front.groups ticket
   pub acknowledged : ticket.number ≤ front.acknowledged

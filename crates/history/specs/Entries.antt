@@ -1,25 +1,25 @@
 -- Which lists of entries a history may be.
 use Rattle.std.specs.Prelude.{◌≡◌, ℕ, Bool, true, false, List, [], ◌∷◌, ◌++◌, max}
 use Rattle.roadnet.specs.Net.{Net}
-use Rattle.roadnet.specs.declared.commands.Command.{Command}
+use Rattle.roadnet.specs.declared.groups.Group.{Group}
 use Rattle.history.specs.declared.entries.Base.{Base}
 use Rattle.history.specs.declared.entries.Entry.{Entry}
 use Rattle.history.specs.declared.entries.Entry.TheVariants.{Opened, Accepted, Acknowledged, Closed}
 use Rattle.history.specs.Origins.{Name, Origin, Beginning}
 
--- the commands that were accepted
-abbrev pub accepted : List Entry → List Command
+-- the groups that were accepted
+abbrev pub accepted : List Entry → List Group
 accepted [] = []
 accepted (Opened base ∷ entries) = accepted entries
-accepted (Accepted command ∷ entries) = command ∷ accepted entries
+accepted (Accepted group ∷ entries) = group.value ∷ accepted entries
 accepted (Acknowledged number ∷ entries) = accepted entries
 accepted (Closed ∷ entries) = accepted entries
 
--- up to which number commands were acknowledged
+-- up to which number groups were acknowledged
 abbrev pub acknowledged : List Entry → ℕ
 acknowledged [] = 0
 acknowledged (Opened base ∷ entries) = acknowledged entries
-acknowledged (Accepted command ∷ entries) = acknowledged entries
+acknowledged (Accepted group ∷ entries) = acknowledged entries
 acknowledged (Acknowledged number ∷ entries) = max number (acknowledged entries)
 acknowledged (Closed ∷ entries) = acknowledged entries
 
@@ -27,7 +27,7 @@ acknowledged (Closed ∷ entries) = acknowledged entries
 abbrev pub is_endless : List Entry → Bool
 is_endless [] = true
 is_endless (Opened base ∷ entries) = is_endless entries
-is_endless (Accepted command ∷ entries) = is_endless entries
+is_endless (Accepted group ∷ entries) = is_endless entries
 is_endless (Acknowledged number ∷ entries) = is_endless entries
 is_endless (Closed ∷ entries) = false
 
@@ -35,7 +35,7 @@ is_endless (Closed ∷ entries) = false
 abbrev pub is_legal : List Entry → Bool
 is_legal [] = true
 is_legal (Opened base ∷ entries) = is_legal entries
-is_legal (Accepted command ∷ entries) = is_legal entries
+is_legal (Accepted group ∷ entries) = is_legal entries
 is_legal (Acknowledged number ∷ entries) = is_legal entries
 is_legal (Closed ∷ []) = true
 is_legal (Closed ∷ entry ∷ entries) = false
@@ -62,7 +62,7 @@ pub record IsClosed (log : List Entry) : Type 0 where
 -- the network and version that the desk was opened with: its history begins with them
 abbrev pub network_of : List Entry → Net
 network_of (Opened base ∷ entries) = base.network.value
-network_of _ = record { nodes = 0; arcs = []; landmarks = [] }
+network_of _ = record { nodes = 0; arcs = []; landmarks = []; room = 0 }
 
 abbrev pub version_of : List Entry → ℕ
 version_of (Opened base ∷ entries) = base.version
@@ -73,4 +73,4 @@ abbrev pub origin_of : Name → List Entry → Origin
 origin_of name log = record { base = network_of log; version = version_of log; history = name }
 
 abbrev pub beginning : Name → List Entry → Beginning
-beginning name log = record { origin = origin_of name log; commands = accepted log; acknowledged = acknowledged log }
+beginning name log = record { origin = origin_of name log; groups = accepted log; acknowledged = acknowledged log }

@@ -1,7 +1,7 @@
--- Which desk a list of commands is of, and a beginning of it.
+-- Which desk a list of groups is of, and a beginning of it.
 use Rattle.std.specs.Prelude.{ℕ, List}
 use Rattle.logbook.specs.Pages.{Book}
-use Rattle.roadnet.specs.declared.commands.Command.{Command}
+use Rattle.roadnet.specs.declared.groups.Group.{Group}
 use Rattle.roadnet.specs.Net.{Net}
 
 -- which history: the book in which it stands, and the pen of its first entry
@@ -15,8 +15,8 @@ pub record Origin : Type 0 where
   pub version : ℕ
   pub history : Name
 
--- so many commands, the first of a desk's history, and up to which number commands were acknowledged by then
+-- so many groups, the first of a desk's history, and up to which number groups were acknowledged by then
 pub record Beginning : Type 0 where
   pub origin : Origin
-  pub commands : List Command
+  pub groups : List Group
   pub acknowledged : ℕ

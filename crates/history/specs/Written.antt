@@ -5,11 +5,11 @@ use Rattle.history.specs.declared.entries.Entry.TheVariants.{Accepted, Acknowled
 use Rattle.history.specs.Origins.{Beginning}
 
 abbrev pub with_entry : Beginning → Entry → Beginning
-with_entry b (Accepted command) = record b { commands = b.commands ++ command ∷ [] }
+with_entry b (Accepted group) = record b { groups = b.groups ++ group.value ∷ [] }
 with_entry b (Acknowledged number) = record b { acknowledged = max b.acknowledged number }
 with_entry b _ = b
 
--- how many commands an entry adds
+-- how many groups an entry adds
 abbrev pub counted : Entry → ℕ
-counted (Accepted command) = 1
+counted (Accepted group) = 1
 counted _ = 0

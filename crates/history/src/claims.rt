@@ -5,7 +5,7 @@ use crate::fronts::Front;
 use machine::Ticket;
 use std::marker::Model;
 
-/// The token of a ticket: its command has its number in the history of its desk. Contracts see it as the ticket, with the desk.
+/// The token of a ticket: its group has its number in the history of its desk. Contracts see it as the ticket, with the desk.
 #[derive(Drop)]
 pub struct Claim {
     pub(crate) ticket: Ticket,
@@ -22,12 +22,12 @@ impl Model for Claim {
     ghost invariant = { λ c. EndsWith c.front c.ticket };
 }
 
-/// The token of a receipt: its command has its number in the history of its desk, and was acknowledged. Contracts see it as the ticket,
+/// The token of a receipt: its group has its number in the history of its desk, and was acknowledged. Contracts see it as the ticket,
 /// with the desk.
 #[derive(Drop)]
 pub struct Settled {
     pub(crate) claim: Claim,
-    /// A beginning of the history that has the command, and in which it is acknowledged.
+    /// A beginning of the history that has the group, and in which it is acknowledged.
     pub(crate) front: Front,
 }
 
@@ -44,13 +44,13 @@ impl Model for Settled {
 
 impl Claim {
     /// The ticket.
-    pub fn ticket(&self) -> Ticket
-        ensures { result ≡ self.now.ticket }
+    pub fn ticket(&self) -> &Ticket
+        ensures { result.now ≡ self.now.ticket }
     {
-        self.ticket
+        &self.ticket
     }
 
-    /// The beginning of the history that ends with the ticket's command.
+    /// The beginning of the history that ends with the ticket's group.
     pub fn front(&self) -> &Front
         ensures origin { result.now.origin ≡ self.now.origin }
         ensures ends { EndsWith result.now self.now.ticket }
@@ -67,7 +67,7 @@ impl Settled {
         &self.claim
     }
 
-    /// A beginning of the history in which the command has its number and is acknowledged.
+    /// A beginning of the history in which the group has its number and is acknowledged.
     pub fn front(&self) -> &Front
         ensures origin { result.now.origin ≡ self.now.origin }
         ensures acknowledged { IsAcknowledgedIn result.now self.now.ticket }

@@ -1,5 +1,5 @@
 use logbook::Pen;
-use roadnet::{Command, Network};
+use roadnet::{Group, Network};
 use std::snapshot::Snapshot;
 
 /// The network and version that a desk is opened with, as contracts see them.
@@ -14,11 +14,11 @@ pub struct Base {
 pub enum Entry {
     /// The desk was opened.
     Opened { base: Base },
-    /// The command was accepted.
-    Accepted { command: Command },
-    /// The commands up to this number are acknowledged.
+    /// The group was accepted.
+    Accepted { group: Snapshot<Group> },
+    /// The groups up to this number are acknowledged.
     Acknowledged { number: u64 },
-    /// No command is accepted any more.
+    /// No group is accepted any more.
     Closed,
 }
 

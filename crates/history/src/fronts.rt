@@ -7,7 +7,7 @@ use crate::rules::Law;
 use logbook::Seen;
 use std::marker::Model;
 
-/// A beginning of a desk's history. Contracts see it as its commands, with the desk.
+/// A beginning of a desk's history. Contracts see it as its groups, with the desk.
 #[derive(Drop)]
 pub struct Front {
     pub(crate) count: u64,
@@ -25,15 +25,15 @@ impl Model for Front {
     ghost use Rattle.history.specs.Chains.{chain};
     ghost use Rattle.history.specs.Entries.{beginning, accepted};
 
-    ghost view = { λ f. let all = beginning (record { book = f.seen.book; pen = f.root }) (chain f.root f.seen.log) in record all { commands = take f.count all.commands } };
+    ghost view = { λ f. let all = beginning (record { book = f.seen.book; pen = f.root }) (chain f.root f.seen.log) in record all { groups = take f.count all.groups } };
 
     ghost invariant = { λ f. IsBegun (chain f.root f.seen.log) × (f.count ≤ length (accepted (chain f.root f.seen.log))) };
 }
 
 impl Front {
-    /// How many commands it has.
+    /// How many groups it has.
     pub fn len(&self) -> u64
-        ensures { result ≡ length self.now.commands }
+        ensures { result ≡ length self.now.groups }
     {
         self.count
     }
@@ -49,10 +49,10 @@ impl Front {
         }
     }
 
-    /// The first of its commands, as many as are asked for.
+    /// The first of its groups, as many as are asked for.
     pub fn first(&self, count: u64) -> Front
-        requires { count ≤ length self.now.commands }
-        ensures { result ≡ record self.now { commands = take count self.now.commands } }
+        requires { count ≤ length self.now.groups }
+        ensures { result ≡ record self.now { groups = take count self.now.groups } }
     {
         Front {
             count,
@@ -61,22 +61,22 @@ impl Front {
         }
     }
 
-    /// Whether the other, of the same desk, begins with these commands. Else it is shorter, and these begin with its own.
+    /// Whether the other, of the same desk, begins with these groups. Else it is shorter, and these begin with its own.
     pub fn begins(&self, other: &Front) -> bool
         requires { other.now.origin ≡ self.now.origin }
-        ensures { MatchBool result (IsPrefix self.now.commands other.now.commands) (IsPrefix other.now.commands self.now.commands × (length other.now.commands < length self.now.commands)) }
+        ensures { MatchBool result (IsPrefix self.now.groups other.now.groups) (IsPrefix other.now.groups self.now.groups × (length other.now.groups < length self.now.groups)) }
     {
         let mut both = self.seen.again();
         both.learn(&other.seen);
         self.count <= other.count
     }
 
-    /// A beginning of their history with which both begin: it has the commands of the longer, and all that either knows to be acknowledged.
+    /// A beginning of their history with which both begin: it has the groups of the longer, and all that either knows to be acknowledged.
     pub fn joined(&self, other: &Front) -> Front
         requires { other.now.origin ≡ self.now.origin }
         ensures origin { result.origin ≡ self.now.origin }
-        ensures this { IsPrefix self.now.commands result.commands }
-        ensures that { IsPrefix other.now.commands result.commands }
+        ensures this { IsPrefix self.now.groups result.groups }
+        ensures that { IsPrefix other.now.groups result.groups }
         ensures acknowledged { (self.now.acknowledged ≤ result.acknowledged) × (other.now.acknowledged ≤ result.acknowledged) }
     {
         let mut both = self.seen.again();
@@ -93,8 +93,8 @@ impl Front {
     pub fn longer(&self, other: &Front) -> Front
         requires { other.now.origin ≡ self.now.origin }
         ensures one { (result ≡ self.now) ⊎ (result ≡ other.now) }
-        ensures this { IsPrefix self.now.commands result.commands }
-        ensures that { IsPrefix other.now.commands result.commands }
+        ensures this { IsPrefix self.now.groups result.groups }
+        ensures that { IsPrefix other.now.groups result.groups }
     {
         if self.begins(other) {
             other.again()

@@ -12,17 +12,17 @@ use crate::roots::Root;
 use crate::rules::{Begins, Law};
 use logbook::{Pen, Seen, Start, Word};
 use machine::Ticket;
-use roadnet::{Command, Network};
+use roadnet::{Group, Network};
 use std::marker::Model;
 use std::snapshot::Snapshot;
 
-/// A history that may grow, seen whole. It has the pen of its next entry, so nobody else writes one. Contracts see it as its commands, with
+/// A history that may grow, seen whole. It has the pen of its next entry, so nobody else writes one. Contracts see it as its groups, with
 /// the desk.
 #[derive(Drop)]
 pub struct History {
     head: Word<Link, u64, Law>,
     pen: Pen,
-    /// How many commands there are.
+    /// How many groups there are.
     count: u64,
     /// The version that the desk was opened with.
     version: u64,
@@ -49,7 +49,7 @@ impl Model for History {
         × (h.pen.nib.right ≡ may_write) × (h.pen.nib.key ≡ next_pen h.root h.seen.log) × (h.count ≤ 2 ^ 62) };
 }
 
-/// A history that is closed. Contracts see it as its commands, with the desk.
+/// A history that is closed. Contracts see it as its groups, with the desk.
 #[derive(Drop)]
 pub struct Whole {
     root: Root,
@@ -69,10 +69,10 @@ impl Model for Whole {
     ghost invariant = { λ w. IsClosed (chain w.root w.seen.log) };
 }
 
-/// More commands than any desk accepts.
-const MOST_COMMANDS: u64 = 1 << 62;
+/// More groups than any desk accepts.
+const MOST_GROUPS: u64 = 1 << 62;
 
-/// How many commands the entry adds.
+/// How many groups the entry adds.
 fn counted(entry: &Entry) -> u64
     ensures value { result ≡ counted entry.now }
     ensures few { result ≤ 1 }
@@ -84,10 +84,10 @@ fn counted(entry: &Entry) -> u64
 }
 
 impl History {
-    /// The history of a desk that is opened with this network and version: no command is there yet. It takes no memory.
+    /// The history of a desk that is opened with this network and version: no group is there yet. It takes no memory.
     pub fn new(network: &Network, version: u64) -> History
         ensures base { (result.origin.base ≡ network.now) × (result.origin.version ≡ version) }
-        ensures empty { (result.commands ≡ []) × (result.acknowledged ≡ 0) }
+        ensures empty { (result.groups ≡ []) × (result.acknowledged ≡ 0) }
     {
         let (mut seen, mut pens) = Seen::open_row::<(), Begins>(&(), Start::alone(), 1);
         let head = Word::tracked(0, &mut pens.take());
@@ -116,9 +116,9 @@ impl History {
         }
     }
 
-    /// How many commands it has.
+    /// How many groups it has.
     pub fn len(&self) -> u64
-        ensures { result ≡ length self.now.commands }
+        ensures { result ≡ length self.now.groups }
     {
         self.count
     }
@@ -126,7 +126,7 @@ impl History {
     /// Adds an entry behind the others.
     fn put(&mut self, entry: Entry)
         requires endless { is_endless (entry ∷ []) ≡ true }
-        requires room { (counted entry ≡ 0) ⊎ (length self.old.commands < 2 ^ 62) }
+        requires room { (counted entry ≡ 0) ⊎ (length self.old.groups < 2 ^ 62) }
         ensures { self.new ≡ with_entry self.old entry }
     {
         let next = new_pen(&self.head, &self.seen);
@@ -145,29 +145,30 @@ impl History {
         self.count += more;
     }
 
-    /// Writes an accepted command behind the others. It answers false only where the history has 2^62 commands, and then nothing is written.
-    pub fn write(&mut self, command: Command) -> bool
-        ensures written { MatchBool result (self.new ≡ record self.old { commands = self.old.commands ++ command ∷ [] }) (self.new ≡ self.old) }
-        ensures room { length self.old.commands < 2 ^ 62 → result ≡ true }
+    /// Writes an accepted group behind the others. It answers false only where the history has 2^62 groups, and then nothing is written.
+    pub fn write(&mut self, group: &Group) -> bool
+        ensures written { MatchBool result (self.new ≡ record self.old { groups = self.old.groups ++ group.now ∷ [] }) (self.new ≡ self.old) }
+        ensures room { length self.old.groups < 2 ^ 62 → result ≡ true }
     {
-        if self.count >= MOST_COMMANDS {
+        if self.count >= MOST_GROUPS {
             return false;
         }
-        self.put(Entry::Accepted { command });
+        let group = Snapshot::of(group);
+        self.put(Entry::Accepted { group });
         true
     }
 
-    /// Writes that the commands up to a number are acknowledged.
+    /// Writes that the groups up to a number are acknowledged.
     pub fn acknowledge(&mut self, number: u64)
         ensures { self.new ≡ record self.old { acknowledged = max self.old.acknowledged number } }
     {
         self.put(Entry::Acknowledged { number });
     }
 
-    /// The first commands, as many as are asked for.
+    /// The first groups, as many as are asked for.
     pub fn front(&self, count: u64) -> Front
-        requires { count ≤ length self.now.commands }
-        ensures { result ≡ record self.now { commands = take count self.now.commands } }
+        requires { count ≤ length self.now.groups }
+        ensures { result ≡ record self.now { groups = take count self.now.groups } }
     {
         Front {
             count,
@@ -176,18 +177,16 @@ impl History {
         }
     }
 
-    /// The token of a ticket whose command has its number in the history.
+    /// The token of a ticket whose group has its number in the history.
     pub fn claim(&self, ticket: Ticket) -> Claim
-        requires { IsAt self.now.origin.version self.now.commands ticket }
+        requires { IsAt self.now.origin.version self.now.groups ticket }
         ensures { result ≡ record { origin = self.now.origin; ticket = ticket } }
     {
-        Claim {
-            ticket,
-            front: self.front(ticket.number - self.version),
-        }
+        let front = self.front(ticket.number - self.version);
+        Claim { ticket, front }
     }
 
-    /// The token of a receipt for a claim up to whose number commands are acknowledged.
+    /// The token of a receipt for a claim up to whose number groups are acknowledged.
     pub fn settled(&self, claim: Claim) -> Settled
         requires origin { claim.origin ≡ self.now.origin }
         requires acknowledged { claim.ticket.number ≤ self.now.acknowledged }
@@ -199,25 +198,25 @@ impl History {
         }
     }
 
-    /// Whether the claim's command has its number in the history. Else the history is too short for the number.
+    /// Whether the claim's group has its number in the history. Else the history is too short for the number.
     pub fn holds(&self, claim: &Claim) -> bool
         requires { claim.now.origin ≡ self.now.origin }
-        ensures { MatchBool result (IsAt self.now.origin.version self.now.commands claim.now.ticket) (self.now.origin.version + length self.now.commands < claim.now.ticket.number) }
+        ensures { MatchBool result (IsAt self.now.origin.version self.now.groups claim.now.ticket) (self.now.origin.version + length self.now.groups < claim.now.ticket.number) }
     {
         self.begins(&claim.front)
     }
 
-    /// Whether the history has as many commands as the beginning, which then begins it.
+    /// Whether the history has as many groups as the beginning, which then begins it.
     pub fn begins(&self, front: &Front) -> bool
         requires { front.now.origin ≡ self.now.origin }
-        ensures { MatchBool result (IsPrefix front.now.commands self.now.commands) (length self.now.commands < length front.now.commands) }
+        ensures { MatchBool result (IsPrefix front.now.groups self.now.groups) (length self.now.groups < length front.now.groups) }
     {
         let mut both = self.seen.again();
         both.learn(&front.seen);
         front.count <= self.count
     }
 
-    /// Closes the history: no command is accepted any more.
+    /// Closes the history: no group is accepted any more.
     pub fn close(self) -> Whole
         ensures { result ≡ self }
     {
@@ -245,21 +244,21 @@ impl Whole {
     /// Each beginning of the history begins it.
     pub fn holds(&self, front: &Front)
         requires { front.now.origin ≡ self.now.origin }
-        ensures commands { IsPrefix front.now.commands self.now.commands }
+        ensures groups { IsPrefix front.now.groups self.now.groups }
         ensures acknowledged { front.now.acknowledged ≤ self.now.acknowledged }
     {
         let mut both = self.seen.again();
         both.learn(&front.seen);
     }
 
-    /// The command of a receipt's token: it has its number in the history, and was acknowledged.
-    pub fn confirm(&self, settled: &Settled) -> Command
+    /// The group of a receipt's token: it has its number in the history, and was acknowledged.
+    pub fn confirm<'a>(&self, settled: &'a Settled) -> &'a Group
         requires { settled.now.origin ≡ self.now.origin }
-        ensures command { result ≡ settled.now.ticket.command }
-        ensures there { IsAt self.now.origin.version self.now.commands settled.now.ticket }
+        ensures group { result.now ≡ settled.now.ticket.group }
+        ensures there { IsAt self.now.origin.version self.now.groups settled.now.ticket }
         ensures acknowledged { settled.now.ticket.number ≤ self.now.acknowledged }
     {
         self.holds(&settled.front);
-        settled.claim.ticket.command
+        &settled.claim.ticket.group
     }
 }

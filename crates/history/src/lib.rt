@@ -1,4 +1,4 @@
-//! The history of a desk: the list of the commands that it accepted, which only grows and is closed once. The list stands in proofs
+//! The history of a desk: the list of the groups that it accepted, which only grows and is closed once. The list stands in proofs
 //! alone; what threads carry is a beginning of it, which may be copied and compared.
 #![tactic(auto)]
 

@@ -58,10 +58,11 @@ fn failure(alloc: Global, at: usize, byte: u8) -> Result<Option<Failed>, Refusal
 
 #[test]
 fn damage_is_told(rt: HostRuntime) -> Result<(), Refusal> {
-    let table: [(usize, u8, Option<Refusal>); 8] = [
+    let table: [(usize, u8, Option<Refusal>); 9] = [
         (8, 0, None),
         (0, 0, Some(Refusal::NotAStore)),
-        (11, 2, Some(Refusal::WrongFormat)),
+        (11, 1, Some(Refusal::WrongFormat)),
+        (11, 3, Some(Refusal::WrongFormat)),
         (23, 63, Some(Refusal::Damaged { page: 0 })),
         (4099, 7, Some(Refusal::Damaged { page: 1 })),
         (12287, 0, Some(Refusal::Damaged { page: 2 })),

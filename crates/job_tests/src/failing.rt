@@ -56,6 +56,7 @@ fn come_of_create(alloc: Global, reads: u32, writes: u32) -> Result<Came, Refusa
         &mut Counted::new(&mut gr),
         &mut marks,
         64,
+        None,
         &mut writer,
     );
     let failed_writes = writer.failed_writes();
@@ -191,7 +192,7 @@ fn come_of_rehearse<R: Threads>(rt: &R, alloc: Global, reads: u32) -> Result<Cam
     let mut gr = Counted::new(&mut reader);
     let mut events = Counted::new(&mut script);
     let mut writer = CountedWriter::new(&mut out);
-    let outcome = rehearse_counted(rt, alloc, &mut gr, &mut events, 64, None, &mut writer);
+    let outcome = rehearse_counted(rt, alloc, &mut gr, &mut events, 64, None, None, &mut writer);
     let failed_writes = writer.failed_writes();
     Ok(come_of(outcome, gr.failed_calls(), failed_writes, out.taken))
 }
@@ -208,7 +209,7 @@ fn come_of_network(alloc: Global, reads: u32) -> Result<Came, Refusal> {
     let mut marks = Counted::new(&mut landmarks);
     let mut writer = CountedWriter::new(&mut out);
     let disk = MemDisk::new(alloc);
-    let (outcome, _) = create_counted(alloc, disk, &mut gr, &mut marks, 64, &mut writer);
+    let (outcome, _) = create_counted(alloc, disk, &mut gr, &mut marks, 64, None, &mut writer);
     let failed_writes = writer.failed_writes();
     Ok(come_of(outcome, gr.failed_calls(), failed_writes, out.taken))
 }

@@ -441,7 +441,16 @@ fn is_told(
 {
     Machine::new(journal_pages, want, false).tells_all(rt, steps);
     let mut page = Page::new();
-    let outcome = rehearse_text(rt, rt.alloc(), SIX, script, journal_pages, None, &mut page);
+    let outcome = rehearse_text(
+        rt,
+        rt.alloc(),
+        SIX,
+        script,
+        journal_pages,
+        None,
+        None,
+        &mut page,
+    );
     let mut machine = Machine::new(journal_pages, page.text(), true);
     match outcome {
         Ok(_) => machine.tells_all(rt, steps),

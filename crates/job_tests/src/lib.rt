@@ -8,6 +8,8 @@ mod failing;
 #[cfg(test)]
 mod growths;
 #[cfg(test)]
+mod outcomes;
+#[cfg(test)]
 mod queries;
 #[cfg(test)]
 mod refused_growths;

@@ -1,5 +1,6 @@
 ghost use Rattle.std.specs.Prelude.{◌≤◌};
 
+use crate::outcomes::is_done;
 use crate::streams::{FailingReader, FailingWriter, sending_writer};
 use dimacs::{Code, Counted, Fault, Pair, parse_gr, parse_p2p};
 use printing::{CountedWriter, Done, Failed};
@@ -22,12 +23,18 @@ const PAIRS: &[u8] = b"p aux sp p2p 2\nq 1 6\nq 6 1\n";
 #[test]
 fn one_query_of_a_text(rt: HostRuntime) {
     let mut out = Vec::new(rt.alloc());
-    assert!(rt; once_text(&rt, rt.alloc(), SIX, 1, 6, None, &mut out) == Ok(Done { delta: None }));
+    assert!(rt; is_done(&once_text(&rt, rt.alloc(), SIX, 1, 6, None, &mut out), None));
     assert!(rt;
-        once_text(&rt, rt.alloc(), SIX, 6, 1, Some(5), &mut out) == Ok(Done { delta: Some(5) })
+        is_done(
+            &once_text(&rt, rt.alloc(), SIX, 6, 1, Some(5), &mut out),
+            Some(5)
+        )
     );
     assert!(rt;
-        once_text(&rt, rt.alloc(), SIX, 7, u64::MAX, None, &mut out) == Ok(Done { delta: None })
+        is_done(
+            &once_text(&rt, rt.alloc(), SIX, 7, u64::MAX, None, &mut out),
+            None
+        )
     );
     assert!(rt; out.as_slice() == b"v 0\nd 1 6 15\nv 0\nx 6 1\nv 0\nno 24\n".as_slice());
     let fault = Fault {
@@ -64,7 +71,7 @@ fn a_writer_fails_at_each_write(rt: HostRuntime) {
             &mut writer,
         );
         let failed = writer.failed_writes();
-        if outcome == Ok(Done { delta: Some(5) }) {
+        if is_done(&outcome, Some(5)) {
             assert!(rt; failed == 0 && writes > 8, "write {writes}");
         } else {
             assert!(rt;
@@ -91,7 +98,7 @@ fn a_writer_of_a_batch_fails(rt: HostRuntime) {
             &mut writer,
         );
         let failed = writer.failed_writes();
-        if outcome == Ok(Done { delta: Some(5) }) {
+        if is_done(&outcome, Some(5)) {
             assert!(rt; failed == 0 && writes > 8, "write {writes}");
         } else {
             assert!(rt;
@@ -156,7 +163,7 @@ fn counted_calls_write_their_bytes(rt: HostRuntime) {
         Some(5),
         &mut writer,
     );
-    assert!(rt; outcome == Ok(Done { delta: Some(5) }));
+    assert!(rt; is_done(&outcome, Some(5)));
     let (mut six, mut pairs) = (SIX, two);
     let outcome = batch_counted(
         &rt,
@@ -166,12 +173,12 @@ fn counted_calls_write_their_bytes(rt: HostRuntime) {
         None,
         &mut writer,
     );
-    assert!(rt; outcome == Ok(Done { delta: None }));
+    assert!(rt; is_done(&outcome, None));
     if let Ok(network) = parse_gr(alloc, SIX)
         && let Ok(pairs) = parse_p2p(alloc, two, network.nodes())
     {
         let outcome = answer_pairs(&rt, alloc, &network, 7, Some(3), &pairs, &mut writer);
-        assert!(rt; outcome == Ok(Done { delta: Some(3) }));
+        assert!(rt; is_done(&outcome, Some(3)));
     }
     assert_eq!(rt; writer.failed_writes(), 0);
     assert!(rt;
@@ -198,7 +205,10 @@ fn batch_of_pairs(rt: HostRuntime) -> Result<(), Fail> {
     for (gr, p2p, want) in table {
         let mut out = Vec::new(rt.alloc());
         assert!(rt;
-            batch_text(&rt, rt.alloc(), gr, p2p, Some(5), &mut out) == Ok(Done { delta: Some(5) })
+            is_done(
+                &batch_text(&rt, rt.alloc(), gr, p2p, Some(5), &mut out),
+                Some(5)
+            )
         );
         assert!(rt; out.as_slice() == want.as_bytes(), "{want}");
     }
@@ -228,10 +238,13 @@ fn faults_of_batches(rt: HostRuntime) {
 #[test]
 fn answers_are_sent_out(rt: HostRuntime) {
     let mut out = sending_writer(rt.alloc());
-    assert!(rt; once_text(&rt, rt.alloc(), SIX, 1, 6, None, &mut out) == Ok(Done { delta: None }));
+    assert!(rt; is_done(&once_text(&rt, rt.alloc(), SIX, 1, 6, None, &mut out), None));
     let pairs = b"p aux sp p2p 2\nq 1 6\nq 6 1\n";
     assert!(rt;
-        batch_text(&rt, rt.alloc(), SIX, pairs, None, &mut out) == Ok(Done { delta: None })
+        is_done(
+            &batch_text(&rt, rt.alloc(), SIX, pairs, None, &mut out),
+            None
+        )
     );
     assert!(rt; out.sent.as_slice() == [13, 19].as_slice() && out.waiting == 0);
 }
@@ -346,7 +359,7 @@ fn is_answered_with(
         pairs,
         &mut writer,
     );
-    assert!(rt; outcome == Ok(Done { delta: None }), "{capacity} rows");
+    assert!(rt; is_done(&outcome, None), "{capacity} rows");
     assert!(rt; out.as_slice() == want.as_bytes(), "{capacity} rows");
 }
 

@@ -39,14 +39,14 @@ fn made(rt: &impl Abort, alloc: Global) -> Option<(MemDisk, bool)> {
         return None;
     };
     let disk = MemDisk::new(alloc);
-    let (outcome, disk) = create_text(alloc, disk, SIX, LANDMARKS, 64, &mut out);
+    let (outcome, disk) = create_text(alloc, disk, SIX, LANDMARKS, 64, None, &mut out);
     if is_told(rt, outcome.err(), &out, b"ok 0\n") {
         return Some((disk, true));
     }
     if outcome == Err(Failed::Code(Refusal::Device)) {
         return None;
     }
-    let (outcome, disk) = create_text(alloc, disk, SIX, LANDMARKS, 64, &mut out);
+    let (outcome, disk) = create_text(alloc, disk, SIX, LANDMARKS, 64, None, &mut out);
     assert!(rt; outcome == Ok(()) && out.as_slice() == b"ok 0\n".as_slice());
     Some((disk, false))
 }

@@ -1,8 +1,9 @@
 ghost use Rattle.std.specs.Prelude.{◌≤◌};
 
+use crate::outcomes::is_done;
 use crate::streams::{FailingReader, FailingWriter, sending_writer};
 use dimacs::{Code, Counted, Fault};
-use printing::{CountedWriter, Done, Failed};
+use printing::{CountedWriter, Failed};
 use rehearsals::{joint_counted, joint_text, rehearse_counted, rehearse_text};
 use roadnet::Refusal;
 use std::io::BufReader;
@@ -31,7 +32,16 @@ fn is_rehearsed(
     requires few { journal_pages ≤ 65536 }
 {
     let mut out = Vec::new(rt.alloc());
-    let outcome = rehearse_text(rt, rt.alloc(), gr, script, journal_pages, None, &mut out);
+    let outcome = rehearse_text(
+        rt,
+        rt.alloc(),
+        gr,
+        script,
+        journal_pages,
+        None,
+        None,
+        &mut out,
+    );
     assert!(rt; outcome.is_ok(), "{name}");
     assert!(rt; out.as_slice() == want, "{name}");
 }
@@ -72,7 +82,7 @@ fn joint_texts(rt: HostRuntime) {
 }
 
 /// Scripts on new stores of 64 journal pages: a name, the network, the script and what is told.
-const DEFAULT_JOURNAL: [(&str, &[u8], &[u8], &[u8]); 11] = [
+const DEFAULT_JOURNAL: [(&str, &[u8], &[u8], &[u8]); 12] = [
     (
         "no_walk_itself_no_node",
         SIX,
@@ -133,6 +143,12 @@ const DEFAULT_JOURNAL: [(&str, &[u8], &[u8], &[u8]); 11] = [
         b"mark 1\nmark 3\nflush\ntask\npublish\nlower 1 6\nlower 5 2\nlower 4 1\n",
         b"t 1\nt 2\nok 2\ntask 2\nshown 2\nv 2\nb 1 6 15\nv 2\nb 5 2 0\nv 2\nx 4 1\n",
     ),
+    (
+        "groups_all_or_none",
+        SIX,
+        b"begin\nclose 7\nset 8 4\nend\nflush\ntask\npublish\ndist 1 6\nbegin\nreopen 7\nreopen 7\nend\nflush\n",
+        b"t 1\nok 1\ntask 1\nshown 1\nv 1\nd 1 6 14\nno 23\nno 53\n",
+    ),
     ("no_events", SIX, b"# none\n", b""),
 ];
 
@@ -166,6 +182,41 @@ fn scripts_of_two_journal_pages(rt: HostRuntime) {
     for (name, script, want) in table {
         is_rehearsed(&rt, name, SIX, 2, script, want);
     }
+}
+
+/// New arcs in a store with room for two: a run that ignores the room refuses the first of them. A room that is none is refused, and nothing is told.
+#[test]
+fn arcs_are_laid(rt: HostRuntime) {
+    let script =
+        b"dist 6 1\nlay 6 1 7\nlay 7 1 2147483648\nlay 7 1 1\nflush\ntask\npublish\ndist 6 1\nlay 1 6 14\nlay 2 2 0\nflush\ntask\npublish\ndist 1 6\n";
+    let want =
+        b"v 0\nx 6 1\nt 1\nno 21\nno 24\nok 1\ntask 1\nshown 1\nv 1\nd 6 1 7\nt 2\nno 29\nok 2\ntask 2\nshown 2\nv 2\nd 1 6 14\n";
+    let mut out = Vec::new(rt.alloc());
+    let outcome = rehearse_text(&rt, rt.alloc(), SIX, script, 64, Some(10), None, &mut out);
+    assert!(rt; is_done(&outcome, None) && out.as_slice() == want.as_slice());
+    for room in [7, 67108865] {
+        let mut out = Vec::new(rt.alloc());
+        let outcome = rehearse_text(&rt, rt.alloc(), SIX, script, 64, Some(room), None, &mut out);
+        assert!(rt; outcome == Err(Failed::Code(Refusal::TooLarge)) && out.is_empty());
+    }
+}
+
+/// A stop within the flush of a group leaves all of it or nothing.
+#[test]
+fn stop_within_a_group(rt: HostRuntime) -> Result<(), Fail> {
+    for (pick, left) in [("old", 0), ("new", 1), ("165", 1), ("17", 0)] {
+        let script = format!(in rt.alloc(); "begin\nclose 7\nset 8 4\nend\nstop 3 {pick} flush\n")?;
+        let want = format!(in rt.alloc(); "t 1\nstopped\nv {left}\n")?;
+        is_rehearsed(
+            &rt,
+            script.as_str(),
+            SIX,
+            64,
+            script.as_bytes(),
+            want.as_bytes(),
+        );
+    }
+    Ok(())
 }
 
 #[test]
@@ -267,7 +318,7 @@ fn faults_of_texts(rt: HostRuntime) {
     for (gr, script, which, line, code) in table {
         let mut out = Vec::new(rt.alloc());
         let fault = Fault { line, code };
-        let outcome = rehearse_text(&rt, rt.alloc(), gr, script, 64, None, &mut out);
+        let outcome = rehearse_text(&rt, rt.alloc(), gr, script, 64, None, None, &mut out);
         assert!(rt; outcome == Err(Failed::Text { which, fault }), "{fault}");
         assert!(rt; out.is_empty(), "{fault}");
     }
@@ -323,8 +374,8 @@ fn faults_of_joint_texts(rt: HostRuntime) {
 fn widths_give_one_answer(rt: HostRuntime) {
     for delta in [Some(1), Some(5), Some(2147483647)] {
         let mut out = Vec::new(rt.alloc());
-        let outcome = rehearse_text(&rt, rt.alloc(), SIX, CLOSED, 1, delta, &mut out);
-        assert!(rt; outcome == Ok(Done { delta }), "{delta:?}");
+        let outcome = rehearse_text(&rt, rt.alloc(), SIX, CLOSED, 1, None, delta, &mut out);
+        assert!(rt; is_done(&outcome, delta), "{delta:?}");
         assert!(rt;
             out.as_slice()
                 == b"t 1\nok 1\nv 0\nd 1 6 15\ntask 1\nshown 1\nv 1\nd 1 6 22\n".as_slice(),
@@ -379,6 +430,7 @@ fn a_reader_of_a_script_fails(rt: HostRuntime) -> Result<(), Fail> {
             &mut script,
             64,
             None,
+            None,
             &mut writer,
         );
         let failed = script.failed_calls();
@@ -410,6 +462,7 @@ fn a_writer_fails_at_each_write(rt: HostRuntime) {
             &mut Counted::new(&mut script),
             64,
             None,
+            None,
             &mut writer,
         );
         let failed = writer.failed_writes();
@@ -436,11 +489,17 @@ fn replies_are_sent_out(rt: HostRuntime) {
         b"close 7\nflush\n",
         64,
         None,
+        None,
         &mut out,
     );
-    assert!(rt; outcome == Ok(Done { delta: None }));
+    assert!(rt; is_done(&outcome, None));
     let mut text: &[u8] = b"p sp 1 0\nrun\ndist 1 1\n";
-    assert!(rt; joint_text(&rt, rt.alloc(), &mut text, None, &mut out) == Ok(Done { delta: None }));
+    assert!(rt;
+        is_done(
+            &joint_text(&rt, rt.alloc(), &mut text, None, &mut out),
+            None
+        )
+    );
     assert!(rt; out.sent.as_slice() == [9, 12].as_slice() && out.waiting == 0);
 }
 

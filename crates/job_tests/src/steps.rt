@@ -1,13 +1,16 @@
-use printing::Done;
+use crate::outcomes::is_done;
 use rehearsals::rehearse_text;
 use std::process::Abort;
 use std::test::Fail;
 use std::thread::Threads;
 
-/// How many journal pages and word pages the store of a random script has.
+/// How many journal pages the store of a random script has, for how many arcs it has room, and how many word pages and end pages a slot has
+/// then: three and two.
 const JOURNAL_PAGES: u64 = 3;
 
-const WORD_PAGES: u64 = 3;
+const ROOM: u64 = 2647;
+
+const SLOT_PAGES: u64 = 5;
 
 /// The numbers of the machine that a script without failures goes by.
 #[derive(Drop)]
@@ -15,7 +18,7 @@ struct Numbers {
     latest: u64,
     durable: u64,
     unchecked: u64,
-    /// Of the checkpoint that is going its version, the word pages that are left, and the journal pages flushed since it began.
+    /// Of the checkpoint that is going its version, the pages that are left, and the journal pages flushed since it began.
     going: Option<(u64, u64, u64)>,
 }
 
@@ -44,7 +47,7 @@ impl Numbers {
             let durable = self.durable;
             return Ok(format!(in rt.alloc(); "ok {durable}\n")?);
         }
-        let (version, left, flushed) = self.going.unwrap_or((self.durable, WORD_PAGES, 0));
+        let (version, left, flushed) = self.going.unwrap_or((self.durable, SLOT_PAGES, 0));
         if left > pages {
             self.going = Some((version, left.wrapping_sub(pages), flushed));
             return Ok(format!(in rt.alloc(); "step\n")?);
@@ -65,7 +68,12 @@ impl Numbers {
         let told = match random % 8 {
             0 | 1 => {
                 self.latest = self.latest.wrapping_add(1);
-                script.extend_from_slice(b"set 1 9\n")?;
+                let group: &[u8] = if random % 8 == 0 {
+                    b"set 1 9\n"
+                } else {
+                    b"begin\nset 1 9\nlay 2 1 4\nend\n"
+                };
+                script.extend_from_slice(group)?;
                 let latest = self.latest;
                 format!(in rt.alloc(); "t {latest}\n")?
             },
@@ -98,7 +106,7 @@ impl Numbers {
     }
 }
 
-/// Random scripts from this seed on, each on a network of three word pages.
+/// Random scripts from this seed on, each on a network of three word pages and room for two end pages.
 fn random_scripts(rt: &(impl Abort + AllocGlobal + Threads), seed: u64) -> Result<(), Fail> {
     let mut gr = Vec::new(rt.alloc());
     gr.extend_from_slice(b"p sp 2 2047\n")?;
@@ -128,10 +136,11 @@ fn random_scripts(rt: &(impl Abort + AllocGlobal + Threads), seed: u64) -> Resul
             &gr,
             &script,
             JOURNAL_PAGES as u32,
+            Some(ROOM),
             None,
             &mut out,
         );
-        assert!(rt; outcome == Ok(Done { delta: None }) && out == want);
+        assert!(rt; is_done(&outcome, None) && out == want);
     }
     Ok(())
 }

@@ -1,9 +1,10 @@
 ghost use Rattle.std.specs.Prelude.{◌≤◌};
 
+use crate::outcomes::is_done;
 use crate::streams::sending_writer;
 use dimacs::{Code, Counted, Fault};
 use disk::{Disk, FailOnce, FuseDisk, MemDisk};
-use printing::{CountedWriter, Done, Failed};
+use printing::{CountedWriter, Failed};
 use roadnet::Refusal;
 use std::alloc::Global;
 use std::test::Fail;
@@ -33,6 +34,7 @@ pub fn created(alloc: Global, journal_pages: u32) -> Result<(MemDisk, Vec<u8>), 
         SIX,
         LANDMARKS,
         journal_pages,
+        None,
         &mut out,
     ) {
         (Ok(()), disk) => Ok((disk, out)),
@@ -105,7 +107,7 @@ fn made_changed_and_asked(rt: HostRuntime) -> Result<(), Refusal> {
             (outcome == Ok(()), disk)
         } else {
             let (outcome, disk) = ask_text(&rt, alloc, disk, text, Some(5), &mut out);
-            (outcome == Ok(Done { delta: Some(5) }), disk)
+            (is_done(&outcome, Some(5)), disk)
         };
         assert!(rt; done);
         assert!(rt; out.as_slice() == want);
@@ -188,7 +190,15 @@ fn faults_of_new_stores(rt: HostRuntime) -> Result<(), Refusal> {
     ];
     for (gr, ss, which, line, code) in table {
         let mut out = Vec::new(alloc);
-        let (outcome, mut disk) = create_text(alloc, MemDisk::new(alloc), gr, ss, 64, &mut out);
+        let (outcome, mut disk) = create_text(
+            alloc,
+            MemDisk::new(alloc),
+            gr,
+            ss,
+            64,
+            None,
+            &mut out,
+        );
         let fault = Fault { line, code };
         assert!(rt; outcome == Err(Failed::Text { which, fault }), "{fault}");
         assert!(rt; out.is_empty(), "{fault}");
@@ -207,7 +217,7 @@ fn faults_of_texts(rt: HostRuntime) -> Result<(), Refusal> {
     let (applied, disk) = apply_text(alloc, disk, b"close 7\nclose x\n", &mut out);
     let pairs = b"p aux sp p2p 1\nq 1 7\n";
     let (asked, disk) = ask_text(&rt, alloc, disk, pairs, None, &mut out);
-    let (made, mut disk) = create_text(alloc, disk, SIX, LANDMARKS, 64, &mut out);
+    let (made, mut disk) = create_text(alloc, disk, SIX, LANDMARKS, 64, None, &mut out);
     let fault = Fault {
         line: 2,
         code: Code::BadLine,
@@ -256,10 +266,18 @@ fn other_files_are_refused(rt: HostRuntime) -> Result<(), Refusal> {
 fn lines_are_sent_page_by_page(rt: HostRuntime) -> Result<(), Refusal> {
     let alloc = rt.alloc();
     let mut out = sending_writer(alloc);
-    let (outcome, disk) = create_text(alloc, MemDisk::new(alloc), SIX, LANDMARKS, 64, &mut out);
+    let (outcome, disk) = create_text(
+        alloc,
+        MemDisk::new(alloc),
+        SIX,
+        LANDMARKS,
+        64,
+        None,
+        &mut out,
+    );
     assert!(rt; outcome == Ok(()));
     let (outcome, disk) = ask_text(&rt, alloc, disk, PAIR, None, &mut out);
-    assert!(rt; outcome == Ok(Done { delta: None }));
+    assert!(rt; is_done(&outcome, None));
     let text = repeated(alloc, 300)?;
     let (outcome, _) = apply_text(alloc, disk, &text, &mut out);
     assert!(rt; outcome == Ok(()));
@@ -280,6 +298,7 @@ fn counted_calls_write_their_bytes(rt: HostRuntime) -> Result<(), Refusal> {
         alloc,
         &mut Counted::new(&mut six),
         &mut Counted::new(&mut marks),
+        None,
     );
     let Ok(network) = planned else {
         return Err(Refusal::Broken);
@@ -294,6 +313,7 @@ fn counted_calls_write_their_bytes(rt: HostRuntime) -> Result<(), Refusal> {
         &mut Counted::new(&mut six),
         &mut Counted::new(&mut marks),
         64,
+        None,
         &mut writer,
     );
     assert!(rt; outcome == Ok(()));
@@ -309,7 +329,7 @@ fn counted_calls_write_their_bytes(rt: HostRuntime) -> Result<(), Refusal> {
         Some(5),
         &mut writer,
     );
-    assert!(rt; outcome == Ok(Done { delta: Some(5) }));
+    assert!(rt; is_done(&outcome, Some(5)));
     assert_eq!(rt; writer.failed_writes(), 0);
     assert!(rt; out.as_slice() == b"ok 0\nok 0\nok 1\nno 22\nok 2\nv 2\nd 1 6 14\n".as_slice());
     Ok(())

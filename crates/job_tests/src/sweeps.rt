@@ -4,7 +4,7 @@ ghost use Rattle.store.specs.State.{is_calm};
 
 use disk::{Disk, FuseDisk, MemDisk, Pick, Stoppable};
 use keeper::Ledger;
-use roadnet::{Command, Network, Refusal, RoadArc};
+use roadnet::{Command, Group, Network, Refusal, RoadArc};
 use std::alloc::Global;
 use std::test::Fail;
 use store::{Store, create, open};
@@ -88,7 +88,7 @@ fn flush<D: Disk>(ledger: &mut Ledger<D>) -> Result<u64, Refusal> {
 /// Runs the rounds from this one on, up to that one. Answers how many were acknowledged, and whether the disk failed.
 fn run<D: Disk>(ledger: &mut Ledger<D>, from: u64, to: u64) -> Result<(u64, bool), Refusal> {
     for round in from..to {
-        let _ = ledger.submit(command_of(round))?;
+        let _ = ledger.submit_group(Group::one(command_of(round)))?;
         match flush(ledger) {
             Ok(_) => {}
             Err(Refusal::Device) => return Ok((round, true)),

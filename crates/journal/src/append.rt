@@ -2,14 +2,16 @@ ghost use Rattle.std.specs.Prelude.{◌≡◌, ◌*◌, ◌≤◌, ◌↔◌, Al
 ghost use Rattle.disk.specs.Contents.{Only, failures_after};
 ghost use Rattle.disk.specs.Moments.{LeavesOnly};
 ghost use Rattle.disk.specs.Gated.{IsWholeOrShut, with_page};
-ghost use Rattle.pages.specs.Spelling.{IsHeader, IsRecord, body, entry_page};
+ghost use Rattle.pages.specs.Spelling.{IsHeader, FitsRecord, body, entry_page};
+ghost use Rattle.pages.specs.declared.content.Format.TheVariants.{Two as two};
+ghost use Rattle.roadnet.specs.Groups.{commands_of, count_of};
 ghost use Rattle.pages.specs.Layout.{page_count};
 ghost use Rattle.storefile.specs.StoreFile.{journal_page_at};
 ghost use Rattle.pages.specs.Limits.{most_commands};
 
 use disk::{Disk, DiskError, write_gated};
 use pages::{GATE_AT, Header, PAGE_SIZE, encode_journal_page};
-use roadnet::Command;
+use roadnet::Group;
 
 /// All of a page but its gate.
 fn body_of(page: &[u8; PAGE_SIZE]) -> &[u8]
@@ -19,8 +21,8 @@ fn body_of(page: &[u8; PAGE_SIZE]) -> &[u8]
     &page[..GATE_AT]
 }
 
-/// Writes the journal page of these commands, 1 to 253, at the place of this sequence, over the page that stands there: its gate is closed
-/// where it reads open, then the body is written, then the gate is opened. The first command has this number. A sync stands behind each
+/// Writes the journal page of these groups, of 1 to 253 commands in all, at the place of this sequence, over the page that stands there: its gate is closed
+/// where it reads open, then the body is written, then the gate is opened. The first group has this number. A sync stands behind each
 /// of these writes, so there are four writes and syncs, or six.
 ///
 /// A sync stands before it too: the content is all that a stop may leave. It takes no memory beside one page.
@@ -29,22 +31,22 @@ pub fn append_page<D: Disk>(
     header: &Header,
     sequence: u64,
     first_number: u64,
-    commands: &[Command],
+    groups: &[Group],
 ) -> Result<(), DiskError>
     requires header { IsHeader header.now }
-    requires some { 1 ≤ length commands.now }
-    requires few { length commands.now ≤ most_commands }
-    requires fits { All IsRecord commands.now }
+    requires some { 1 ≤ length groups.now }
+    requires few { count_of groups.now ≤ most_commands }
+    requires fits { All (FitsRecord two) (commands_of groups.now) }
     requires at_rest { D.honest disk.old → Only (D.content disk.old) (D.left disk.old) }
     requires whole { D.honest disk.old → length (D.content disk.old) ≡ 4096 * page_count header.now }
-    ensures written { D.honest disk.old → OnOk result (D.content disk.new ≡ with_page (D.content disk.old) (4096 * journal_page_at header.now sequence) (body (entry_page (record { sequence = sequence; first_number = first_number; commands = commands.now })))) }
+    ensures written { D.honest disk.old → OnOk result (D.content disk.new ≡ with_page (D.content disk.old) (4096 * journal_page_at header.now sequence) (body (entry_page (record { sequence = sequence; first_number = first_number; groups = groups.now })))) }
     ensures at_rest { D.honest disk.old → OnOk result (Only (D.content disk.new) (D.left disk.new)) }
     // A stop at any moment of the call leaves the old page whole, the new one whole, or a closed gate.
-    ensures any_moment { D.honest disk.old → LeavesOnly D.moment D.left_since disk.old disk.new (IsWholeOrShut (D.content disk.old) (4096 * journal_page_at header.now sequence) (body (entry_page (record { sequence = sequence; first_number = first_number; commands = commands.now })))) }
+    ensures any_moment { D.honest disk.old → LeavesOnly D.moment D.left_since disk.old disk.new (IsWholeOrShut (D.content disk.old) (4096 * journal_page_at header.now sequence) (body (entry_page (record { sequence = sequence; first_number = first_number; groups = groups.now })))) }
     ensures counted { D.failures disk.new ≡ failures_after result (D.failures disk.old) }
     ensures honest { D.honest disk.new ↔ D.honest disk.old }
 {
-    let page = encode_journal_page(sequence, first_number, commands);
+    let page = encode_journal_page(sequence, first_number, groups);
     let body = body_of(&page);
     let number = header.journal_page(sequence);
     write_gated(disk, PAGE_SIZE as u64 * number, body)

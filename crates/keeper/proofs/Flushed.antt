@@ -3,11 +3,12 @@ use Rattle.std.proofs.Common.{◌≡◌, ◌⊎◌, inl, inr, ⊎_elim, ℕ, ◌
 use Rattle.std.specs.Prelude.{IfOk, OnOk, IfErr, OnErr, MatchResult, option_map}
 use Rattle.std.proofs.lemmas.Bool.{ltb-true, leb-false}
 use Rattle.disk.specs.Contents.{Only}
-use Rattle.roadnet.specs.declared.commands.Command.{Command}
+use Rattle.roadnet.specs.declared.groups.Group.{Group}
 use Rattle.roadnet.specs.declared.refusals.Refusal.{Refusal}
 use Rattle.roadnet.specs.declared.refusals.Refusal.TheVariants.{OutOfMemory, Device}
 use Rattle.roadnet.specs.Net.{Net}
-use Rattle.roadnet.specs.Step.{after, first_refusal}
+use Rattle.roadnet.specs.Step.{after}
+use Rattle.roadnet.specs.Batches.{first_refusal_of_all}
 use Rattle.storefile.specs.StoreFile.{StandsTidyFor}
 use Rattle.storefile.specs.Standing.{IsBeforeOrAfter}
 use Rattle.store.specs.Committing.{refusal_of_commit, MayRefuseCommit}
@@ -16,7 +17,9 @@ use Rattle.keeper.specs.Keeping.{as_checkpoint}
 use Rattle.machine.specs.Machine.{Checkpoint, Sizes, Machine, IsState, latest, batch, most_versions, network_at}
 use Rattle.machine.specs.Calls.{Flushes, failed, refusal_of_flush, with_page_flushed, with_batch}
 use Rattle.machine.specs.Keeping.{IsKept, next_batch}
-use Rattle.machine.proofs.Keeping.{kept_failed, kept_flush, batch_size, batch_network, batch_admitted, batch_versions, alike}
+use Rattle.roadnet.specs.Groups.{count_of}
+use Rattle.machine.proofs.Counted.{batch_count, batch_some}
+use Rattle.machine.proofs.Keeping.{kept_failed, kept_flush, batch_size, batch_network, batch_admitted, batch_between, batch_versions, alike}
 use Rattle.keeper.specs.Keeping.{Holds, IsDurableIn}
 
 -- ---- the refusals of a flush and of a commit
@@ -52,17 +55,17 @@ counted (Some p) = refl
 -- ---- a machine that is going to flush
 
 -- so many items from this one on, as a body takes them
-abbrev pub slice_of : List Command → ℕ → ℕ → List Command
+abbrev pub slice_of : List Group → ℕ → ℕ → List Group
 slice_of items first count = take (first + count - first) (drop first items)
 
--- a keeper that may flush these commands
-pub record Flushing (m : Machine) (accepted durable shown : Net) (task : Option (ℕ × Net)) (commands : List Command) (count : ℕ) : Type 0 where
+-- a keeper that may flush these groups
+pub record Flushing (m : Machine) (accepted durable shown : Net) (task : Option (ℕ × Net)) (groups : List Group) (count : ℕ) : Type 0 where
   pub kept : IsKept m accepted durable shown task
   pub clear : refusal_of_flush m ≡ None
-  pub taken : commands ≡ next_batch m
+  pub taken : groups ≡ next_batch m
   pub count_is : count ≡ batch m
 
-module _ (m : Machine) (accepted durable shown : Net) (task : Option (ℕ × Net)) (commands : List Command) (count : ℕ) (f : Flushing m accepted durable shown task commands count) where
+module _ (m : Machine) (accepted durable shown : Net) (task : Option (ℕ × Net)) (groups : List Group) (count : ℕ) (f : Flushing m accepted durable shown task groups count) where
   pub works : m.broken ≡ false
   works = (passed m.broken _ _ f.clear).0
 
@@ -75,37 +78,43 @@ module _ (m : Machine) (accepted durable shown : Net) (task : Option (ℕ × Net
   none_in_flight : m.in_flight ≡ 0
   none_in_flight = let s : IsState m = f.kept.state in s.calm works
 
-  size : length commands ≡ batch m
+  pub size : length groups ≡ batch m
   size = ap length f.taken ∙ batch_size m accepted durable shown task f.kept
 
-  not_refused : refusal_of_commit m.broken m.durable m.unchecked m.sizes.journal_pages durable commands ≡ None
+  pub groups_some : 1 ≤ length groups
+  groups_some = omega (arith, size, batch_some m f.kept.state (omega (arith, some)))
+
+  pub groups_few : count_of groups ≤ 253
+  groups_few = omega (arith, ap count_of f.taken, (batch_between m accepted durable shown task f.kept some).1)
+
+  not_refused : refusal_of_commit m.broken m.durable m.unchecked m.sizes.journal_pages durable groups ≡ None
   not_refused =
       let few : m.durable + batch m ≤ most_versions = batch_versions m accepted durable shown task f.kept in
       let sized = size in
       past m.broken _ _ works
-      (past (ltb (2 ^ 48) (m.durable + length commands)) _ _ (test_false (ltb (2 ^ 48) (m.durable + length commands)) (λ h. omega (arith, ltb-true (2 ^ 48) (m.durable + length commands) h)))
+      (past (ltb (2 ^ 48) (m.durable + length groups)) _ _ (test_false (ltb (2 ^ 48) (m.durable + length groups)) (λ h. omega (arith, ltb-true (2 ^ 48) (m.durable + length groups) h)))
       (past (leb m.sizes.journal_pages m.unchecked) _ _ room
-      (ap (first_refusal durable) f.taken ∙ batch_admitted m accepted durable shown task f.kept)))
+      (ap (first_refusal_of_all durable) f.taken ∙ batch_admitted m accepted durable shown task f.kept)))
 
   -- ---- what a stop leaves of it
 
   place : m.durable + batch m - m.base_version ≡ m.durable - m.base_version + batch m
   place = let s : IsState m = f.kept.state in omega (arith, s.base_opened, s.opened_shown, s.shown_durable)
 
-  network_behind : (net : Net) → after durable commands ≡ Some net → network_at m (m.durable + batch m) ≡ Some net
+  network_behind : (net : Net) → after durable groups ≡ Some net → network_at m (m.durable + batch m) ≡ Some net
   network_behind net made =
       ap (λ (n : ℕ). after m.base (take n m.accepted)) place
       ∙ (batch_network m accepted durable shown task f.kept ∙ (ap (after durable) (sym f.taken) ∙ made))
 
-  -- what stands for the network before the commands, or after them, holds what a flush that failed leaves
-  pub held : (content : List ℕ) → IsBeforeOrAfter m.sizes.journal_pages durable m.durable commands content → IsDurableIn (failed m (batch m)) content
+  -- what stands for the network before the groups, or after them, holds what a flush that failed leaves
+  pub held : (content : List ℕ) → IsBeforeOrAfter m.sizes.journal_pages m.sizes.checkpoint_pages durable m.durable groups content → IsDurableIn (failed m (batch m)) content
   held content (inl stands) = record { version = m.durable; left = inl refl; network = durable; network_is = f.kept.durable_is; stands = stands }
   held content (inr stands) = record {
     version = m.durable + batch m;
     left = inr refl;
     network = stands.0;
     network_is = network_behind stands.0 stands.1;
-    stands = subst (λ (n : ℕ). StandsTidyFor m.sizes.journal_pages content stands.0 (m.durable + n)) size stands.2;
+    stands = subst (λ (n : ℕ). StandsTidyFor m.sizes.journal_pages m.sizes.checkpoint_pages content stands.0 (m.durable + n)) size stands.2;
   }
 
   -- ---- after the commit, of which this is known
@@ -116,11 +125,11 @@ module _ (m : Machine) (accepted durable shown : Net) (task : Option (ℕ × Net
 
     pub record Committed (result : Result ℕ Refusal) : Type 0 where
       pub sizes_are : sizes ≡ m.sizes
-      pub version_is : IfOk result (λ v. (v ≡ version) × (v ≡ m.durable + length commands))
-      pub network_is : OnOk result (after durable commands ≡ Some next)
+      pub version_is : IfOk result (λ v. (v ≡ version) × (v ≡ m.durable + length groups))
+      pub network_is : OnOk result (after durable groups ≡ Some next)
       pub unchecked_is : OnOk result (unchecked ≡ m.unchecked + 1)
       pub works_on : OnOk result (broken ≡ false)
-      pub refused : MatchResult result (λ v. refusal_of_commit m.broken m.durable m.unchecked m.sizes.journal_pages durable commands ≡ None) (MayRefuseCommit (refusal_of_commit m.broken m.durable m.unchecked m.sizes.journal_pages durable commands))
+      pub refused : MatchResult result (λ v. refusal_of_commit m.broken m.durable m.unchecked m.sizes.journal_pages durable groups ≡ None) (MayRefuseCommit (refusal_of_commit m.broken m.durable m.unchecked m.sizes.journal_pages durable groups))
       pub still : IfErr result (λ refusal. (refusal ≡ Device → ⊥) → broken ≡ false)
       pub breaks : IfErr result (λ refusal. refusal ≡ Device → broken ≡ true)
       pub network_kept : OnErr result (next ≡ durable)
@@ -154,7 +163,7 @@ module _ (m : Machine) (accepted durable shown : Net) (task : Option (ℕ × Net
         h.sizes_are h.version_kept h.unchecked_kept (busy broken (h.breaks is)) (h.breaks is) h.going_kept
 
     why : (refusal : Refusal) → Committed (Err refusal) → (refusal ≡ OutOfMemory) ⊎ (refusal ≡ Device)
-    why refusal h = cause_of (refusal_of_commit m.broken m.durable m.unchecked m.sizes.journal_pages durable commands) refusal not_refused h.refused
+    why refusal h = cause_of (refusal_of_commit m.broken m.durable m.unchecked m.sizes.journal_pages durable groups) refusal not_refused h.refused
 
     pub flushes : (result : Result ℕ Refusal) → Committed result → Flushes m result flushed
     flushes (Ok v) h = (f.clear, flushed_ok v h, h.version_is.0)
@@ -162,7 +171,7 @@ module _ (m : Machine) (accepted durable shown : Net) (task : Option (ℕ × Net
         ⊎_elim (λ memory. inl (inr (f.clear, memory), flushed_same refusal h memory)) (λ device. inr (f.clear, device, flushed_failed refusal h device)) (why refusal h)
 
     fits : m.durable + batch m ≤ latest m
-    fits = omega arith
+    fits = batch_count m f.kept.state
 
     pub kept_by : (result : Result ℕ Refusal) → Committed result → IsKept flushed accepted next shown task
     kept_by (Ok v) h =
@@ -179,8 +188,8 @@ module _ (m : Machine) (accepted durable shown : Net) (task : Option (ℕ × Net
     module _ (content content' : List ℕ) (left left' : List ℕ → Type 0) where
       pub record Written (result : Result ℕ Refusal) : Type 0 where
         pub same : IfErr result (λ refusal. (refusal ≡ Device → ⊥) → (content' ≡ content) × ((c : List ℕ) → left' c → left c))
-        pub in_flight : (c : List ℕ) → left' c → IsBeforeOrAfter m.sizes.journal_pages durable m.durable commands c
-        pub durably : OnOk result ((c : List ℕ) → left' c → StandsTidyFor sizes.journal_pages c next version)
+        pub in_flight : (c : List ℕ) → left' c → IsBeforeOrAfter m.sizes.journal_pages m.sizes.checkpoint_pages durable m.durable groups c
+        pub durably : OnOk result ((c : List ℕ) → left' c → StandsTidyFor sizes.journal_pages sizes.checkpoint_pages c next version)
         pub only : OnOk result (Only content' left')
 
       pub holds_by : (result : Result ℕ Refusal) → Committed result → Written result → Holds content left m → Holds content' left' flushed

@@ -6,7 +6,7 @@ use Rattle.std.proofs.Math.Seq.{take-nil}
 use Rattle.std.proofs.lemmas.List.{take-append-le}
 use Rattle.disk.specs.Moments.{LeavesOnly}
 use Rattle.disk.proofs.Steps.{started}
-use Rattle.roadnet.specs.declared.commands.Command.{Command}
+use Rattle.roadnet.specs.declared.groups.Group.{Group}
 use Rattle.roadnet.specs.declared.refusals.Refusal.{Refusal}
 use Rattle.roadnet.specs.declared.refusals.Refusal.TheVariants.{OutOfMemory, Device}
 use Rattle.roadnet.specs.Net.{Net}
@@ -18,7 +18,7 @@ use Rattle.machine.specs.Calls.{failed, IsLeft}
 use Rattle.machine.proofs.Kept.{left_between}
 use Rattle.keeper.specs.Keeping.{Holds, IsDurableIn}
 
--- what holds what is durable holds it with these commands in flight or without
+-- what holds what is durable holds it with these groups in flight or without
 pub held_too : (m : Machine) (commands : ℕ) (content : List ℕ) → IsState m → m.broken ≡ false → IsDurableIn m content → IsDurableIn (failed m commands) content
 held_too m commands content s works h =
     let none : m.in_flight ≡ 0 = s.calm works in
@@ -36,7 +36,7 @@ pub no_call : {D : Type 0} (left : D → List ℕ → Type 0) (moment : D → �
 no_call left moment left_since disk P now each = started moment left_since disk P (λ c since. each c (now c since))
 
 module _ (content : List ℕ) (left : List ℕ → Type 0) where
-  -- a machine whose durable commands stay, and what is in flight
+  -- a machine whose durable groups stay, and what is in flight
   pub holds_on : (old new : Machine) → new.sizes ≡ old.sizes → new.durable ≡ old.durable → new.in_flight ≡ old.in_flight → new.broken ≡ old.broken
       → ((v : ℕ) → v ≤ latest old → network_at new v ≡ network_at old v) → IsState old → Holds content left old → Holds content left new
   holds_on old new sizes durable in_flight broken networks s h =
@@ -52,7 +52,7 @@ module _ (content : List ℕ) (left : List ℕ → Type 0) where
               left = left_too held.version held.left;
               network = held.network;
               network_is = networks held.version between.1 ∙ held.network_is;
-              stands = subst (λ (z : Sizes). StandsTidyFor z.journal_pages c held.network held.version) (sym sizes) held.stands;
+              stands = subst (λ (z : Sizes). StandsTidyFor z.journal_pages z.checkpoint_pages c held.network held.version) (sym sizes) held.stands;
             };
       }
 
@@ -63,25 +63,25 @@ module _ (content : List ℕ) (left : List ℕ → Type 0) where
     each_left = λ c was. h.each_left c (among c was);
   }
 
--- a disk that is alike, and a machine whose durable commands stay
+-- a disk that is alike, and a machine whose durable groups stay
 pub holds_armed : (content content' : List ℕ) (left left' : List ℕ → Type 0) (old new : Machine) → content' ≡ content → ((c : List ℕ) → left' c → left c)
     → new.sizes ≡ old.sizes → new.durable ≡ old.durable → new.in_flight ≡ old.in_flight → new.broken ≡ old.broken → ((v : ℕ) → v ≤ latest old → network_at new v ≡ network_at old v) → IsState old → Holds content left old → Holds content' left' new
 holds_armed content content' left left' old new same among sizes durable in_flight broken networks s h =
     holds_on content' left' old new sizes durable in_flight broken networks s (holds_alike content left content' left' old same among h)
 
-pub same_commands : (base : Net) (n : ℕ) (items items' : List Command) → items' ≡ items → after base (take n items') ≡ after base (take n items)
-same_commands base n items items' is = ap (λ (xs : List Command). after base (take n xs)) is
+pub same_groups : (base : Net) (n : ℕ) (items items' : List Group) → items' ≡ items → after base (take n items') ≡ after base (take n items)
+same_groups base n items items' is = ap (λ (xs : List Group). after base (take n xs)) is
 
--- a command behind the others changes no network before it
-pub same_before : (base : Net) (n : ℕ) (items items' : List Command) (command : Command) → items' ≡ items ++ command ∷ [] → n ≤ length items → after base (take n items') ≡ after base (take n items)
-same_before base n items items' command is le =
-    ap (λ (xs : List Command). after base (take n xs)) is ∙ ap (after base) (take-append-le n items (command ∷ []) le)
+-- a group behind the others changes no network before it
+pub same_before : (base : Net) (n : ℕ) (items items' : List Group) (group : Group) → items' ≡ items ++ group ∷ [] → n ≤ length items → after base (take n items') ≡ after base (take n items)
+same_before base n items items' group is le =
+    ap (λ (xs : List Group). after base (take n xs)) is ∙ ap (after base) (take-append-le n items (group ∷ []) le)
 
-take_none : (n : ℕ) (items : List Command) → items ≡ [] → take n items ≡ []
+take_none : (n : ℕ) (items : List Group) → items ≡ [] → take n items ≡ []
 take_none n items none = ap (take n) none ∙ take-nil n
 
 -- at the beginning
-pub at_base : (base net : Net) (n : ℕ) (items : List Command) → base ≡ net → items ≡ [] → after base (take n items) ≡ Some net
+pub at_base : (base net : Net) (n : ℕ) (items : List Group) → base ≡ net → items ≡ [] → after base (take n items) ≡ Some net
 at_base base net n items same none = ap (after base) (take_none n items none) ∙ ap Some same
 
 -- why a checkpoint of a store that is not broken is refused

@@ -3,15 +3,15 @@ use Rattle.std.proofs.Common.{◌≡◌, ⊎_elim, ℕ, ◌-◌, ◌≤◌, Bool
 use Rattle.std.specs.Prelude.{IfSome, OnOk, OnErr, is_some, ◌||◌, ◌==◌, nat_lt}
 use Rattle.std.proofs.lemmas.List.{take-take}
 use Rattle.disk.specs.Moments.{LeavesOnly, AddsNothing}
-use Rattle.roadnet.specs.declared.commands.Command.{Command}
+use Rattle.roadnet.specs.declared.groups.Group.{Group}
 use Rattle.roadnet.specs.declared.refusals.Refusal.{Refusal}
 use Rattle.roadnet.specs.Net.{Net}
 use Rattle.roadnet.specs.Step.{after}
 use Rattle.machine.specs.declared.calls.Ticket.{Ticket}
 use Rattle.machine.specs.Machine.{Machine, IsState, network_at}
-use Rattle.machine.specs.Calls.{Submits, StepsCheckpoint, TakesTask, RefusesView, has_nothing_unchecked, checkpoint_of, with_part, with_pages_written, is_out, without_task}
+use Rattle.machine.specs.Calls.{Submits, Flushes, StepsCheckpoint, TakesTask, RefusesView, has_nothing_unchecked, checkpoint_of, with_part, with_pages_written, is_out, without_task}
 use Rattle.machine.specs.Lives.{Checkpoints}
-use Rattle.machine.specs.Runs.Happened.{Submitted, Checkpointed}
+use Rattle.machine.specs.Runs.Happened.{Submitted, Flushed, Checkpointed}
 use Rattle.machine.specs.Laws.{IsLater}
 use Rattle.machine.proofs.Checkpoints.{IsBut, but_step, but_checkpoint, state_checkpoint}
 use Rattle.machine.proofs.Kept.{states_kept}
@@ -41,13 +41,21 @@ life_same old new opened (Some view) k s later task =
     record { state = s; opened_is = later.base_version ∙ k.opened_is; task_is = task ∙ k.task_is; task_network = network_still old new view.0 between.1 later ∙ k.task_network }
 
 module _ (old new : Machine) (opened : ℕ) (aside : Option (ℕ × Net)) (k : IsLife old opened aside) where
-  pub life_submit : (c : Command) (result : Result Ticket Refusal) → Submits old c result new → IsLife new opened aside
+  pub life_submit : (c : Group) (result : Result Ticket Refusal) → Submits old c result new → IsLife new opened aside
   life_submit c result step =
       life_same old new opened aside k (states_kept old new (Submitted c result) k.state step) (later_by_step old new (Submitted c result) k.state step) (task result step)
     where
       task : (result : Result Ticket Refusal) → Submits old c result new → new.task ≡ old.task
       task (Ok t) step = ap (λ (m : Machine). m.task) step.2
       task (Err r) step = ap (λ (m : Machine). m.task) step.1
+
+  pub life_flush : (result : Result ℕ Refusal) → Flushes old result new → IsLife new opened aside
+  life_flush result step =
+      life_same old new opened aside k (states_kept old new (Flushed result) k.state step) (later_by_step old new (Flushed result) k.state step) (task result step)
+    where
+      task : (result : Result ℕ Refusal) → Flushes old result new → new.task ≡ old.task
+      task (Ok durable) step = ap (λ (m : Machine). m.task) step.1
+      task (Err r) step = ⊎_elim (λ a. ap (λ (m : Machine). m.task) a.1) (λ b. ap (λ (m : Machine). m.task) b.2) step
 
 -- ---- a checkpoint
 -- a state in which nothing but the checkpoint, the unchecked pages and what a failure changes is another
@@ -61,7 +69,7 @@ life_but old new opened aside but s k =
 abbrev by_part : Machine → ℕ → Bool → Bool → Machine
 by_part m pages a b = cond a m (cond b (record m { checkpoint = Some (with_pages_written (checkpoint_of m) pages) }) (record m { checkpoint = None; unchecked = (checkpoint_of m).flushed }))
 
--- no command is accepted by it
+-- no group is accepted by it
 pub accepted_by_part : (m : Machine) (pages : ℕ) → (with_part m pages).accepted ≡ m.accepted
 accepted_by_part m pages = go (has_nothing_unchecked m) (nat_lt pages (checkpoint_of m).left)
   where

@@ -1,7 +1,7 @@
 -- A ledger's calls are a keeper's: with a view shown and a task out the machine takes the same step.
 use Rattle.std.proofs.Common.{◌≡◌, ⊎_elim, inl, inr, ℕ, suc, zero, Bool, true, false, cond, List, Option, Some, None, Result, Ok, Err, refl, ◌∙◌, ap}
 use Rattle.std.specs.Prelude.{IfOk, IfErr, nat_lt}
-use Rattle.roadnet.specs.declared.commands.Command.{Command}
+use Rattle.roadnet.specs.declared.groups.Group.{Group}
 use Rattle.roadnet.specs.declared.refusals.Refusal.{Refusal}
 use Rattle.machine.specs.declared.calls.Ticket.{Ticket}
 use Rattle.machine.specs.Machine.{Machine, batch}
@@ -13,19 +13,19 @@ module _ (shown : ℕ) (task : Option ℕ) where
   abbrev V : Machine → Machine
   V m = with_views m shown task
 
-  pub lift_submit : (old new : Machine) (c : Command) (r : Result Ticket Refusal) → Submits old c r new → Submits (V old) c r (V new)
-  lift_submit old new c (Ok ticket) h = (h.0, h.1, ap V h.2)
+  pub lift_submit : (old new : Machine) (c : Group) (r : Result Ticket Refusal) → Submits old c r new → Submits (V old) c r (V new)
+  lift_submit old new c (Ok ticket) h = (h.0, h.1, ap V h.2, h.3)
   lift_submit old new c (Err refusal) h = (h.0, ap V h.1)
 
-  pub lift_accepted : (old new : Machine) (c : Command) (r : Result Ticket Refusal) → IfOk r (λ ticket. Submits old c (Ok ticket) new) → IfOk r (λ ticket. Submits (V old) c (Ok ticket) (V new))
+  pub lift_accepted : (old new : Machine) (c : Group) (r : Result Ticket Refusal) → IfOk r (λ ticket. Submits old c (Ok ticket) new) → IfOk r (λ ticket. Submits (V old) c (Ok ticket) (V new))
   lift_accepted old new c (Ok ticket) h = lift_submit old new c (Ok ticket) h
   lift_accepted old new c (Err refusal) h = tt
 
-  pub lift_refused : (old new : Machine) (c : Command) (P : Refusal → Type 0) (r : Result Ticket Refusal) → IfErr r (λ refusal. P refusal → Submits old c (Err refusal) new) → IfErr r (λ refusal. P refusal → Submits (V old) c (Err refusal) (V new))
+  pub lift_refused : (old new : Machine) (c : Group) (P : Refusal → Type 0) (r : Result Ticket Refusal) → IfErr r (λ refusal. P refusal → Submits old c (Err refusal) new) → IfErr r (λ refusal. P refusal → Submits (V old) c (Err refusal) (V new))
   lift_refused old new c P (Ok ticket) h = tt
   lift_refused old new c P (Err refusal) h = λ p. lift_submit old new c (Err refusal) (h p)
 
-  pub lift_room : (old new : Machine) (c : Command) (r : Result Ticket Refusal) → IfErr r (λ refusal. Submits old c (Err refusal) new) → IfErr r (λ refusal. Submits (V old) c (Err refusal) (V new))
+  pub lift_room : (old new : Machine) (c : Group) (r : Result Ticket Refusal) → IfErr r (λ refusal. Submits old c (Err refusal) new) → IfErr r (λ refusal. Submits (V old) c (Err refusal) (V new))
   lift_room old new c (Ok ticket) h = tt
   lift_room old new c (Err refusal) h = lift_submit old new c (Err refusal) h
 

@@ -1,6 +1,6 @@
 -- What an event does in one life of a keeper, it does in the run over lives.
 use Rattle.std.proofs.Common.{◌≡◌, ⊎_elim, inl, inr, ℕ, zero, suc, ◌+◌, ◌≤◌, false, List, [], ◌∷◌, length, Option, Some, None, Result, Ok, Err, sym, ◌∙◌, ap, subst, arith, length-append}
-use Rattle.roadnet.specs.declared.commands.Command.{Command}
+use Rattle.roadnet.specs.declared.groups.Group.{Group}
 use Rattle.roadnet.specs.declared.refusals.Refusal.{Refusal}
 use Rattle.roadnet.specs.Net.{Net}
 use Rattle.roadnet.specs.Step.{after}
@@ -25,7 +25,7 @@ use Rattle.machine.proofs.Later.{later_by_step, later_same, later_still}
 use Rattle.keeper.specs.Rehearsing.{is_stop}
 use Rattle.keeper.proofs.LifeKept.{accepted_by_part}
 
--- a state that comes later, and has accepted the same commands
+-- a state that comes later, and has accepted the same groups
 pub record Later (old new : Machine) : Type 0 where
   pub state : IsState new
   pub later : IsLater old new
@@ -72,7 +72,7 @@ does_later Stop old new replies calm s d = cc
 does_later (StopWithin call picks writing) old new replies calm s d = cc
 
 -- ---- within the run
-module _ (base : Net) (version : ℕ) (before : List Command) where
+module _ (base : Net) (version : ℕ) (before : List Group) where
   goes_in : (n : ℕ) (old new : Machine) → after base before ≡ Some old.base → old.base_version ≡ version + length before → IsState old → GoesOn n old new → GoesOn n (within base version before old) (within base version before new)
   goes_in zero old new there begun s g = ap (within base version before) g
   goes_in (suc n) old new there begun s g =
@@ -114,7 +114,7 @@ module _ (base : Net) (version : ℕ) (before : List Command) where
     does_in Stop replies calm d = cc
     does_in (StopWithin call picks writing) replies calm d = cc
 
--- ---- how many commands are accepted
+-- ---- how many groups are accepted
 goes_same : (n : ℕ) (old new : Machine) → GoesOn n old new → new.accepted ≡ old.accepted
 goes_same zero old new g = ap (λ (m : Machine). m.accepted) g
 goes_same (suc n) old new g = goes_same n g.0 new g.2 ∙ (ap (λ (m : Machine). m.accepted) g.1.2 ∙ accepted_by_part old pages_of_step)
@@ -139,7 +139,7 @@ writes_same a_flush reply old new w = flush_same w.0 old new w.1
 writes_same a_checkpoint reply old new w = checkpoints_same w.0 old new w.1
 writes_same (a_step pages) reply old new w = part_same pages.pages w.0 old new w.1
 
-submit_size : (c : Command) (result : Result Ticket Refusal) (old new : Machine) → Submits old c result new → length new.accepted ≤ length old.accepted + 1
+submit_size : (c : Group) (result : Result Ticket Refusal) (old new : Machine) → Submits old c result new → length new.accepted ≤ length old.accepted + 1
 submit_size c (Ok t) old new step = let more = ap (λ (m : Machine). length m.accepted) step.2 ∙ length-append old.accepted (c ∷ []) in omega (arith, more)
 submit_size c (Err r) old new step = let same = ap (λ (m : Machine). length m.accepted) step.1 in omega (arith, same)
 

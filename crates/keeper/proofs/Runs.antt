@@ -2,12 +2,10 @@
 use Rattle.std.proofs.Common.{◌≡◌, ◌⊎◌, ⊎_elim, inl, inr, ℕ, ◌+◌, ◌-◌, ◌≤◌, false, List, [], ◌∷◌, ◌++◌, length, take, Option, Some, None, Result, Ok, Err, refl, sym, ◌∙◌, ap, subst, arith, append_assoc}
 use Rattle.std.specs.Prelude.{IfOk, IfErr}
 use Rattle.std.proofs.lemmas.List.{append-nil}
-use Rattle.roadnet.specs.declared.commands.Command.{Command}
+use Rattle.roadnet.specs.declared.groups.Group.{Group}
 use Rattle.roadnet.specs.declared.refusals.Refusal.{Refusal}
 use Rattle.roadnet.specs.declared.refusals.Refusal.TheVariants.{OutOfMemory, Device}
-use Rattle.roadnet.specs.Net.{Net}
 use Rattle.roadnet.specs.Step.{after}
-use Rattle.pages.specs.Layout.{pages_for}
 use Rattle.storefile.specs.StoreFile.{StandsTidyFor}
 use Rattle.disk.specs.Contents.{Only}
 use Rattle.store.specs.State.{StoreState, IsDurable}
@@ -20,16 +18,16 @@ use Rattle.machine.specs.declared.events.Event.{Event}
 use Rattle.machine.specs.declared.events.Event.TheVariants.{Submit, Flush, Checkpoint, CheckpointStep, Task, Publish, Ask, Stop, StopWithin}
 use Rattle.machine.specs.declared.events.Replied.{Replied}
 use Rattle.machine.specs.declared.events.Replied.TheVariants.{Refused, Opened, Stopped}
-use Rattle.machine.specs.Machine.{Sizes, Machine, IsState, start, most_versions, commands_to}
+use Rattle.machine.specs.Machine.{Sizes, Machine, IsState, start, most_versions, groups_to}
 use Rattle.machine.specs.Calls.{StopsAndOpens}
 use Rattle.machine.specs.LifeInRun.{within}
 use Rattle.machine.specs.Lives.{Writes, StopComes, Does, StopsFor, Lives, HoldsDurable}
-use Rattle.machine.proofs.InRun.{holds_in, commands_in, network_in}
+use Rattle.machine.proofs.InRun.{holds_in, groups_in, network_in}
 use Rattle.machine.proofs.Kept.{left_between}
 use Rattle.machine.proofs.Rehearsing.{Ran, ran_more, lives_whole, lives_no_memory, lives_not_opened}
-use Rattle.keeper.specs.Rehearsing.{is_stop, within_of, First, HasRun, HasLived, HasPagesOfNetwork, BeginsAfter}
+use Rattle.keeper.specs.Rehearsing.{is_stop, within_of, First, HasRun, HasLived, BeginsAfter}
 use Rattle.keeper.proofs.LivesInRun.{Later, later_none, does_later, does_in, writes_in}
-use Rattle.keeper.proofs.Stopped.{opens_in, there_after, begun_after, sizes_after, slot_after}
+use Rattle.keeper.proofs.Stopped.{opens_in, there_after, begun_after, sizes_after}
 
 -- what was told of a write before the stop's own reply
 pub record Told (old mid : Machine) (w : Writing) (replies replies' : List Replied) : Type 0 where
@@ -55,17 +53,17 @@ if_err_both (Ok x) A B C D X f a b c d = tt
 if_err_both (Err e) A B C D X f a b c d = f e a b c d
 
 -- lists that are known by equations alone
-pub run_as : {P : Type 0} (first : First) (events : List (Event P)) (replies replies' : List Replied) (history history' : List Command) (m : Machine) → replies' ≡ replies → history' ≡ history → HasRun first events replies history m → HasRun first events replies' history' m
+pub run_as : {P : Type 0} (first : First) (events : List (Event P)) (replies replies' : List Replied) (history history' : List Group) (m : Machine) → replies' ≡ replies → history' ≡ history → HasRun first events replies history m → HasRun first events replies' history' m
 run_as first events replies replies' history history' m a b r =
-    subst (λ (rs : List Replied). HasRun first events rs history' m) (sym a) (subst (λ (cs : List Command). HasRun first events replies cs m) (sym b) r)
+    subst (λ (rs : List Replied). HasRun first events rs history' m) (sym a) (subst (λ (cs : List Group). HasRun first events replies cs m) (sym b) r)
 
-pub lives_as : {P : Type 0} (left : List ℕ → Type 0) (first : First) (events : List (Event P)) (replies replies' : List Replied) (ended : Option Refusal) (history history' : List Command) → replies' ≡ replies → history' ≡ history
+pub lives_as : {P : Type 0} (left : List ℕ → Type 0) (first : First) (events : List (Event P)) (replies replies' : List Replied) (ended : Option Refusal) (history history' : List Group) → replies' ≡ replies → history' ≡ history
     → HasLived left first events replies ended history → HasLived left first events replies' ended history'
 lives_as left first events replies replies' ended history history' a b r =
     subst (λ (rs : List Replied). HasLived left first events rs ended history') (sym a)
-    (subst (λ (cs : List Command). HasLived left first events replies ended cs) (sym b) r)
+    (subst (λ (cs : List Group). HasLived left first events replies ended cs) (sym b) r)
 
-pub lives_of : {P : Type 0} (left : List ℕ → Type 0) (first : First) (events events' : List (Event P)) (replies : List Replied) (ended : Option Refusal) (history : List Command) → events ≡ events'
+pub lives_of : {P : Type 0} (left : List ℕ → Type 0) (first : First) (events events' : List (Event P)) (replies : List Replied) (ended : Option Refusal) (history : List Group) → events ≡ events'
     → HasLived left first events replies ended history → HasLived left first events' replies ended history
 lives_of left first events events' replies ended history e r =
     subst (λ (es : List (Event _)). HasLived left first es replies ended history) e r
@@ -81,18 +79,18 @@ held_at_start s content left only stands c was = record {
 }
 
 -- what was durable of a life that has halted
-pub durable_front : (opened durable : ℕ) (m : Machine) (commands : List Command) → opened ≡ m.base_version → durable ≡ m.durable → commands ≡ m.accepted → take (durable - opened) commands ≡ take (m.durable - m.base_version) m.accepted
-durable_front opened durable m commands a b c = rw (a, b, c) refl
+pub durable_front : (opened durable : ℕ) (m : Machine) (groups : List Group) → opened ≡ m.base_version → durable ≡ m.durable → groups ≡ m.accepted → take (durable - opened) groups ≡ take (m.durable - m.base_version) m.accepted
+durable_front opened durable m groups a b c = rw (a, b, c) refl
 
-module _ {P : Type 0} (first : First) (events : List (Event P)) (replies : List Replied) (history : List Command) (m : Machine) (r : HasRun first events replies history m) where
+module _ {P : Type 0} (first : First) (events : List (Event P)) (replies : List Replied) (history : List Group) (m : Machine) (r : HasRun first events replies history m) where
   abbrev pub in_run : Machine → Machine
   in_run x = within first.network first.version history x
 
   ran : Ran (start first.sizes first.network first.version first.unchecked) events replies (in_run m)
   ran = record { turns = r.turns; events_are = r.events_are; replies_are = r.replies_are; passes = r.passes }
 
-  durable_as : (x : Machine) (c : List ℕ) → x.sizes ≡ first.sizes → IsDurableIn x c → HoldsDurable (StandsTidyFor first.sizes.journal_pages) x c
-  durable_as x c is held = subst (λ (z : Sizes). HoldsDurable (StandsTidyFor z.journal_pages) x c) is held
+  durable_as : (x : Machine) (c : List ℕ) → x.sizes ≡ first.sizes → IsDurableIn x c → HoldsDurable (StandsTidyFor first.sizes.journal_pages first.sizes.checkpoint_pages) x c
+  durable_as x c is held = subst (λ (z : Sizes). HoldsDurable (StandsTidyFor z.journal_pages z.checkpoint_pages) x c) is held
 
   -- one event more
   pub run_more : (e : Event P) (now : List Replied) (new : Machine) → is_stop e ≡ false → IsState m → Does m e now new → HasRun first (events ++ e ∷ []) (replies ++ now) history new
@@ -109,7 +107,6 @@ module _ {P : Type 0} (first : First) (events : List (Event P)) (replies : List 
         there = r.there ∙ ap Some (sym later.later.base);
         begun = later.later.base_version ∙ r.begun;
         sizes_are = later.later.sizes ∙ r.sizes_are;
-        pages = ap (λ (z : Sizes). z.checkpoint_pages) later.later.sizes ∙ (r.pages ∙ ap (λ (n : Net). pages_for 1023 (length n.arcs)) (sym later.later.base));
       }
 
   -- ---- a stop, of which the machine in the life was mid
@@ -120,18 +117,15 @@ module _ {P : Type 0} (first : First) (events : List (Event P)) (replies : List 
     there_then : after first.network history ≡ Some mid.base
     there_then = r.there ∙ ap Some (sym l.later.base)
 
-    pub slot_then : HasPagesOfNetwork mid
-    slot_then = ap (λ (z : Sizes). z.checkpoint_pages) l.later.sizes ∙ (r.pages ∙ ap (λ (n : Net). pages_for 1023 (length n.arcs)) (sym l.later.base))
-
-    abbrev pub history_with : Machine → List Command
-    history_with next = history ++ commands_to mid next.base_version
+    abbrev pub history_with : Machine → List Group
+    history_with next = history ++ groups_to mid next.base_version
 
     pub opens_then : (next : Machine) → BeginsAfter mid next → StopsAndOpens (in_run mid) next.base_version (within first.network first.version (history_with next) next)
     opens_then next b = opens_in first.network first.version history mid next begun_then l.state b
 
     -- what the disk holds for the life, it holds for the run
     pub durable_then : (c : List ℕ) → IsDurableIn mid c → IsDurableIn (in_run mid) c
-    durable_then c held = holds_in (StandsTidyFor mid.sizes.journal_pages) first.network first.version history mid c begun_then there_then l.state held
+    durable_then c held = holds_in (StandsTidyFor mid.sizes.journal_pages mid.sizes.checkpoint_pages) first.network first.version history mid c begun_then there_then l.state held
 
     pub holds_then : (content : List ℕ) (left : List ℕ → Type 0) → Holds content left mid → Holds content left (in_run mid)
     holds_then content left h = record { only = h.only; each_left = λ c was. durable_then c (h.each_left c was) }
@@ -163,7 +157,6 @@ module _ {P : Type 0} (first : First) (events : List (Event P)) (replies : List 
           there = there_after first.network first.version history mid next begun_then l.state b there_then;
           begun = begun_after first.network first.version history mid next begun_then l.state b;
           sizes_are = sizes_after first.network first.version history mid next begun_then l.state b ∙ (l.later.sizes ∙ r.sizes_are);
-          pages = slot_after first.network first.version history mid next begun_then l.state b slot_then;
         }
 
     sizes_then : mid.sizes ≡ first.sizes
@@ -177,10 +170,10 @@ module _ {P : Type 0} (first : First) (events : List (Event P)) (replies : List 
       version_to = r.version_to;
       unchecked_to = r.unchecked_to;
       last = in_run mid;
-      lives = subst (λ (h : List Command). Lives (start first.sizes first.network first.version first.unchecked) ((events ++ e ∷ []) ++ rest) (replies ++ now) ended h (in_run mid))
-          (commands_in first.network first.version history mid begun_then mid.durable (omega (arith, l.state.base_opened, l.state.opened_shown, l.state.shown_durable)))
+      lives = subst (λ (h : List Group). Lives (start first.sizes first.network first.version first.unchecked) ((events ++ e ∷ []) ++ rest) (replies ++ now) ended h (in_run mid))
+          (groups_in first.network first.version history mid begun_then mid.durable (omega (arith, l.state.base_opened, l.state.opened_shown, l.state.shown_durable)))
           (lives_not_opened _ _ events replies ran (in_run mid) e now rest ended stops why);
-      each_left = λ c was. holds_in (StandsTidyFor first.sizes.journal_pages) first.network first.version history mid c begun_then there_then l.state (durable_as mid c sizes_then (each c was));
+      each_left = λ c was. holds_in (StandsTidyFor first.sizes.journal_pages first.sizes.checkpoint_pages) first.network first.version history mid c begun_then there_then l.state (durable_as mid c sizes_then (each c was));
     }
 
     -- the disk stops within the event, or behind it
@@ -264,7 +257,7 @@ module _ {P : Type 0} (first : First) (events : List (Event P)) (replies : List 
         (not_opened_within left e w t.told rest ended is t.comes why each)
 
   -- ---- a stop between two calls
-  pub opened_by_stop : (next : Machine) → IsState m → BeginsAfter m next → HasRun first (events ++ Stop ∷ []) (replies ++ Opened next.base_version ∷ []) (history ++ commands_to m next.base_version) next
+  pub opened_by_stop : (next : Machine) → IsState m → BeginsAfter m next → HasRun first (events ++ Stop ∷ []) (replies ++ Opened next.base_version ∷ []) (history ++ groups_to m next.base_version) next
   opened_by_stop next s b = run_opened m (later_none m s) Stop (Opened next.base_version ∷ []) next b (next.base_version, opens_then m (later_none m s) next b, refl)
 
   pub not_opened_by_stop : (left : List ℕ → Type 0) (rest : List (Event P)) (ended : Option Refusal) → IsState m → (ended ≡ Some OutOfMemory) ⊎ (ended ≡ Some Device) → ((c : List ℕ) → left c → IsDurableIn m c)
@@ -279,7 +272,7 @@ module _ {P : Type 0} (first : First) (events : List (Event P)) (replies : List 
       unchecked_to = r.unchecked_to;
       last = in_run m;
       lives = lives_whole _ _ events replies ran;
-      each_left = λ c was. holds_in (StandsTidyFor first.sizes.journal_pages) first.network first.version history m c r.begun r.there s (durable_as m c r.sizes_are (each c was));
+      each_left = λ c was. holds_in (StandsTidyFor first.sizes.journal_pages first.sizes.checkpoint_pages) first.network first.version history m c r.begun r.there s (durable_as m c r.sizes_are (each c was));
     }
 
     pub run_no_memory : (rest : List (Event P)) → HasLived left first (events ++ rest) replies (Some OutOfMemory) (history ++ m.accepted)
@@ -288,13 +281,13 @@ module _ {P : Type 0} (first : First) (events : List (Event P)) (replies : List 
       unchecked_to = r.unchecked_to;
       last = in_run m;
       lives = lives_no_memory _ _ events replies ran rest;
-      each_left = λ c was. holds_in (StandsTidyFor first.sizes.journal_pages) first.network first.version history m c r.begun r.there s (durable_as m c r.sizes_are (each c was));
+      each_left = λ c was. holds_in (StandsTidyFor first.sizes.journal_pages first.sizes.checkpoint_pages) first.network first.version history m c r.begun r.there s (durable_as m c r.sizes_are (each c was));
     }
 
 -- a run that begins
-pub run_none : {P : Type 0} (first : First) → first.version ≤ most_versions → first.unchecked ≤ first.sizes.journal_pages → HasPagesOfNetwork (start first.sizes first.network first.version first.unchecked)
+pub run_none : {P : Type 0} (first : First) → first.version ≤ most_versions → first.unchecked ≤ first.sizes.journal_pages
     → HasRun {P = P} first [] [] [] (start first.sizes first.network first.version first.unchecked)
-run_none first low few slot = record {
+run_none first low few = record {
   turns = [];
   events_are = refl;
   replies_are = refl;
@@ -304,5 +297,4 @@ run_none first low few slot = record {
   there = refl;
   begun = omega arith;
   sizes_are = refl;
-  pages = slot;
 }

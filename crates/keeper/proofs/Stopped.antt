@@ -1,39 +1,39 @@
 -- What is opened after a stop, and the life that begins with it.
 use Rattle.std.proofs.Common.{◌≡◌, ⊎_elim, inl, inr, ℕ, ◌+◌, ◌-◌, ◌≤◌, List, ◌++◌, length, take, Some, refl, sym, ◌∙◌, ap, subst, arith, length-append, length-take}
-use Rattle.roadnet.specs.declared.commands.Command.{Command}
+use Rattle.roadnet.specs.declared.groups.Group.{Group}
 use Rattle.roadnet.specs.Net.{Net}
 use Rattle.roadnet.specs.Step.{after}
 use Rattle.roadnet.proofs.Stepped.{after_both}
 use Rattle.pages.specs.declared.header.Header.{Header}
-use Rattle.pages.specs.Layout.{pages_for, word_pages}
+use Rattle.pages.specs.Layout.{slot_pages}
 use Rattle.storefile.specs.StoreFile.{StandsTidyFor}
 use Rattle.storefile.specs.Standing.{Standing, standing_of}
 use Rattle.storefile.proofs.Rests.{stored_as}
 use Rattle.store.specs.Committing.{StandsTidily}
-use Rattle.machine.specs.Machine.{Sizes, Machine, IsState, start, network_at, commands_to}
+use Rattle.machine.specs.Machine.{Sizes, Machine, IsState, start, network_at, groups_to}
 use Rattle.machine.specs.Calls.{StopsAndOpens}
 use Rattle.machine.specs.LifeInRun.{within}
 use Rattle.machine.proofs.InRun.{stops_begin_lives}
 use Rattle.machine.proofs.Kept.{left_between}
 use Rattle.store.proofs.Afterwards.{reopened}
-use Rattle.store.proofs.ArcsKept.{same_arcs, arcs_of_header}
 use Rattle.store.specs.State.{Told, told_of}
 use Rattle.machine.specs.declared.events.Replied.TheVariants.{Opened}
 use Rattle.keeper.specs.Cutting.{StandsAsTold}
 use Rattle.keeper.specs.Keeping.{IsDurableIn}
-use Rattle.keeper.specs.Rehearsing.{HasPagesOfNetwork, BeginsAfter}
+use Rattle.keeper.specs.Rehearsing.{BeginsAfter}
 
 -- ---- what opening tells of a content that stands for a network at a version
-pub record IsOpened (journal_pages : ℕ) (content : List ℕ) (net : Net) (version : ℕ) (x : Standing) : Type 0 where
+pub record IsOpened (journal_pages checkpoint_pages : ℕ) (content : List ℕ) (net : Net) (version : ℕ) (x : Standing) : Type 0 where
   pub network_is : x.network ≡ net
   pub version_is : x.version ≡ version
   pub pages_are : x.header.journal_pages ≡ journal_pages
+  pub slot_is : slot_pages x.header ≡ checkpoint_pages
   pub stands : StandsTidily content x
 
-pub is_opened : (journal_pages : ℕ) (content : List ℕ) (net : Net) (version : ℕ) (x : Standing) → StandsTidyFor journal_pages content net version → standing_of content ≡ Some x → IsOpened journal_pages content net version x
-is_opened journal_pages content net version x stands told =
-    let is = reopened journal_pages content net version x stands told in
-    record { network_is = is.0; version_is = is.1; pages_are = is.3; stands = is.2 }
+pub is_opened : (journal_pages checkpoint_pages : ℕ) (content : List ℕ) (net : Net) (version : ℕ) (x : Standing) → StandsTidyFor journal_pages checkpoint_pages content net version → standing_of content ≡ Some x → IsOpened journal_pages checkpoint_pages content net version x
+is_opened journal_pages checkpoint_pages content net version x stands told =
+    let is = reopened journal_pages checkpoint_pages content net version x stands told in
+    record { network_is = is.0; version_is = is.1; pages_are = is.3; slot_is = is.4; stands = is.2 }
 
 -- ---- the life that begins
 abbrev sizes_told : Told → Sizes
@@ -49,15 +49,12 @@ few_unchecked content x told =
     let pages : held.stored.header.journal_pages ≡ x.header.journal_pages = ap (λ (h : Header). h.journal_pages) held.header_is in
     omega (arith, held.stands.is.few, held.unchecked_is, pages)
 
-module _ (m : Machine) (content : List ℕ) (x : Standing) (s : IsState m) (held : IsDurableIn m content) (told : standing_of content ≡ Some x) (slot : HasPagesOfNetwork m) where
-  o : IsOpened m.sizes.journal_pages content held.network held.version x
-  o = is_opened m.sizes.journal_pages content held.network held.version x held.stands told
+module _ (m : Machine) (content : List ℕ) (x : Standing) (s : IsState m) (held : IsDurableIn m content) (told : standing_of content ≡ Some x) where
+  o : IsOpened m.sizes.journal_pages m.sizes.checkpoint_pages content held.network held.version x
+  o = is_opened m.sizes.journal_pages m.sizes.checkpoint_pages content held.network held.version x held.stands told
 
   same_sizes : sizes_told (told_of x) ≡ m.sizes
-  same_sizes =
-      let arcs : x.header.arcs ≡ length m.base.arcs = arcs_of_header content x told ∙ (ap (λ (n : Net). length n.arcs) o.network_is ∙ same_arcs m.base held.network (commands_to m held.version) held.network_is) in
-      let words : word_pages x.header ≡ m.sizes.checkpoint_pages = ap (pages_for 1023) arcs ∙ sym slot in
-      both x.header.journal_pages (word_pages x.header) m.sizes o.pages_are words
+  same_sizes = both x.header.journal_pages (slot_pages x.header) m.sizes o.pages_are o.slot_is
     where
       both : (j w : ℕ) (z : Sizes) → j ≡ z.journal_pages → w ≡ z.checkpoint_pages → ◌≡◌ {A = Sizes} (record { journal_pages = j; checkpoint_pages = w }) z
       both j w z a b = rw (a, b) refl
@@ -82,37 +79,33 @@ module _ (m : Machine) (content : List ℕ) (x : Standing) (s : IsState m) (held
   stands_after = o.stands
 
 -- ---- the life that begins, within the run
-module _ (base : Net) (version : ℕ) (before : List Command) (m next : Machine) (begun : m.base_version ≡ version + length before) (s : IsState m) (b : BeginsAfter m next) where
-  -- what the stop left of the commands of the life before
-  abbrev pub left_commands : List Command
-  left_commands = commands_to m next.base_version
+module _ (base : Net) (version : ℕ) (before : List Group) (m next : Machine) (begun : m.base_version ≡ version + length before) (s : IsState m) (b : BeginsAfter m next) where
+  -- what the stop left of the groups of the life before
+  abbrev pub left_groups : List Group
+  left_groups = groups_to m next.base_version
 
-  pub opens_in : StopsAndOpens (within base version before m) next.base_version (within base version (before ++ left_commands) next)
+  pub opens_in : StopsAndOpens (within base version before m) next.base_version (within base version (before ++ left_groups) next)
   opens_in = (
     b.left,
     (
       next.unchecked,
       b.unchecked_to,
-      ap (within base version (before ++ left_commands)) b.begins ∙ sym (stops_begin_lives base version before m next.base_version next.unchecked next.base begun s b.left),
+      ap (within base version (before ++ left_groups)) b.begins ∙ sym (stops_begin_lives base version before m next.base_version next.unchecked next.base begun s b.left),
     ),
   )
 
-  pub there_after : after base before ≡ Some m.base → after base (before ++ left_commands) ≡ Some next.base
-  there_after there = after_both base before left_commands ∙ rw there (b.network_is)
+  pub there_after : after base before ≡ Some m.base → after base (before ++ left_groups) ≡ Some next.base
+  there_after there = after_both base before left_groups ∙ rw there (b.network_is)
 
-  pub begun_after : next.base_version ≡ version + length (before ++ left_commands)
+  pub begun_after : next.base_version ≡ version + length (before ++ left_groups)
   begun_after =
       let between = left_between m s next.base_version b.left in
-      let sizes : length (before ++ left_commands) ≡ length before + length left_commands = length-append before left_commands in
-      let taken : length left_commands ≡ next.base_version - m.base_version = length_of_front (next.base_version - m.base_version) m.accepted (omega (arith, between.1)) in
+      let sizes : length (before ++ left_groups) ≡ length before + length left_groups = length-append before left_groups in
+      let taken : length left_groups ≡ next.base_version - m.base_version = length_of_front (next.base_version - m.base_version) m.accepted (omega (arith, between.1)) in
       omega (arith, sizes, taken, between.0, s.base_opened, s.opened_shown, s.shown_durable)
     where
-      length_of_front : (n : ℕ) (xs : List Command) → n ≤ length xs → length (take n xs) ≡ n
+      length_of_front : (n : ℕ) (xs : List Group) → n ≤ length xs → length (take n xs) ≡ n
       length_of_front n xs le = let is = length-take n xs in omega (arith, is)
 
   pub sizes_after : next.sizes ≡ m.sizes
   sizes_after = ap (λ (z : Machine). z.sizes) b.begins
-
-  pub slot_after : HasPagesOfNetwork m → HasPagesOfNetwork next
-  slot_after slot =
-      ap (λ (z : Sizes). z.checkpoint_pages) sizes_after ∙ (slot ∙ ap (pages_for 1023) (sym (same_arcs m.base next.base left_commands b.network_is)))

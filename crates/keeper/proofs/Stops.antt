@@ -1,7 +1,7 @@
 -- A turn with a stop, in one life of a run, has cut the disk of that life.
 use Rattle.std.specs.Prelude.{◌≢◌}
 use Rattle.std.proofs.Common.{◌≡◌, ◌⊎◌, ◌≤◌, ℕ, List, [], ◌∷◌, ◌++◌, Option, Some, refl, ◌∙◌, ap, subst, append_assoc}
-use Rattle.roadnet.specs.declared.commands.Command.{Command}
+use Rattle.roadnet.specs.declared.groups.Group.{Group}
 use Rattle.roadnet.specs.declared.refusals.Refusal.TheVariants.{Device}
 use Rattle.disk.specs.declared.stoppable.Pick.{Pick}
 use Rattle.disk.specs.declared.stoppable.Pick.TheVariants.{Old}
@@ -10,7 +10,7 @@ use Rattle.machine.specs.declared.events.Event.{Event}
 use Rattle.machine.specs.declared.events.Event.TheVariants.{Submit, Flush, Checkpoint, CheckpointStep, Task, Publish, Ask, Stop, StopWithin}
 use Rattle.machine.specs.declared.events.Replied.{Replied}
 use Rattle.machine.specs.declared.events.Replied.TheVariants.{Refused, Opened, Stopped}
-use Rattle.machine.specs.Machine.{Machine, IsState, commands_to}
+use Rattle.machine.specs.Machine.{Machine, IsState, groups_to}
 use Rattle.machine.specs.LifeInRun.{within}
 use Rattle.machine.specs.Lives.{StopComes}
 use Rattle.keeper.specs.Cutting.{HoldsFor, WasArmed, StopsOn, call_of, StandsAsTold, HasCut, TurnsTo, TurnsLast, picks_of}
@@ -36,7 +36,7 @@ stops_on Has armed moment old m (Ask query) w call replies last disk is names co
 stops_on Has armed moment old m Stop w call replies last disk is names comes was alone own = cc
 
 module _ {D : Type 0} (honest : D → Type 0) (content : D → List ℕ) (left : D → List ℕ → Type 0) (armed : D → Option ℕ) (moment : D → ℕ) (Cuts : List Pick → D → List ℕ → Type 0)
-    (first : First) (events : List (Event Pick)) (replies : List Replied) (history : List Command) (m : Machine) (r : HasRun first events replies history m) (mid : Machine) (l : Later m mid) where
+    (first : First) (events : List (Event Pick)) (replies : List Replied) (history : List Group) (m : Machine) (r : HasRun first events replies history m) (mid : Machine) (l : Later m mid) where
   abbrev pub Has : D → Machine → Type 0
   Has = HoldsFor honest content left
 
@@ -68,8 +68,8 @@ module _ {D : Type 0} (honest : D → Type 0) (content : D → List ℕ) (left :
   module _ (event : Event Pick) (w : Writing) (picks : List Pick) (is : within_of event ≡ Some w) (call : ℕ) (names : call_of event ≡ Some call) (taken_of : picks_of event ≡ Some picks) (replies' : List Replied) (t : Told (in_this m) (in_this mid) w replies replies')
       (disk : D) (h : Has disk mid) (cut : List ℕ) (taken : Cuts picks disk cut) (was : WasArmed Has armed moment call (in_this m) disk)
       (alone : (last : Replied) → t.told ++ last ∷ [] ≡ last ∷ [] → armed disk ≡ Some 0) (own : (last : Replied) → t.told ++ last ∷ [] ≡ Refused Device ∷ last ∷ [] → armed disk ≢ Some 0) where
-    pub within_turn : (next : Machine) (now : List Replied) (history' : List Command) (began : List ℕ) → BeginsAfter mid next → StandsAsTold mid (Opened next.base_version) cut → now ≡ replies' ++ Opened next.base_version ∷ []
-        → history' ≡ history ++ commands_to mid next.base_version → began ≡ cut → TurnsTo Has armed moment Cuts (in_this m) event replies now (within first.network first.version history' next) began
+    pub within_turn : (next : Machine) (now : List Replied) (history' : List Group) (began : List ℕ) → BeginsAfter mid next → StandsAsTold mid (Opened next.base_version) cut → now ≡ replies' ++ Opened next.base_version ∷ []
+        → history' ≡ history ++ groups_to mid next.base_version → began ≡ cut → TurnsTo Has armed moment Cuts (in_this m) event replies now (within first.network first.version history' next) began
     within_turn next now history' began b stands told left_of same =
         let final : Replied = Opened next.base_version in
         rw (left_of, same) (record {
@@ -92,7 +92,7 @@ module _ {D : Type 0} (honest : D → Type 0) (content : D → List ℕ) (left :
     }
 
 module _ {D : Type 0} (honest : D → Type 0) (content : D → List ℕ) (left : D → List ℕ → Type 0) (armed : D → Option ℕ) (moment : D → ℕ) (Cuts : List Pick → D → List ℕ → Type 0)
-    (first : First) (events : List (Event Pick)) (replies : List Replied) (history : List Command) (m : Machine) (r : HasRun first events replies history m) (s : IsState m)
+    (first : First) (events : List (Event Pick)) (replies : List Replied) (history : List Group) (m : Machine) (r : HasRun first events replies history m) (s : IsState m)
     (disk : D) (h : HoldsFor honest content left disk m) (cut : List ℕ) (taken : Cuts (Old ∷ []) disk cut) where
   -- ---- between two calls
   abbrev pub HasNow : D → Machine → Type 0
@@ -101,8 +101,8 @@ module _ {D : Type 0} (honest : D → Type 0) (content : D → List ℕ) (left :
   abbrev pub in_now : Machine → Machine
   in_now x = within first.network first.version history x
 
-  pub stop_turn : (next : Machine) (now : List Replied) (history' : List Command) (began : List ℕ) → BeginsAfter m next → StandsAsTold m (Opened next.base_version) cut → now ≡ replies ++ Opened next.base_version ∷ []
-      → history' ≡ history ++ commands_to m next.base_version → began ≡ cut → TurnsTo HasNow armed moment Cuts (in_now m) Stop replies now (within first.network first.version history' next) began
+  pub stop_turn : (next : Machine) (now : List Replied) (history' : List Group) (began : List ℕ) → BeginsAfter m next → StandsAsTold m (Opened next.base_version) cut → now ≡ replies ++ Opened next.base_version ∷ []
+      → history' ≡ history ++ groups_to m next.base_version → began ≡ cut → TurnsTo HasNow armed moment Cuts (in_now m) Stop replies now (within first.network first.version history' next) began
   stop_turn next now history' began b stands told left_of same =
       rw (left_of, same) (record {
         told = Opened next.base_version ∷ [];

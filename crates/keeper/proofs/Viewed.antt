@@ -1,7 +1,7 @@
 -- The networks of the view and of the task stay those of the machine's versions.
 use Rattle.std.proofs.Common.{◌≡◌, ℕ, ◌≤◌, Option, Some, None, Result, Ok, Err, refl, sym, ◌∙◌, ap, subst, arith}
 use Rattle.std.specs.Prelude.{IfSome, IfOk, OnErr, option_map}
-use Rattle.roadnet.specs.declared.commands.Command.{Command}
+use Rattle.roadnet.specs.declared.groups.Group.{Group}
 use Rattle.roadnet.specs.declared.refusals.Refusal.{Refusal}
 use Rattle.roadnet.specs.Net.{Net}
 use Rattle.machine.specs.declared.calls.Ticket.{Ticket}
@@ -48,12 +48,12 @@ module _ (shown : ℕ) (out : Option ℕ) (old new : Machine) (net : Net) (task 
   abbrev is : Machine
   is = with_views new shown out
 
-  pub viewed_submit : (c : Command) (r : Result Ticket Refusal) → Submits old c r new → IsViewed is net task
+  pub viewed_submit : (c : Group) (r : Result Ticket Refusal) → Submits old c r new → IsViewed is net task
   viewed_submit c r h =
       let step = lift_submit shown out old new c r h in
       viewed_later was is net task (states_kept was is (Submitted c r) k.state step) (later_by_step was is (Submitted c r) k.state step) refl refl k
 
-  pub viewed_accepted : (c : Command) (r : Result Ticket Refusal) → IfOk r (λ ticket. Submits old c (Ok ticket) new) → OnErr r (new ≡ old) → IsViewed is net task
+  pub viewed_accepted : (c : Group) (r : Result Ticket Refusal) → IfOk r (λ ticket. Submits old c (Ok ticket) new) → OnErr r (new ≡ old) → IsViewed is net task
   viewed_accepted c (Ok ticket) h same = viewed_submit c (Ok ticket) h
   viewed_accepted c (Err refusal) h same = subst (λ (m : Machine). IsViewed (with_views m shown out) net task) (sym same) k
 

@@ -1,8 +1,5 @@
 -- Steps of a checkpoint over a keeper's disk, one after the other.
-use Rattle.std.proofs.Common.{ℕ, ◌*◌, ◌<◌, ◌≤◌, List, subst, arith}
-use Rattle.std.proofs.Math.Nat.{div-le_of_le-mul}
-use Rattle.pages.specs.declared.header.Header.{Header}
-use Rattle.pages.specs.Layout.{word_pages}
+use Rattle.std.proofs.Common.{ℕ, List, subst}
 use Rattle.machine.specs.Machine.{Machine}
 use Rattle.machine.specs.Lives.{GoesOn}
 use Rattle.machine.proofs.Checkpoints.{goes_but}
@@ -13,6 +10,3 @@ pub durable_before : (n : ℕ) (old mid : Machine) → GoesOn n old mid → (con
 durable_before n old mid g content held =
     let there : IsDurableIn (record old { checkpoint = mid.checkpoint }) content = subst (λ (m : Machine). IsDurableIn m content) (goes_but n old mid g) held in
     record { version = there.version; left = there.left; network = there.network; network_is = there.network_is; stands = there.stands }
-
-pub few_pages : (h : Header) → h.arcs ≤ 67108864 → word_pages h < 64 * 1026
-few_pages h few = let most : word_pages h ≤ 65602 = div-le_of_le-mul 1023 (omega (arith, few)) in omega (arith, most)

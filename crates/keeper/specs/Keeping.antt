@@ -1,7 +1,7 @@
 -- What a keeper is to its callers, and what its disk holds.
 use Rattle.std.specs.Prelude.{◌≡◌, ℕ, Bool, false, List, Option, Some, IfSome, option_map, if◌then◌else◌}
-use Rattle.roadnet.specs.declared.commands.Command.{Command}
-use Rattle.roadnet.specs.Batches.{changed_by}
+use Rattle.roadnet.specs.declared.groups.Group.{Group}
+use Rattle.roadnet.specs.Batches.{changed_by_all}
 use Rattle.roadnet.specs.Net.{Net}
 use Rattle.disk.specs.Contents.{Only}
 use Rattle.storefile.specs.StoreFile.{StandsTidyFor}
@@ -19,9 +19,9 @@ sizes_of store = record { journal_pages = store.journal_pages; checkpoint_pages 
 abbrev pub as_checkpoint : Progress → Checkpoint
 as_checkpoint p = record { version = p.version; left = p.left; flushed = p.committed }
 
--- The machine of a ledger of this store, or of a keeper of it: its base network, the version that it was opened at, the commands accepted since, the version that
--- is shown, whether a write failed, how many commands the last write had, and the version of the task that is out.
-abbrev pub machine_of : {D : Type 0} → StoreState D → Net → ℕ → List Command → ℕ → Bool → ℕ → Option ℕ → Machine
+-- The machine of a ledger of this store, or of a keeper of it: its base network, the version that it was opened at, the groups accepted since, the version that
+-- is shown, whether a write failed, how many groups the last write had, and the version of the task that is out.
+abbrev pub machine_of : {D : Type 0} → StoreState D → Net → ℕ → List Group → ℕ → Bool → ℕ → Option ℕ → Machine
 machine_of store base opened accepted shown broken written task = record {
   sizes = sizes_of store;
   base = base;
@@ -37,9 +37,9 @@ machine_of store base opened accepted shown broken written task = record {
   checkpoint = option_map as_checkpoint store.going;
 }
 
--- the base network with all accepted commands carried out
+-- the base network with all accepted groups carried out
 abbrev pub latest_network : Machine → Net
-latest_network m = changed_by m.base m.accepted
+latest_network m = changed_by_all m.base m.accepted
 
 -- a ledger's machine, in which no task is out and the version is shown that it was opened at; the disk, and the disk as it was when its
 -- store was made or opened
@@ -67,12 +67,12 @@ pub record Keeping (D : Type 0) : Type 0 where
   pub width : ℕ
   pub given : D
 
--- The content has the machine's number of journal pages and stands, tidy, for what is durable, with the commands in flight or without.
+-- The content has the machine's sizes and stands, tidy, for what is durable, with the groups in flight or without.
 abbrev pub IsDurableIn : Machine → List ℕ → Type 0
-IsDurableIn m content = HoldsDurable (StandsTidyFor m.sizes.journal_pages) m content
+IsDurableIn m content = HoldsDurable (StandsTidyFor m.sizes.journal_pages m.sizes.checkpoint_pages) m content
 
 -- What a disk of this content, of which a stop may leave these, holds for a keeper. Each content that may be left stands for what is
--- durable, with the commands in flight or without. Where nothing is broken that is the content alone.
+-- durable, with the groups in flight or without. Where nothing is broken that is the content alone.
 pub record Holds (content : List ℕ) (left : List ℕ → Type 0) (m : Machine) : Type 0 where
   pub only : m.broken ≡ false → Only content left
   pub each_left : (c : List ℕ) → left c → IsDurableIn m c
@@ -89,6 +89,6 @@ WhenSound honest content k P = CameTidy honest content k.given → k.machine.bro
 abbrev pub OfSoundLedger : {D : Type 0} → (D → Type 0) → (D → List ℕ) → LedgerState D → Type 0 → Type 0
 OfSoundLedger honest content k P = CameTidy honest content k.given → k.machine.broken ≡ false → P
 
--- a content that a flush may leave: a flush that failed may have its commands in flight
+-- a content that a flush may leave: a flush that failed may have its groups in flight
 abbrev pub IsLeftByFlush : Machine → List ℕ → Type 0
 IsLeftByFlush m content = IsDurableIn (failed m (batch m)) content

@@ -3,6 +3,8 @@ use Rattle.std.specs.Prelude.{ℕ, Option, None, Some, Result, Ok, Err}
 use Rattle.std.specs.Result.{result_map_both}
 use Rattle.roadnet.specs.declared.refusals.Refusal.{Refusal}
 use Rattle.roadnet.specs.declared.refusals.Refusal.TheVariants.{OutOfMemory}
+use Rattle.roadnet.specs.declared.groups.Group.{Group}
+use Rattle.machine.specs.declared.calls.Ticket.{Ticket}
 use Rattle.store.specs.declared.parts.Part.{Part}
 use Rattle.store.specs.declared.parts.Part.TheVariants.{Going, Done}
 
@@ -15,6 +17,10 @@ done_version (Done version) = Some version
 abbrev pub told_as : Result Part Refusal → Result (Option ℕ) Refusal
 told_as (Ok part) = Ok (done_version part)
 told_as (Err refusal) = Err refusal
+
+-- the ticket of a group that was accepted as this number
+abbrev pub ticket_for : Group → Result ℕ Refusal → Result Ticket Refusal
+ticket_for group = result_map_both (λ number. record { number = number; group = group }) (λ e. e)
 
 -- the answer of a call, taken so
 abbrev pub result_map : {T U E : Type 0} → (T → U) → Result T E → Result U E

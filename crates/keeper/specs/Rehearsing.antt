@@ -1,7 +1,7 @@
 -- A run of a script's events over the lives of a keeper, as far as it has come.
 use Rattle.std.specs.Prelude.{◌≡◌, ℕ, ◌+◌, ◌≤◌, Bool, true, false, List, length, map, Option, None, Some, IfSome, option_map}
 use Rattle.std.specs.List.{flat_map}
-use Rattle.roadnet.specs.declared.commands.Command.{Command}
+use Rattle.roadnet.specs.declared.groups.Group.{Group}
 use Rattle.roadnet.specs.Net.{Net}
 use Rattle.roadnet.specs.Step.{after}
 use Rattle.roadnet.specs.declared.refusals.Refusal.{Refusal}
@@ -15,7 +15,7 @@ use Rattle.machine.specs.Machine.{Sizes, Machine, IsState, start, most_versions,
 use Rattle.machine.specs.Calls.{IsLeft}
 use Rattle.machine.specs.LifeInRun.{within}
 use Rattle.machine.specs.Lives.{Turn, Passes, LivesOn}
-use Rattle.store.specs.State.{StoreState, CameTidy, checkpoint_pages_of}
+use Rattle.store.specs.State.{StoreState, CameTidy}
 use Rattle.keeper.specs.Keeping.{Keeping, IsDurableIn, sizes_of}
 
 -- an event with a stop
@@ -37,10 +37,6 @@ pub record IsLife (m : Machine) (opened : ℕ) (aside : Option (ℕ × Net)) : T
   pub task_is : m.task ≡ option_map (λ view. view.0) aside
   pub task_network : IfSome aside (λ view. network_at m view.0 ≡ Some view.1)
 
--- the checkpoint of this machine's store writes as many pages as its network's arcs need
-abbrev pub HasPagesOfNetwork : Machine → Type 0
-HasPagesOfNetwork m = m.sizes.checkpoint_pages ≡ checkpoint_pages_of m.base
-
 -- the store that a run began with
 pub record First : Type 0 where
   pub sizes : Sizes
@@ -52,8 +48,8 @@ pub record First : Type 0 where
 abbrev pub first_of : {D : Type 0} → StoreState D → First
 first_of store = record { sizes = sizes_of store; network = store.network; version = store.version; unchecked = store.unchecked }
 
--- These events were replied to so. The lives before left these commands, and the life now has this machine.
-pub record HasRun {P : Type 0} (first : First) (events : List (Event P)) (replies : List Replied) (history : List Command) (m : Machine) : Type 0 where
+-- These events were replied to so. The lives before left these groups, and the life now has this machine.
+pub record HasRun {P : Type 0} (first : First) (events : List (Event P)) (replies : List Replied) (history : List Group) (m : Machine) : Type 0 where
   pub turns : List (Turn P)
   pub events_are : events ≡ map (λ turn. turn.0) turns
   pub replies_are : replies ≡ flat_map (λ turn. turn.1) turns
@@ -63,23 +59,22 @@ pub record HasRun {P : Type 0} (first : First) (events : List (Event P)) (replie
   pub there : after first.network history ≡ Some m.base
   pub begun : m.base_version ≡ first.version + length history
   pub sizes_are : m.sizes ≡ first.sizes
-  pub pages : HasPagesOfNetwork m
 
--- A run so far, of a store that came tidy: these events were replied to so, the lives before left these commands, and the keeper of the life
+-- A run so far, of a store that came tidy: these events were replied to so, the lives before left these groups, and the keeper of the life
 -- now came tidy too.
-pub record IsGoing {D : Type 0} {P : Type 0} (honest : D → Type 0) (content : D → List ℕ) (first : First) (events : List (Event P)) (replies : List Replied) (history : List Command) (keeper : Keeping D) : Type 0 where
+pub record IsGoing {D : Type 0} {P : Type 0} (honest : D → Type 0) (content : D → List ℕ) (first : First) (events : List (Event P)) (replies : List Replied) (history : List Group) (keeper : Keeping D) : Type 0 where
   pub came : CameTidy honest content keeper.given
   pub run : HasRun first events replies history keeper.machine
 
 -- The run of these events has come to this, and a stop now leaves of the disk what its last state says.
-abbrev pub HasLived : {P : Type 0} → (List ℕ → Type 0) → First → List (Event P) → List Replied → Option Refusal → List Command → Type 0
+abbrev pub HasLived : {P : Type 0} → (List ℕ → Type 0) → First → List (Event P) → List Replied → Option Refusal → List Group → Type 0
 HasLived left first events replies ended history =
-    LivesOn (StandsTidyFor first.sizes.journal_pages) left first.sizes first.network first.version first.unchecked events replies ended history
+    LivesOn (StandsTidyFor first.sizes.journal_pages first.sizes.checkpoint_pages) left first.sizes first.network first.version first.unchecked events replies ended history
 
--- A life that had this machine has been stopped. It leaves these commands and numbers, and the disk this content alone.
-pub record HasHalted (m : Machine) (commands : List Command) (opened durable : ℕ) (content : List ℕ) (left : List ℕ → Type 0) : Type 0 where
+-- A life that had this machine has been stopped. It leaves these groups and numbers, and the disk this content alone.
+pub record HasHalted (m : Machine) (groups : List Group) (opened durable : ℕ) (content : List ℕ) (left : List ℕ → Type 0) : Type 0 where
   pub state : IsState m
-  pub commands_are : commands ≡ m.accepted
+  pub groups_are : groups ≡ m.accepted
   pub opened_is : opened ≡ m.base_version
   pub durable_is : durable ≡ m.durable
   pub held : IsDurableIn m content

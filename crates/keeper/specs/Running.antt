@@ -1,6 +1,6 @@
 -- What the calls of a run do to it: it goes on with one event more, or ends.
 use Rattle.std.specs.Prelude.{◌≡◌, ◌⊎◌, ℕ, List, [], ◌∷◌, ◌++◌, Option, Some, Result, IfOk, IfErr, MatchResult}
-use Rattle.roadnet.specs.declared.commands.Command.{Command}
+use Rattle.roadnet.specs.declared.groups.Group.{Group}
 use Rattle.roadnet.specs.declared.refusals.Refusal.{Refusal}
 use Rattle.roadnet.specs.declared.refusals.Refusal.TheVariants.{OutOfMemory, Device}
 use Rattle.disk.specs.declared.disk.Disk.{Ghosts}
@@ -11,7 +11,7 @@ use Rattle.machine.specs.declared.events.Event.{Event}
 use Rattle.machine.specs.declared.events.Replied.{Replied}
 use Rattle.machine.specs.declared.events.Replied.TheVariants.{Refused}
 use Rattle.machine.specs.declared.events.Writing.{Writing}
-use Rattle.machine.specs.Machine.{Machine, IsState, commands_to}
+use Rattle.machine.specs.Machine.{Machine, IsState, groups_to}
 use Rattle.machine.specs.Headline.{ToldForGood}
 use Rattle.machine.specs.LifeInRun.{within}
 use Rattle.keeper.specs.declared.rehearsing.Rehearsal.{Rehearsal}
@@ -20,7 +20,7 @@ use Rattle.keeper.specs.declared.halted.Halted.{Halted}
 use Rattle.keeper.specs.Cutting.{TurnsTo, TurnsLast}
 use Rattle.keeper.specs.Failures.{failures_at_end, FailsAsTold, EndsAsTold}
 use Rattle.keeper.specs.Keeping.{IsDurableIn}
-use Rattle.keeper.specs.Rehearsing.{within_of, First, HasPagesOfNetwork, IsGoing, HasLived, HasHalted}
+use Rattle.keeper.specs.Rehearsing.{within_of, First, IsGoing, HasLived, HasHalted}
 
 -- the reply to an event that writes is told, or it is the disk's failure and is not
 abbrev pub IsToldOrFailed : List Replied → Replied → List Replied → Type 0
@@ -32,23 +32,27 @@ IsPassingEnd ended = (ended ≡ Some OutOfMemory) ⊎ (ended ≡ Some Device)
 
 -- P of each machine whose life left what is durable on this disk
 abbrev pub OfEachLeft : {D : Type 0} → (D → Type 0) → (D → List ℕ) → D → (Machine → Type 0) → Type 0
-OfEachLeft honest content disk P = (m : Machine) → IsState m → HasPagesOfNetwork m → honest disk → IsDurableIn m (content disk) → P m
+OfEachLeft honest content disk P = (m : Machine) → IsState m → honest disk → IsDurableIn m (content disk) → P m
 
 -- a life of this machine was halted so
 abbrev pub HasHaltedSo : {D : Type 0} {s : StoppableGhosts D} {d : Ghosts D} → (D → List ℕ) → (D → List ℕ → Type 0) → Machine → Halted D s d → Type 0
-HasHaltedSo content left m h = HasHalted m h.commands.items h.opened h.durable (content h.disk) (left h.disk)
+HasHaltedSo content left m h = HasHalted m h.groups.items h.opened h.durable (content h.disk) (left h.disk)
 
 -- P of each machine whose life was halted so
 abbrev pub OfEachHalted : {D : Type 0} {s : StoppableGhosts D} {d : Ghosts D} → (D → Type 0) → (D → List ℕ) → (D → List ℕ → Type 0) → Halted D s d → (Machine → Type 0) → Type 0
 OfEachHalted honest content left h P = (m : Machine) → honest h.disk → HasHaltedSo content left m h → P m
 
--- the run goes on behind a life of this machine: the history has that life's commands up to where the next one begins
-abbrev pub Continues : {D : Type 0} {s : StoppableGhosts D} {d : Ghosts D} → Machine → List Command → Run D s d → Type 0
-Continues m history run = run.history.items ≡ history ++ commands_to m run.life.keeper.machine.base_version
+-- the run goes on behind a life of this machine: the history has that life's groups up to where the next one begins
+abbrev pub Continues : {D : Type 0} {s : StoppableGhosts D} {d : Ghosts D} → Machine → List Group → Run D s d → Type 0
+Continues m history run = run.history.items ≡ history ++ groups_to m run.life.keeper.machine.base_version
 
 -- each content that a stop may leave of this disk has what is durable in this machine
 abbrev pub LeavesDurable : {D : Type 0} → (D → List ℕ → Type 0) → D → Machine → Type 0
 LeavesDurable left disk m = (c : List ℕ) → left disk c → IsDurableIn m c
+
+-- the width that was given to the run, if one was
+abbrev pub width_of : {D : Type 0} → Rehearsal D → Option ℕ
+width_of run = run.delta
 
 -- the disk's count of failures stays, but for a failure that ends the run
 abbrev pub FailsAtEnd : {D : Type 0} {s : StoppableGhosts D} {d : Ghosts D} → (D → ℕ) → D → Result (Run D s d) (Rehearsal D) → Type 0
@@ -68,7 +72,7 @@ HasLivedTo left first events ended = HasLived (left ended.disk) first events end
 -- what was told of these events stays, whatever a stop leaves
 abbrev pub HasToldForGood : {D : Type 0} → (D → List ℕ → Type 0) → First → List (Event Pick) → Rehearsal D → Type 0
 HasToldForGood left first events ended =
-    ToldForGood (StandsTidyFor first.sizes.journal_pages) (left ended.disk) first.network first.version events ended.replies.items ended.history.items
+    ToldForGood (StandsTidyFor first.sizes.journal_pages first.sizes.checkpoint_pages) (left ended.disk) first.network first.version events ended.replies.items ended.history.items
 
 -- the run has come to this with these events
 abbrev pub HasCome : {D : Type 0} {s : StoppableGhosts D} {d : Ghosts D} → (D → Type 0) → (D → List ℕ) → First → List (Event Pick) → Run D s d → Type 0
@@ -92,7 +96,7 @@ FailsWith failures event run result =
     → MatchResult result (λ next. FailsAsTold (done ++ event ∷ []) next.replies.items before (failures next.life.keeper.disk))
     (λ ended. (rest : List (Event Pick)) → EndsAsTold ((done ++ event ∷ []) ++ rest) ended.replies.items ended.ended before (failures ended.disk))
 
--- the state of the run: that of its life, behind the commands that the lives before left
+-- the state of the run: that of its life, behind the groups that the lives before left
 abbrev pub state_in : {D : Type 0} {s : StoppableGhosts D} {d : Ghosts D} → First → Run D s d → Machine
 state_in first run = within first.network first.version run.history.items run.life.keeper.machine
 

@@ -7,7 +7,7 @@ ghost use Rattle.keeper.specs.Keeping.{Holds, sizes_of};
 
 use crate::ledgers::Ledger;
 use disk::{Disk, Stoppable};
-use roadnet::{Command, OutOfMemory, Outline};
+use roadnet::{Group, OutOfMemory, Outline};
 use std::alloc::Global;
 use std::snapshot::Snapshot;
 use store::Store;
@@ -34,13 +34,15 @@ impl<D: Disk> Ledger<D> {
             opened,
             history: Vec::new(alloc),
             accepted,
+            of_life: 0,
+            pending: 0,
             broken: false,
             written: Snapshot::of(&0),
         })
     }
 
-    /// The commands accepted in this life, in order, and the disk, of which no call is made. It takes no memory.
-    pub fn close(self) -> (Vec<Command>, D)
+    /// The groups accepted in this life, in order, and the disk, of which no call is made. It takes no memory.
+    pub fn close(self) -> (Vec<Group>, D)
         ensures history { result.0.items ≡ self.machine.accepted }
         ensures disk { result.1 ≡ self.disk }
         ensures honest { CameTidy D.honest D.content self.given → D.honest self.disk }

@@ -18,8 +18,8 @@ use roadnet::Refusal;
 use std::snapshot::Snapshot;
 use store::Part;
 
-/// A checkpoint has at most 65,601 pages to write: so many steps of 64 end each.
-const MOST_STEPS: u32 = 1026;
+/// A checkpoint has at most 196,930 pages to write: so many steps of 64 end each.
+const MOST_STEPS: u32 = 3078;
 
 impl<D: Disk> Ledger<D> {
     /// A step of a checkpoint of the durable network, of so many pages, 1 to 64. Answers `Done` with the version that the checkpoint holds,
@@ -29,7 +29,7 @@ impl<D: Disk> Ledger<D> {
     /// Refused is a broken store (45); then want of memory (11), where one would begin, before any call of the disk; then a disk that failed
     /// (43), after which the store is broken. After each other refusal nothing is changed.
     ///
-    /// A slot of `examples/six.gr` has one word page: with version 1 durable a step answers `Done(1)`, and no page is unchecked then. Where it has
+    /// A slot of `examples/six.gr` has one page behind its head, where it has no room for more arcs: with version 1 durable a step answers `Done(1)`, and no page is unchecked then. Where it has
     /// three, a step of 1 page answers `Going`, and one of 64 after it `Done(1)`, also where version 2 has become durable in between.
     pub fn checkpoint_step(&mut self, pages: u32) -> Result<Part, Refusal>
         requires some { 1 ≤ pages }

@@ -1,4 +1,4 @@
-// What a ledger tells of itself: numbers of its machine, its commands and network, and receipts. None of these takes memory.
+// What a ledger tells of itself: numbers of its machine, its groups and network, and receipts. None of these takes memory.
 ghost use Rattle.std.specs.Prelude.{◌≡◌, Some};
 ghost use Rattle.machine.specs.Machine.{IsState, network_at, pending};
 ghost use Rattle.machine.specs.Calls.{IsTicketOf, receipt_for};
@@ -8,14 +8,14 @@ ghost use Rattle.keeper.specs.Keeping.{Holds};
 use crate::ledgers::Ledger;
 use disk::Disk;
 use machine::{Receipt, Ticket};
-use roadnet::{Command, Network, Refusal};
+use roadnet::{Group, Network, Refusal};
 
 impl<D: Disk> Ledger<D> {
-    /// How many accepted commands are not durable: at most 4,096.
+    /// How many commands the groups have that are accepted and not durable: at most 4,096.
     pub fn pending(&self) -> u64
         ensures { result ≡ pending self.now.machine }
     {
-        self.opened + self.history.len() as u64 - self.store.version()
+        self.pending
     }
 
     /// The versions up to this one are durable. Where the ledger's store came tidy, over a disk that keeps the disk model, the disk holds
@@ -43,8 +43,8 @@ impl<D: Disk> Ledger<D> {
         self.broken
     }
 
-    /// The commands accepted in this life, in order.
-    pub fn commands(&self) -> &[Command]
+    /// The groups accepted in this life, in order.
+    pub fn groups(&self) -> &[Group]
         ensures { result.now ≡ self.now.machine.accepted }
     {
         &self.history
@@ -64,24 +64,22 @@ impl<D: Disk> Ledger<D> {
         self.store.journal_pages()
     }
 
-    /// A receipt, where the ticket's command is durable: no stop takes it back. The ticket is one of this life.
+    /// A receipt, where the ticket's group is durable: no stop takes it back. The ticket is one of this life.
     ///
-    /// Refused is a number that is not durable: with 45 where the store is broken, else with 54.
+    /// Refused is a number that is not durable: with 45 where the store is broken, else with 54. The ticket is handed back then.
     ///
-    /// Of the first ticket of a new store it is `NotYet` before a flush, and behind it the receipt of number 1 with its command.
-    pub fn receipt(&self, ticket: &Ticket) -> Result<Receipt, Refusal>
-        requires { IsTicketOf self.now.machine ticket.now }
-        ensures { result ≡ receipt_for self.now.machine ticket.now }
+    /// Of the first ticket of a new store it is `NotYet` before a flush, and behind it the receipt of number 1 with its group.
+    pub fn receipt(&self, ticket: Ticket) -> Result<Receipt, (Refusal, Ticket)>
+        requires { IsTicketOf self.now.machine ticket }
+        ensures { result ≡ receipt_for self.now.machine ticket }
     {
         if ticket.number <= self.store.version() {
-            return Ok(Receipt {
-                number: ticket.number,
-                command: ticket.command,
-            });
+            let Ticket { number, group } = ticket;
+            return Ok(Receipt { number, group });
         }
         if self.broken {
-            return Err(Refusal::Broken);
+            return Err((Refusal::Broken, ticket));
         }
-        Err(Refusal::NotYet)
+        Err((Refusal::NotYet, ticket))
     }
 }

@@ -1,17 +1,49 @@
-// Pending commands made durable.
-ghost use Rattle.std.specs.Prelude.{◌≡◌, ◌≢◌, ◌↔◌, true, None, Some, IfErr, MatchResult};
+// Pending groups made durable.
+ghost use Rattle.std.specs.Prelude.{◌≡◌, ◌≢◌, ◌↔◌, ◌≤◌, ◌-◌, true, length, take, None, Some, IfErr, MatchResult};
 ghost use Rattle.disk.specs.Contents.{Rose};
 ghost use Rattle.pagereader.specs.Outcomes.{failures_told};
 ghost use Rattle.disk.specs.Moments.{LeavesOnly, AddsNothing};
 ghost use Rattle.roadnet.specs.declared.refusals.Refusal.TheVariants.{Device as device};
+ghost use Rattle.roadnet.specs.Groups.{count_of};
+ghost use Rattle.machine.specs.Machine.{fitting, most_of_page};
 ghost use Rattle.machine.specs.Calls.{Flushes, refusal_of_flush};
 ghost use Rattle.keeper.specs.Keeping.{IsLeftByFlush, OfSoundLedger};
 
 use crate::ledgers::{Ledger, has_failed};
 use disk::Disk;
 use pages::MOST_COMMANDS;
-use roadnet::Refusal;
+use roadnet::{Group, Refusal};
 use std::snapshot::Snapshot;
+
+/// How many of these groups stand in front and fit a page of the journal, and how many commands they have.
+fn front(groups: &[Group]) -> (usize, u64)
+    ensures count { result.0 ≡ fitting most_of_page groups.now }
+    ensures commands { result.1 ≡ count_of (take result.0 groups.now) }
+    ensures within { result.0 ≤ length groups.now }
+{
+    let mut count = 0;
+    let mut room = MOST_COMMANDS;
+    for group in groups {
+        let size = group.commands().len();
+        if size > room {
+            return (count, (MOST_COMMANDS - room) as u64);
+        }
+        room -= size;
+        count += 1;
+    }
+    (count, (MOST_COMMANDS - room) as u64)
+}
+
+/// How many commands are pending behind a write of so many of them.
+fn still_pending(written: &Result<u64, Refusal>, pending: u64, commands: u64) -> u64
+    requires { commands ≤ pending }
+    ensures { MatchResult written.now (λ _. result ≡ pending - commands) (λ _. result ≡ pending) }
+{
+    match written {
+        Ok(_) => pending - commands,
+        Err(_) => pending,
+    }
+}
 
 impl<D: Disk> Ledger<D> {
     /// For what a flush would be refused, memory and the disk apart.
@@ -30,14 +62,15 @@ impl<D: Disk> Ledger<D> {
         Ok(())
     }
 
-    /// Makes the first pending commands durable, at most 253, as one page of the journal: all of them or none, whatever a stop does at any
-    /// moment. Answers the durable version.
+    /// Makes the first pending groups durable, the longest front of them with at most 253 commands, as one page of the journal: all of them or
+    /// none, whatever a stop does at any moment. Answers the durable version.
     ///
     /// Refused, the first that holds, is a broken store (45), that nothing is pending (53), and a journal without a free page (44); then want of
     /// memory (11), before any call of the disk; then a disk that failed (43), after which the store is broken. After each other refusal
     /// nothing is changed.
     ///
-    /// On a new store, with one command accepted it answers 1, and a second call is `NothingPending`; with 254 it answers 253, and then 254.
+    /// On a new store, with one group accepted it answers 1, and a second call is `NothingPending`; with 254 of one command it answers 253, and then
+    /// 254; with one of two commands and one of 252 it answers 1, and then 2.
     pub fn flush(&mut self) -> Result<u64, Refusal>
         ensures step { Flushes self.old.machine result self.new.machine }
         ensures same { IfErr result (λ refusal. refusal ≢ device → self.new ≡ self.old) }
@@ -52,10 +85,13 @@ impl<D: Disk> Ledger<D> {
     {
         self.may_flush()?;
         let first = (self.store.version() - self.opened) as usize;
-        let count = (self.history.len() - first).min(MOST_COMMANDS);
+        let (count, commands) = front(&self.history[first..]);
         self.written = Snapshot::of(&count);
-        let written = self.store.commit(&self.history[first..first + count]);
+        let written = self
+            .store
+            .commit_groups(&self.history[first..first + count]);
         self.broken = has_failed(&written);
+        self.pending = still_pending(&written, self.pending, commands);
         written
     }
 }

@@ -4,15 +4,15 @@ ghost use Rattle.rows.specs.Kept.{IsWidth};
 
 use disk::{Disk, Stoppable};
 use machine::Replied;
-use roadnet::Command;
+use roadnet::Group;
 
 /// A run whose disk is stopped.
 #[derive(Drop)]
 pub(crate) struct Halted<D: Stoppable> {
-    pub(crate) history: Vec<Command>,
+    pub(crate) history: Vec<Group>,
     pub(crate) replies: Vec<Replied>,
-    /// The commands of the life that ended.
-    pub(crate) commands: Vec<Command>,
+    /// The groups of the life that ended.
+    pub(crate) groups: Vec<Group>,
     /// The version that it was opened at, and the one that was durable.
     pub(crate) opened: u64,
     pub(crate) durable: u64,

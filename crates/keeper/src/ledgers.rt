@@ -3,27 +3,31 @@ ghost use Rattle.std.specs.Bool.{Decides};
 ghost use Rattle.roadnet.specs.declared.refusals.Refusal.TheVariants.{Device as device};
 
 use disk::Disk;
-use roadnet::{Command, Network, Outline, Refusal};
+use roadnet::{Group, Network, Outline, Refusal};
 use std::marker::Model;
 use std::snapshot::Snapshot;
 use store::Store;
 
-/// The ledger of a store: the commands accepted since it was opened, of which the first are durable. It computes no row and shows nothing.
+/// The ledger of a store: the groups of commands accepted since it was opened, of which the first are durable. It computes no row and shows
+/// nothing.
 ///
 /// Beyond the store with its network it takes 1 byte an arc and 4 a landmark, for the outline of the network that commands are judged
-/// by, and 24 bytes a command of this life.
+/// by, 40 bytes a group of this life, and 32 a command of a group of two or more.
 #[derive(Drop)]
 pub struct Ledger<D: Disk> {
     pub(crate) store: Store<D>,
     /// The network and version that the store was opened with.
     pub(crate) base: Snapshot<Network>,
     pub(crate) opened: u64,
-    /// The commands accepted since, in order, and the outline of the network after them.
-    pub(crate) history: Vec<Command>,
+    /// The groups accepted since, in order, and the outline of the network after them.
+    pub(crate) history: Vec<Group>,
     pub(crate) accepted: Outline,
+    /// How many commands these groups have, and how many those have that are not durable.
+    pub(crate) of_life: u64,
+    pub(crate) pending: u64,
     /// A write failed: the store takes no more of them before it is opened again.
     pub(crate) broken: bool,
-    /// How many commands the last write had: where it failed, they are in flight.
+    /// How many groups the last write had: where it failed, they are in flight.
     pub(crate) written: Snapshot<usize>,
 }
 
@@ -31,6 +35,7 @@ impl<D: Disk> Model for Ledger<D> {
     ghost use Rattle.std.specs.Prelude.{◌≡◌, None};
     ghost use Rattle.roadnet.specs.Outlines.{outline_of};
     ghost use Rattle.store.specs.State.{CameTidy};
+    ghost use Rattle.machine.specs.Machine.{pending as pending_in, of_life as of_life_in};
     ghost use Rattle.machine.specs.Keeping.{IsKept};
     ghost use Rattle.keeper.specs.Keeping.{LedgerState, Holds, latest_network, machine_of};
 
@@ -47,7 +52,9 @@ impl<D: Disk> Model for Ledger<D> {
         IsKept m (latest_network m) k.store.network k.base.value None
         × (k.broken ≡ k.store.broken)
         × (CameTidy D.honest D.content k.store.given → D.honest k.store.disk × Holds (D.content k.store.disk) (D.left k.store.disk) m)
-        × (k.accepted ≡ outline_of (latest_network m)) };
+        × (k.accepted ≡ outline_of (latest_network m))
+        × (k.of_life ≡ of_life_in m)
+        × (k.pending ≡ pending_in m) };
 }
 
 /// Whether the disk failed in a write that told this.

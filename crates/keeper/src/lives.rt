@@ -6,7 +6,7 @@ ghost use Rattle.disk.specs.Stop.{armed_at};
 ghost use Rattle.disk.specs.declared.stoppable.Pick.{Pick as StopPick};
 ghost use Rattle.rows.specs.Kept.{IsWidth};
 ghost use Rattle.disk.specs.Contents.{Only};
-ghost use Rattle.store.specs.State.{CameTidy, HasRoom, HasCheckpointPages, IsDurable, is_calm};
+ghost use Rattle.store.specs.State.{CameTidy, HasRoom, IsDurable, is_calm};
 ghost use Rattle.machine.specs.declared.events.Event.TheVariants.{Submit, Task as TaskEvent, Publish, Ask};
 ghost use Rattle.machine.specs.declared.events.Writing.TheVariants.{Step as a_step};
 ghost use Rattle.machine.specs.Machine.{start};
@@ -20,7 +20,7 @@ use crate::keepers::Keeper;
 use crate::starting::view_of;
 use disk::{Pick, Stoppable};
 use machine::{Event, Replied, StepPages, Writing};
-use roadnet::{Command, Refusal};
+use roadnet::{Group, Refusal};
 use rows::{Query, View};
 use std::alloc::Global;
 use std::sync::Arc;
@@ -83,7 +83,6 @@ impl<D: Stoppable> Life<D> {
         ensures room { HasRoom store }
         ensures only { CameTidy D.honest D.content store.given → Only (D.content store.disk) (D.left store.disk) }
         ensures stands { CameTidy D.honest D.content store.given → IsDurable store (D.content store.disk) }
-        ensures checkpoint_pages { CameTidy D.honest D.content store.given → HasCheckpointPages store }
     {
         let opened = store.version();
         match Keeper::new(rt, alloc, store, delta) {
@@ -97,24 +96,22 @@ impl<D: Stoppable> Life<D> {
         }
     }
 
-    /// How many commands were accepted in this life.
+    /// How many groups were accepted in this life.
     pub(crate) fn accepted(&self) -> usize
         ensures { result ≡ length self.now.keeper.machine.accepted }
     {
-        (self.keeper.durable() + self.keeper.pending() - self.opened) as usize
+        self.keeper.groups().len()
     }
 
-    /// A command is submitted.
-    pub(crate) fn submit(&mut self, command: Command) -> Replied
-        ensures does { Does {P = StopPick} self.old.keeper.machine (Submit command) (result ∷ []) self.new.keeper.machine }
+    /// A copy of a group is submitted.
+    pub(crate) fn submit(&mut self, group: &Group) -> Replied
+        ensures does { Does {P = StopPick} self.old.keeper.machine (Submit group.now) (result ∷ []) self.new.keeper.machine }
         ensures delta { self.new.delta ≡ self.old.delta }
         ensures given { self.new.keeper.given ≡ self.old.keeper.given }
         ensures failures { D.failures self.new.keeper.disk ≡ D.failures self.old.keeper.disk }
     {
-        match self.keeper.submit(command) {
-            Ok(ticket) => Replied::Accepted {
-                number: ticket.number,
-            },
+        match self.keeper.submit_copy(group) {
+            Ok(number) => Replied::Accepted { number },
             Err(refusal) => Replied::Refused { refusal },
         }
     }
@@ -243,7 +240,7 @@ impl<D: Stoppable> Life<D> {
         ensures counted { D.failures self.new.keeper.disk ≡ failures_after event.now (result ∷ []) (D.failures self.old.keeper.disk) }
     {
         match event {
-            Event::Submit { command } => self.submit(*command),
+            Event::Submit { group } => self.submit(group),
             Event::Flush => self.write(Writing::Flush),
             Event::Checkpoint => self.write(Writing::Checkpoint),
             Event::CheckpointStep { pages } => self.write(Writing::Step { pages: *pages }),

@@ -8,12 +8,12 @@ ghost use Rattle.keeper.specs.Keeping.{Holds};
 use crate::keepers::Keeper;
 use disk::Disk;
 use machine::{Receipt, Ticket};
-use roadnet::{Command, Refusal};
+use roadnet::{Group, Refusal};
 use rows::View;
 use std::sync::Arc;
 
 impl<D: Disk> Keeper<D> {
-    /// How many accepted commands are not durable: at most 4,096.
+    /// How many commands the groups have that are accepted and not durable: at most 4,096.
     pub fn pending(&self) -> u64
         ensures { result ≡ pending self.now.machine }
     {
@@ -53,11 +53,11 @@ impl<D: Disk> Keeper<D> {
         self.shown.view()
     }
 
-    /// The commands accepted in this life, in order.
-    pub fn commands(&self) -> &[Command]
+    /// The groups accepted in this life, in order.
+    pub fn groups(&self) -> &[Group]
         ensures { result.now ≡ self.now.machine.accepted }
     {
-        self.ledger.commands()
+        self.ledger.groups()
     }
 
     /// How many pages of the journal no checkpoint has made needless.
@@ -74,14 +74,14 @@ impl<D: Disk> Keeper<D> {
         self.ledger.journal_pages()
     }
 
-    /// A receipt, where the ticket's command is durable: no stop takes it back. The ticket is one of this life.
+    /// A receipt, where the ticket's group is durable: no stop takes it back. The ticket is one of this life.
     ///
-    /// Refused is a number that is not durable: with 45 where the store is broken, else with 54.
+    /// Refused is a number that is not durable: with 45 where the store is broken, else with 54. The ticket is handed back then.
     ///
-    /// Of the first ticket of a new store it is `NotYet` before a flush, and behind it the receipt of number 1 with its command.
-    pub fn receipt(&self, ticket: &Ticket) -> Result<Receipt, Refusal>
-        requires { IsTicketOf self.now.machine ticket.now }
-        ensures { result ≡ receipt_for self.now.machine ticket.now }
+    /// Of the first ticket of a new store it is `NotYet` before a flush, and behind it the receipt of number 1 with its group.
+    pub fn receipt(&self, ticket: Ticket) -> Result<Receipt, (Refusal, Ticket)>
+        requires { IsTicketOf self.now.machine ticket }
+        ensures { result ≡ receipt_for self.now.machine ticket }
     {
         self.ledger.receipt(ticket)
     }

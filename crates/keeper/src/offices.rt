@@ -1,8 +1,8 @@
-// What the holder of a desk's history asks of its keeper: commands that are accepted as they are written there, and the version that
+// What the holder of a desk's history asks of its keeper: groups that are accepted as they are written there, and the version that
 // numbers go on from.
 ghost use Rattle.std.specs.Prelude.{◌≡◌, ◌≢◌, ◌<◌, ◌^◌, ◌++◌, ◌∷◌, [], None, Ok, Err, length, IfOk, IfErr, OnOk, OnErr};
 ghost use Rattle.roadnet.specs.declared.refusals.Refusal.TheVariants.{OutOfMemory as out_of_memory, Closed as closed};
-ghost use Rattle.roadnet.specs.Outlines.{EachAdmits, EachStepsTo};
+ghost use Rattle.roadnet.specs.Outlines.{IsOutline, EachAdmitsGroup, EachStepsByGroup};
 ghost use Rattle.machine.specs.Machine.{IsState};
 ghost use Rattle.machine.specs.Calls.{Submits, refusal_of_submit};
 
@@ -11,38 +11,39 @@ use crate::ledgers::Ledger;
 use disk::Disk;
 use history::History;
 use machine::Ticket;
-use roadnet::{Command, Outline, Refusal};
+use roadnet::{Group, Outline, Refusal};
 
-/// Writes an admitted command into the desk's history, puts it behind those that were accepted, and carries it out. After an `Err` nothing
-/// has changed: all room is made before the command is written.
+/// Writes an admitted group into the desk's history, puts it behind those that were accepted, and carries it out. After an `Err` nothing
+/// has changed: it is carried out before it is written, and taken back where the history has no room.
 fn accept_into(
     log: &mut History,
-    history: &mut Vec<Command>,
+    history: &mut Vec<Group>,
     accepted: &mut Outline,
-    command: Command,
+    group: Group,
 ) -> Result<(), Refusal>
-    requires { EachAdmits accepted.old command }
-    ensures history { OnOk result (history.new.items ≡ history.old.items ++ command ∷ []) }
-    ensures accepted { OnOk result (EachStepsTo accepted.old command accepted.new) }
-    ensures written { OnOk result (log.new ≡ record log.old { commands = log.old.commands ++ command ∷ [] }) }
+    requires admits { EachAdmitsGroup accepted.old group }
+    requires outline { IsOutline accepted.old }
+    ensures history { OnOk result (history.new.items ≡ history.old.items ++ group ∷ []) }
+    ensures accepted { OnOk result (EachStepsByGroup accepted.old group accepted.new) }
+    ensures written { OnOk result (log.new ≡ record log.old { groups = log.old.groups ++ group ∷ [] }) }
     ensures same_history { OnErr result (history.new.items ≡ history.old.items) }
     ensures same_accepted { OnErr result (accepted.new ≡ accepted.old) }
     ensures unwritten { OnErr result (log.new ≡ log.old) }
     ensures refused { IfErr result (λ refusal. refusal ≢ closed → refusal ≡ out_of_memory) }
-    ensures room { length log.old.commands < 2 ^ 62 → IfErr result (λ refusal. refusal ≡ out_of_memory) }
+    ensures room { length log.old.groups < 2 ^ 62 → IfErr result (λ refusal. refusal ≡ out_of_memory) }
 {
     history.reserve(1)?;
-    let room = accepted.prepare(&command)?;
-    if !log.write(command) {
+    let landmarks = accepted.carry_out(&group)?;
+    if !log.write(&group) {
+        accepted.take_back(&group, landmarks);
         return Err(Refusal::Closed);
     }
-    accepted.carry_out(command, room);
-    history.push_reserved(command);
+    history.push_reserved(group);
     Ok(())
 }
 
 impl<D: Disk> Ledger<D> {
-    /// The version that the ledger's store was opened at: its first command leads from there to the next.
+    /// The version that the ledger's store was opened at: its first group leads from there to the next.
     pub fn opened(&self) -> u64
         ensures version { result ≡ self.now.machine.base_version }
         ensures state { IsState self.now.machine }
@@ -50,31 +51,39 @@ impl<D: Disk> Ledger<D> {
         self.opened
     }
 
-    /// Accepts the command as `submit` does, once it is written into the desk's history: both get it, or neither.
+    /// Accepts the group as `submit_group` does, once it is written into the desk's history: both get it, or neither.
     ///
-    /// Refused as `submit` is; and, after these, where the history has room for no command (61).
-    pub fn submit_into(&mut self, log: &mut History, command: Command) -> Result<Ticket, Refusal>
-        ensures accepted { IfOk result (λ ticket. Submits self.old.machine command (Ok ticket) self.new.machine) }
-        ensures refused { IfErr result (λ refusal. refusal ≢ closed → Submits self.old.machine command (Err refusal) self.new.machine) }
-        // 61 comes only where nothing else refuses the command.
-        ensures order { IfErr result (λ refusal. refusal ≡ closed → refusal_of_submit self.old.machine command ≡ None) }
+    /// Refused as `submit_group` is; and, after these, where the history has room for no group (61).
+    pub fn submit_into(&mut self, log: &mut History, group: Group) -> Result<Ticket, Refusal>
+        ensures accepted { IfOk result (λ ticket. Submits self.old.machine group (Ok ticket) self.new.machine) }
+        ensures refused { IfErr result (λ refusal. refusal ≢ closed → Submits self.old.machine group (Err refusal) self.new.machine) }
+        // 61 comes only where nothing else refuses the group.
+        ensures order { IfErr result (λ refusal. refusal ≡ closed → refusal_of_submit self.old.machine group ≡ None) }
         // It doesn't come of a history with room, as each desk's has.
-        ensures room { length log.old.commands < 2 ^ 62 → IfErr result (λ refusal. Submits self.old.machine command (Err refusal) self.new.machine) }
+        ensures room { length log.old.groups < 2 ^ 62 → IfErr result (λ refusal. Submits self.old.machine group (Err refusal) self.new.machine) }
         ensures same { OnErr result (self.new ≡ self.old) }
-        ensures written { OnOk result (log.new ≡ record log.old { commands = log.old.commands ++ command ∷ [] }) }
+        ensures written { OnOk result (log.new ≡ record log.old { groups = log.old.groups ++ group ∷ [] }) }
         ensures unwritten { OnErr result (log.new ≡ log.old) }
         ensures disk { self.new.disk ≡ self.old.disk }
         ensures given { self.new.given ≡ self.old.given }
     {
-        self.may_submit(&command)?;
+        self.may_submit(&group)?;
         let number = self.opened + self.history.len() as u64 + 1;
-        accept_into(log, &mut self.history, &mut self.accepted, command)?;
-        Ok(Ticket { number, command })
+        let count = group.commands().len() as u64;
+        let copy = group.copy()?;
+        let _room = self.store.network().room();
+        accept_into(log, &mut self.history, &mut self.accepted, group)?;
+        self.of_life += count;
+        self.pending += count;
+        Ok(Ticket {
+            number,
+            group: copy,
+        })
     }
 }
 
 impl<D: Disk> Keeper<D> {
-    /// The version that the keeper's store was opened at: its first command leads from there to the next.
+    /// The version that the keeper's store was opened at: its first group leads from there to the next.
     pub fn opened(&self) -> u64
         ensures version { result ≡ self.now.machine.base_version }
         ensures state { IsState self.now.machine }
@@ -82,23 +91,23 @@ impl<D: Disk> Keeper<D> {
         self.ledger.opened()
     }
 
-    /// Accepts the command as `submit` does, once it is written into the desk's history: both get it, or neither.
+    /// Accepts the group as `submit_group` does, once it is written into the desk's history: both get it, or neither.
     ///
-    /// Refused as `submit` is; and, after these, where the history has room for no command (61).
-    pub fn submit_into(&mut self, log: &mut History, command: Command) -> Result<Ticket, Refusal>
-        ensures accepted { IfOk result (λ ticket. Submits self.old.machine command (Ok ticket) self.new.machine) }
-        ensures refused { IfErr result (λ refusal. refusal ≢ closed → Submits self.old.machine command (Err refusal) self.new.machine) }
-        // 61 comes only where nothing else refuses the command.
-        ensures order { IfErr result (λ refusal. refusal ≡ closed → refusal_of_submit self.old.machine command ≡ None) }
+    /// Refused as `submit_group` is; and, after these, where the history has room for no group (61).
+    pub fn submit_into(&mut self, log: &mut History, group: Group) -> Result<Ticket, Refusal>
+        ensures accepted { IfOk result (λ ticket. Submits self.old.machine group (Ok ticket) self.new.machine) }
+        ensures refused { IfErr result (λ refusal. refusal ≢ closed → Submits self.old.machine group (Err refusal) self.new.machine) }
+        // 61 comes only where nothing else refuses the group.
+        ensures order { IfErr result (λ refusal. refusal ≡ closed → refusal_of_submit self.old.machine group ≡ None) }
         // It doesn't come of a history with room, as each desk's has.
-        ensures room { length log.old.commands < 2 ^ 62 → IfErr result (λ refusal. Submits self.old.machine command (Err refusal) self.new.machine) }
+        ensures room { length log.old.groups < 2 ^ 62 → IfErr result (λ refusal. Submits self.old.machine group (Err refusal) self.new.machine) }
         ensures same { OnErr result (self.new ≡ self.old) }
-        ensures written { OnOk result (log.new ≡ record log.old { commands = log.old.commands ++ command ∷ [] }) }
+        ensures written { OnOk result (log.new ≡ record log.old { groups = log.old.groups ++ group ∷ [] }) }
         ensures unwritten { OnErr result (log.new ≡ log.old) }
         ensures disk { self.new.disk ≡ self.old.disk }
         ensures given { self.new.given ≡ self.old.given }
         ensures width { self.new.width ≡ self.old.width }
     {
-        self.ledger.submit_into(log, command)
+        self.ledger.submit_into(log, group)
     }
 }

@@ -13,14 +13,15 @@ ghost use Rattle.machine.specs.declared.events.Event.TheVariants.{Stop};
 ghost use Rattle.machine.specs.declared.events.Replied.TheVariants.{Refused, Opened, Stopped};
 ghost use Rattle.keeper.specs.Cutting.{IsCut, picks_taken, picks_of, call_of, HoldsFor, StandsAsTold, HaveCut};
 ghost use Rattle.keeper.specs.Failures.{EndsAsTold};
-ghost use Rattle.keeper.specs.Rehearsing.{HasPagesOfNetwork, BeginsAfter, first_of};
-ghost use Rattle.keeper.specs.Running.{Continues, LeavesDurable, HasLivedTo, HasToldForGood, IsToldOrFailed, IsPassingEnd, OfEachLeft, OfEachHalted, OfEachWithin, HasHaltedSo, FailsAtEnd, GoesOnWith, EndsWith, FailsWith, CutsWith, CutsLast};
+ghost use Rattle.keeper.specs.Rehearsing.{BeginsAfter, first_of};
+ghost use Rattle.keeper.specs.Running.{width_of, Continues, LeavesDurable, HasLivedTo, HasToldForGood, IsToldOrFailed, IsPassingEnd, OfEachLeft, OfEachHalted, OfEachWithin, HasHaltedSo, FailsAtEnd, GoesOnWith, EndsWith, FailsWith, CutsWith, CutsLast};
 
 use crate::halted::Halted;
 use crate::lives::Life;
 use disk::{Disk, Pick, Stoppable};
 use machine::{Event, Replied, Writing};
-use roadnet::{Command, Refusal};
+use roadnet::{Group, Refusal};
+use rows::Ran;
 use std::alloc::Global;
 use std::thread::Threads;
 use store::{Store, open};
@@ -31,9 +32,9 @@ const MOST_REPLIES: usize = 2;
 /// What a run of a script's events came to.
 #[derive(Drop)]
 pub struct Rehearsal<D: Disk> {
-    /// The commands that were accepted and that no stop took back, in order: they follow the version of the store that was handed in. Where
+    /// The groups that were accepted and that no stop took back, in order: they follow the version of the store that was handed in. Where
     /// the run ended with a stop, those that were durable.
-    pub history: Vec<Command>,
+    pub history: Vec<Group>,
     /// The replies to the events that were run, in order.
     pub replies: Vec<Replied>,
     /// Why the run ended before its last event was run: the store was not opened, or its first view not built (43 or 11), or no memory was
@@ -41,26 +42,41 @@ pub struct Rehearsal<D: Disk> {
     pub ended: Option<Refusal>,
     /// The disk, as the run left it.
     pub disk: D,
-    /// The width of the buckets that each view was built with, where one was given.
-    pub delta: Option<u32>,
+    // The width of the buckets that each view was built with, where one was given.
+    delta: Option<u32>,
+}
+
+impl<D: Disk> Ran for Rehearsal<D> {
+    ghost width_given = { λ run. run.delta };
+
+    ghost workers_given = { λ run. None };
+
+    fn width(&self) -> Option<u32> {
+        self.delta
+    }
+
+    fn workers(&self) -> Option<u32> {
+        None
+    }
 }
 
 /// A run that goes on.
 #[derive(Drop)]
 struct Run<D: Stoppable> {
-    /// The commands that earlier lives accepted and stops left. There is room for those of this life too.
-    history: Vec<Command>,
+    /// The groups that earlier lives accepted and stops left. There is room for those of this life too.
+    history: Vec<Group>,
     /// The replies so far.
     replies: Vec<Replied>,
     life: Life<D>,
 }
 
-/// Puts commands behind a history that has room for them.
-fn put_behind(history: &mut Vec<Command>, commands: &[Command])
-    requires { vec_len history.old + length commands.now ≤ vec_capacity history.old }
-    ensures { history.new.items ≡ history.old.items ++ commands.now }
+/// Puts groups behind a history that has room for them.
+fn put_behind(history: &mut Vec<Group>, groups: Vec<Group>)
+    requires { vec_len history.old + vec_len groups ≤ vec_capacity history.old }
+    ensures { history.new.items ≡ history.old.items ++ groups.items }
 {
-    let _ = history.extend_from_slice(commands);
+    let mut groups = groups;
+    let _ = history.append(&mut groups);
 }
 
 /// Stops the disk with these picks, or where there is none with the old bytes. Answers whether an armed call came.
@@ -131,14 +147,14 @@ impl<D: Stoppable> Halted<D> {
     /// Opens what the stop left, and begins the next life; or ends the run, where the store isn't opened or its first view not built.
     fn resume<R: Threads>(self, rt: &R, alloc: Global) -> Result<Run<D>, Rehearsal<D>>
         requires opened { self.opened ≤ self.durable }
-        requires durable { self.durable ≤ self.opened + vec_len self.commands }
-        requires room { vec_len self.history + vec_len self.commands ≤ vec_capacity self.history }
+        requires durable { self.durable ≤ self.opened + vec_len self.groups }
+        requires room { vec_len self.history + vec_len self.groups ≤ vec_capacity self.history }
         requires reply { vec_len self.replies < vec_capacity self.replies }
-        ensures begins { OfEachHalted D.honest D.content D.left self (λ m. HasPagesOfNetwork m → IfOk result (λ run. BeginsAfter m run.life.keeper.machine)) }
-        ensures history { OfEachHalted D.honest D.content D.left self (λ m. HasPagesOfNetwork m → IfOk result (Continues m self.history.items)) }
-        ensures came { OfEachHalted D.honest D.content D.left self (λ m. HasPagesOfNetwork m → IfOk result (λ run. CameTidy D.honest D.content run.life.keeper.given)) }
+        ensures begins { OfEachHalted D.honest D.content D.left self (λ m. IfOk result (λ run. BeginsAfter m run.life.keeper.machine)) }
+        ensures history { OfEachHalted D.honest D.content D.left self (λ m. IfOk result (Continues m self.history.items)) }
+        ensures came { OfEachHalted D.honest D.content D.left self (λ m. IfOk result (λ run. CameTidy D.honest D.content run.life.keeper.given)) }
         ensures content { D.honest self.disk → IfOk result (λ run. D.content run.life.keeper.disk ≡ D.content self.disk) }
-        ensures stands { OfEachHalted D.honest D.content D.left self (λ m. HasPagesOfNetwork m → IfOk result (λ run. StandsAsTold m (Opened run.life.keeper.machine.base_version) (D.content self.disk))) }
+        ensures stands { OfEachHalted D.honest D.content D.left self (λ m. IfOk result (λ run. StandsAsTold m (Opened run.life.keeper.machine.base_version) (D.content self.disk))) }
         ensures told { IfOk result (λ run. run.replies.items ≡ self.replies.items ++ Opened run.life.keeper.machine.base_version ∷ []) }
         ensures room { IfOk result (λ run. vec_len run.history + length run.life.keeper.machine.accepted ≤ vec_capacity run.history) }
         ensures ended { OfEachHalted D.honest D.content D.left self (λ _. IfErr result (λ ended. IsPassingEnd ended.ended)) }
@@ -149,12 +165,12 @@ impl<D: Stoppable> Halted<D> {
         ensures causes { IfErr result (λ ended. IfSome ended.ended MayEndOpening) }
         ensures stopped { IfErr result (λ ended. ended.replies.items ≡ self.replies.items ++ Stopped ∷ []) }
         ensures early { IfErr result (λ ended. ended.ended ≢ None) }
-        ensures durable { IfErr result (λ ended. ended.history.items ≡ self.history.items ++ take (self.durable - self.opened) self.commands.items) }
+        ensures durable { IfErr result (λ ended. ended.history.items ≡ self.history.items ++ take (self.durable - self.opened) self.groups.items) }
     {
         let Halted {
             mut history,
             mut replies,
-            commands,
+            mut groups,
             opened,
             durable,
             disk,
@@ -162,8 +178,9 @@ impl<D: Stoppable> Halted<D> {
         } = self;
         match reopen(rt, alloc, disk, delta) {
             Ok(life) => {
-                let kept = (life.opened.saturating_sub(opened) as usize).min(commands.len());
-                put_behind(&mut history, &commands[..kept]);
+                let kept = (life.opened.saturating_sub(opened) as usize).min(groups.len());
+                groups.truncate(kept);
+                put_behind(&mut history, groups);
                 replies.push_reserved(Replied::Opened {
                     version: life.opened,
                 });
@@ -175,7 +192,8 @@ impl<D: Stoppable> Halted<D> {
             }
             Err((refusal, disk)) => {
                 let kept = (durable - opened) as usize;
-                put_behind(&mut history, &commands[..kept]);
+                groups.truncate(kept);
+                put_behind(&mut history, groups);
                 replies.push_reserved(Replied::Stopped);
                 Err(Rehearsal {
                     history,
@@ -213,7 +231,7 @@ impl<D: Stoppable> Run<D> {
     fn halt(self, picks: &[Pick]) -> (Halted<D>, bool)
         ensures history { result.0.history ≡ self.history }
         ensures replies { result.0.replies ≡ self.replies }
-        ensures commands { result.0.commands.items ≡ self.life.keeper.machine.accepted }
+        ensures groups { result.0.groups.items ≡ self.life.keeper.machine.accepted }
         ensures opened { result.0.opened ≡ self.life.keeper.machine.base_version }
         ensures durable { result.0.durable ≡ self.life.keeper.machine.durable }
         ensures delta { result.0.delta ≡ self.life.delta }
@@ -238,12 +256,12 @@ impl<D: Stoppable> Run<D> {
             ..
         } = life;
         let durable = keeper.durable();
-        let (commands, mut disk) = keeper.close();
+        let (groups, mut disk) = keeper.close();
         let came = stop_disk(&mut disk, picks);
         let halted = Halted {
             history,
             replies,
-            commands,
+            groups,
             opened,
             durable,
             disk,
@@ -370,8 +388,8 @@ impl<D: Stoppable> Run<D> {
             life,
         } = self;
         let delta = life.delta;
-        let (commands, disk) = life.keeper.close();
-        put_behind(&mut history, &commands);
+        let (groups, disk) = life.keeper.close();
+        put_behind(&mut history, groups);
         Rehearsal {
             history,
             replies,
@@ -387,12 +405,12 @@ impl<D: Stoppable> Run<D> {
 /// each view's searches; where none is given it is the network's default. A stop within a call of number 0 arms nothing, so it comes behind its
 /// event, and one without picks takes the old bytes.
 ///
-/// Each event has one reply, and a stop that comes behind its event has a second one. A view that is kept aside and all pending commands are
+/// Each event has one reply, and a stop that comes behind its event has a second one. A view that is kept aside and all pending groups are
 /// lost by a stop. The run ends before an event for want of memory (11), or with a stop whose store is not opened, or whose first view is not
 /// built (43 or 11).
 ///
-/// On a new store of `examples/six.gr`, `Close { arc: 7 }` and a flush that is cut at its third write or sync are replied to with `Accepted { number: 1 }`
-/// and with `Opened { version: 0 }` where the picks are old, `Opened { version: 1 }` where they are new; the history has no command then, or that one.
+/// On a new store of `examples/six.gr`, the group of `Close { arc: 7 }` and a flush that is cut at its third write or sync are replied to with `Accepted { number: 1 }`
+/// and with `Opened { version: 0 }` where the picks are old, `Opened { version: 1 }` where they are new; the history has no group then, or that one.
 pub fn rehearse<R: Threads, D: Stoppable>(
     rt: &R,
     alloc: Global,
@@ -404,7 +422,7 @@ pub fn rehearse<R: Threads, D: Stoppable>(
     requires width { ForSome delta IsWidth }
     // The run is one of the lives of the store's network and version, and a stop now leaves of the disk what its last state says.
     ensures lives { CameTidy D.honest D.content store.given → HasLivedTo D.left (first_of store) events.now result }
-    // Of each content that a stop leaves: it stands for the network after a beginning of the accepted commands, in which each acknowledged one has
+    // Of each content that a stop leaves: it stands for the network after a beginning of the accepted groups, in which each acknowledged one has
     // its number; and each answered query names a version up to it, and is right in that version's network.
     ensures told { CameTidy D.honest D.content store.given → HasToldForGood D.left (first_of store) events.now result }
     // Each stop of the events that were run cut a disk that held what the run's state there allows, by its picks: the i-th byte, ascending, that was not
@@ -418,7 +436,7 @@ pub fn rehearse<R: Threads, D: Stoppable>(
     // Whatever the disk, it ends early with a refusal of an opening alone: 11, or 40 to 43.
     ensures causes { IfSome result.ended MayEndOpening }
     // The width that was given is told back.
-    ensures width { result.delta ≡ delta }
+    ensures width { width_of result ≡ delta }
     // Over any disk its count of failures rises by one for each failure that the replies tell, with 43 or by a stop that came within an event,
     // and by one more where the run ended with 43, whose last stop left a disk that then failed. A stop leaves the count as it is.
     ensures failed { EndsAsTold events.now result.replies.items result.ended (D.failures store.disk) (D.failures result.disk) }

@@ -16,11 +16,12 @@ fn are_same_nodes(some: &[u32], others: &[u32]) -> bool
     some == others
 }
 
-/// Whether the networks have the same nodes, arcs and landmarks.
+/// Whether the networks have the same nodes, arcs, landmarks and room.
 pub fn is_same(one: &Network, other: &Network) -> bool
     ensures { Decides result (one.now ≡ other.now) }
 {
     one.nodes() == other.nodes()
+        && one.room() == other.room()
         && are_same_nodes(one.landmarks(), other.landmarks())
         && are_same_arcs(one.arcs(), other.arcs())
 }

@@ -13,7 +13,7 @@ use crate::ledgers::Ledger;
 use crate::shown::Shown;
 use disk::{Disk, Stoppable};
 use relax::{CHUNK, Crew};
-use roadnet::{Command, Network, OutOfMemory};
+use roadnet::{Group, Network, OutOfMemory};
 use rows::View;
 use std::alloc::Global;
 use std::sync::Arc;
@@ -98,8 +98,8 @@ impl<D: Disk> Keeper<D> {
         })
     }
 
-    /// The commands accepted in this life, in order, and the disk, of which no call is made. It takes no memory.
-    pub fn close(self) -> (Vec<Command>, D)
+    /// The groups accepted in this life, in order, and the disk, of which no call is made. It takes no memory.
+    pub fn close(self) -> (Vec<Group>, D)
         ensures history { result.0.items ≡ self.machine.accepted }
         ensures disk { result.1 ≡ self.disk }
         ensures honest { CameTidy D.honest D.content self.given → D.honest self.disk }

@@ -1,5 +1,5 @@
-// Commands accepted and made durable, and checkpoints: the ledger's calls, which leave the view and the task as they are.
-ghost use Rattle.std.specs.Prelude.{◌≡◌, ◌≢◌, ◌≤◌, ◌↔◌, true, false, None, IfErr};
+// Groups accepted and made durable, and checkpoints: the ledger's calls, which leave the view and the task as they are.
+ghost use Rattle.std.specs.Prelude.{◌≡◌, ◌≢◌, ◌≤◌, ◌↔◌, ◌∷◌, [], true, false, None, IfErr};
 ghost use Rattle.disk.specs.Contents.{Rose};
 ghost use Rattle.pagereader.specs.Outcomes.{failures_told};
 ghost use Rattle.disk.specs.Moments.{LeavesOnly, AddsNothing};
@@ -7,42 +7,66 @@ ghost use Rattle.roadnet.specs.declared.refusals.Refusal.TheVariants.{Device as 
 ghost use Rattle.machine.specs.Calls.{Submits, Flushes, StepsCheckpoint, has_nothing_unchecked};
 ghost use Rattle.machine.specs.Lives.{Checkpoints};
 ghost use Rattle.keeper.specs.Keeping.{IsDurableIn, IsLeftByFlush, WhenSound};
-ghost use Rattle.keeper.specs.Parts.{told_as};
+ghost use Rattle.keeper.specs.Parts.{ticket_for, told_as};
 
 use crate::keepers::Keeper;
 use disk::Disk;
 use machine::Ticket;
-use roadnet::{Command, Refusal};
+use roadnet::{Command, Group, Refusal};
 use store::Part;
 
 impl<D: Disk> Keeper<D> {
-    /// Accepts the command as the next number. It is pending then, and a stop may take it back until a flush has made it durable.
+    /// Accepts the group as the next number. It is pending then, and a stop may take it back until a flush has made it durable.
     ///
-    /// Refused, the first that holds, is a broken store (45), a life of 16,777,216 commands (62), a version that would pass 2^48 (28),
-    /// 4,096 pending commands (50), and what the network after the accepted commands doesn't admit (20 to 27); then want of memory (11).
+    /// Refused, the first that holds, is a broken store (45), a life that would pass 16,777,216 commands (62), a version that would pass 2^48
+    /// (28), more than 4,096 pending commands (50), and the first command that the network after the accepted groups and the commands before
+    /// it doesn't admit (20 to 27, 29); then want of memory (11).
     ///
-    /// The outline of the accepted network is changed in place: beyond the command itself this takes O(1), and for a landmark a copy or
-    /// a shift of the others.
+    /// The outline of the accepted network is changed in place: beyond the group itself, and a copy of one of two or more commands, this
+    /// takes a copy of the landmarks where the group names one, and what arcs that are laid need.
     ///
-    /// On a new store of `examples/six.gr`, `Close { arc: 7 }` is accepted as number 1; the same once more is `AlreadyClosed`, though nothing is
-    /// durable yet.
-    pub fn submit(&mut self, command: Command) -> Result<Ticket, Refusal>
-        ensures step { Submits self.old.machine command result self.new.machine }
+    /// On a new store of `examples/six.gr`, the group of `Close { arc: 7 }` is accepted as number 1; the same once more is `AlreadyClosed`, though
+    /// nothing is durable yet.
+    pub fn submit_group(&mut self, group: Group) -> Result<Ticket, Refusal>
+        ensures step { Submits self.old.machine group result self.new.machine }
         ensures disk { self.new.disk ≡ self.old.disk }
         ensures given { self.new.given ≡ self.old.given }
         ensures width { self.new.width ≡ self.old.width }
     {
-        self.ledger.submit(command)
+        self.ledger.submit_group(group)
     }
 
-    /// Makes the first pending commands durable, at most 253, as one page of the journal: all of them or none, whatever a stop does at any
-    /// moment. Answers the durable version.
+    /// Accepts the command as a group of one, as `submit_group` does.
+    ///
+    /// On a new store of `examples/six.gr`, `Close { arc: 7 }` is accepted as number 1; the same once more is `AlreadyClosed`.
+    pub fn submit(&mut self, command: Command) -> Result<Ticket, Refusal>
+        ensures step { Submits self.old.machine (command ∷ []) result self.new.machine }
+        ensures disk { self.new.disk ≡ self.old.disk }
+        ensures given { self.new.given ≡ self.old.given }
+        ensures width { self.new.width ≡ self.old.width }
+    {
+        self.submit_group(Group::one(command))
+    }
+
+    /// Accepts a copy of the group, as `submit_group` does, and answers its number.
+    pub(crate) fn submit_copy(&mut self, group: &Group) -> Result<u64, Refusal>
+        ensures step { Submits self.old.machine group.now (ticket_for group.now result) self.new.machine }
+        ensures disk { self.new.disk ≡ self.old.disk }
+        ensures given { self.new.given ≡ self.old.given }
+        ensures width { self.new.width ≡ self.old.width }
+    {
+        self.ledger.submit_copy(group)
+    }
+
+    /// Makes the first pending groups durable, the longest front of them with at most 253 commands, as one page of the journal: all of them or
+    /// none, whatever a stop does at any moment. Answers the durable version.
     ///
     /// Refused, the first that holds, is a broken store (45), that nothing is pending (53), and a journal without a free page (44); then want of
     /// memory (11), before any call of the disk; then a disk that failed (43), after which the store is broken. After each other refusal
     /// nothing is changed.
     ///
-    /// On a new store, with one command accepted it answers 1, and a second call is `NothingPending`; with 254 it answers 253, and then 254.
+    /// On a new store, with one group accepted it answers 1, and a second call is `NothingPending`; with 254 of one command it answers 253, and then
+    /// 254; with one of two commands and one of 252 it answers 1, and then 2.
     pub fn flush(&mut self) -> Result<u64, Refusal>
         ensures step { Flushes self.old.machine result self.new.machine }
         ensures same { IfErr result (λ refusal. refusal ≢ device → self.new ≡ self.old) }
@@ -66,7 +90,7 @@ impl<D: Disk> Keeper<D> {
     /// Refused is a broken store (45); then want of memory (11), where one would begin, before any call of the disk; then a disk that failed
     /// (43), after which the store is broken. After each other refusal nothing is changed.
     ///
-    /// A slot of `examples/six.gr` has one word page: with version 1 durable a step answers `Done(1)`, and no page is unchecked then. Where it has
+    /// A slot of `examples/six.gr` has one page behind its head, where it has no room for more arcs: with version 1 durable a step answers `Done(1)`, and no page is unchecked then. Where it has
     /// three, a step of 1 page answers `Going`, and one of 64 after it `Done(1)`, also where version 2 has become durable in between.
     pub fn checkpoint_step(&mut self, pages: u32) -> Result<Part, Refusal>
         requires some { 1 ≤ pages }

@@ -1,37 +1,60 @@
+ghost use Rattle.std.specs.Prelude.{◌≡◌, IfSome};
+
 use crate::keeping::network;
-use history::History;
+use history::{Front, History};
 use machine::Ticket;
-use roadnet::Command;
+use roadnet::{Command, Group, Network};
 use std::test::Fail;
 
 const CLOSE: Command = Command::Close { arc: 1 };
 
 const REOPEN: Command = Command::Reopen { arc: 1 };
 
+fn is_reopened(group: &Group) -> bool {
+    group.commands() == [REOPEN].as_slice()
+}
+
+/// A history into which two groups are written, and beginnings of it: of none of them, of all that there was behind the first one, and of both.
+fn fronts_of(network: &Network) -> Option<(History, Front, Front, Front)>
+    ensures { IfSome result (λ r. (r.1.origin ≡ r.0.origin) × (r.2.origin ≡ r.0.origin) × (r.3.origin ≡ r.0.origin)) }
+{
+    let mut history = History::new(network, 7);
+    let none = history.front(0);
+    if !history.write(&Group::one(CLOSE)) {
+        return None;
+    }
+    let one = history.front(history.len());
+    if !history.write(&Group::one(REOPEN)) || history.len() < 2 {
+        return None;
+    }
+    let two = history.front(2);
+    Some((history, none, one, two))
+}
+
+/// Whether both of the first two begin the third, and the third does not begin the second.
+fn begin_in_turn(none: &Front, one: &Front, two: &Front) -> bool
+    requires one { one.now.origin ≡ two.now.origin }
+    requires none { none.now.origin ≡ two.now.origin }
+{
+    none.begins(two) && one.begins(two) && !two.begins(one)
+}
+
+/// How many groups the longer of two beginnings has, of which either is asked.
+fn longer_of(shorter: &Front, longer: &Front) -> (u64, u64)
+    requires { shorter.now.origin ≡ longer.now.origin }
+{
+    (shorter.longer(longer).len(), longer.longer(shorter).len())
+}
+
 #[test]
 fn fronts_of_a_history(rt: HostRuntime) -> Result<(), Fail> {
     let network = network(rt.alloc(), 2, &[(1, 2, 5)]).map_err(|_| Fail::from("a network"))?;
-    let mut history = History::new(&network, 7);
-    let none = history.front(0);
-    let first = history.write(CLOSE);
-    let one = history.front(history.len());
-    if !first || !history.write(REOPEN) {
-        return Err(Fail::from("a history with room"));
-    }
-    let two = history.front(2);
-    assert_eq!(rt;
-        (none.len(), one.len(), two.len(), history.len()),
-        (0, 1, 2, 2)
-    );
-    assert!(rt; none.begins(&two) && one.begins(&two) && !two.begins(&one));
-    assert_eq!(rt;
-        (
-            none.longer(&two).len(),
-            two.longer(&one).len(),
-            two.first(1).len()
-        ),
-        (2, 2, 1)
-    );
+    let (history, none, one, two) = fronts_of(&network).ok_or("a history with room")?;
+    assert!(rt; (none.len(), one.len(), history.len()) == (0, 1, 2));
+    assert!(rt; two.len() == 2);
+    assert!(rt; begin_in_turn(&none, &one, &two));
+    assert!(rt; longer_of(&none, &two) == (2, 2) && longer_of(&one, &two) == (2, 2));
+    assert_eq!(rt; two.first(1).len(), 1);
     assert!(rt; history.begins(&two) && history.begins(&none));
     Ok(())
 }
@@ -40,24 +63,25 @@ fn fronts_of_a_history(rt: HostRuntime) -> Result<(), Fail> {
 fn a_receipt_is_confirmed(rt: HostRuntime) -> Result<(), Fail> {
     let network = network(rt.alloc(), 2, &[(1, 2, 5)]).map_err(|_| Fail::from("a network"))?;
     let mut history = History::new(&network, 7);
-    let first = history.write(CLOSE);
+    let first = history.write(&Group::one(CLOSE));
     let one = history.front(history.len());
-    if !first || !history.write(REOPEN) {
+    if !first || !history.write(&Group::one(REOPEN)) {
         return Err(Fail::from("a history with room"));
     }
     let two = history.front(2);
     let ticket = Ticket {
         number: 9,
-        command: REOPEN,
+        group: Group::one(REOPEN),
     };
     let claim = history.claim(ticket);
-    assert!(rt; history.holds(&claim) && claim.ticket() == ticket && claim.front().len() == 2);
+    assert!(rt; history.holds(&claim) && claim.front().len() == 2);
+    assert!(rt; claim.ticket().number == 9 && is_reopened(&claim.ticket().group));
     history.acknowledge(9);
     let settled = history.settled(claim);
-    assert_eq!(rt; settled.ticket().ticket(), ticket);
+    assert!(rt; settled.ticket().ticket().number == 9);
     assert_eq!(rt; (settled.front().len(), one.joined(&two).len()), (2, 2));
     let whole = history.close();
     whole.holds(&one);
-    assert_eq!(rt; whole.confirm(&settled), REOPEN);
+    assert!(rt; is_reopened(whole.confirm(&settled)));
     Ok(())
 }

@@ -1,4 +1,4 @@
-ghost use Rattle.std.specs.Prelude.{◌≡◌, ◌≤◌, true, IfOk};
+ghost use Rattle.std.specs.Prelude.{◌≡◌, ◌≤◌, true, IfOk, IfSome};
 ghost use Rattle.store.specs.State.{is_calm};
 ghost use Rattle.machine.specs.Calls.{IsTicketOf};
 
@@ -355,27 +355,38 @@ fn submitted<D: Disk>(keeper: &mut Keeper<D>, command: Command) -> Result<Ticket
 // A flush, and the receipt for a ticket behind it.
 fn flushed<D: Disk>(
     keeper: &mut Keeper<D>,
-    ticket: &Ticket,
+    ticket: Ticket,
 ) -> (Result<u64, Refusal>, Result<Receipt, Refusal>)
-    requires { IsTicketOf keeper.old.machine ticket.now }
+    requires { IsTicketOf keeper.old.machine ticket }
 {
     let answer = keeper.flush();
-    let receipt = keeper.receipt(ticket);
-    (answer, receipt)
+    match keeper.receipt(ticket) {
+        Ok(receipt) => (answer, Ok(receipt)),
+        Err((refusal, _)) => (answer, Err(refusal)),
+    }
 }
 
-// What is told at a submit, of the receipt, of a flush and of the receipt behind it.
-type Received = (
-    Result<Receipt, Refusal>,
-    Result<u64, Refusal>,
-    Result<Receipt, Refusal>,
-);
+// Why there is no receipt for a ticket, and the ticket, which is handed back; none where there is a receipt.
+fn not_yet<D: Disk>(keeper: &Keeper<D>, ticket: Ticket) -> Option<(Refusal, Ticket)>
+    requires { IsTicketOf keeper.now.machine ticket }
+    ensures { IfSome result (λ told. IsTicketOf keeper.now.machine told.1) }
+{
+    match keeper.receipt(ticket) {
+        Ok(_receipt) => None,
+        Err(told) => Some(told),
+    }
+}
+
+// What is told at a submit: why there is no receipt before a flush, of the flush, and of the receipt behind it.
+type Received = (Refusal, Result<u64, Refusal>, Result<Receipt, Refusal>);
 
 fn received<D: Disk>(keeper: &mut Keeper<D>, command: Command) -> Result<Received, Refusal> {
     let ticket = submitted(keeper, command)?;
-    let before = keeper.receipt(&ticket);
-    let (answer, behind) = flushed(keeper, &ticket);
-    Ok((before, answer, behind))
+    let Some((refusal, ticket)) = not_yet(keeper, ticket) else {
+        return Err(Refusal::Broken);
+    };
+    let (answer, behind) = flushed(keeper, ticket);
+    Ok((refusal, answer, behind))
 }
 
 #[test]
@@ -507,18 +518,24 @@ fn failing<R: Threads>(rt: &R, alloc: Global) -> Result<Keeper<FailOnce<MemDisk>
     reopened(rt, alloc, FailOnce::new(keeper.close().1, 9 + 5))
 }
 
+// What is told where a flush fails: why there is no receipt before it, its answer, and why there is none behind it.
+fn refused<D: Disk>(
+    keeper: &mut Keeper<D>,
+    command: Command,
+) -> Result<(Refusal, Result<u64, Refusal>, Option<Refusal>), Refusal> {
+    let (before, answer, behind) = received(keeper, command)?;
+    match behind {
+        Ok(_) => Ok((before, answer, None)),
+        Err(behind) => Ok((before, answer, Some(behind))),
+    }
+}
+
 #[test]
 fn sync_fails_once(rt: HostRuntime) -> Result<(), Fail> {
     let alloc = rt.alloc();
     let mut keeper = failing(&rt, alloc)?;
-    let told = received(&mut keeper, CLOSE)?;
-    assert!(rt;
-        told == (
-            Err(Refusal::NotYet),
-            Err(Refusal::Device),
-            Err(Refusal::Broken)
-        )
-    );
+    let told = refused(&mut keeper, CLOSE)?;
+    assert!(rt; told == (Refusal::NotYet, Err(Refusal::Device), Some(Refusal::Broken)));
     let table = [
         (Call::Submit(CLOSE), Told::Refused(Refusal::Broken)),
         (Call::Flush, Told::Refused(Refusal::Broken)),
@@ -553,12 +570,10 @@ fn failed_flush_is_there_when_opened(rt: HostRuntime) -> Result<(), Wrong> {
 #[test]
 fn receipt_behind_a_flush(rt: HostRuntime) -> Result<(), Fail> {
     let alloc = rt.alloc();
-    let told = received(&mut keeper_of_six(&rt, alloc, 64)?, CLOSE)?;
-    let receipt = Receipt {
-        number: 1,
-        command: CLOSE,
-    };
-    assert!(rt; told == (Err(Refusal::NotYet), Ok(1), Ok(receipt)));
+    let (before, answer, behind) = received(&mut keeper_of_six(&rt, alloc, 64)?, CLOSE)?;
+    assert!(rt; before == Refusal::NotYet && answer == Ok(1));
+    let receipt = behind?;
+    assert!(rt; receipt.number == 1 && receipt.group.commands() == [CLOSE].as_slice());
     Ok(())
 }
 

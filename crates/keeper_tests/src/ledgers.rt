@@ -1,4 +1,4 @@
-ghost use Rattle.std.specs.Prelude.{◌≡◌, ◌≤◌, true, IfOk};
+ghost use Rattle.std.specs.Prelude.{◌≡◌, ◌≤◌, true, IfOk, IfSome};
 ghost use Rattle.store.specs.State.{is_calm};
 ghost use Rattle.machine.specs.Calls.{IsTicketOf};
 
@@ -6,7 +6,7 @@ use crate::keeping::{CLOSE, OPEN, six};
 use disk::{Disk, MemDisk, Pick, Stoppable};
 use keeper::Ledger;
 use machine::{Receipt, Ticket};
-use roadnet::{Command, Refusal, RoadArc};
+use roadnet::{Command, Group, Refusal, RoadArc};
 use std::alloc::Global;
 use std::test::Fail;
 use store::{Part, Store, create, open};
@@ -56,34 +56,64 @@ fn ledger_of_six(alloc: Global) -> Result<Ledger<MemDisk>, Refusal> {
 fn entered<D: Disk>(ledger: &mut Ledger<D>, command: Command) -> Result<Ticket, Refusal>
     ensures { IfOk result (IsTicketOf ledger.new.machine) }
 {
-    ledger.submit(command)
+    ledger.submit_group(Group::one(command))
 }
 
 // A flush, and the receipt for a ticket behind it.
 fn made_durable<D: Disk>(
     ledger: &mut Ledger<D>,
-    ticket: &Ticket,
+    ticket: Ticket,
 ) -> (Result<u64, Refusal>, Result<Receipt, Refusal>)
-    requires { IsTicketOf ledger.old.machine ticket.now }
+    requires { IsTicketOf ledger.old.machine ticket }
 {
     let answer = ledger.flush();
-    let receipt = ledger.receipt(ticket);
-    (answer, receipt)
+    match ledger.receipt(ticket) {
+        Ok(receipt) => (answer, Ok(receipt)),
+        Err((refusal, _)) => (answer, Err(refusal)),
+    }
+}
+
+// Why there is no receipt for a ticket, and the ticket, which is handed back; none where there is a receipt.
+fn unsettled<D: Disk>(ledger: &Ledger<D>, ticket: Ticket) -> Option<(Refusal, Ticket)>
+    requires { IsTicketOf ledger.now.machine ticket }
+    ensures { IfSome result (λ told. IsTicketOf ledger.now.machine told.1) }
+{
+    match ledger.receipt(ticket) {
+        Ok(_receipt) => None,
+        Err(told) => Some(told),
+    }
+}
+
+// What is told of a command: why there is no receipt before a flush, the answer of the flush, and the receipt behind it.
+fn settled<D: Disk>(
+    ledger: &mut Ledger<D>,
+    command: Command,
+) -> Result<(Refusal, Result<u64, Refusal>, Receipt), Refusal> {
+    let ticket = entered(ledger, command)?;
+    let Some((refusal, ticket)) = unsettled(ledger, ticket) else {
+        return Err(Refusal::Broken);
+    };
+    let (answer, receipt) = made_durable(ledger, ticket);
+    Ok((refusal, answer, receipt?))
+}
+
+// Whether these are groups of these commands, each alone.
+pub(crate) fn are_alone(groups: &[Group], commands: &[Command]) -> bool {
+    for (group, command) in groups.iter().zip(commands.iter()) {
+        if group.commands() != [*command].as_slice() {
+            return false;
+        }
+    }
+    groups.len() == commands.len()
 }
 
 #[test]
 fn ledger_makes_commands_durable(rt: HostRuntime) -> Result<(), Fail> {
     let mut ledger = ledger_of_six(rt.alloc())?;
-    let ticket = entered(&mut ledger, CLOSE)?;
-    assert_eq!(rt; ledger.receipt(&ticket), Err(Refusal::NotYet));
-    let (answer, receipt) = made_durable(&mut ledger, &ticket);
-    let told = Receipt {
-        number: 1,
-        command: CLOSE,
-    };
-    assert_eq!(rt; answer, Ok(1));
-    assert_eq!(rt; receipt, Ok(told));
-    assert_eq!(rt; ledger.submit(OPEN)?.number, 2);
+    let (before, answer, receipt) = settled(&mut ledger, CLOSE)?;
+    assert_eq!(rt; (before, answer), (Refusal::NotYet, Ok(1)));
+    assert!(rt; receipt.number == 1 && receipt.group.commands() == [CLOSE].as_slice());
+    assert_eq!(rt; ledger.submit_group(Group::one(OPEN))?.number, 2);
     let now = Numbers {
         opened: 0,
         durable: 1,
@@ -93,7 +123,7 @@ fn ledger_makes_commands_durable(rt: HostRuntime) -> Result<(), Fail> {
         broken: false,
     };
     assert_eq!(rt; told_by(&ledger), now);
-    assert!(rt; ledger.commands() == [CLOSE, OPEN].as_slice());
+    assert!(rt; are_alone(ledger.groups(), &[CLOSE, OPEN]));
     let closed = RoadArc {
         tail: 5,
         head: 2,
@@ -104,37 +134,61 @@ fn ledger_makes_commands_durable(rt: HostRuntime) -> Result<(), Fail> {
     Ok(())
 }
 
+// A command is accepted and made durable.
+fn flush_one<D: Disk>(ledger: &mut Ledger<D>, command: Command) -> Result<u64, Refusal> {
+    let _ = ledger.submit_group(Group::one(command))?;
+    ledger.flush()
+}
+
+// A part of a checkpoint, of one page, and how many pages of the journal are unchecked behind it.
+fn step<D: Disk>(ledger: &mut Ledger<D>) -> Result<(Part, u32), Refusal> {
+    let part = ledger.checkpoint_step(1)?;
+    Ok((part, ledger.unchecked()))
+}
+
+// A whole checkpoint, and how many pages of the journal are unchecked behind it.
+fn checkpoint<D: Disk>(ledger: &mut Ledger<D>) -> Result<(u64, u32), Refusal> {
+    let version = ledger.checkpoint()?;
+    Ok((version, ledger.unchecked()))
+}
+
 #[test]
 fn ledger_writes_checkpoints(rt: HostRuntime) -> Result<(), Fail> {
     let mut ledger = ledger_of_six(rt.alloc())?;
-    let _ = ledger.submit(CLOSE)?;
-    let _ = ledger.flush()?;
-    assert_eq!(rt; ledger.checkpoint_step(1), Ok(Part::Done(1)));
-    assert_eq!(rt; ledger.unchecked(), 0);
-    let _ = ledger.submit(OPEN)?;
-    let _ = ledger.flush()?;
-    assert_eq!(rt; ledger.checkpoint(), Ok(2));
-    assert_eq!(rt; ledger.unchecked(), 0);
+    let _ = flush_one(&mut ledger, CLOSE)?;
+    assert!(rt; step(&mut ledger)? == (Part::Done(1), 0));
+    let _ = flush_one(&mut ledger, OPEN)?;
+    assert!(rt; checkpoint(&mut ledger)? == (2, 0));
     Ok(())
+}
+
+// The answer of a flush of the second command that is stopped at its first call of the disk.
+fn fail_second(ledger: &mut Ledger<MemDisk>) -> Result<Result<u64, Refusal>, Refusal> {
+    let _ = flush_one(ledger, CLOSE)?;
+    let _ = ledger.submit_group(Group::one(OPEN))?;
+    ledger.arm(1);
+    Ok(ledger.flush())
+}
+
+// What a ledger of the store that this disk has tells of its numbers.
+fn told_of<D: Disk + Drop>(alloc: Global, disk: D) -> Result<Numbers, Refusal> {
+    let store = match open(alloc, disk) {
+        Ok(store) => store,
+        Err((refusal, _)) => return Err(refusal),
+    };
+    let ledger = ledger_of(alloc, store)?;
+    Ok(told_by(&ledger))
 }
 
 #[test]
 fn stopped_ledger_is_opened_again(rt: HostRuntime) -> Result<(), Fail> {
     let alloc = rt.alloc();
     let mut ledger = ledger_of_six(alloc)?;
-    let _ = ledger.submit(CLOSE)?;
-    let _ = ledger.flush()?;
-    let _ = ledger.submit(OPEN)?;
-    ledger.arm(1);
-    assert_eq!(rt; ledger.flush(), Err(Refusal::Device));
+    assert_eq!(rt; fail_second(&mut ledger)?, Err(Refusal::Device));
     assert!(rt; ledger.broken());
-    let (commands, mut disk) = ledger.close();
-    assert!(rt; commands.as_slice() == [CLOSE, OPEN].as_slice());
+    let (groups, mut disk) = ledger.close();
+    assert!(rt; are_alone(groups.as_slice(), &[CLOSE, OPEN]));
     let _ = disk.stop(&[Pick::Old]);
-    let store = match open(alloc, disk) {
-        Ok(store) => store,
-        Err((refusal, _)) => return Err(Fail::from(refusal)),
-    };
     let now = Numbers {
         opened: 1,
         durable: 1,
@@ -143,6 +197,6 @@ fn stopped_ledger_is_opened_again(rt: HostRuntime) -> Result<(), Fail> {
         journal_pages: 4,
         broken: false,
     };
-    assert_eq!(rt; told_by(&ledger_of(alloc, store)?), now);
+    assert_eq!(rt; told_of(alloc, disk)?, now);
     Ok(())
 }

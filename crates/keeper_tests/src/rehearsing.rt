@@ -2,10 +2,11 @@ ghost use Rattle.std.specs.Prelude.{◌≡◌, ◌≤◌, true, IfOk};
 ghost use Rattle.store.specs.State.{is_calm};
 
 use crate::keeping::six as network_of_six;
+use crate::ledgers::are_alone;
 use disk::{Disk, MemDisk, Pick};
 use keeper::{Rehearsal, rehearse};
 use machine::{Answer, Event, Replied, Writing};
-use roadnet::{Command, Refusal};
+use roadnet::{Command, Group, Refusal};
 use rows::{Query, Reply};
 use std::alloc::Global;
 use std::test::Fail;
@@ -63,7 +64,9 @@ fn rehearsed<R: Threads>(
 }
 
 fn submit(command: Command) -> Event<Pick> {
-    Event::Submit { command }
+    Event::Submit {
+        group: Group::one(command),
+    }
 }
 
 fn close(arc: u64) -> Event<Pick> {
@@ -166,9 +169,9 @@ fn stop_within_flush(rt: HostRuntime) -> Result<(), Fail> {
     Ok(())
 }
 
-// The head of the second slot after `close 7` and a checkpoint: epoch 2, version 1, next sequence 1, no landmarks.
-const HEAD_2: [u8; 28] =
-    *b"\x00\x00\x00\x00\x00\x00\x00\x02\x00\x00\x00\x00\x00\x00\x00\x01\x00\x00\x00\x00\x00\x00\x00\x01\x00\x00\x00\x00";
+// The head of the second slot after `close 7` and a checkpoint: epoch 2, version 1, next sequence 1, no landmarks, 8 arcs.
+const HEAD_2: [u8; 32] =
+    *b"\x00\x00\x00\x00\x00\x00\x00\x02\x00\x00\x00\x00\x00\x00\x00\x01\x00\x00\x00\x00\x00\x00\x00\x01\x00\x00\x00\x00\x00\x00\x00\x08";
 
 // The page of a disk where the store of six nodes has the head of its second slot.
 fn head_of_second_slot(disk: &mut MemDisk) -> Result<[u8; 4096], Refusal> {
@@ -210,7 +213,7 @@ fn stop_within_checkpoint(rt: HostRuntime) -> Result<(), Fail> {
     // The slot that the last stop left is the second one, with its head's numbers.
     let mut disk = run.disk;
     let head = head_of_second_slot(&mut disk)?;
-    assert!(rt; head.starts_with(&HEAD_2) && head[28..4095].iter().all(|&byte| byte == 0));
+    assert!(rt; head.starts_with(&HEAD_2) && head[32..4095].iter().all(|&byte| byte == 0));
     assert_eq!(rt; head[4095], 165);
     let Ok(store) = open(alloc, disk) else {
         return Err(Refusal::Device.into());
@@ -246,7 +249,7 @@ fn a_stop_forgets(rt: HostRuntime) -> Result<(), Fail> {
         opened(1),
     ];
     assert!(rt; run.replies.as_slice() == replies.as_slice());
-    assert!(rt; run.history.as_slice() == [Command::Close { arc: 7 }].as_slice());
+    assert!(rt; are_alone(run.history.as_slice(), &[Command::Close { arc: 7 }]));
     Ok(())
 }
 

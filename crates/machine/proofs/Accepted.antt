@@ -1,7 +1,7 @@
--- The accepted commands are what the turns of a run say.
+-- The accepted groups are what the turns of a run say.
 use Rattle.std.proofs.Common.{◌≡◌, ⊎_elim, ℕ, ◌-◌, List, [], ◌∷◌, ◌++◌, take, Option, Some, None, Result, Ok, Err, refl, sym, ◌∙◌, ap, subst}
 use Rattle.std.proofs.lemmas.List.{append-nil}
-use Rattle.roadnet.specs.declared.commands.Command.{Command}
+use Rattle.roadnet.specs.declared.groups.Group.{Group}
 use Rattle.roadnet.specs.declared.refusals.Refusal.{Refusal}
 use Rattle.roadnet.specs.declared.refusals.Refusal.TheVariants.{Device}
 use Rattle.roadnet.specs.Net.{Net}
@@ -18,7 +18,7 @@ use Rattle.machine.specs.Machine.{Machine, IsState, start, batch}
 use Rattle.machine.specs.Calls.{Submits, Flushes, TakesTask, Asks, StopsAndOpens, failed, with_batch}
 use Rattle.machine.specs.Lives.{told_ticket, told_version, told_part, Writes, StopComes, Does, StopsFor, Turn, Passes, Ends}
 use Rattle.machine.specs.Lives.Ends.{Whole, NoMemory, NotOpened}
-use Rattle.machine.specs.Headline.{commands_left, accepted_behind, accepted_in, WholeHistoriesAreAccepted}
+use Rattle.machine.specs.Headline.{groups_left, accepted_behind, accepted_in, WholeHistoriesAreAccepted}
 use Rattle.machine.proofs.Kept.{started}
 use Rattle.machine.proofs.Checkpoints.{but_step, but_checkpoint}
 use Rattle.machine.proofs.OverLives.{later_by_turn}
@@ -45,30 +45,30 @@ same_stop w a b replies final comes =
     ⊎_elim (λ within. same_write w a b (Refused Device) within.0) (λ behind. same_write w a b behind.0 behind.1) comes
 
 -- ---- the stop's own reply tells what is left
-past_version : (result : Result ℕ Refusal) (more : List Replied) (version : ℕ) (cs : List Command) → commands_left version cs (told_version result ∷ more) ≡ commands_left version cs more
+past_version : (result : Result ℕ Refusal) (more : List Replied) (version : ℕ) (cs : List Group) → groups_left version cs (told_version result ∷ more) ≡ groups_left version cs more
 past_version (Ok durable) more version cs = refl
 past_version (Err refusal) more version cs = refl
 
-past_part : (result : Result (Option ℕ) Refusal) (more : List Replied) (version : ℕ) (cs : List Command) → commands_left version cs (told_part result ∷ more) ≡ commands_left version cs more
+past_part : (result : Result (Option ℕ) Refusal) (more : List Replied) (version : ℕ) (cs : List Group) → groups_left version cs (told_part result ∷ more) ≡ groups_left version cs more
 past_part (Ok None) more version cs = refl
 past_part (Ok (Some durable)) more version cs = refl
 past_part (Err refusal) more version cs = refl
 
-past_write : (w : Writing) (a b : Machine) (reply : Replied) (more : List Replied) (version : ℕ) (cs : List Command) → Writes a w reply b → commands_left version cs (reply ∷ more) ≡ commands_left version cs more
-past_write a_flush a b reply more version cs w = ap (λ (r : Replied). commands_left version cs (r ∷ more)) w.2 ∙ past_version w.0 more version cs
-past_write a_checkpoint a b reply more version cs w = ap (λ (r : Replied). commands_left version cs (r ∷ more)) w.2 ∙ past_version w.0 more version cs
-past_write (a_step pages) a b reply more version cs w = ap (λ (r : Replied). commands_left version cs (r ∷ more)) w.2 ∙ past_part w.0 more version cs
+past_write : (w : Writing) (a b : Machine) (reply : Replied) (more : List Replied) (version : ℕ) (cs : List Group) → Writes a w reply b → groups_left version cs (reply ∷ more) ≡ groups_left version cs more
+past_write a_flush a b reply more version cs w = ap (λ (r : Replied). groups_left version cs (r ∷ more)) w.2 ∙ past_version w.0 more version cs
+past_write a_checkpoint a b reply more version cs w = ap (λ (r : Replied). groups_left version cs (r ∷ more)) w.2 ∙ past_version w.0 more version cs
+past_write (a_step pages) a b reply more version cs w = ap (λ (r : Replied). groups_left version cs (r ∷ more)) w.2 ∙ past_part w.0 more version cs
 
-by_final : (w : Writing) (a b : Machine) (replies : List Replied) (final : Replied) (version : ℕ) (cs : List Command) → StopComes a w replies final b → commands_left version cs replies ≡ commands_left version cs (final ∷ [])
+by_final : (w : Writing) (a b : Machine) (replies : List Replied) (final : Replied) (version : ℕ) (cs : List Group) → StopComes a w replies final b → groups_left version cs replies ≡ groups_left version cs (final ∷ [])
 by_final w a b replies final version cs comes = ⊎_elim
-    (λ within. ap (commands_left version cs) within.1)
-    (λ behind. ap (commands_left version cs) behind.2 ∙ past_write w a b behind.0 (final ∷ []) version cs behind.1)
+    (λ within. ap (groups_left version cs) within.1)
+    (λ behind. ap (groups_left version cs) behind.2 ∙ past_write w a b behind.0 (final ∷ []) version cs behind.1)
     comes
 
 opened_has : (a b : Machine) (v : ℕ) → StopsAndOpens a v b → take (v - a.base_version) a.accepted ≡ b.accepted
 opened_has a b v opens = sym (ap (λ (m : Machine). m.accepted) opens.1.2)
 
--- ---- each turn changes the machine's accepted commands as it says
+-- ---- each turn changes the machine's accepted groups as it says
 same_task : (a b : Machine) (result : Result (Option (ℕ × Net)) Refusal) → TakesTask a result b → a.accepted ≡ b.accepted
 same_task a b (Ok None) takes = sym (ap (λ (m : Machine). m.accepted) takes.1)
 same_task a b (Ok (Some task)) takes = sym (ap (λ (m : Machine). m.accepted) takes.3)
@@ -78,7 +78,7 @@ same_asked : (a b : Machine) (query : Query) (result : Result Answer Refusal) �
 same_asked a b query (Ok answer) asks = sym (ap (λ (m : Machine). m.accepted) asks.2)
 same_asked a b query (Err refusal) asks = sym (ap (λ (m : Machine). m.accepted) asks.2)
 
-by_submit : (P : Type 0) (a b : Machine) (c : Command) (result : Result Ticket Refusal) → Submits a c result b → accepted_behind {P = P} a.base_version a.accepted (Submit c) (told_ticket result ∷ []) ≡ b.accepted
+by_submit : (P : Type 0) (a b : Machine) (c : Group) (result : Result Ticket Refusal) → Submits a c result b → accepted_behind {P = P} a.base_version a.accepted (Submit c) (told_ticket result ∷ []) ≡ b.accepted
 by_submit P a b c (Ok ticket) step = sym (ap (λ (m : Machine). m.accepted) step.2)
 by_submit P a b c (Err refusal) step = sym (ap (λ (m : Machine). m.accepted) step.1)
 
@@ -90,16 +90,16 @@ by_turn P (CheckpointStep pages) a b replies d = sym (same_write (a_step pages) 
 by_turn P Task a b replies d = same_task a b d.0 d.1
 by_turn P Publish a b replies d = ⊎_elim (λ p. sym (ap (λ (m : Machine). m.accepted) p.2.2)) (λ n. sym (ap (λ (m : Machine). m.accepted) n.1)) d
 by_turn P (Ask query) a b replies d = same_asked a b query d.0 d.1
-by_turn P Stop a b replies d = ap (commands_left a.base_version a.accepted) d.2 ∙ opened_has a b d.0 d.1
+by_turn P Stop a b replies d = ap (groups_left a.base_version a.accepted) d.2 ∙ opened_has a b d.0 d.1
 by_turn P (StopWithin call picks writing) a b replies d =
     let same = same_stop writing a d.0 replies (Opened d.1) d.2 in
     by_final writing a d.0 replies (Opened d.1) a.base_version a.accepted d.2
-    ∙ (ap (λ (cs : List Command). take (d.1 - a.base_version) cs) (sym same.0)
+    ∙ (ap (λ (cs : List Group). take (d.1 - a.base_version) cs) (sym same.0)
     ∙ (ap (λ (v : ℕ). take (d.1 - v) d.0.accepted) (sym same.1) ∙ opened_has d.0 b d.1 d.3))
 
 -- a stop after which the store is not opened takes nothing back
 by_end : (P : Type 0) (e : Event P) (a last : Machine) (replies : List Replied) → StopsFor a e replies last → accepted_behind a.base_version a.accepted e replies ≡ last.accepted
-by_end P Stop a last replies stops = ap (commands_left a.base_version a.accepted) stops.1 ∙ sym (ap (λ (m : Machine). m.accepted) stops.0)
+by_end P Stop a last replies stops = ap (groups_left a.base_version a.accepted) stops.1 ∙ sym (ap (λ (m : Machine). m.accepted) stops.0)
 by_end P (StopWithin call picks writing) a last replies stops =
     by_final writing a last replies StoppedAlone a.base_version a.accepted stops ∙ sym (same_stop writing a last replies StoppedAlone stops).0
 by_end P (Submit c) a last replies stops = absurd stops
@@ -111,25 +111,25 @@ by_end P Publish a last replies stops = absurd stops
 by_end P (Ask query) a last replies stops = absurd stops
 
 -- ---- a run of turns
--- from here on the turns that follow are folded from the machine's accepted commands
+-- from here on the turns that follow are folded from the machine's accepted groups
 through : {P : Type 0} (turns rest : List (Turn P)) (a b : Machine) → IsState a → Passes a turns b → accepted_in a.base_version a.accepted (turns ++ rest) ≡ accepted_in b.base_version b.accepted rest
 through [] rest a b s p = ap (λ (m : Machine). accepted_in m.base_version m.accepted rest) (sym p)
 through (turn ∷ turns) rest a b s p =
     let now = later_by_turn turn a p.0 s p.1 in
-    ap (λ (cs : List Command). accepted_in a.base_version cs (turns ++ rest)) (by_turn _ turn.0 a p.0 turn.1 p.1)
+    ap (λ (cs : List Group). accepted_in a.base_version cs (turns ++ rest)) (by_turn _ turn.0 a p.0 turn.1 p.1)
     ∙ (ap (λ (v : ℕ). accepted_in v p.0.accepted (turns ++ rest)) (sym now.1.base_version) ∙ through turns rest p.0 b now.0 p.2)
 
 passed : {P : Type 0} (turns : List (Turn P)) (a b : Machine) → IsState a → Passes a turns b → accepted_in a.base_version a.accepted turns ≡ b.accepted
 passed turns a b s p = ap (accepted_in a.base_version a.accepted) (sym (append-nil turns)) ∙ through turns [] a b s p
 
--- the accepted commands of a run are those of its last state
-pub accepted_at_end : {P : Type 0} (first last : Machine) (turns : List (Turn P)) (rest : List (Event P)) (ended : Option Refusal) (history : List Command) → IsState first → Ends first turns rest ended history last → accepted_in first.base_version first.accepted turns ≡ last.accepted
+-- the accepted groups of a run are those of its last state
+pub accepted_at_end : {P : Type 0} (first last : Machine) (turns : List (Turn P)) (rest : List (Event P)) (ended : Option Refusal) (history : List Group) → IsState first → Ends first turns rest ended history last → accepted_in first.base_version first.accepted turns ≡ last.accepted
 accepted_at_end first last turns rest ended history s (Whole passes none nothing is) = passed turns first last s passes
 accepted_at_end first last turns rest ended history s (NoMemory passes some is) = passed turns first last s passes
 accepted_at_end first last turns rest ended history s (NotOpened before turn mid whole passes stops why is) =
     ap (accepted_in first.base_version first.accepted) whole ∙ (through before (turn ∷ []) first mid s passes ∙ by_end _ turn.0 mid last turn.1 stops)
 
-whole_history : {P : Type 0} (first last : Machine) (turns : List (Turn P)) (rest : List (Event P)) (ended : Option Refusal) (history : List Command) → ended ≡ None → Ends first turns rest ended history last → history ≡ last.accepted
+whole_history : {P : Type 0} (first last : Machine) (turns : List (Turn P)) (rest : List (Event P)) (ended : Option Refusal) (history : List Group) → ended ≡ None → Ends first turns rest ended history last → history ≡ last.accepted
 whole_history first last turns rest ended history whole (Whole passes none nothing is) = is
 whole_history first last turns rest ended history whole (NoMemory passes some is) = is
 whole_history first last turns rest ended history whole (NotOpened before turn mid all passes stops why is) =

@@ -1,11 +1,12 @@
--- Acknowledged commands and answers stay right through each run.
-use Rattle.std.proofs.Common.{◌≡◌, ⊎_elim, ℕ, suc, zero, ◌+◌, ◌-◌, ◌<◌, ◌≤◌, min, Bool, true, false, cond, leb, List, [], ◌∷◌, ◌++◌, length, take, Some, None, Ok, Err, refl, sym, ◌∙◌, ap, subst, arith, length-take}
+-- Acknowledged groups and answers stay right through each run.
+use Rattle.std.proofs.Common.{◌≡◌, ⊎_elim, ℕ, suc, zero, ◌+◌, ◌-◌, ◌<◌, ◌≤◌, min, Bool, true, false, cond, leb, List, [], ◌∷◌, ◌++◌, length, take, Some, None, Ok, Err, Result, refl, sym, ◌∙◌, ap, subst, arith, length-take}
 use Rattle.std.specs.Prelude.{slice_get, filter, nat_le, nat_lt}
 use Rattle.std.specs.List.{AllByRecursion}
 use Rattle.std.proofs.lemmas.Bool.{leb-true}
 use Rattle.std.proofs.lemmas.List.{take-take}
 use Rattle.std.proofs.Math.Seq.{take-append_seam}
-use Rattle.roadnet.specs.declared.commands.Command.{Command}
+use Rattle.roadnet.specs.declared.groups.Group.{Group}
+use Rattle.roadnet.specs.declared.refusals.Refusal.{Refusal}
 use Rattle.roadnet.specs.declared.refusals.Refusal.TheVariants.{Broken, NotYet}
 use Rattle.roadnet.specs.Net.{Net, nth}
 use Rattle.roadnet.specs.Step.{after}
@@ -13,8 +14,8 @@ use Rattle.machine.specs.declared.calls.Ticket.{Ticket}
 use Rattle.machine.specs.declared.calls.Receipt.{Receipt}
 use Rattle.rows.specs.declared.queries.Query.{Query}
 use Rattle.machine.specs.declared.calls.Answer.{Answer}
-use Rattle.machine.specs.Machine.{Machine, IsState, start, batch, latest, commands_to}
-use Rattle.machine.specs.Calls.{Asks, failed, with_command, with_batch, has_nothing_unchecked, checkpoint_of, with_pages_written, with_part, is_out, without_task, with_shown, reopened, IsLeft, StopsAndOpens, IsTicketOf}
+use Rattle.machine.specs.Machine.{Machine, IsState, start, batch, latest, groups_to}
+use Rattle.machine.specs.Calls.{Asks, failed, with_group, with_batch, has_nothing_unchecked, checkpoint_of, with_pages_written, with_part, is_out, without_task, with_shown, reopened, IsLeft, StopsAndOpens, IsTicketOf}
 use Rattle.machine.specs.Runs.{Happened, Step, Run, held_after, acknowledged_by, acknowledged}
 use Rattle.machine.specs.Runs.Happened.{Submitted, Flushed, Checkpointed, TookTask, GaveUp, Published, Asked, Received, Stopped}
 use Rattle.machine.specs.Laws.{IsLater, IsAt, IsRightAfter, AcknowledgedStay, AnswersStayRight}
@@ -65,7 +66,7 @@ all_filtered : {X : Type 0} (P Q : X → Type 0) (p : X → Bool) (xs : List X) 
 all_filtered P Q p [] f a = tt
 all_filtered P Q p (x ∷ xs) f a = kept_or_not P Q x (p x) (filter p xs) (λ is. f x a.0 is) (all_filtered P Q p xs f a.1)
 
--- the ticket's command is durable
+-- the ticket's group is durable
 abbrev pub IsDurable : Machine → Ticket → Type 0
 IsDurable m ticket = IsAt m.base_version (take (m.durable - m.base_version) m.accepted) ticket
 
@@ -78,29 +79,29 @@ durable_still m last t later h =
     let k = last.durable - last.base_version in
     let le : n ≤ k = omega (arith, later.base_version, later.durable) in
     let same : take n (take k last.accepted) ≡ take n m.accepted = take-take n k last.accepted le ∙ still m last later in
-    let there : nth (take n (take k last.accepted)) (t.number - m.base_version) ≡ Some t.command = ap (λ (l : List Command). nth l (t.number - m.base_version)) same ∙ h.1 in
-    let found : nth (take k last.accepted) (t.number - m.base_version) ≡ Some t.command = nth_from_front n (take k last.accepted) (t.number - m.base_version) t.command there in
+    let there : nth (take n (take k last.accepted)) (t.number - m.base_version) ≡ Some t.group = ap (λ (l : List Group). nth l (t.number - m.base_version)) same ∙ h.1 in
+    let found : nth (take k last.accepted) (t.number - m.base_version) ≡ Some t.group = nth_from_front n (take k last.accepted) (t.number - m.base_version) t.group there in
     (omega (arith, later.base_version, h.0), ap (λ (v : ℕ). nth (take k last.accepted) (t.number - v)) later.base_version ∙ found)
 
--- a ticket stays one where the commands and the version stay
+-- a ticket stays one where the groups and the version stay
 pub ticket_still : (old new : Machine) (t : Ticket) → new.accepted ≡ old.accepted → new.base_version ≡ old.base_version → IsTicketOf old t → IsTicketOf new t
 ticket_still old new t same version h =
-    (omega (arith, version, h.0), ap (λ (v : ℕ). nth new.accepted (t.number - v)) version ∙ (ap (λ (l : List Command). nth l (t.number - old.base_version)) same ∙ h.1))
+    (omega (arith, version, h.0), ap (λ (v : ℕ). nth new.accepted (t.number - v)) version ∙ (ap (λ (l : List Group). nth l (t.number - old.base_version)) same ∙ h.1))
 
-pub ticket_of_more : (m : Machine) (c : Command) (t : Ticket) → IsTicketOf m t → IsTicketOf (with_command m c) t
-ticket_of_more m c t h = (h.0, nth_of_more m.accepted (c ∷ []) (t.number - m.base_version) t.command h.1)
+pub ticket_of_more : (m : Machine) (c : Group) (t : Ticket) → IsTicketOf m t → IsTicketOf (with_group m c) t
+ticket_of_more m c t h = (h.0, nth_of_more m.accepted (c ∷ []) (t.number - m.base_version) t.group h.1)
 
-pub ticket_of_new : (m : Machine) (c : Command) → IsTicketOf (with_command m c) (record { number = latest m + 1; command = c })
+pub ticket_of_new : (m : Machine) (c : Group) → IsTicketOf (with_group m c) (record { number = latest m + 1; group = c })
 ticket_of_new m c =
     let place : latest m + 1 - m.base_version ≡ suc (length m.accepted) = omega arith in
     (omega arith, ap (nth (m.accepted ++ c ∷ [])) place ∙ got_last m.accepted c)
 
-receipt_parts : (m : Machine) (t : Ticket) (receipt : Receipt) (b : Bool) (broken : Bool) → leb t.number m.durable ≡ b → Ok receipt ≡ cond b (Ok (record { number = t.number; command = t.command })) (cond broken (Err Broken) (Err NotYet)) → (t.number ≤ m.durable) × (record { number = t.number; command = t.command } ≡ receipt)
+receipt_parts : (m : Machine) (t : Ticket) (receipt : Receipt) (b : Bool) (broken : Bool) → leb t.number m.durable ≡ b → ◌≡◌ {A = Result Receipt (Refusal × Ticket)} (Ok receipt) (cond b (Ok (record { number = t.number; group = t.group })) (cond broken (Err (Broken, t)) (Err (NotYet, t)))) → (t.number ≤ m.durable) × (record { number = t.number; group = t.group } ≡ receipt)
 receipt_parts m t receipt true broken le h = (leb-true t.number m.durable le, cc)
 receipt_parts m t receipt false true le h = cc
 receipt_parts m t receipt false false le h = cc
 
--- by an equation of the state, where the commands and the version stay
+-- by an equation of the state, where the groups and the version stay
 pub same_ticket : (old m new : Machine) (t : Ticket) → new ≡ m → m.accepted ≡ old.accepted → m.base_version ≡ old.base_version → IsTicketOf old t → IsTicketOf new t
 same_ticket old m new t is a v at =
     ticket_still old new t (ap (λ (x : Machine). x.accepted) is ∙ a) (ap (λ (x : Machine). x.base_version) is ∙ v) at
@@ -159,8 +160,8 @@ ticket_left m mid version t step at le =
 -- the tickets that are held are tickets
 pub held_by_step : (h : Happened) (m mid : Machine) (held : List Ticket) → Step m h mid → AllByRecursion (IsTicketOf m) held → AllByRecursion (IsTicketOf mid) (held_after held h)
 held_by_step (Submitted c (Ok ticket)) m mid held step all =
-    let fresh : IsTicketOf mid (record { number = latest m + 1; command = c }) =
-    subst (λ (x : Machine). IsTicketOf x (record { number = latest m + 1; command = c })) (sym step.2) (ticket_of_new m c) in
+    let fresh : IsTicketOf mid (record { number = latest m + 1; group = c }) =
+    subst (λ (x : Machine). IsTicketOf x (record { number = latest m + 1; group = c })) (sym step.2) (ticket_of_new m c) in
     (subst (IsTicketOf mid) (sym step.1) fresh, held_still (Submitted c (Ok ticket)) m mid held step refl all)
 held_by_step (Submitted c (Err refusal)) m mid held step all = held_still (Submitted c (Err refusal)) m mid held step refl all
 held_by_step (Flushed result) m mid held step all = held_still (Flushed result) m mid held step refl all
@@ -184,8 +185,8 @@ acked_by_step (Flushed (Err refusal)) m mid held s step all = tt
 acked_by_step (Received ticket (Ok receipt)) m mid held s step all =
     let parts = receipt_parts m ticket receipt (leb ticket.number m.durable) m.broken refl step.1 in
     let later = later_by_step m mid (Received ticket (Ok receipt)) s step in
-    let told : IsDurable mid (record { number = ticket.number; command = ticket.command }) = durable_still m mid ticket later (durable_of m ticket step.0 parts.0) in
-    (subst (λ (x : Receipt). IsDurable mid (record { number = x.number; command = x.command })) parts.1 told, tt)
+    let told : IsDurable mid (record { number = ticket.number; group = ticket.group }) = durable_still m mid ticket later (durable_of m ticket step.0 parts.0) in
+    (subst (λ (x : Receipt). IsDurable mid (record { number = x.number; group = x.group })) parts.1 told, tt)
 acked_by_step (Received ticket (Err refusal)) m mid held s step all = tt
 acked_by_step (Submitted c result) m mid held s step all = tt
 acked_by_step (Checkpointed pages result) m mid held s step all = tt
@@ -209,16 +210,16 @@ acks (h ∷ hs) m last held s all r =
     (acked_still mid last (acknowledged_by held h) later.1 (acked_by_step h m mid held s r.1 all))
     (acks hs mid last (held_after held h) state (held_by_step h m mid held r.1 all) r.2)
 
--- a number among the first commands is the same among more of them
-pub at_longer : (version : ℕ) (commands : List Command) (i j : ℕ) (t : Ticket) → i ≤ j → IsAt version (take i commands) t → IsAt version (take j commands) t
-at_longer version commands i j t le h = (
+-- a number among the first groups is the same among more of them
+pub at_longer : (version : ℕ) (groups : List Group) (i j : ℕ) (t : Ticket) → i ≤ j → IsAt version (take i groups) t → IsAt version (take j groups) t
+at_longer version groups i j t le h = (
   h.0,
-  nth_from_front i (take j commands) (t.number - version) t.command
-      (ap (λ (l : List Command). nth l (t.number - version)) (take-take i j commands le) ∙ h.1),
+  nth_from_front i (take j groups) (t.number - version) t.group
+      (ap (λ (l : List Group). nth l (t.number - version)) (take-take i j groups le) ∙ h.1),
 )
 
 -- what is durable is among what a stop leaves
-pub durable_left : (m : Machine) (t : Ticket) (left : ℕ) → IsState m → IsLeft m left → IsDurable m t → IsAt m.base_version (commands_to m left) t
+pub durable_left : (m : Machine) (t : Ticket) (left : ℕ) → IsState m → IsLeft m left → IsDurable m t → IsAt m.base_version (groups_to m left) t
 durable_left m t left s is h =
     let between = left_between m s left is in
     at_longer m.base_version m.accepted (m.durable - m.base_version) (left - m.base_version) t (omega arith) h
@@ -228,16 +229,16 @@ acknowledged_stay sizes base version unchecked happened last left few fits r is 
     let first = start sizes base version unchecked in
     let state = started sizes base version unchecked few fits in
     let later = later_by_run first last happened state r in
-    subst (λ (v : ℕ). AllByRecursion (IsAt v (commands_to last left)) (acknowledged [] happened)) later.1.base_version
-    (all_of (IsDurable last) (IsAt last.base_version (commands_to last left)) (acknowledged [] happened) (λ t. durable_left last t left later.0 is)
+    subst (λ (v : ℕ). AllByRecursion (IsAt v (groups_to last left)) (acknowledged [] happened)) later.1.base_version
+    (all_of (IsDurable last) (IsAt last.base_version (groups_to last left)) (acknowledged [] happened) (λ t. durable_left last t left later.0 is)
     (acks happened first last [] state tt r))
 
--- the commands of the durable versions
-abbrev pub durable_commands : Machine → List Command
-durable_commands m = take (m.durable - m.base_version) m.accepted
+-- the groups of the durable versions
+abbrev pub durable_groups : Machine → List Group
+durable_groups m = take (m.durable - m.base_version) m.accepted
 
--- an answer is right for the durable commands
-pub asked_right : (m new : Machine) (query : Query) (answer : Answer) → IsState m → Asks m query (Ok answer) new → IsRightAfter m.base m.base_version (durable_commands m) query answer
+-- an answer is right for the durable groups
+pub asked_right : (m new : Machine) (query : Query) (answer : Answer) → IsState m → Asks m query (Ok answer) new → IsRightAfter m.base m.base_version (durable_groups m) query answer
 asked_right m new query answer s ask =
     let n = m.shown - m.base_version in
     let k = m.durable - m.base_version in
@@ -254,7 +255,7 @@ asked_right m new query answer s ask =
     }
 
 -- and stays so
-pub right_still : (m last : Machine) (query : Query) (answer : Answer) → IsState last → IsLater m last → IsRightAfter m.base m.base_version (durable_commands m) query answer → IsRightAfter last.base last.base_version (durable_commands last) query answer
+pub right_still : (m last : Machine) (query : Query) (answer : Answer) → IsState last → IsLater m last → IsRightAfter m.base m.base_version (durable_groups m) query answer → IsRightAfter last.base last.base_version (durable_groups last) query answer
 right_still m last query answer s later right =
     let i = answer.version - m.base_version in
     let n = m.durable - m.base_version in
@@ -275,30 +276,30 @@ right_still m last query answer s later right =
       network_is = ap (after m.base) kept ∙ right.network_is;
       reply = right.reply;
     } in
-    subst (λ (b : Net). IsRightAfter b last.base_version (durable_commands last) query answer) (sym later.base)
+    subst (λ (b : Net). IsRightAfter b last.base_version (durable_groups last) query answer) (sym later.base)
     (subst (λ (v : ℕ). IsRightAfter m.base v (take (last.durable - v) last.accepted) query answer) (sym later.base_version) here)
 
--- and is right for more commands
-pub right_in_more : (base : Net) (version n : ℕ) (commands : List Command) (query : Query) (answer : Answer) → IsRightAfter base version (take n commands) query answer → IsRightAfter base version commands query answer
-right_in_more base version n commands query answer right =
-    let size : length (take n commands) ≡ min n (length commands) = length-take n commands in
+-- and is right for more groups
+pub right_in_more : (base : Net) (version n : ℕ) (groups : List Group) (query : Query) (answer : Answer) → IsRightAfter base version (take n groups) query answer → IsRightAfter base version groups query answer
+right_in_more base version n groups query answer right =
+    let size : length (take n groups) ≡ min n (length groups) = length-take n groups in
     let near : answer.version - version ≤ n = omega (arith, right.to) in
     record {
       from = right.from;
       to = omega (arith, right.to);
       network = right.network;
-      network_is = ap (after base) (sym (take-take (answer.version - version) n commands near)) ∙ right.network_is;
+      network_is = ap (after base) (sym (take-take (answer.version - version) n groups near)) ∙ right.network_is;
       reply = right.reply;
     }
 
--- and for the commands that a stop leaves
-pub right_left : (m : Machine) (left : ℕ) (query : Query) (answer : Answer) → IsState m → IsLeft m left → IsRightAfter m.base m.base_version (durable_commands m) query answer → IsRightAfter m.base m.base_version (commands_to m left) query answer
+-- and for the groups that a stop leaves
+pub right_left : (m : Machine) (left : ℕ) (query : Query) (answer : Answer) → IsState m → IsLeft m left → IsRightAfter m.base m.base_version (durable_groups m) query answer → IsRightAfter m.base m.base_version (groups_to m left) query answer
 right_left m left query answer s is right =
     let between = left_between m s left is in
     let i = m.durable - m.base_version in
-    let same : take i (commands_to m left) ≡ take i m.accepted = take-take i (left - m.base_version) m.accepted (omega arith) in
-    right_in_more m.base m.base_version i (commands_to m left) query answer
-    (subst (λ (cs : List Command). IsRightAfter m.base m.base_version cs query answer) (sym same) right)
+    let same : take i (groups_to m left) ≡ take i m.accepted = take-take i (left - m.base_version) m.accepted (omega arith) in
+    right_in_more m.base m.base_version i (groups_to m left) query answer
+    (subst (λ (cs : List Group). IsRightAfter m.base m.base_version cs query answer) (sym same) right)
 
 pub answers_stay_right : AnswersStayRight
 answers_stay_right sizes base version unchecked before behind query answer last left few fits r is =
@@ -310,6 +311,6 @@ answers_stay_right sizes base version unchecked before behind query answer last 
     let to_last = later_by_run mid last (Asked query (Ok answer) ∷ behind) to_mid.0 parts.2 in
     let right = right_still mid last query answer to_last.0 to_last.1 (asked_right mid parts.2.0 query answer to_mid.0 parts.2.1) in
     let whole = later_still first mid last to_mid.1 to_last.1 in
-    subst (λ (b : Net). IsRightAfter b version (commands_to last left) query answer) whole.base
-    (subst (λ (v : ℕ). IsRightAfter last.base v (commands_to last left) query answer) whole.base_version
+    subst (λ (b : Net). IsRightAfter b version (groups_to last left) query answer) whole.base
+    (subst (λ (v : ℕ). IsRightAfter last.base v (groups_to last left) query answer) whole.base_version
     (right_left last left query answer to_last.0 is right))

@@ -1,13 +1,14 @@
 -- Scripts whose output was worked out by hand: each is a run over lives. Least lengths are premises here.
-use Rattle.std.proofs.Common.{◌≡◌, inl, inr, ℕ, ◌+◌, ◌≤◌, true, false, List, [], ◌∷◌, ◌++◌, Some, None, Ok, Err, refl, sym, ◌∙◌, ap, lit≤}
+use Rattle.std.proofs.Common.{◌≡◌, inl, inr, ℕ, ◌+◌, ◌≤◌, true, false, List, [], ◌∷◌, ◌++◌, Some, None, Ok, Err, replicate, refl, sym, ◌∙◌, ap, lit≤}
 use Rattle.std.specs.Prelude.{Vec, map}
 use Rattle.std.specs.List.{flat_map}
 use Rattle.std.proofs.lemmas.List.{append-nil}
 use Rattle.roadnet.specs.declared.arcs.RoadArc.{RoadArc}
-use Rattle.roadnet.specs.declared.commands.Command.{Command}
+use Rattle.roadnet.specs.declared.groups.Group.{Group}
 use Rattle.roadnet.specs.declared.commands.Command.TheVariants.{Set, Close, Reopen, Mark, Unmark}
 use Rattle.roadnet.specs.declared.refusals.Refusal.{Refusal}
 use Rattle.roadnet.specs.declared.refusals.Refusal.TheVariants.{NoSuchArc, LengthRange, AlreadyClosed, AlreadyOpen, NoSuchNode, NotALandmark, NothingPending, JournalFull, Device}
+use Rattle.roadnet.specs.Groups.{IsGroup}
 use Rattle.roadnet.specs.Net.{Net}
 use Rattle.roadnet.specs.Walks.{Least}
 use Rattle.rows.specs.declared.queries.Query.TheVariants.{Dist}
@@ -19,8 +20,8 @@ use Rattle.machine.specs.declared.events.Event.TheVariants.{Submit, Flush, Check
 use Rattle.machine.specs.declared.events.Writing.TheVariants.{Flush as a_flush, Checkpoint as a_checkpoint}
 use Rattle.machine.specs.declared.events.Replied.{Replied}
 use Rattle.machine.specs.declared.events.Replied.TheVariants.{Accepted, Durable, Task as TaskOf, Shown, Answered, Refused, Opened, Stopped}
-use Rattle.machine.specs.Machine.{Machine, start, latest, batch, network_at}
-use Rattle.machine.specs.Calls.{refusal_of_submit, with_command, refusal_of_flush, with_batch, failed, refusal_of_checkpoint, has_nothing_unchecked, done_by, with_part, has_no_task, with_shown, reopened}
+use Rattle.machine.specs.Machine.{Machine, start, latest, fitting, batch, network_at}
+use Rattle.machine.specs.Calls.{refusal_of_submit, with_group, refusal_of_flush, with_batch, failed, refusal_of_checkpoint, has_nothing_unchecked, done_by, with_part, has_no_task, with_shown, reopened}
 use Rattle.machine.specs.Lives.{pages_of_step, Does, Turn, Passes, Lives}
 use Rattle.machine.specs.Lives.Ends.{Whole}
 use Rattle.machine.specs.Headline.{accepted_in}
@@ -55,11 +56,11 @@ then m mid e now es rs does p = record {
 }
 
 module _ (P : Type 0) (m : Machine) (es : List (Event P)) (rs : List Replied) where
-  submit_then : (c : Command) → refusal_of_submit m c ≡ None → Plays P (with_command m c) es rs → Plays P m (Submit c ∷ es) (Accepted (latest m + 1) ∷ rs)
-  submit_then c none p =
-      then m (with_command m c) (Submit c) (Accepted (latest m + 1) ∷ []) es rs (Ok (record { number = latest m + 1; command = c }), (none, refl, refl), refl) p
+  submit_then : (c : Group) → IsGroup c → refusal_of_submit m c ≡ None → Plays P (with_group m c) es rs → Plays P m (Submit c ∷ es) (Accepted (latest m + 1) ∷ rs)
+  submit_then c sized none p =
+      then m (with_group m c) (Submit c) (Accepted (latest m + 1) ∷ []) es rs (Ok (record { number = latest m + 1; group = c }), (none, refl, refl, sized), refl) p
 
-  refused_then : (c : Command) (r : Refusal) → refusal_of_submit m c ≡ Some r → Plays P m es rs → Plays P m (Submit c ∷ es) (Refused r ∷ rs)
+  refused_then : (c : Group) (r : Refusal) → refusal_of_submit m c ≡ Some r → Plays P m es rs → Plays P m (Submit c ∷ es) (Refused r ∷ rs)
   refused_then c r some p = then m m (Submit c) (Refused r ∷ []) es rs (Err r, (inl some, refl), refl) p
 
   flush_then : refusal_of_flush m ≡ None → Plays P (with_batch m) es rs → Plays P m (Flush ∷ es) (Durable (m.durable + batch m) ∷ rs)
@@ -121,6 +122,7 @@ six_with first seventh eighth = record {
   nodes = 6;
   arcs = first ∷ open_arc 1 3 10 ∷ open_arc 2 4 2 ∷ open_arc 3 5 0 ∷ open_arc 4 3 0 ∷ open_arc 4 6 3 ∷ seventh ∷ eighth ∷ [];
   landmarks = [];
+  room = 8;
 }
 
 abbrev six : Net
@@ -141,6 +143,10 @@ six_reopened = six_with (open_arc 1 2 17) (open_arc 5 2 0) (open_arc 5 6 4)
 abbrev six_set : Net
 six_set = six_with (open_arc 1 2 2) (open_arc 5 2 0) (open_arc 5 6 20)
 
+-- a group of one command
+one : (1 ≤ 1) × (1 ≤ 253)
+one = (lit≤ tt, lit≤ tt)
+
 -- a new store of it
 abbrev store : ℕ → Machine
 store journal_pages = start (record { journal_pages = journal_pages; checkpoint_pages = 1 }) six 0 0
@@ -149,73 +155,93 @@ abbrev told : ℕ → ℕ → ℕ → ℕ → Replied
 told v s t d = Answered (Dist s t) (record { version = v; reply = Length d })
 
 module _ (P : Type 0) where
-  second_close_refused : Plays P (store 64) (Submit (Close 7) ∷ Submit (Close 7) ∷ Flush ∷ Flush ∷ []) (Accepted 1 ∷ Refused AlreadyClosed ∷ Durable 1 ∷ Refused NothingPending ∷ [])
+  second_close_refused : Plays P (store 64) (Submit (Close 7 ∷ []) ∷ Submit (Close 7 ∷ []) ∷ Flush ∷ Flush ∷ []) (Accepted 1 ∷ Refused AlreadyClosed ∷ Durable 1 ∷ Refused NothingPending ∷ [])
   second_close_refused =
-      submit_then _ _ _ _ (Close 7) refl (refused_then _ _ _ _ (Close 7) AlreadyClosed refl (flush_then _ _ _ _ refl (flush_refused_then _ _ _ _ NothingPending refl (done _))))
+      submit_then _ _ _ _ (Close 7 ∷ []) one refl (refused_then _ _ _ _ (Close 7 ∷ []) AlreadyClosed refl (flush_then _ _ _ _ refl (flush_refused_then _ _ _ _ NothingPending refl (done _))))
 
-  refusals_of_commands : Plays P (store 64) (Submit (Set 9 1) ∷ Submit (Set 1 2147483648) ∷ Submit (Set 9 2147483648) ∷ Submit (Mark 7) ∷ Submit (Unmark 3) ∷ Submit (Reopen 7) ∷ [])
+  refusals_of_commands : Plays P (store 64) (Submit (Set 9 1 ∷ []) ∷ Submit (Set 1 2147483648 ∷ []) ∷ Submit (Set 9 2147483648 ∷ []) ∷ Submit (Mark 7 ∷ []) ∷ Submit (Unmark 3 ∷ []) ∷ Submit (Reopen 7 ∷ []) ∷ [])
       (Refused NoSuchArc ∷ Refused LengthRange ∷ Refused NoSuchArc ∷ Refused NoSuchNode ∷ Refused NotALandmark ∷ Refused AlreadyOpen ∷ [])
   refusals_of_commands =
-      refused_then _ _ _ _ (Set 9 1) NoSuchArc refl (refused_then _ _ _ _ (Set 1 2147483648) LengthRange refl (refused_then _ _ _ _ (Set 9 2147483648) NoSuchArc refl
-      (refused_then _ _ _ _ (Mark 7) NoSuchNode refl (refused_then _ _ _ _ (Unmark 3) NotALandmark refl (refused_then _ _ _ _ (Reopen 7) AlreadyOpen refl (done _))))))
+      refused_then _ _ _ _ (Set 9 1 ∷ []) NoSuchArc refl (refused_then _ _ _ _ (Set 1 2147483648 ∷ []) LengthRange refl (refused_then _ _ _ _ (Set 9 2147483648 ∷ []) NoSuchArc refl
+      (refused_then _ _ _ _ (Mark 7 ∷ []) NoSuchNode refl (refused_then _ _ _ _ (Unmark 3 ∷ []) NotALandmark refl (refused_then _ _ _ _ (Reopen 7 ∷ []) AlreadyOpen refl (done _))))))
 
   -- the answers come from what is shown; a shorter length and a reopened arc count from their version on
   shorter_length_shortens : Least six 1 6 15 → Least six_closed 1 6 22 → Least six_shorter 1 6 14 → Least six_reopened 1 6 14
       → Plays P (store 64)
-      (Submit (Close 7) ∷ Flush ∷ Ask (Dist 1 6) ∷ Task ∷ Publish ∷ Ask (Dist 1 6) ∷ Submit (Set 8 4) ∷ Flush ∷ Task ∷ Publish ∷ Ask (Dist 1 6) ∷ Submit (Reopen 7) ∷ Flush ∷ Task ∷ Publish ∷ Ask (Dist 1 6) ∷ [])
+      (Submit (Close 7 ∷ []) ∷ Flush ∷ Ask (Dist 1 6) ∷ Task ∷ Publish ∷ Ask (Dist 1 6) ∷ Submit (Set 8 4 ∷ []) ∷ Flush ∷ Task ∷ Publish ∷ Ask (Dist 1 6) ∷ Submit (Reopen 7 ∷ []) ∷ Flush ∷ Task ∷ Publish ∷ Ask (Dist 1 6) ∷ [])
       (Accepted 1 ∷ Durable 1 ∷ told 0 1 6 15 ∷ TaskOf 1 ∷ Shown 1 ∷ told 1 1 6 22 ∷ Accepted 2 ∷ Durable 2 ∷ TaskOf 2 ∷ Shown 2 ∷ told 2 1 6 14 ∷ Accepted 3 ∷ Durable 3 ∷ TaskOf 3 ∷ Shown 3 ∷ told 3 1 6 14 ∷ [])
   shorter_length_shortens at0 at1 at2 at3 =
-      submit_then _ _ _ _ (Close 7) refl (flush_then _ _ _ _ refl (dist_then _ _ _ _ 1 6 (Length 15) six refl (refl, at0)
+      submit_then _ _ _ _ (Close 7 ∷ []) one refl (flush_then _ _ _ _ refl (dist_then _ _ _ _ 1 6 (Length 15) six refl (refl, at0)
       (task_then _ _ _ _ six_closed refl refl (publish_then _ _ _ _ 1 six_closed refl refl (dist_then _ _ _ _ 1 6 (Length 22) six_closed refl (refl, at1)
-      (submit_then _ _ _ _ (Set 8 4) refl (flush_then _ _ _ _ refl
+      (submit_then _ _ _ _ (Set 8 4 ∷ []) one refl (flush_then _ _ _ _ refl
       (task_then _ _ _ _ six_shorter refl refl (publish_then _ _ _ _ 2 six_shorter refl refl (dist_then _ _ _ _ 1 6 (Length 14) six_shorter refl (refl, at2)
-      (submit_then _ _ _ _ (Reopen 7) refl (flush_then _ _ _ _ refl
+      (submit_then _ _ _ _ (Reopen 7 ∷ []) one refl (flush_then _ _ _ _ refl
       (task_then _ _ _ _ six_reopened refl refl (publish_then _ _ _ _ 3 six_reopened refl refl (dist_then _ _ _ _ 1 6 (Length 14) six_reopened refl (refl, at3) (done _))))))))))))))))
 
-  -- two accepted commands, the first one durable
+  -- a group is one version, and is refused whole for its first command that is not admitted
+  a_group_is_one_version : Least six_shorter 1 6 14
+      → Plays P (store 64)
+      (Submit (Close 7 ∷ Set 8 4 ∷ []) ∷ Flush ∷ Task ∷ Publish ∷ Ask (Dist 1 6) ∷ Submit (Reopen 7 ∷ Reopen 7 ∷ []) ∷ Flush ∷ [])
+      (Accepted 1 ∷ Durable 1 ∷ TaskOf 1 ∷ Shown 1 ∷ told 1 1 6 14 ∷ Refused AlreadyOpen ∷ Refused NothingPending ∷ [])
+  a_group_is_one_version at1 =
+      submit_then _ _ _ _ (Close 7 ∷ Set 8 4 ∷ []) (lit≤ tt, lit≤ tt) refl (flush_then _ _ _ _ refl
+      (task_then _ _ _ _ six_shorter refl refl (publish_then _ _ _ _ 1 six_shorter refl refl (dist_then _ _ _ _ 1 6 (Length 14) six_shorter refl (refl, at1)
+      (refused_then _ _ _ _ (Reopen 7 ∷ Reopen 7 ∷ []) AlreadyOpen refl (flush_refused_then _ _ _ _ NothingPending refl (done _)))))))
+
+  -- two accepted groups, the first one durable
   abbrev two_accepted : List (Turn P)
-  two_accepted = (Submit (Close 7), Accepted 1 ∷ []) ∷ (Flush, Durable 1 ∷ []) ∷ (Submit (Set 8 4), Accepted 2 ∷ []) ∷ []
+  two_accepted = (Submit (Close 7 ∷ []), Accepted 1 ∷ []) ∷ (Flush, Durable 1 ∷ []) ∷ (Submit (Set 8 4 ∷ []), Accepted 2 ∷ []) ∷ []
 
   module _ (picks : Vec P _) where
     -- a stop within a flush: before the gate, with the gate open, behind the flush
-    stop_before_the_gate : Plays P (store 64) (Submit (Close 7) ∷ StopWithin 1 picks a_flush ∷ []) (Accepted 1 ∷ Opened 0 ∷ [])
-    stop_before_the_gate = submit_then _ _ _ _ (Close 7) refl (stop_before_flush_then _ _ _ _ 1 picks 0 (lit≤ tt) refl (done _))
+    stop_before_the_gate : Plays P (store 64) (Submit (Close 7 ∷ []) ∷ StopWithin 1 picks a_flush ∷ []) (Accepted 1 ∷ Opened 0 ∷ [])
+    stop_before_the_gate = submit_then _ _ _ _ (Close 7 ∷ []) one refl (stop_before_flush_then _ _ _ _ 1 picks 0 (lit≤ tt) refl (done _))
 
-    stop_with_the_gate_open : Plays P (store 64) (Submit (Close 7) ∷ StopWithin 3 picks a_flush ∷ []) (Accepted 1 ∷ Opened 1 ∷ [])
-    stop_with_the_gate_open = submit_then _ _ _ _ (Close 7) refl (stop_after_flush_then _ _ _ _ 3 picks 1 (lit≤ tt) refl (done _))
+    stop_with_the_gate_open : Plays P (store 64) (Submit (Close 7 ∷ []) ∷ StopWithin 3 picks a_flush ∷ []) (Accepted 1 ∷ Opened 1 ∷ [])
+    stop_with_the_gate_open = submit_then _ _ _ _ (Close 7 ∷ []) one refl (stop_after_flush_then _ _ _ _ 3 picks 1 (lit≤ tt) refl (done _))
 
-    stop_behind_the_flush : Plays P (store 64) (Submit (Close 7) ∷ StopWithin 5 picks a_flush ∷ []) (Accepted 1 ∷ Durable 1 ∷ Opened 1 ∷ [])
-    stop_behind_the_flush = submit_then _ _ _ _ (Close 7) refl (stop_behind_flush_then _ _ _ _ 5 picks 1 (lit≤ tt) refl (done _))
+    stop_behind_the_flush : Plays P (store 64) (Submit (Close 7 ∷ []) ∷ StopWithin 5 picks a_flush ∷ []) (Accepted 1 ∷ Durable 1 ∷ Opened 1 ∷ [])
+    stop_behind_the_flush = submit_then _ _ _ _ (Close 7 ∷ []) one refl (stop_behind_flush_then _ _ _ _ 5 picks 1 (lit≤ tt) refl (done _))
 
     stop_within_checkpoint : Least six_closed 1 6 22
-        → Plays P (store 64) (Submit (Close 7) ∷ Flush ∷ StopWithin 4 picks a_checkpoint ∷ Ask (Dist 1 6) ∷ StopWithin 4 picks a_checkpoint ∷ Ask (Dist 1 6) ∷ [])
+        → Plays P (store 64) (Submit (Close 7 ∷ []) ∷ Flush ∷ StopWithin 4 picks a_checkpoint ∷ Ask (Dist 1 6) ∷ StopWithin 4 picks a_checkpoint ∷ Ask (Dist 1 6) ∷ [])
         (Accepted 1 ∷ Durable 1 ∷ Opened 1 ∷ told 1 1 6 22 ∷ Opened 1 ∷ told 1 1 6 22 ∷ [])
     stop_within_checkpoint least =
-        submit_then _ _ _ _ (Close 7) refl (flush_then _ _ _ _ refl (stop_in_checkpoint_then _ _ _ _ 4 picks 1 (lit≤ tt) refl refl
+        submit_then _ _ _ _ (Close 7 ∷ []) one refl (flush_then _ _ _ _ refl (stop_in_checkpoint_then _ _ _ _ 4 picks 1 (lit≤ tt) refl refl
         (dist_then _ _ _ _ 1 6 (Length 22) six_closed refl (refl, least) (stop_in_checkpoint_then _ _ _ _ 4 picks 0 (lit≤ tt) refl refl (dist_then _ _ _ _ 1 6 (Length 22) six_closed refl (refl, least) (done _))))))
 
     -- with a journal of two pages
     closed_gate_is_not_rewritten : Least six_set 1 2 2
         → Plays P (store 2)
-        (Submit (Set 1 1) ∷ Flush ∷ Submit (Set 1 2) ∷ Flush ∷ Submit (Set 1 3) ∷ Flush ∷ Checkpoint ∷ StopWithin 3 picks a_flush ∷ Ask (Dist 1 2) ∷ Submit (Set 1 9) ∷ StopWithin 1 picks a_flush ∷ Ask (Dist 1 2) ∷ [])
+        (Submit (Set 1 1 ∷ []) ∷ Flush ∷ Submit (Set 1 2 ∷ []) ∷ Flush ∷ Submit (Set 1 3 ∷ []) ∷ Flush ∷ Checkpoint ∷ StopWithin 3 picks a_flush ∷ Ask (Dist 1 2) ∷ Submit (Set 1 9 ∷ []) ∷ StopWithin 1 picks a_flush ∷ Ask (Dist 1 2) ∷ [])
         (Accepted 1 ∷ Durable 1 ∷ Accepted 2 ∷ Durable 2 ∷ Accepted 3 ∷ Refused JournalFull ∷ Durable 2 ∷ Opened 2 ∷ told 2 1 2 2 ∷ Accepted 3 ∷ Opened 2 ∷ told 2 1 2 2 ∷ [])
     closed_gate_is_not_rewritten least =
-        submit_then _ _ _ _ (Set 1 1) refl (flush_then _ _ _ _ refl (submit_then _ _ _ _ (Set 1 2) refl (flush_then _ _ _ _ refl
-        (submit_then _ _ _ _ (Set 1 3) refl (flush_refused_then _ _ _ _ JournalFull refl (checkpoint_then _ _ _ _ 2 refl refl
+        submit_then _ _ _ _ (Set 1 1 ∷ []) one refl (flush_then _ _ _ _ refl (submit_then _ _ _ _ (Set 1 2 ∷ []) one refl (flush_then _ _ _ _ refl
+        (submit_then _ _ _ _ (Set 1 3 ∷ []) one refl (flush_refused_then _ _ _ _ JournalFull refl (checkpoint_then _ _ _ _ 2 refl refl
         (stop_before_flush_then _ _ _ _ 3 picks 0 (lit≤ tt) refl (dist_then _ _ _ _ 1 2 (Length 2) six_set refl (refl, least)
-        (submit_then _ _ _ _ (Set 1 9) refl (stop_before_flush_then _ _ _ _ 1 picks 0 (lit≤ tt) refl
+        (submit_then _ _ _ _ (Set 1 9 ∷ []) one refl (stop_before_flush_then _ _ _ _ 1 picks 0 (lit≤ tt) refl
         (dist_then _ _ _ _ 1 2 (Length 2) six_set refl (refl, least) (done _))))))))))))
 
     -- what is accepted behind a flush of the second that is cut: opened without it, opened with it, or not opened, which cuts nothing
-    opened_without_it : accepted_in 0 [] (two_accepted ++ (StopWithin 3 picks a_flush, Opened 1 ∷ []) ∷ []) ≡ Close 7 ∷ []
+    opened_without_it : accepted_in 0 [] (two_accepted ++ (StopWithin 3 picks a_flush, Opened 1 ∷ []) ∷ []) ≡ (Close 7 ∷ []) ∷ []
     opened_without_it = refl
 
-    opened_with_it : accepted_in 0 [] (two_accepted ++ (StopWithin 3 picks a_flush, Opened 2 ∷ []) ∷ []) ≡ Close 7 ∷ Set 8 4 ∷ []
+    opened_with_it : accepted_in 0 [] (two_accepted ++ (StopWithin 3 picks a_flush, Opened 2 ∷ []) ∷ []) ≡ (Close 7 ∷ []) ∷ (Set 8 4 ∷ []) ∷ []
     opened_with_it = refl
 
-    not_opened : accepted_in 0 [] (two_accepted ++ (StopWithin 3 picks a_flush, Stopped ∷ []) ∷ []) ≡ Close 7 ∷ Set 8 4 ∷ []
+    not_opened : accepted_in 0 [] (two_accepted ++ (StopWithin 3 picks a_flush, Stopped ∷ []) ∷ []) ≡ (Close 7 ∷ []) ∷ (Set 8 4 ∷ []) ∷ []
     not_opened = refl
 
     -- a command that is refused is not among them, and a later life's comes behind those that were left
-    next_life : accepted_in 0 [] (two_accepted ++ (StopWithin 3 picks a_flush, Opened 1 ∷ []) ∷ (Submit (Close 7), Refused AlreadyClosed ∷ []) ∷ (Submit (Reopen 7), Accepted 2 ∷ []) ∷ []) ≡ Close 7 ∷ Reopen 7 ∷ []
+    next_life : accepted_in 0 [] (two_accepted ++ (StopWithin 3 picks a_flush, Opened 1 ∷ []) ∷ (Submit (Close 7 ∷ []), Refused AlreadyClosed ∷ []) ∷ (Submit (Reopen 7 ∷ []), Accepted 2 ∷ []) ∷ []) ≡ (Close 7 ∷ []) ∷ (Reopen 7 ∷ []) ∷ []
     next_life = refl
+
+-- groups of 200 and 54 commands are two flushes, of 200 and 53 one
+abbrev so_many : ℕ → Group
+so_many n = replicate n (Set 1 17)
+
+two_pages : fitting 253 (so_many 200 ∷ so_many 54 ∷ []) ≡ 1
+two_pages = refl
+
+one_page : fitting 253 (so_many 200 ∷ so_many 53 ∷ []) ≡ 2
+one_page = refl

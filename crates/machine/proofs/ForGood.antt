@@ -2,7 +2,7 @@
 use Rattle.std.proofs.Common.{◌≡◌, ◌∙◌, ℕ, zero, suc, ◌+◌, ◌-◌, ◌≤◌, List, [], ◌∷◌, length, take, Option, Some, refl, sym, ap, subst, arith}
 use Rattle.std.proofs.lemmas.List.{take_all}
 use Rattle.std.specs.List.{AllByRecursion}
-use Rattle.roadnet.specs.declared.commands.Command.{Command}
+use Rattle.roadnet.specs.declared.groups.Group.{Group}
 use Rattle.roadnet.specs.declared.refusals.Refusal.{Refusal}
 use Rattle.roadnet.specs.Net.{Net}
 use Rattle.roadnet.specs.Step.{after}
@@ -22,18 +22,18 @@ front_again zero xs = refl
 front_again (suc n) [] = refl
 front_again (suc n) (x ∷ xs) = ap (λ (l : List _). x ∷ l) (front_again n xs)
 
-whole_begins : (history accepted : List Command) → history ≡ accepted → history ≡ take (length history) accepted
+whole_begins : (history accepted : List Group) → history ≡ accepted → history ≡ take (length history) accepted
 whole_begins history accepted is = is ∙ sym (take_all (length history) accepted (omega (arith, ap length is)))
 
-front_begins : (history accepted : List Command) (n : ℕ) → history ≡ take n accepted → history ≡ take (length history) accepted
-front_begins history accepted n is = is ∙ sym (ap (λ (h : List Command). take (length h) accepted) is ∙ front_again n accepted)
+front_begins : (history accepted : List Group) (n : ℕ) → history ≡ take n accepted → history ≡ take (length history) accepted
+front_begins history accepted n is = is ∙ sym (ap (λ (h : List Group). take (length h) accepted) is ∙ front_again n accepted)
 
-begins : {P : Type 0} (first last : Machine) (turns : List (Turn P)) (rest : List (Event P)) (ended : Option Refusal) (history : List Command) → Ends first turns rest ended history last → history ≡ take (length history) last.accepted
+begins : {P : Type 0} (first last : Machine) (turns : List (Turn P)) (rest : List (Event P)) (ended : Option Refusal) (history : List Group) → Ends first turns rest ended history last → history ≡ take (length history) last.accepted
 begins first last turns rest ended history (Whole passes none nothing is) = whole_begins history last.accepted is
 begins first last turns rest ended history (NoMemory passes some is) = whole_begins history last.accepted is
 begins first last turns rest ended history (NotOpened before turn mid whole passes stops why is) = front_begins history last.accepted (last.durable - last.base_version) is
 
-pub told_for_good : {P : Type 0} (StandsFor : List ℕ → Net → ℕ → Type 0) (left : List ℕ → Type 0) (sizes : Sizes) (base : Net) (version unchecked : ℕ) (events : List (Event P)) (replies : List Replied) (ended : Option Refusal) (history : List Command)
+pub told_for_good : {P : Type 0} (StandsFor : List ℕ → Net → ℕ → Type 0) (left : List ℕ → Type 0) (sizes : Sizes) (base : Net) (version unchecked : ℕ) (events : List (Event P)) (replies : List Replied) (ended : Option Refusal) (history : List Group)
     → LivesOn StandsFor left sizes base version unchecked events replies ended history → ToldForGood StandsFor left base version events replies history
 told_for_good {P} StandsFor left sizes base version unchecked events replies ended history r = record {
   turns = r.lives.turns;
@@ -42,10 +42,10 @@ told_for_good {P} StandsFor left sizes base version unchecked events replies end
   replies_are = r.lives.replies_are;
   each_replied = each_has_replies (start sizes base version unchecked) last r.lives.turns r.lives.rest ended history r.lives.ends;
   history_begins =
-      subst (λ (accepted : List Command). history ≡ take (length history) accepted) (sym accepted_is)
+      subst (λ (accepted : List Group). history ≡ take (length history) accepted) (sym accepted_is)
       (begins (start sizes base version unchecked) last r.lives.turns r.lives.rest ended history r.lives.ends);
   each_left = λ content was.
-      subst (λ (accepted : List Command). HoldsTold StandsFor base version accepted (acknowledged_in [] r.lives.turns) replies content) (sym accepted_is)
+      subst (λ (accepted : List Group). HoldsTold StandsFor base version accepted (acknowledged_in [] r.lives.turns) replies content) (sym accepted_is)
       (held content (r.each_left content was));
 }
   where

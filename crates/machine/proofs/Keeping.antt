@@ -1,20 +1,25 @@
 -- The networks that a keeper has at hand stay tied to its machine: one lemma a change of the state.
-use Rattle.std.proofs.Common.{◌≡◌, ℕ, suc, zero, ◌+◌, ◌-◌, ◌<◌, ◌≤◌, Bool, true, false, cond, leb, List, [], ◌∷◌, ◌++◌, length, take, drop, Option, Some, None, Ok, refl, sym, ◌∙◌, ap, subst, arith, length-take, length-drop}
-use Rattle.std.specs.Prelude.{IfSome, option_map, is_some, is_none, option_and_then, nat_lt}
+use Rattle.std.proofs.Common.{◌≡◌, ℕ, suc, zero, ◌+◌, ◌-◌, ◌<◌, ◌≤◌, Bool, true, false, true≢false, cond, leb, ltb, List, [], ◌∷◌, ◌++◌, length, take, drop, Option, Some, None, Ok, refl, sym, ◌∙◌, ap, subst, arith, length-take, length-drop}
+use Rattle.std.specs.Prelude.{IfSome, MatchOption, option_map, is_some, is_none, option_and_then, nat_lt}
 use Rattle.std.proofs.Math.Seq.{take-add}
-use Rattle.std.proofs.lemmas.Bool.{leb-true}
+use Rattle.std.proofs.lemmas.Bool.{leb-true, le-ltb}
 use Rattle.std.proofs.lemmas.List.{take-append-le}
-use Rattle.roadnet.specs.declared.commands.Command.{Command}
+use Rattle.std.proofs.lemmas.List.Elements.{All-drop, All-take}
+use Rattle.roadnet.specs.declared.groups.Group.{Group}
 use Rattle.roadnet.specs.declared.refusals.Refusal.{Refusal}
 use Rattle.roadnet.specs.Net.{Net}
-use Rattle.roadnet.specs.Step.{refusal_of, after, step, changed, first_refusal}
-use Rattle.roadnet.proofs.Stepped.{after_both}
+use Rattle.roadnet.specs.Step.{first_refusal, after, step_group}
+use Rattle.roadnet.specs.Batches.{first_refusal_of_all}
+use Rattle.roadnet.specs.Groups.{IsGroup, commands_of, count_of}
+use Rattle.roadnet.proofs.InTurn.{groups_are_their_commands, refused_as_their_commands}
+use Rattle.roadnet.proofs.Stepped.{after_both, group_admitted}
 use Rattle.rows.specs.declared.queries.Query.{Query}
 use Rattle.rows.specs.declared.queries.Reply.{Reply}
 use Rattle.rows.specs.Replies.{IsRight}
-use Rattle.machine.specs.Machine.{Sizes, Checkpoint, Machine, IsState, start, latest, batch, most_versions, most_pending, most_of_life, most_of_page, accepted_network, network_at}
-use Rattle.machine.specs.Calls.{failed, refusal_of_submit, with_command, refusal_of_flush, with_batch, has_nothing_unchecked, checkpoint_of, with_pages_written, with_part, with_shown, Asks}
+use Rattle.machine.specs.Machine.{Sizes, Checkpoint, Machine, IsState, start, latest, pending, of_life, groups_behind, batch, most_versions, most_pending, most_of_life, most_of_page, accepted_network, network_at}
+use Rattle.machine.specs.Calls.{failed, refusal_of_submit, with_group, refusal_of_flush, with_batch, has_nothing_unchecked, checkpoint_of, with_pages_written, with_part, with_shown, Asks}
 use Rattle.machine.specs.Keeping.{IsKept, next_batch}
+use Rattle.machine.proofs.Counted.{as_many, batch_count, batch_some, fitting_count, fitting_fits}
 use Rattle.machine.proofs.Kept.{admitted_front, started, submitted, flushed, broken, stepped, with_task, published}
 
 -- ---- the tests of a call, from what its body found
@@ -29,14 +34,14 @@ past false x rest h none = none
 at_least : (a b : ℕ) → a < b → leb b a ≡ false
 at_least a b lt = test_false (leb b a) (λ h. omega (arith, leb-true b a h))
 
-pub submit_clear : (m : Machine) (c : Command) (accepted : Net) → m.broken ≡ false → latest m < m.opened + most_of_life → latest m < most_versions → latest m < m.durable + most_pending
-    → accepted_network m ≡ Some accepted → refusal_of accepted c ≡ None → refusal_of_submit m c ≡ None
+pub submit_clear : (m : Machine) (c : Group) (accepted : Net) → m.broken ≡ false → of_life m + length c ≤ most_of_life → latest m < most_versions → pending m + length c ≤ most_pending
+    → accepted_network m ≡ Some accepted → first_refusal accepted c ≡ None → refusal_of_submit m c ≡ None
 submit_clear m c accepted calm life versions queue is none =
     past m.broken _ _ calm
-    (past (leb (m.opened + most_of_life) (latest m)) _ _ (at_least (latest m) (m.opened + most_of_life) life)
+    (past (ltb most_of_life (of_life m + length c)) _ _ (le-ltb most_of_life (of_life m + length c) life)
     (past (leb most_versions (latest m)) _ _ (at_least (latest m) most_versions versions)
-    (past (leb (m.durable + most_pending) (latest m)) _ _ (at_least (latest m) (m.durable + most_pending) queue)
-    (subst (λ (o : Option Net). option_and_then (λ net. refusal_of net c) o ≡ None) (sym is) none))))
+    (past (ltb most_pending (pending m + length c)) _ _ (le-ltb most_pending (pending m + length c) queue)
+    (subst (λ (o : Option Net). option_and_then (λ net. first_refusal net c) o ≡ None) (sym is) none))))
 
 pub flush_clear : (m : Machine) → m.broken ≡ false → m.durable < latest m → m.unchecked < m.sizes.journal_pages → refusal_of_flush m ≡ None
 flush_clear m calm some room =
@@ -45,10 +50,10 @@ flush_clear m calm some room =
     (past (leb m.sizes.journal_pages m.unchecked) _ _ (at_least m.unchecked m.sizes.journal_pages room) refl))
 
 -- ---- an opening
-abbrev no_commands : List Command
-no_commands = []
+abbrev no_groups : List Group
+no_groups = []
 
-take_none : (n : ℕ) → take n no_commands ≡ no_commands
+take_none : (n : ℕ) → take n no_groups ≡ no_groups
 take_none zero = refl
 take_none (suc n) = refl
 
@@ -64,7 +69,7 @@ kept_start sizes base version unchecked few fits =
       task_network = tt;
     }
 
--- ---- a state in which the commands and the durable and shown numbers stay
+-- ---- a state in which the groups and the durable and shown numbers stay
 module _ (m : Machine) (accepted durable shown : Net) (task : Option (ℕ × Net)) (k : IsKept m accepted durable shown task) where
   pub kept_failed : (n : ℕ) → m.durable + n ≤ latest m → IsKept (failed m n) accepted durable shown task
   kept_failed n fits = record {
@@ -120,19 +125,19 @@ kept_published m accepted durable shown version network k = record {
   task_network = tt;
 }
 
--- ---- a command
-one_more : (base net next : Net) (commands : List Command) (c : Command) → after base commands ≡ Some net → step net c ≡ Some next → after base (commands ++ c ∷ []) ≡ Some next
-one_more base net next commands c is made = after_both base commands (c ∷ []) ∙ rw is (rw made refl)
+-- ---- a group
+one_more : (base net next : Net) (groups : List Group) (c : Group) → after base groups ≡ Some net → step_group net c ≡ Some next → after base (groups ++ c ∷ []) ≡ Some next
+one_more base net next groups c is made = after_both base groups (c ∷ []) ∙ rw is (rw made refl)
 
-module _ (m : Machine) (accepted durable shown next : Net) (task : Option (ℕ × Net)) (c : Command) where
-  pub kept_command : IsKept m accepted durable shown task → refusal_of_submit m c ≡ None → step accepted c ≡ Some next → IsKept (with_command m c) next durable shown task
-  kept_command k none made =
+module _ (m : Machine) (accepted durable shown next : Net) (task : Option (ℕ × Net)) (c : Group) where
+  pub kept_group : IsKept m accepted durable shown task → IsGroup c → refusal_of_submit m c ≡ None → step_group accepted c ≡ Some next → IsKept (with_group m c) next durable shown task
+  kept_group k sized none made =
       let s : IsState m = k.state in
-      let same : (v : ℕ) → v ≤ m.durable → network_at (with_command m c) v ≡ network_at m v =
+      let same : (v : ℕ) → v ≤ m.durable → network_at (with_group m c) v ≡ network_at m v =
       λ v le. ap (after m.base) (take-append-le (v - m.base_version) m.accepted (c ∷ []) (omega arith)) in
       let between : IfSome (option_map (λ (t : ℕ × Net). t.0) task) (λ v. (m.shown ≤ v) × (v ≤ m.durable)) = subst (λ (o : Option ℕ). IfSome o (λ v. (m.shown ≤ v) × (v ≤ m.durable))) k.task_is s.task_between in
       record {
-        state = submitted m s c none;
+        state = submitted m s c sized none;
         accepted_is = one_more m.base accepted next m.accepted c k.accepted_is made;
         durable_is = same m.durable (omega arith) ∙ k.durable_is;
         shown_is = same m.shown s.shown_durable ∙ k.shown_is;
@@ -140,47 +145,58 @@ module _ (m : Machine) (accepted durable shown next : Net) (task : Option (ℕ �
         task_network = tasks task same between k.task_network;
       }
     where
-      tasks : (o : Option (ℕ × Net)) → ((v : ℕ) → v ≤ m.durable → network_at (with_command m c) v ≡ network_at m v) → IfSome (option_map (λ (t : ℕ × Net). t.0) o) (λ v. (m.shown ≤ v) × (v ≤ m.durable)) → IfSome o (λ t. network_at m t.0 ≡ Some t.1) → IfSome o (λ t. network_at (with_command m c) t.0 ≡ Some t.1)
+      tasks : (o : Option (ℕ × Net)) → ((v : ℕ) → v ≤ m.durable → network_at (with_group m c) v ≡ network_at m v) → IfSome (option_map (λ (t : ℕ × Net). t.0) o) (λ v. (m.shown ≤ v) × (v ≤ m.durable)) → IfSome o (λ t. network_at m t.0 ≡ Some t.1) → IfSome o (λ t. network_at (with_group m c) t.0 ≡ Some t.1)
       tasks None same b h = tt
       tasks (Some t) same b h = same t.0 b.1 ∙ h
 
   -- the list may be known by an equation alone
-  pub kept_submit : IsKept m accepted durable shown task → refusal_of_submit m c ≡ None → step accepted c ≡ Some next → (items : List Command) → items ≡ m.accepted ++ c ∷ [] → IsKept (record m { accepted = items }) next durable shown task
-  kept_submit k none made items is = subst (λ (xs : List Command). IsKept (record m { accepted = xs }) next durable shown task) (sym is) (kept_command k none made)
+  pub kept_submit : IsKept m accepted durable shown task → IsGroup c → refusal_of_submit m c ≡ None → step_group accepted c ≡ Some next → (items : List Group) → items ≡ m.accepted ++ c ∷ [] → IsKept (record m { accepted = items }) next durable shown task
+  kept_submit k sized none made items is = subst (λ (xs : List Group). IsKept (record m { accepted = xs }) next durable shown task) (sym is) (kept_group k sized none made)
 
 -- ---- a flush
-first_refusal_none : (net : Net) (commands : List Command) → is_some (after net commands) ≡ true → first_refusal net commands ≡ None
-first_refusal_none net [] h = refl
-first_refusal_none net (c ∷ cs) h = by_refusal net c cs (refusal_of net c) (first_refusal_none (changed net c) cs) h
+-- groups that lead to a network are admitted, each in its turn
+first_refusal_none : (net : Net) (groups : List Group) → is_some (after net groups) ≡ true → first_refusal_of_all net groups ≡ None
+first_refusal_none net groups h = by_refusal (first_refusal_of_all net groups) refl
   where
-    by_refusal : (net : Net) (c : Command) (cs : List Command) (o : Option Refusal) → (is_some (after (changed net c) cs) ≡ true → first_refusal (changed net c) cs ≡ None) → is_some (option_and_then (λ n. after n cs) (cond (is_none o) (Some (changed net c)) None)) ≡ true → cond (is_none o) (first_refusal (changed net c) cs) o ≡ None
-    by_refusal net c cs None f h = f h
-    by_refusal net c cs (Some r) f h = cc
+    told : (o : Option Refusal) → first_refusal net (commands_of groups) ≡ o → MatchOption o ((new : Net) × (step_group net (commands_of groups) ≡ Some new)) (λ refusal. step_group net (commands_of groups) ≡ None)
+    told o is = subst (λ (r : Option Refusal). MatchOption r ((new : Net) × (step_group net (commands_of groups) ≡ Some new)) (λ refusal. step_group net (commands_of groups) ≡ None)) is (group_admitted net (commands_of groups))
+
+    nowhere : step_group net (commands_of groups) ≡ None → false ≡ true
+    nowhere none = sym (ap is_some (groups_are_their_commands net groups ∙ none)) ∙ h
+
+    by_refusal : (o : Option Refusal) → first_refusal_of_all net groups ≡ o → first_refusal_of_all net groups ≡ None
+    by_refusal None is = is
+    by_refusal (Some refusal) is = absurd (true≢false (sym (nowhere (told (Some refusal) (sym (refused_as_their_commands net groups) ∙ is)))))
 
 module _ (m : Machine) (accepted durable shown : Net) (task : Option (ℕ × Net)) (k : IsKept m accepted durable shown task) where
-  -- the commands of a flush are as many as the machine says, all admitted, and their versions exist
+  -- the groups of a flush are as many as the machine says, all admitted, and their versions exist
   pub batch_size : length (next_batch m) ≡ batch m
   batch_size =
       let s : IsState m = k.state in
       let rest : length (drop (m.durable - m.base_version) m.accepted) ≡ length m.accepted - (m.durable - m.base_version) = length-drop (m.durable - m.base_version) m.accepted in
-      length-take (batch m) (drop (m.durable - m.base_version) m.accepted) ∙ omega arith
+      length-take (batch m) (drop (m.durable - m.base_version) m.accepted) ∙ omega (arith, fitting_count most_of_page (groups_behind m m.durable))
 
   pub batch_network : after m.base (take (m.durable - m.base_version + batch m) m.accepted) ≡ after durable (next_batch m)
   batch_network =
       ap (after m.base) (take-add (m.durable - m.base_version) (batch m) m.accepted)
       ∙ (after_both m.base (take (m.durable - m.base_version) m.accepted) (next_batch m) ∙ rw (k.durable_is) refl)
 
-  pub batch_admitted : first_refusal durable (next_batch m) ≡ None
+  pub batch_admitted : first_refusal_of_all durable (next_batch m) ≡ None
   batch_admitted =
       let s : IsState m = k.state in
       first_refusal_none durable (next_batch m)
       (ap is_some (sym batch_network) ∙ admitted_front m.base (m.durable - m.base_version + batch m) m.accepted s.admitted)
 
   pub batch_versions : m.durable + batch m ≤ most_versions
-  batch_versions = let s : IsState m = k.state in omega (arith, s.versions_to, s.durable_accepted)
+  batch_versions = let s : IsState m = k.state in omega (arith, s.versions_to, batch_count m s)
 
-  pub batch_between : m.durable < latest m → (1 ≤ batch m) × (batch m ≤ most_of_page)
-  batch_between some = (omega arith, omega arith)
+  -- they are 1 to 253 commands
+  pub batch_between : m.durable < latest m → (1 ≤ count_of (next_batch m)) × (count_of (next_batch m) ≤ most_of_page)
+  batch_between some =
+      let s : IsState m = k.state in (
+        omega (arith, batch_size, batch_some m s (omega arith), as_many (next_batch m) (All-take IsGroup (batch m) (groups_behind m m.durable) (All-drop IsGroup (m.durable - m.base_version) m.accepted s.groups))),
+        fitting_fits most_of_page (groups_behind m m.durable),
+      )
 
   pub kept_flush : refusal_of_flush m ≡ None → (next : Net) → after durable (next_batch m) ≡ Some next → IsKept (with_batch m) accepted next shown task
   kept_flush none next made =
@@ -196,10 +212,10 @@ module _ (m : Machine) (accepted durable shown : Net) (task : Option (ℕ × Net
       }
 
 -- the slice that a body takes is that batch
-pub slice_is : (items acc : List Command) (v o n a k : ℕ) → items ≡ acc → v ≡ a → n ≡ k → take (v - o + n - (v - o)) (drop (v - o) items) ≡ take k (drop (a - o) acc)
+pub slice_is : (items acc : List Group) (v o n a k : ℕ) → items ≡ acc → v ≡ a → n ≡ k → take (v - o + n - (v - o)) (drop (v - o) items) ≡ take k (drop (a - o) acc)
 slice_is items acc v o n a k same from count =
     let whole : v - o + n - (v - o) ≡ k = omega arith in
-    ap (λ (j : ℕ). take j (drop (v - o) items)) whole ∙ (ap (λ (j : ℕ). take k (drop (j - o) items)) from ∙ ap (λ (xs : List Command). take k (drop (a - o) xs)) same)
+    ap (λ (j : ℕ). take j (drop (v - o) items)) whole ∙ (ap (λ (j : ℕ). take k (drop (j - o) items)) from ∙ ap (λ (xs : List Group). take k (drop (a - o) xs)) same)
 
 -- ---- states that agree in all that a store tells
 pub alike : (m : Machine) (s1 s2 : Sizes) (a1 a2 u1 u2 f1 f2 : ℕ) (b1 b2 : Bool) (c1 c2 : Option Checkpoint) → s1 ≡ s2 → a1 ≡ a2 → u1 ≡ u2 → f1 ≡ f2 → b1 ≡ b2 → c1 ≡ c2

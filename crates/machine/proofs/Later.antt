@@ -2,9 +2,9 @@
 use Rattle.std.proofs.Common.{◌≡◌, ⊎_elim, ℕ, ◌-◌, ◌≤◌, Bool, true, false, cond, List, [], ◌∷◌, ◌++◌, take, Option, Some, None, Ok, Err, refl, sym, ◌∙◌, ap, subst, arith}
 use Rattle.std.specs.Prelude.{nat_lt}
 use Rattle.std.proofs.lemmas.List.{take-append-le, take-take}
-use Rattle.roadnet.specs.declared.commands.Command.{Command}
+use Rattle.roadnet.specs.declared.groups.Group.{Group}
 use Rattle.machine.specs.Machine.{Machine, IsState, batch}
-use Rattle.machine.specs.Calls.{failed, with_command, with_batch, has_nothing_unchecked, checkpoint_of, with_pages_written, with_part, is_out, without_task, IsLeft, reopened}
+use Rattle.machine.specs.Calls.{failed, with_group, with_batch, has_nothing_unchecked, checkpoint_of, with_pages_written, with_part, is_out, without_task, IsLeft, reopened}
 use Rattle.machine.specs.Runs.{Happened, Run}
 use Rattle.machine.specs.Runs.Happened.{Submitted, Flushed, Checkpointed, TookTask, GaveUp, Published, Asked, Received, Stopped}
 use Rattle.machine.specs.Laws.{IsLater, StepsTakeNothingBack}
@@ -16,7 +16,7 @@ later_same m = record { sizes = refl; base = refl; base_version = refl; durable 
 moved : (old m new : Machine) → new ≡ m → IsLater old m → IsLater old new
 moved old m new is later = subst (IsLater old) (sym is) later
 
--- the commands that were durable are still there
+-- the groups that were durable are still there
 pub still : (old new : Machine) → IsLater old new → take (old.durable - old.base_version) new.accepted ≡ take (old.durable - old.base_version) old.accepted
 still old new later = ap (λ (v : ℕ). take (old.durable - v) new.accepted) (sym later.base_version) ∙ later.kept
 
@@ -37,7 +37,7 @@ later_still a b c ab bc =
     }
 
 module _ (m : Machine) (s : IsState m) where
-  submitted : (c : Command) → IsLater m (with_command m c)
+  submitted : (c : Group) → IsLater m (with_group m c)
   submitted c = record {
     sizes = refl;
     base = refl;
@@ -82,7 +82,7 @@ module _ (m : Machine) (s : IsState m) where
       }
 
 pub later_by_step : StepsTakeNothingBack
-later_by_step old new (Submitted c (Ok ticket)) s h = moved old (with_command old c) new h.2 (submitted old s c)
+later_by_step old new (Submitted c (Ok ticket)) s h = moved old (with_group old c) new h.2 (submitted old s c)
 later_by_step old new (Submitted c (Err refusal)) s h = moved old old new h.1 (later_same old)
 later_by_step old new (Flushed (Ok durable)) s h = moved old (with_batch old) new h.1 (flushed old s)
 later_by_step old new (Flushed (Err refusal)) s h =

@@ -1,6 +1,7 @@
 pub mod Accepted
 pub mod Acknowledged
 pub mod Checkpoints
+pub mod Counted
 pub mod Examples
 pub mod ForGood
 pub mod InRun

@@ -3,7 +3,7 @@ use Rattle.std.proofs.Common.{◌≡◌, ⊎_elim, ℕ, suc, zero, ◌+◌, ◌-
 use Rattle.std.specs.List.{AllByRecursion, flat_map}
 use Rattle.std.proofs.lemmas.List.{take-take, append-nil}
 use Rattle.std.proofs.lemmas.List.Concat.{flat_map-append}
-use Rattle.roadnet.specs.declared.commands.Command.{Command}
+use Rattle.roadnet.specs.declared.groups.Group.{Group}
 use Rattle.roadnet.specs.declared.refusals.Refusal.{Refusal}
 use Rattle.roadnet.specs.declared.refusals.Refusal.TheVariants.{Device, NoTask}
 use Rattle.roadnet.specs.Net.{Net}
@@ -16,8 +16,8 @@ use Rattle.machine.specs.declared.events.Writing.{Writing}
 use Rattle.machine.specs.declared.events.Writing.TheVariants.{Flush as a_flush, Checkpoint as a_checkpoint, Step as a_step}
 use Rattle.machine.specs.declared.events.Replied.{Replied}
 use Rattle.machine.specs.declared.events.Replied.TheVariants.{Shown, Answered, Refused, Opened, Stopped as StoppedAlone}
-use Rattle.machine.specs.Machine.{Machine, IsState, start, latest, commands_to}
-use Rattle.machine.specs.Calls.{Submits, Flushes, Asks, IsLeft, IsTicketOf, with_command}
+use Rattle.machine.specs.Machine.{Machine, IsState, start, latest, groups_to}
+use Rattle.machine.specs.Calls.{Submits, Flushes, Asks, IsLeft, IsTicketOf, with_group}
 use Rattle.machine.specs.Runs.{Happened, Step, Run, up_to}
 use Rattle.machine.specs.Runs.Happened.{Submitted, Flushed, Checkpointed, TookTask, Published, Asked, Stopped}
 use Rattle.machine.specs.Lives.{told_ticket, told_version, told_part, told_task, told_answer, pages_of_step, EndsCheckpoint, GoesOn, Checkpoints, Writes, StopComes, Does, StopsFor, Turn, Passes, Ends}
@@ -26,7 +26,7 @@ use Rattle.machine.specs.Laws.{IsLater, IsAt, IsRightAfter}
 use Rattle.machine.specs.Headline.{left_by, held_behind, durable_by, acknowledged_with, acknowledged_in, IsRightReply, ScriptsAreRuns, AcknowledgedAreInHistory, StopsLeaveAcknowledged, AnswersAreRight, StopsLeaveAnswers}
 use Rattle.machine.proofs.Kept.{started}
 use Rattle.machine.proofs.Later.{later_same, later_by_step, later_by_run, later_still}
-use Rattle.machine.proofs.Acknowledged.{nth_from_front, all_both, all_of, is_stopped, ticket_by_step, ticket_of_new, IsDurable, held_by_step, acked_by_step, acked_still, durable_left, durable_commands, asked_right, right_still, right_in_more, right_left}
+use Rattle.machine.proofs.Acknowledged.{nth_from_front, all_both, all_of, is_stopped, ticket_by_step, ticket_of_new, IsDurable, held_by_step, acked_by_step, acked_still, durable_left, durable_groups, asked_right, right_still, right_in_more, right_left}
 
 -- ---- an event is a run of calls
 abbrev NoStop : List Happened → Type 0
@@ -109,10 +109,10 @@ ticket_by_run (h ∷ hs) old new t r calm at = ticket_by_run hs r.0 new t r.2 ca
 held_calmly : (a b : Machine) (held : List Ticket) → CalmlyTo a b → AllByRecursion (IsTicketOf a) held → AllByRecursion (IsTicketOf b) held
 held_calmly a b held r all = all_of (IsTicketOf a) (IsTicketOf b) held (λ t. ticket_by_run r.0 a b t r.1 r.2) all
 
-accepted_is : (a b : Machine) (c : Command) (t : Ticket) → t ≡ record { number = latest a + 1; command = c } → b ≡ with_command a c → IsTicketOf b (record { number = t.number; command = c })
+accepted_is : (a b : Machine) (c : Group) (t : Ticket) → t ≡ record { number = latest a + 1; group = c } → b ≡ with_group a c → IsTicketOf b (record { number = t.number; group = c })
 accepted_is a b c t is new =
-    subst (λ (x : Machine). IsTicketOf x (record { number = t.number; command = c })) (sym new)
-    (subst (λ (x : Ticket). IsTicketOf (with_command a c) (record { number = x.number; command = c })) (sym is) (ticket_of_new a c))
+    subst (λ (x : Machine). IsTicketOf x (record { number = t.number; group = c })) (sym new)
+    (subst (λ (x : Ticket). IsTicketOf (with_group a c) (record { number = x.number; group = c })) (sym is) (ticket_of_new a c))
 
 -- the stop's own reply tells what is left
 left_version : (result : Result ℕ Refusal) (version : ℕ) (held : List Ticket) → left_by held (told_version result ∷ Opened version ∷ []) ≡ up_to version held
@@ -197,7 +197,7 @@ acked_by_end (Ask query) a last replies held s stops all = absurd stops
 
 -- ---- replies are right
 abbrev RightAt : Machine → Replied → Type 0
-RightAt m reply = IsRightReply m.base m.base_version (durable_commands m) reply
+RightAt m reply = IsRightReply m.base m.base_version (durable_groups m) reply
 
 right_reply_still : (m last : Machine) (reply : Replied) → IsState last → IsLater m last → RightAt m reply → RightAt last reply
 right_reply_still m last (Answered query answer) s later right = right_still m last query answer s later right
@@ -324,14 +324,14 @@ rights_through (turn ∷ turns) a b s p =
     (rights_through turns p.0 b now.0 p.2)
 
 -- what holds in the end
-pub record Ended {P : Type 0} (first : Machine) (turns : List (Turn P)) (history : List Command) (last : Machine) : Type 0 where
+pub record Ended {P : Type 0} (first : Machine) (turns : List (Turn P)) (history : List Group) (last : Machine) : Type 0 where
   pub state : IsState last
   pub later : IsLater first last
-  pub kept : durable_commands last ≡ take (last.durable - last.base_version) history
+  pub kept : durable_groups last ≡ take (last.durable - last.base_version) history
   pub acknowledged : AllByRecursion (IsDurable last) (acknowledged_in [] turns)
   pub rights : AllByRecursion (RightAt last) (replies_of turns)
 
-passed_end : {P : Type 0} (first last : Machine) (turns : List (Turn P)) (history : List Command) → IsState first → Passes first turns last → history ≡ last.accepted → Ended first turns history last
+passed_end : {P : Type 0} (first last : Machine) (turns : List (Turn P)) (history : List Group) → IsState first → Passes first turns last → history ≡ last.accepted → Ended first turns history last
 passed_end first last turns history s p is =
     let through = later_by_turns turns first last s p in
     record {
@@ -344,7 +344,7 @@ passed_end first last turns history s p is =
       rights = rights_through turns first last s p;
     }
 
-stopped_end : {P : Type 0} (first mid last : Machine) (before : List (Turn P)) (turn : Turn P) (history : List Command) → IsState first → Passes first before mid → StopsFor mid turn.0 turn.1 last → history ≡ commands_to last last.durable → Ended first (before ++ turn ∷ []) history last
+stopped_end : {P : Type 0} (first mid last : Machine) (before : List (Turn P)) (turn : Turn P) (history : List Group) → IsState first → Passes first before mid → StopsFor mid turn.0 turn.1 last → history ≡ groups_to last last.durable → Ended first (before ++ turn ∷ []) history last
 stopped_end first mid last before turn history s p stops is =
     let through = later_by_turns before first mid s p in
     let end = end_later turn.0 mid last turn.1 through.0 stops in
@@ -363,13 +363,13 @@ stopped_end first mid last before turn history s p stops is =
           (all_both (RightAt last) turn.1 [] (end_right turn.0 mid last turn.1 stops) tt));
     }
 
-pub end_of : {P : Type 0} (first last : Machine) (turns : List (Turn P)) (rest : List (Event P)) (ended : Option Refusal) (history : List Command) → IsState first → Ends first turns rest ended history last → Ended first turns history last
+pub end_of : {P : Type 0} (first last : Machine) (turns : List (Turn P)) (rest : List (Event P)) (ended : Option Refusal) (history : List Group) → IsState first → Ends first turns rest ended history last → Ended first turns history last
 end_of first last turns rest ended history s (Whole passes none nothing is) = passed_end first last turns history s passes is
 end_of first last turns rest ended history s (NoMemory passes some is) = passed_end first last turns history s passes is
 end_of first last turns rest ended history s (NotOpened before turn mid whole passes stops why is) =
     subst (λ (ts : List (Turn _)). Ended first ts history last) (sym whole) (stopped_end first mid last before turn history s passes stops is)
 
-run_of : {P : Type 0} (first last : Machine) (turns : List (Turn P)) (rest : List (Event P)) (ended : Option Refusal) (history : List Command) → Ends first turns rest ended history last → RunsTo first last
+run_of : {P : Type 0} (first last : Machine) (turns : List (Turn P)) (rest : List (Event P)) (ended : Option Refusal) (history : List Group) → Ends first turns rest ended history last → RunsTo first last
 run_of first last turns rest ended history (Whole passes none nothing is) = passes_run turns first last passes
 run_of first last turns rest ended history (NoMemory passes some is) = passes_run turns first last passes
 run_of first last turns rest ended history (NotOpened before turn mid whole passes stops why is) =
@@ -382,17 +382,17 @@ scripts_are_runs P first events replies ended history last lives = run_of first 
 
 -- ---- the headline
 -- what is durable is in the history
-durable_in : (last : Machine) (history : List Command) (t : Ticket) → durable_commands last ≡ take (last.durable - last.base_version) history → IsDurable last t → IsAt last.base_version history t
+durable_in : (last : Machine) (history : List Group) (t : Ticket) → durable_groups last ≡ take (last.durable - last.base_version) history → IsDurable last t → IsAt last.base_version history t
 durable_in last history t kept h = (
   h.0,
-  nth_from_front (last.durable - last.base_version) history (t.number - last.base_version) t.command
-      (subst (λ (cs : List Command). IsAt last.base_version cs t) kept h).1,
+  nth_from_front (last.durable - last.base_version) history (t.number - last.base_version) t.group
+      (subst (λ (cs : List Group). IsAt last.base_version cs t) kept h).1,
 )
 
-right_in : (last : Machine) (history : List Command) (reply : Replied) → durable_commands last ≡ take (last.durable - last.base_version) history → RightAt last reply → IsRightReply last.base last.base_version history reply
+right_in : (last : Machine) (history : List Group) (reply : Replied) → durable_groups last ≡ take (last.durable - last.base_version) history → RightAt last reply → IsRightReply last.base last.base_version history reply
 right_in last history (Answered query answer) kept right =
     right_in_more last.base last.base_version (last.durable - last.base_version) history query answer
-    (subst (λ (cs : List Command). IsRightAfter last.base last.base_version cs query answer) kept right)
+    (subst (λ (cs : List Group). IsRightAfter last.base last.base_version cs query answer) kept right)
 right_in last history _ kept right = tt
 
 pub acknowledged_are_in_history : (P : Type 0) → AcknowledgedAreInHistory P
@@ -404,8 +404,8 @@ acknowledged_are_in_history P sizes base version unchecked events replies ended 
 pub stops_leave_acknowledged : (P : Type 0) → StopsLeaveAcknowledged P
 stops_leave_acknowledged P sizes base version unchecked events replies ended history last left few fits lives is =
     let end = end_of (start sizes base version unchecked) last lives.turns lives.rest ended history (started sizes base version unchecked few fits) lives.ends in
-    subst (λ (v : ℕ). AllByRecursion (IsAt v (commands_to last left)) (acknowledged_in [] lives.turns)) end.later.base_version
-    (all_of (IsDurable last) (IsAt last.base_version (commands_to last left)) (acknowledged_in [] lives.turns) (λ t. durable_left last t left end.state is) end.acknowledged)
+    subst (λ (v : ℕ). AllByRecursion (IsAt v (groups_to last left)) (acknowledged_in [] lives.turns)) end.later.base_version
+    (all_of (IsDurable last) (IsAt last.base_version (groups_to last left)) (acknowledged_in [] lives.turns) (λ t. durable_left last t left end.state is) end.acknowledged)
 
 pub answers_are_right : (P : Type 0) → AnswersAreRight P
 answers_are_right P sizes base version unchecked events replies ended history last few fits lives =
@@ -415,7 +415,7 @@ answers_are_right P sizes base version unchecked events replies ended history la
     subst (λ (b : Net). AllByRecursion (IsRightReply b version history) replies) end.later.base
     (subst (λ (v : ℕ). AllByRecursion (IsRightReply last.base v history) replies) end.later.base_version told)
 
-left_right : (last : Machine) (left : ℕ) (reply : Replied) → IsState last → IsLeft last left → RightAt last reply → IsRightReply last.base last.base_version (commands_to last left) reply
+left_right : (last : Machine) (left : ℕ) (reply : Replied) → IsState last → IsLeft last left → RightAt last reply → IsRightReply last.base last.base_version (groups_to last left) reply
 left_right last left (Answered query answer) s is right = right_left last left query answer s is right
 left_right last left _ s is right = tt
 
@@ -423,6 +423,6 @@ pub stops_leave_answers : (P : Type 0) → StopsLeaveAnswers P
 stops_leave_answers P sizes base version unchecked events replies ended history last left few fits lives is =
     let end = end_of (start sizes base version unchecked) last lives.turns lives.rest ended history (started sizes base version unchecked few fits) lives.ends in
     let rights : AllByRecursion (RightAt last) replies = subst (AllByRecursion (RightAt last)) (sym lives.replies_are) end.rights in
-    let told = all_of (RightAt last) (IsRightReply last.base last.base_version (commands_to last left)) replies (λ reply. left_right last left reply end.state is) rights in
-    subst (λ (b : Net). AllByRecursion (IsRightReply b version (commands_to last left)) replies) end.later.base
-    (subst (λ (v : ℕ). AllByRecursion (IsRightReply last.base v (commands_to last left)) replies) end.later.base_version told)
+    let told = all_of (RightAt last) (IsRightReply last.base last.base_version (groups_to last left)) replies (λ reply. left_right last left reply end.state is) rights in
+    subst (λ (b : Net). AllByRecursion (IsRightReply b version (groups_to last left)) replies) end.later.base
+    (subst (λ (v : ℕ). AllByRecursion (IsRightReply last.base v (groups_to last left)) replies) end.later.base_version told)

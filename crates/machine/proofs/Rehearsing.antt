@@ -8,7 +8,7 @@ use Rattle.roadnet.specs.declared.refusals.Refusal.{Refusal}
 use Rattle.roadnet.specs.declared.refusals.Refusal.TheVariants.{OutOfMemory, Device}
 use Rattle.machine.specs.declared.events.Event.{Event}
 use Rattle.machine.specs.declared.events.Replied.{Replied}
-use Rattle.machine.specs.Machine.{Machine, commands_to}
+use Rattle.machine.specs.Machine.{Machine, groups_to}
 use Rattle.machine.specs.Lives.{Does, StopsFor, Turn, Passes, Lives}
 use Rattle.machine.specs.Lives.Ends.{Whole, NoMemory, NotOpened}
 use Rattle.machine.proofs.OverLives.{passes_more}
@@ -60,7 +60,7 @@ module _ {P : Type 0} (first m : Machine) (events : List (Event P)) (replies : L
   }
 
   pub lives_not_opened : (last : Machine) (e : Event P) (now : List Replied) (rest : List (Event P)) (ended : Option Refusal) → StopsFor m e now last → (ended ≡ Some OutOfMemory) ⊎ (ended ≡ Some Device)
-      → Lives first ((events ++ e ∷ []) ++ rest) (replies ++ now) ended (commands_to last last.durable) last
+      → Lives first ((events ++ e ∷ []) ++ rest) (replies ++ now) ended (groups_to last last.durable) last
   lives_not_opened last e now rest ended stops why = record {
     turns = r.turns ++ (e, now) ∷ [];
     rest = rest;

@@ -2,7 +2,7 @@
 use Rattle.std.proofs.Common.{◌≡◌, ⊎_elim, inl, inr, ℕ, true, false, List, [], ◌∷◌, ◌++◌, Option, Some, None, Result, Ok, Err, refl, sym, ◌∙◌, ap, subst}
 use Rattle.std.specs.Prelude.{map}
 use Rattle.std.specs.List.{flat_map}
-use Rattle.roadnet.specs.declared.commands.Command.{Command}
+use Rattle.roadnet.specs.declared.groups.Group.{Group}
 use Rattle.roadnet.specs.declared.refusals.Refusal.{Refusal}
 use Rattle.roadnet.specs.declared.refusals.Refusal.TheVariants.{NoTask}
 use Rattle.machine.specs.declared.events.Event.{Event}
@@ -62,7 +62,7 @@ passed_replied : {P : Type 0} (turns : List (Turn P)) (a b : Machine) → Passes
 passed_replied [] a b p = tt
 passed_replied (turn ∷ turns) a b p = (replied _ turn.0 a p.0 turn.1 p.1, passed_replied turns p.0 b p.2)
 
-pub each_has_replies : {P : Type 0} (first last : Machine) (turns : List (Turn P)) (rest : List (Event P)) (ended : Option Refusal) (history : List Command) → Ends first turns rest ended history last → EachHasReplies turns
+pub each_has_replies : {P : Type 0} (first last : Machine) (turns : List (Turn P)) (rest : List (Event P)) (ended : Option Refusal) (history : List Group) → Ends first turns rest ended history last → EachHasReplies turns
 each_has_replies first last turns rest ended history (Whole passes none nothing is) = passed_replied turns first last passes
 each_has_replies first last turns rest ended history (NoMemory passes some is) = passed_replied turns first last passes
 each_has_replies first last turns rest ended history (NotOpened before turn mid whole passes stops why is) =

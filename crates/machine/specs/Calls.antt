@@ -1,18 +1,19 @@
 -- The steps of the machine: for each call the answers that it may give, and the state that it leaves. Refusals come in the
 -- order in which they stand.
-use Rattle.std.specs.Prelude.{◌≡◌, ◌⊎◌, ℕ, ◌+◌, ◌-◌, ◌≤◌, Bool, true, false, [], ◌∷◌, ◌++◌, ◌==◌, nat_le, nat_lt, ◌&&◌, ◌||◌, if◌then◌else◌, Option, None, Some, is_some, is_none, not, unwrap_or, option_map, option_and_then, Result, Ok, Err}
-use Rattle.roadnet.specs.declared.commands.Command.{Command}
+use Rattle.std.specs.Prelude.{◌≡◌, ◌⊎◌, ℕ, ◌+◌, ◌-◌, ◌≤◌, Bool, true, false, [], ◌∷◌, ◌++◌, ◌==◌, nat_le, nat_lt, ◌&&◌, ◌||◌, if◌then◌else◌, length, Option, None, Some, is_some, is_none, not, unwrap_or, option_map, option_and_then, Result, Ok, Err}
+use Rattle.roadnet.specs.declared.groups.Group.{Group}
 use Rattle.roadnet.specs.declared.refusals.Refusal.{Refusal}
 use Rattle.roadnet.specs.declared.refusals.Refusal.TheVariants.{OutOfMemory, Device, JournalFull, Broken, VersionsExhausted, QueueFull, NoTask, OtherNetwork, NothingPending, NotYet, HistoryFull}
+use Rattle.roadnet.specs.Groups.{IsGroup}
 use Rattle.roadnet.specs.Net.{Net}
-use Rattle.roadnet.specs.Step.{refusal_of}
+use Rattle.roadnet.specs.Step.{first_refusal}
 use Rattle.rows.specs.declared.queries.Query.{Query}
 use Rattle.rows.specs.declared.queries.Query.TheVariants.{Dist}
 use Rattle.rows.specs.Replies.{IsRight, refusal_of as refusal_of_query}
 use Rattle.machine.specs.declared.calls.Ticket.{Ticket}
 use Rattle.machine.specs.declared.calls.Receipt.{Receipt}
 use Rattle.machine.specs.declared.calls.Answer.{Answer}
-use Rattle.machine.specs.Machine.{Checkpoint, Machine, most_versions, most_pending, most_of_life, latest, batch, accepted_network, commands_to, network_at, command_at}
+use Rattle.machine.specs.Machine.{Checkpoint, Machine, most_versions, most_pending, most_of_life, latest, pending, of_life, batch, accepted_network, groups_to, network_at, group_at}
 
 -- Refused for this cause, or else for want of memory. Nothing changes.
 abbrev pub IsRefused : Option Refusal → Refusal → Machine → Machine → Type 0
@@ -22,27 +23,27 @@ IsRefused cause refusal old new = ((cause ≡ Some refusal) ⊎ ((cause ≡ None
 abbrev pub IsRefusedTaking : Bool → Option Refusal → Refusal → Machine → Machine → Type 0
 IsRefusedTaking takes cause refusal old new = ((cause ≡ Some refusal) ⊎ ((cause ≡ None) × (takes ≡ true) × (refusal ≡ OutOfMemory))) × (new ≡ old)
 
--- The disk failed, with so many commands in flight. Nothing is written from then on.
+-- The disk failed, with so many groups in flight. Nothing is written from then on.
 abbrev pub failed : Machine → ℕ → Machine
-failed m commands = record m { broken = true; in_flight = commands }
+failed m groups = record m { broken = true; in_flight = groups }
 
 -- SUBMIT
 
-abbrev pub refusal_of_submit : Machine → Command → Option Refusal
-refusal_of_submit m command =
+abbrev pub refusal_of_submit : Machine → Group → Option Refusal
+refusal_of_submit m group =
     if m.broken then Some Broken else
-    if nat_le (m.opened + most_of_life) (latest m) then Some HistoryFull else
+    if nat_lt most_of_life (of_life m + length group) then Some HistoryFull else
     if nat_le most_versions (latest m) then Some VersionsExhausted else
-    if nat_le (m.durable + most_pending) (latest m) then Some QueueFull else
-    option_and_then (λ net. refusal_of net command) (accepted_network m)
+    if nat_lt most_pending (pending m + length group) then Some QueueFull else
+    option_and_then (λ net. first_refusal net group) (accepted_network m)
 
-abbrev pub with_command : Machine → Command → Machine
-with_command m command = record m { accepted = m.accepted ++ command ∷ [] }
+abbrev pub with_group : Machine → Group → Machine
+with_group m group = record m { accepted = m.accepted ++ group ∷ [] }
 
-abbrev pub Submits : Machine → Command → Result Ticket Refusal → Machine → Type 0
-Submits old command (Ok ticket) new =
-    (refusal_of_submit old command ≡ None) × (ticket ≡ record { number = latest old + 1; command = command }) × (new ≡ with_command old command)
-Submits old command (Err refusal) new = IsRefused (refusal_of_submit old command) refusal old new
+abbrev pub Submits : Machine → Group → Result Ticket Refusal → Machine → Type 0
+Submits old group (Ok ticket) new =
+    (refusal_of_submit old group ≡ None) × (ticket ≡ record { number = latest old + 1; group = group }) × (new ≡ with_group old group) × IsGroup group
+Submits old group (Err refusal) new = IsRefused (refusal_of_submit old group) refusal old new
 
 -- FLUSH
 
@@ -56,7 +57,7 @@ refusal_of_flush m =
 abbrev pub with_page_flushed : Checkpoint → Checkpoint
 with_page_flushed c = record c { flushed = c.flushed + 1 }
 
--- the first pending commands are durable, in one journal page
+-- the longest front of pending groups that fits a journal page is durable, in one page
 abbrev pub with_batch : Machine → Machine
 with_batch m =
     record m { durable = m.durable + batch m; unchecked = m.unchecked + 1; checkpoint = option_map with_page_flushed m.checkpoint }
@@ -160,14 +161,15 @@ Asks old query (Ok answer) new =
     (answer.version ≡ old.shown) × AtShown old (λ net. IsRight net query answer.reply) × (new ≡ old)
 Asks old query (Err refusal) new = (refusal ≡ OutOfMemory) × AtShown old (TakesRow query) × (new ≡ old)
 
--- the ticket's command was accepted as its number, and since the base
+-- the ticket's group was accepted as its number, and since the base
 abbrev pub IsTicketOf : Machine → Ticket → Type 0
-IsTicketOf m ticket = (m.base_version + 1 ≤ ticket.number) × (command_at m ticket.number ≡ Some ticket.command)
+IsTicketOf m ticket = (m.base_version + 1 ≤ ticket.number) × (group_at m ticket.number ≡ Some ticket.group)
 
-abbrev pub receipt_for : Machine → Ticket → Result Receipt Refusal
+-- a ticket that gets no receipt is handed back
+abbrev pub receipt_for : Machine → Ticket → Result Receipt (Refusal × Ticket)
 receipt_for m ticket =
-    if nat_le ticket.number m.durable then Ok (record { number = ticket.number; command = ticket.command }) else
-    if m.broken then Err Broken else Err NotYet
+    if nat_le ticket.number m.durable then Ok (record { number = ticket.number; group = ticket.group }) else
+    if m.broken then Err (Broken, ticket) else Err (NotYet, ticket)
 
 -- STOPS
 
@@ -175,7 +177,7 @@ receipt_for m ticket =
 abbrev pub reopened : Machine → ℕ → ℕ → Machine
 reopened m version unchecked =
     record m {
-      accepted = commands_to m version;
+      accepted = groups_to m version;
       durable = version;
       shown = version;
       opened = version;
@@ -186,7 +188,7 @@ reopened m version unchecked =
       checkpoint = None;
     }
 
--- a stop leaves this version: what was durable, with the commands in flight or without
+-- a stop leaves this version: what was durable, with the groups in flight or without
 abbrev pub IsLeft : Machine → ℕ → Type 0
 IsLeft m version = (version ≡ m.durable) ⊎ (version ≡ m.durable + m.in_flight)
 

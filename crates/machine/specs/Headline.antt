@@ -1,7 +1,7 @@
 -- What holds of each script, wherever it is stopped and however early its run ends.
 use Rattle.std.specs.Prelude.{◌≡◌, ◌⊎◌, ℕ, ◌+◌, ◌-◌, ◌≤◌, Bool, true, false, List, [], ◌∷◌, ◌++◌, Option, None, Some, length, map, take}
 use Rattle.std.specs.List.{AllByRecursion, flat_map}
-use Rattle.roadnet.specs.declared.commands.Command.{Command}
+use Rattle.roadnet.specs.declared.groups.Group.{Group}
 use Rattle.roadnet.specs.declared.refusals.Refusal.{Refusal}
 use Rattle.roadnet.specs.Net.{Net}
 use Rattle.roadnet.specs.Step.{after}
@@ -11,7 +11,7 @@ use Rattle.machine.specs.declared.events.Event.TheVariants.{Submit, Flush, Stop,
 use Rattle.machine.specs.declared.events.Writing.TheVariants.{Flush as a_flush}
 use Rattle.machine.specs.declared.events.Replied.{Replied}
 use Rattle.machine.specs.declared.events.Replied.TheVariants.{Accepted, Durable, Answered, Opened, Stopped}
-use Rattle.machine.specs.Machine.{Sizes, Machine, start, most_versions, commands_to}
+use Rattle.machine.specs.Machine.{Sizes, Machine, start, most_versions, groups_to}
 use Rattle.machine.specs.Calls.{IsLeft}
 use Rattle.machine.specs.Runs.{Happened, Run, up_to}
 use Rattle.machine.specs.Laws.{IsAt, IsRightAfter}
@@ -23,45 +23,45 @@ left_by held [] = []
 left_by held (Opened version ∷ replies) = up_to version held
 left_by held (_ ∷ replies) = left_by held replies
 
--- the tickets whose commands stand behind this event with these replies, where those of these stood before
+-- the tickets whose groups stand behind this event with these replies, where those of these stood before
 abbrev pub held_behind : {P : Type 0} → List Ticket → Event P → List Replied → List Ticket
-held_behind held (Submit command) (Accepted number ∷ replies) = record { number = number; command = command } ∷ held
+held_behind held (Submit group) (Accepted number ∷ replies) = record { number = number; group = group } ∷ held
 held_behind held Stop replies = left_by held replies
 held_behind held (StopWithin call picks writing) replies = left_by held replies
 held_behind held _ replies = held
 
--- the tickets whose commands a flush with these replies acknowledges
+-- the tickets whose groups a flush with these replies acknowledges
 abbrev pub durable_by : List Ticket → List Replied → List Ticket
 durable_by held (Durable version ∷ replies) = up_to version held
 durable_by held _ = []
 
--- the tickets whose commands this event with these replies acknowledges
+-- the tickets whose groups this event with these replies acknowledges
 abbrev pub acknowledged_with : {P : Type 0} → List Ticket → Event P → List Replied → List Ticket
 acknowledged_with held Flush replies = durable_by held replies
 acknowledged_with held (StopWithin call picks a_flush) replies = durable_by held replies
 acknowledged_with held _ replies = []
 
--- the tickets whose commands are acknowledged in these turns
+-- the tickets whose groups are acknowledged in these turns
 abbrev pub acknowledged_in : {P : Type 0} → List Ticket → List (Turn P) → List Ticket
 acknowledged_in held [] = []
 acknowledged_in held (turn ∷ turns) = acknowledged_with held turn.0 turn.1 ++ acknowledged_in (held_behind held turn.0 turn.1) turns
 
--- what a stop with these replies leaves of these commands, which follow the version: those up to the version that is opened, and all where
+-- what a stop with these replies leaves of these groups, which follow the version: those up to the version that is opened, and all where
 -- none is, since nothing follows then
-abbrev pub commands_left : ℕ → List Command → List Replied → List Command
-commands_left version accepted [] = accepted
-commands_left version accepted (Opened opened ∷ replies) = take (opened - version) accepted
-commands_left version accepted (_ ∷ replies) = commands_left version accepted replies
+abbrev pub groups_left : ℕ → List Group → List Replied → List Group
+groups_left version accepted [] = accepted
+groups_left version accepted (Opened opened ∷ replies) = take (opened - version) accepted
+groups_left version accepted (_ ∷ replies) = groups_left version accepted replies
 
--- the accepted commands behind this event with these replies, where these were before
-abbrev pub accepted_behind : {P : Type 0} → ℕ → List Command → Event P → List Replied → List Command
-accepted_behind version accepted (Submit command) (Accepted number ∷ replies) = accepted ++ command ∷ []
-accepted_behind version accepted Stop replies = commands_left version accepted replies
-accepted_behind version accepted (StopWithin call picks writing) replies = commands_left version accepted replies
+-- the accepted groups behind this event with these replies, where these were before
+abbrev pub accepted_behind : {P : Type 0} → ℕ → List Group → Event P → List Replied → List Group
+accepted_behind version accepted (Submit group) (Accepted number ∷ replies) = accepted ++ group ∷ []
+accepted_behind version accepted Stop replies = groups_left version accepted replies
+accepted_behind version accepted (StopWithin call picks writing) replies = groups_left version accepted replies
 accepted_behind version accepted _ replies = accepted
 
--- the accepted commands behind these turns, of a run that began with this version
-abbrev pub accepted_in : {P : Type 0} → ℕ → List Command → List (Turn P) → List Command
+-- the accepted groups behind these turns, of a run that began with this version
+abbrev pub accepted_in : {P : Type 0} → ℕ → List Group → List (Turn P) → List Group
 accepted_in version accepted [] = accepted
 accepted_in version accepted (turn ∷ turns) = accepted_in version (accepted_behind version accepted turn.0 turn.1) turns
 
@@ -85,15 +85,15 @@ HasReplies _ replies = (reply : Replied) × (replies ≡ reply ∷ [])
 abbrev pub EachHasReplies : {P : Type 0} → List (Turn P) → Type 0
 EachHasReplies turns = AllByRecursion (λ turn. HasReplies turn.0 turn.1) turns
 
--- an answer is right after so many of these commands; of other replies nothing is asked
-abbrev pub IsRightReply : Net → ℕ → List Command → Replied → Type 0
-IsRightReply base version commands (Answered query answer) = IsRightAfter base version commands query answer
-IsRightReply base version commands _ = Unit {0}
+-- an answer is right after so many of these groups; of other replies nothing is asked
+abbrev pub IsRightReply : Net → ℕ → List Group → Replied → Type 0
+IsRightReply base version groups (Answered query answer) = IsRightAfter base version groups query answer
+IsRightReply base version groups _ = Unit {0}
 
 -- The run of a script is a run of the machine's calls.
 abbrev pub ScriptsAreRuns : Type 0 → Type 0
 ScriptsAreRuns P =
-    (first : Machine) (events : List (Event P)) (replies : List Replied) (ended : Option Refusal) (history : List Command) (last : Machine)
+    (first : Machine) (events : List (Event P)) (replies : List Replied) (ended : Option Refusal) (history : List Group) (last : Machine)
     → Lives first events replies ended history last → (happened : List Happened) × Run first happened last
 
 -- Which replies are whose is told by the events and the replies alone.
@@ -104,53 +104,53 @@ TurnsAreTold P =
     → flat_map (λ turn. turn.1) turns ≡ flat_map (λ turn. turn.1) others
     → EachHasReplies turns → EachHasReplies others → turns ≡ others
 
--- The history of a run that is whole is the accepted commands.
+-- The history of a run that is whole is the accepted groups.
 abbrev pub WholeHistoriesAreAccepted : Type 0 → Type 0
 WholeHistoriesAreAccepted P =
-    (sizes : Sizes) (base : Net) (version unchecked : ℕ) (events : List (Event P)) (replies : List Replied) (history : List Command) (last : Machine)
+    (sizes : Sizes) (base : Net) (version unchecked : ℕ) (events : List (Event P)) (replies : List Replied) (history : List Group) (last : Machine)
     → version ≤ most_versions → unchecked ≤ sizes.journal_pages
     → (lives : Lives (start sizes base version unchecked) events replies None history last)
     → history ≡ accepted_in version [] lives.turns
 
--- Each acknowledged command has its number in the history.
+-- Each acknowledged group has its number in the history.
 abbrev pub AcknowledgedAreInHistory : Type 0 → Type 0
 AcknowledgedAreInHistory P =
-    (sizes : Sizes) (base : Net) (version unchecked : ℕ) (events : List (Event P)) (replies : List Replied) (ended : Option Refusal) (history : List Command) (last : Machine)
+    (sizes : Sizes) (base : Net) (version unchecked : ℕ) (events : List (Event P)) (replies : List Replied) (ended : Option Refusal) (history : List Group) (last : Machine)
     → version ≤ most_versions → unchecked ≤ sizes.journal_pages
     → (lives : Lives (start sizes base version unchecked) events replies ended history last)
     → AllByRecursion (IsAt version history) (acknowledged_in [] lives.turns)
 
--- Whatever version a stop leaves in the end, each acknowledged command has its number among the commands up to it.
+-- Whatever version a stop leaves in the end, each acknowledged group has its number among the groups up to it.
 abbrev pub StopsLeaveAcknowledged : Type 0 → Type 0
 StopsLeaveAcknowledged P =
-    (sizes : Sizes) (base : Net) (version unchecked : ℕ) (events : List (Event P)) (replies : List Replied) (ended : Option Refusal) (history : List Command) (last : Machine) (left : ℕ)
+    (sizes : Sizes) (base : Net) (version unchecked : ℕ) (events : List (Event P)) (replies : List Replied) (ended : Option Refusal) (history : List Group) (last : Machine) (left : ℕ)
     → version ≤ most_versions → unchecked ≤ sizes.journal_pages
     → (lives : Lives (start sizes base version unchecked) events replies ended history last) → IsLeft last left
-    → AllByRecursion (IsAt version (commands_to last left)) (acknowledged_in [] lives.turns)
+    → AllByRecursion (IsAt version (groups_to last left)) (acknowledged_in [] lives.turns)
 
--- Each answered query is right in the network after so many commands of the history as its version says.
+-- Each answered query is right in the network after so many groups of the history as its version says.
 abbrev pub AnswersAreRight : Type 0 → Type 0
 AnswersAreRight P =
-    (sizes : Sizes) (base : Net) (version unchecked : ℕ) (events : List (Event P)) (replies : List Replied) (ended : Option Refusal) (history : List Command) (last : Machine)
+    (sizes : Sizes) (base : Net) (version unchecked : ℕ) (events : List (Event P)) (replies : List Replied) (ended : Option Refusal) (history : List Group) (last : Machine)
     → version ≤ most_versions → unchecked ≤ sizes.journal_pages
     → Lives (start sizes base version unchecked) events replies ended history last
     → AllByRecursion (IsRightReply base version history) replies
 
 -- Whatever version a stop leaves in the end, each answered query names one up to it, and is right in the network after that many of the
--- commands that are left: no stop takes an answer's version back.
+-- groups that are left: no stop takes an answer's version back.
 abbrev pub StopsLeaveAnswers : Type 0 → Type 0
 StopsLeaveAnswers P =
-    (sizes : Sizes) (base : Net) (version unchecked : ℕ) (events : List (Event P)) (replies : List Replied) (ended : Option Refusal) (history : List Command) (last : Machine) (left : ℕ)
+    (sizes : Sizes) (base : Net) (version unchecked : ℕ) (events : List (Event P)) (replies : List Replied) (ended : Option Refusal) (history : List Group) (last : Machine) (left : ℕ)
     → version ≤ most_versions → unchecked ≤ sizes.journal_pages
     → Lives (start sizes base version unchecked) events replies ended history last → IsLeft last left
-    → AllByRecursion (IsRightReply base version (commands_to last left)) replies
+    → AllByRecursion (IsRightReply base version (groups_to last left)) replies
 
 -- WITH A DISK
 
--- The content stands for the network after a beginning of these commands, in which each acknowledged command has its number, and in whose
+-- The content stands for the network after a beginning of these groups, in which each acknowledged group has its number, and in whose
 -- networks each answer is right.
-pub record HoldsTold (StandsFor : List ℕ → Net → ℕ → Type 0) (base : Net) (version : ℕ) (accepted : List Command) (acknowledged : List Ticket) (replies : List Replied) (content : List ℕ) : Type 0 where
-  -- how many commands are left
+pub record HoldsTold (StandsFor : List ℕ → Net → ℕ → Type 0) (base : Net) (version : ℕ) (accepted : List Group) (acknowledged : List Ticket) (replies : List Replied) (content : List ℕ) : Type 0 where
+  -- how many groups are left
   pub count : ℕ
   pub count_to : count ≤ length accepted
   pub network : Net
@@ -160,9 +160,9 @@ pub record HoldsTold (StandsFor : List ℕ → Net → ℕ → Type 0) (base : N
   pub each_answer : AllByRecursion (IsRightReply base version (take count accepted)) replies
 
 -- THE HEADLINE, of a run of these events that began with this network and version: whatever content a stop leaves, it holds what was told.
--- The accepted commands are what the turns themselves say. The history begins them; in the end some may be in flight, and then it has just
+-- The accepted groups are what the turns themselves say. The history begins them; in the end some may be in flight, and then it has just
 -- those that are durable.
-pub record ToldForGood {P : Type 0} (StandsFor : List ℕ → Net → ℕ → Type 0) (left : List ℕ → Type 0) (base : Net) (version : ℕ) (events : List (Event P)) (replies : List Replied) (history : List Command) : Type 0 where
+pub record ToldForGood {P : Type 0} (StandsFor : List ℕ → Net → ℕ → Type 0) (left : List ℕ → Type 0) (base : Net) (version : ℕ) (events : List (Event P)) (replies : List Replied) (history : List Group) : Type 0 where
   -- the events that were run, each with its replies, and those that were not
   pub turns : List (Turn P)
   pub rest : List (Event P)

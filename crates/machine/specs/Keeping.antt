@@ -1,14 +1,14 @@
 -- What ties the networks that a keeper has at hand to its machine.
 use Rattle.std.specs.Prelude.{◌≡◌, ℕ, ◌-◌, List, take, drop, Option, Some, IfSome, option_map}
-use Rattle.roadnet.specs.declared.commands.Command.{Command}
+use Rattle.roadnet.specs.declared.groups.Group.{Group}
 use Rattle.roadnet.specs.Net.{Net}
 use Rattle.machine.specs.Machine.{Machine, IsState, batch, accepted_network, network_at}
 
--- the commands that the next flush takes
-abbrev pub next_batch : Machine → List Command
+-- the groups that the next flush takes
+abbrev pub next_batch : Machine → List Group
 next_batch m = take (batch m) (drop (m.durable - m.base_version) m.accepted)
 
--- The networks at hand, of the accepted commands, of the store, of the view and of the task, are those of the machine's versions.
+-- The networks at hand, of the accepted groups, of the store, of the view and of the task, are those of the machine's versions.
 pub record IsKept (m : Machine) (accepted durable shown : Net) (task : Option (ℕ × Net)) : Type 0 where
   pub state : IsState m
   pub accepted_is : accepted_network m ≡ Some accepted

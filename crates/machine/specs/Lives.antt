@@ -1,7 +1,7 @@
--- A script's events over lives with stops: what is replied, which commands are the history, and what the disk may hold in the end.
+-- A script's events over lives with stops: what is replied, which groups are the history, and what the disk may hold in the end.
 use Rattle.std.specs.Prelude.{◌≡◌, ◌⊎◌, ℕ, zero, suc, ◌≤◌, List, [], ◌∷◌, ◌++◌, Option, None, Some, Result, Ok, Err, map}
 use Rattle.std.specs.List.{flat_map}
-use Rattle.roadnet.specs.declared.commands.Command.{Command}
+use Rattle.roadnet.specs.declared.groups.Group.{Group}
 use Rattle.roadnet.specs.declared.refusals.Refusal.{Refusal}
 use Rattle.roadnet.specs.declared.refusals.Refusal.TheVariants.{OutOfMemory, Device, NoTask}
 use Rattle.roadnet.specs.Net.{Net}
@@ -14,7 +14,7 @@ use Rattle.machine.specs.declared.events.Writing.{Writing}
 use Rattle.machine.specs.declared.events.Writing.TheVariants.{Flush as a_flush, Checkpoint as a_checkpoint, Step as a_step}
 use Rattle.machine.specs.declared.events.Replied.{Replied}
 use Rattle.machine.specs.declared.events.Replied.TheVariants.{Accepted, Durable, Stepped, Task as TaskOf, Shown, Answered, Refused, Opened, Stopped}
-use Rattle.machine.specs.Machine.{Sizes, Machine, start, most_versions, commands_to, network_at}
+use Rattle.machine.specs.Machine.{Sizes, Machine, start, most_versions, groups_to, network_at}
 use Rattle.machine.specs.Calls.{Submits, Flushes, StepsCheckpoint, TakesTask, Publishes, Asks, IsLeft, StopsAndOpens}
 
 -- THE REPLY TO A CALL'S ANSWER
@@ -80,7 +80,7 @@ StopComes old writing replies stopped new =
 
 -- From old the event may be replied to so, and lead to new.
 abbrev pub Does : {P : Type 0} → Machine → Event P → List Replied → Machine → Type 0
-Does old (Submit command) replies new = (result : Result Ticket Refusal) × Submits old command result new × (replies ≡ told_ticket result ∷ [])
+Does old (Submit group) replies new = (result : Result Ticket Refusal) × Submits old group result new × (replies ≡ told_ticket result ∷ [])
 Does old Flush replies new = WritesAndTells old a_flush replies new
 Does old Checkpoint replies new = WritesAndTells old a_checkpoint replies new
 Does old (CheckpointStep pages) replies new = WritesAndTells old (a_step pages) replies new
@@ -113,15 +113,15 @@ Passes old (turn ∷ turns) new = (mid : Machine) × Does old turn.0 turn.1 mid 
 
 -- How a run ends: with its last event; before some event for want of memory; or with a stop after which the store is not opened
 -- or has no first view. Then only what was durable is its history.
-pub data Ends {P : Type 0} (first : Machine) (turns : List (Turn P)) (rest : List (Event P)) (ended : Option Refusal) (history : List Command) (last : Machine) : Type 0 where
+pub data Ends {P : Type 0} (first : Machine) (turns : List (Turn P)) (rest : List (Event P)) (ended : Option Refusal) (history : List Group) (last : Machine) : Type 0 where
   Whole : Passes first turns last → rest ≡ [] → ended ≡ None → history ≡ last.accepted → Ends first turns rest ended history last
   NoMemory : Passes first turns last → ended ≡ Some OutOfMemory → history ≡ last.accepted → Ends first turns rest ended history last
   NotOpened : (before : List (Turn P)) (turn : Turn P) (mid : Machine) → turns ≡ before ++ turn ∷ [] → Passes first before mid
-      → StopsFor mid turn.0 turn.1 last → (ended ≡ Some OutOfMemory) ⊎ (ended ≡ Some Device) → history ≡ commands_to last last.durable
+      → StopsFor mid turn.0 turn.1 last → (ended ≡ Some OutOfMemory) ⊎ (ended ≡ Some Device) → history ≡ groups_to last last.durable
       → Ends first turns rest ended history last
 
 -- The events may be replied to so over lives with stops, with this history; the run may end early. Its last state is `last`.
-pub record Lives {P : Type 0} (first : Machine) (events : List (Event P)) (replies : List Replied) (ended : Option Refusal) (history : List Command) (last : Machine) : Type 0 where
+pub record Lives {P : Type 0} (first : Machine) (events : List (Event P)) (replies : List Replied) (ended : Option Refusal) (history : List Group) (last : Machine) : Type 0 where
   -- the events that were run, and those that were not
   pub turns : List (Turn P)
   pub rest : List (Event P)
@@ -131,7 +131,7 @@ pub record Lives {P : Type 0} (first : Machine) (events : List (Event P)) (repli
 
 -- WITH A DISK, of which is known for what network and version a content stands
 
--- the content stands for what is durable, with the commands in flight or without
+-- the content stands for what is durable, with the groups in flight or without
 pub record HoldsDurable (StandsFor : List ℕ → Net → ℕ → Type 0) (m : Machine) (content : List ℕ) : Type 0 where
   pub version : ℕ
   pub left : IsLeft m version
@@ -141,7 +141,7 @@ pub record HoldsDurable (StandsFor : List ℕ → Net → ℕ → Type 0) (m : M
 
 -- The run is one of a store of this network and version, with so many pages unchecked, and a stop now leaves of the disk what its last
 -- state says.
-pub record LivesOn {P : Type 0} (StandsFor : List ℕ → Net → ℕ → Type 0) (left : List ℕ → Type 0) (sizes : Sizes) (base : Net) (version unchecked : ℕ) (events : List (Event P)) (replies : List Replied) (ended : Option Refusal) (history : List Command) : Type 0 where
+pub record LivesOn {P : Type 0} (StandsFor : List ℕ → Net → ℕ → Type 0) (left : List ℕ → Type 0) (sizes : Sizes) (base : Net) (version unchecked : ℕ) (events : List (Event P)) (replies : List Replied) (ended : Option Refusal) (history : List Group) : Type 0 where
   pub version_to : version ≤ most_versions
   pub unchecked_to : unchecked ≤ sizes.journal_pages
   pub last : Machine

@@ -1,7 +1,8 @@
--- The state of the machine that a keeper of a store is: the accepted commands, and counts. Nothing of it is a byte of the disk.
-use Rattle.std.specs.Prelude.{◌≡◌, ℕ, ◌+◌, ◌-◌, ◌≤◌, min, Bool, false, List, length, take, [], Option, None, IfSome, IsSome}
+-- The state of the machine that a keeper of a store is: the accepted groups of commands, and counts. Nothing of it is a byte of the disk.
+use Rattle.std.specs.Prelude.{◌≡◌, ℕ, suc, ◌+◌, ◌-◌, ◌≤◌, Bool, false, List, [], ◌∷◌, length, take, drop, Option, None, All, IfSome, IsSome, nat_le, if◌then◌else◌}
 pub use Rattle.roadnet.specs.Versions.{most_versions}
-use Rattle.roadnet.specs.declared.commands.Command.{Command}
+use Rattle.roadnet.specs.declared.groups.Group.{Group}
+use Rattle.roadnet.specs.Groups.{IsGroup, count_of}
 use Rattle.roadnet.specs.Net.{Net, nth}
 use Rattle.roadnet.specs.Step.{after}
 
@@ -26,8 +27,8 @@ pub record Machine : Type 0 where
   -- the network that the run began with, and its version
   pub base : Net
   pub base_version : ℕ
-  -- the commands accepted since, in order
-  pub accepted : List Command
+  -- the groups accepted since, in order
+  pub accepted : List Group
   -- the versions up to this one are durable
   pub durable : ℕ
   -- the version that answers are given from
@@ -36,7 +37,7 @@ pub record Machine : Type 0 where
   pub opened : ℕ
   -- the journal pages that no checkpoint has made needless
   pub unchecked : ℕ
-  -- how many commands the flush had that failed
+  -- how many groups the flush had that failed
   pub in_flight : ℕ
   -- a write failed: nothing is written before the store is opened again
   pub broken : Bool
@@ -45,6 +46,8 @@ pub record Machine : Type 0 where
   -- the checkpoint that is going
   pub checkpoint : Option Checkpoint
 
+-- how many commands may be pending, how many a life may accept, and how many a journal page may have; each of these is a count of
+-- commands, not of groups
 abbrev pub most_pending : ℕ
 most_pending = 4096
 
@@ -54,33 +57,46 @@ most_of_life = 16777216
 abbrev pub most_of_page : ℕ
 most_of_page = 253
 
--- the version after all accepted commands
+-- how many of these groups stand in front and have no more commands than this together
+abbrev pub fitting : ℕ → List Group → ℕ
+fitting room [] = 0
+fitting room (group ∷ groups) = if nat_le (length group) room then suc (fitting (room - length group) groups) else 0
+
+-- the version after all accepted groups
 abbrev pub latest : Machine → ℕ
 latest m = m.base_version + length m.accepted
 
--- how many accepted commands are not durable
+-- the accepted groups behind version v
+abbrev pub groups_behind : Machine → ℕ → List Group
+groups_behind m v = drop (v - m.base_version) m.accepted
+
+-- how many commands are pending: those of the groups that are not durable
 abbrev pub pending : Machine → ℕ
-pending m = latest m - m.durable
+pending m = count_of (groups_behind m m.durable)
 
--- how many commands the next flush takes
+-- how many commands this life accepted
+abbrev pub of_life : Machine → ℕ
+of_life m = count_of (groups_behind m m.opened)
+
+-- how many groups the next flush takes: the longest front of the pending ones that fits a page
 abbrev pub batch : Machine → ℕ
-batch m = min most_of_page (pending m)
+batch m = fitting most_of_page (groups_behind m m.durable)
 
--- the accepted commands up to version v
-abbrev pub commands_to : Machine → ℕ → List Command
-commands_to m v = take (v - m.base_version) m.accepted
+-- the accepted groups up to version v
+abbrev pub groups_to : Machine → ℕ → List Group
+groups_to m v = take (v - m.base_version) m.accepted
 
 -- the network at version v
 abbrev pub network_at : Machine → ℕ → Option Net
-network_at m v = after m.base (commands_to m v)
+network_at m v = after m.base (groups_to m v)
 
--- the network after all accepted commands
+-- the network after all accepted groups
 abbrev pub accepted_network : Machine → Option Net
 accepted_network m = after m.base m.accepted
 
--- the command of number k, which leads from version k - 1 to version k
-abbrev pub command_at : Machine → ℕ → Option Command
-command_at m k = nth m.accepted (k - m.base_version)
+-- the group of number k, which leads from version k - 1 to version k
+abbrev pub group_at : Machine → ℕ → Option Group
+group_at m k = nth m.accepted (k - m.base_version)
 
 -- a store of this network and version, just opened
 abbrev pub start : Sizes → Net → ℕ → ℕ → Machine
@@ -108,9 +124,10 @@ pub record IsState (m : Machine) : Type 0 where
   pub durable_accepted : m.durable + m.in_flight ≤ latest m
   pub calm : m.broken ≡ false → m.in_flight ≡ 0
   pub admitted : IsSome (accepted_network m)
+  pub groups : All IsGroup m.accepted
   pub unchecked_to : m.unchecked ≤ m.sizes.journal_pages
   pub task_between : IfSome m.task (λ v. (m.shown ≤ v) × (v ≤ m.durable))
   pub checkpoint_durable : IfSome m.checkpoint (λ c. (c.version ≤ m.durable) × (c.flushed ≤ m.unchecked) × (c.left ≤ m.sizes.checkpoint_pages))
   pub versions_to : latest m ≤ most_versions
-  pub pending_to : latest m ≤ m.durable + most_pending
-  pub life_to : latest m ≤ m.opened + most_of_life
+  pub pending_to : pending m ≤ most_pending
+  pub life_to : of_life m ≤ most_of_life

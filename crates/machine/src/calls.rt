@@ -1,20 +1,20 @@
-use roadnet::Command;
+use roadnet::Group;
 use rows::Reply;
 
-/// A command was accepted as this number. It is not acknowledged yet: a stop may still take it back.
-#[derive(Clone, Copy, Debug, PartialEq, Eq)]
+/// A group of commands was accepted as this number. It is not acknowledged yet: a stop may still take it back.
+#[derive(Debug, Drop)]
 pub struct Ticket {
-    /// The version that the command leads to.
+    /// The version that the group leads to.
     pub number: u64,
-    pub command: Command,
+    pub group: Group,
 }
 
-/// The command of this number is durable: no later stop takes it back.
-#[derive(Clone, Copy, Debug, PartialEq, Eq)]
+/// The group of this number is durable: no later stop takes it back.
+#[derive(Debug, Drop)]
 pub struct Receipt {
-    /// The version that the command leads to.
+    /// The version that the group leads to.
     pub number: u64,
-    pub command: Command,
+    pub group: Group,
 }
 
 /// A reply, with the version in whose network it is right.

@@ -1,12 +1,12 @@
 use crate::calls::Answer;
 use crate::pages::StepPages;
-use roadnet::{Command, Refusal};
+use roadnet::{Group, Refusal};
 use rows::Query;
 
 /// An event that writes to the disk, and so can be stopped within.
 #[derive(Clone, Copy, Debug, PartialEq, Eq)]
 pub enum Writing {
-    /// The first pending commands are made durable.
+    /// The first pending groups are made durable.
     Flush,
     /// Steps of 64 pages, until the checkpoint is done.
     Checkpoint,
@@ -19,11 +19,11 @@ pub enum Writing {
 /// `P` is the type of a pick, which says what a stop makes of a byte that was written since the last sync.
 #[derive(Debug, Drop)]
 pub enum Event<P> {
-    /// A command is submitted.
+    /// A group is submitted.
     Submit {
-        command: Command,
+        group: Group,
     },
-    /// The first pending commands are made durable.
+    /// The first pending groups are made durable.
     Flush,
     /// Steps of 64 pages, until the checkpoint is done.
     Checkpoint,
@@ -54,7 +54,7 @@ pub enum Event<P> {
 /// What is told of an event: one variant for each form of output, with its numbers.
 #[derive(Clone, Copy, Debug, PartialEq, Eq)]
 pub enum Replied {
-    /// The command was accepted as this number, and is not acknowledged yet.
+    /// The group was accepted as this number, and is not acknowledged yet.
     Accepted { number: u64 },
     /// After a flush: the versions up to this one are durable. After a checkpoint: the version that it holds.
     Durable { version: u64 },

@@ -1,5 +1,5 @@
 ghost use Rattle.machine.specs.Headline.{AcknowledgedAreInHistory, AnswersAreRight, ScriptsAreRuns, StopsLeaveAcknowledged, StopsLeaveAnswers, TurnsAreTold, WholeHistoriesAreAccepted};
-ghost use Rattle.machine.specs.Laws.{StepsKeepStates, StartsAreStates, StepsTakeNothingBack, VersionsAreNetworks, AcknowledgedStay, AnswersStayRight};
+ghost use Rattle.machine.specs.Laws.{StepsKeepStates, StartsAreStates, StepsTakeNothingBack, FlushTakesLongestFront, VersionsAreFewer, VersionsAreNetworks, AcknowledgedStay, AnswersStayRight};
 ghost use Rattle.machine.specs.LifeInRun.{LifeStepsAreRunSteps, StopsBeginLives};
 
 /// What holds of each step of the machine.
@@ -8,6 +8,8 @@ pub fn laws_of_steps()
     ensures states { StepsKeepStates }
     ensures durable { StepsTakeNothingBack }
     ensures versions { VersionsAreNetworks }
+    ensures flush { FlushTakesLongestFront }
+    ensures fewer { VersionsAreFewer }
 {}
 
 /// What holds of each run, whatever is called and wherever it is stopped.

@@ -1,4 +1,4 @@
-/// How many accepted commands may wait to be made durable.
+/// How many commands of accepted groups may wait to be made durable.
 pub const MOST_PENDING: u64 = 4096;
 
 /// How many commands a life may accept.

@@ -1,9 +1,10 @@
 use fixtures::{arc, network, six, six_with};
 use roadnet::{
-    Command, MOST_LANDMARKS, Network, OutOfMemory, Outline, Refusal, RoadArc, laws_of_batches,
-    laws_of_refusals, laws_of_steps, laws_of_walks,
+    Command, Group, MOST_LANDMARKS, Network, OutOfMemory, Outline, Refusal, RoadArc,
+    laws_of_batches, laws_of_refusals, laws_of_steps, laws_of_walks,
 };
 use std::alloc::{AllocError, Global};
+use std::array::from_ref;
 
 /// One more than the greatest length.
 const BEYOND: u64 = 2147483648;
@@ -154,6 +155,12 @@ fn are_equal(network: &Network, other: &Network) -> bool {
     network.arcs() == other.arcs()
         && network.landmarks() == other.landmarks()
         && network.nodes() == other.nodes()
+        && network.room() == other.room()
+}
+
+/// A group of these commands.
+fn group_of(alloc: Global, commands: &[Command]) -> Result<Group, Refusal> {
+    Group::new(Vec::from_slice(alloc, commands).map_err(AllocError::from)?)
 }
 
 /// The network after these commands, carried out one after the other, up to the first that is refused, and what it is refused for.
@@ -172,37 +179,47 @@ fn carried_out(
     Ok((network, None))
 }
 
-/// Whether the network refuses the batch with the refusal of this number, or carries it out; each time as `apply` does it for one command
-/// after the other.
+/// Whether the network refuses the group with the refusal of this number, and stays as it was, or carries it out as `apply` does one command
+/// after the other, and takes it back.
 fn goes_as_in_turn(
+    alloc: Global,
     network: &Network,
     commands: &[Command],
     number: Option<u8>,
 ) -> Result<bool, Refusal> {
     let (in_turn, refused) = carried_out(network, commands)?;
-    let judged = network.admit_all(commands).err();
+    let group = group_of(alloc, commands)?;
+    let judged = network.admit_groups(from_ref(&group)).err();
     if judged != refused || judged.map(|refusal| refusal.number()) != number {
         return Ok(false);
     }
-    let mut batched = network.copy()?;
-    match batched.prepare(commands) {
-        Ok(landmarks) => {
-            batched.carry_out(commands, landmarks);
-            Ok(refused.is_none() && are_equal(&batched, &in_turn))
-        }
+    let mut grouped = network.copy()?;
+    match grouped.apply_group(&group) {
+        Ok(()) => Ok(
+            refused.is_none() && are_equal(&grouped, &in_turn) && is_taken_back(network, &group)?,
+        ),
         Err(Refusal::OutOfMemory) if refused.is_none() => Err(Refusal::OutOfMemory),
-        Err(refusal) => Ok(refused == Some(refusal) && are_equal(&batched, network)),
+        Err(refusal) => Ok(refused == Some(refusal) && are_equal(&grouped, network)),
     }
 }
 
-/// The first batch of the table that goes otherwise.
+/// Whether the network is as it was when the group is carried out and taken back.
+fn is_taken_back(network: &Network, group: &Group) -> Result<bool, Refusal> {
+    let mut changed = network.copy()?;
+    let undo = changed.carry_out(from_ref(group))?;
+    changed.take_back(undo);
+    Ok(are_equal(&changed, network))
+}
+
+/// The first group of the table that goes otherwise.
 fn goes_otherwise(
+    alloc: Global,
     network: &Network,
     table: &[(&[Command], Option<u8>)],
 ) -> Result<Option<usize>, Refusal> {
     for at in 0..table.len() {
         let (commands, number) = table[at];
-        if !goes_as_in_turn(network, commands, number)? {
+        if !goes_as_in_turn(alloc, network, commands, number)? {
             return Ok(Some(at));
         }
     }
@@ -223,10 +240,23 @@ const MARK: Command = Command::Mark { node: 3 };
 
 const UNMARK: Command = Command::Unmark { node: 3 };
 
+/// From node 6 to node 1, of length 7: the ninth arc.
+const LAY: Command = Command::Lay {
+    tail: 6,
+    head: 1,
+    length: 7,
+};
+
+const CLOSE_LAID: Command = Command::Close { arc: 9 };
+
+const REOPEN_LAID: Command = Command::Reopen { arc: 9 };
+
+const SET_LAID: Command = Command::Set { arc: 9, length: 8 };
+
+/// Each group is refused at its first command that is not admitted after those before it, and then nothing of it is carried out.
 #[test]
-fn batches_go_as_their_commands_in_turn(rt: HostRuntime) -> Result<(), Refusal> {
-    let table: [(&[Command], Option<u8>); 9] = [
-        (&[], None),
+fn groups_go_as_their_commands_in_turn(rt: HostRuntime) -> Result<(), Refusal> {
+    let table: [(&[Command], Option<u8>); 15] = [
         (&[CLOSE, REOPEN, CLOSE], None),
         (&[CLOSE, CLOSE], Some(22)),
         (&[CLOSE, OTHER, REOPEN, REOPEN], Some(23)),
@@ -235,8 +265,95 @@ fn batches_go_as_their_commands_in_turn(rt: HostRuntime) -> Result<(), Refusal> 
         (&[MARK, OTHER, MARK, NO_ARC], Some(25)),
         (&[MARK, UNMARK, UNMARK], Some(26)),
         (&[CLOSE, NO_ARC, CLOSE], Some(20)),
+        (&[LAY], None),
+        (&[LAY, CLOSE_LAID, REOPEN_LAID, SET_LAID], None),
+        (&[SET_LAID, LAY], Some(20)),
+        (&[LAY, CLOSE_LAID, LAY, CLOSE_LAID], Some(22)),
+        (&[LAY, MARK, LAY], None),
+        (&[LAY, MARK, LAY, LAY], Some(29)),
+        (&[LAY, REOPEN_LAID], Some(23)),
     ];
-    assert_eq!(rt; goes_otherwise(&six(rt.alloc())?, &table)?, None);
+    let alloc = rt.alloc();
+    let network = roomy(alloc, 10)?;
+    assert_eq!(rt; goes_otherwise(alloc, &network, &table)?, None);
+    Ok(())
+}
+
+/// A group has 1 to 253 commands.
+#[test]
+fn sizes_of_groups(rt: HostRuntime) -> Result<(), Refusal> {
+    for (size, number) in [(0, Some(13)), (1, None), (253, None), (254, Some(13))] {
+        let mut commands = Vec::new(rt.alloc());
+        for _ in 0..size {
+            commands.push(SET).map_err(AllocError::from)?;
+        }
+        let refused = Group::new(commands).err();
+        assert_eq!(rt; refused.map(|refusal| refusal.number()), number);
+    }
+    Ok(())
+}
+
+/// The network of the worked rows with this room, or else as it is.
+fn roomy(alloc: Global, room: u64) -> Result<Network, Refusal> {
+    match six(alloc)?.with_room(room) {
+        Ok(network) => Ok(network),
+        Err((refusal, _)) => Err(refusal),
+    }
+}
+
+/// The room is at least the arcs and at most what a network may have: else the network is handed back as it was, with room for its arcs.
+#[test]
+fn rooms_of_networks(rt: HostRuntime) -> Result<(), Refusal> {
+    let table = [
+        (7, Err(9)),
+        (8, Ok(8)),
+        (10, Ok(10)),
+        (67108864, Ok(67108864)),
+        (67108865, Err(9)),
+        (u64::MAX, Err(9)),
+    ];
+    for (room, wanted) in table {
+        let (told, network) = match six(rt.alloc())?.with_room(room) {
+            Ok(network) => (Ok(network.room()), network),
+            Err((refusal, network)) => (Err(refusal.number()), network),
+        };
+        assert!(rt; told == wanted, "{room}");
+        assert!(rt;
+            network.room() == wanted.unwrap_or(8) && network.arcs() == six(rt.alloc())?.arcs()
+        );
+    }
+    Ok(())
+}
+
+const fn laid(tail: u64, head: u64, length: u64) -> Command {
+    Command::Lay { tail, head, length }
+}
+
+/// A new arc is open and has the next number. It is refused for its length, then for its ends, then for want of room.
+#[test]
+fn arcs_are_laid(rt: HostRuntime) -> Result<(), Refusal> {
+    let mut network = roomy(rt.alloc(), 10)?;
+    let table = [
+        (laid(7, 1, BEYOND), Some(21)),
+        (laid(7, 1, 1), Some(24)),
+        (laid(1, 0, 1), Some(24)),
+        (laid(u64::MAX, 1, 1), Some(24)),
+        (laid(6, 1, 7), None),
+        (laid(1, 6, 2147483647), None),
+        (laid(1, 6, BEYOND), Some(21)),
+        (laid(1, 7, 1), Some(24)),
+        (laid(2, 2, 0), Some(29)),
+    ];
+    for (command, number) in table {
+        let judged = network.admit(&command).err();
+        assert!(rt; network.apply(command).err() == judged, "{command:?}");
+        assert!(rt;
+            judged.map(|refusal| refusal.number()) == number,
+            "{command:?}"
+        );
+    }
+    assert!(rt; network.arcs().len() == 10 && network.arc(9) == Some(arc(6, 1, 7)));
+    assert!(rt; network.arc(10) == Some(arc(1, 6, 2147483647)) && network.arc(11).is_none());
     Ok(())
 }
 
@@ -247,7 +364,7 @@ const UNMARK_500: Command = Command::Unmark { node: 500 };
 const MARK_500: Command = Command::Mark { node: 500 };
 
 #[test]
-fn the_most_landmarks_in_a_batch(rt: HostRuntime) -> Result<(), Refusal> {
+fn the_most_landmarks_in_a_group(rt: HostRuntime) -> Result<(), Refusal> {
     let table: [(&[Command], Option<u8>); 5] = [
         (&[MARK_LAST], Some(27)),
         (&[MARK_500], Some(25)),
@@ -256,7 +373,7 @@ fn the_most_landmarks_in_a_batch(rt: HostRuntime) -> Result<(), Refusal> {
         (&[UNMARK_500, MARK_LAST, MARK_500], Some(27)),
     ];
     let network = marked(rt.alloc(), 1001, 1000)?;
-    assert_eq!(rt; goes_otherwise(&network, &table)?, None);
+    assert_eq!(rt; goes_otherwise(rt.alloc(), &network, &table)?, None);
     Ok(())
 }
 
@@ -268,7 +385,7 @@ fn goes_alike(
     number: Option<u8>,
 ) -> bool {
     let judged = outline.admit(&command).err();
-    let applied = outline.apply(command).err();
+    let applied = outline.apply_group(&Group::one(command)).err();
     judged == network.admit(&command).err()
         && network.apply(command).err() == applied
         && applied == judged
@@ -277,7 +394,7 @@ fn goes_alike(
 
 #[test]
 fn outlines_judge_as_their_networks(rt: HostRuntime) -> Result<(), Refusal> {
-    let mut network = six(rt.alloc())?;
+    let mut network = roomy(rt.alloc(), 9)?;
     let mut outline = Outline::of(rt.alloc(), &network)?;
     let table = [
         (Command::Set { arc: 9, length: 1 }, Some(20)),
@@ -306,6 +423,12 @@ fn outlines_judge_as_their_networks(rt: HostRuntime) -> Result<(), Refusal> {
         (UNMARK, None),
         (UNMARK, Some(26)),
         (Command::Unmark { node: u64::MAX }, Some(24)),
+        (laid(6, 7, BEYOND), Some(21)),
+        (laid(6, 7, 1), Some(24)),
+        (LAY, None),
+        (REOPEN_LAID, Some(23)),
+        (CLOSE_LAID, None),
+        (LAY, Some(29)),
     ];
     for (command, number) in table {
         assert!(rt; goes_alike(&mut network, &mut outline, command, number));
@@ -344,7 +467,9 @@ fn an_outline_is_of_the_network_as_it_is(rt: HostRuntime) -> Result<(), Refusal>
 fn refusals_are_printed_with_their_numbers(rt: HostRuntime) -> Result<(), Refusal> {
     let table = [
         (Refusal::NumberRange, "5 NumberRange"),
+        (Refusal::GroupSize, "13 GroupSize"),
         (Refusal::NoSuchArc, "20 NoSuchArc"),
+        (Refusal::NoRoom, "29 NoRoom"),
         (Refusal::Damaged { page: 6 }, "42 Damaged page 6"),
         (Refusal::NoThread, "63 NoThread"),
     ];

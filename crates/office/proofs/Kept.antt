@@ -2,7 +2,7 @@
 use Rattle.std.proofs.Common.{◌≡◌, ⊎_elim, ℕ, zero, suc, ◌+◌, ◌-◌, ◌≤◌, List, [], ◌∷◌, length, take, refl, ap, sym, ◌∙◌, subst, arith}
 use Rattle.std.proofs.lemmas.List.{length-take-le}
 use mathlib.Core.List.{IsPrefix}
-use Rattle.roadnet.specs.declared.commands.Command.{Command}
+use Rattle.roadnet.specs.declared.groups.Group.{Group}
 use Rattle.roadnet.specs.Net.{Net}
 use Rattle.roadnet.specs.Step.{after}
 use Rattle.storefile.specs.StoreFile.{StandsTidyFor}
@@ -37,11 +37,12 @@ keeps origin m w h p o s content held =
     record {
       kept = kept;
       keeps = record {
-        begins = subst (λ (l : List Command). IsPrefix kept l) (sym o.history_commands) (take_prefix n m.accepted);
+        begins = subst (λ (l : List Group). IsPrefix kept l) (sym o.history_groups) (take_prefix n m.accepted);
         acknowledged = let a = o.acknowledged in omega (arith, a, some, number);
-        shown_too = subst (λ (l : List Command). IsPrefix l kept) (sym o.shown_commands) (take_longer (m.shown - m.base_version) n m.accepted (let d = s.shown_durable in omega (arith, d, some)));
+        shown_too = subst (λ (l : List Group). IsPrefix l kept) (sym o.shown_groups) (take_longer (m.shown - m.base_version) n m.accepted (let d = s.shown_durable in omega (arith, d, some)));
       };
+      checkpoint_pages = m.sizes.checkpoint_pages;
       network = held.network;
       network_is = ap (λ (b : Net). after b kept) base ∙ held.network_is;
-      stands = subst (λ (v : ℕ). StandsTidyFor m.sizes.journal_pages content held.network v) (sym number) held.stands;
+      stands = subst (λ (v : ℕ). StandsTidyFor m.sizes.journal_pages m.sizes.checkpoint_pages content held.network v) (sym number) held.stands;
     }

@@ -1,22 +1,23 @@
 -- What holds of an office each time its lock is got.
-use Rattle.std.specs.Prelude.{◌≡◌, ℕ, ◌≤◌, false, Some}
+use Rattle.std.specs.Prelude.{◌≡◌, ℕ, ◌≤◌, false, Some, Result, Err}
+use Rattle.roadnet.specs.declared.refusals.Refusal.{Refusal}
 use Rattle.history.specs.Origins.{Origin, Beginning}
 use Rattle.machine.specs.declared.calls.Ticket.{Ticket}
 use Rattle.machine.specs.declared.calls.Receipt.{Receipt}
-use Rattle.machine.specs.Machine.{Machine, IsState, commands_to, network_at}
+use Rattle.machine.specs.Machine.{Machine, IsState, groups_to, network_at}
 use Rattle.keeper.specs.Keeping.{Keeping}
 use Rattle.published.specs.Showing.{Showing}
 
--- The machine runs from the desk's network and version, and the history has the commands that it accepted. Readers see the view of the shown
--- version, which searches by this width, after the commands up to that version. What was acknowledged is durable.
+-- The machine runs from the desk's network and version, and the history has the groups that it accepted. Readers see the view of the shown
+-- version, which searches by this width, after the groups up to that version. What was acknowledged is durable.
 pub record IsOffice (origin : Origin) (m : Machine) (width : ℕ) (history : Beginning) (published : Showing) : Type 0 where
   pub base : m.base ≡ origin.base
   pub base_version : m.base_version ≡ origin.version
   pub history_origin : history.origin ≡ origin
-  pub history_commands : history.commands ≡ m.accepted
+  pub history_groups : history.groups ≡ m.accepted
   pub acknowledged : history.acknowledged ≤ m.durable
   pub shown_origin : published.shown.origin ≡ origin
-  pub shown_commands : published.shown.commands ≡ commands_to m m.shown
+  pub shown_groups : published.shown.groups ≡ groups_to m m.shown
   pub view_version : published.view.version ≡ m.shown
   pub view_network : network_at m m.shown ≡ Some published.view.network
   pub view_width : published.view.delta ≡ width
@@ -33,4 +34,8 @@ WhenTidy came_tidy k P = came_tidy → k.machine.broken ≡ false → P
 
 -- the keeper's receipt for a ticket
 abbrev pub receipt_of : Ticket → Receipt
-receipt_of ticket = record { number = ticket.number; command = ticket.command }
+receipt_of ticket = record { number = ticket.number; group = ticket.group }
+
+-- the keeper's refusal of a receipt, which hands the ticket back
+abbrev pub refused_for : Ticket → Refusal → Result Receipt (Refusal × Ticket)
+refused_for ticket refusal = Err (refusal, ticket)

@@ -3,8 +3,8 @@ ghost use Rattle.std.specs.Prelude.{◌≡◌, ◌<◌, ◌≤◌, List, take, l
 ghost use Rattle.std.proofs.Props.{props};
 ghost use Rattle.disk.specs.Contents.{AreAmong};
 ghost use mathlib.Core.List.{IsPrefix};
-ghost use Rattle.roadnet.specs.declared.commands.Command.{Command as Accepted};
-ghost use Rattle.machine.specs.Machine.{commands_to};
+ghost use Rattle.roadnet.specs.declared.groups.Group.{Group as Accepted};
+ghost use Rattle.machine.specs.Machine.{groups_to};
 ghost use Rattle.machine.specs.Laws.{IsAt};
 ghost use Rattle.office.specs.Left.{KeepsDesk, KeepsSeen};
 
@@ -13,34 +13,34 @@ use crate::offices::Office;
 use disk::Disk;
 use history::{Front, Settled, Whole};
 use published::Shown;
-use roadnet::Command;
+use roadnet::Group;
 use std::sync::Wait;
 
-/// What is left of a desk: the commands that it accepted, in order, what was shown last, and the disk, whose journal has so many pages. What
+/// What is left of a desk: the groups that it accepted, in order, what was shown last, and the disk, whose journal has so many pages. What
 /// was shown last is a beginning of the history.
 #[derive(Drop)]
 pub struct Closed<D: Disk> {
-    pub history: Vec<Command>,
+    pub history: Vec<Group>,
     pub shown: Shown,
     pub disk: D,
     /// How many pages the journal on the disk has.
     pub journal_pages: u32,
     /// The history as tokens are compared with it.
     pub whole: Whole,
-    ghost listed: { whole.commands ≡ history.items },
+    ghost listed: { whole.groups ≡ history.items },
     ghost desk: { shown.origin ≡ whole.origin } by { Prim.hlevel props },
-    ghost begins: { shown.commands ≡ take (length shown.commands) history.items },
+    ghost begins: { shown.groups ≡ take (length shown.groups) history.items },
 }
 
 impl<N: Naming, D: Disk> Office<N, D> {
-    /// Closes the office: no command is accepted any more, and no reader can look. No call of the disk is made. It waits for those readers that
+    /// Closes the office: no group is accepted any more, and no reader can look. No call of the disk is made. It waits for those readers that
     /// are taking a share of the view.
     pub fn close<R: Wait>(self, rt: &R) -> Closed<D>
     where
         D: Drop,
         ensures history { result.history.items ≡ self.machine.accepted }
         ensures origin { result.whole.origin ≡ N.origin }
-        ensures shown { result.shown.commands ≡ commands_to self.machine self.machine.shown }
+        ensures shown { result.shown.groups ≡ groups_to self.machine self.machine.shown }
         ensures acknowledged { result.whole.acknowledged ≤ self.machine.durable }
         ensures disk { result.disk ≡ self.disk }
         ensures pages { result.journal_pages ≡ self.machine.sizes.journal_pages }
@@ -72,10 +72,10 @@ impl<N: Naming, D: Disk> Office<N, D> {
 }
 
 impl<D: Disk> Closed<D> {
-    /// The command at the receipt's number, where the receipt is of this desk. It takes no memory.
-    pub fn confirm(&self, receipt: &Settled) -> Command
+    /// The group at the receipt's number, where the receipt is of this desk: it is lent by the receipt. It takes no memory.
+    pub fn confirm<'a>(&self, receipt: &'a Settled) -> &'a Group
         requires { receipt.now.origin ≡ self.now.whole.origin }
-        ensures command { result ≡ receipt.now.ticket.command }
+        ensures group { result.now ≡ receipt.now.ticket.group }
         ensures there { IsAt self.now.whole.origin.version self.now.history.items receipt.now.ticket }
         ensures acknowledged { receipt.now.ticket.number ≤ self.now.whole.acknowledged }
         // It stands at its number in each beginning of the history that has all that was acknowledged and shown.
@@ -84,11 +84,11 @@ impl<D: Disk> Closed<D> {
         self.whole.confirm(receipt)
     }
 
-    /// Whether what was shown last begins with these commands, a beginning of this desk's history. Else it is shorter. It takes no memory.
+    /// Whether what was shown last begins with these groups, a beginning of this desk's history. Else it is shorter. It takes no memory.
     pub fn has_shown(&self, known: &Front) -> bool
         requires { known.now.origin ≡ self.now.whole.origin }
-        ensures { MatchBool result (IsPrefix known.now.commands self.now.shown.commands) (length self.now.shown.commands < length known.now.commands) }
+        ensures { MatchBool result (IsPrefix known.now.groups self.now.shown.groups) (length self.now.shown.groups < length known.now.groups) }
     {
-        known.begins(self.shown.commands())
+        known.begins(self.shown.groups())
     }
 }

@@ -1,4 +1,4 @@
-//! What lies under the lock of a desk: the keeper, the history of its commands and the readers' copy, which agree each time the lock is
+//! What lies under the lock of a desk: the keeper, the history of its groups and the readers' copy, which agree each time the lock is
 //! got; and what callers carry away from it.
 #![tactic(auto)]
 

@@ -16,7 +16,7 @@ impl Naming for Brand {
     ghost use Rattle.std.specs.Prelude.{[]};
 
     ghost origin = { record {
-      base = record { nodes = 1; arcs = []; landmarks = [] };
+      base = record { nodes = 1; arcs = []; landmarks = []; room = 0 };
       version = 0;
       history = record { book = record { number = 0; log_name = 0; cells_name = 0 }; pen = 0 };
     } };

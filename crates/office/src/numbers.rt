@@ -21,7 +21,7 @@ impl<N: Naming, D: Disk> Office<N, D> {
         self.keeper.durable()
     }
 
-    /// How many accepted commands are not durable: at most 4,096.
+    /// How many commands the groups have that are accepted and not durable: at most 4,096.
     pub fn pending(&self) -> u64
         ensures { result ≡ pending self.now.machine }
     {

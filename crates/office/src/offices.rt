@@ -54,7 +54,7 @@ impl<N: Naming, D: Disk> Office<N, D> {
         requires calm { is_calm store ≡ true }
         requires view { (view.value.network ≡ store.network) × (view.value.version ≡ store.version) }
         requires origin { (N.origin.base ≡ store.network) × (N.origin.version ≡ store.version) }
-        requires history { (history.origin ≡ N.origin) × (history.commands ≡ []) × (history.acknowledged ≡ 0) }
+        requires history { (history.origin ≡ N.origin) × (history.groups ≡ []) × (history.acknowledged ≡ 0) }
         requires came_tidy { N.came_tidy → CameTidy D.honest D.content store.given }
         ensures begins { IfOk result (λ office. office.machine ≡ start (sizes_of store) store.network store.version store.unchecked) }
         ensures disk { IfOk result (λ office. office.disk ≡ store.disk) }

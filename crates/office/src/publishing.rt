@@ -1,7 +1,7 @@
 // Tasks, and their views shown.
 ghost use Rattle.std.specs.Prelude.{◌≡◌, ◌≢◌, Ok, IfOk, IfErr, OnOk, OnErr, option_map, []};
 ghost use Rattle.roadnet.specs.declared.refusals.Refusal.TheVariants.{NoReaderPlace as no_reader_place, OutOfMemory as out_of_memory};
-ghost use Rattle.machine.specs.Machine.{commands_to};
+ghost use Rattle.machine.specs.Machine.{groups_to};
 ghost use Rattle.keeper.specs.Parts.{or_out_of_memory, result_map};
 ghost use Rattle.machine.specs.Calls.{TakesTask, without_task, IsTask, RefusesView, Publishes};
 
@@ -67,19 +67,19 @@ impl<N: Naming, D: Disk> Office<N, D> {
         Ok(self.keeper.publish_admitted(view))
     }
 
-    /// Tells what is shown: the accepted commands up to the shown version. It takes no memory.
+    /// Tells what is shown: the accepted groups up to the shown version. It takes no memory.
     pub fn tell(&self) -> Shown
         ensures origin { result.origin ≡ N.origin }
-        ensures commands { result.commands ≡ commands_to self.now.machine self.now.machine.shown }
+        ensures groups { result.groups ≡ groups_to self.now.machine self.now.machine.shown }
     {
         self.publisher.tell()
     }
 
-    /// A reader of this desk, which has seen no command.
+    /// A reader of this desk, which has seen no group.
     ///
     /// Refused is a place for it that is not found (60): there are 64, and while readers come and go a free one may be missed.
     pub fn reader(&mut self) -> Result<Reader, Refusal>
-        ensures reader { IfOk result (λ reader. (reader.origin ≡ N.origin) × (reader.commands ≡ [])) }
+        ensures reader { IfOk result (λ reader. (reader.origin ≡ N.origin) × (reader.groups ≡ [])) }
         ensures causes { IfErr result (λ refusal. refusal ≡ no_reader_place) }
         ensures same { self.new ≡ self.old }
     {

@@ -1,10 +1,10 @@
 // Receipts, and what was shown since a ticket.
-ghost use Rattle.std.specs.Prelude.{◌≡◌, ◌<◌, if◌then◌else◌, Ok, Err, IfSome, IfNone, IfOk, IfErr, OnOk};
+ghost use Rattle.std.specs.Prelude.{◌≡◌, ◌<◌, if◌then◌else◌, Ok, IfSome, IfNone, IfOk, IfErr, OnOk};
 ghost use Rattle.roadnet.specs.declared.refusals.Refusal.TheVariants.{Broken as broken, NotYet as not_yet};
-ghost use Rattle.machine.specs.Machine.{commands_to};
+ghost use Rattle.machine.specs.Machine.{groups_to};
 ghost use Rattle.machine.specs.Calls.{IsTicketOf, receipt_for};
 ghost use Rattle.machine.specs.Laws.{IsAt};
-ghost use Rattle.office.specs.Offices.{receipt_of};
+ghost use Rattle.office.specs.Offices.{receipt_of, refused_for};
 
 use crate::naming::Naming;
 use crate::offices::Office;
@@ -25,7 +25,7 @@ impl<N: Naming, D: Disk> Office<N, D> {
         }
     }
 
-    /// A receipt for the ticket, which is of this desk, where its command is durable, as the keeper's: no stop takes it back.
+    /// A receipt for the ticket, which is of this desk, where its group is durable, as the keeper's: no stop takes it back.
     ///
     /// Refused is a number that is not durable: with 45 where the store is broken, else with 54. The ticket is handed back then.
     pub fn receipt(&mut self, ticket: Claim) -> Result<Settled, (Refusal, Claim)>
@@ -33,7 +33,7 @@ impl<N: Naming, D: Disk> Office<N, D> {
         ensures step { OnOk result (receipt_for self.old.machine ticket.ticket ≡ Ok (receipt_of ticket.ticket)) }
         ensures there { OnOk result (IsTicketOf self.old.machine ticket.ticket) }
         ensures receipt { IfOk result (λ receipt. receipt ≡ ticket) }
-        ensures refused { IfErr result (λ refused. receipt_for self.old.machine ticket.ticket ≡ Err refused.0) }
+        ensures refused { IfErr result (λ refused. receipt_for self.old.machine ticket.ticket ≡ refused_for ticket.ticket refused.0) }
         ensures handed_back { IfErr result (λ refused. refused.1 ≡ ticket) }
         ensures same { self.new ≡ self.old }
     {
@@ -41,19 +41,19 @@ impl<N: Naming, D: Disk> Office<N, D> {
         if !self.history.holds(&ticket) {
             return Err((self.unmade(), ticket));
         }
-        if let Err(refusal) = self.keeper.receipt(&ticket.ticket()) {
-            return Err((refusal, ticket));
+        if self.keeper.durable() < ticket.ticket().number {
+            return Err((self.unmade(), ticket));
         }
         self.history.acknowledge(ticket.ticket().number);
         Ok(self.history.settled(ticket))
     }
 
-    /// What is shown, where that is the command of the ticket, which is of this desk, or behind it. It takes no memory.
+    /// What is shown, where that is the group of the ticket, which is of this desk, or behind it. It takes no memory.
     pub fn shown_since(&self, ticket: &Claim) -> Option<Shown>
         requires { ticket.now.origin ≡ N.origin }
         ensures origin { IfSome result (λ shown. shown.origin ≡ N.origin) }
-        ensures commands { IfSome result (λ shown. shown.commands ≡ commands_to self.now.machine self.now.machine.shown) }
-        ensures there { IfSome result (λ shown. IsAt N.origin.version shown.commands ticket.now.ticket) }
+        ensures groups { IfSome result (λ shown. shown.groups ≡ groups_to self.now.machine self.now.machine.shown) }
+        ensures there { IfSome result (λ shown. IsAt N.origin.version shown.groups ticket.now.ticket) }
         ensures none { IfNone result (self.now.machine.shown < ticket.now.ticket.number) }
     {
         let _ = self.keeper.opened();

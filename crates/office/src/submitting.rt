@@ -1,4 +1,4 @@
-// Commands accepted and made durable.
+// Groups accepted and made durable.
 ghost use Rattle.std.specs.Prelude.{◌≡◌, ◌≢◌, ◌↔◌, true, Ok, Err, IfOk, IfErr, OnErr};
 ghost use Rattle.disk.specs.Contents.{Rose};
 ghost use Rattle.disk.specs.Moments.{AddsNothing, LeavesOnly};
@@ -12,29 +12,29 @@ use crate::naming::Naming;
 use crate::offices::Office;
 use disk::Disk;
 use history::Claim;
-use roadnet::{Command, Refusal};
+use roadnet::{Group, Refusal};
 
 impl<N: Naming, D: Disk> Office<N, D> {
-    /// Accepts the command as the next number, as the keeper does, and writes it into the history. The ticket is for this command, of this
+    /// Accepts the group as the next number, as the keeper does, and writes it into the history. The ticket is for this group, of this
     /// desk.
     ///
-    /// Refused as the keeper's `submit` is. Then nothing has changed.
-    pub fn submit(&mut self, command: Command) -> Result<Claim, Refusal>
-        ensures accepted { IfOk result (λ ticket. Submits self.old.machine command (Ok ticket.ticket) self.new.machine) }
+    /// Refused as the keeper's `submit_group` is. Then nothing has changed.
+    pub fn submit_group(&mut self, group: Group) -> Result<Claim, Refusal>
+        ensures accepted { IfOk result (λ ticket. Submits self.old.machine group (Ok ticket.ticket) self.new.machine) }
         ensures origin { IfOk result (λ ticket. ticket.origin ≡ N.origin) }
-        ensures refused { IfErr result (λ refusal. Submits self.old.machine command (Err refusal) self.new.machine) }
+        ensures refused { IfErr result (λ refusal. Submits self.old.machine group (Err refusal) self.new.machine) }
         ensures same { OnErr result (self.new ≡ self.old) }
         ensures disk { self.new.disk ≡ self.old.disk }
         ensures given { self.new.given ≡ self.old.given }
         ensures width { self.new.width ≡ self.old.width }
     {
         let _ = self.keeper.opened();
-        let ticket = self.keeper.submit_into(&mut self.history, command)?;
+        let ticket = self.keeper.submit_into(&mut self.history, group)?;
         Ok(self.history.claim(ticket))
     }
 
-    /// Makes the first pending commands durable, at most 253, as the keeper's `flush` does: all of them or none, whatever a stop does at any
-    /// moment. Answers the durable version.
+    /// Makes the first pending groups durable, the longest front of them with at most 253 commands, as the keeper's `flush` does: all of them or
+    /// none, whatever a stop does at any moment. Answers the durable version.
     ///
     /// Refused, the first that holds, is a broken store (45), that nothing is pending (53), and a journal without a free page (44); then want
     /// of memory (11); then a disk that failed (43), after which the store is broken. After each other refusal nothing is changed.

@@ -7,7 +7,7 @@ use crate::offices::view_of;
 use disk::{Disk, MemDisk};
 use history::History;
 use office::{Naming, Office};
-use roadnet::{Command, Refusal};
+use roadnet::{Command, Group, Refusal};
 use std::alloc::Global;
 use std::marker::Brand;
 use std::sync::Wait;
@@ -23,9 +23,9 @@ fn settle_page<N: Naming, D: Disk>(office: &mut Office<N, D>) -> Result<u64, Ref
         office.checkpoint_step(64)?;
     }
     for _ in 0..252 {
-        let _ = office.submit(SAME)?;
+        let _ = office.submit_group(Group::one(SAME))?;
     }
-    let ticket = office.submit(SAME)?;
+    let ticket = office.submit_group(Group::one(SAME))?;
     office.flush()?;
     match office.receipt(ticket) {
         Ok(receipt) => Ok(receipt.ticket().ticket().number),
@@ -43,7 +43,7 @@ fn settle_all<N: Naming, D: Disk + Drop, R: Wait>(
 ) -> Result<u64, Refusal>
     requires calm { is_calm store ≡ true }
     requires origin { (N.origin.base ≡ store.network) × (N.origin.version ≡ store.version) }
-    requires history { (history.origin ≡ N.origin) × (history.commands ≡ []) × (history.acknowledged ≡ 0) }
+    requires history { (history.origin ≡ N.origin) × (history.groups ≡ []) × (history.acknowledged ≡ 0) }
     requires came_tidy { N.came_tidy → CameTidy D.honest D.content store.given }
 {
     let first = view_of(alloc, store.version(), store.network())?;

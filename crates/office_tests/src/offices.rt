@@ -5,10 +5,10 @@ ghost use Rattle.machine.specs.Laws.{IsAt};
 use crate::networks::one_arc;
 use disk::{Disk, MemDisk};
 use history::{Claim, History, Settled};
-use office::{Naming, Office};
-use published::Shown;
+use office::{Closed, Naming, Office};
+use published::{Reader, Shown};
 use relax::Solo;
-use roadnet::{Command, Network, Refusal};
+use roadnet::{Command, Group, Network, Refusal};
 use rows::View;
 use std::alloc::Global;
 use std::marker::Brand;
@@ -82,7 +82,7 @@ fn shown_since<N: Naming, D: Disk + Drop, R: Wait>(
     ticket: &Claim,
 ) -> Result<Shown, Refusal>
     requires { ticket.now.origin ≡ N.origin }
-    ensures { IfOk result (λ shown. (shown.origin ≡ N.origin) × IsAt N.origin.version shown.commands ticket.now.ticket) }
+    ensures { IfOk result (λ shown. (shown.origin ≡ N.origin) × IsAt N.origin.version shown.groups ticket.now.ticket) }
 {
     match lock.lock(rt).shown_since(ticket) {
         Some(shown) => Ok(shown),
@@ -90,38 +90,129 @@ fn shown_since<N: Naming, D: Disk + Drop, R: Wait>(
     }
 }
 
+/// A receipt for a command, which is accepted and made durable.
+fn accept_and_settle<N: Naming, D: Disk + Drop, R: Wait>(
+    rt: &R,
+    lock: &Mutex<Office<N, D>>,
+    command: Command,
+) -> Result<Settled, Refusal>
+    ensures { IfOk result (λ receipt. receipt.origin ≡ N.origin) }
+{
+    let ticket = lock.lock(rt).submit_group(Group::one(command))?;
+    settle(rt, lock, ticket)
+}
+
+/// Two readers of what is shown.
+fn two_readers<N: Naming, D: Disk + Drop, R: Wait>(
+    rt: &R,
+    lock: &Mutex<Office<N, D>>,
+) -> Result<(Reader, Reader), Refusal>
+    ensures { IfOk result (λ readers. (readers.0.origin ≡ N.origin) × (readers.1.origin ≡ N.origin)) }
+{
+    let one = lock.lock(rt).reader()?;
+    let other = lock.lock(rt).reader()?;
+    Ok((one, other))
+}
+
+/// The version that a reader sees.
+fn seen(reader: &mut Reader) -> Result<u64, Refusal>
+    ensures { reader.new.origin ≡ reader.old.origin }
+{
+    let view = reader.look()?;
+    Ok(view.version())
+}
+
+/// A reader learns of a receipt's command.
+fn learn_of<N: Naming, D: Disk + Drop, R: Wait>(
+    rt: &R,
+    lock: &Mutex<Office<N, D>>,
+    reader: &mut Reader,
+    receipt: &Settled,
+) -> Result<(), Refusal>
+    requires reader { reader.old.origin ≡ N.origin }
+    requires receipt { receipt.now.origin ≡ N.origin }
+{
+    let shown = shown_since(rt, lock, receipt.ticket())?;
+    reader.learn(&shown);
+    Ok(())
+}
+
+/// A command is accepted, settled and shown, and a reader looks behind it. Told are its receipt and the version that is seen.
+fn first_shown<N: Naming, D: Disk + Drop, R: Wait>(
+    rt: &R,
+    alloc: Global,
+    lock: &Mutex<Office<N, D>>,
+    reader: &mut Reader,
+) -> Result<(Settled, u64), Refusal>
+    ensures receipt { IfOk result (λ told. told.0.origin ≡ N.origin) }
+    ensures reader { IfOk result (λ _. reader.new.origin ≡ reader.old.origin) }
+{
+    let receipt = accept_and_settle(rt, lock, CLOSE)?;
+    show(rt, alloc, lock)?;
+    let version = seen(reader)?;
+    Ok((receipt, version))
+}
+
+/// The same of a second command, of which one reader learns. Told are its receipt, and the versions that the other sees before it is shown, and
+/// both behind that.
+fn second_shown<N: Naming, D: Disk + Drop, R: Wait>(
+    rt: &R,
+    alloc: Global,
+    lock: &Mutex<Office<N, D>>,
+    reader: &mut Reader,
+    other: &mut Reader,
+) -> Result<(Settled, [u64; 3]), Refusal>
+    requires { reader.old.origin ≡ N.origin }
+    ensures { IfOk result (λ told. told.0.origin ≡ N.origin) }
+{
+    let receipt = accept_and_settle(rt, lock, MARK)?;
+    let before = seen(other)?;
+    show(rt, alloc, lock)?;
+    learn_of(rt, lock, reader, &receipt)?;
+    let versions = [before, seen(reader)?, seen(other)?];
+    Ok((receipt, versions))
+}
+
 /// Two commands are accepted, settled and shown, each call under the lock. Of two readers one learns of the second. Told are the versions that
-/// they see, and what is confirmed of both receipts.
+/// they see, beside both receipts.
+fn seen_of_two<N: Naming, D: Disk + Drop, R: Wait>(
+    rt: &R,
+    alloc: Global,
+    lock: &Mutex<Office<N, D>>,
+) -> Result<([u64; 4], Settled, Settled), Refusal>
+    ensures { IfOk result (λ told. (told.1.origin ≡ N.origin) × (told.2.origin ≡ N.origin)) }
+{
+    let (mut told, mut other) = two_readers(rt, lock)?;
+    let (first, version) = first_shown(rt, alloc, lock, &mut told)?;
+    let (second, [before, learned, looked]) = second_shown(rt, alloc, lock, &mut told, &mut other)?;
+    Ok(([version, before, learned, looked], first, second))
+}
+
+/// Whether a closed office confirms that a receipt is that of this command alone.
+fn confirms<D: Disk>(closed: &Closed<D>, receipt: &Settled, command: Command) -> bool
+    requires { receipt.now.origin ≡ closed.now.whole.origin }
+{
+    closed.confirm(receipt).commands() == [command].as_slice()
+}
+
+/// What two readers see of two commands, and whether both receipts are confirmed by the closed office.
 fn round<N: Naming, D: Disk + Drop, R: Threads + Wait>(
     rt: &R,
     alloc: Global,
     history: History,
     store: Store<D>,
-) -> Result<([u64; 4], [Command; 2]), Refusal>
+) -> Result<([u64; 4], bool), Refusal>
     requires calm { is_calm store ≡ true }
     requires origin { (N.origin.base ≡ store.network) × (N.origin.version ≡ store.version) }
-    requires history { (history.origin ≡ N.origin) × (history.commands ≡ []) × (history.acknowledged ≡ 0) }
+    requires history { (history.origin ≡ N.origin) × (history.groups ≡ []) × (history.acknowledged ≡ 0) }
     requires came_tidy { N.came_tidy → CameTidy D.honest D.content store.given }
 {
     let first = view_of(alloc, store.version(), store.network())?;
     let lock = Mutex::new(Office::<N, D>::new(rt, alloc, history, store, first)?);
-    let mut told = lock.lock(rt).reader()?;
-    let mut other = lock.lock(rt).reader()?;
-    let first = lock.lock(rt).submit(CLOSE)?;
-    let first = settle(rt, &lock, first)?;
-    show(rt, alloc, &lock)?;
-    let before = told.look()?.version();
-    let second = lock.lock(rt).submit(MARK)?;
-    let second = settle(rt, &lock, second)?;
-    let behind = other.look()?.version();
-    show(rt, alloc, &lock)?;
-    told.learn(&shown_since(rt, &lock, second.ticket())?);
-    let seen = (told.look()?.version(), other.look()?.version());
+    let (seen, first, second) = seen_of_two(rt, alloc, &lock)?;
     let closed = lock.into_inner().close(rt);
-    Ok((
-        [before, behind, seen.0, seen.1],
-        [closed.confirm(&first), closed.confirm(&second)],
-    ))
+    let confirmed = confirms(&closed, &first, CLOSE) && confirms(&closed, &second, MARK);
+    Ok((seen, confirmed))
 }
 
 #[test]
@@ -133,6 +224,6 @@ fn commands_are_read_back(rt: HostRuntime) -> Result<(), Fail> {
     };
     let history = History::new(store.network(), store.version());
     let told = round::<Brand, _, _>(&rt, alloc, history, store);
-    assert_eq!(rt; told, Ok(([1, 1, 2, 2], [CLOSE, MARK])));
+    assert_eq!(rt; told, Ok(([1, 1, 2, 2], true)));
     Ok(())
 }

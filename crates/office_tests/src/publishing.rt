@@ -7,7 +7,7 @@ use crate::networks::one_arc;
 use history::{Front, History};
 use published::{Published, Publisher, Reader};
 use relax::Solo;
-use roadnet::{Command, Network, OutOfMemory, Refusal};
+use roadnet::{Command, Group, Network, OutOfMemory, Refusal};
 use rows::View;
 use std::alloc::Global;
 use std::sync::{Arc, Wait};
@@ -16,33 +16,34 @@ const CLOSE: Command = Command::Close { arc: 1 };
 
 const REOPEN: Command = Command::Reopen { arc: 1 };
 
-/// A view of this network, to be shown after these commands.
+/// A view of this network, to be shown after these groups.
 fn shown_after(
     alloc: Global,
     version: u64,
     network: &Network,
-    commands: Front,
+    groups: Front,
 ) -> Result<Published, OutOfMemory>
-    requires network { after commands.origin.base commands.commands ≡ Some network.now }
-    requires version { version ≡ commands.origin.version + length commands.commands }
-    ensures { IfOk result (λ shown. shown.shown ≡ commands) }
+    requires network { after groups.origin.base groups.groups ≡ Some network.now }
+    requires version { version ≡ groups.origin.version + length groups.groups }
+    ensures { IfOk result (λ shown. shown.shown ≡ groups) }
 {
     let copy = network.copy()?;
     let view = View::build(alloc, version, copy, None, &Solo)?;
     match Arc::new(alloc, view) {
-        Ok(view) => Ok(Published::new(view, commands)),
+        Ok(view) => Ok(Published::new(view, groups)),
         Err(_) => Err(OutOfMemory),
     }
 }
 
-/// Writes a command that the network takes. Then these are the desk's commands and its network.
+/// Writes a command that the network takes, as a group of one. Then these are the desk's groups and its network.
 fn carry_out(history: &mut History, network: &mut Network, command: Command) -> bool
-    requires { after history.old.origin.base history.old.commands ≡ Some network.old }
-    ensures history { MatchBool result (history.new ≡ record history.old { commands = history.old.commands ++ command ∷ [] }) (Unit {0}) }
-    ensures network { MatchBool result (after history.new.origin.base history.new.commands ≡ Some network.new) (Unit {0}) }
+    requires { after history.old.origin.base history.old.groups ≡ Some network.old }
+    ensures history { MatchBool result (history.new ≡ record history.old { groups = history.old.groups ++ (command ∷ []) ∷ [] }) (Unit {0}) }
+    ensures network { MatchBool result (after history.new.origin.base history.new.groups ≡ Some network.new) (Unit {0}) }
 {
-    match network.apply(command) {
-        Ok(()) => history.write(command),
+    let group = Group::one(command);
+    match network.apply_group(&group) {
+        Ok(()) => history.write(&group),
         Err(_) => false,
     }
 }

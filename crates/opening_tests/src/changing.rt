@@ -12,10 +12,10 @@ const PAGE: usize = 4096;
 
 const OPEN: u8 = 0xA5;
 
-// The file of six nodes and eight arcs, with a journal of 64 pages: the bytes 0 to 23 of its header, and the bytes in use of its arc
-// page, of its word page and of the head of slot A.
-const HEADER: [u8; 24] =
-    *b"ROADMRK1\x00\x00\x00\x01\x00\x00\x00\x06\x00\x00\x00\x08\x00\x00\x00\x40";
+// The file of six nodes and eight arcs, with room for no more and a journal of 64 pages: the bytes 0 to 27 of its header, and the bytes in
+// use of its arc page, of its word page and of the head of slot A.
+const HEADER: [u8; 28] =
+    *b"ROADMRK1\x00\x00\x00\x02\x00\x00\x00\x06\x00\x00\x00\x08\x00\x00\x00\x40\x00\x00\x00\x08";
 
 const ARCS: [u8; 64] =
     *b"\x00\x00\x00\x01\x00\x00\x00\x02\x00\x00\x00\x01\x00\x00\x00\x03\x00\x00\x00\x02\x00\x00\x00\x04\x00\x00\x00\x03\x00\x00\x00\x05\x00\x00\x00\x04\x00\x00\x00\x03\x00\x00\x00\x04\x00\x00\x00\x06\x00\x00\x00\x05\x00\x00\x00\x02\x00\x00\x00\x05\x00\x00\x00\x06";
@@ -23,16 +23,33 @@ const ARCS: [u8; 64] =
 const WORDS: [u8; 32] =
     *b"\x00\x00\x00\x11\x00\x00\x00\x0a\x00\x00\x00\x02\x00\x00\x00\x00\x00\x00\x00\x00\x00\x00\x00\x03\x00\x00\x00\x00\x00\x00\x00\x14";
 
-const HEAD: [u8; 36] =
-    *b"\x00\x00\x00\x00\x00\x00\x00\x01\x00\x00\x00\x00\x00\x00\x00\x00\x00\x00\x00\x00\x00\x00\x00\x00\x00\x00\x00\x02\x00\x00\x00\x03\x00\x00\x00\x06";
+const HEAD: [u8; 40] =
+    *b"\x00\x00\x00\x00\x00\x00\x00\x01\x00\x00\x00\x00\x00\x00\x00\x00\x00\x00\x00\x00\x00\x00\x00\x00\x00\x00\x00\x02\x00\x00\x00\x08\x00\x00\x00\x03\x00\x00\x00\x06";
 
-// Bytes 0 to 31 of the journal page of sequence 0, first number 1 and one command, and its record `close 7`.
+// What the same has with room for ten and a ninth arc from node 6 to node 1, of length 7: how many arcs there are, its word and its ends.
+const NINE: [u8; 4] = *b"\x00\x00\x00\x09";
+
+const NINTH_WORD: [u8; 4] = *b"\x00\x00\x00\x07";
+
+const NINTH_ENDS: [u8; 8] = *b"\x00\x00\x00\x06\x00\x00\x00\x01";
+
+// Bytes 0 to 31 of the journal page of sequence 0, first number 1 and one record, and records.
 const ONE_COMMAND: [u8; 32] =
     *b"\x00\x00\x00\x00\x00\x00\x00\x00\x00\x00\x00\x00\x00\x00\x00\x01\x00\x01\x00\x00\x00\x00\x00\x00\x00\x00\x00\x00\x00\x00\x00\x00";
 
 const CLOSE_7: [u8; 8] = *b"\x02\x00\x00\x00\x00\x00\x00\x07";
 
 const REOPEN_7: [u8; 8] = *b"\x03\x00\x00\x00\x00\x00\x00\x07";
+
+// The group of `close 7` and `set 8 4`.
+const DETOUR: [u8; 32] =
+    *b"\x02\x01\x00\x00\x00\x00\x00\x07\x00\x00\x00\x00\x00\x00\x00\x00\x01\x00\x00\x00\x00\x00\x00\x08\x00\x00\x00\x04\x00\x00\x00\x00";
+
+// The same, where the last record says that the group goes on.
+const UNENDED: [u8; 32] =
+    *b"\x02\x01\x00\x00\x00\x00\x00\x07\x00\x00\x00\x00\x00\x00\x00\x00\x01\x01\x00\x00\x00\x00\x00\x08\x00\x00\x00\x04\x00\x00\x00\x00";
+
+const LAY_6_1_7: [u8; 16] = *b"\x06\x00\x00\x00\x00\x00\x00\x06\x00\x00\x00\x01\x00\x00\x00\x07";
 
 const SET_1_1: [u8; 16] = *b"\x01\x00\x00\x00\x00\x00\x00\x01\x00\x00\x00\x01\x00\x00\x00\x00";
 
@@ -50,6 +67,27 @@ fn six_file(alloc: Global) -> Result<Vec<u8>, AllocError> {
     put(&mut file, 2 * PAGE, &HEAD);
     put(&mut file, 3 * PAGE - 1, &[OPEN]);
     put(&mut file, 3 * PAGE, &WORDS);
+    Ok(file)
+}
+
+// The file with room for ten arcs, nine of them there: the ninth stands on page 3 and on the end page, 4; slot B's head is page 5, and the
+// journal begins at page 8.
+fn roomy_file(alloc: Global) -> Result<Vec<u8>, AllocError> {
+    let mut file = vec![in alloc; 0; 72 * PAGE]?;
+    for (at, bytes) in [
+        (0, HEADER.as_slice()),
+        (27, &[10]),
+        (PAGE - 1, &[OPEN]),
+        (PAGE, &ARCS),
+        (2 * PAGE, &HEAD),
+        (2 * PAGE + 28, &NINE),
+        (3 * PAGE - 1, &[OPEN]),
+        (3 * PAGE, &WORDS),
+        (3 * PAGE + 32, &NINTH_WORD),
+        (4 * PAGE, &NINTH_ENDS),
+    ] {
+        put(&mut file, at, bytes);
+    }
     Ok(file)
 }
 
@@ -85,7 +123,7 @@ struct Change {
     refusal: Option<Refusal>,
 }
 
-const CHANGES: [Change; 17] = [
+const CHANGES: [Change; 22] = [
     Change {
         bytes: &[],
         refusal: None,
@@ -102,7 +140,19 @@ const CHANGES: [Change; 17] = [
         bytes: &[(11, 9)],
         refusal: Some(Refusal::WrongFormat),
     },
-    // N is 0, M is 67,108,864, J is 63.
+    Change {
+        bytes: &[(11, 1)],
+        refusal: Some(Refusal::WrongFormat),
+    },
+    // N is 0, M is 67,108,864, J is 63; the room is less than the arcs, or more than 67,108,864.
+    Change {
+        bytes: &[(27, 7)],
+        refusal: Some(Refusal::Damaged { page: 0 }),
+    },
+    Change {
+        bytes: &[(24, 4)],
+        refusal: Some(Refusal::Damaged { page: 0 }),
+    },
     Change {
         bytes: &[(15, 0)],
         refusal: Some(Refusal::Damaged { page: 0 }),
@@ -127,6 +177,15 @@ const CHANGES: [Change; 17] = [
     // The gate of slot A.
     Change {
         bytes: &[(3 * PAGE - 1, 0)],
+        refusal: Some(Refusal::Damaged { page: 2 }),
+    },
+    // A head with fewer arcs than the store was made with, or with more than the room.
+    Change {
+        bytes: &[(2 * PAGE + 31, 7)],
+        refusal: Some(Refusal::Damaged { page: 2 }),
+    },
+    Change {
+        bytes: &[(2 * PAGE + 31, 9)],
         refusal: Some(Refusal::Damaged { page: 2 }),
     },
     // A ninth word.
@@ -167,20 +226,93 @@ const CHANGES: [Change; 17] = [
     },
 ];
 
-#[test]
-fn changed_bytes(rt: HostRuntime) -> Result<(), Fail> {
-    let alloc = rt.alloc();
-    for (i, change) in CHANGES.iter().enumerate() {
-        let mut file = six_file(alloc)?;
+// The same of the file with room for ten arcs.
+const ROOMY_CHANGES: [Change; 12] = [
+    Change {
+        bytes: &[],
+        refusal: None,
+    },
+    Change {
+        bytes: &[(2 * PAGE + 31, 11)],
+        refusal: Some(Refusal::Damaged { page: 2 }),
+    },
+    // With eight arcs the ninth word is past them; without it the ends are.
+    Change {
+        bytes: &[(2 * PAGE + 31, 8)],
+        refusal: Some(Refusal::Damaged { page: 3 }),
+    },
+    Change {
+        bytes: &[(2 * PAGE + 31, 8), (3 * PAGE + 35, 0)],
+        refusal: Some(Refusal::Damaged { page: 4 }),
+    },
+    // A tenth word.
+    Change {
+        bytes: &[(3 * PAGE + 39, 1)],
+        refusal: Some(Refusal::Damaged { page: 3 }),
+    },
+    // The ninth arc begins at node 0, ends at node 7; there are ends of a tenth; the last bytes of the end page.
+    Change {
+        bytes: &[(4 * PAGE + 3, 0)],
+        refusal: Some(Refusal::Damaged { page: 4 }),
+    },
+    Change {
+        bytes: &[(4 * PAGE + 7, 7)],
+        refusal: Some(Refusal::Damaged { page: 4 }),
+    },
+    Change {
+        bytes: &[(4 * PAGE + 11, 1), (4 * PAGE + 15, 1)],
+        refusal: Some(Refusal::Damaged { page: 4 }),
+    },
+    Change {
+        bytes: &[(5 * PAGE - 8, 1)],
+        refusal: Some(Refusal::Damaged { page: 4 }),
+    },
+    Change {
+        bytes: &[(5 * PAGE - 1, OPEN)],
+        refusal: Some(Refusal::Damaged { page: 4 }),
+    },
+    // Words are judged before ends.
+    Change {
+        bytes: &[(3 * PAGE + 39, 1), (4 * PAGE + 3, 0)],
+        refusal: Some(Refusal::Damaged { page: 3 }),
+    },
+    // The other slot's end page is not looked at.
+    Change {
+        bytes: &[(7 * PAGE, 1)],
+        refusal: None,
+    },
+];
+
+// The first change behind which opening the file answers otherwise, if there is one.
+fn first_other(
+    alloc: Global,
+    file: &[u8],
+    changes: &[Change],
+) -> Result<Option<usize>, AllocError> {
+    for (i, change) in changes.iter().enumerate() {
+        let mut changed = Vec::from_slice(alloc, file)?;
         for &(at, byte) in change.bytes {
-            put(&mut file, at, &[byte]);
+            put(&mut changed, at, &[byte]);
         }
         let wanted = match change.refusal {
             Some(refusal) => Err(refusal),
             None => first(0, 0),
         };
-        assert!(rt; answer(alloc, &file) == wanted, "change {i}");
+        if answer(alloc, &changed) != wanted {
+            return Ok(Some(i));
+        }
     }
+    Ok(None)
+}
+
+#[test]
+fn changed_bytes(rt: HostRuntime) -> Result<(), Fail> {
+    let alloc = rt.alloc();
+    assert_eq!(rt; first_other(alloc, &six_file(alloc)?, &CHANGES)?, None);
+    assert_eq!(rt;
+        first_other(alloc, &roomy_file(alloc)?, &ROOMY_CHANGES)?,
+        None
+    );
     Ok(())
 }
 
@@ -194,16 +326,46 @@ fn file_with_page(alloc: Global, count: u8, records: &[u8]) -> Result<Vec<u8>, A
     Ok(file)
 }
 
-// A file that is cut; a page whose command is not admitted; one of one command, and one that is full.
+// Pages at the place of sequence 0: how many records each has, these, and why the file is refused, if it is. A page of one group is one
+// version; its last record can't go on, and without room no arc is laid.
+const PAGES: [(u8, &[u8], Option<Refusal>); 5] = [
+    (1, &REOPEN_7, Some(Refusal::Damaged { page: 6 })),
+    (1, &CLOSE_7, None),
+    (2, &DETOUR, None),
+    (2, &UNENDED, Some(Refusal::Damaged { page: 6 })),
+    (1, &LAY_6_1_7, Some(Refusal::Damaged { page: 6 })),
+];
+
+// The first of these pages of one version with which opening the file answers otherwise, if there is one.
+fn first_other_page(
+    alloc: Global,
+    pages: &[(u8, &[u8], Option<Refusal>)],
+) -> Result<Option<usize>, AllocError> {
+    for (i, &(count, records, refusal)) in pages.iter().enumerate() {
+        let wanted = match refusal {
+            Some(refusal) => Err(refusal),
+            None => first(1, 1),
+        };
+        if answer(alloc, &file_with_page(alloc, count, records)?) != wanted {
+            return Ok(Some(i));
+        }
+    }
+    Ok(None)
+}
+
 #[test]
-fn cut_or_with_a_page(rt: HostRuntime) -> Result<(), Fail> {
+fn files_with_a_page(rt: HostRuntime) -> Result<(), Fail> {
+    assert_eq!(rt; first_other_page(rt.alloc(), &PAGES)?, None);
+    Ok(())
+}
+
+// A file that is cut, and one with a page that is full.
+#[test]
+fn cut_or_with_a_full_page(rt: HostRuntime) -> Result<(), Fail> {
     let alloc = rt.alloc();
     let mut cut = six_file(alloc)?;
     cut.truncate(69 * PAGE);
     assert!(rt; answer(alloc, &cut) == Err(Refusal::Damaged { page: 0 }));
-    let refused = file_with_page(alloc, 1, &REOPEN_7)?;
-    assert!(rt; answer(alloc, &refused) == Err(Refusal::Damaged { page: 6 }));
-    assert!(rt; answer(alloc, &file_with_page(alloc, 1, &CLOSE_7)?) == first(1, 1));
     let mut records = Vec::new(alloc);
     for _ in 0..253 {
         records.extend_from_slice(&SET_1_1)?;
@@ -234,5 +396,36 @@ fn journal_is_replayed(rt: HostRuntime) -> Result<(), Fail> {
     assert!(rt; store.network().landmarks() == [3, 6].as_slice());
     let mut disk = store.close();
     assert!(rt; disk.len() == Ok(286720));
+    Ok(())
+}
+
+// The file with nine arcs, and a page by which so many more are laid.
+fn file_with_laid(alloc: Global, count: u8) -> Result<Vec<u8>, AllocError> {
+    let mut file = roomy_file(alloc)?;
+    put(&mut file, 8 * PAGE, &ONE_COMMAND);
+    put(&mut file, 8 * PAGE + 17, &[count]);
+    for i in 0..usize::from(count) {
+        put(&mut file, 8 * PAGE + 32 + 16 * i, &LAY_6_1_7);
+    }
+    put(&mut file, 9 * PAGE - 1, &[OPEN]);
+    Ok(file)
+}
+
+// Behind nine arcs a tenth is laid, and there is no room for one more.
+#[test]
+fn laid_arcs_are_replayed(rt: HostRuntime) -> Result<(), Fail> {
+    let alloc = rt.alloc();
+    let store = opened(alloc, with_bytes(alloc, &file_with_laid(alloc, 1)?)?)?;
+    let laid = RoadArc {
+        tail: 6,
+        head: 1,
+        length: 7,
+        opened: true,
+    };
+    let network = store.network();
+    assert!(rt; (network.arcs().len(), network.room()) == (10, 10));
+    assert!(rt; network.arc(9) == Some(laid) && network.arc(10) == Some(laid));
+    let beyond = file_with_laid(alloc, 2)?;
+    assert!(rt; answer(alloc, &beyond) == Err(Refusal::Damaged { page: 8 }));
     Ok(())
 }

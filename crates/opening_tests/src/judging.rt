@@ -5,19 +5,21 @@ use crate::judge::{Judged, judge};
 use crate::worked::opened;
 use disk::{Disk, MemDisk};
 use fixtures::{arc, six_with};
-use roadnet::{Command, Refusal};
+use roadnet::{Command, Group, Network, Refusal, RoadArc};
 use std::alloc::Global;
 use store::{Store, create, open};
 
 const PAGE: usize = 4096;
 
-// The bytes of slot B, made by hand: epoch 2, version 3, next sequence 1, and the landmarks 1, 3 and 6; the words behind `close 7` and
-// `set 8 4`.
-const HEAD_B: [u8; 40] =
-    *b"\x00\x00\x00\x00\x00\x00\x00\x02\x00\x00\x00\x00\x00\x00\x00\x03\x00\x00\x00\x00\x00\x00\x00\x01\x00\x00\x00\x03\x00\x00\x00\x01\x00\x00\x00\x03\x00\x00\x00\x06";
+// The bytes of slot B, made by hand: epoch 2, version 4, next sequence 1, nine arcs, and the landmarks 1, 3 and 6; the words behind `close 7`
+// and `set 8 4`, and that of the arc that was laid, and its ends.
+const HEAD_B: [u8; 44] =
+    *b"\x00\x00\x00\x00\x00\x00\x00\x02\x00\x00\x00\x00\x00\x00\x00\x04\x00\x00\x00\x00\x00\x00\x00\x01\x00\x00\x00\x03\x00\x00\x00\x09\x00\x00\x00\x01\x00\x00\x00\x03\x00\x00\x00\x06";
 
-const WORDS_B: [u8; 32] =
-    *b"\x00\x00\x00\x11\x00\x00\x00\x0a\x00\x00\x00\x02\x00\x00\x00\x00\x00\x00\x00\x00\x00\x00\x00\x03\x80\x00\x00\x00\x00\x00\x00\x04";
+const WORDS_B: [u8; 36] =
+    *b"\x00\x00\x00\x11\x00\x00\x00\x0a\x00\x00\x00\x02\x00\x00\x00\x00\x00\x00\x00\x00\x00\x00\x00\x03\x80\x00\x00\x00\x00\x00\x00\x04\x00\x00\x00\x07";
+
+const ENDS_B: [u8; 8] = *b"\x00\x00\x00\x06\x00\x00\x00\x01";
 
 pub fn put(file: &mut [u8], at: usize, bytes: &[u8]) {
     for (i, &byte) in bytes.iter().enumerate() {
@@ -36,12 +38,12 @@ pub fn with_bytes(alloc: Global, bytes: &[u8]) -> Result<MemDisk, Refusal> {
     Ok(disk)
 }
 
-// The first eight pages of a disk; fewer where it has fewer.
+// The first ten pages of a disk; fewer where it has fewer.
 pub fn bytes_of(alloc: Global, disk: &mut MemDisk) -> Result<Vec<u8>, Refusal> {
     let Ok(length) = disk.len() else {
         return Err(Refusal::Device);
     };
-    let length = (length as usize).min(8 * PAGE);
+    let length = (length as usize).min(10 * PAGE);
     let mut bytes = vec![in alloc; 0; length]?;
     let Ok(()) = disk.read(0, &mut bytes) else {
         return Err(Refusal::Device);
@@ -49,34 +51,53 @@ pub fn bytes_of(alloc: Global, disk: &mut MemDisk) -> Result<Vec<u8>, Refusal> {
     Ok(bytes)
 }
 
-// The file of a new store with two journal pages: eight pages.
+// The network of the worked rows, with two landmarks and room for two arcs more.
+pub fn roomy_six(alloc: Global) -> Result<Network, Refusal> {
+    match six_with(alloc, &[6, 3])?.with_room(10) {
+        Ok(network) => Ok(network),
+        Err((refusal, _)) => Err(refusal),
+    }
+}
+
+// The file of a new store with two journal pages: ten pages.
 pub fn new_file(alloc: Global) -> Result<Vec<u8>, Refusal> {
-    match create(alloc, MemDisk::new(alloc), &six_with(alloc, &[6, 3])?, 2) {
+    match create(alloc, MemDisk::new(alloc), &roomy_six(alloc)?, 2) {
         Ok(store) => bytes_of(alloc, &mut store.close()),
         Err((refusal, _)) => Err(refusal),
     }
 }
 
-// The same after two flushes, in which both journal pages are written.
+const fn lay(tail: u64, head: u64, length: u64) -> Command {
+    Command::Lay { tail, head, length }
+}
+
+// A group of two commands and one of one are committed as one page.
+fn commit_two_groups(alloc: Global, store: &mut Store<MemDisk>) -> Result<u64, Refusal> {
+    let two = [Command::Reopen { arc: 7 }, Command::Unmark { node: 3 }];
+    let two = Group::new(Vec::from_slice(alloc, &two)?)?;
+    store.commit_groups(&[two, Group::one(lay(1, 6, 14))])
+}
+
+// The same after two flushes, of four groups and of two, in which both journal pages are written.
 pub fn flushed_file(alloc: Global) -> Result<Vec<u8>, Refusal> {
     let mut store = opened(alloc, with_bytes(alloc, &new_file(alloc)?)?)?;
-    let first = [
+    store.commit(&[
         Command::Set { arc: 8, length: 4 },
         Command::Close { arc: 7 },
         Command::Mark { node: 1 },
-    ];
-    let second = [Command::Reopen { arc: 7 }, Command::Unmark { node: 3 }];
-    store.commit(&first)?;
-    store.commit(&second)?;
+        lay(6, 1, 7),
+    ])?;
+    commit_two_groups(alloc, &mut store)?;
     bytes_of(alloc, &mut store.close())
 }
 
 // The same, with slot B written behind the first flush, and slot A still open.
 pub fn two_slot_file(alloc: Global) -> Result<Vec<u8>, Refusal> {
     let mut file = flushed_file(alloc)?;
-    put(&mut file, 4 * PAGE, &HEAD_B);
-    put(&mut file, 5 * PAGE, &WORDS_B);
-    put(&mut file, 5 * PAGE - 1, &[165]);
+    put(&mut file, 5 * PAGE, &HEAD_B);
+    put(&mut file, 6 * PAGE, &WORDS_B);
+    put(&mut file, 7 * PAGE, &ENDS_B);
+    put(&mut file, 6 * PAGE - 1, &[165]);
     Ok(file)
 }
 
@@ -86,6 +107,7 @@ fn tells<D: Disk>(store: &Store<D>, judged: &Judged) -> bool {
     network.nodes() == judged.nodes
         && network.arcs() == judged.arcs.as_slice()
         && network.landmarks() == judged.landmarks.as_slice()
+        && network.room() == judged.room
         && store.version() == judged.version
         && u64::from(store.unchecked()) == judged.unchecked
         && store.calm()
@@ -131,10 +153,9 @@ fn change(i: usize) -> (usize, u8)
     }
 }
 
-// Whether they agree on a file of eight pages and on each change of each of these, and on each cut at a page: None, or the number of the
-// first change where they don't.
+// Whether they agree on a file of ten pages and on each change of each of these: None, or the number of the first change where they don't.
 fn first_difference(alloc: Global, file: &mut [u8]) -> Result<Option<usize>, Refusal> {
-    for i in 0..8 * 195 {
+    for i in 0..10 * 195 {
         let (place, value) = change(i);
         let at = PAGE * (i / 195) + place;
         let old = match file.get(at) {
@@ -152,7 +173,7 @@ fn first_difference(alloc: Global, file: &mut [u8]) -> Result<Option<usize>, Ref
 
 // Whether they agree on each front of so many whole pages, and of a byte more or less.
 fn agree_on_cuts(alloc: Global, file: &[u8]) -> Result<bool, Refusal> {
-    for i in 0..24usize {
+    for i in 0..30usize {
         let size = (PAGE * (i / 3) + i % 3).saturating_sub(1);
         let Some(front) = file.get(..size) else {
             return Ok(false);
@@ -164,23 +185,33 @@ fn agree_on_cuts(alloc: Global, file: &[u8]) -> Result<bool, Refusal> {
     Ok(true)
 }
 
+// Whether the judge finds this version, so many unchecked pages and these landmarks, with these arcs behind the sixth.
+fn finds(
+    alloc: Global,
+    file: &[u8],
+    version: u64,
+    unchecked: u64,
+    landmarks: &[u32],
+    arcs: &[RoadArc],
+) -> Result<bool, Refusal> {
+    let judged = judge(alloc, file)?;
+    Ok(
+        judged.version == version
+            && judged.unchecked == unchecked
+            && judged.landmarks.as_slice() == landmarks
+            && judged.arcs.get(6..) == Some(arcs),
+    )
+}
+
 // The judge itself, on the three files: what each stands for.
 #[test]
 fn judge_is_right(rt: HostRuntime) -> Result<(), Refusal> {
     let alloc = rt.alloc();
-    let judged = judge(alloc, &new_file(alloc)?)?;
-    assert!(rt; judged.version == 0 && judged.unchecked == 0);
-    assert!(rt; judged.landmarks.as_slice() == [3, 6].as_slice());
-    assert!(rt; judged.arcs.as_slice() == six_with(alloc, &[6, 3])?.arcs());
-    let judged = judge(alloc, &flushed_file(alloc)?)?;
-    assert!(rt; judged.version == 5 && judged.unchecked == 2);
-    assert!(rt; judged.landmarks.as_slice() == [1, 6].as_slice());
-    assert!(rt; judged.arcs.get(6) == Some(&arc(5, 2, 0)));
-    assert!(rt; judged.arcs.get(7) == Some(&arc(5, 6, 4)));
-    let judged = judge(alloc, &two_slot_file(alloc)?)?;
-    assert!(rt; judged.version == 5 && judged.unchecked == 1);
-    assert!(rt; judged.landmarks.as_slice() == [1, 6].as_slice());
-    assert!(rt; judged.arcs.get(6) == Some(&arc(5, 2, 0)));
+    let first = [arc(5, 2, 0), arc(5, 6, 20)];
+    let last = [arc(5, 2, 0), arc(5, 6, 4), arc(6, 1, 7), arc(1, 6, 14)];
+    assert!(rt; finds(alloc, &new_file(alloc)?, 0, 0, &[3, 6], &first)?);
+    assert!(rt; finds(alloc, &flushed_file(alloc)?, 6, 2, &[1, 6], &last)?);
+    assert!(rt; finds(alloc, &two_slot_file(alloc)?, 6, 1, &[1, 6], &last)?);
     Ok(())
 }
 

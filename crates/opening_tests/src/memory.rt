@@ -1,9 +1,9 @@
 // Growths that are refused: of creating, opening, and parts of a checkpoint.
 ghost use Rattle.std.specs.Prelude.{◌≡◌, [], min, ◌+◌, ◌-◌, ◌^◌};
 
-use crate::judging::two_slot_file;
+use crate::judging::{roomy_six, two_slot_file};
 use disk::{Disk, DiskError};
-use fixtures::{arc, six_with};
+use fixtures::arc;
 use roadnet::{Command, Network, OutOfMemory, Refusal};
 use std::alloc::Global;
 use store::{Part, create, open};
@@ -90,8 +90,8 @@ impl Disk for FixedDisk {
 #[test]
 fn create_and_open_in_little_memory(rt: HostRuntime) -> Result<(), Refusal> {
     let alloc = rt.alloc();
-    let network = six_with(alloc, &[6, 3])?;
-    let empty = FixedDisk::new(alloc, 8 * PAGE)?;
+    let network = roomy_six(alloc)?;
+    let empty = FixedDisk::new(alloc, 10 * PAGE)?;
     let disk = match create(alloc, empty, &network, 2) {
         Ok(store) => {
             assert!(rt; store.version() == 0 && store.network().arcs() == network.arcs());
@@ -105,16 +105,16 @@ fn create_and_open_in_little_memory(rt: HostRuntime) -> Result<(), Refusal> {
     let file = two_slot_file(alloc)?;
     let full = FixedDisk {
         places: Vec::from_slice(alloc, &file)?,
-        length: 8 * PAGE,
+        length: 10 * PAGE,
         failures: 0,
     };
-    assert!(rt; disk.length == 8 * PAGE);
+    assert!(rt; disk.length == 10 * PAGE);
     match open(alloc, full) {
         Ok(store) => {
-            assert!(rt; store.version() == 5 && store.network().landmarks() == [1, 6].as_slice());
+            assert!(rt; store.version() == 6 && store.network().landmarks() == [1, 6].as_slice());
         }
         Err((refusal, disk)) => {
-            assert!(rt; refusal == Refusal::OutOfMemory && disk.length == 8 * PAGE);
+            assert!(rt; refusal == Refusal::OutOfMemory && disk.length == 10 * PAGE);
             assert!(rt; disk.places.as_slice() == file.as_slice());
         }
     }

@@ -1,21 +1,20 @@
 // Calls of the disk that fail, at each place of creating and opening.
 use crate::judge::judge;
-use crate::judging::{bytes_of, opens_as_judged, two_slot_file, with_bytes};
+use crate::judging::{bytes_of, opens_as_judged, roomy_six, two_slot_file, with_bytes};
 use crate::worked::opened;
 use disk::{FailOnce, MemDisk};
-use fixtures::six_with;
 use roadnet::Refusal;
 use std::alloc::Global;
 use store::{create, open};
 
 const PAGE: usize = 4096;
 
-// Creating a file of eight pages makes seven calls. The one that fails is told, and the disk is handed back: opened, it is no store, as long
+// Creating a file of ten pages makes seven calls. The one that fails is told, and the disk is handed back: opened, it is no store, as long
 // as the header's gate isn't written, and then the new one.
 #[test]
 fn failed_creation_is_opened(rt: HostRuntime) -> Result<(), Refusal> {
     let alloc = rt.alloc();
-    let network = six_with(alloc, &[6, 3])?;
+    let network = roomy_six(alloc)?;
     for k in 1..=7 {
         let disk = FailOnce::new(MemDisk::new(alloc), k);
         let Err((refusal, disk)) = create(alloc, disk, &network, 2) else {
@@ -73,7 +72,7 @@ fn failed_opening_is_opened(rt: HostRuntime) -> Result<(), Refusal> {
     let alloc = rt.alloc();
     let mut file = two_slot_file(alloc)?;
     assert_eq!(rt; first_untold(alloc, &file)?, None);
-    for i in 0..16usize {
+    for i in 0..20usize {
         let at = PAGE * (i / 2) + if i % 2 == 0 { 8 } else { 4095 };
         if let Some(byte) = file.get_mut(at) {
             *byte ^= 1;

@@ -81,8 +81,8 @@ fn a_store_stands_along_its_life(rt: HostRuntime) -> Result<(), Refusal> {
 fn files_stand(rt: HostRuntime) -> Result<(), Refusal> {
     let alloc = rt.alloc();
     assert!(rt; found_in(alloc, &new_file(alloc)?)? == found(0, Slot::A, 1, 0));
-    assert!(rt; found_in(alloc, &flushed_file(alloc)?)? == found(5, Slot::A, 1, 2));
-    assert!(rt; found_in(alloc, &two_slot_file(alloc)?)? == found(5, Slot::B, 2, 1));
+    assert!(rt; found_in(alloc, &flushed_file(alloc)?)? == found(6, Slot::A, 1, 2));
+    assert!(rt; found_in(alloc, &two_slot_file(alloc)?)? == found(6, Slot::B, 2, 1));
     Ok(())
 }
 
@@ -98,9 +98,9 @@ fn agrees(alloc: Global, file: &[u8]) -> bool {
     }
 }
 
-// The first of sixteen changes behind which they don't agree, if there is one: a byte in the front of each page, or its last one.
+// The first of twenty changes behind which they don't agree, if there is one: a byte in the front of each page, or its last one.
 fn first_difference(alloc: Global, file: &mut [u8]) -> Option<usize> {
-    for i in 0..16usize {
+    for i in 0..20usize {
         let at = PAGE * (i / 2) + if i % 2 == 0 { 7 } else { 4095 };
         let Some(byte) = file.get_mut(at) else {
             return Some(i);

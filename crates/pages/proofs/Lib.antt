@@ -2,6 +2,7 @@ pub mod Padding
 pub mod Headers
 pub mod Records
 pub mod Entries
+pub mod Grouped
 pub mod Four
 pub mod Items
 pub mod Places

@@ -39,6 +39,10 @@ begins page fields few e =
 pub then_put : {old new : List ℕ} (written bytes : List ℕ) → new ≡ old ++ bytes → old ≡ written → new ≡ written ++ bytes
 then_put written bytes e f = e ∙ ap (λ (xs : List ℕ). xs ++ bytes) f
 
+-- the same where the bytes are told by an equation
+pub then_put_as : {old new : List ℕ} (written bytes told : List ℕ) → new ≡ old ++ bytes → old ≡ written → bytes ≡ told → new ≡ written ++ told
+then_put_as written bytes told e f g = then_put written bytes e f ∙ ap (λ (xs : List ℕ). written ++ xs) g
+
 size_from : (n : ℕ) (xs : List ℕ) → length (take n xs) ≡ n → length (drop n xs) ≡ 4096 - n → n ≤ 4096 → length xs ≡ 4096
 size_from n xs p q h = omega (arith, p, q, ap length (take-append-drop n xs), length-append (take n xs) (drop n xs))
 

@@ -1,6 +1,8 @@
 pub mod Contents
 pub mod Limits
+pub mod Formats
 pub mod Gates
+pub mod Grouping
 pub mod Spelling
 pub mod Reading
 pub mod Layout

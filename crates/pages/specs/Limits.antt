@@ -6,10 +6,6 @@ pub use Rattle.roadnet.specs.Versions.{most_versions}
 abbrev pub magic : List ℕ
 magic = codes "ROADMRK1"
 
--- the number of the format
-abbrev pub format : ℕ
-format = 1
-
 -- the most commands of a journal page
 abbrev pub most_commands : ℕ
 most_commands = 253

@@ -1,16 +1,20 @@
 -- The one spelling of each kind of page: its fields in order, numbers with the highest byte first, and zeros behind them.
-use Rattle.std.specs.Prelude.{◌≡◌, ℕ, ◌+◌, ◌-◌, ◌^◌, ◌<◌, ◌≤◌, List, [], ◌∷◌, ◌++◌, length, take, drop, replicate, Option, Some, None, if◌then◌else◌}
+use Rattle.std.specs.Prelude.{◌≡◌, ℕ, ◌+◌, ◌-◌, ◌^◌, ◌<◌, ◌≤◌, Bool, true, false, List, ◌∷◌, ◌++◌, length, take, drop, replicate, Option, Some, None, if◌then◌else◌}
 use Rattle.std.specs.List.{flat_map, AllByRecursion}
 use Rattle.std.specs.List.Sorted.{IsStrictlyIncreasing}
 use Rattle.byteorder.specs.Endian.{big_bytes}
 use Rattle.roadnet.specs.declared.arcs.RoadArc.{RoadArc}
 use Rattle.roadnet.specs.declared.commands.Command.{Command}
-use Rattle.roadnet.specs.declared.commands.Command.TheVariants.{Set, Close, Reopen, Mark, Unmark}
+use Rattle.roadnet.specs.declared.commands.Command.TheVariants.{Set, Close, Reopen, Mark, Unmark, Lay}
+use Rattle.pages.specs.declared.content.Format.{Format}
+use Rattle.pages.specs.declared.content.Record.{Record}
 use Rattle.pages.specs.declared.content.Ends.{Ends}
 use Rattle.pages.specs.declared.content.Word.{Word}
 use Rattle.pages.specs.declared.header.Header.{Header}
 use Rattle.pages.specs.Contents.{Head, Entry}
-use Rattle.pages.specs.Limits.{magic, format, most_versions, most_commands}
+use Rattle.pages.specs.Limits.{magic, most_versions, most_commands}
+use Rattle.pages.specs.Formats.{number_of, IsRoomFor, room_field, arcs_field, InTwo}
+use Rattle.pages.specs.Grouping.{records_in}
 
 unfoldable pub zeros : ℕ → List ℕ
 zeros count = replicate count 0
@@ -30,9 +34,9 @@ Decodes Spelled (Some content) = Spelled content
 
 -- ---- the header
 
--- bytes 0 to 23: the magic, the number of the format, the nodes, the arcs, the journal's pages
+-- bytes 0 to 27: the magic, the number of the format, the nodes, the arcs that the store was made with, the journal's pages, the room
 abbrev pub header_fields : Header → List ℕ
-header_fields h = magic ++ big_bytes 4 format ++ big_bytes 4 h.nodes ++ big_bytes 4 h.arcs ++ big_bytes 4 h.journal_pages
+header_fields h = magic ++ big_bytes 4 (number_of h.format) ++ big_bytes 4 h.nodes ++ big_bytes 4 h.arcs ++ big_bytes 4 h.journal_pages ++ big_bytes 4 (room_field h.format h.room)
 
 abbrev pub header_page : Header → List ℕ
 header_page h = page_of (header_fields h)
@@ -40,7 +44,9 @@ header_page h = page_of (header_fields h)
 pub record IsHeader (h : Header) : Type 0 where
   pub some_node : 1 ≤ h.nodes
   pub nodes_to : h.nodes ≤ 33554432
-  pub arcs_to : h.arcs ≤ 67108864
+  pub arcs_to : h.arcs ≤ h.room
+  pub room_to : h.room ≤ 67108864
+  pub room_fits : IsRoomFor h.format h.arcs h.room
   pub some_page : 1 ≤ h.journal_pages
   pub pages_to : h.journal_pages ≤ 65536
 
@@ -49,7 +55,7 @@ pub record SpelledHeader (page : List ℕ) (h : Header) : Type 0 where
   pub fits : IsHeader h
   pub spelled : body page ≡ body (header_page h)
 
--- ---- an arc page
+-- ---- an arc page, and an end page
 
 -- 8 bytes: the tail and the head
 abbrev pub ends_bytes : Ends → List ℕ
@@ -65,7 +71,8 @@ pub record IsEnds (nodes : ℕ) (e : Ends) : Type 0 where
   pub head_from : 1 ≤ e.head
   pub head_to : e.head ≤ nodes
 
--- the page, its last byte too, spells the ends of so many arcs
+-- the page, its last byte too, spells the ends of so many arcs: an arc page those of the arcs that the store was made with, an end page
+-- those of arcs laid since
 pub record SpelledArcs (nodes count : ℕ) (page : List ℕ) (arcs : List Ends) : Type 0 where
   pub count_is : length arcs ≡ count
   pub fits : AllByRecursion (IsEnds nodes) arcs
@@ -99,15 +106,15 @@ word_of arc = record { length = arc.length; opened = arc.opened }
 
 -- ---- the head of a slot
 
--- bytes 0 to 27: epoch, version, next sequence and the number of landmarks; then the landmarks
-abbrev pub head_front : Head → List ℕ
-head_front s = big_bytes 8 s.epoch ++ big_bytes 8 s.version ++ big_bytes 8 s.next_sequence ++ big_bytes 4 (length s.landmarks)
+-- epoch, version, next sequence and the number of landmarks; in format 2 the number of arcs; then the landmarks
+abbrev pub head_front : Format → Head → List ℕ
+head_front f s = big_bytes 8 s.epoch ++ big_bytes 8 s.version ++ big_bytes 8 s.next_sequence ++ big_bytes 4 (length s.landmarks) ++ arcs_field f s.arcs
 
-abbrev pub head_fields : Head → List ℕ
-head_fields s = head_front s ++ flat_map (big_bytes 4) s.landmarks
+abbrev pub head_fields : Format → Head → List ℕ
+head_fields f s = head_front f s ++ flat_map (big_bytes 4) s.landmarks
 
-abbrev pub head_page : Head → List ℕ
-head_page s = page_of (head_fields s)
+abbrev pub head_page : Format → Head → List ℕ
+head_page f s = page_of (head_fields f s)
 
 -- the ranges of a head's numbers, the last of which is that of landmarks
 pub record AreFit (epoch version next_sequence count : ℕ) : Type 0 where
@@ -117,68 +124,96 @@ pub record AreFit (epoch version next_sequence count : ℕ) : Type 0 where
   pub version_to : version ≤ most_versions
   pub count_to : count ≤ 1000
 
-pub record IsHead (nodes : ℕ) (s : Head) : Type 0 where
+-- so many arcs: those that the store was made with are there, and no more than there is room for
+abbrev pub AreArcsOf : Header → ℕ → Type 0
+AreArcsOf h arcs = (h.arcs ≤ arcs) × (arcs ≤ h.room)
+
+-- the head of a slot of a store of these sizes
+pub record IsHead (h : Header) (s : Head) : Type 0 where
   pub numbers : AreFit s.epoch s.version s.next_sequence (length s.landmarks)
+  pub arcs : AreArcsOf h s.arcs
   pub ascending : IsStrictlyIncreasing s.landmarks
-  pub each : AllByRecursion (λ x. (1 ≤ x) × (x ≤ nodes)) s.landmarks
+  pub each : AllByRecursion (λ x. (1 ≤ x) × (x ≤ h.nodes)) s.landmarks
 
 -- whatever the gate
-pub record SpelledHead (nodes : ℕ) (page : List ℕ) (s : Head) : Type 0 where
-  pub fits : IsHead nodes s
-  pub spelled : body page ≡ body (head_page s)
+pub record SpelledHead (h : Header) (page : List ℕ) (s : Head) : Type 0 where
+  pub fits : IsHead h s
+  pub spelled : body page ≡ body (head_page h.format s)
 
 -- ---- a record
 
--- 16 bytes: the kind, the arc's number or the node, the length
-abbrev pub record_of : ℕ → ℕ → ℕ → List ℕ
-record_of kind name length = kind ∷ 0 ∷ 0 ∷ 0 ∷ big_bytes 4 name ++ big_bytes 4 length ++ 0 ∷ 0 ∷ 0 ∷ 0 ∷ []
+-- 16 bytes: the kind, whether the group goes on, three numbers
+abbrev pub record_with : ℕ → ℕ → ℕ → ℕ → ℕ → List ℕ
+record_with kind more a b c = kind ∷ more ∷ 0 ∷ 0 ∷ big_bytes 4 a ++ big_bytes 4 b ++ big_bytes 4 c
 
-abbrev pub record_bytes : Command → List ℕ
-record_bytes (Set k w) = record_of 1 k w
-record_bytes (Close k) = record_of 2 k 0
-record_bytes (Reopen k) = record_of 3 k 0
-record_bytes (Mark x) = record_of 4 x 0
-record_bytes (Unmark x) = record_of 5 x 0
+-- the number of an arc or a node, and a length; or the ends of an arc and its length
+abbrev pub command_bytes : ℕ → Command → List ℕ
+command_bytes more (Set k w) = record_with 1 more k w 0
+command_bytes more (Close k) = record_with 2 more k 0 0
+command_bytes more (Reopen k) = record_with 3 more k 0 0
+command_bytes more (Mark x) = record_with 4 more x 0 0
+command_bytes more (Unmark x) = record_with 5 more x 0 0
+command_bytes more (Lay t h w) = record_with 6 more t h w
 
--- The numbers fit their places. Whether the command is admitted is not asked here.
-abbrev pub IsRecord : Command → Type 0
-IsRecord (Set k w) = (k < 2 ^ 32) × (w < 2 ^ 32)
-IsRecord (Close k) = k < 2 ^ 32
-IsRecord (Reopen k) = k < 2 ^ 32
-IsRecord (Mark x) = x < 2 ^ 32
-IsRecord (Unmark x) = x < 2 ^ 32
+-- 1 where the group goes on in the next record
+abbrev pub more_byte : Bool → ℕ
+more_byte goes_on = if goes_on then 1 else 0
 
--- the 16 bytes spell the command
-pub record SpelledRecord (bytes : List ℕ) (command : Command) : Type 0 where
-  pub fits : IsRecord command
-  pub spelled : bytes ≡ record_bytes command
+abbrev pub record_bytes : Record → List ℕ
+record_bytes r = command_bytes (more_byte r.goes_on) r.command
+
+-- The numbers fit their places. Whether the command is admitted is not asked here. Format 1 has no `lay`.
+abbrev pub FitsRecord : Format → Command → Type 0
+FitsRecord f (Set k w) = (k < 2 ^ 32) × (w < 2 ^ 32)
+FitsRecord f (Close k) = k < 2 ^ 32
+FitsRecord f (Reopen k) = k < 2 ^ 32
+FitsRecord f (Mark x) = x < 2 ^ 32
+FitsRecord f (Unmark x) = x < 2 ^ 32
+FitsRecord f (Lay t h w) = InTwo f × (t < 2 ^ 32) × (h < 2 ^ 32) × (w < 2 ^ 32)
+
+-- In format 1 each command is a group of its own.
+abbrev pub MayGoOn : Format → Bool → Type 0
+MayGoOn f true = InTwo f
+MayGoOn f false = Unit {0}
+
+pub record IsRecord (f : Format) (r : Record) : Type 0 where
+  pub command : FitsRecord f r.command
+  pub more : MayGoOn f r.goes_on
+
+-- the 16 bytes spell the record
+pub record SpelledRecord (f : Format) (bytes : List ℕ) (r : Record) : Type 0 where
+  pub fits : IsRecord f r
+  pub spelled : bytes ≡ record_bytes r
 
 -- ---- a journal page
 
--- bytes 0 to 31: sequence, number of the first command, count, zeros
+-- bytes 0 to 31: sequence, number of the first group, count of the records, zeros
 abbrev pub front_bytes : ℕ → ℕ → ℕ → List ℕ
 front_bytes sequence first_number count = big_bytes 8 sequence ++ big_bytes 8 first_number ++ big_bytes 2 count ++ zeros 14
 
 -- then the records
-abbrev pub entry_front : Entry → List ℕ
-entry_front e = front_bytes e.sequence e.first_number (length e.commands)
-
-abbrev pub entry_fields : Entry → List ℕ
-entry_fields e = entry_front e ++ flat_map record_bytes e.commands
+abbrev pub records_page : ℕ → ℕ → List Record → List ℕ
+records_page sequence first_number records = page_of (front_bytes sequence first_number (length records) ++ flat_map record_bytes records)
 
 abbrev pub entry_page : Entry → List ℕ
-entry_page e = page_of (entry_fields e)
+entry_page e = records_page e.sequence e.first_number (records_in e.groups)
 
-pub record IsEntry (e : Entry) : Type 0 where
+-- so many records, each of which fits
+pub record AreRecords (f : Format) (records : List Record) : Type 0 where
+  pub some : 1 ≤ length records
+  pub few : length records ≤ most_commands
+  pub each : AllByRecursion (IsRecord f) records
+
+-- the page holds whole groups, none of them empty
+pub record IsEntry (f : Format) (e : Entry) : Type 0 where
   pub sequence_fits : e.sequence < 2 ^ 64
   pub number_fits : e.first_number < 2 ^ 64
-  pub some_command : 1 ≤ length e.commands
-  pub commands_to : length e.commands ≤ most_commands
-  pub each : AllByRecursion IsRecord e.commands
+  pub groups : AllByRecursion (λ group. 1 ≤ length group) e.groups
+  pub records : AreRecords f (records_in e.groups)
 
 -- whatever the gate
-pub record SpelledEntry (page : List ℕ) (e : Entry) : Type 0 where
-  pub fits : IsEntry e
+pub record SpelledEntry (f : Format) (page : List ℕ) (e : Entry) : Type 0 where
+  pub fits : IsEntry f e
   pub spelled : body page ≡ body (entry_page e)
 
 -- ---- a page that is being written

@@ -1,4 +1,39 @@
-/// The ends of an arc, as an arc page holds them.
+use roadnet::Command;
+
+/// The format of a store file. Stores are made and opened in format 2; those of format 1 are read to be migrated.
+#[derive(Clone, Copy, Debug, PartialEq, Eq)]
+pub enum Format {
+    One,
+    Two,
+}
+
+impl Format {
+    ghost use Rattle.std.specs.Prelude.{◌≡◌};
+    ghost use Rattle.pages.specs.Formats.{number_of, format_numbered};
+
+    /// The number of the format, as a header has it.
+    pub fn number(self) -> u32
+        ensures { result ≡ number_of self }
+    {
+        match self {
+            Format::One => 1,
+            Format::Two => 2,
+        }
+    }
+
+    /// The format of this number; every other number but 1 is taken for 2.
+    pub fn numbered(number: u32) -> Format
+        ensures { result ≡ format_numbered number }
+    {
+        if number == 1 {
+            Format::One
+        } else {
+            Format::Two
+        }
+    }
+}
+
+/// The ends of an arc, as an arc page or an end page holds them.
 #[derive(Clone, Copy, Debug, PartialEq, Eq)]
 pub struct Ends {
     pub tail: u32,
@@ -32,4 +67,11 @@ impl Slot {
             Slot::B => Slot::A,
         }
     }
+}
+
+/// What a record of a journal page holds: a command, and whether its group goes on in the next record.
+#[derive(Clone, Copy, Debug, PartialEq, Eq)]
+pub struct Record {
+    pub command: Command,
+    pub goes_on: bool,
 }

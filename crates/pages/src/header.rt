@@ -1,7 +1,9 @@
 ghost use Rattle.std.specs.Prelude.{◌≡◌, IsTrue, ◌↔◌};
 ghost use Rattle.pages.specs.Spelling.{body, header_page, Decodes, IsHeader, SpelledHeader};
 ghost use Rattle.pages.specs.Reading.{read_header};
+ghost use Rattle.pages.specs.Formats.{IsRoomFor, room_field, room_read};
 
+use crate::content::Format;
 use crate::writer::{PAGE_SIZE, PageWriter, have_same_body};
 use byteorder::{BigEndian, ByteOrder};
 use roadnet::{MOST_ARCS, MOST_NODES};
@@ -9,23 +11,54 @@ use roadnet::{MOST_ARCS, MOST_NODES};
 /// The first bytes of a store.
 pub const MAGIC: [u8; 8] = *b"ROADMRK1";
 
-/// The number of the format.
-pub const FORMAT: u32 = 1;
-
-/// The sizes of a store: the nodes and arcs of its network, and the pages of its journal.
+/// The format of a store, and its sizes: the nodes, the arcs that it was made with, for how many arcs there is room, and the pages of its
+/// journal.
 #[derive(Clone, Copy, Debug, PartialEq, Eq)]
 pub struct Header {
+    pub format: Format,
     pub nodes: u32,
     pub arcs: u32,
+    pub room: u32,
     pub journal_pages: u32,
+}
+
+fn is_room(format: Format, arcs: u32, room: u32) -> bool
+    ensures { IsTrue result ↔ IsRoomFor format arcs room }
+{
+    match format {
+        Format::One => room == arcs,
+        Format::Two => true,
+    }
 }
 
 fn is_header(header: &Header) -> bool
     ensures { IsTrue result ↔ IsHeader header.now }
 {
     (1..=MOST_NODES).contains(&header.nodes)
-        && header.arcs <= MOST_ARCS as u32
+        && header.arcs <= header.room
+        && header.room <= MOST_ARCS as u32
+        && is_room(header.format, header.arcs, header.room)
         && (1..=65_536).contains(&header.journal_pages)
+}
+
+/// What stands at the place of the room.
+fn room_field(format: Format, room: u32) -> u32
+    ensures { result ≡ room_field format room }
+{
+    match format {
+        Format::One => 0,
+        Format::Two => room,
+    }
+}
+
+/// The room, by what stands at its place.
+fn room_read(format: Format, arcs: u32, field: u32) -> u32
+    ensures { result ≡ room_read format arcs field }
+{
+    match format {
+        Format::One => arcs,
+        Format::Two => field,
+    }
 }
 
 /// The page of a header, its gate closed.
@@ -34,10 +67,11 @@ pub fn encode_header(header: &Header) -> [u8; PAGE_SIZE]
 {
     let mut page = PageWriter::new();
     page.put_bytes(&MAGIC);
-    page.put_u32(FORMAT);
+    page.put_u32(header.format.number());
     page.put_u32(header.nodes);
     page.put_u32(header.arcs);
     page.put_u32(header.journal_pages);
+    page.put_u32(room_field(header.format, header.room));
     page.finish()
 }
 
@@ -45,10 +79,18 @@ pub fn encode_header(header: &Header) -> [u8; PAGE_SIZE]
 fn read_header(page: &[u8; PAGE_SIZE]) -> Header
     ensures { result ≡ read_header page.now }
 {
+    let number = BigEndian::read_u32(&page[8..]);
+    let nodes = BigEndian::read_u32(&page[12..]);
+    let arcs = BigEndian::read_u32(&page[16..]);
+    let journal_pages = BigEndian::read_u32(&page[20..]);
+    let field = BigEndian::read_u32(&page[24..]);
+    let format = Format::numbered(number);
     Header {
-        nodes: BigEndian::read_u32(&page[12..]),
-        arcs: BigEndian::read_u32(&page[16..]),
-        journal_pages: BigEndian::read_u32(&page[20..]),
+        format,
+        nodes,
+        arcs,
+        room: room_read(format, arcs, field),
+        journal_pages,
     }
 }
 
@@ -59,7 +101,7 @@ fn is_header_page(page: &[u8; PAGE_SIZE], header: &Header) -> bool
     have_same_body(page, &encode_header(header))
 }
 
-/// The header that the page spells, whatever its gate. `None` where it spells none.
+/// The header that the page spells, in either format, whatever its gate. `None` where it spells none.
 pub fn decode_header(page: &[u8; PAGE_SIZE]) -> Option<Header>
     ensures { Decodes (SpelledHeader page.now) result }
 {

@@ -1,5 +1,5 @@
-ghost use Rattle.std.specs.Prelude.{◌≡◌, ◌<◌, ◌≤◌};
-ghost use Rattle.pages.specs.Layout.{Arcs, HeadOf, Words, Journal, arc_pages, word_pages, page_number, page_count, place_of, places_in_use};
+ghost use Rattle.std.specs.Prelude.{◌≡◌, ◌-◌, ◌<◌, ◌≤◌};
+ghost use Rattle.pages.specs.Layout.{Arcs, HeadOf, Words, EndsOf, Journal, arc_pages, word_pages, end_pages, slot_pages, page_number, page_count, place_of, places_in_use};
 
 use crate::content::Slot;
 use crate::header::Header;
@@ -15,7 +15,7 @@ pub const PAGES_AT_ONCE: usize = 64;
 
 /// Page numbers of the file that has this header. The header itself is page 0.
 impl Header {
-    /// How many pages hold the ends of the arcs.
+    /// How many pages hold the ends of the arcs that the store was made with.
     pub fn arc_pages(&self) -> u64
         ensures { result ≡ arc_pages self.now }
     {
@@ -26,7 +26,21 @@ impl Header {
     pub fn word_pages(&self) -> u64
         ensures { result ≡ word_pages self.now }
     {
-        u64::from(self.arcs).div_ceil(WORDS_A_PAGE as u64)
+        u64::from(self.room).div_ceil(WORDS_A_PAGE as u64)
+    }
+
+    /// How many pages hold the ends of the arcs laid since the store was made, in each slot.
+    pub fn end_pages(&self) -> u64
+        ensures { result ≡ end_pages self.now }
+    {
+        u64::from(self.room.saturating_sub(self.arcs)).div_ceil(ARCS_A_PAGE as u64)
+    }
+
+    /// How many pages stand behind a slot's head.
+    pub fn slot_pages(&self) -> u64
+        ensures { result ≡ slot_pages self.now }
+    {
+        self.word_pages() + self.end_pages()
     }
 
     /// The number of the `i`-th arc page, counted from 0.
@@ -43,7 +57,7 @@ impl Header {
     {
         match slot {
             Slot::A => self.arc_pages() + 1,
-            Slot::B => self.arc_pages() + self.word_pages() + 2,
+            Slot::B => self.arc_pages() + self.slot_pages() + 2,
         }
     }
 
@@ -55,11 +69,19 @@ impl Header {
         self.head_page(slot) + 1 + i
     }
 
+    /// The number of a slot's `i`-th end page, counted from 0.
+    pub fn end_page(&self, slot: Slot, i: u64) -> u64
+        requires { i < end_pages self.now }
+        ensures { result ≡ page_number self.now (EndsOf slot i) }
+    {
+        self.head_page(slot) + 1 + self.word_pages() + i
+    }
+
     /// The number of the journal's first page.
     pub fn journal_start(&self) -> u64
         ensures { result ≡ page_number self.now (Journal 0) }
     {
-        self.arc_pages() + 2 * self.word_pages() + 3
+        self.arc_pages() + 2 * self.slot_pages() + 3
     }
 
     /// The number of the journal's page of this sequence.
@@ -81,17 +103,30 @@ impl Header {
     pub fn arcs_on_page(&self, i: u64) -> usize
         ensures { result ≡ places_in_use 511 i self.now.arcs }
     {
-        u64::from(self.arcs)
-            .saturating_sub(i.saturating_mul(ARCS_A_PAGE as u64))
-            .min(ARCS_A_PAGE as u64) as usize
+        places_in_use(ARCS_A_PAGE, i, self.arcs)
     }
 
-    /// How many places of the `i`-th word page, counted from 0, are in use.
-    pub fn words_on_page(&self, i: u64) -> usize
-        ensures { result ≡ places_in_use 1023 i self.now.arcs }
+    /// How many places of the `i`-th end page, counted from 0, are in use where there are so many arcs.
+    pub fn ends_on_page(&self, i: u64, arcs: u32) -> usize
+        ensures { result ≡ places_in_use 511 i (arcs - self.now.arcs) }
     {
-        u64::from(self.arcs)
-            .saturating_sub(i.saturating_mul(WORDS_A_PAGE as u64))
-            .min(WORDS_A_PAGE as u64) as usize
+        places_in_use(ARCS_A_PAGE, i, arcs.saturating_sub(self.arcs))
     }
+}
+
+/// How many places of the `i`-th word page, counted from 0, are in use where there are so many arcs.
+pub fn words_on_page(i: u64, arcs: u32) -> usize
+    ensures { result ≡ places_in_use 1023 i arcs }
+{
+    places_in_use(WORDS_A_PAGE, i, arcs)
+}
+
+/// How many of so many places are in use on the `i`-th page of so many items, counted from 0.
+fn places_in_use(places: usize, i: u64, items: u32) -> usize
+    requires { places ≤ 1023 }
+    ensures { result ≡ places_in_use places i items }
+{
+    u64::from(items)
+        .saturating_sub(i.saturating_mul(places as u64))
+        .min(places as u64) as usize
 }

@@ -1,4 +1,4 @@
-//! The pages of a store file: what each byte of each kind of page means, and which page of the file holds what.
+//! The pages of a store file, in both its formats: what each byte of each kind of page means, and which page of the file holds what.
 #![tactic(auto)]
 
 mod arc_page;
@@ -13,12 +13,12 @@ mod word_page;
 mod writer;
 
 pub use arc_page::{ArcPage, decode_arc_page, encode_arc_page};
-pub use content::{Ends, Slot, Word};
+pub use content::{Ends, Format, Record, Slot, Word};
 pub use gate::{GATE_AT, Gate, gate_of};
-pub use header::{FORMAT, Header, MAGIC, decode_header, encode_header};
+pub use header::{Header, MAGIC, decode_header, encode_header};
 pub use journal_page::{JournalPage, MOST_COMMANDS, decode_journal_page, encode_journal_page};
 pub use laws::{parts_fill_the_file, spelling_is_one_to_one, worked_pages};
-pub use layout::{ARCS_A_PAGE, PAGES_AT_ONCE, WORDS_A_PAGE};
+pub use layout::{ARCS_A_PAGE, PAGES_AT_ONCE, WORDS_A_PAGE, words_on_page};
 pub use slot_head::{MOST_VERSIONS, SlotHead, decode_slot_head, encode_slot_head};
 pub use word_page::{WordPage, decode_word_page, encode_word_page};
 pub use writer::PAGE_SIZE;

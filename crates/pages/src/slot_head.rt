@@ -1,10 +1,13 @@
-ghost use Rattle.std.specs.Prelude.{◌≡◌, ◌*◌, ◌≤◌, length, IsTrue, ◌↔◌, IfOk, nat_le, ◌&&◌};
+ghost use Rattle.std.specs.Prelude.{◌≡◌, ◌+◌, ◌*◌, ◌≤◌, ◌++◌, length, drop, IsTrue, ◌↔◌, IfOk, nat_le, ◌&&◌};
 ghost use Rattle.std.specs.List.{list_all};
 ghost use Rattle.std.specs.List.Sorted.{IsStrictlyIncreasing};
 ghost use Rattle.byteorder.specs.Endian.{big_number};
-ghost use Rattle.pages.specs.Spelling.{body, AreFit, Decodes, SpelledHead, head_page};
+ghost use Rattle.pages.specs.Spelling.{body, AreFit, AreArcsOf, IsHeader, Decodes, SpelledHead, head_front, head_page};
+ghost use Rattle.pages.specs.Formats.{arcs_field, arcs_read, landmarks_at};
 ghost use Rattle.pages.specs.Reading.{read_items};
 
+use crate::content::Format;
+use crate::header::Header;
 use crate::writer::{PAGE_SIZE, PageWriter, have_same_body};
 use byteorder::{BigEndian, ByteOrder};
 use roadnet::{MOST_LANDMARKS, OutOfMemory};
@@ -17,12 +20,13 @@ pub const MOST_VERSIONS: u64 = 1 << 48;
 const NUMBER_SIZE: usize = 4;
 
 /// The head of a slot: the number of its checkpoint, the version of the network that it holds, the sequence of the journal page that
-/// follows, and the landmarks, ascending.
+/// follows, how many arcs the network has, and its landmarks, ascending.
 #[derive(Debug, Drop)]
 pub struct SlotHead {
     epoch: u64,
     version: u64,
     next_sequence: u64,
+    arcs: u32,
     landmarks: Vec<u32>,
 }
 
@@ -31,7 +35,7 @@ impl Model for SlotHead {
 
     ghost Value = { Head };
 
-    ghost view = { λ s. record { epoch = s.epoch; version = s.version; next_sequence = s.next_sequence; landmarks = s.landmarks.items } };
+    ghost view = { λ s. record { epoch = s.epoch; version = s.version; next_sequence = s.next_sequence; arcs = s.arcs; landmarks = s.landmarks.items } };
 }
 
 impl SlotHead {
@@ -54,6 +58,13 @@ impl SlotHead {
         ensures { result ≡ self.now.next_sequence }
     {
         self.next_sequence
+    }
+
+    /// How many arcs the slot's network has.
+    pub fn arcs(&self) -> u32
+        ensures { result ≡ self.now.arcs }
+    {
+        self.arcs
     }
 
     /// The landmarks of the slot's network, ascending, each once: at most 1,000.
@@ -85,25 +96,91 @@ fn are_nodes(xs: &[u32], nodes: u32) -> bool
     xs.iter().all(|&x| 1 <= x && x <= nodes)
 }
 
-/// The page of a slot's head, its gate closed. There are at most 1,000 landmarks.
-pub fn encode_slot_head(
+fn are_arcs(header: &Header, arcs: u32) -> bool
+    ensures { IsTrue result ↔ AreArcsOf header.now arcs }
+{
+    header.arcs <= arcs && arcs <= header.room
+}
+
+/// Puts the number of arcs, where the format has it.
+fn put_arcs(page: &mut PageWriter, format: Format, arcs: u32)
+    requires { length page.old + 4 ≤ 4096 }
+    ensures { page.new ≡ page.old ++ arcs_field format arcs }
+{
+    match format {
+        Format::One => {}
+        Format::Two => page.put_u32(arcs),
+    }
+}
+
+/// Puts the numbers of a head, those behind which the landmarks stand.
+fn put_front(
+    page: &mut PageWriter,
+    format: Format,
     epoch: u64,
     version: u64,
     next_sequence: u64,
+    arcs: u32,
     landmarks: &[u32],
-) -> [u8; PAGE_SIZE]
-    requires { length landmarks.now ≤ 1000 }
-    ensures { result ≡ head_page (record { epoch = epoch; version = version; next_sequence = next_sequence; landmarks = landmarks.now }) }
+)
+    requires room { length page.old + 32 ≤ 4096 }
+    requires few { length landmarks.now ≤ 1000 }
+    ensures { page.new ≡ page.old ++ head_front format (record { epoch = epoch; version = version; next_sequence = next_sequence; arcs = arcs; landmarks = landmarks.now }) }
 {
-    let mut page = PageWriter::new();
     page.put_u64(epoch);
     page.put_u64(version);
     page.put_u64(next_sequence);
     page.put_u32(landmarks.len() as u32);
+    put_arcs(page, format, arcs);
+}
+
+/// The page of a slot's head in this format, its gate closed. There are at most 1,000 landmarks.
+pub fn encode_slot_head(
+    format: Format,
+    epoch: u64,
+    version: u64,
+    next_sequence: u64,
+    arcs: u32,
+    landmarks: &[u32],
+) -> [u8; PAGE_SIZE]
+    requires { length landmarks.now ≤ 1000 }
+    ensures { result ≡ head_page format (record { epoch = epoch; version = version; next_sequence = next_sequence; arcs = arcs; landmarks = landmarks.now }) }
+{
+    let mut page = PageWriter::new();
+    put_front(
+        &mut page,
+        format,
+        epoch,
+        version,
+        next_sequence,
+        arcs,
+        landmarks,
+    );
     for &landmark in landmarks {
         page.put_u32(landmark);
     }
     page.finish()
+}
+
+/// The number of arcs of the head of a slot in a store of these sizes.
+fn read_arcs(page: &[u8; PAGE_SIZE], header: &Header) -> u32
+    ensures { result ≡ arcs_read header.now.format header.now.arcs (big_number 4 (drop 28 page.now)) }
+{
+    match header.format {
+        Format::One => header.arcs,
+        Format::Two => BigEndian::read_u32(&page[28..]),
+    }
+}
+
+/// Where the landmarks stand.
+fn landmarks_at(format: Format) -> usize
+    ensures place { result ≡ landmarks_at format }
+    ensures within { result ≤ 32 }
+{
+    match format {
+        Format::One => 28,
+        Format::Two => 32,
+    }
 }
 
 fn read_numbers(alloc: Global, bytes: &[u8], count: usize) -> Result<Vec<u32>, AllocError>
@@ -123,25 +200,28 @@ fn read_numbers(alloc: Global, bytes: &[u8], count: usize) -> Result<Vec<u32>, A
 /// Whether the page, its gate apart, is that of a head of these parts.
 fn is_head_page(
     page: &[u8; PAGE_SIZE],
+    format: Format,
     epoch: u64,
     version: u64,
     next_sequence: u64,
+    arcs: u32,
     landmarks: &[u32],
 ) -> bool
     requires { length landmarks.now ≤ 1000 }
-    ensures { IsTrue result ↔ (body page.now ≡ body (head_page (record { epoch = epoch; version = version; next_sequence = next_sequence; landmarks = landmarks.now }))) }
+    ensures { IsTrue result ↔ (body page.now ≡ body (head_page format (record { epoch = epoch; version = version; next_sequence = next_sequence; arcs = arcs; landmarks = landmarks.now }))) }
 {
-    let encoded = encode_slot_head(epoch, version, next_sequence, landmarks);
+    let encoded = encode_slot_head(format, epoch, version, next_sequence, arcs, landmarks);
     have_same_body(page, &encoded)
 }
 
-/// The head of a slot that the page spells in a network of so many nodes, whatever its gate. `None` where it spells none.
+/// The head of a slot that the page spells in a store of these sizes, whatever its gate. `None` where it spells none.
 pub fn decode_slot_head(
     alloc: Global,
     page: &[u8; PAGE_SIZE],
-    nodes: u32,
+    header: &Header,
 ) -> Result<Option<SlotHead>, OutOfMemory>
-    ensures { IfOk result (λ found. Decodes (SpelledHead nodes page.now) found) }
+    requires { IsHeader header.now }
+    ensures { IfOk result (λ found. Decodes (SpelledHead header.now page.now) found) }
 {
     let epoch = BigEndian::read_u64(page);
     let version = BigEndian::read_u64(&page[8..]);
@@ -150,20 +230,34 @@ pub fn decode_slot_head(
     if !are_fit(epoch, version, next_sequence, count) {
         return Ok(None);
     }
-    let landmarks = read_numbers(alloc, &page[28..], count as usize)?;
+    let arcs = read_arcs(page, header);
+    if !are_arcs(header, arcs) {
+        return Ok(None);
+    }
+    let from = landmarks_at(header.format);
+    let landmarks = read_numbers(alloc, &page[from..], count as usize)?;
     if !is_ascending(&landmarks) {
         return Ok(None);
     }
-    if !are_nodes(&landmarks, nodes) {
+    if !are_nodes(&landmarks, header.nodes) {
         return Ok(None);
     }
-    if !is_head_page(page, epoch, version, next_sequence, &landmarks) {
+    if !is_head_page(
+        page,
+        header.format,
+        epoch,
+        version,
+        next_sequence,
+        arcs,
+        &landmarks,
+    ) {
         return Ok(None);
     }
     Ok(Some(SlotHead {
         epoch,
         version,
         next_sequence,
+        arcs,
         landmarks,
     }))
 }

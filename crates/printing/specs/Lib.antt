@@ -2,3 +2,4 @@ pub mod Counting
 pub mod Printed
 pub mod Replied
 pub mod Failing
+pub mod Widths

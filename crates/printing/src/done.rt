@@ -1,6 +1,49 @@
-/// What a call on texts that computes rows tells when it is done.
+ghost use Rattle.std.specs.Prelude.{◌≡◌, None};
+ghost use Rattle.printing.specs.Widths.{told_width, told_workers};
+
+use rows::Ran;
+
+/// What a call on texts tells when it is done. It tells a width and workers by what ran alone, so none that are only handed on.
 #[derive(Clone, Copy, Debug, PartialEq, Eq)]
 pub struct Done {
+    delta: Option<u32>,
+    workers: Option<u32>,
+}
+
+impl Done {
+    /// Done by this.
+    pub fn by<B: Ran>(ran: &B) -> Done
+        ensures width { told_width result ≡ B.width_given ran.now }
+        ensures workers { told_workers result ≡ B.workers_given ran.now }
+    {
+        Done {
+            delta: ran.width(),
+            workers: ran.workers(),
+        }
+    }
+
+    /// Done without a search of which a width is told.
+    pub fn without_search() -> Done
+        ensures width { told_width result ≡ None }
+        ensures workers { told_workers result ≡ None }
+    {
+        Done {
+            delta: None,
+            workers: None,
+        }
+    }
+
     /// The width of the buckets of its searches, if one was given: else they have the network's default.
-    pub delta: Option<u32>,
+    pub fn delta(self) -> Option<u32>
+        ensures { result ≡ told_width self }
+    {
+        self.delta
+    }
+
+    /// How many row workers shared out the rows of its landmarks, where they were shared out.
+    pub fn workers(self) -> Option<u32>
+        ensures { result ≡ told_workers self }
+    {
+        self.workers
+    }
 }

@@ -5,9 +5,9 @@ use mathlib.Core.Option.{some}
 use lib.ListN.{get_elem?}
 use Rattle.crossbeam_utils.specs.Register.{Admits, TurnsAt, Forks, Merges}
 use Rattle.atomic_table.proofs.Lists.{at_set, at_snoc, set_again}
-use Rattle.roadnet.specs.declared.commands.Command.{Command}
+use Rattle.roadnet.specs.declared.groups.Group.{Group}
 use Rattle.roadnet.specs.Net.{Net}
-use Rattle.roadnet.specs.Step.{step, after}
+use Rattle.roadnet.specs.Step.{step_group, after}
 use Rattle.roadnet.proofs.Stepped.{after_both}
 use Rattle.history.specs.Origins.{Beginning}
 use Rattle.history.proofs.Beginnings.{prefix_self, prefix_trans}
@@ -20,19 +20,19 @@ Keeps x = AllBegin x.shown
 abbrev pub Told : Option Beginning → Showing → Showing → Option Beginning → Type 0
 Told seen before after now = Follows seen after.shown × (now ≡ Some after.shown)
 
-follows_more : (seen : Option Beginning) (shown next : Beginning) → shown.origin ≡ next.origin → IsPrefix shown.commands next.commands → Follows seen shown → Follows seen next
+follows_more : (seen : Option Beginning) (shown next : Beginning) → shown.origin ≡ next.origin → IsPrefix shown.groups next.groups → Follows seen shown → Follows seen next
 follows_more None shown next same more h = tt
-follows_more (Some s) shown next same more h = (h.0 ∙ same, prefix_trans s.commands shown.commands next.commands h.1 more)
+follows_more (Some s) shown next same more h = (h.0 ∙ same, prefix_trans s.groups shown.groups next.groups h.1 more)
 
 -- what begins what a seat has seen begins what follows it
 pub follows_on : (seen seat : Beginning) (next : Beginning) → Follows (Some seen) seat → Follows (Some seat) next → Follows (Some seen) next
-follows_on seen seat next h more = (h.0 ∙ more.0, prefix_trans seen.commands seat.commands next.commands h.1 more.1)
+follows_on seen seat next h more = (h.0 ∙ more.0, prefix_trans seen.groups seat.groups next.groups h.1 more.1)
 
 -- one seat sees what is then shown
-pub sees : (seat : ℕ) (seen : Option Beginning) (x y : Showing) → x.shown.origin ≡ y.shown.origin → IsPrefix x.shown.commands y.shown.commands → TurnsAt Keeps seat seen x y Told
+pub sees : (seat : ℕ) (seen : Option Beginning) (x y : Showing) → x.shown.origin ≡ y.shown.origin → IsPrefix x.shown.groups y.shown.groups → TurnsAt Keeps seat seen x y Told
 sees seat seen x y same more views h at = (
   Some y.shown,
-  (λ j u e. ⊎_elim (λ (t : (j ≡ seat) × (Some y.shown ≡ u)). subst (λ (o : Option Beginning). Follows o y.shown) t.1 (refl, prefix_self y.shown.commands))
+  (λ j u e. ⊎_elim (λ (t : (j ≡ seat) × (Some y.shown ≡ u)). subst (λ (o : Option Beginning). Follows o y.shown) t.1 (refl, prefix_self y.shown.groups))
       (λ (t : (j ≢ seat) × (get_elem? views j ≡ some u)). follows_more u x.shown y.shown same more (h j u t.1))
       (at_set views seat j (Some y.shown) u e)),
   (follows_more seen x.shown y.shown same more (h seat seen at), refl),
@@ -45,7 +45,7 @@ admits x views h j seen e =
 
 opening_follows : (seen : Option Beginning) (shown : Beginning) → Follows seen shown → Follows (opening seen) shown
 opening_follows None shown h = tt
-opening_follows (Some s) shown h = (h.0, (shown.commands, refl))
+opening_follows (Some s) shown h = (h.0, (shown.groups, refl))
 
 -- a seat names the desk to another
 pub forks : (seat : ℕ) (seen : Option Beginning) → Forks Keeps seat seen seen (opening seen)
@@ -69,7 +69,7 @@ pub last_applied : (first : Showing) (pending : List Showing) (next : Showing) �
 last_applied first [] next = refl
 last_applied first (x ∷ pending) next = last_applied x pending next
 
--- the network after a command more
-pub after_more : (base net next : Net) (commands : List Command) (command : Command) → after base commands ≡ Some net → step net command ≡ Some next
-    → after base (commands ++ command ∷ []) ≡ Some next
-after_more base net next commands command here stepped = after_both base commands (command ∷ []) ∙ rw here (rw stepped refl)
+-- the network after a group more
+pub after_more : (base net next : Net) (groups : List Group) (group : Group) → after base groups ≡ Some net → step_group net group ≡ Some next
+    → after base (groups ++ group ∷ []) ≡ Some next
+after_more base net next groups group here stepped = after_both base groups (group ∷ []) ∙ rw here (rw stepped refl)

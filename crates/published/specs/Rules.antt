@@ -8,14 +8,14 @@ use Rattle.history.specs.Origins.{Beginning}
 -- what a seat has seen is of the same desk, and begins what is shown
 abbrev pub Follows : Option Beginning → Beginning → Type 0
 Follows None shown = Unit {0}
-Follows (Some seen) shown = (seen.origin ≡ shown.origin) × IsPrefix seen.commands shown.commands
+Follows (Some seen) shown = (seen.origin ≡ shown.origin) × IsPrefix seen.groups shown.groups
 
 abbrev pub AllBegin : Beginning → List (Option Beginning) → Type 0
 AllBegin shown views = (seat : ℕ) (seen : Option Beginning) → get_elem? views seat ≡ some seen → Follows seen shown
 
--- of the same desk, and no command yet
+-- of the same desk, and no group yet
 abbrev pub opening : Option Beginning → Option Beginning
-opening seen = option_map {T = Beginning} (λ s. record s { commands = [] }) seen
+opening seen = option_map {T = Beginning} (λ s. record s { groups = [] }) seen
 
 -- what is shown after switches to these
 abbrev pub last_of : {X : Type 0} → X → List X → X

@@ -5,7 +5,7 @@ use Rattle.roadnet.specs.declared.refusals.Refusal.TheVariants.{OutOfMemory, Clo
 use Rattle.history.specs.Origins.{Beginning}
 use Rattle.rows.specs.Views.{Viewed}
 
--- a view, with the commands after which it is shown
+-- a view, with the groups after which it is shown
 pub record Showing : Type 0 where
   pub shown : Beginning
   pub view : Viewed

@@ -6,12 +6,12 @@ use rows::View;
 use std::marker::Model;
 use std::sync::Arc;
 
-/// A view that is shown, with the commands after which it stands: its network is the desk's base after them, and its version the base's
-/// and as many more as there are commands.
+/// A view that is shown, with the groups after which it stands: its network is the desk's base after them, and its version the base's
+/// and as many more as there are groups.
 #[derive(Drop)]
 pub struct Published {
     pub(crate) view: Arc<View>,
-    pub(crate) commands: Front,
+    pub(crate) groups: Front,
 }
 
 impl Model for Published {
@@ -21,18 +21,18 @@ impl Model for Published {
 
     ghost Value = { Showing };
 
-    ghost view = { λ p. record { shown = p.commands; view = p.view.value } };
+    ghost view = { λ p. record { shown = p.groups; view = p.view.value } };
 
-    ghost invariant = { λ p. (after p.commands.origin.base p.commands.commands ≡ Some p.view.value.network) × (p.view.value.version ≡ p.commands.origin.version + length p.commands.commands) };
+    ghost invariant = { λ p. (after p.groups.origin.base p.groups.groups ≡ Some p.view.value.network) × (p.view.value.version ≡ p.groups.origin.version + length p.groups.groups) };
 }
 
 impl Published {
-    /// The view, shown after these commands.
-    pub fn new(view: Arc<View>, commands: Front) -> Published
-        requires network { after commands.origin.base commands.commands ≡ Some view.value.network }
-        requires version { view.value.version ≡ commands.origin.version + length commands.commands }
-        ensures { result ≡ record { shown = commands; view = view.value } }
+    /// The view, shown after these groups.
+    pub fn new(view: Arc<View>, groups: Front) -> Published
+        requires network { after groups.origin.base groups.groups ≡ Some view.value.network }
+        requires version { view.value.version ≡ groups.origin.version + length groups.groups }
+        ensures { result ≡ record { shown = groups; view = view.value } }
     {
-        Published { view, commands }
+        Published { view, groups }
     }
 }

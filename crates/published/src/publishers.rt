@@ -17,7 +17,7 @@ use std::marker::Model;
 use std::mem::ManuallyDrop;
 use std::sync::{Arc, Wait};
 
-/// What shows views to readers. Contracts see it as the commands of what is shown, with its view.
+/// What shows views to readers. Contracts see it as the groups of what is shown, with its view.
 pub struct Publisher {
     writer: Copies,
 }
@@ -77,7 +77,7 @@ impl Publisher {
         let Ok(view) = Arc::try_clone(&first.view) else {
             return Err(OutOfMemory);
         };
-        let second = Published::new(view, first.commands.again());
+        let second = Published::new(view, first.groups.again());
         let Ok(writer) = Writer::new(alloc, first, second, READERS) else {
             return Err(OutOfMemory);
         };
@@ -96,7 +96,7 @@ impl Publisher {
     /// The one error is want of memory. Then readers see what they saw, and the view stays pending: it is passed over by a later switch.
     pub fn switch<R: Wait>(&mut self, rt: &R, next: Published) -> Result<(), OutOfMemory>
         requires desk { next.shown.origin ≡ self.old.shown.origin }
-        requires begins { IsPrefix self.old.shown.commands next.shown.commands }
+        requires begins { IsPrefix self.old.shown.groups next.shown.groups }
         ensures { MatchResult result (λ _. self.new ≡ next) (λ _. self.new ≡ self.old) }
     {
         replace_with(&mut self.writer, next, |writer, next| {
@@ -109,16 +109,16 @@ impl Publisher {
         ensures { result ≡ self.now.shown }
     {
         Shown {
-            commands: self.writer.published().commands.again(),
+            groups: self.writer.published().groups.again(),
         }
     }
 
-    /// A reader of this desk, which has seen no command.
+    /// A reader of this desk, which has seen no group.
     ///
     /// Refused is a place for it that is not found (60), as may happen while readers come and go.
     pub fn reader(&mut self) -> Result<Reader, Refusal>
         ensures same { self.new ≡ self.old }
-        ensures reader { IfOk result (λ reader. (reader.origin ≡ self.old.shown.origin) × (reader.commands ≡ [])) }
+        ensures reader { IfOk result (λ reader. (reader.origin ≡ self.old.shown.origin) × (reader.groups ≡ [])) }
         ensures causes { IfErr result (λ refusal. refusal ≡ no_reader_place) }
     {
         let Ok(mut reader) = self.writer.factory().reader() else {
@@ -127,7 +127,7 @@ impl Publisher {
         reader.learn::<Names>(self.writer.tell::<Names>());
         Ok(Reader {
             reader,
-            seen: self.writer.published().commands.first(0),
+            seen: self.writer.published().groups.first(0),
             learned: None,
         })
     }

@@ -19,7 +19,7 @@ use std::sync::Arc;
 
 pub(crate) type SeatedReader = reader::Reader<Published, Option<Front>, Shows>;
 
-/// A reader of what is shown. Contracts see it as the commands that it has seen or was told of, with the desk.
+/// A reader of what is shown. Contracts see it as the groups that it has seen or was told of, with the desk.
 #[derive(Drop)]
 pub struct Reader {
     pub(crate) reader: SeatedReader,
@@ -52,7 +52,7 @@ fn enter(reader: SeatedReader) -> (SeatedReader, Result<Published, Refusal>)
         Ok(reading) => {
             let shown = reading.get();
             let taken = match Arc::try_clone(&shown.view) {
-                Ok(view) => Ok(Published::new(view, shown.commands.again())),
+                Ok(view) => Ok(Published::new(view, shown.groups.again())),
                 Err(_) => Err(Refusal::OutOfMemory),
             };
             (reading.leave(), taken)
@@ -61,7 +61,7 @@ fn enter(reader: SeatedReader) -> (SeatedReader, Result<Published, Refusal>)
     }
 }
 
-/// Enters by the seat of a reader that has seen these commands: what is shown begins with them.
+/// Enters by the seat of a reader that has seen these groups: what is shown begins with them.
 fn enter_behind(reader: &mut SeatedReader, seen: &Front) -> Result<Published, Refusal>
     requires { (seat : Beginning) × (seat_view reader.old.place ≡ Some seat) × Follows (Some seen.now) seat }
     ensures seat { (seat : Beginning) × (seat_view reader.new.place ≡ Some seat) × Follows (Some seen.now) seat }
@@ -82,39 +82,39 @@ impl Reader {
         }
     }
 
-    /// The view that is shown. The commands after which it stands begin with all that the reader has seen and was told of, and the reader
+    /// The view that is shown. The groups after which it stands begin with all that the reader has seen and was told of, and the reader
     /// has then seen them. It takes no lock and waits for nobody.
     ///
     /// Refused is a share of the view for which there is no room (11), and a copy that can't be entered, as after closing (61).
     pub fn look(&mut self) -> Result<Arc<View>, Refusal>
-        ensures network { IfOk result (λ view. after self.old.origin.base self.new.commands ≡ Some view.value.network) }
-        ensures version { IfOk result (λ view. view.value.version ≡ self.old.origin.version + length self.new.commands) }
-        ensures begins { IsPrefix self.old.commands self.new.commands }
+        ensures network { IfOk result (λ view. after self.old.origin.base self.new.groups ≡ Some view.value.network) }
+        ensures version { IfOk result (λ view. view.value.version ≡ self.old.origin.version + length self.new.groups) }
+        ensures begins { IsPrefix self.old.groups self.new.groups }
         ensures origin { self.new.origin ≡ self.old.origin }
         ensures refused { IfErr result (λ _. self.new ≡ self.old) }
         ensures causes { IfErr result IsUnseen }
     {
-        let Published { view, commands } = enter_behind(&mut self.reader, &self.seen)?;
+        let Published { view, groups } = enter_behind(&mut self.reader, &self.seen)?;
         if let Some(learned) = &self.learned {
-            if !learned.begins(&commands) {
+            if !learned.begins(&groups) {
                 return Err(Refusal::Closed);
             }
         }
-        self.seen = commands;
+        self.seen = groups;
         self.learned = None;
         Ok(view)
     }
 
-    /// Takes in what was shown: the reader knows the longer of both lists of commands, which the other begins. It takes no lock and waits
+    /// Takes in what was shown: the reader knows the longer of both lists of groups, which the other begins. It takes no lock and waits
     /// for nobody.
     pub fn learn(&mut self, shown: &Shown)
         requires { shown.now.origin ≡ self.old.origin }
         ensures one { (self.new ≡ self.old) ⊎ (self.new ≡ shown.now) }
-        ensures this { IsPrefix self.old.commands self.new.commands }
-        ensures that { IsPrefix shown.now.commands self.new.commands }
+        ensures this { IsPrefix self.old.groups self.new.groups }
+        ensures that { IsPrefix shown.now.groups self.new.groups }
     {
-        if self.known().begins(&shown.commands) {
-            self.learned = Some(shown.commands.again());
+        if self.known().begins(&shown.groups) {
+            self.learned = Some(shown.groups.again());
         }
     }
 }

@@ -20,7 +20,7 @@ impl Absorb<Published> for Published {
         _other: &Published,
     ) -> Result<(), AllocError> {
         let view = Arc::try_clone(&operation.view)?;
-        *self = Published::new(view, operation.commands.again());
+        *self = Published::new(view, operation.groups.again());
         Ok(())
     }
 
@@ -30,7 +30,7 @@ impl Absorb<Published> for Published {
     }
 }
 
-/// The commands of what is shown begin with those that each seat has seen. A seat that has no name yet has seen nothing.
+/// The groups of what is shown begin with those that each seat has seen. A seat that has no name yet has seen nothing.
 pub struct Shows;
 
 impl Protocol<Published, Option<Front>> for Shows {

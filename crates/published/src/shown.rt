@@ -3,10 +3,10 @@ ghost use Rattle.std.specs.Prelude.{◌≡◌};
 use history::Front;
 use std::marker::Model;
 
-/// It was shown after these commands. A reader that learns it sees no less.
+/// It was shown after these groups. A reader that learns it sees no less.
 #[derive(Drop)]
 pub struct Shown {
-    pub(crate) commands: Front,
+    pub(crate) groups: Front,
 }
 
 impl Model for Shown {
@@ -14,16 +14,16 @@ impl Model for Shown {
 
     ghost Value = { Beginning };
 
-    ghost view = { λ s. s.commands };
+    ghost view = { λ s. s.groups };
 
     ghost invariant = { λ _. Unit {0} };
 }
 
 impl Shown {
     /// The beginning of the history after which it was shown.
-    pub fn commands(&self) -> &Front
+    pub fn groups(&self) -> &Front
         ensures { result.now ≡ self.now }
     {
-        &self.commands
+        &self.groups
     }
 }

@@ -8,6 +8,7 @@ ghost use Rattle.dimacs.specs.Texts.{InMemory, OfReader};
 ghost use Rattle.dimacs.specs.Counts.{failed_calls, reader_of, IsSameReader};
 ghost use Rattle.printing.specs.Counting.{failed_writes, writer_of, IsSameWriter, CountsFailure};
 ghost use Rattle.printing.specs.Failing.{CountsFirst, CountsSecond, CountsWrites, LeavesUnwritten};
+ghost use Rattle.printing.specs.Widths.{told_width};
 ghost use Rattle.querytexts.specs.Once.{IsUnanswered};
 ghost use Rattle.querytexts.specs.Batch.{AreRight, query_of, answer_lines, AnswersAll, IsAnsweredBatch, IsOfBatch, IsRefusedBatch};
 
@@ -116,7 +117,7 @@ pub fn answer_by<T: Threads, W: Write>(
 ) -> Result<Done, Failed>
     requires { AreOf network.now searches.old }
     ensures answered { OnOk result (AnswersAll network.now version pairs.now (W.contents (writer_of out.old)) (W.contents (writer_of out.new))) }
-    ensures width { IfOk result (λ done. done.delta ≡ given_width searches.old) }
+    ensures width { IfOk result (λ done. told_width done ≡ given_width searches.old) }
     ensures refused { IfErr result IsUnanswered }
     ensures unwritten { IfErr result (LeavesUnwritten (writer_of out.old) (writer_of out.new)) }
     ensures writes { CountsWrites (failed_writes out.old) (failed_writes out.new) result }
@@ -126,9 +127,7 @@ pub fn answer_by<T: Threads, W: Write>(
     put_version(out, version)?;
     put_answers(out, pairs, &replies)?;
     out.flush()?;
-    Ok(Done {
-        delta: searches.delta(),
-    })
+    Ok(Done::by(&*searches))
 }
 
 /// Writes the network's version and a right answer to each pair, in their order, and sends them out; or nothing, where no memory is
@@ -148,7 +147,7 @@ pub fn answer_pairs<T: Threads, W: Write>(
 ) -> Result<Done, Failed>
     requires { ForSome delta IsWidth }
     ensures answered { OnOk result (AnswersAll network.now version pairs.now (W.contents (writer_of out.old)) (W.contents (writer_of out.new))) }
-    ensures width { IfOk result (λ done. done.delta ≡ delta) }
+    ensures width { IfOk result (λ done. told_width done ≡ delta) }
     ensures refused { IfErr result IsUnanswered }
     ensures unwritten { IfErr result (LeavesUnwritten (writer_of out.old) (writer_of out.new)) }
     ensures writes { CountsWrites (failed_writes out.old) (failed_writes out.new) result }
@@ -177,7 +176,7 @@ pub fn batch_counted<T: Threads, R: BufRead, Q: BufRead, W: Write>(
     requires { ForSome delta IsWidth }
     ensures answered { OnOk result (IfSome (R.remaining (reader_of gr.old)) (λ network. IfSome (Q.remaining (reader_of p2p.old))
         (λ pairs. IsAnsweredBatch network pairs (W.contents (writer_of out.old)) (W.contents (writer_of out.new))))) }
-    ensures width { IfOk result (λ done. done.delta ≡ delta) }
+    ensures width { IfOk result (λ done. told_width done ≡ delta) }
     ensures refused { IfErr result (λ failed. IfSome (R.remaining (reader_of gr.old)) (λ network. IfSome (Q.remaining (reader_of p2p.old))
         (λ pairs. IsRefusedBatch network pairs (OfReader (R.remaining (reader_of gr.new))) (OfReader (Q.remaining (reader_of p2p.new))) failed))) }
     ensures codes { IfErr result IsOfBatch }
@@ -205,7 +204,7 @@ pub fn batch_text<T: Threads, W: Write>(
 ) -> Result<Done, Failed>
     requires { ForSome delta IsWidth }
     ensures answered { OnOk result (IsAnsweredBatch gr.now p2p.now (W.contents out.old) (W.contents out.new)) }
-    ensures width { IfOk result (λ done. done.delta ≡ delta) }
+    ensures width { IfOk result (λ done. told_width done ≡ delta) }
     ensures refused { IfErr result (IsRefusedBatch gr.now p2p.now InMemory InMemory) }
     ensures unwritten { IfErr result (LeavesUnwritten out.old out.new) }
 {

@@ -7,6 +7,7 @@ ghost use Rattle.dimacs.specs.Texts.{InMemory, OfReader};
 ghost use Rattle.dimacs.specs.Counts.{failed_calls, reader_of, IsSameReader};
 ghost use Rattle.printing.specs.Counting.{failed_writes, writer_of, IsSameWriter};
 ghost use Rattle.printing.specs.Failing.{CountsReads, CountsWrites, LeavesUnwritten};
+ghost use Rattle.printing.specs.Widths.{told_width};
 ghost use Rattle.querytexts.specs.Once.{AnswersOne, IsUnanswered, IsAnsweredOnce, IsOfOnce, IsRefusedOnce};
 
 use dimacs::{Counted, parse_gr, read_gr_counted};
@@ -34,7 +35,7 @@ fn answer_one<T: Threads, W: Write>(
 ) -> Result<Done, Failed>
     requires { ForSome delta IsWidth }
     ensures answered { OnOk result (AnswersOne network.now (Query.Dist s t) (W.contents (writer_of out.old)) (W.contents (writer_of out.new))) }
-    ensures width { IfOk result (λ done. done.delta ≡ delta) }
+    ensures width { IfOk result (λ done. told_width done ≡ delta) }
     ensures refused { IfErr result IsUnanswered }
     // A refused query takes no memory.
     ensures memory { IsSome (refusal_of network.now (Query.Dist s t)) → IfErr result (λ failed. failed ≡ Failed.Code Refusal.Write) }
@@ -53,9 +54,7 @@ fn answer_one<T: Threads, W: Write>(
     };
     put_lines(out, 0, &query, reply)?;
     out.flush()?;
-    Ok(Done {
-        delta: searches.delta(),
-    })
+    Ok(Done::by(&searches))
 }
 
 /// Writes the answer to `dist s t` in the network of a reader's `.gr` text, at version 0, and nothing else. The text is read whole
@@ -78,7 +77,7 @@ pub fn once_counted<T: Threads, R: BufRead, W: Write>(
     requires { ForSome delta IsWidth }
     ensures answered { OnOk result (IfSome (R.remaining (reader_of gr.old))
         (λ text. IsAnsweredOnce text (Query.Dist s t) (W.contents (writer_of out.old)) (W.contents (writer_of out.new)))) }
-    ensures width { IfOk result (λ done. done.delta ≡ delta) }
+    ensures width { IfOk result (λ done. told_width done ≡ delta) }
     ensures refused { IfErr result (λ failed. IfSome (R.remaining (reader_of gr.old))
         (λ text. IsRefusedOnce text (Query.Dist s t) (OfReader (R.remaining (reader_of gr.new))) failed)) }
     ensures codes { IfErr result IsOfOnce }
@@ -104,7 +103,7 @@ pub fn once_text<T: Threads, W: Write>(
 ) -> Result<Done, Failed>
     requires { ForSome delta IsWidth }
     ensures answered { OnOk result (IsAnsweredOnce gr.now (Query.Dist s t) (W.contents out.old) (W.contents out.new)) }
-    ensures width { IfOk result (λ done. done.delta ≡ delta) }
+    ensures width { IfOk result (λ done. told_width done ≡ delta) }
     ensures refused { IfErr result (IsRefusedOnce gr.now (Query.Dist s t) InMemory) }
     ensures unwritten { IfErr result (LeavesUnwritten out.old out.new) }
 {

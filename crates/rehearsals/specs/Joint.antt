@@ -1,5 +1,5 @@
 -- What a joint text is answered with, and for what it is refused.
-use Rattle.std.specs.Prelude.{◌≡◌, ℕ, zero, suc, List, map, Option, Result, Ok, Err}
+use Rattle.std.specs.Prelude.{◌≡◌, ℕ, zero, suc, List, map, Option, None, Result, Ok, Err}
 use Rattle.dimacs.specs.declared.fault.Fault.{Fault}
 use Rattle.dimacs.specs.Lines.{rows}
 use Rattle.dimacs.specs.Content.{content_of}
@@ -18,7 +18,7 @@ pages_of_joint = 64
 
 -- what is written are the replies to the events behind `run`, on a new store of the network before it
 abbrev pub IsAnswered : List ℕ → Option (List ℕ) → Option (List ℕ) → Type 0
-IsAnswered text old new = IsRehearsed pages_of_joint (before_run (rows text)) (after_run (rows text)) old new
+IsAnswered text old new = IsRehearsed pages_of_joint None (before_run (rows text)) (after_run (rows text)) old new
 
 -- the script behind `run` has this fault, and its lines are counted from there
 pub record IsScriptRefused (text : List ℕ) (left : Option (List ℕ)) (fault : Fault) : Type 0 where
@@ -35,7 +35,7 @@ IsTextRefused (suc (suc n)) text left fault = ⊥
 -- the fault of a text is told, or the run was broken off
 abbrev pub IsRefused : List ℕ → Option (List ℕ) → Option (List ℕ) → Option (List ℕ) → Failed → Type 0
 IsRefused text left old new (Text which fault) = IsTextRefused which text left fault
-IsRefused text left old new (Code refusal) = IsLeftOff pages_of_joint (before_run (rows text)) (after_run (rows text)) old new (Code refusal)
+IsRefused text left old new (Code refusal) = IsLeftOff pages_of_joint None (before_run (rows text)) (after_run (rows text)) old new (Code refusal)
 
 -- WHAT READING IT GIVES
 

@@ -1,8 +1,8 @@
 -- A run of events on a new store, and what is written of it.
-use Rattle.std.specs.Prelude.{◌≡◌, ◌⊎◌, ℕ, List, Option, Some, ⊤}
+use Rattle.std.specs.Prelude.{◌≡◌, ◌⊎◌, ℕ, List, length, Option, Some, ⊤}
 use Rattle.std.specs.Io.KnownBytes.{Appends}
 use Rattle.roadnet.specs.Net.{Net}
-use Rattle.roadnet.specs.declared.commands.Command.{Command}
+use Rattle.roadnet.specs.declared.groups.Group.{Group}
 use Rattle.roadnet.specs.declared.refusals.Refusal.{Refusal}
 use Rattle.roadnet.specs.declared.refusals.Refusal.TheVariants.{OutOfMemory, Device, Write}
 use Rattle.disk.specs.declared.stoppable.Pick.{Pick}
@@ -15,14 +15,14 @@ use Rattle.printing.specs.Replied.{printed_replies}
 use Rattle.printing.specs.declared.failed.Failed.{Failed}
 use Rattle.printing.specs.declared.failed.Failed.TheVariants.{Code}
 
--- the sizes of a new store of this network: a checkpoint writes a page for each 1,023 arcs
+-- the sizes of a new store of this network: a checkpoint writes the pages of its room
 abbrev pub sizes_of : Net → ℕ → Sizes
-sizes_of net journal_pages = record { journal_pages = journal_pages; checkpoint_pages = checkpoint_pages_of net }
+sizes_of net journal_pages = record { journal_pages = journal_pages; checkpoint_pages = checkpoint_pages_of (length net.arcs) net }
 
 -- The events may be replied to so over lives with stops, of which the first begins with a new store of this network. Where the run ends
 -- early, it ends for this refusal.
 pub record RepliesTo (net : Net) (journal_pages : ℕ) (events : List (Event Pick)) (replies : List Replied) (ended : Option Refusal) : Type 0 where
-  pub history : List Command
+  pub history : List Group
   pub last : Machine
   pub lives : Lives (start (sizes_of net journal_pages) net 0 0) events replies ended history last
 

@@ -5,6 +5,7 @@ ghost use Rattle.rows.specs.Kept.{IsWidth};
 ghost use Rattle.dimacs.specs.Counts.{failed_calls, reader_of, IsSameReader};
 ghost use Rattle.printing.specs.Counting.{failed_writes, writer_of, IsSameWriter};
 ghost use Rattle.printing.specs.Failing.{CountsReads, CountsWrites, IsOfText};
+ghost use Rattle.printing.specs.Widths.{told_width};
 ghost use Rattle.rehearsals.specs.Joint.{IsAnswered, IsRefused, ReadsJoint};
 ghost use Rattle.rehearsals.specs.Texts.{IsOfRehearsal, KeepsWriter};
 
@@ -68,7 +69,7 @@ pub fn joint_counted<T: Threads, R: BufRead, W: Write>(
     out: &mut CountedWriter<'_, W>,
 ) -> Result<Done, Failed>
     requires { ForSome delta IsWidth }
-    ensures width { IfOk result (λ done. done.delta ≡ delta) }
+    ensures width { IfOk result (λ done. told_width done ≡ delta) }
     ensures answered { OnOk result (IfSome (R.remaining (reader_of reader.old))
         (λ text. IsAnswered text (W.contents (writer_of out.old)) (W.contents (writer_of out.new)))) }
     ensures refused { IfErr result (λ failed. IfSome (R.remaining (reader_of reader.old))
@@ -101,7 +102,7 @@ pub fn joint_text<T: Threads, R: BufRead, W: Write>(
     out: &mut W,
 ) -> Result<Done, Failed>
     requires { ForSome delta IsWidth }
-    ensures width { IfOk result (λ done. done.delta ≡ delta) }
+    ensures width { IfOk result (λ done. told_width done ≡ delta) }
     ensures answered { OnOk result (IfSome (R.remaining reader.old)
         (λ text. IsAnswered text (W.contents out.old) (W.contents out.new))) }
     ensures refused { IfErr result (λ failed. IfSome (R.remaining reader.old)

@@ -7,25 +7,42 @@ ghost use Rattle.dimacs.specs.Counts.{failed_calls, reader_of, IsSameReader};
 ghost use Rattle.dimacs.specs.Lines.{rows};
 ghost use Rattle.printing.specs.Counting.{failed_writes, writer_of, IsSameWriter};
 ghost use Rattle.printing.specs.Failing.{CountsFirst, CountsSecond, CountsWrites};
+ghost use Rattle.roadnet.specs.Net.{IsRoomFor};
+ghost use Rattle.store.specs.Migrating.{room_of, roomed};
+ghost use Rattle.printing.specs.Widths.{told_width};
 ghost use Rattle.rehearsals.specs.Texts.{IsRehearsed, IsRefusedRehearsal, IsOfRehearsal, KeepsWriter};
 
 use crate::running::run_events;
 use dimacs::{Counted, parse_gr, read_gr_counted};
 use printing::{CountedWriter, Done, Failed, of_text};
+use roadnet::{Network, Refusal};
 use scripts::{parse_script, read_script_counted};
 use std::alloc::Global;
 use std::io::{BufRead, Write};
 use std::thread::Threads;
+use store::with_given_room;
 
 const NETWORK: u8 = 0;
 
 const SCRIPT: u8 = 1;
 
+/// The network with the room that is given, if one is. Refused (9) is a room that is none for it.
+fn roomed(network: Network, room: Option<u64>) -> Result<Network, Failed>
+    ensures ok { IfOk result (λ net. net ≡ roomed network room) }
+    ensures refused { IfErr result (λ failed. (failed ≡ Failed.Code Refusal.TooLarge) × ¬ IsRoomFor network (room_of network room)) }
+{
+    match with_given_room(network, room) {
+        Ok(network) => Ok(network),
+        Err((refusal, _)) => Err(Failed::Code(refusal)),
+    }
+}
+
 /// Runs the events of a reader's script on a new store, in memory, of the network of another reader's `.gr` text, and writes the lines of
 /// the replies, and nothing else. Both texts are read whole before anything is run or written, the network first, and the first fault
 /// decides.
 ///
-/// The store has `journal_pages` pages in its journal, 1 to 65,536. `delta`, 1 to 2147483647, is the width of the buckets of each view's
+/// The store has `journal_pages` pages in its journal, 1 to 65,536, and room for `room` arcs; without one, for those that there are. A room below
+/// the number of arcs or above 67,108,864 is refused with 9 behind the texts' faults, and nothing is run. `delta`, 1 to 2147483647, is the width of the buckets of each view's
 /// searches: every width gives the same answers; without one it is the network's default. An event that finds no memory is answered with
 /// `no 11`. Where the store cannot be made (11, or 43 where memory is wanting in the disk), nothing is written; where the run ends early
 /// (11 or 43), the replies so far are. A failed read is fault 10 of the text and line being read, and a failed write is 12: both are told
@@ -36,17 +53,18 @@ pub fn rehearse_counted<T: Threads, R: BufRead, Q: BufRead, W: Write>(
     gr: &mut Counted<'_, R>,
     script: &mut Counted<'_, Q>,
     journal_pages: u32,
+    room: Option<u64>,
     delta: Option<u32>,
     out: &mut CountedWriter<'_, W>,
 ) -> Result<Done, Failed>
     requires width { ForSome delta IsWidth }
     requires some { 1 ≤ journal_pages }
     requires few { journal_pages ≤ 65536 }
-    ensures width { IfOk result (λ done. done.delta ≡ delta) }
+    ensures width { IfOk result (λ done. told_width done ≡ delta) }
     ensures answered { OnOk result (IfSome (R.remaining (reader_of gr.old)) (λ network. IfSome (Q.remaining (reader_of script.old))
-        (λ events. IsRehearsed journal_pages (rows network) (rows events) (W.contents (writer_of out.old)) (W.contents (writer_of out.new))))) }
+        (λ events. IsRehearsed journal_pages room (rows network) (rows events) (W.contents (writer_of out.old)) (W.contents (writer_of out.new))))) }
     ensures refused { IfErr result (λ failed. IfSome (R.remaining (reader_of gr.old)) (λ network. IfSome (Q.remaining (reader_of script.old))
-        (λ events. IsRefusedRehearsal journal_pages network events (OfReader (R.remaining (reader_of gr.new))) (OfReader (Q.remaining (reader_of script.new)))
+        (λ events. IsRefusedRehearsal journal_pages room network events (OfReader (R.remaining (reader_of gr.new))) (OfReader (Q.remaining (reader_of script.new)))
         (W.contents (writer_of out.old)) (W.contents (writer_of out.new)) failed))) }
     ensures codes { IfErr result IsOfRehearsal }
     ensures unwritten { IfErr result (KeepsWriter (writer_of out.old) (writer_of out.new)) }
@@ -59,7 +77,8 @@ pub fn rehearse_counted<T: Threads, R: BufRead, Q: BufRead, W: Write>(
 {
     let network = of_text(NETWORK, read_gr_counted(alloc, gr))?;
     let events = of_text(SCRIPT, read_script_counted(alloc, script))?;
-    run_events(rt, alloc, &network, journal_pages, delta, &events, out)
+    let made = roomed(network, room)?;
+    run_events(rt, alloc, &made, journal_pages, delta, &events, out)
 }
 
 /// The same for texts in memory, over any writer, whose failed calls nobody counts.
@@ -69,19 +88,21 @@ pub fn rehearse_text<T: Threads, W: Write>(
     gr: &[u8],
     script: &[u8],
     journal_pages: u32,
+    room: Option<u64>,
     delta: Option<u32>,
     out: &mut W,
 ) -> Result<Done, Failed>
     requires width { ForSome delta IsWidth }
     requires some { 1 ≤ journal_pages }
     requires few { journal_pages ≤ 65536 }
-    ensures width { IfOk result (λ done. done.delta ≡ delta) }
-    ensures answered { OnOk result (IsRehearsed journal_pages (rows gr.now) (rows script.now) (W.contents out.old) (W.contents out.new)) }
-    ensures refused { IfErr result (IsRefusedRehearsal journal_pages gr.now script.now InMemory InMemory (W.contents out.old) (W.contents out.new)) }
+    ensures width { IfOk result (λ done. told_width done ≡ delta) }
+    ensures answered { OnOk result (IsRehearsed journal_pages room (rows gr.now) (rows script.now) (W.contents out.old) (W.contents out.new)) }
+    ensures refused { IfErr result (IsRefusedRehearsal journal_pages room gr.now script.now InMemory InMemory (W.contents out.old) (W.contents out.new)) }
     ensures unwritten { IfErr result (KeepsWriter out.old out.new) }
 {
     let network = of_text(NETWORK, parse_gr(alloc, gr))?;
     let events = of_text(SCRIPT, parse_script(alloc, script))?;
+    let made = roomed(network, room)?;
     let mut out = CountedWriter::new(out);
-    run_events(rt, alloc, &network, journal_pages, delta, &events, &mut out)
+    run_events(rt, alloc, &made, journal_pages, delta, &events, &mut out)
 }

@@ -6,8 +6,10 @@ ghost use Rattle.pagereader.specs.Outcomes.{failures_with};
 ghost use Rattle.rows.specs.Kept.{IsWidth};
 ghost use Rattle.store.specs.Opening.{IsPassing};
 ghost use Rattle.keeper.specs.Failures.{EndsAsTold};
+ghost use Rattle.keeper.specs.Running.{width_of};
 ghost use Rattle.printing.specs.Counting.{failed_writes, writer_of, IsSameWriter};
 ghost use Rattle.printing.specs.Failing.{CountsWrites, IfDevice};
+ghost use Rattle.printing.specs.Widths.{told_width};
 ghost use Rattle.rehearsals.specs.Rehearsed.{RepliesTo, Rehearses, IsBrokenOff};
 
 use disk::{MemDisk, Pick, Stoppable};
@@ -36,7 +38,7 @@ fn rehearsed<T: Threads, D: Stoppable>(
     requires few { journal_pages ≤ 65536 }
     ensures run { D.honest disk → IfOk result (λ run. RepliesTo network.now journal_pages events.now run.replies.items run.ended) }
     ensures ended { D.honest disk → IfOk result (λ run. IfSome run.ended IsPassing) }
-    ensures width { IfOk result (λ run. run.delta ≡ delta) }
+    ensures width { IfOk result (λ run. width_of run ≡ delta) }
     ensures refused { D.honest disk → D.content disk ≡ [] → IfErr result (λ refused. IsPassing refused.0) }
     // Over any disk its count of failures rises by those that the replies tell, and by one more where the run ends with 43.
     ensures counted { IfOk result (λ run. EndsAsTold events.now run.replies.items run.ended (D.failures disk) (D.failures run.disk)) }
@@ -62,7 +64,7 @@ fn run_events_on<T: Threads, D: Stoppable, W: Write>(
     requires width { ForSome delta IsWidth }
     requires some { 1 ≤ journal_pages }
     requires few { journal_pages ≤ 65536 }
-    ensures width { IfOk result.0 (λ done. done.delta ≡ delta) }
+    ensures width { IfOk result.0 (λ done. told_width done ≡ delta) }
     ensures answered { D.honest disk → OnOk result.0
         (Rehearses network.now journal_pages events.now None (W.contents (writer_of out.old)) (W.contents (writer_of out.new))) }
     ensures refused { D.honest disk → D.content disk ≡ [] → IfErr result.0
@@ -75,12 +77,13 @@ fn run_events_on<T: Threads, D: Stoppable, W: Write>(
         Ok(run) => run,
         Err((refusal, disk)) => return (Err(Failed::Code(refusal)), disk),
     };
+    let done = Done::by(&run);
     let Rehearsal {
         history: _,
         replies,
         ended,
         disk,
-        delta,
+        ..
     } = run;
     if let Err(failed) = put_replies(out, &replies) {
         return (Err(failed), disk);
@@ -89,7 +92,7 @@ fn run_events_on<T: Threads, D: Stoppable, W: Write>(
         return (Err(failed), disk);
     }
     match ended {
-        None => (Ok(Done { delta }), disk),
+        None => (Ok(done), disk),
         Some(refusal) => (Err(Failed::Code(refusal)), disk),
     }
 }
@@ -107,7 +110,7 @@ pub fn run_events<T: Threads, W: Write>(
     requires width { ForSome delta IsWidth }
     requires some { 1 ≤ journal_pages }
     requires few { journal_pages ≤ 65536 }
-    ensures width { IfOk result (λ done. done.delta ≡ delta) }
+    ensures width { IfOk result (λ done. told_width done ≡ delta) }
     ensures answered { OnOk result (Rehearses network.now journal_pages events.now None (W.contents (writer_of out.old)) (W.contents (writer_of out.new))) }
     ensures refused { IfErr result
         (IsBrokenOff network.now journal_pages events.now (W.contents (writer_of out.old)) (W.contents (writer_of out.new))) }

@@ -8,7 +8,7 @@ use Rattle.dimacs.specs.declared.fault.Code.TheVariants.{Read}
 use Rattle.printing.specs.declared.failed.Failed.{Failed}
 use Rattle.printing.specs.declared.failed.Failed.TheVariants.{Text, Code}
 use Rattle.roadmark.specs.declared.words.Job.{Job}
-use Rattle.roadmark.specs.declared.words.Job.TheVariants.{Joint, Once, Batch, Rehearse, Create, Apply, Ask, Check, Serve}
+use Rattle.roadmark.specs.declared.words.Job.TheVariants.{Joint, Once, Batch, Rehearse, Create, Apply, Ask, Check, Serve, Migrate}
 
 -- the failure is one of the call's first text
 abbrev pub is_of_first : Failed → Bool
@@ -25,13 +25,14 @@ abbrev pub text_name : Job → Failed → List ℕ
 text_name (Joint delta) failed = if is_of_first failed then codes "net" else codes "script"
 text_name (Once network source target delta) failed = network.now
 text_name (Batch network pairs delta) failed = if is_of_first failed then network.now else pairs.now
-text_name (Rehearse network script journal_pages delta) failed = if is_of_first failed then network.now else script.now
-text_name (Create store network landmarks journal_pages) failed =
+text_name (Rehearse network script journal_pages room delta) failed = if is_of_first failed then network.now else script.now
+text_name (Create store network landmarks journal_pages room) failed =
     if is_of_first failed then network.now else if is_of_second failed then landmarks.now else store.now
 text_name (Apply store commands delta) failed = if is_of_first failed then commands.now else store.now
 text_name (Ask store pairs delta) failed = if is_of_first failed then pairs.now else store.now
 text_name (Check store) failed = store.now
 text_name (Serve store delta workers) failed = store.now
+text_name (Migrate old new room) failed = if is_of_first failed then old.now else new.now
 
 -- what is told of a file that can't be opened
 abbrev pub unopened : ℕ → Failed

@@ -8,7 +8,7 @@ use Rattle.clap.specs.declared.parser.matches.Found.{Found}
 use Rattle.clap.specs.Words.{first_value, one_text}
 use Rattle.rows.specs.Kept.{IsWidth}
 use Rattle.roadmark.specs.declared.words.Job.{Job}
-use Rattle.roadmark.specs.declared.words.Job.TheVariants.{Joint, Once, Batch, Rehearse, Create, Apply, Ask, Check, Serve}
+use Rattle.roadmark.specs.declared.words.Job.TheVariants.{Joint, Once, Batch, Rehearse, Create, Apply, Ask, Check, Serve, Migrate}
 use Rattle.roadmark.specs.declared.words.Usage.{Usage}
 
 -- the width of the search's buckets that they give, if any
@@ -16,36 +16,52 @@ abbrev pub delta_of : Job → Option ℕ
 delta_of (Joint delta) = delta
 delta_of (Once network source target delta) = delta
 delta_of (Batch network pairs delta) = delta
-delta_of (Rehearse network script journal_pages delta) = delta
-delta_of (Create store network landmarks journal_pages) = None
+delta_of (Rehearse network script journal_pages room delta) = delta
+delta_of (Create store network landmarks journal_pages room) = None
 delta_of (Apply store commands delta) = delta
 delta_of (Ask store pairs delta) = delta
 delta_of (Check store) = None
 delta_of (Serve store delta workers) = delta
+delta_of (Migrate old new room) = None
+
+-- the width of the searches of a job's rows, where it makes some and one is given: `create`, `apply`, `check` and `migrate` compute none
+abbrev pub searched_width : Job → Option ℕ
+searched_width (Joint delta) = delta
+searched_width (Once network source target delta) = delta
+searched_width (Batch network pairs delta) = delta
+searched_width (Rehearse network script journal_pages room delta) = delta
+searched_width (Create store network landmarks journal_pages room) = None
+searched_width (Apply store commands delta) = None
+searched_width (Ask store pairs delta) = delta
+searched_width (Check store) = None
+searched_width (Serve store delta workers) = delta
+searched_width (Migrate old new room) = None
 
 -- the pages of the store's journal, where it makes a store
 abbrev pub journal_of : Job → Option ℕ
 journal_of (Joint delta) = None
 journal_of (Once network source target delta) = None
 journal_of (Batch network pairs delta) = None
-journal_of (Rehearse network script journal_pages delta) = Some journal_pages
-journal_of (Create store network landmarks journal_pages) = Some journal_pages
+journal_of (Rehearse network script journal_pages room delta) = Some journal_pages
+journal_of (Create store network landmarks journal_pages room) = Some journal_pages
 journal_of (Apply store commands delta) = None
 journal_of (Ask store pairs delta) = None
 journal_of (Check store) = None
 journal_of (Serve store delta workers) = None
+journal_of (Migrate old new room) = None
 
 -- the row workers of its desk, where it has one
 abbrev pub workers_of : Job → Option ℕ
 workers_of (Joint delta) = None
 workers_of (Once network source target delta) = None
 workers_of (Batch network pairs delta) = None
-workers_of (Rehearse network script journal_pages delta) = None
-workers_of (Create store network landmarks journal_pages) = None
+workers_of (Rehearse network script journal_pages room delta) = None
+workers_of (Create store network landmarks journal_pages room) = None
 workers_of (Apply store commands delta) = None
 workers_of (Ask store pairs delta) = None
 workers_of (Check store) = None
 workers_of (Serve store delta workers) = Some workers
+workers_of (Migrate old new room) = None
 
 -- a number of journal pages
 abbrev pub IsJournal : ℕ → Type 0
@@ -64,12 +80,13 @@ abbrev pub subcommand_of : Job → Option (List ℕ)
 subcommand_of (Joint delta) = None
 subcommand_of (Once network source target delta) = Some (codes "once")
 subcommand_of (Batch network pairs delta) = Some (codes "batch")
-subcommand_of (Rehearse network script journal_pages delta) = Some (codes "rehearse")
-subcommand_of (Create store network landmarks journal_pages) = Some (codes "create")
+subcommand_of (Rehearse network script journal_pages room delta) = Some (codes "rehearse")
+subcommand_of (Create store network landmarks journal_pages room) = Some (codes "create")
 subcommand_of (Apply store commands delta) = Some (codes "apply")
 subcommand_of (Ask store pairs delta) = Some (codes "ask")
 subcommand_of (Check store) = Some (codes "check")
 subcommand_of (Serve store delta workers) = Some (codes "serve")
+subcommand_of (Migrate old new room) = Some (codes "migrate")
 
 -- this word is a numeral of this number
 abbrev pub IsWordOf : List ℕ → ℕ → Type 0
@@ -80,7 +97,7 @@ abbrev pub Gives : Found → List ℕ → (ℕ → Type 0) → Option ℕ → Ty
 Gives found name IsFit None = (word : List ℕ) (number : ℕ) → one_text found name ≡ Some word → IsWordOf word number → ¬ IsFit number
 Gives found name IsFit (Some number) = IsFit number × ((word : List ℕ) × (one_text found name ≡ Some word) × IsWordOf word number)
 
--- a number that a query may name
+-- a number of 64 bits
 abbrev pub IsLong : ℕ → Type 0
 IsLong number = number < 2 ^ 64
 
@@ -107,18 +124,18 @@ GivesJournal found pages =
 -- the words of `rehearse` give this job, or a word is missing
 abbrev pub GivesRehearse : Found → Option Job → Type 0
 GivesRehearse found None = (first_value found (codes "GR") ≡ None) ⊎ (first_value found (codes "SCRIPT") ≡ None)
-GivesRehearse found (Some (Rehearse network script journal_pages delta)) =
+GivesRehearse found (Some (Rehearse network script journal_pages room delta)) =
     (first_value found (codes "GR") ≡ Some network.now) × (first_value found (codes "SCRIPT") ≡ Some script.now)
-    × GivesJournal found journal_pages × Gives found (codes "delta") IsWidth delta
+    × GivesJournal found journal_pages × Gives found (codes "room") IsLong room × Gives found (codes "delta") IsWidth delta
 GivesRehearse found (Some job) = ⊥
 
 -- the words of `create` give this job, or a word is missing
 abbrev pub GivesCreate : Found → Option Job → Type 0
 GivesCreate found None =
     (first_value found (codes "STORE") ≡ None) ⊎ ((first_value found (codes "GR") ≡ None) ⊎ (first_value found (codes "SS") ≡ None))
-GivesCreate found (Some (Create store network landmarks journal_pages)) =
+GivesCreate found (Some (Create store network landmarks journal_pages room)) =
     (first_value found (codes "STORE") ≡ Some store.now) × (first_value found (codes "GR") ≡ Some network.now)
-    × (first_value found (codes "SS") ≡ Some landmarks.now) × GivesJournal found journal_pages
+    × (first_value found (codes "SS") ≡ Some landmarks.now) × GivesJournal found journal_pages × Gives found (codes "room") IsLong room
 GivesCreate found (Some job) = ⊥
 
 -- the words of `apply` give this job, or a word is missing
@@ -154,6 +171,13 @@ GivesServe found None = first_value found (codes "STORE") ≡ None
 GivesServe found (Some (Serve store delta workers)) =
     (first_value found (codes "STORE") ≡ Some store.now) × Gives found (codes "delta") IsWidth delta × GivesWorkers found workers
 GivesServe found (Some job) = ⊥
+
+-- the words of `migrate` give this job, or a word is missing
+abbrev pub GivesMigrate : Found → Option Job → Type 0
+GivesMigrate found None = (first_value found (codes "OLD") ≡ None) ⊎ (first_value found (codes "NEW") ≡ None)
+GivesMigrate found (Some (Migrate old new room)) =
+    (first_value found (codes "OLD") ≡ Some old.now) × (first_value found (codes "NEW") ≡ Some new.now) × Gives found (codes "room") IsLong room
+GivesMigrate found (Some job) = ⊥
 
 -- the words give the width of a joint form
 abbrev pub GivesJoint : Found → Job → Type 0

@@ -51,7 +51,7 @@ fn damaged_files(rt: HostRuntime) -> Result<(), Fail> {
     let table: [(usize, u8, &str); 8] = [
         (0, 0, "roadmark: 40 NotAStore\n"),
         (4095, 0, "roadmark: 40 NotAStore\n"),
-        (11, 2, "roadmark: 41 WrongFormat\n"),
+        (11, 1, "roadmark: 41 WrongFormat\n"),
         (23, 63, "roadmark: 42 Damaged page 0\n"),
         (4099, 7, "roadmark: 42 Damaged page 1\n"),
         (12287, 0, "roadmark: 42 Damaged page 2\n"),

@@ -11,6 +11,10 @@ pub const SCRIPT: &str = "SCRIPT";
 
 pub const STORE: &str = "STORE";
 
+pub const OLD: &str = "OLD";
+
+pub const NEW: &str = "NEW";
+
 pub const LANDMARKS: &str = "SS";
 
 pub const COMMANDS: &str = "COMMANDS";
@@ -22,6 +26,8 @@ pub const TARGET: &str = "T";
 pub const DELTA: &str = "delta";
 
 pub const JOURNAL: &str = "journal";
+
+pub const ROOM: &str = "room";
 
 pub const WORKERS: &str = "workers";
 
@@ -51,6 +57,8 @@ pub const CHECK: &str = "check";
 
 pub const SERVE: &str = "serve";
 
+pub const MIGRATE: &str = "migrate";
+
 const ABOUT: &str =
     "Exact least distances in a road network, which may be kept in a store: a file that survives a power cut.
 
@@ -65,13 +73,13 @@ const ABOUT_BATCH: &str =
     "Answers the pairs of the file P2P in the network of the file GR: the line `v 0`, then one line a pair, in their order: `d S T LENGTH`, or `x S T` where no walk leads there.";
 
 const ABOUT_REHEARSE: &str =
-    "Makes a store in memory for the network of the file GR, runs the script of the file SCRIPT on it, and prints the lines of its events: commands, flushes, checkpoints, queries (`dist S T`, `from X T`, `lower S T`), and stops as a power cut makes them. No file is written.";
+    "Makes a store in memory for the network of the file GR, runs the script of the file SCRIPT on it, and prints the lines of its events: commands, groups of them between `begin` and `end`, flushes, checkpoints, queries (`dist S T`, `from X T`, `lower S T`), and stops as a power cut makes them. No file is written.";
 
 const ABOUT_CREATE: &str =
     "Makes a store in the file STORE, which is absent or empty: it holds the network of the file GR with the landmarks of the file SS, at version 0. It prints `ok 0` once the store is there for good.";
 
 const ABOUT_APPLY: &str =
-    "Applies the commands of the file COMMANDS to the store in the file STORE, and prints one line a command, in their order: `ok N`, once the command is version N of the store for good, or `no CODE` where it is refused.";
+    "Applies the commands of the file COMMANDS to the store in the file STORE, and prints one line a group, in their order: `ok N`, once the group is version N of the store for good, or `no CODE` where it is refused. The lines `begin` and `end` enclose the commands of a group, of which all are carried out or none; a command elsewhere is a group of its own.";
 
 const ABOUT_ASK: &str =
     "Answers the pairs of the file P2P in the network of the store in the file STORE, which stays as it is: the line `v V`, V the store's version, then one line a pair, in their order: `d S T LENGTH`, or `x S T` where no walk leads there.";
@@ -82,7 +90,10 @@ const ABOUT_CHECK: &str =
 const ABOUT_SERVE: &str =
     "Serves the store in the file STORE to one client, on standard input and output: it reads a line, carries it out, prints its answer, and then reads the next, until the line `quit` or the end of the input.
 
-`set K W`, `close K`, `reopen K`, `mark X` and `unmark X` change the network: `ok N`, once the command is version N of the store for good, or `no CODE`. `dist S T`, `from X T` and `lower S T` ask: the line `v V`, V the version that is shown, and the answer line, or `no CODE`. `wait` waits until the last command that was accepted is shown: `v V`, from which on answers are of that version or a later one. Empty lines and those that begin with # have no answer; another line has `no 1` or `no 5`.";
+`set K W`, `close K`, `reopen K`, `mark X`, `unmark X` and `lay T H W` change the network: `ok N`, once the command is version N of the store for good, or `no CODE`. The lines `begin` and `end` enclose commands of which all are carried out or none: `end` is answered for all of them. `dist S T`, `from X T` and `lower S T` ask: the line `v V`, V the version that is shown, and the answer line, or `no CODE`. `wait` waits until the last command or group that was accepted is shown: `v V`, from which on answers are of that version or a later one. Empty lines and those that begin with # have no answer; another line has `no 1` or `no 5`.";
+
+const ABOUT_MIGRATE: &str =
+    "Makes a store in the file NEW, which is absent or empty, of the store in the file OLD, which an earlier program made and which stays as it is: it holds the same network at the same version. It prints `ok V`, V the version, once the store is there for good.";
 
 const GR_HELP: &str = "File of the network, a .gr text";
 
@@ -111,6 +122,17 @@ fn journal_option<'w>(alloc: Global) -> Arg<'w> {
         .value_name("J")
         .value_parser(value_parser!(u32).range(1..=i64::from(MOST_JOURNAL_PAGES)))
         .help("Pages of the store's journal, 1 to 65536; 64 where none are given")
+}
+
+/// An option `--room R`.
+fn room_option<'w>(alloc: Global) -> Arg<'w> {
+    Arg::new(alloc, ROOM)
+        .long(ROOM)
+        .value_name("R")
+        .value_parser(value_parser!(u64))
+        .help(
+            "Arcs for which the store has room, those of the network and those that `lay` adds: at most 67108864; as many as the network has where none are given",
+        )
 }
 
 /// An option `--workers W`.
@@ -166,6 +188,7 @@ fn rehearse_command<'w>(alloc: Global) -> Result<Command<'w>, AllocError> {
         .arg(required_word(alloc, NETWORK, GR_HELP))?
         .arg(required_word(alloc, SCRIPT, "File of the script"))?
         .arg(journal_option(alloc))?
+        .arg(room_option(alloc))?
         .arg(delta_option(alloc))
 }
 
@@ -177,7 +200,8 @@ fn create_command<'w>(alloc: Global) -> Result<Command<'w>, AllocError> {
         .arg(required_word(alloc, STORE, "File of the store, absent or empty"))?
         .arg(required_word(alloc, NETWORK, GR_HELP))?
         .arg(required_word(alloc, LANDMARKS, "File of the landmarks, a .ss text"))?
-        .arg(journal_option(alloc))
+        .arg(journal_option(alloc))?
+        .arg(room_option(alloc))
 }
 
 fn apply_command<'w>(alloc: Global) -> Result<Command<'w>, AllocError> {
@@ -218,6 +242,16 @@ fn serve_command<'w>(alloc: Global) -> Result<Command<'w>, AllocError> {
         .arg(delta_option(alloc))
 }
 
+fn migrate_command<'w>(alloc: Global) -> Result<Command<'w>, AllocError> {
+    Command::new(alloc, MIGRATE)
+        .about("Makes a store of one that an earlier program made")
+        .long_about(ABOUT_MIGRATE)
+        .after_help("Example: roadmark migrate examples/old.store new.store --room 10")
+        .arg(required_word(alloc, OLD, "File of the store that is there"))?
+        .arg(required_word(alloc, NEW, "File of the new store, absent or empty"))?
+        .arg(room_option(alloc))
+}
+
 /// The program's words.
 pub fn program<'w>(alloc: Global) -> Result<Command<'w>, AllocError> {
     Command::new(alloc, "roadmark")
@@ -234,5 +268,6 @@ pub fn program<'w>(alloc: Global) -> Result<Command<'w>, AllocError> {
         .subcommand(apply_command(alloc)?)?
         .subcommand(ask_command(alloc)?)?
         .subcommand(check_command(alloc)?)?
-        .subcommand(serve_command(alloc)?)
+        .subcommand(serve_command(alloc)?)?
+        .subcommand(migrate_command(alloc)?)
 }

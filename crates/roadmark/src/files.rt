@@ -128,6 +128,19 @@ pub fn open_store_to_read<R: Files<File = File>>(
     }
 }
 
+/// The file of the store of which another is made, as `open_store_to_read` opens it. A failure names it as the first.
+pub fn open_old_store<R: Files<File = File>>(
+    rt: &R,
+    name: &str,
+) -> Result<FileDisk<SystemFile>, Failed>
+    ensures { IfErr result (λ failed. failed ≡ unopened 0) }
+{
+    match open_to_read(rt, name) {
+        Ok(disk) => Ok(disk),
+        Err(_) => Err(unopened(0)),
+    }
+}
+
 /// The file for a new store, which is made where there is none. It is refused as by `open_store`, with 43 where its name is not made
 /// durable, and with 11 where there is no memory for the name; after a refusal no file is there that was not there before, but where its
 /// lock is refused: then an empty file may stay, which `create` takes again.

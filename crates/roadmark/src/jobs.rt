@@ -3,6 +3,7 @@ ghost use Rattle.std.specs.Prelude.{◌≡◌, IfOk};
 ghost use Rattle.std.specs.Option.{ForSome};
 ghost use Rattle.rows.specs.Kept.{IsWidth};
 ghost use Rattle.roadmark.specs.Words.{IsJournal};
+ghost use Rattle.printing.specs.Widths.{told_width};
 
 use crate::files::{open_text, open_texts, standard_input, standard_output};
 use dimacs::Counted;
@@ -19,7 +20,7 @@ pub fn run_joint<R: AllocGlobal + Clock + Input + Print + Threads>(
     delta: Option<u32>,
 ) -> Result<Done, Failed>
     requires { ForSome delta IsWidth }
-    ensures { IfOk result (λ done. done.delta ≡ delta) }
+    ensures { IfOk result (λ done. told_width done ≡ delta) }
 {
     let mut reader = standard_input(rt)?;
     let mut writer = standard_output(rt)?;
@@ -35,7 +36,7 @@ pub fn run_once<R: AllocGlobal + Clock + Files + Print + Threads>(
     delta: Option<u32>,
 ) -> Result<Done, Failed>
     requires { ForSome delta IsWidth }
-    ensures { IfOk result (λ done. done.delta ≡ delta) }
+    ensures { IfOk result (λ done. told_width done ≡ delta) }
 {
     let mut reader = open_text(rt, 0, network)?;
     let mut writer = standard_output(rt)?;
@@ -60,7 +61,7 @@ pub fn run_batch<R: AllocGlobal + Clock + Files + Print + Threads>(
     delta: Option<u32>,
 ) -> Result<Done, Failed>
     requires { ForSome delta IsWidth }
-    ensures { IfOk result (λ done. done.delta ≡ delta) }
+    ensures { IfOk result (λ done. told_width done ≡ delta) }
 {
     let (mut gr, mut p2p) = open_texts(rt, network, pairs)?;
     let mut writer = standard_output(rt)?;
@@ -70,17 +71,18 @@ pub fn run_batch<R: AllocGlobal + Clock + Files + Print + Threads>(
     batch_counted(rt, rt.alloc(), &mut gr, &mut p2p, delta, &mut writer)
 }
 
-/// The script of a file, on a store in memory for the network of another.
+/// The script of a file, on a store in memory for the network of another, with room for so many arcs.
 pub fn run_rehearse<R: AllocGlobal + Clock + Files + Print + Threads>(
     rt: &R,
     network: &str,
     script: &str,
     journal_pages: u32,
+    room: Option<u64>,
     delta: Option<u32>,
 ) -> Result<Done, Failed>
     requires journal { IsJournal journal_pages }
     requires width { ForSome delta IsWidth }
-    ensures width { IfOk result (λ done. done.delta ≡ delta) }
+    ensures width { IfOk result (λ done. told_width done ≡ delta) }
 {
     let (mut gr, mut script) = open_texts(rt, network, script)?;
     let mut writer = standard_output(rt)?;
@@ -93,6 +95,7 @@ pub fn run_rehearse<R: AllocGlobal + Clock + Files + Print + Threads>(
         &mut gr,
         &mut script,
         journal_pages,
+        room,
         delta,
         &mut writer,
     )

@@ -9,12 +9,13 @@
 //! closed, the next file that is opened takes its number, and what is printed would be written into that file.
 #![tactic(auto)]
 
-ghost use Rattle.std.specs.Prelude.{◌≡◌, ◌≢◌, ◌≤◌, is_ok, if◌then◌else◌, IfOk};
+ghost use Rattle.std.specs.Prelude.{◌≡◌, ◌≢◌, ◌≤◌, Some, is_ok, if◌then◌else◌, IfOk};
 ghost use Rattle.std.specs.Option.{ForSome};
 ghost use Rattle.std.specs.IoError.{error_kind};
 ghost use Rattle.rows.specs.Kept.{IsWidth};
 ghost use Rattle.roadmark.specs.Failures.{text_name};
-ghost use Rattle.roadmark.specs.Words.{IsJournal, IsWorkers, delta_of, journal_of, workers_of};
+ghost use Rattle.roadmark.specs.Words.{IsJournal, IsWorkers, delta_of, journal_of, workers_of, searched_width};
+ghost use Rattle.printing.specs.Widths.{told_width, told_workers};
 
 mod commands;
 mod files;
@@ -42,15 +43,19 @@ use std::rt::{Env, Files};
 use std::sync::Wait;
 use std::thread::Threads;
 use std::time::Clock;
-use store_jobs::{run_apply, run_ask, run_check, run_create};
-pub use storetexts::{apply_text, ask_text, check_text, create_text};
+use store_jobs::{run_apply, run_ask, run_check, run_create, run_migrate};
+pub use storetexts::{apply_text, ask_text, check_text, create_text, migrate_text};
 use streams::{Streams, hold_streams};
 pub use words::{Job, MISUSE, Usage, read_words};
 
 #[cfg(test)]
 mod check_tests;
 #[cfg(test)]
+mod migrate_tests;
+#[cfg(test)]
 mod program_tests;
+#[cfg(test)]
+mod serve_tests;
 #[cfg(test)]
 mod shell;
 #[cfg(test)]
@@ -66,7 +71,8 @@ fn run<
     requires width { ForSome (delta_of job.now) IsWidth }
     requires journal { ForSome (journal_of job.now) IsJournal }
     requires workers { ForSome (workers_of job.now) IsWorkers }
-    ensures width { IfOk result (λ done. done.delta ≡ delta_of job.now) }
+    ensures width { IfOk result (λ done. told_width done ≡ searched_width job.now) }
+    ensures workers { ForSome (workers_of job.now) (λ workers. IfOk result (λ done. told_workers done ≡ Some workers)) }
 {
     match *job {
         Job::Joint { delta } => run_joint(rt, delta),
@@ -85,19 +91,21 @@ fn run<
             network,
             script,
             journal_pages,
+            room,
             delta,
-        } => run_rehearse(rt, network, script, journal_pages, delta),
+        } => run_rehearse(rt, network, script, journal_pages, room, delta),
         Job::Create {
             store,
             network,
             landmarks,
             journal_pages,
-        } => run_create(rt, store, network, landmarks, journal_pages),
+            room,
+        } => run_create(rt, store, network, landmarks, journal_pages, room),
         Job::Apply {
             store,
             commands,
-            delta,
-        } => run_apply(rt, store, commands, delta),
+            delta: _,
+        } => run_apply(rt, store, commands),
         Job::Ask {
             store,
             pairs,
@@ -109,6 +117,7 @@ fn run<
             delta,
             workers,
         } => run_serve(rt, threads, store, delta, workers),
+        Job::Migrate { old, new, room } => run_migrate(rt, old, new, room),
     }
 }
 
@@ -148,6 +157,7 @@ fn text_name<'w>(job: &Job<'w>, failed: &Failed) -> &'w str
         } => { if is_first { commands } else { store } }
         Job::Ask { store, pairs, .. } => { if is_first { pairs } else { store } }
         Job::Check { store } | Job::Serve { store, .. } => store,
+        Job::Migrate { old, new, .. } => { if is_first { old } else { new } }
     }
 }
 

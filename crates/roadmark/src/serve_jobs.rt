@@ -1,11 +1,12 @@
 //! The session of the program, on standard input and output.
-ghost use Rattle.std.specs.Prelude.{◌≡◌, ◌⊎◌, ◌↔◌, true, IfOk, IfErr, IfSome};
+ghost use Rattle.std.specs.Prelude.{◌≡◌, ◌⊎◌, ◌↔◌, true, Some, IfOk, IfErr, IfSome};
 ghost use Rattle.std.specs.Option.{ForSome};
 ghost use Rattle.roadnet.specs.declared.refusals.Refusal.TheVariants.{Closed as closed};
 ghost use Rattle.rows.specs.Kept.{IsWidth};
 ghost use Rattle.dimacs.specs.Counts.{failed_calls, reader_of};
 ghost use Rattle.printing.specs.Counting.{failed_writes, writer_of};
 ghost use Rattle.printing.specs.Failing.{CountsWrites};
+ghost use Rattle.printing.specs.Widths.{told_width, told_workers};
 ghost use Rattle.disk.specs.Contents.{AreAmong};
 ghost use Rattle.store.specs.State.{CameTidy, StandsAt, is_calm};
 ghost use Rattle.office.specs.Left.{KeepsDesk};
@@ -35,8 +36,8 @@ use store::{Store, open};
 
 /// The gate of a session's desk. It holds nothing up, and tells on standard error of a builder that ended.
 #[derive(Drop)]
-struct Teller<T: Eprint + Copy> {
-    rt: T,
+pub struct Teller<T: Eprint + Copy> {
+    pub rt: T,
 }
 
 impl<T: Eprint + Copy> Gate for Teller<T> {
@@ -62,6 +63,17 @@ impl<T: Eprint + Copy> Gate for Teller<T> {
     }
 }
 
+/// What a session leaves.
+#[derive(Drop)]
+pub struct Ended<D: Disk> {
+    /// What it came to.
+    pub outcome: Result<(), Failed>,
+    /// What is left of its desk.
+    pub closed: Closed<D>,
+    /// How the desk built its views.
+    pub done: Done,
+}
+
 /// A session over an opened store: what it came to, and what is left of its desk, which is closed after it however it ended. Once nothing
 /// more is written the file's lock is let go: the desk's last view is built behind that.
 ///
@@ -70,7 +82,8 @@ impl<T: Eprint + Copy> Gate for Teller<T> {
 fn serve_store<
     N: Naming + Send + Sync + 'static,
     D: Disk + Drop + Send + 'static,
-    T: Threads + Wait + Clock + Eprint + Copy + Send + Sync + 'static,
+    G: Gate + Drop + Send + Sync + 'static,
+    T: Threads + Wait + Clock + Copy + Send + Sync + 'static,
     I: BufRead,
     W: Write,
 >(
@@ -78,11 +91,12 @@ fn serve_store<
     alloc: Global,
     history: History,
     store: Store<D>,
+    gate: G,
     setup: Setup,
     lock: Option<FileLock>,
     reader: &mut Counted<'_, I>,
     writer: &mut CountedWriter<'_, W>,
-) -> Result<(Result<(), Failed>, Closed<D>), Refusal>
+) -> Result<Ended<D>, Refusal>
     requires calm { is_calm store ≡ true }
     requires width { ForSome setup.delta IsWidth }
     requires workers { IsWorkers setup.workers }
@@ -90,60 +104,72 @@ fn serve_store<
     requires came_tidy { N.came_tidy ↔ CameTidy D.honest D.content store.given }
     // The lines were answered in their order. Whatever a stop leaves of the closed desk: each command that was told to be durable has its number in it,
     // and it begins with all commands after which a query was answered.
-    ensures answered { IfOk result (λ ended. IfSome (I.remaining (reader_of reader.old)) (λ text. Serves N.origin text (I.remaining (reader_of reader.new)) (W.contents (writer_of writer.old)) (W.contents (writer_of writer.new)) (IsKept ended.1.whole ended.1.shown) ended.0)) }
-    ensures reads { IfOk result (λ ended. CountsRead (failed_calls reader.old) (failed_calls reader.new) ended.0) }
-    ensures writes { IfOk result (λ ended. CountsWrites (failed_writes writer.old) (failed_writes writer.new) ended.0) }
-    ensures origin { IfOk result (λ ended. ended.1.whole.origin ≡ N.origin) }
+    ensures answered { IfOk result (λ ended. IfSome (I.remaining (reader_of reader.old)) (λ text. Serves N.origin text (I.remaining (reader_of reader.new)) (W.contents (writer_of writer.old)) (W.contents (writer_of writer.new)) (IsKept ended.closed.whole ended.closed.shown) ended.outcome)) }
+    // The desk's views were built by the setup.
+    ensures width { IfOk result (λ ended. told_width ended.done ≡ setup.delta) }
+    ensures workers { IfOk result (λ ended. told_workers ended.done ≡ Some setup.workers) }
+    ensures reads { IfOk result (λ ended. CountsRead (failed_calls reader.old) (failed_calls reader.new) ended.outcome) }
+    ensures writes { IfOk result (λ ended. CountsWrites (failed_writes writer.old) (failed_writes writer.new) ended.outcome) }
+    ensures origin { IfOk result (λ ended. ended.closed.whole.origin ≡ N.origin) }
     // Where the store came tidy, the disk keeps the disk model, and what a stop may leave of it stands for the network after a beginning of the history, with all that was
     // acknowledged or shown.
-    ensures honest { CameTidy D.honest D.content store.given → IfOk result (λ ended. D.honest ended.1.disk) }
-    ensures left { CameTidy D.honest D.content store.given → IfOk result (λ ended. AreAmong (D.left ended.1.disk) (KeepsDesk ended.1.whole ended.1.shown ended.1.journal_pages)) }
+    ensures honest { CameTidy D.honest D.content store.given → IfOk result (λ ended. D.honest ended.closed.disk) }
+    ensures left { CameTidy D.honest D.content store.given → IfOk result (λ ended. AreAmong (D.left ended.closed.disk) (KeepsDesk ended.closed.whole ended.closed.shown ended.closed.journal_pages)) }
     ensures causes { IfErr result (λ refusal. IsUnstarted refusal ⊎ (refusal ≡ closed)) }
 {
-    let gate = Teller { rt: threads };
-    let desk: Desk<N, D, Teller<T>, T> = Desk::start(threads, alloc, history, store, gate, setup)?;
+    let desk: Desk<N, D, G, T> = Desk::start(threads, alloc, history, store, gate, setup)?;
     let (outcome, session) = serve(&threads, alloc, &desk, reader, writer);
+    let done = Done::by(&desk);
     desk.end_writing();
-    if let Some(lock) = lock {
+    if let Some(mut lock) = lock {
         let _ = lock.let_go();
     }
     let closed = desk.close()?;
     if !session.is_kept(&closed) {
         return Err(Refusal::Closed);
     }
-    Ok((outcome, closed))
+    Ok(Ended {
+        outcome,
+        closed,
+        done,
+    })
 }
 
 /// A session over the store of a disk: what it came to, and what is left of its desk, which is closed after it however it ended.
 ///
 /// Refused is a store that can't be opened (11, 40 to 43), then what no desk is started for.
-fn serve_disk<
+pub fn serve_disk<
     D: Disk + Drop + Send + 'static,
-    T: Threads + Wait + Clock + Eprint + Copy + Send + Sync + 'static,
+    G: Gate + Drop + Send + Sync + 'static,
+    T: Threads + Wait + Clock + Copy + Send + Sync + 'static,
     I: BufRead,
     W: Write,
 >(
     threads: T,
     alloc: Global,
     disk: D,
+    gate: G,
     setup: Setup,
     lock: Option<FileLock>,
     reader: &mut Counted<'_, I>,
     writer: &mut CountedWriter<'_, W>,
-) -> Result<(Result<(), Failed>, Closed<D>), Refusal>
+) -> Result<Ended<D>, Refusal>
     requires width { ForSome setup.delta IsWidth }
     requires workers { IsWorkers setup.workers }
-    ensures reads { IfOk result (λ ended. CountsRead (failed_calls reader.old) (failed_calls reader.new) ended.0) }
-    ensures writes { IfOk result (λ ended. CountsWrites (failed_writes writer.old) (failed_writes writer.new) ended.0) }
+    // The desk's views were built by the setup.
+    ensures width { IfOk result (λ ended. told_width ended.done ≡ setup.delta) }
+    ensures workers { IfOk result (λ ended. told_workers ended.done ≡ Some setup.workers) }
+    ensures reads { IfOk result (λ ended. CountsRead (failed_calls reader.old) (failed_calls reader.new) ended.outcome) }
+    ensures writes { IfOk result (λ ended. CountsWrites (failed_writes writer.old) (failed_writes writer.new) ended.outcome) }
     // The lines were answered in their order, and what they were told is kept: each command that was told to be durable has its number in whatever a stop
     // leaves of the closed desk, which begins with all commands after which a query was answered.
-    ensures answered { IfOk result (λ ended. IfSome (I.remaining (reader_of reader.old)) (λ text. Serves ended.1.whole.origin text (I.remaining (reader_of reader.new)) (W.contents (writer_of writer.old)) (W.contents (writer_of writer.new)) (IsKept ended.1.whole ended.1.shown) ended.0)) }
+    ensures answered { IfOk result (λ ended. IfSome (I.remaining (reader_of reader.old)) (λ text. Serves ended.closed.whole.origin text (I.remaining (reader_of reader.new)) (W.contents (writer_of writer.old)) (W.contents (writer_of writer.new)) (IsKept ended.closed.whole ended.closed.shown) ended.outcome)) }
     // The history is of the network and version that the disk's content stood for.
-    ensures opened { D.honest disk → IfOk result (λ ended. StandsAt (D.content disk) ended.1.whole.origin.base ended.1.whole.origin.version) }
+    ensures opened { D.honest disk → IfOk result (λ ended. StandsAt (D.content disk) ended.closed.whole.origin.base ended.closed.whole.origin.version) }
     // Where that content was tidy, the closed disk keeps the disk model, and what a stop may leave of it stands for the network after a beginning of the history, with all
     // that was acknowledged or shown.
-    ensures honest { CameTidy D.honest D.content disk → IfOk result (λ ended. D.honest ended.1.disk) }
-    ensures left { CameTidy D.honest D.content disk → IfOk result (λ ended. AreAmong (D.left ended.1.disk) (KeepsDesk ended.1.whole ended.1.shown ended.1.journal_pages)) }
+    ensures honest { CameTidy D.honest D.content disk → IfOk result (λ ended. D.honest ended.closed.disk) }
+    ensures left { CameTidy D.honest D.content disk → IfOk result (λ ended. AreAmong (D.left ended.closed.disk) (KeepsDesk ended.closed.whole ended.closed.shown ended.closed.journal_pages)) }
     ensures refused { IfErr result (λ refusal. IsUnopened (D.honest disk) (D.content disk) refusal ⊎ (IsUnstarted refusal ⊎ (refusal ≡ closed))) }
 {
     let store = match open(alloc, disk) {
@@ -151,7 +177,9 @@ fn serve_disk<
         Err((refusal, _)) => return Err(refusal),
     };
     let history = History::new(store.network(), store.version());
-    serve_store::<Brand, _, _, _, _>(threads, alloc, history, store, setup, lock, reader, writer)
+    serve_store::<Brand, _, _, _, _, _>(
+        threads, alloc, history, store, gate, setup, lock, reader, writer,
+    )
 }
 
 /// A session over the store of a file, which nobody else has while it may be written.
@@ -161,7 +189,8 @@ pub fn run_serve<
 >(rt: &R, threads: T, store: &str, delta: Option<u32>, workers: u32) -> Result<Done, Failed>
     requires width { ForSome delta IsWidth }
     requires workers { IsWorkers workers }
-    ensures { IfOk result (λ done. done.delta ≡ delta) }
+    ensures width { IfOk result (λ done. told_width done ≡ delta) }
+    ensures workers { IfOk result (λ done. told_workers done ≡ Some workers) }
 {
     let disk = open_store(rt, store)?;
     let lock = disk.lock().ok();
@@ -169,18 +198,32 @@ pub fn run_serve<
     let mut writer = standard_output(rt)?;
     let mut reader = Counted::new(&mut reader);
     let mut writer = CountedWriter::new(&mut writer);
+    let gate = Teller { rt: threads };
     let setup = Setup { delta, workers };
     match serve_disk(
         threads,
         rt.alloc(),
         disk,
+        gate,
         setup,
         lock,
         &mut reader,
         &mut writer,
     ) {
-        Ok((Ok(()), _closed)) => Ok(Done { delta }),
-        Ok((Err(failed), _closed)) => Err(failed),
+        Ok(
+            Ended {
+                outcome: Ok(()),
+                closed: _,
+                done,
+            },
+        ) => Ok(done),
+        Ok(
+            Ended {
+                outcome: Err(failed),
+                closed: _,
+                done: _,
+            },
+        ) => Err(failed),
         Err(refusal) => Err(Failed::Code(refusal)),
     }
 }

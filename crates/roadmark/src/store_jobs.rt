@@ -5,9 +5,11 @@ ghost use Rattle.rows.specs.Kept.{IsWidth};
 ghost use Rattle.std.specs.Bool.{Decides};
 ghost use Rattle.roadmark.specs.Failures.{IsStoreMade, IsToldAfterOpening};
 ghost use Rattle.roadmark.specs.Words.{IsJournal};
+ghost use Rattle.printing.specs.Widths.{told_width};
 
 use crate::files::{
-    create_store_file, open_store, open_store_to_read, open_text, open_texts, standard_output,
+    create_store_file, open_old_store, open_store, open_store_to_read, open_text, open_texts,
+    standard_output,
 };
 use dimacs::Counted;
 use disk::Disk;
@@ -20,7 +22,9 @@ use std::rt::Files;
 use std::thread::Threads;
 use std::time::Clock;
 use store::open;
-use storetexts::{apply_counted, ask_counted, check_counted, create_store, read_planned};
+use storetexts::{
+    apply_counted, ask_counted, check_counted, create_store, migrate_counted, read_planned,
+};
 
 /// Whether a store that was to be made is there: all was done, or only its line could not be told.
 fn is_store_made(outcome: &Result<(), Failed>) -> bool
@@ -32,22 +36,23 @@ fn is_store_made(outcome: &Result<(), Failed>) -> bool
     }
 }
 
-/// A new store in a file, for the network of another with the landmarks of a third. Both texts are read whole before the store's file is
-/// opened or made. A file that was made and holds no store in the end is removed, while it is still locked.
+/// A new store in a file, for the network of another with the landmarks of a third, with room for so many arcs. Both texts are read whole
+/// before the store's file is opened or made. A file that was made and holds no store in the end is removed, while it is still locked.
 pub fn run_create<R: AllocGlobal + Clock + Files<File = File> + Print>(
     rt: &R,
     store: &str,
     network: &str,
     landmarks: &str,
     journal_pages: u32,
+    room: Option<u64>,
 ) -> Result<Done, Failed>
     requires { IsJournal journal_pages }
-    ensures { IfOk result (λ done. done.delta ≡ None) }
+    ensures { IfOk result (λ done. told_width done ≡ None) }
 {
     let (mut gr, mut ss) = open_texts(rt, network, landmarks)?;
     let mut gr = Counted::new(&mut gr);
     let mut ss = Counted::new(&mut ss);
-    let network = read_planned(rt.alloc(), &mut gr, &mut ss)?;
+    let network = read_planned(rt.alloc(), &mut gr, &mut ss, room)?;
     let mut writer = standard_output(rt)?;
     let mut writer = CountedWriter::new(&mut writer);
     let NewFile { disk, made } = create_store_file(rt, store)?;
@@ -58,7 +63,31 @@ pub fn run_create<R: AllocGlobal + Clock + Files<File = File> + Print>(
         let _ = made.remove(rt, &locked);
     }
     outcome?;
-    Ok(Done { delta: None })
+    Ok(Done::without_search())
+}
+
+/// A new store in a file, of the store of another, which is read alone and stays as it is, with room for so many arcs. A file that was made and
+/// holds no store in the end is removed, while it is still locked.
+pub fn run_migrate<R: AllocGlobal + Clock + Files<File = File> + Print>(
+    rt: &R,
+    old: &str,
+    new: &str,
+    room: Option<u64>,
+) -> Result<Done, Failed>
+    ensures { IfOk result (λ done. told_width done ≡ None) }
+{
+    let mut old = open_old_store(rt, old)?;
+    let mut writer = standard_output(rt)?;
+    let mut writer = CountedWriter::new(&mut writer);
+    let NewFile { disk, made } = create_store_file(rt, new)?;
+    let (outcome, locked) = migrate_counted(rt.alloc(), &mut old, disk, room, &mut writer);
+    if let Some(made) = made
+        && !is_store_made(&outcome)
+    {
+        let _ = made.remove(rt, &locked);
+    }
+    outcome?;
+    Ok(Done::without_search())
 }
 
 /// The failure of a text that is read for a store: a refusal of the store is told before it.
@@ -71,16 +100,14 @@ fn after_opening<D: Disk + Drop>(alloc: Global, disk: D, failed: Failed) -> Fail
     }
 }
 
-/// The commands of a file, on the store of another. A fault of the store is told before one of the commands. No row is computed, so the
-/// width is one that nothing searches by.
+/// The groups of commands of a file, on the store of another. A fault of the store is told before one of the commands. No row is computed, so no
+/// width is asked for.
 pub fn run_apply<R: AllocGlobal + Clock + Files<File = File> + Print>(
     rt: &R,
     store: &str,
     commands: &str,
-    delta: Option<u32>,
 ) -> Result<Done, Failed>
-    requires { ForSome delta IsWidth }
-    ensures { IfOk result (λ done. done.delta ≡ delta) }
+    ensures { IfOk result (λ done. told_width done ≡ None) }
 {
     let disk = open_store(rt, store)?;
     let mut commands = match open_text(rt, 0, commands) {
@@ -92,7 +119,7 @@ pub fn run_apply<R: AllocGlobal + Clock + Files<File = File> + Print>(
     let mut writer = CountedWriter::new(&mut writer);
     let (outcome, _disk) = apply_counted(rt.alloc(), disk, &mut commands, &mut writer);
     outcome?;
-    Ok(Done { delta })
+    Ok(Done::without_search())
 }
 
 /// The pairs of a file in the network of a store, which is read alone and stays as it is. A fault of the store is told before one of the
@@ -104,7 +131,7 @@ pub fn run_ask<R: AllocGlobal + Clock + Files<File = File> + Print + Threads>(
     delta: Option<u32>,
 ) -> Result<Done, Failed>
     requires { ForSome delta IsWidth }
-    ensures { IfOk result (λ done. done.delta ≡ delta) }
+    ensures { IfOk result (λ done. told_width done ≡ delta) }
 {
     let disk = open_store_to_read(rt, store)?;
     let mut p2p = match open_text(rt, 0, pairs) {
@@ -123,12 +150,12 @@ pub fn run_check<R: AllocGlobal + Clock + Files<File = File> + Print>(
     rt: &R,
     store: &str,
 ) -> Result<Done, Failed>
-    ensures { IfOk result (λ done. done.delta ≡ None) }
+    ensures { IfOk result (λ done. told_width done ≡ None) }
 {
     let disk = open_store_to_read(rt, store)?;
     let mut writer = standard_output(rt)?;
     let mut writer = CountedWriter::new(&mut writer);
     let (outcome, _disk) = check_counted(rt.alloc(), disk, &mut writer);
     outcome?;
-    Ok(Done { delta: None })
+    Ok(Done::without_search())
 }

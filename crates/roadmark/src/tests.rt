@@ -23,7 +23,7 @@ fn usage_of<R: Abort + AllocGlobal>(rt: &R, words: &str) -> Result<Usage, Fail> 
 }
 
 /// Words with the job for which they ask.
-const JOBS: [(&str, Job<'static>); 15] = [
+const JOBS: [(&str, Job<'static>); 19] = [
     (
         "roadmark once a.gr 1 18446744073709551615",
         Job::Once {
@@ -55,6 +55,7 @@ const JOBS: [(&str, Job<'static>); 15] = [
             network: "a.gr",
             script: "c",
             journal_pages: 64,
+            room: None,
             delta: None,
         },
     ),
@@ -64,7 +65,18 @@ const JOBS: [(&str, Job<'static>); 15] = [
             network: "a.gr",
             script: "c",
             journal_pages: 1,
+            room: None,
             delta: Some(5),
+        },
+    ),
+    (
+        "roadmark rehearse --room=18446744073709551615 a.gr c",
+        Job::Rehearse {
+            network: "a.gr",
+            script: "c",
+            journal_pages: 64,
+            room: Some(u64::MAX),
+            delta: None,
         },
     ),
     ("roadmark", Job::Joint { delta: None }),
@@ -77,6 +89,7 @@ const JOBS: [(&str, Job<'static>); 15] = [
             network: "a.gr",
             landmarks: "b.ss",
             journal_pages: 64,
+            room: None,
         },
     ),
     (
@@ -86,6 +99,33 @@ const JOBS: [(&str, Job<'static>); 15] = [
             network: "a.gr",
             landmarks: "b.ss",
             journal_pages: 65536,
+            room: None,
+        },
+    ),
+    (
+        "roadmark create s a.gr b.ss --room 9",
+        Job::Create {
+            store: "s",
+            network: "a.gr",
+            landmarks: "b.ss",
+            journal_pages: 64,
+            room: Some(9),
+        },
+    ),
+    (
+        "roadmark migrate s t",
+        Job::Migrate {
+            old: "s",
+            new: "t",
+            room: None,
+        },
+    ),
+    (
+        "roadmark migrate --room 0 s t",
+        Job::Migrate {
+            old: "s",
+            new: "t",
+            room: Some(0),
         },
     ),
     (
@@ -163,6 +203,19 @@ fn misuses_of_words(rt: HostRuntime) -> Result<(), Fail> {
         "roadmark check",
         "roadmark check s t",
         "roadmark check s --delta 3",
+        "roadmark migrate s",
+        "roadmark migrate s t u",
+        "roadmark migrate s t --journal 3",
+        "roadmark create s a.gr b.ss --room 18446744073709551616",
+        "roadmark apply s d --room 3",
+        "roadmark ask s b.p2p --room 3",
+        "roadmark --room 3",
+        "roadmark once a.gr 1 2 --room 3",
+        "roadmark batch a.gr b.p2p --room 3",
+        "roadmark check s --room 3",
+        "roadmark serve s --room 3",
+        "roadmark migrate s t --delta 3",
+        "roadmark migrate s t --workers 2",
         "roadmark --journal 3",
         "roadmark once a.gr 1 2 --journal 3",
         "roadmark batch a.gr b.p2p --journal 3",
@@ -199,15 +252,18 @@ fn has_help<R: Abort + AllocGlobal>(rt: &R, words: &str, parts: &str) -> Result<
 /// Each help tells what its word does, its arguments and an example.
 #[test]
 fn help_of_words(rt: HostRuntime) -> Result<(), Fail> {
-    let words = "once|batch|rehearse|create|apply|ask|check|serve|--delta <D>|Example: roadmark <";
+    let words =
+        "once|batch|rehearse|create|apply|ask|check|serve|migrate|--delta <D>|Example: roadmark <";
     let once = "least length|<GR>|<S>|<T>|--delta <D>|Example: roadmark once";
     let batch = "pairs|<GR>|<P2P>|--delta <D>|Example: roadmark batch";
-    let rehearse = "script|<GR>|<SCRIPT>|--journal <J>|--delta <D>|Example: roadmark rehearse";
-    let create = "landmarks|<STORE>|<GR>|<SS>|--journal <J>|Example: roadmark create";
+    let rehearse =
+        "script|<GR>|<SCRIPT>|--journal <J>|--room <R>|--delta <D>|Example: roadmark rehearse";
+    let create = "landmarks|<STORE>|<GR>|<SS>|--journal <J>|--room <R>|Example: roadmark create";
     let apply =
         "commands|<STORE>|<COMMANDS>|--delta <D>|Taken and not used|Example: roadmark apply";
     let ask = "pairs|<STORE>|<P2P>|--delta <D>|Example: roadmark ask";
     let check = "<STORE>|journal U|Example: roadmark check";
+    let migrate = "<OLD>|<NEW>|--room <R>|Example: roadmark migrate";
     let serve = "standard input|<STORE>|--workers <W>|--delta <D>|Example: printf";
     let table = [
         ("roadmark --help", words),
@@ -219,6 +275,7 @@ fn help_of_words(rt: HostRuntime) -> Result<(), Fail> {
         ("roadmark help ask", ask),
         ("roadmark check --help", check),
         ("roadmark serve --help", serve),
+        ("roadmark migrate --help", migrate),
         ("roadmark once -h", "<GR>|Example"),
         ("roadmark --version", "roadmark 0.1.0"),
     ];

@@ -4,12 +4,12 @@ ghost use Rattle.std.specs.Option.{ForSome};
 ghost use lib.Chars.{codes};
 ghost use Rattle.clap.specs.Words.{found_of, kind_of, subcommand_name_of};
 ghost use Rattle.rows.specs.Kept.{IsWidth};
-ghost use Rattle.roadmark.specs.Words.{delta_of, journal_of, workers_of, subcommand_of, HasFitNumbers, Gives, GivesOnce, GivesBatch, GivesRehearse, GivesCreate, GivesApply, GivesAsk, GivesCheck, GivesServe, GivesJoint, GivesJournal, GivesWorkers, IsJournal, IsWorkers, IsLong, IsUsage};
+ghost use Rattle.roadmark.specs.Words.{delta_of, journal_of, workers_of, subcommand_of, HasFitNumbers, Gives, GivesOnce, GivesBatch, GivesRehearse, GivesCreate, GivesApply, GivesAsk, GivesCheck, GivesServe, GivesMigrate, GivesJoint, GivesJournal, GivesWorkers, IsJournal, IsWorkers, IsLong, IsUsage};
 
 use crate::commands::{
-    APPLY, ASK, BATCH, CHECK, COMMANDS, CREATE, DELTA, JOURNAL, LANDMARKS, MOST_JOURNAL_PAGES,
-    MOST_WIDTH, MOST_WORKERS, NETWORK, ONCE, PAIRS, REHEARSE, SCRIPT, SERVE, SOURCE, STORE, TARGET,
-    WORKERS, program,
+    APPLY, ASK, BATCH, CHECK, COMMANDS, CREATE, DELTA, JOURNAL, LANDMARKS, MIGRATE,
+    MOST_JOURNAL_PAGES, MOST_WIDTH, MOST_WORKERS, NETWORK, NEW, OLD, ONCE, PAIRS, REHEARSE, ROOM,
+    SCRIPT, SERVE, SOURCE, STORE, TARGET, WORKERS, program,
 };
 use clap::error::ErrorKind;
 use clap::{ArgMatches, Error};
@@ -41,6 +41,7 @@ pub enum Job<'w> {
         network: &'w str,
         script: &'w str,
         journal_pages: u32,
+        room: Option<u64>,
         delta: Option<u32>,
     },
     /// A new store, for the network of one file with the landmarks of another.
@@ -49,6 +50,7 @@ pub enum Job<'w> {
         network: &'w str,
         landmarks: &'w str,
         journal_pages: u32,
+        room: Option<u64>,
     },
     /// The commands of a file, on a store.
     Apply {
@@ -71,6 +73,12 @@ pub enum Job<'w> {
         store: &'w str,
         delta: Option<u32>,
         workers: u32,
+    },
+    /// A new store, of the store of another file.
+    Migrate {
+        old: &'w str,
+        new: &'w str,
+        room: Option<u64>,
     },
 }
 
@@ -153,8 +161,8 @@ fn workers_in(matches: &ArgMatches<'_>) -> u32
     }
 }
 
-/// The node's number that the word of this name gives.
-fn node_in(matches: &ArgMatches<'_>, name: &str) -> Option<u64>
+/// The number that the word of this name gives, of 64 bits.
+fn number_in(matches: &ArgMatches<'_>, name: &str) -> Option<u64>
     ensures { Gives (found_of matches.now) name.now IsLong result }
 {
     matches.get_one::<u64>(name)
@@ -165,8 +173,8 @@ fn once_in<'w>(matches: &ArgMatches<'w>) -> Option<Job<'w>>
     ensures given { GivesOnce (found_of matches.now) result }
 {
     let network = matches.get_str(NETWORK)?;
-    let source = node_in(matches, SOURCE)?;
-    let target = node_in(matches, TARGET)?;
+    let source = number_in(matches, SOURCE)?;
+    let target = number_in(matches, TARGET)?;
     Some(Job::Once {
         network,
         source,
@@ -198,6 +206,7 @@ fn rehearse_in<'w>(matches: &ArgMatches<'w>) -> Option<Job<'w>>
         network,
         script,
         journal_pages: journal_in(matches),
+        room: number_in(matches, ROOM),
         delta: width_in(matches),
     })
 }
@@ -214,6 +223,7 @@ fn create_in<'w>(matches: &ArgMatches<'w>) -> Option<Job<'w>>
         network,
         landmarks,
         journal_pages: journal_in(matches),
+        room: number_in(matches, ROOM),
     })
 }
 
@@ -263,6 +273,19 @@ fn serve_in<'w>(matches: &ArgMatches<'w>) -> Option<Job<'w>>
     })
 }
 
+fn migrate_in<'w>(matches: &ArgMatches<'w>) -> Option<Job<'w>>
+    ensures numbers { ForSome result HasFitNumbers }
+    ensures given { GivesMigrate (found_of matches.now) result }
+{
+    let old = matches.get_str(OLD)?;
+    let new = matches.get_str(NEW)?;
+    Some(Job::Migrate {
+        old,
+        new,
+        room: number_in(matches, ROOM),
+    })
+}
+
 /// The job that was matched.
 fn job_in<'w>(matches: &ArgMatches<'w>) -> Option<Job<'w>>
     ensures numbers { ForSome result HasFitNumbers }
@@ -282,6 +305,7 @@ fn job_in<'w>(matches: &ArgMatches<'w>) -> Option<Job<'w>>
         Some((ASK, inner)) => ask_in(inner),
         Some((CHECK, inner)) => check_in(inner),
         Some((SERVE, inner)) => serve_in(inner),
+        Some((MIGRATE, inner)) => migrate_in(inner),
         Some(_) => None,
     }
 }

@@ -1,10 +1,10 @@
 -- The definitions at a small network, whose values were worked out by hand.
-use Rattle.std.proofs.Common.{◌≡◌, ℕ, true, [], ◌∷◌, Some, None, refl, lit≤}
+use Rattle.std.proofs.Common.{◌≡◌, ℕ, true, [], ◌∷◌, ◌++◌, Some, None, refl, lit≤}
 use Rattle.roadnet.specs.declared.arcs.RoadArc.{RoadArc}
-use Rattle.roadnet.specs.declared.commands.Command.TheVariants.{Set, Close, Reopen, Mark, Unmark}
-use Rattle.roadnet.specs.declared.refusals.Refusal.TheVariants.{NumberRange, NoSuchArc, LengthRange, AlreadyClosed, AlreadyOpen, NoSuchNode, AlreadyLandmark, NotALandmark}
+use Rattle.roadnet.specs.declared.commands.Command.TheVariants.{Set, Close, Reopen, Mark, Unmark, Lay}
+use Rattle.roadnet.specs.declared.refusals.Refusal.TheVariants.{NumberRange, NoSuchArc, LengthRange, AlreadyClosed, AlreadyOpen, NoSuchNode, AlreadyLandmark, NotALandmark, NoRoom}
 use Rattle.roadnet.specs.Net.{Net}
-use Rattle.roadnet.specs.Step.{refusal_of, after, first_refusal}
+use Rattle.roadnet.specs.Step.{refusal_of, step_group, after, first_refusal}
 use Rattle.roadnet.specs.Batches.{changed_by}
 use Rattle.roadnet.specs.Made.{flaw_of}
 use Rattle.roadnet.specs.Walks.{Walk, length_of}
@@ -18,6 +18,7 @@ six = record {
   arcs =
       open_arc 1 2 17 ∷ open_arc 1 3 10 ∷ open_arc 2 4 2 ∷ open_arc 3 5 0 ∷ open_arc 4 3 0 ∷ open_arc 4 6 3 ∷ open_arc 5 2 0 ∷ open_arc 5 6 20 ∷ [];
   landmarks = [];
+  room = 8;
 }
 
 no_such_arc : refusal_of six (Set 9 1) ≡ Some NoSuchArc
@@ -41,17 +42,17 @@ open_already = refl
 no_arc_zero : refusal_of six (Close 0) ≡ Some NoSuchArc
 no_arc_zero = refl
 
-closed_twice : after six (Close 7 ∷ Close 7 ∷ []) ≡ None
+closed_twice : step_group six (Close 7 ∷ Close 7 ∷ []) ≡ None
 closed_twice = refl
 
 -- a closed arc keeps its length, and may get another
-reopened : after six (Close 7 ∷ Reopen 7 ∷ []) ≡ Some six
+reopened : step_group six (Close 7 ∷ Reopen 7 ∷ []) ≡ Some six
 reopened = refl
 
-set_while_closed : after six (Close 7 ∷ Set 7 4 ∷ Set 7 0 ∷ Reopen 7 ∷ []) ≡ Some six
+set_while_closed : step_group six (Close 7 ∷ Set 7 4 ∷ Set 7 0 ∷ Reopen 7 ∷ []) ≡ Some six
 set_while_closed = refl
 
-landmarks_ascend : after six (Mark 4 ∷ Mark 2 ∷ Mark 6 ∷ Unmark 4 ∷ Mark 3 ∷ []) ≡ Some (record six { landmarks = 2 ∷ 3 ∷ 6 ∷ [] })
+landmarks_ascend : step_group six (Mark 4 ∷ Mark 2 ∷ Mark 6 ∷ Unmark 4 ∷ Mark 3 ∷ []) ≡ Some (record six { landmarks = 2 ∷ 3 ∷ 6 ∷ [] })
 landmarks_ascend = refl
 
 marked_twice : refusal_of (record six { landmarks = 3 ∷ [] }) (Mark 3) ≡ Some AlreadyLandmark
@@ -66,6 +67,32 @@ none_refused = refl
 
 unmarked_and_marked : (changed_by six (Mark 4 ∷ Mark 2 ∷ Unmark 4 ∷ [])).landmarks ≡ 2 ∷ []
 unmarked_and_marked = refl
+
+-- an arc is laid where there is room, behind the others
+abbrev roomy : Net
+roomy = record six { room = 10 }
+
+no_room : refusal_of six (Lay 6 1 7) ≡ Some NoRoom
+no_room = refl
+
+long_before_node : refusal_of six (Lay 7 1 2147483648) ≡ Some LengthRange
+long_before_node = refl
+
+node_before_room : refusal_of six (Lay 7 1 1) ≡ Some NoSuchNode
+node_before_room = refl
+
+laid_and_closed : step_group roomy (Lay 6 1 7 ∷ Close 9 ∷ Lay 1 6 14 ∷ Reopen 9 ∷ []) ≡ Some (record roomy { arcs = roomy.arcs ++ open_arc 6 1 7 ∷ open_arc 1 6 14 ∷ [] })
+laid_and_closed = refl
+
+third_refused : first_refusal roomy (Lay 6 1 7 ∷ Lay 1 6 14 ∷ Lay 2 2 0 ∷ []) ≡ Some NoRoom
+third_refused = refl
+
+-- groups, each all or none
+two_groups : after six ((Close 7 ∷ Set 8 4 ∷ []) ∷ (Reopen 7 ∷ Set 8 20 ∷ []) ∷ []) ≡ Some six
+two_groups = refl
+
+second_group_refused : after six ((Close 7 ∷ []) ∷ (Reopen 7 ∷ Reopen 7 ∷ []) ∷ []) ≡ None
+second_group_refused = refl
 
 walked : Walk six 1 6 (2 ∷ 4 ∷ 7 ∷ 3 ∷ 6 ∷ [])
 walked = (_, refl, refl, refl, (_, refl, refl, refl, (_, refl, refl, refl, (_, refl, refl, refl, (_, refl, refl, refl, ((lit≤ tt, lit≤ tt), refl))))))

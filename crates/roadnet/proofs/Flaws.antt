@@ -1,5 +1,5 @@
 -- Which refusal the parts of a network get, from the tests one after another.
-use Rattle.std.proofs.Common.{◌⊎◌, inl, inr, not, ◌&&◌, ◌||◌, true≢false, ◌≡◌, ◌∙◌, ℕ, ◌<◌, ◌≤◌, Bool, true, false, List, Some, None, length, get_or, refl, ap, sym, arith, ltb, ⊎_elim}
+use Rattle.std.proofs.Common.{◌⊎◌, inl, inr, not, ◌&&◌, ◌||◌, true≢false, ◌≡◌, ◌∙◌, ℕ, ◌<◌, ◌≤◌, Bool, true, false, List, Some, None, length, get_or, refl, ap, sym, arith, ltb, le_refl, ⊎_elim}
 use Rattle.std.specs.List.{All, list_any}
 use Rattle.std.proofs.lemmas.Bool.Decides.{nat_tests}
 use Rattle.std.proofs.lemmas.List.Folds.{list_any_at}
@@ -68,14 +68,15 @@ module _ (nodes : ℕ) (arcs : List RoadArc) (landmarks : List ℕ) where
   pub flaw-none : is_node_count nodes ≡ true → length arcs ≤ 67108864 → has_long_arc arcs ≡ false → (has_stray_end nodes arcs || has_stray_landmark nodes landmarks) ≡ false → length (set_of landmarks) ≤ 1000 → flaw_of nodes arcs landmarks ≡ None
   flaw-none count few long stray fit = rw (count, test_ge 67108864 (length arcs) few, long, stray, test_ge 1000 (length (set_of landmarks)) fit) refl
 
-  pub IsNetwork-made : is_node_count nodes ≡ true → length arcs ≤ 67108864 → has_long_arc arcs ≡ false → (has_stray_end nodes arcs || has_stray_landmark nodes landmarks) ≡ false → length (set_of landmarks) ≤ 1000 → IsNetwork (record { nodes = nodes; arcs = arcs; landmarks = set_of landmarks })
+  pub IsNetwork-made : is_node_count nodes ≡ true → length arcs ≤ 67108864 → has_long_arc arcs ≡ false → (has_stray_end nodes arcs || has_stray_landmark nodes landmarks) ≡ false → length (set_of landmarks) ≤ 1000 → IsNetwork (record { nodes = nodes; arcs = arcs; landmarks = set_of landmarks; room = length arcs })
   IsNetwork-made count few long stray fit =
       let bounds : (1 ≤ nodes) × (nodes ≤ 33554432) = count_bounds nodes count in
       let strays : (has_stray_end nodes arcs ≡ false) × (has_stray_landmark nodes landmarks ≡ false) = or_false _ _ stray in
       record {
         some_node = bounds.0;
         nodes_to = bounds.1;
-        arcs_to = few;
+        arcs_to = le_refl (length arcs);
+        room_to = few;
         each_arc = λ k d lt.
             let ends : ((1 ≤ (get_or arcs k d).tail) × ((get_or arcs k d).tail ≤ nodes)) × ((1 ≤ (get_or arcs k d).head) × ((get_or arcs k d).head ≤ nodes)) =
             both_among nodes _ _ (none_passes (λ arc. not (is_node_among nodes arc.tail && is_node_among nodes arc.head)) arcs strays.0 k d lt) in

@@ -1,6 +1,6 @@
 -- Batches of commands: what each command leaves of an arc and of a landmark, how many landmarks there are after it, and what all give.
 use Rattle.std.proofs.Common.{not, ◌&&◌, ◌||◌, ◌≡◌, ◌∙◌, ℕ, zero, suc, ◌+◌, ◌-◌, ◌<◌, ◌≤◌, Bool, true, false, true≢false, cond, List, [], ◌∷◌, ◌++◌, Option, Some, None, length, get_or, set, take, drop, refl, ap, sym, subst, arith, eqb, ltb, length-append, ⊎_elim}
-use Rattle.std.specs.Prelude.{option_map, is_none, nat_le}
+use Rattle.std.specs.Prelude.{◌^◌, option_map, option_and_then, is_none, nat_le}
 use Rattle.std.specs.List.{All, filter, fold}
 use Rattle.std.specs.List.Sorted.{IsStrictlyIncreasing}
 use Rattle.std.proofs.lemmas.Bool.{cases_eq, cases_lt}
@@ -10,19 +10,21 @@ use Rattle.std.proofs.lemmas.List.Elements.{All-nil, All-cons}
 use Rattle.std.proofs.lemmas.List.Folds.{list_any_none}
 use Rattle.std.proofs.lemmas.List.Kept.{AllPairs-from_increasing}
 use Rattle.std.proofs.lemmas.List.Elements.{All-from_get_or}
-use Rattle.std.proofs.lemmas.List.Sums.{fold_more}
+use Rattle.std.proofs.lemmas.List.Sums.{fold_more, fold-append}
+use Rattle.std.proofs.lemmas.List.Concat.{flat_map-cons}
 use Rattle.std.proofs.Math.Seq.{drop-cons, take-suc}
 use Rattle.roadnet.specs.declared.arcs.RoadArc.{RoadArc}
 use Rattle.roadnet.specs.declared.commands.Command.{Command}
-use Rattle.roadnet.specs.declared.commands.Command.TheVariants.{Set, Close, Reopen, Mark, Unmark}
+use Rattle.roadnet.specs.declared.commands.Command.TheVariants.{Set, Close, Reopen, Mark, Unmark, Lay}
 use Rattle.roadnet.specs.declared.refusals.Refusal.{Refusal}
 use Rattle.roadnet.specs.Members.{is_member, with_member, without_member}
 use Rattle.roadnet.specs.Net.{Net, IsNode, IsNetwork, arc_at, nth, update_nth}
-use Rattle.roadnet.specs.Step.{is_node, is_landmark, refusal_of, changed, first_refusal}
-use Rattle.roadnet.specs.Batches.{changed_by, opened_at, NamesArcAmong, changed_arcs, changed_landmarks, HasFitNumbers, RefusesOneOf, FirstRefusalIsOfTheFirst, AfterIsChanged, AdmittedFits, AllAdmittedFit}
-use Rattle.roadnet.proofs.Kept.{update_nth_suc, nth_within, past_first, three_failed, admitted_mark, within_length, IsNetwork-changed}
+use Rattle.roadnet.specs.Step.{is_node, is_landmark, new_arc, refusal_of, step, step_group, after, changed, first_refusal}
+use Rattle.roadnet.specs.Batches.{changed_by, changed_by_all, opened_at, changed_arcs, changed_landmarks, HasFitNumbers, first_refusal_of_all, RefusesOneOf, FirstRefusalIsOfTheFirst, AfterIsChanged, AfterAllIsChanged, GroupsAreTheirCommands, RefusedAsTheirCommands, AdmittedFits, AllAdmittedFit}
+use Rattle.roadnet.specs.Groups.{commands_of}
+use Rattle.roadnet.proofs.Kept.{update_nth_suc, nth_within, past_first, three_failed, admitted_mark, admitted_lay, within_length, IsNetwork-changed}
 use Rattle.roadnet.proofs.Members.{IsStrictlyIncreasing-with_member, IsStrictlyIncreasing-without_member}
-use Rattle.roadnet.proofs.Stepped.{length-update_nth, nth-update_nth, nth-update_nth_other, is_member-with_member, is_member-with_member_other, is_member-without_member, is_member-without_member_other}
+use Rattle.roadnet.proofs.Stepped.{group_admitted, groups_join, nth-update_nth, nth-update_nth_other, nth-added, nth-beside, is_member-with_member, is_member-with_member_other, is_member-without_member, is_member-without_member_other}
 
 -- ---- one arc after one command
 
@@ -32,7 +34,7 @@ update_at f xs zero d pos le = absurd (omega arith)
 update_at f xs (suc k) d pos le = let e : suc k - 1 ≡ k = omega arith in rw e (sym (update_nth_suc f xs k d (omega arith)))
 
 -- whether an arc that may be missing is open
-abbrev is_opened : Option RoadArc → Option Bool
+abbrev pub is_opened : Option RoadArc → Option Bool
 is_opened o = option_map (λ (arc : RoadArc). arc.opened) o
 
 opened_elsewhere : (f : RoadArc → RoadArc) (arcs : List RoadArc) (j k : ℕ) → (j ≡ k → ⊥) → is_opened (nth (update_nth f arcs j) k) ≡ is_opened (nth arcs k)
@@ -72,15 +74,11 @@ opened-reopen net j k b now same on is =
     ap (λ (o : Option RoadArc). is_opened o) (nth-update_nth (λ (arc : RoadArc). record arc { opened = true }) net.arcs k) ∙ new_flag b true (nth net.arcs k) is in
     subst (λ (i : ℕ). is_opened (nth (update_nth (λ (arc : RoadArc). record arc { opened = true }) net.arcs i) k) ≡ Some now) (sym same) (here ∙ ap Some (sym on))
 
-none_kept : {X : Type 0} (f : X → X) (xs : List X) (j k : ℕ) → is_none (nth (update_nth f xs j) k) ≡ is_none (nth xs k)
-none_kept f xs zero k = refl
-none_kept f [] (suc j) k = refl
-none_kept f (x ∷ xs) (suc zero) zero = refl
-none_kept f (x ∷ xs) (suc zero) (suc zero) = refl
-none_kept f (x ∷ xs) (suc zero) (suc (suc k)) = refl
-none_kept f (x ∷ xs) (suc (suc j)) zero = refl
-none_kept f (x ∷ xs) (suc (suc j)) (suc zero) = refl
-none_kept f (x ∷ xs) (suc (suc j)) (suc (suc k)) = none_kept f xs (suc j) (suc k)
+pub opened-lay : (net : Net) (t h w k : ℕ) → k ≡ length net.arcs + 1 → opened_at (changed net (Lay t h w)) k ≡ Some true
+opened-lay net t h w k same = subst (λ (i : ℕ). is_opened (nth (net.arcs ++ new_arc t h w ∷ []) i) ≡ Some true) (sym same) (ap (λ (o : Option RoadArc). is_opened o) (nth-added net.arcs (new_arc t h w)))
+
+pub opened-lay_other : (net : Net) (t h w k : ℕ) → (k ≡ length net.arcs + 1 → ⊥) → opened_at (changed net (Lay t h w)) k ≡ opened_at net k
+opened-lay_other net t h w k ne = ap (λ (o : Option RoadArc). is_opened o) (nth-beside net.arcs (new_arc t h w) k ne)
 
 -- ---- one node after one command
 
@@ -173,6 +171,7 @@ CountChanges (Close k) old new = new ≡ old
 CountChanges (Reopen k) old new = new ≡ old
 CountChanges (Mark x) old new = new ≡ old + 1
 CountChanges (Unmark x) old new = new + 1 ≡ old
+CountChanges (Lay t h w) old new = new ≡ old
 
 not_false : (b : Bool) → not b ≡ false → b ≡ true
 not_false true e = refl
@@ -182,6 +181,7 @@ pub count_changes : (net : Net) (command : Command) → IsNetwork net → refusa
 count_changes net (Set k w) ok none = refl
 count_changes net (Close k) ok none = refl
 count_changes net (Reopen k) ok none = refl
+count_changes net (Lay t h w) ok none = refl
 count_changes net (Mark x) ok none =
     let tests : (not (nat_le 1 x && nat_le x net.nodes) ≡ false) × (is_member x net.landmarks ≡ false) × (nat_le 1000 (length net.landmarks) ≡ false) = three_failed _ _ _ _ _ _ none in
     length-with_new x net.landmarks tests.1
@@ -191,7 +191,7 @@ count_changes net (Unmark x) ok none =
 
 -- ---- commands one after another
 
-goes_on : (o rest : Option Refusal) → cond (is_none o) rest o ≡ None → (o ≡ None) × (rest ≡ None)
+pub goes_on : (o rest : Option Refusal) → cond (is_none o) rest o ≡ None → (o ≡ None) × (rest ≡ None)
 goes_on None rest e = (refl, e)
 goes_on (Some refusal) rest e = absurd (let absurdity : ⊥ = cc in absurdity)
 
@@ -287,10 +287,23 @@ nodes_same net (Close k) = refl
 nodes_same net (Reopen k) = refl
 nodes_same net (Mark x) = refl
 nodes_same net (Unmark x) = refl
+nodes_same net (Lay t h w) = refl
 
 pub nodes_kept : (net : Net) (cs : List Command) → (changed_by net cs).nodes ≡ net.nodes
 nodes_kept net [] = refl
 nodes_kept net (c ∷ cs) = nodes_kept (changed net c) cs ∙ nodes_same net c
+
+room_same : (net : Net) (c : Command) → (changed net c).room ≡ net.room
+room_same net (Set k w) = refl
+room_same net (Close k) = refl
+room_same net (Reopen k) = refl
+room_same net (Mark x) = refl
+room_same net (Unmark x) = refl
+room_same net (Lay t h w) = refl
+
+pub room_kept : (net : Net) (cs : List Command) → (changed_by net cs).room ≡ net.room
+room_kept net [] = refl
+room_kept net (c ∷ cs) = room_kept (changed net c) cs ∙ room_same net c
 
 arcs_one : (net : Net) (c : Command) → (changed net c).arcs ≡ changed_arcs net.arcs c
 arcs_one net (Set k w) = refl
@@ -298,6 +311,7 @@ arcs_one net (Close k) = refl
 arcs_one net (Reopen k) = refl
 arcs_one net (Mark x) = refl
 arcs_one net (Unmark x) = refl
+arcs_one net (Lay t h w) = refl
 
 pub arcs_all : (net : Net) (cs : List Command) → (changed_by net cs).arcs ≡ fold changed_arcs net.arcs cs
 arcs_all net [] = refl
@@ -309,35 +323,11 @@ landmarks_one net (Close k) = refl
 landmarks_one net (Reopen k) = refl
 landmarks_one net (Mark x) = refl
 landmarks_one net (Unmark x) = refl
+landmarks_one net (Lay t h w) = refl
 
 pub landmarks_all : (net : Net) (cs : List Command) → (changed_by net cs).landmarks ≡ fold changed_landmarks net.landmarks cs
 landmarks_all net [] = refl
 landmarks_all net (c ∷ cs) = landmarks_all (changed net c) cs ∙ ap (λ (landmarks : List ℕ). fold changed_landmarks landmarks cs) (landmarks_one net c)
-
-none_one : (net : Net) (c : Command) (k : ℕ) → is_none (arc_at (changed net c) k) ≡ is_none (arc_at net k)
-none_one net (Set j w) k = none_kept _ net.arcs j k
-none_one net (Close j) k = none_kept _ net.arcs j k
-none_one net (Reopen j) k = none_kept _ net.arcs j k
-none_one net (Mark x) k = refl
-none_one net (Unmark x) k = refl
-
-pub none_all : (net : Net) (cs : List Command) (k : ℕ) → is_none (arc_at (changed_by net cs) k) ≡ is_none (arc_at net k)
-none_all net [] k = refl
-none_all net (c ∷ cs) k = none_all (changed net c) cs k ∙ none_one net c k
-
-no_flag : (o : Option RoadArc) → is_none o ≡ true → is_opened o ≡ None
-no_flag None is = refl
-no_flag (Some arc) is = absurd (true≢false (sym is))
-
-pub no_arc : (net : Net) (cs : List Command) (k : ℕ) → arc_at net k ≡ None → opened_at (changed_by net cs) k ≡ None
-no_arc net cs k none = no_flag (arc_at (changed_by net cs) k) (none_all net cs k ∙ ap (λ (o : Option RoadArc). is_none o) none)
-
-pub length-changed_arcs : (arcs : List RoadArc) (c : Command) → length (changed_arcs arcs c) ≡ length arcs
-length-changed_arcs arcs (Set k w) = length-update_nth _ arcs k
-length-changed_arcs arcs (Close k) = length-update_nth _ arcs k
-length-changed_arcs arcs (Reopen k) = length-update_nth _ arcs k
-length-changed_arcs arcs (Mark x) = refl
-length-changed_arcs arcs (Unmark x) = refl
 
 pub ascends-changed : (xs : List ℕ) (c : Command) → IsStrictlyIncreasing xs → IsStrictlyIncreasing (changed_landmarks xs c)
 ascends-changed xs (Set k w) up = up
@@ -345,44 +335,33 @@ ascends-changed xs (Close k) up = up
 ascends-changed xs (Reopen k) up = up
 ascends-changed xs (Mark x) up = IsStrictlyIncreasing-with_member x xs up
 ascends-changed xs (Unmark x) up = IsStrictlyIncreasing-without_member x xs up
+ascends-changed xs (Lay t h w) up = up
 
 -- the changed parts are the changed network
-pub carried : (net : Net) (cs : List Command) (nodes : ℕ) (arcs : List RoadArc) (landmarks : List ℕ) → nodes ≡ net.nodes → arcs ≡ fold changed_arcs net.arcs cs → landmarks ≡ (changed_by net cs).landmarks → changed_by net cs ≡ record { nodes = nodes; arcs = arcs; landmarks = landmarks }
-carried net cs nodes arcs landmarks nodes_is arcs_is landmarks_is = same_net (changed_by net cs) nodes arcs landmarks (nodes_kept net cs ∙ sym nodes_is) (arcs_all net cs ∙ sym arcs_is) (sym landmarks_is)
+pub carried : (net : Net) (cs : List Command) (nodes : ℕ) (arcs : List RoadArc) (landmarks : List ℕ) (room : ℕ) → nodes ≡ net.nodes → arcs ≡ fold changed_arcs net.arcs cs → landmarks ≡ fold changed_landmarks net.landmarks cs → room ≡ net.room → changed_by net cs ≡ record { nodes = nodes; arcs = arcs; landmarks = landmarks; room = room }
+carried net cs nodes arcs landmarks room nodes_is arcs_is landmarks_is room_is =
+    same_net (changed_by net cs) nodes arcs landmarks room (nodes_kept net cs ∙ sym nodes_is) (arcs_all net cs ∙ sym arcs_is) (landmarks_all net cs ∙ sym landmarks_is) (room_kept net cs ∙ sym room_is)
   where
-    same_net : (mid : Net) (nodes : ℕ) (arcs : List RoadArc) (landmarks : List ℕ) → mid.nodes ≡ nodes → mid.arcs ≡ arcs → mid.landmarks ≡ landmarks → mid ≡ record { nodes = nodes; arcs = arcs; landmarks = landmarks }
-    same_net mid nodes arcs landmarks a b c = rw (← a, ← b, ← c) refl
+    same_net : (mid : Net) (nodes : ℕ) (arcs : List RoadArc) (landmarks : List ℕ) (room : ℕ) → mid.nodes ≡ nodes → mid.arcs ≡ arcs → mid.landmarks ≡ landmarks → mid.room ≡ room → mid ≡ record { nodes = nodes; arcs = arcs; landmarks = landmarks; room = room }
+    same_net mid nodes arcs landmarks room a b c d = rw (← a, ← b, ← c, ← d) refl
 
 -- ---- what admitted commands name
-
-names_arc : (net : Net) (c : Command) → refusal_of net c ≡ None → NamesArcAmong (length net.arcs) c
-names_arc net (Set k w) none =
-    let first = past_first _ _ _ none in
-    let within : (0 < k) × (k ≤ length net.arcs) = nth_within net.arcs k first.0 in
-    (omega (arith, within.0), within.1, within_length w (past_first _ _ _ first.1).0)
-names_arc net (Close k) none = let within : (0 < k) × (k ≤ length net.arcs) = nth_within net.arcs k (past_first _ _ _ none).0 in (omega (arith, within.0), within.1)
-names_arc net (Reopen k) none = let within : (0 < k) × (k ≤ length net.arcs) = nth_within net.arcs k (past_first _ _ _ none).0 in (omega (arith, within.0), within.1)
-names_arc net (Mark x) none = tt
-names_arc net (Unmark x) none = tt
-
-arcs_same_length : (net : Net) (c : Command) → length (changed net c).arcs ≡ length net.arcs
-arcs_same_length net c = ap length (arcs_one net c) ∙ length-changed_arcs net.arcs c
-
-pub names_arcs : (net : Net) (cs : List Command) → first_refusal net cs ≡ None → All (NamesArcAmong (length net.arcs)) cs
-names_arcs net [] none = All-nil (NamesArcAmong (length net.arcs))
-names_arcs net (c ∷ cs) none =
-    let on : (refusal_of net c ≡ None) × (first_refusal (changed net c) cs ≡ None) = goes_on (refusal_of net c) (first_refusal (changed net c) cs) none in
-    All-cons (NamesArcAmong (length net.arcs)) c cs (names_arc net c on.0) (subst (λ (n : ℕ). All (NamesArcAmong n) cs) (arcs_same_length net c) (names_arcs (changed net c) cs on.1))
 
 node_to : (net : Net) (x : ℕ) → not (nat_le 1 x && nat_le x net.nodes) ≡ false → x ≤ net.nodes
 node_to net x is = grind (arith, nat_tests)
 
+arc_fits : (net : Net) (k : ℕ) → IsNetwork net → is_none (arc_at net k) ≡ false → k < 2 ^ 32
+arc_fits net k ok some = omega (arith, nth_within net.arcs k some, ok.arcs_to, ok.room_to)
+
 pub admitted_fits : AdmittedFits
-admitted_fits net (Set k w) ok none = let named = names_arc net (Set k w) none in (omega (arith, named.1, ok.arcs_to), omega (arith, named.2))
-admitted_fits net (Close k) ok none = let named = names_arc net (Close k) none in omega (arith, named.1, ok.arcs_to)
-admitted_fits net (Reopen k) ok none = let named = names_arc net (Reopen k) none in omega (arith, named.1, ok.arcs_to)
+admitted_fits net (Set k w) ok none =
+    let first = past_first _ _ _ none in (arc_fits net k ok first.0, let long : w ≤ 2147483647 = within_length w (past_first _ _ _ first.1).0 in omega (arith, long))
+admitted_fits net (Close k) ok none = arc_fits net k ok (past_first _ _ _ none).0
+admitted_fits net (Reopen k) ok none = arc_fits net k ok (past_first _ _ _ none).0
 admitted_fits net (Mark x) ok none = let node = admitted_mark net x none in omega (arith, node.1, ok.nodes_to)
 admitted_fits net (Unmark x) ok none = omega (arith, node_to net x (past_first _ _ _ none).0, ok.nodes_to)
+admitted_fits net (Lay t h w) ok none =
+    let laid = admitted_lay net t h w none in (omega (arith, laid.1, ok.nodes_to), omega (arith, laid.2, ok.nodes_to), omega (arith, laid.0))
 
 pub all_admitted_fit : AllAdmittedFit
 all_admitted_fit net [] ok none = All-nil HasFitNumbers
@@ -390,10 +369,7 @@ all_admitted_fit net (c ∷ cs) ok none =
     let on : (refusal_of net c ≡ None) × (first_refusal (changed net c) cs ≡ None) = goes_on (refusal_of net c) (first_refusal (changed net c) cs) none in
     All-cons HasFitNumbers c cs (admitted_fits net c ok on.0) (all_admitted_fit (changed net c) cs (IsNetwork-changed net c ok on.0) on.1)
 
--- ---- the refusal of a command after others, from what is asked of them
-
-pub set-refusal : (net : Net) (cs : List Command) (k w : ℕ) → refusal_of (changed_by net cs) (Set k w) ≡ refusal_of net (Set k w)
-set-refusal net cs k w = rw (none_all net cs k) refl
+-- ---- what is asked of nodes
 
 passes_node : (net : Net) (x : ℕ) → is_node net x ≡ true → IsNode net x
 passes_node net x is = (grind (arith, nat_tests), grind (arith, nat_tests))
@@ -413,3 +389,54 @@ node_is net x false to from = no_node (is_node net x) refl
 -- and of the network after commands
 pub node_after : (net : Net) (cs : List Command) (x : ℕ) (b : Bool) → (b ≡ true → IsNode net x) → (IsNode net x → b ≡ true) → is_node (changed_by net cs) x ≡ b
 node_after net cs x b to from = ap (λ (n : ℕ). nat_le 1 x && nat_le x n) (nodes_kept net cs) ∙ node_is net x b to from
+
+-- ---- groups one after another
+
+-- the commands of a group more
+pub commands_of-cons : (g : List Command) (gs : List (List Command)) → commands_of (g ∷ gs) ≡ g ++ commands_of gs
+commands_of-cons g gs = flat_map-cons (λ (group : List Command). group) g gs
+
+changed_by-append : (net : Net) (xs ys : List Command) → changed_by net (xs ++ ys) ≡ changed_by (changed_by net xs) ys
+changed_by-append net xs ys = fold-append changed net xs ys
+
+pub changed_by_all_is : (net : Net) (gs : List (List Command)) → changed_by_all net gs ≡ changed_by net (commands_of gs)
+changed_by_all_is net [] = refl
+changed_by_all_is net (g ∷ gs) = changed_by_all_is (changed_by net g) gs ∙ sym (ap (changed_by net) (commands_of-cons g gs) ∙ changed_by-append net g (commands_of gs))
+
+-- the refusal of what comes behind a front that is admitted, or of the front
+front_or_rest : (net : Net) (xs ys : List Command) (answer : Option Refusal) → first_refusal net xs ≡ answer → first_refusal net (xs ++ ys) ≡ cond (is_none answer) (first_refusal (changed_by net xs) ys) answer
+front_or_rest net xs ys None none = both_admitted net xs ys none
+front_or_rest net xs ys (Some refusal) some = refused_front net xs some
+  where
+    one : (net : Net) (x : Command) (xs : List Command) → (first_refusal (changed net x) xs ≡ Some refusal → first_refusal (changed net x) (xs ++ ys) ≡ Some refusal) → (answer : Option Refusal) → refusal_of net x ≡ answer → cond (is_none answer) (first_refusal (changed net x) xs) answer ≡ Some refusal → cond (is_none answer) (first_refusal (changed net x) (xs ++ ys)) answer ≡ Some refusal
+    one net x xs rest None none is = rest is
+    one net x xs rest (Some found) some is = is
+
+    refused_front : (net : Net) (xs : List Command) → first_refusal net xs ≡ Some refusal → first_refusal net (xs ++ ys) ≡ Some refusal
+    refused_front net [] is = absurd (let absurdity : ⊥ = cc in absurdity)
+    refused_front net (x ∷ xs) is = one net x xs (λ later. refused_front (changed net x) xs later) (refusal_of net x) refl is
+
+pub refused_as_their_commands : RefusedAsTheirCommands
+refused_as_their_commands net [] = refl
+refused_as_their_commands net (g ∷ gs) =
+    ap (λ (o : Option Refusal). cond (is_none (first_refusal net g)) o (first_refusal net g)) (refused_as_their_commands (changed_by net g) gs)
+    ∙ sym (ap (first_refusal net) (commands_of-cons g gs) ∙ front_or_rest net g (commands_of gs) (first_refusal net g) refl)
+
+then_rest : (gs : List (List Command)) → ((net : Net) → after net gs ≡ step_group net (commands_of gs)) → (o : Option Net) → option_and_then (λ next. after next gs) o ≡ option_and_then (λ next. step_group next (commands_of gs)) o
+then_rest gs rest None = refl
+then_rest gs rest (Some next) = rest next
+
+pub groups_are_their_commands : GroupsAreTheirCommands
+groups_are_their_commands net [] = refl
+groups_are_their_commands net (g ∷ gs) =
+    then_rest gs (λ next. groups_are_their_commands next gs) (step_group net g) ∙ sym (ap (step_group net) (commands_of-cons g gs) ∙ groups_join net g (commands_of gs))
+
+pub after_all_is_changed : AfterAllIsChanged
+after_all_is_changed net gs none =
+    groups_are_their_commands net gs
+    ∙ (after_is_changed net (commands_of gs) (sym (refused_as_their_commands net gs) ∙ none) ∙ ap Some (sym (changed_by_all_is net gs)))
+
+-- the parts that groups change are the changed network
+pub carried_all : (net : Net) (gs : List (List Command)) (nodes : ℕ) (arcs : List RoadArc) (landmarks : List ℕ) (room : ℕ) → nodes ≡ net.nodes → arcs ≡ fold changed_arcs net.arcs (commands_of gs) → landmarks ≡ fold changed_landmarks net.landmarks (commands_of gs) → room ≡ net.room → changed_by_all net gs ≡ record { nodes = nodes; arcs = arcs; landmarks = landmarks; room = room }
+carried_all net gs nodes arcs landmarks room nodes_is arcs_is landmarks_is room_is =
+    changed_by_all_is net gs ∙ carried net (commands_of gs) nodes arcs landmarks room nodes_is arcs_is landmarks_is room_is

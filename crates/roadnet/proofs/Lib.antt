@@ -1,10 +1,14 @@
 pub mod Apart
 pub mod Examples
+pub mod Flagged
 pub mod Flaws
+pub mod GroupsInTurn
 pub mod InTurn
 pub mod Joined
 pub mod Kept
 pub mod Lowest
 pub mod Members
 pub mod Outlined
+pub mod Probed
 pub mod Stepped
+pub mod TakenBack

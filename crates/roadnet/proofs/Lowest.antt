@@ -1,6 +1,6 @@
 -- The first refusal that applies in an ascending table is the lowest.
 use Rattle.std.proofs.Common.{◌≡◌, ℕ, zero, suc, ◌≤◌, Bool, true, false, true≢false, List, [], ◌∷◌, Option, Some, None, cond, refl, ap, sym, ◌∙◌, arith, le_refl, lit≤}
-use Rattle.roadnet.specs.declared.commands.Command.TheVariants.{Set, Close, Reopen, Mark, Unmark}
+use Rattle.roadnet.specs.declared.commands.Command.TheVariants.{Set, Close, Reopen, Mark, Unmark, Lay}
 use Rattle.roadnet.specs.declared.refusals.Refusal.{Refusal}
 use Rattle.roadnet.specs.Causes.{Applies, first_applying, IsAnswerTo}
 use Rattle.roadnet.specs.Changes.{RefusalIsLowest, FlawIsLowest}
@@ -47,6 +47,7 @@ refusal_is_lowest net (Close k) = answered 0 (causes net (Close k)) (lit≤ tt, 
 refusal_is_lowest net (Reopen k) = answered 0 (causes net (Reopen k)) (lit≤ tt, (lit≤ tt, tt))
 refusal_is_lowest net (Mark x) = answered 0 (causes net (Mark x)) (lit≤ tt, (lit≤ tt, (lit≤ tt, tt)))
 refusal_is_lowest net (Unmark x) = answered 0 (causes net (Unmark x)) (lit≤ tt, (lit≤ tt, tt))
+refusal_is_lowest net (Lay t h w) = answered 0 (causes net (Lay t h w)) (lit≤ tt, (lit≤ tt, (lit≤ tt, tt)))
 
 pub flaw_is_lowest : FlawIsLowest
 flaw_is_lowest nodes arcs landmarks = answered 0 (flaws nodes arcs landmarks) (lit≤ tt, (lit≤ tt, (lit≤ tt, (lit≤ tt, (lit≤ tt, tt)))))

@@ -1,26 +1,26 @@
 -- What of a network its outline has, and what a command does to it.
-use Rattle.std.proofs.Common.{not, ◌≡◌, ◌∙◌, ℕ, zero, suc, ◌-◌, ◌<◌, ◌≤◌, Bool, true, false, true≢false, cond, List, [], ◌∷◌, Option, Some, None, length, set, map, refl, ap, sym, subst, arith, ltb}
-use Rattle.std.specs.Prelude.{option_map, is_none}
+use Rattle.std.proofs.Common.{not, ◌&&◌, ◌≡◌, ◌∙◌, ℕ, zero, suc, ◌-◌, ◌<◌, ◌≤◌, Bool, true, false, true≢false, cond, List, [], ◌∷◌, ◌++◌, Option, Some, None, length, set, map, refl, ap, sym, subst, arith, ltb}
+use Rattle.std.specs.Prelude.{option_map, is_none, nat_le}
 use Rattle.std.specs.Option.{option_map_or}
 use Rattle.std.specs.List.{All}
-use Rattle.std.proofs.lemmas.List.{length-map}
+use Rattle.std.proofs.lemmas.List.{length-map, map-append}
 use Rattle.std.proofs.lemmas.Option.{slice_get-map}
 use Rattle.roadnet.specs.declared.arcs.RoadArc.{RoadArc}
 use Rattle.roadnet.specs.declared.commands.Command.{Command}
-use Rattle.roadnet.specs.declared.commands.Command.TheVariants.{Set, Close, Reopen, Mark, Unmark}
+use Rattle.roadnet.specs.declared.commands.Command.TheVariants.{Set, Close, Reopen, Mark, Unmark, Lay}
 use Rattle.roadnet.specs.declared.refusals.Refusal.{Refusal}
-use Rattle.roadnet.specs.declared.refusals.Refusal.TheVariants.{NoSuchArc, LengthRange, AlreadyClosed, AlreadyOpen}
+use Rattle.roadnet.specs.declared.refusals.Refusal.TheVariants.{NoSuchArc, LengthRange, AlreadyClosed, AlreadyOpen, NoSuchNode, NoRoom}
 use Rattle.roadnet.specs.Batches.{opened_at}
 use Rattle.roadnet.specs.Made.{is_node_among}
 use Rattle.roadnet.specs.Members.{is_member, with_member, without_member}
 use Rattle.roadnet.specs.Net.{Net, nth, update_nth}
-use Rattle.roadnet.specs.Outlines.{Outlined, outline_of, IsOutline, EachAdmits, EachStepsTo}
-use Rattle.roadnet.specs.Step.{is_node, refusal_of, changed}
+use Rattle.roadnet.specs.Outlines.{Outlined, outline_of, IsOutline}
+use Rattle.roadnet.specs.Step.{is_node, new_arc, refusal_of, changed, first_refusal}
 use Rattle.roadnet.proofs.InTurn.{node_passes, update_at}
-use Rattle.roadnet.proofs.Kept.{IsNetwork-changed, nth_within, past_first, step_admitted}
+use Rattle.roadnet.proofs.Kept.{nth_within}
 use Rattle.roadnet.proofs.Members.{is_member-beyond}
 
-abbrev flag : RoadArc → Bool
+abbrev pub flag : RoadArc → Bool
 flag arc = arc.opened
 
 -- ---- the refusal of a command, from whether its arc is open
@@ -67,6 +67,13 @@ reopen_due net k = go (nth net.arcs k)
     go None = refl
     go (Some arc) = there arc.opened
 
+-- the refusal of an arc that is laid, from the outline
+abbrev due_to_lay : Outlined → ℕ → ℕ → ℕ → Option Refusal
+due_to_lay o t h w = cond (ltb 2147483647 w) (Some LengthRange) (cond (not (is_node_among o.nodes t && is_node_among o.nodes h)) (Some NoSuchNode) (cond (nat_le o.room (length o.opened)) (Some NoRoom) None))
+
+lay_due : (net : Net) (t h w : ℕ) → refusal_of net (Lay t h w) ≡ due_to_lay (outline_of net) t h w
+lay_due net t h w = rw (length-map net.arcs flag) refl
+
 -- ---- what an outline tells of each of its networks
 
 nth-map : (arcs : List RoadArc) (k : ℕ) → option_map flag (nth arcs k) ≡ nth (map flag arcs) k
@@ -84,12 +91,9 @@ pub same_refusal : (a b : Net) (c : Command) → outline_of a ≡ outline_of b �
 same_refusal a b (Set k w) is = set_due a k w ∙ (ap (λ (o : Option Bool). due_to_set o w) (opened_in a (outline_of b) k is ∙ sym (opened_in b (outline_of b) k refl)) ∙ sym (set_due b k w))
 same_refusal a b (Close k) is = close_due a k ∙ (ap due_to_close (opened_in a (outline_of b) k is ∙ sym (opened_in b (outline_of b) k refl)) ∙ sym (close_due b k))
 same_refusal a b (Reopen k) is = reopen_due a k ∙ (ap due_to_reopen (opened_in a (outline_of b) k is ∙ sym (opened_in b (outline_of b) k refl)) ∙ sym (reopen_due b k))
-same_refusal a b (Mark x) is = ap (λ (o : Outlined). refusal_of (record { nodes = o.nodes; arcs = []; landmarks = o.landmarks }) (Mark x)) is
-same_refusal a b (Unmark x) is = ap (λ (o : Outlined). refusal_of (record { nodes = o.nodes; arcs = []; landmarks = o.landmarks }) (Unmark x)) is
-
--- what one network of an outline admits, each does
-pub each_admits : (net : Net) (outline : Outlined) (c : Command) → outline ≡ outline_of net → refusal_of net c ≡ None → EachAdmits outline c
-each_admits net outline c is none other of = same_refusal other net c (of ∙ is) ∙ none
+same_refusal a b (Mark x) is = ap (λ (o : Outlined). refusal_of (record { nodes = o.nodes; arcs = []; landmarks = o.landmarks; room = o.room }) (Mark x)) is
+same_refusal a b (Unmark x) is = ap (λ (o : Outlined). refusal_of (record { nodes = o.nodes; arcs = []; landmarks = o.landmarks; room = o.room }) (Unmark x)) is
+same_refusal a b (Lay t h w) is = lay_due a t h w ∙ (ap (λ (o : Outlined). due_to_lay o t h w) is ∙ sym (lay_due b t h w))
 
 -- ---- what a command does to an outline
 
@@ -99,14 +103,15 @@ outline_after outline (Close k) = record outline { opened = update_nth (λ _. fa
 outline_after outline (Reopen k) = record outline { opened = update_nth (λ _. true) outline.opened k }
 outline_after outline (Mark x) = record outline { landmarks = with_member x outline.landmarks }
 outline_after outline (Unmark x) = record outline { landmarks = without_member x outline.landmarks }
+outline_after outline (Lay t h w) = record outline { opened = outline.opened ++ true ∷ [] }
 
-flags_kept : (w : ℕ) (arcs : List RoadArc) (k : ℕ) → map flag (update_nth (λ (arc : RoadArc). record arc { length = w }) arcs k) ≡ map flag arcs
+pub flags_kept : (w : ℕ) (arcs : List RoadArc) (k : ℕ) → map flag (update_nth (λ (arc : RoadArc). record arc { length = w }) arcs k) ≡ map flag arcs
 flags_kept w arcs zero = refl
 flags_kept w [] (suc k) = refl
 flags_kept w (arc ∷ arcs) (suc zero) = refl
 flags_kept w (arc ∷ arcs) (suc (suc k)) = ap (λ (l : List Bool). arc.opened ∷ l) (flags_kept w arcs (suc k))
 
-flag_changed : (b : Bool) (arcs : List RoadArc) (k : ℕ) → map flag (update_nth (λ (arc : RoadArc). record arc { opened = b }) arcs k) ≡ update_nth (λ _. b) (map flag arcs) k
+pub flag_changed : (b : Bool) (arcs : List RoadArc) (k : ℕ) → map flag (update_nth (λ (arc : RoadArc). record arc { opened = b }) arcs k) ≡ update_nth (λ _. b) (map flag arcs) k
 flag_changed b arcs zero = refl
 flag_changed b [] (suc k) = refl
 flag_changed b (arc ∷ arcs) (suc zero) = refl
@@ -118,48 +123,19 @@ outline_changed net (Close k) = ap (λ (l : List Bool). record (outline_of net) 
 outline_changed net (Reopen k) = ap (λ (l : List Bool). record (outline_of net) { opened = l }) (flag_changed true net.arcs k)
 outline_changed net (Mark x) = refl
 outline_changed net (Unmark x) = refl
+outline_changed net (Lay t h w) = ap (λ (l : List Bool). record (outline_of net) { opened = l }) (map-append flag net.arcs (new_arc t h w ∷ []))
 
-module _ (old new : Outlined) (c : Command) (admits : EachAdmits old c) (is : new ≡ outline_after old c) where
-  goes : (net : Net) → outline_of net ≡ old → outline_of (changed net c) ≡ new
-  goes net of = outline_changed net c ∙ (ap (λ (o : Outlined). outline_after o c) of ∙ sym is)
-
-  pub each_steps_to : EachStepsTo old c new
-  each_steps_to net of = ap (option_map outline_of) (step_admitted net c (admits net of)) ∙ ap Some (goes net of)
-
-  pub outline_kept : IsOutline old → IsOutline new
-  outline_kept there = (changed there.0 c, IsNetwork-changed there.0 c there.1 (admits there.0 there.2), goes there.0 there.2)
-
--- ---- what admitted commands name
-
-module _ (outline : Outlined) (k : ℕ) (there : IsOutline outline) where
-  within : is_none (nth (there.0).arcs k) ≡ false → (0 < k) × (k ≤ length outline.opened)
-  within some =
-      let inside : (0 < k) × (k ≤ length (there.0).arcs) = nth_within (there.0).arcs k some in
-      (inside.0, omega (arith, inside.1, length-map (there.0).arcs flag, ap (λ (o : Outlined). length o.opened) there.2))
-
-  pub close_within : EachAdmits outline (Close k) → (0 < k) × (k ≤ length outline.opened)
-  close_within admits = within (past_first _ _ _ (admits there.0 there.2)).0
-
-  pub reopen_within : EachAdmits outline (Reopen k) → (0 < k) × (k ≤ length outline.opened)
-  reopen_within admits = within (past_first _ _ _ (admits there.0 there.2)).0
-
--- the item of the arc is changed in its place
-changed_there : (outline : Outlined) (k : ℕ) (b : Bool) → (0 < k) × (k ≤ length outline.opened) → record outline { opened = set outline.opened (k - 1) b } ≡ record outline { opened = update_nth (λ _. b) outline.opened k }
-changed_there outline k b inside = ap (λ (l : List Bool). record outline { opened = l }) (update_at (λ _. b) outline.opened k b (omega (arith, inside.0)) inside.1)
-
-pub closed_there : (outline : Outlined) (k : ℕ) → IsOutline outline → EachAdmits outline (Close k) → record outline { opened = set outline.opened (k - 1) false } ≡ outline_after outline (Close k)
-closed_there outline k there admits = changed_there outline k false (close_within outline k there admits)
-
-pub reopened_there : (outline : Outlined) (k : ℕ) → IsOutline outline → EachAdmits outline (Reopen k) → record outline { opened = set outline.opened (k - 1) true } ≡ outline_after outline (Reopen k)
-reopened_there outline k there admits = changed_there outline k true (reopen_within outline k there admits)
-
--- the outline with other landmarks
-pub with_landmarks : (nodes : ℕ) (opened : List Bool) (xs ys : List ℕ) → xs ≡ ys → ◌≡◌ {A = Outlined} (record { nodes = nodes; opened = opened; landmarks = xs }) (record { nodes = nodes; opened = opened; landmarks = ys })
-with_landmarks nodes opened xs ys is = ap (λ (l : List ℕ). record { nodes = nodes; opened = opened; landmarks = l }) is
+-- and a group
+pub same_first_refusal : (a b : Net) (cs : List Command) → outline_of a ≡ outline_of b → first_refusal a cs ≡ first_refusal b cs
+same_first_refusal a b [] is = refl
+same_first_refusal a b (c ∷ cs) is =
+    let same : refusal_of a c ≡ refusal_of b c = same_refusal a b c is in
+    let next : outline_of (changed a c) ≡ outline_of (changed b c) = outline_changed a c ∙ (ap (λ (o : Outlined). outline_after o c) is ∙ sym (outline_changed b c)) in
+    ap (λ (o : Option Refusal). cond (is_none o) (first_refusal (changed a c) cs) o) same ∙ ap (λ (o : Option Refusal). cond (is_none (refusal_of b c)) o (refusal_of b c)) (same_first_refusal (changed a c) (changed b c) cs next)
 
 -- a number that no node has is no landmark's
 pub unmarked_beyond : (outline : Outlined) (x : ℕ) → IsOutline outline → is_node_among outline.nodes x ≡ false → is_member x outline.landmarks ≡ false
 unmarked_beyond outline x there beyond =
     is_member-beyond outline.nodes x outline.landmarks
     (subst (λ (o : Outlined). All (λ y. (1 ≤ y) × (y ≤ o.nodes)) o.landmarks) there.2 (there.1).each_landmark)
-    (λ node. true≢false (sym (node_passes (record { nodes = outline.nodes; arcs = []; landmarks = [] }) x node) ∙ beyond))
+    (λ node. true≢false (sym (node_passes (record { nodes = outline.nodes; arcs = []; landmarks = []; room = 0 }) x node) ∙ beyond))

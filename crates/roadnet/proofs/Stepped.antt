@@ -1,26 +1,42 @@
 -- The laws of steps.
-use Rattle.std.proofs.Common.{not, ◌||◌, true≢false, ◌≡◌, ◌≢◌, ◌∙◌, ℕ, zero, suc, ◌<◌, ◌≤◌, Bool, true, false, cond, List, [], ◌∷◌, ◌++◌, Option, Some, None, length, refl, ap, sym, subst, ⊎_elim, arith, eqb, ltb}
+use Rattle.std.proofs.Common.{not, ◌||◌, true≢false, ◌≡◌, ◌≢◌, ◌∙◌, ℕ, zero, suc, ◌+◌, ◌<◌, ◌≤◌, Bool, true, false, cond, List, [], ◌∷◌, ◌++◌, Option, Some, None, length, refl, ap, sym, subst, ⊎_elim, arith, eqb, ltb, length-append}
 use Rattle.std.specs.Prelude.{option_map, option_and_then, is_none, MatchOption}
-use Rattle.std.specs.List.{filter}
+use Rattle.std.specs.List.{filter, slice_get}
 use Rattle.std.proofs.lemmas.List.Folds.{list_any-append}
 use Rattle.std.proofs.lemmas.Bool.Decides.{nat_tests}
 use Rattle.std.proofs.lemmas.Bool.{cases_lt}
 use Rattle.roadnet.specs.declared.arcs.RoadArc.{RoadArc}
 use Rattle.roadnet.specs.declared.commands.Command.{Command}
-use Rattle.roadnet.specs.declared.commands.Command.TheVariants.{Set, Close, Reopen, Mark, Unmark}
+use Rattle.roadnet.specs.declared.commands.Command.TheVariants.{Set, Close, Reopen, Mark, Unmark, Lay}
 use Rattle.roadnet.specs.declared.refusals.Refusal.{Refusal}
 use Rattle.roadnet.specs.Members.{is_member, with_member, without_member}
 use Rattle.roadnet.specs.Net.{Net, nth, update_nth}
-use Rattle.roadnet.specs.Step.{refusal_of, step, changed, after, first_refusal}
-use Rattle.roadnet.specs.Changes.{ChangesArc, Changes, StepChanges, AdmittedSteps, AfterBoth, AfterAdmitted}
+use Rattle.roadnet.specs.Step.{new_arc, refusal_of, step, step_group, changed, after, first_refusal}
+use Rattle.roadnet.specs.Changes.{ChangesArc, AddsArc, Changes, StepChanges, AdmittedSteps, GroupsJoin, GroupAdmitted, GroupOfOne, AfterBoth}
 
-both : (xs ys : List Command) → ((net : Net) → after net (xs ++ ys) ≡ option_and_then (λ next. after next ys) (after net xs)) → (o : Option Net) → option_and_then (λ next. after next (xs ++ ys)) o ≡ option_and_then (λ next. after next ys) (option_and_then (λ next. after next xs) o)
+both : (xs ys : List Command) → ((net : Net) → step_group net (xs ++ ys) ≡ option_and_then (λ next. step_group next ys) (step_group net xs)) → (o : Option Net) → option_and_then (λ next. step_group next (xs ++ ys)) o ≡ option_and_then (λ next. step_group next ys) (option_and_then (λ next. step_group next xs) o)
 both xs ys rest None = refl
 both xs ys rest (Some next) = rest next
 
+pub groups_join : GroupsJoin
+groups_join net [] ys = refl
+groups_join net (command ∷ xs) ys = both xs ys (λ next. groups_join next xs ys) (step net command)
+
+both_lists : (xs ys : List (List Command)) → ((net : Net) → after net (xs ++ ys) ≡ option_and_then (λ next. after next ys) (after net xs)) → (o : Option Net) → option_and_then (λ next. after next (xs ++ ys)) o ≡ option_and_then (λ next. after next ys) (option_and_then (λ next. after next xs) o)
+both_lists xs ys rest None = refl
+both_lists xs ys rest (Some next) = rest next
+
 pub after_both : AfterBoth
 after_both net [] ys = refl
-after_both net (command ∷ xs) ys = both xs ys (λ next. after_both next xs ys) (step net command)
+after_both net (group ∷ xs) ys = both_lists xs ys (λ next. after_both next xs ys) (step_group net group)
+
+-- what follows nothing more
+nothing_more : (o : Option Net) → option_and_then (λ next. Some next) o ≡ o
+nothing_more None = refl
+nothing_more (Some net) = refl
+
+pub group_of_one : GroupOfOne
+group_of_one net command = nothing_more (step net command)
 
 -- ---- one arc
 pub nth-update_nth : {X : Type 0} (f : X → X) (xs : List X) (k : ℕ) → nth (update_nth f xs k) k ≡ option_map f (nth xs k)
@@ -49,9 +65,38 @@ changes_arc : (net : Net) (k : ℕ) (f : RoadArc → RoadArc) → ChangesArc net
 changes_arc net k f = record {
   nodes = refl;
   landmarks = refl;
+  room = refl;
   count = length-update_nth f net.arcs k;
   changed = nth-update_nth f net.arcs k;
   others = λ j ne. nth-update_nth_other f net.arcs k j ne;
+}
+
+-- ---- an arc that is added
+slice_get-added : {X : Type 0} (xs : List X) (x : X) → slice_get (xs ++ x ∷ []) (length xs) ≡ Some x
+slice_get-added [] x = refl
+slice_get-added (y ∷ ys) x = slice_get-added ys x
+
+slice_get-beside : {X : Type 0} (xs : List X) (x : X) (k : ℕ) → k ≢ length xs → slice_get (xs ++ x ∷ []) k ≡ slice_get xs k
+slice_get-beside [] x zero ne = absurd (ne refl)
+slice_get-beside [] x (suc k) ne = refl
+slice_get-beside (y ∷ ys) x zero ne = refl
+slice_get-beside (y ∷ ys) x (suc k) ne = slice_get-beside ys x k (λ e. ne (ap suc e))
+
+pub nth-added : {X : Type 0} (xs : List X) (x : X) → nth (xs ++ x ∷ []) (length xs + 1) ≡ Some x
+nth-added xs x = let e : length xs + 1 ≡ suc (length xs) = omega arith in rw e (slice_get-added xs x)
+
+pub nth-beside : {X : Type 0} (xs : List X) (x : X) (k : ℕ) → k ≢ length xs + 1 → nth (xs ++ x ∷ []) k ≡ nth xs k
+nth-beside xs x zero ne = refl
+nth-beside xs x (suc k) ne = slice_get-beside xs x k (λ e. ne (omega (arith, e)))
+
+adds_arc : (net : Net) (arc : RoadArc) → AddsArc net (record net { arcs = net.arcs ++ arc ∷ [] }) arc
+adds_arc net arc = record {
+  nodes = refl;
+  landmarks = refl;
+  room = refl;
+  count = length-append net.arcs (arc ∷ []);
+  added = nth-added net.arcs arc;
+  others = λ j le. nth-beside net.arcs arc j (λ e. absurd (omega (arith, le, e)));
 }
 
 -- ---- one landmark
@@ -116,8 +161,9 @@ changes : (net : Net) (command : Command) → Changes net command (changed net c
 changes net (Set k w) = changes_arc net k (λ arc. record arc { length = w })
 changes net (Close k) = changes_arc net k (λ arc. record arc { opened = false })
 changes net (Reopen k) = changes_arc net k (λ arc. record arc { opened = true })
-changes net (Mark x) = record { nodes = refl; arcs = refl; changed = is_member-with_member x net.landmarks; others = λ y ne. is_member-with_member_other x y net.landmarks ne }
-changes net (Unmark x) = record { nodes = refl; arcs = refl; changed = is_member-without_member x net.landmarks; others = λ y ne. is_member-without_member_other x y net.landmarks ne }
+changes net (Mark x) = record { nodes = refl; arcs = refl; room = refl; changed = is_member-with_member x net.landmarks; others = λ y ne. is_member-with_member_other x y net.landmarks ne }
+changes net (Unmark x) = record { nodes = refl; arcs = refl; room = refl; changed = is_member-without_member x net.landmarks; others = λ y ne. is_member-without_member_other x y net.landmarks ne }
+changes net (Lay t h w) = adds_arc net (new_arc t h w)
 
 pub step_changes : StepChanges
 step_changes old new command is = cases (refusal_of old command) refl is
@@ -131,14 +177,14 @@ admitted_steps old command none = (changed old command, rw none refl)
 
 -- ---- commands, each in its turn
 IsAfter : Net → List Command → Type 0
-IsAfter net commands = MatchOption (first_refusal net commands) ((new : Net) × (after net commands ≡ Some new)) (λ refusal. after net commands ≡ None)
+IsAfter net commands = MatchOption (first_refusal net commands) ((new : Net) × (step_group net commands ≡ Some new)) (λ refusal. step_group net commands ≡ None)
 
 after_more : (net : Net) (command : Command) (commands : List Command) → IsAfter (changed net command) commands → (answer : Option Refusal) → refusal_of net command ≡ answer → IsAfter net (command ∷ commands)
 unfolding IsAfter
 after_more net command commands rest None none = rw none rest
 after_more net command commands rest (Some refusal) some = rw some refl
 
-pub after_admitted : AfterAdmitted
+pub group_admitted : GroupAdmitted
 unfolding IsAfter
-after_admitted net [] = (net, refl)
-after_admitted net (command ∷ commands) = after_more net command commands (after_admitted (changed net command) commands) (refusal_of net command) refl
+group_admitted net [] = (net, refl)
+group_admitted net (command ∷ commands) = after_more net command commands (group_admitted (changed net command) commands) (refusal_of net command) refl

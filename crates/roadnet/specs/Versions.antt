@@ -1,4 +1,4 @@
--- The versions of a network: version v is the network after the first v commands that were accepted.
+-- The versions of a network: version v is the network after the first v groups that were accepted.
 use Rattle.std.specs.Prelude.{ℕ, ◌^◌}
 
 -- the greatest version

@@ -11,4 +11,6 @@ pub enum Command {
     Mark { node: u64 },
     /// The node is no longer a landmark.
     Unmark { node: u64 },
+    /// A new arc, open, of this length, from one node to another. It gets the number after the last arc's.
+    Lay { tail: u64, head: u64, length: u64 },
 }

@@ -1,7 +1,7 @@
 // The rules by which commands are judged, once it is known what the network has of the arc or the node that a command names.
 
-ghost use Rattle.std.specs.Prelude.{◌≡◌, ℕ, length};
-ghost use Rattle.roadnet.specs.declared.commands.Command.TheVariants.{Set as set, Close as close, Reopen as reopen, Mark as mark, Unmark as unmark};
+ghost use Rattle.std.specs.Prelude.{◌≡◌, ◌&&◌, ℕ, length};
+ghost use Rattle.roadnet.specs.declared.commands.Command.TheVariants.{Set as set, Close as close, Reopen as reopen, Mark as mark, Unmark as unmark, Lay as lay};
 ghost use Rattle.roadnet.specs.Net.{Net};
 ghost use Rattle.roadnet.specs.Step.{is_node, is_landmark, refusal_of};
 ghost use Rattle.roadnet.specs.Batches.{opened_at};
@@ -46,7 +46,7 @@ pub fn judge_reopen(opened: Option<bool>) -> Result<(), Refusal>
 }
 
 /// Whether a number's node may become a landmark, of which there are `count`.
-pub fn judge_mark(there: bool, marked: bool, count: usize) -> Result<(), Refusal>
+pub fn judge_mark(there: bool, marked: bool, count: u64) -> Result<(), Refusal>
     ensures { (net : Net) (x : ℕ) → is_node net x ≡ there → is_landmark net x ≡ marked → length net.landmarks ≡ count → IsVerdict (refusal_of net (mark x)) result }
 {
     if !there {
@@ -55,7 +55,7 @@ pub fn judge_mark(there: bool, marked: bool, count: usize) -> Result<(), Refusal
     if marked {
         return Err(Refusal::AlreadyLandmark);
     }
-    if count >= MOST_LANDMARKS {
+    if count >= MOST_LANDMARKS as u64 {
         return Err(Refusal::TooManyLandmarks);
     }
     Ok(())
@@ -70,6 +70,22 @@ pub fn judge_unmark(there: bool, marked: bool) -> Result<(), Refusal>
     }
     if !marked {
         return Err(Refusal::NotALandmark);
+    }
+    Ok(())
+}
+
+/// Whether an arc of this length may be laid between two numbers, where there are `count` arcs. `there` says whether both are nodes.
+pub fn judge_lay(there: bool, count: u64, room: u64, span: u64) -> Result<(), Refusal>
+    ensures { (net : Net) (t h : ℕ) → (is_node net t && is_node net h) ≡ there → length net.arcs ≡ count → net.room ≡ room → IsVerdict (refusal_of net (lay t h span)) result }
+{
+    if span > u64::from(LONGEST_ARC) {
+        return Err(Refusal::LengthRange);
+    }
+    if !there {
+        return Err(Refusal::NoSuchNode);
+    }
+    if count >= room {
+        return Err(Refusal::NoRoom);
     }
     Ok(())
 }

@@ -1,13 +1,16 @@
-ghost use Rattle.roadnet.specs.Batches.{FirstRefusalIsOfTheFirst, AfterIsChanged, AdmittedFits, AllAdmittedFit};
-ghost use Rattle.roadnet.specs.Changes.{StepChanges, AdmittedSteps, RefusalIsLowest, FlawIsLowest, AfterBoth, AfterAdmitted, AfterIsNetwork};
+ghost use Rattle.roadnet.specs.Batches.{FirstRefusalIsOfTheFirst, AfterIsChanged, AfterAllIsChanged, GroupsAreTheirCommands, RefusedAsTheirCommands, AdmittedFits, AllAdmittedFit};
+ghost use Rattle.roadnet.specs.Changes.{StepChanges, AdmittedSteps, RefusalIsLowest, FlawIsLowest, GroupsJoin, GroupAdmitted, GroupGivesNetwork, GroupOfOne, AfterBoth, AfterIsNetwork};
 ghost use Rattle.roadnet.specs.WalkLaws.{WalksJoin, LeastIsOne, LeastOrNoWalk, LeastIsBounded, DifferenceIsBelow, NoWalkOnward};
 
 /// What holds of steps, whatever the network and the commands.
 pub fn laws_of_steps()
     ensures changes { StepChanges }
     ensures admitted { AdmittedSteps }
+    ensures joined { GroupsJoin }
+    ensures each_in_its_turn { GroupAdmitted }
+    ensures group_networks { GroupGivesNetwork }
+    ensures group_of_one { GroupOfOne }
     ensures one_after_another { AfterBoth }
-    ensures each_in_its_turn { AfterAdmitted }
     ensures networks { AfterIsNetwork }
 {}
 
@@ -15,6 +18,9 @@ pub fn laws_of_steps()
 pub fn laws_of_batches()
     ensures first_refused { FirstRefusalIsOfTheFirst }
     ensures carried_out { AfterIsChanged }
+    ensures all_carried_out { AfterAllIsChanged }
+    ensures flat { GroupsAreTheirCommands }
+    ensures flat_refused { RefusedAsTheirCommands }
     ensures fits { AdmittedFits }
     ensures all_fit { AllAdmittedFit }
 {}

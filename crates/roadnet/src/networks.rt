@@ -1,11 +1,12 @@
-ghost use Rattle.std.specs.Prelude.{false, ◌≡◌, ◌-◌, ◌<◌, ◌↔◌, IsTrue, OnOk, OnErr, IfOk, IfErr, MatchResult, Some, None, Err, length};
+ghost use Rattle.std.specs.Prelude.{false, ◌&&◌, ◌≡◌, ◌-◌, ◌<◌, ◌↔◌, IsTrue, OnOk, OnErr, IfOk, IfErr, MatchResult, Some, None, Err, length};
 ghost use Rattle.roadnet.specs.Made.{is_node_among, is_node_count, is_long, is_stray, has_long_arc, has_stray_end, has_stray_landmark, flaw_of, MayRefuseParts};
 ghost use Rattle.roadnet.specs.Members.{set_of};
 
 use crate::arcs::RoadArc;
 use crate::ascending::{collect, contains, put, take_out};
 use crate::commands::Command;
-use crate::judging::{judge_close, judge_mark, judge_reopen, judge_set, judge_unmark};
+use crate::judging::{judge_close, judge_lay, judge_mark, judge_reopen, judge_set, judge_unmark};
+use crate::probes::Probed;
 use crate::refusals::{OutOfMemory, Refusal};
 use std::alloc::Global;
 use std::marker::Model;
@@ -30,6 +31,7 @@ pub struct Network {
     nodes: u32,
     pub(crate) arcs: Vec<RoadArc>,
     pub(crate) landmarks: Vec<u32>,
+    room: u32,
 }
 
 impl Model for Network {
@@ -37,9 +39,9 @@ impl Model for Network {
 
     ghost Value = { Net };
 
-    ghost view = { λ a. record { nodes = a.nodes; arcs = a.arcs.items; landmarks = a.landmarks.items } };
+    ghost view = { λ a. record { nodes = a.nodes; arcs = a.arcs.items; landmarks = a.landmarks.items; room = a.room } };
 
-    ghost invariant = { λ a. IsNetwork (record { nodes = a.nodes; arcs = a.arcs.items; landmarks = a.landmarks.items }) };
+    ghost invariant = { λ a. IsNetwork (record { nodes = a.nodes; arcs = a.arcs.items; landmarks = a.landmarks.items; room = a.room }) };
 }
 
 fn is_node_among(nodes: u32, x: u32) -> bool
@@ -94,8 +96,9 @@ fn has_stray_landmark(nodes: u32, landmarks: &[u32]) -> bool
 }
 
 impl Network {
-    ghost use Rattle.roadnet.specs.Net.{IsNode, IsNetwork, arc_at};
-    ghost use Rattle.roadnet.specs.Step.{is_landmark, refusal_of, step, MayRefuse};
+    ghost use Rattle.roadnet.specs.declared.refusals.Refusal.TheVariants.{TooLarge as too_large};
+    ghost use Rattle.roadnet.specs.Net.{IsNode, IsNetwork, IsRoomFor, arc_at};
+    ghost use Rattle.roadnet.specs.Step.{is_node, is_landmark, refusal_of, step, MayRefuse};
     ghost use Rattle.roadnet.specs.Batches.{opened_at};
 
     /// A network of the nodes 1 to `nodes`, of these arcs in the order of their numbers, open or closed as they are given, and of
@@ -114,7 +117,7 @@ impl Network {
         landmarks: &[u32],
     ) -> Result<Network, Refusal>
         ensures ok { OnOk result (flaw_of nodes arcs.items landmarks.now ≡ None) }
-        ensures network { IfOk result (λ net. net ≡ record { nodes = nodes; arcs = arcs.items; landmarks = set_of landmarks.now }) }
+        ensures network { IfOk result (λ net. net ≡ record { nodes = nodes; arcs = arcs.items; landmarks = set_of landmarks.now; room = length arcs.items }) }
         ensures refused { IfErr result (MayRefuseParts nodes arcs.items landmarks.now) }
     {
         if !has_fit_count(nodes) {
@@ -131,11 +134,41 @@ impl Network {
             return Err(Refusal::NoSuchNode);
         }
         let landmarks = collect(alloc, landmarks, MOST_LANDMARKS)?;
+        let room = arcs.len() as u32;
         Ok(Network {
             nodes,
             arcs,
             landmarks,
+            room,
         })
+    }
+
+    /// The network with room for so many arcs, which `Lay` may fill. It takes no memory. Refused (9), with the network as it was, where
+    /// there are more arcs than that, or where it is above 67,108,864.
+    ///
+    /// `examples/six.gr` has 8 arcs and room for 8; with room for 10 two arcs may be laid.
+    pub fn with_room(self, room: u64) -> Result<Network, (Refusal, Network)>
+        ensures ok { IfOk result (λ net. net ≡ record self { room = room }) }
+        ensures fits { OnOk result (IsRoomFor self room) }
+        ensures refused { IfErr result (λ back. (back.0 ≡ too_large) × (back.1 ≡ self) × ¬ IsRoomFor self room) }
+    {
+        if room < self.arcs.len() as u64 || room > MOST_ARCS as u64 {
+            return Err((Refusal::TooLarge, self));
+        }
+        Ok(Network {
+            nodes: self.nodes,
+            arcs: self.arcs,
+            landmarks: self.landmarks,
+            room: room as u32,
+        })
+    }
+
+    /// For how many arcs the network has room.
+    pub fn room(&self) -> u32
+        ensures value { result ≡ self.now.room }
+        ensures network { IsNetwork self.now }
+    {
+        self.room
     }
 
     /// The number of nodes: they are numbered from 1 on.
@@ -168,6 +201,16 @@ impl Network {
         ensures network { IsNetwork self.now }
     {
         1 <= x && x <= u64::from(self.nodes)
+    }
+
+    /// Whether the network has nodes of both numbers.
+    fn has_nodes(&self, x: u64, y: u64) -> bool
+        ensures { result ≡ (is_node self.now x && is_node self.now y) }
+    {
+        if !self.has_node(x) {
+            return false;
+        }
+        self.has_node(y)
     }
 
     /// Whether the node of this number is a landmark, by a binary search.
@@ -212,10 +255,15 @@ impl Network {
             Command::Close { arc } => judge_close(self.is_open(arc)),
             Command::Reopen { arc } => judge_reopen(self.is_open(arc)),
             Command::Mark { node } => {
-                let count = self.landmarks.len();
+                let count = self.landmarks.len() as u64;
                 judge_mark(self.has_node(node), self.is_landmark(node), count)
             }
             Command::Unmark { node } => judge_unmark(self.has_node(node), self.is_landmark(node)),
+            Command::Lay { tail, head, length } => {
+                let there = self.has_nodes(tail, head);
+                let count = self.arcs.len() as u64;
+                judge_lay(there, count, u64::from(self.room), length)
+            }
         }
     }
 
@@ -229,10 +277,11 @@ impl Network {
             nodes: self.nodes,
             arcs: Vec::from_slice(alloc, &self.arcs)?,
             landmarks: Vec::from_slice(alloc, &self.landmarks)?,
+            room: self.room,
         })
     }
 
-    /// Carries the command out where it is admitted. Only `Mark` takes memory, and may be refused for want of it (11). After a
+    /// Carries the command out where it is admitted. Only `Mark` and `Lay` take memory, and may be refused for want of it (11). After a
     /// refusal the network is as it was.
     ///
     /// An arc is changed in O(1), the landmarks by a binary search and one shift.
@@ -261,7 +310,48 @@ impl Network {
                 put(&mut self.landmarks, node as u32)?;
             }
             Command::Unmark { node } => take_out(&mut self.landmarks, node as u32),
+            Command::Lay { tail, head, length } => {
+                let laid = RoadArc {
+                    tail: tail as u32,
+                    head: head as u32,
+                    length: length as u32,
+                    opened: true,
+                };
+                if self.arcs.push(laid).is_err() {
+                    return Err(Refusal::OutOfMemory);
+                }
+            }
         }
         Ok(())
+    }
+}
+
+impl Probed for Network {
+    ghost use Rattle.roadnet.specs.Outlines.{outline_of};
+
+    ghost outline = { outline_of };
+
+    fn knows_node(&self, x: u64) -> bool {
+        self.has_node(x)
+    }
+
+    fn flag_of(&self, k: u64) -> Option<bool> {
+        self.is_open(k)
+    }
+
+    fn is_marked(&self, x: u64) -> bool {
+        self.is_landmark(x)
+    }
+
+    fn count_arcs(&self) -> u64 {
+        self.arcs().len() as u64
+    }
+
+    fn count_landmarks(&self) -> u64 {
+        self.landmarks().len() as u64
+    }
+
+    fn most_arcs(&self) -> u64 {
+        u64::from(self.room())
     }
 }

@@ -8,13 +8,19 @@ ghost use Rattle.roadnet.specs.Step.{TakesMemory};
 ghost use Rattle.roadnet.specs.Batches.{changed_landmarks};
 
 use crate::arcs::RoadArc;
-use crate::ascending::{contains, put, take_out};
+use crate::ascending::contains;
+use crate::batches::landmarks_after;
 use crate::commands::Command;
-use crate::judging::{judge_close, judge_mark, judge_reopen, judge_set, judge_unmark};
+use crate::flags::{change_flags, names_no_node, restore_flags};
+use crate::groups::Group;
+use crate::judging::{judge_close, judge_lay, judge_mark, judge_reopen, judge_set, judge_unmark};
 use crate::networks::Network;
+use crate::probes::{Probed, admit_one};
 use crate::refusals::{OutOfMemory, Refusal};
 use std::alloc::{AllocError, Global};
+use std::array::from_ref;
 use std::marker::Model;
+use std::mem::replace;
 
 /// The outline of a network: which arcs there are, which of them are open, and the landmarks. That is all that commands are judged by,
 /// so an outline admits what each network that has it admits. The ends and the lengths of the arcs are left out.
@@ -25,6 +31,7 @@ pub struct Outline {
     nodes: u32,
     opened: Vec<bool>,
     landmarks: Vec<u32>,
+    room: u32,
 }
 
 impl Model for Outline {
@@ -32,9 +39,9 @@ impl Model for Outline {
 
     ghost Value = { Outlined };
 
-    ghost view = { λ o. record { nodes = o.nodes; opened = o.opened.items; landmarks = o.landmarks.items } };
+    ghost view = { λ o. record { nodes = o.nodes; opened = o.opened.items; landmarks = o.landmarks.items; room = o.room } };
 
-    ghost invariant = { λ o. IsOutline (record { nodes = o.nodes; opened = o.opened.items; landmarks = o.landmarks.items }) };
+    ghost invariant = { λ o. IsOutline (record { nodes = o.nodes; opened = o.opened.items; landmarks = o.landmarks.items; room = o.room }) };
 }
 
 /// For each arc whether it is open.
@@ -51,7 +58,11 @@ fn opened_flags(alloc: Global, arcs: &[RoadArc]) -> Result<Vec<bool>, AllocError
 impl Outline {
     ghost use Rattle.roadnet.specs.Step.{refusal_of};
     ghost use Rattle.roadnet.specs.Judging.{IsVerdict};
-    ghost use Rattle.roadnet.specs.Outlines.{outline_of, OfEach, EachAdmits, EachStepsTo, EachMayRefuse};
+    ghost use Rattle.std.specs.Prelude.{option_map, vec_items};
+    ghost use Rattle.roadnet.specs.Step.{first_refusal};
+    ghost use Rattle.roadnet.specs.Batches.{MayRefuseBatch};
+    ghost use Rattle.roadnet.specs.Flags.{outline_before};
+    ghost use Rattle.roadnet.specs.Outlines.{outline_of, IsOutline, OfEach, EachAdmitsGroup, EachStepsByGroup};
 
     /// The outline of this network, by one pass over its arcs.
     pub fn of(alloc: Global, network: &Network) -> Result<Outline, OutOfMemory>
@@ -61,6 +72,7 @@ impl Outline {
             nodes: network.nodes(),
             opened: opened_flags(alloc, network.arcs())?,
             landmarks: Vec::from_slice(alloc, network.landmarks())?,
+            room: network.room(),
         })
     }
 
@@ -96,69 +108,98 @@ impl Outline {
             Command::Close { arc } => judge_close(self.is_open(arc)),
             Command::Reopen { arc } => judge_reopen(self.is_open(arc)),
             Command::Mark { node } => {
-                let count = self.landmarks.len();
+                let count = self.landmarks.len() as u64;
                 judge_mark(self.has_node(node), self.is_landmark(node), count)
             }
             Command::Unmark { node } => judge_unmark(self.has_node(node), self.is_landmark(node)),
+            Command::Lay { tail, head, length } => {
+                let there = self.has_node(tail) && self.has_node(head);
+                let count = self.opened.len() as u64;
+                judge_lay(there, count, u64::from(self.room), length)
+            }
         }
     }
 
-    /// The landmarks after an admitted `Mark`: all memory that carrying a command out takes. No other command takes any. Nothing is
-    /// changed yet.
-    ///
-    /// Where 3 and 6 are landmarks, `Mark { node: 1 }` gives 1, 3 and 6, and `Unmark { node: 6 }` gives nothing.
-    pub fn prepare(&self, command: &Command) -> Result<Option<Vec<u32>>, OutOfMemory>
-        requires { EachAdmits self.now command.now }
-        ensures none { IfOk result (λ room. IfNone room (TakesMemory command.now → ⊥)) }
-        ensures landmarks { IfOk result (λ room. IfSome room (λ landmarks. landmarks.items ≡ changed_landmarks self.now.landmarks command.now)) }
-        ensures err { OnErr result (TakesMemory command.now) }
+    /// Whether the group may be carried out, and else the refusal of its first command that is not admitted after those before it. It
+    /// takes no memory.
+    pub fn admit_group(&self, group: &Group) -> Result<(), Refusal>
+        ensures { OfEach self.now (λ net. IsVerdict (first_refusal net group.now) result) }
     {
-        let Command::Mark { node } = *command else {
-            return Ok(None);
-        };
-        let alloc = *self.landmarks.allocator();
-        let mut landmarks = Vec::from_slice(alloc, &self.landmarks)?;
-        put(&mut landmarks, node as u32)?;
-        Ok(Some(landmarks))
+        let _room = self.room;
+        admit_one(self, &[], group.commands())
     }
 
-    /// Carries out an admitted command, given what `prepare` made for it. It takes no memory and can't fail.
-    ///
-    /// An arc is changed in O(1), the landmarks after a `Mark` are moved in, and an `Unmark` is a binary search and one shift.
-    pub fn carry_out(&mut self, command: Command, room: Option<Vec<u32>>)
-        requires admitted { EachAdmits self.old command }
-        requires none { IfNone room (TakesMemory command → ⊥) }
-        requires landmarks { IfSome room (λ landmarks. landmarks.items ≡ changed_landmarks self.old.landmarks command) }
-        ensures { EachStepsTo self.old command self.new }
-    {
-        match command {
-            Command::Set { arc: _, length: _ } => {}
-            Command::Close { arc } => {
-                let found = &mut self.opened[(arc - 1) as usize];
-                *found = false;
-            }
-            Command::Reopen { arc } => {
-                let found = &mut self.opened[(arc - 1) as usize];
-                *found = true;
-            }
-            Command::Mark { node: _ } => match room {
-                Some(landmarks) => self.landmarks = landmarks,
-                None => unreachable!(),
-            },
-            Command::Unmark { node } => take_out(&mut self.landmarks, node as u32),
-        }
-    }
-
-    /// Carries the command out where it is admitted. Only `Mark` takes memory, and may be refused for want of it (11). After a
-    /// refusal the outline is as it was.
-    pub fn apply(&mut self, command: Command) -> Result<(), Refusal>
-        ensures ok { OnOk result (EachStepsTo self.old command self.new) }
+    /// Carries an admitted group out, all of it or nothing. Answers the landmarks as they were, where the group names some. It takes
+    /// memory for arcs that are laid, and for a copy of the landmarks where the group names one. After a refusal the outline is as it was.
+    pub fn carry_out(&mut self, group: &Group) -> Result<Option<Vec<u32>>, OutOfMemory>
+        requires admitted { EachAdmitsGroup self.old group.now }
+        ensures ok { OnOk result (EachStepsByGroup self.old group.now self.new) }
+        ensures back { IfOk result (λ landmarks. outline_before group.now (option_map vec_items landmarks) self.new ≡ self.old) }
         ensures err { OnErr result (self.new ≡ self.old) }
-        ensures refused { IfErr result (EachMayRefuse self.old command) }
     {
-        self.admit(&command)?;
-        let room = self.prepare(&command)?;
-        self.carry_out(command, room);
-        Ok(())
+        let commands = group.commands();
+        if names_no_node(commands) {
+            change_flags(&mut self.opened, commands)?;
+            return Ok(None);
+        }
+        let alloc = *self.landmarks.allocator();
+        let landmarks = landmarks_after(alloc, &self.landmarks, from_ref(group))?;
+        change_flags(&mut self.opened, commands)?;
+        Ok(Some(replace(&mut self.landmarks, landmarks)))
+    }
+
+    /// Takes back a group that was carried out last, given the landmarks that this answered. It takes no memory and can't fail.
+    pub fn take_back(&mut self, group: &Group, landmarks: Option<Vec<u32>>)
+        requires { IsOutline (outline_before group.now (option_map vec_items landmarks) self.old) }
+        ensures { self.new ≡ outline_before group.now (option_map vec_items landmarks) self.old }
+    {
+        restore_flags(&mut self.opened, group.commands());
+        if let Some(landmarks) = landmarks {
+            self.landmarks = landmarks;
+        }
+    }
+
+    /// Carries the group out, all of it or nothing. Refused is its first command that is not admitted after those before it, with its
+    /// refusal; and, where each is admitted, want of memory (11). After a refusal the outline is as it was.
+    pub fn apply_group(&mut self, group: &Group) -> Result<(), Refusal>
+        ensures ok { OnOk result (EachStepsByGroup self.old group.now self.new) }
+        ensures err { OnErr result (self.new ≡ self.old) }
+        ensures refused { IfErr result (λ refusal. OfEach self.old (λ net. MayRefuseBatch net group.now refusal)) }
+    {
+        if let Err(refusal) = self.admit_group(group) {
+            return Err(refusal);
+        }
+        match self.carry_out(group) {
+            Ok(_) => Ok(()),
+            Err(_) => Err(Refusal::OutOfMemory),
+        }
+    }
+}
+
+impl Probed for Outline {
+    ghost outline = { λ o. o };
+
+    fn knows_node(&self, x: u64) -> bool {
+        self.has_node(x)
+    }
+
+    fn flag_of(&self, k: u64) -> Option<bool> {
+        self.is_open(k)
+    }
+
+    fn is_marked(&self, x: u64) -> bool {
+        self.is_landmark(x)
+    }
+
+    fn count_arcs(&self) -> u64 {
+        self.opened.len() as u64
+    }
+
+    fn count_landmarks(&self) -> u64 {
+        self.landmarks.len() as u64
+    }
+
+    fn most_arcs(&self) -> u64 {
+        u64::from(self.room)
     }
 }

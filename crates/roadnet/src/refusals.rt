@@ -21,6 +21,9 @@ pub enum Refusal {
     /// The writer failed.
     #[error("12 Write")]
     Write,
+    /// A group has no command, or more than 253.
+    #[error("13 GroupSize")]
+    GroupSize,
     /// The network has no arc of this number.
     #[error("20 NoSuchArc")]
     NoSuchArc,
@@ -45,6 +48,9 @@ pub enum Refusal {
     /// There are 1,000 landmarks already, or more than that are given.
     #[error("27 TooManyLandmarks")]
     TooManyLandmarks,
+    /// There are as many arcs as the network has room for.
+    #[error("29 NoRoom")]
+    NoRoom,
     /// The version would pass 2^48.
     #[error("28 VersionsExhausted")]
     VersionsExhausted,
@@ -111,6 +117,7 @@ impl Refusal {
             Refusal::Read => 10,
             Refusal::OutOfMemory => 11,
             Refusal::Write => 12,
+            Refusal::GroupSize => 13,
             Refusal::NoSuchArc => 20,
             Refusal::LengthRange => 21,
             Refusal::AlreadyClosed => 22,
@@ -120,6 +127,7 @@ impl Refusal {
             Refusal::NotALandmark => 26,
             Refusal::TooManyLandmarks => 27,
             Refusal::VersionsExhausted => 28,
+            Refusal::NoRoom => 29,
             Refusal::NotAStore => 40,
             Refusal::WrongFormat => 41,
             Refusal::Damaged { page: _ } => 42,

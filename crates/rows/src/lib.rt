@@ -8,6 +8,7 @@ mod landmark_rows;
 mod laws;
 mod pinned;
 mod queries;
+mod ran;
 mod searches;
 mod views;
 
@@ -17,5 +18,6 @@ pub use landmark_rows::Row;
 pub use laws::{laws_of_bounds, laws_of_replies};
 pub use pinned::Pinned;
 pub use queries::{Query, Reply};
+pub use ran::Ran;
 pub use searches::Searches;
 pub use views::View;

@@ -94,6 +94,14 @@ impl<'a> Pinned<'a> {
         view.version()
     }
 
+    /// The width of the buckets of its searches. It takes no memory.
+    pub fn width(&self) -> u32
+        ensures { result ≡ (viewed self.now).delta }
+    {
+        let view = self.view;
+        view.width()
+    }
+
     /// The reply to `From`, by the landmark's row. It takes no memory.
     ///
     /// In the network of `examples/six.gr` with the landmark 3, from 3 to 4 it is `Length(2)`, from 3 to 1 `NoWalk`, and from 1 to 4

@@ -134,6 +134,13 @@ impl View {
         &self.network
     }
 
+    /// The width of the buckets of its searches. It takes no memory.
+    pub fn width(&self) -> u32
+        ensures { result ≡ self.now.delta }
+    {
+        self.snapshot.delta()
+    }
+
     /// The open arcs of the network, grouped.
     pub fn snapshot(&self) -> &Snapshot
         ensures arcs { IsSnapshotOf self.now.network result.now }

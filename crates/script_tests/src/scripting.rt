@@ -30,14 +30,30 @@ fn is_refused(rt: &(impl Abort + AllocGlobal), text: &str, line: u64, code: Code
 }
 
 /// Lines, each with the event that it gives.
-const EVENTS: [(&str, &str); 24] = [
-    ("set 8 4", "Submit { command: Set { arc: 8, length: 4 } }"),
-    (" close\t07 \r", "Submit { command: Close { arc: 7 } }"),
-    ("reopen 7", "Submit { command: Reopen { arc: 7 } }"),
-    ("mark 3", "Submit { command: Mark { node: 3 } }"),
+const EVENTS: [(&str, &str); 25] = [
+    (
+        "set 8 4",
+        "Submit { group: Group { held: One(Set { arc: 8, length: 4 }) } }",
+    ),
+    (
+        " close\t07 \r",
+        "Submit { group: Group { held: One(Close { arc: 7 }) } }",
+    ),
+    (
+        "reopen 7",
+        "Submit { group: Group { held: One(Reopen { arc: 7 }) } }",
+    ),
+    (
+        "mark 3",
+        "Submit { group: Group { held: One(Mark { node: 3 }) } }",
+    ),
     (
         "unmark 9223372036854775807",
-        "Submit { command: Unmark { node: 9223372036854775807 } }",
+        "Submit { group: Group { held: One(Unmark { node: 9223372036854775807 }) } }",
+    ),
+    (
+        "lay 1 2 3",
+        "Submit { group: Group { held: One(Lay { tail: 1, head: 2, length: 3 }) } }",
     ),
     ("flush", "Flush"),
     ("checkpoint", "Checkpoint"),
@@ -99,7 +115,7 @@ fn each_line_is_its_event(rt: HostRuntime) -> Result<(), Fail> {
 }
 
 /// Lines of no kind, or with too many or too few fields, or with a field that is none of its place.
-const BAD_LINES: [&str; 45] = [
+const BAD_LINES: [&str; 49] = [
     "run",
     "c",
     "lower 1",
@@ -121,6 +137,10 @@ const BAD_LINES: [&str; 45] = [
     "checkpoint 64",
     "task 1",
     "publish 1",
+    "lay 1 2",
+    "lay 1 2 3 4",
+    "begin 1",
+    "end",
     "dist 1",
     "dist 1 2 3",
     "dist x 9223372036854775808",
@@ -148,7 +168,7 @@ const BAD_LINES: [&str; 45] = [
 ];
 
 /// Lines with a number that is not in its range.
-const OUT_OF_RANGE: [&str; 26] = [
+const OUT_OF_RANGE: [&str; 27] = [
     "set 1 -2",
     "close 9223372036854775808",
     "reopen -0",
@@ -157,6 +177,7 @@ const OUT_OF_RANGE: [&str; 26] = [
     "dist -1 2",
     "from 1 9223372036854775808",
     "lower -1 2",
+    "lay 1 2 -3",
     "step 0",
     "step 65",
     "step -1",
@@ -193,11 +214,46 @@ fn numbers_out_of_range(rt: HostRuntime) {
     is_refused(&rt, "stop 1 256 flush\nx\n", 1, Code::NumberRange);
 }
 
+/// Lines within a group are commands alone, and a script doesn't end within one: a reader that takes an event there, or that carries an open group
+/// out, is refused.
+#[test]
+fn faults_of_groups(rt: HostRuntime) {
+    let table: [(&str, u64, Code); 9] = [
+        ("begin\nend\n", 2, Code::GroupSize),
+        ("flush\nbegin\nclose 7\n", 3, Code::OpenGroup),
+        ("begin\nbegin\n", 2, Code::BadLine),
+        ("begin\nclose 7\nend 1\n", 3, Code::BadLine),
+        ("begin\nflush\nend\n", 2, Code::BadLine),
+        ("begin\ndist 1 2\nend\n", 2, Code::BadLine),
+        ("begin\nstop\nend\n", 2, Code::BadLine),
+        ("begin\nstep 65\nend\n", 2, Code::BadLine),
+        ("begin\nclose -1\nend\n", 2, Code::NumberRange),
+    ];
+    for (text, line, code) in table {
+        is_refused(&rt, text, line, code);
+    }
+}
+
+/// A group is one event, at its end: a reader that gives its commands one by one is refused.
+#[test]
+fn a_group_is_one_event(rt: HostRuntime) -> Result<(), Fail> {
+    let text = "begin\n# two\nclose 7\n\nset 8 4\n end\r\nflush";
+    let want =
+        "[Submit { group: Group { held: Many([Close { arc: 7 }, Set { arc: 8, length: 4 }]) } }, Flush]";
+    match parse_script(rt.alloc(), text.as_bytes()) {
+        Ok(events) => {
+            assert!(rt; format!(in rt.alloc(); "{events:?}")?.as_str() == want);
+        }
+        Err(_) => assert!(rt; false),
+    }
+    Ok(())
+}
+
 #[test]
 fn a_script_is_read_in_order(rt: HostRuntime) -> Result<(), Fail> {
     let text = "close 7\r\n# comment\n\nstop 3 170 flush\ndist 1 2";
     let want =
-        "[Submit { command: Close { arc: 7 } }, StopWithin { call: 3, picks: [Byte(170)], writing: Flush }, Ask { query: Dist { source: 1, target: 2 } }]";
+        "[Submit { group: Group { held: One(Close { arc: 7 }) } }, StopWithin { call: 3, picks: [Byte(170)], writing: Flush }, Ask { query: Dist { source: 1, target: 2 } }]";
     let mut reader = BufReader::with_capacity(rt.alloc(), 5, text.as_bytes())?;
     let mut counted = Counted::new(&mut reader);
     match read_script_counted(rt.alloc(), &mut counted) {

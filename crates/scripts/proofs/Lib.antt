@@ -1,3 +1,4 @@
+pub mod ScriptGroups
 pub mod ScriptLines
 pub mod ScriptPicks
 pub mod ScriptSteps

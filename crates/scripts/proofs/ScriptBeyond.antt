@@ -1,5 +1,5 @@
 -- A line of a script that has too many fields, or too long a word, is a bad line.
-use Rattle.std.proofs.Common.{◌≡◌, ℕ, ◌+◌, ◌<◌, ◌≤◌, ◌&&◌, Bool, true, false, ltb, leb, List, [], ◌∷◌, ◌++◌, length, drop, Some, refl, ap, ◌∙◌, arith, inl, inr, ◌⊎◌}
+use Rattle.std.proofs.Common.{◌≡◌, ℕ, ◌+◌, ◌<◌, ◌≤◌, ◌&&◌, ◌||◌, Bool, true, false, ltb, leb, List, [], ◌∷◌, ◌++◌, length, drop, Some, refl, ap, ◌∙◌, arith, inl, inr, ◌⊎◌}
 use Rattle.std.specs.Prelude.{is_some}
 use Rattle.std.specs.List.{prefix_len}
 use Rattle.std.specs.Str.{bytes_eq}
@@ -9,10 +9,12 @@ use Rattle.std.proofs.lemmas.List.{length-append, length-drop, drop-append-le}
 use Rattle.dimacs.specs.declared.fault.Code.TheVariants.{BadLine}
 use Rattle.dimacs.specs.Numerals.{numeral}
 use Rattle.dimacs.specs.Commands.{command_code}
+use Rattle.dimacs.specs.Commanded.{begins, ends, grouping_of}
 use Rattle.dimacs.specs.Faults.{Row, is_remark}
 use Rattle.dimacs.specs.Overflow.{has_other_byte, overflows}
 use Rattle.dimacs.proofs.Beyond.{long_no_word, no_numeral, first_is_long, many_or_other, malformed_beyond, bad_by_forms}
-use Rattle.scripts.specs.ScriptTexts.{numbered, is_pick, is_some_of_most, is_writing, are_of_stop, behind_picks, script_line_code}
+use Rattle.dimacs.proofs.GroupCodes.{group_overflows}
+use Rattle.scripts.specs.ScriptTexts.{numbered, is_pick, is_some_of_most, is_writing, are_of_stop, behind_picks, event_code, script_line_code}
 
 and_false : (b : Bool) → (b && false) ≡ false
 and_false true = refl
@@ -84,15 +86,15 @@ no_stop x (call ∷ zs) field after e =
 
 numbered_bad : (earlier : List Row) (before : Row) (field : List ℕ) (after : Row) → overflows before field ≡ true → is_remark 35 (before ++ field ∷ after) ≡ false
     → command_code numbered earlier (before ++ field ∷ after) ≡ Some BadLine
-numbered_bad earlier before field after e other = bad_by_forms numbered earlier before field after refl (λ numbers none one two. rw (none, one, two) refl) e other
+numbered_bad earlier before field after e other = bad_by_forms numbered earlier before field after refl (λ numbers none one two three. rw (none, one, two, three) refl) e other
 
-pub script_overflows : (earlier : List Row) (before : Row) (field : List ℕ) (after : Row) → overflows before field ≡ true → is_remark 35 (before ++ field ∷ after) ≡ false
-    → script_line_code earlier (before ++ field ∷ after) ≡ Some BadLine
-unfolding script_line_code
-script_overflows earlier [] field after e other =
+event_overflows : (earlier : List Row) (before : Row) (field : List ℕ) (after : Row) → overflows before field ≡ true → is_remark 35 (before ++ field ∷ after) ≡ false
+    → event_code earlier (before ++ field ∷ after) ≡ Some BadLine
+unfolding event_code
+event_overflows earlier [] field after e other =
     let long = first_is_long field e in
     rw (long_no_word field (codes "stop") long refl, long_no_word field (codes "step") long refl) (numbered_bad earlier [] field after e other)
-script_overflows earlier (x ∷ xs) field after e other =
+event_overflows earlier (x ∷ xs) field after e other =
     elim (cases_Bool (bytes_eq x (codes "stop"))) [
       | inl stop ↦ rw (stop, no_stop x xs field after e) refl
       | inr no_stop_word ↦
@@ -100,4 +102,13 @@ script_overflows earlier (x ∷ xs) field after e other =
             | inl step ↦ rw (no_stop_word, step, malformed_beyond 1 x xs field after (omega arith) e) refl
             | inr no_step_word ↦ rw (no_stop_word, no_step_word) (numbered_bad earlier (x ∷ xs) field after e other)
           ]
+    ]
+
+pub script_overflows : (earlier : List Row) (before : Row) (field : List ℕ) (after : Row) → overflows before field ≡ true → is_remark 35 (before ++ field ∷ after) ≡ false
+    → script_line_code earlier (before ++ field ∷ after) ≡ Some BadLine
+unfolding script_line_code
+script_overflows earlier before field after e other =
+    elim (cases_Bool (is_some (grouping_of earlier).opened || (begins (before ++ field ∷ after) || ends (before ++ field ∷ after)))) [
+      | inl grouped ↦ rw grouped (group_overflows earlier before field after e other)
+      | inr single ↦ rw single (event_overflows earlier before field after e other)
     ]

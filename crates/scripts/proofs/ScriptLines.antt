@@ -1,7 +1,7 @@
 -- A line of a script that is read from left to right has the lowest code that applies to it, or is the event that it says.
 use Rattle.std.proofs.Common.{◌≡◌, ◌∙◌, ℕ, Bool, true, false, ◌||◌, cond, eqb, List, [], ◌∷◌, ◌++◌, None, Some, Result, Ok, Err, length, ltb, map, refl, sym, ap, subst, arith}
 use Rattle.std.proofs.lemmas.Bool.{eqb-true, lt-ltb, ne_eqb}
-use Rattle.std.proofs.lemmas.List.{append-nil, map-append}
+use lib.Chars.{codes}
 use Rattle.dimacs.specs.declared.fault.Code.{Code}
 use Rattle.dimacs.specs.declared.fault.Code.TheVariants.{BadLine, NumberRange}
 use Rattle.dimacs.specs.declared.numeral.Numeral.{Numeral}
@@ -10,36 +10,34 @@ use Rattle.dimacs.specs.declared.words.OneNumber.TheVariants.{Close, Reopen, Mar
 use Rattle.dimacs.specs.declared.words.TwoNumbers.{TwoNumbers}
 use Rattle.dimacs.specs.declared.words.TwoNumbers.TheVariants.{Set, Dist, From, Lower}
 use Rattle.dimacs.specs.Commands.{form, form_of, is_refused, command_code}
-use Rattle.dimacs.specs.CommandReading.{number_read, numbers_read}
+use Rattle.dimacs.specs.CommandReading.{number_read, numbers_read, three_read}
 use Rattle.dimacs.specs.Content.{size_at}
 use Rattle.dimacs.specs.Faults.{Row, is_empty, is_remark, is_malformed}
 use Rattle.dimacs.specs.Numerals.{numeral}
-use Rattle.dimacs.specs.Reading.{one_numeral, two_numerals}
-use Rattle.dimacs.specs.Taking.{Takes}
-use Rattle.dimacs.proofs.CommandRows.{number_right, numbers_right}
-use Rattle.dimacs.proofs.Items.{filter_map_push, or-false, by_memory_of}
+use Rattle.dimacs.specs.Reading.{one_numeral, two_numerals, three_numerals}
+use Rattle.dimacs.proofs.CommandRows.{number_right, numbers_right, three_right}
+use Rattle.dimacs.proofs.Items.{or-false}
 use Rattle.disk.specs.declared.stoppable.Pick.{Pick}
 use Rattle.machine.specs.declared.events.Event.{Event}
 use Rattle.scripts.specs.declared.script_words.Bare.{Bare}
 use Rattle.scripts.specs.declared.script_words.Bare.TheVariants.{Flush, Checkpoint, Task, Publish}
-use Rattle.scripts.specs.declared.script_words.Word.TheVariants.{WithNone, WithOne, WithTwo}
-use Rattle.scripts.specs.declared.script_texts.EventLines.{EventLines}
-use Rattle.scripts.specs.ScriptTexts.{ScriptLine, as_line, line_of, lines_in, numbered, is_stop, is_step, script_line_code}
-use Rattle.scripts.specs.ScriptReading.{spelling, bare_line, one_line, two_line, ReadsEvent, ReadsLine, HasEvents}
+use Rattle.scripts.specs.declared.script_words.Word.TheVariants.{WithNone, WithOne, WithTwo, Lay}
+use Rattle.scripts.specs.ScriptTexts.{as_line, line_of, numbered, is_stop, is_step, event_code}
+use Rattle.scripts.specs.ScriptReading.{spelling, bare_line, one_line, two_line, lay_line, ReadsEvent, ReadsLine}
 
 -- ---- lines that say nothing
-remark_code : (earlier : List Row) (bs : List ℕ) (others : Row) → ltb 0 (length (35 ∷ bs)) ≡ true → script_line_code earlier ((35 ∷ bs) ∷ others) ≡ None
-unfolding script_line_code command_code
+remark_code : (earlier : List Row) (bs : List ℕ) (others : Row) → ltb 0 (length (35 ∷ bs)) ≡ true → event_code earlier ((35 ∷ bs) ∷ others) ≡ None
+unfolding event_code command_code
 remark_code earlier bs others some = rw some refl
 
-empty_code : (earlier : List Row) → script_line_code earlier [] ≡ None
-unfolding script_line_code command_code
+empty_code : (earlier : List Row) → event_code earlier [] ≡ None
+unfolding event_code command_code
 empty_code earlier = refl
 
 no_event : (b : ℕ) (bs : List ℕ) (others : Row) → b ≡ 35 → line_of ((b ∷ bs) ∷ others) ≡ None
 no_event b bs others e = rw e refl
 
-ignored : (earlier : List Row) (row : Row) → (is_empty row || is_remark 35 row) ≡ true → (script_line_code earlier row ≡ None) × (line_of row ≡ None)
+ignored : (earlier : List Row) (row : Row) → (is_empty row || is_remark 35 row) ≡ true → (event_code earlier row ≡ None) × (line_of row ≡ None)
 ignored earlier [] e = (empty_code earlier, refl)
 ignored earlier ([] ∷ others) e = absurd (let absurdity : ⊥ = cc in absurdity)
 ignored earlier ((b ∷ bs) ∷ others) e =
@@ -52,7 +50,7 @@ pub ignored_row : (row : Row) → (is_empty row || is_remark 35 row) ≡ true �
 ignored_row row e = ((λ earlier. (ignored earlier row e).0), (ignored [] row e).1)
 
 pub unknown_row : (row : Row) → (is_empty row || is_remark 35 row) ≡ false → is_stop row ≡ false → is_step row ≡ false → form_of numbered row ≡ None → ReadsLine row (Err BadLine)
-unfolding script_line_code command_code
+unfolding event_code command_code
 unknown_row row e s p f = λ earlier. rw (s, p, e, f) refl
 
 -- ---- words with so many numbers behind them
@@ -99,22 +97,22 @@ two_made From numbers = refl
 two_made Lower numbers = refl
 
 module _ (word : List ℕ) where
-  malformed : (n : ℕ) (earlier : List Row) (numbers : Row) → IsForm word n → is_malformed n numbers ≡ true → script_line_code earlier (word ∷ numbers) ≡ Some BadLine
-  unfolding script_line_code command_code
+  malformed : (n : ℕ) (earlier : List Row) (numbers : Row) → IsForm word n → is_malformed n numbers ≡ true → event_code earlier (word ∷ numbers) ≡ Some BadLine
+  unfolding event_code command_code
   malformed n earlier numbers f e = rw (f.no_stop numbers, f.no_step numbers, f.plain numbers, f.formed numbers, e) refl
 
-  code_alone : (earlier : List Row) → IsForm word 0 → script_line_code earlier (word ∷ []) ≡ None
-  unfolding script_line_code command_code
+  code_alone : (earlier : List Row) → IsForm word 0 → event_code earlier (word ∷ []) ≡ None
+  unfolding event_code command_code
   code_alone earlier f = rw (f.no_stop [], f.no_step [], f.plain [], f.formed []) refl
 
   code_of_one : (earlier : List Row) (u : List ℕ) (a : Numeral) → IsForm word 1 → numeral u ≡ Some a
-      → script_line_code earlier (word ∷ u ∷ []) ≡ cond (is_refused a) (Some NumberRange) None
-  unfolding script_line_code command_code
+      → event_code earlier (word ∷ u ∷ []) ≡ cond (is_refused a) (Some NumberRange) None
+  unfolding event_code command_code
   code_of_one earlier u a f e = rw (f.no_stop (u ∷ []), f.no_step (u ∷ []), f.plain (u ∷ []), f.formed (u ∷ []), e) (simp or-false)
 
   code_of_two : (earlier : List Row) (u v : List ℕ) (a b : Numeral) → IsForm word 2 → numeral u ≡ Some a → numeral v ≡ Some b
-      → script_line_code earlier (word ∷ u ∷ v ∷ []) ≡ cond (is_refused a || is_refused b) (Some NumberRange) None
-  unfolding script_line_code command_code
+      → event_code earlier (word ∷ u ∷ v ∷ []) ≡ cond (is_refused a || is_refused b) (Some NumberRange) None
+  unfolding event_code command_code
   code_of_two earlier u v a b f d e = rw (f.no_stop (u ∷ v ∷ []), f.no_step (u ∷ v ∷ []), f.plain (u ∷ v ∷ []), f.formed (u ∷ v ∷ []), d, e) (simp or-false)
 
 -- ---- a word alone
@@ -130,7 +128,7 @@ bare_fault word rest others first is =
 -- ---- numbers
 -- ---- a word with one number
 abbrev RightOne : OneNumber → Row → Result ℕ Code → Type 0
-RightOne word numbers (Ok n) = ((earlier : List Row) → script_line_code earlier (spelling (WithOne word) ∷ numbers) ≡ None) × (line_of (spelling (WithOne word) ∷ numbers) ≡ Some (one_line word n))
+RightOne word numbers (Ok n) = ((earlier : List Row) → event_code earlier (spelling (WithOne word) ∷ numbers) ≡ None) × (line_of (spelling (WithOne word) ∷ numbers) ≡ Some (one_line word n))
 RightOne word numbers (Err code) = ReadsEvent (spelling (WithOne word) ∷ numbers) (Err code)
 
 one_row : (word : OneNumber) (numbers : Row) → RightOne word numbers (number_read (one_numeral numbers))
@@ -150,7 +148,7 @@ one_fault word numbers code read = subst (RightOne word numbers) (sym read) (one
 
 -- ---- a word with two numbers
 abbrev RightTwo : TwoNumbers → Row → Result (ℕ × ℕ) Code → Type 0
-RightTwo word numbers (Ok n) = ((earlier : List Row) → script_line_code earlier (spelling (WithTwo word) ∷ numbers) ≡ None) × (line_of (spelling (WithTwo word) ∷ numbers) ≡ Some (two_line word n.0 n.1))
+RightTwo word numbers (Ok n) = ((earlier : List Row) → event_code earlier (spelling (WithTwo word) ∷ numbers) ≡ None) × (line_of (spelling (WithTwo word) ∷ numbers) ≡ Some (two_line word n.0 n.1))
 RightTwo word numbers (Err code) = ReadsEvent (spelling (WithTwo word) ∷ numbers) (Err code)
 
 two_row : (word : TwoNumbers) (numbers : Row) → RightTwo word numbers (numbers_read (two_numerals numbers))
@@ -168,24 +166,31 @@ two_says word numbers n event read is =
 pub two_fault : (word : TwoNumbers) (numbers : Row) (code : Code) → Err code ≡ numbers_read (two_numerals numbers) → ReadsEvent (spelling (WithTwo word) ∷ numbers) (Err code)
 two_fault word numbers code read = subst (RightTwo word numbers) (sym read) (two_row word numbers)
 
--- ---- lines taken, and one more
-pub takes_nothing : (earlier : List Row) (row : Row) (taken : EventLines) → ReadsLine row (Ok None) → HasEvents earlier taken → Takes script_line_code HasEvents earlier row taken (Ok tt)
-takes_nothing earlier row taken reads has = (reads.0 earlier, has ∙ sym (filter_map_push line_of earlier row ∙ rw reads.1 (append-nil (lines_in earlier))))
+-- ---- `lay` and its three numbers
+code_of_three : (earlier : List Row) (u v w : List ℕ) (a b d : Numeral) → numeral u ≡ Some a → numeral v ≡ Some b → numeral w ≡ Some d
+    → event_code earlier (codes "lay" ∷ u ∷ v ∷ w ∷ []) ≡ cond (is_refused a || (is_refused b || is_refused d)) (Some NumberRange) None
+unfolding event_code command_code
+code_of_three earlier u v w a b d e f g = rw (e, f, g) (simp or-false)
 
-pub takes_event : (earlier : List Row) (row : Row) (event : Event Pick) (old new : EventLines) → ReadsLine row (Ok (Some event)) → HasEvents earlier old
-    → new.events.items ≡ old.events.items ++ event ∷ [] → Takes script_line_code HasEvents earlier row new (Ok tt)
-takes_event earlier row event old new reads has pushed =
-    let more : map as_line new.events.items ≡ lines_in earlier ++ as_line event ∷ [] =
-    ap (map as_line) pushed ∙ map-append as_line old.events.items (event ∷ []) ∙ ap (λ (l : List ScriptLine). l ++ as_line event ∷ []) has in
-    (reads.0 earlier, more ∙ sym (filter_map_push line_of earlier row ∙ rw reads.1 refl))
+malformed_three : (earlier : List Row) (numbers : Row) → is_malformed 3 numbers ≡ true → event_code earlier (codes "lay" ∷ numbers) ≡ Some BadLine
+unfolding event_code command_code
+malformed_three earlier numbers e = rw e refl
 
-pub takes_fault : (earlier : List Row) (row : Row) (code : Code) (taken : EventLines) → ReadsLine row (Err code) → Takes script_line_code HasEvents earlier row taken (Err code)
-takes_fault earlier row code taken reads = by_memory_of code reads (λ told. told earlier) (λ none. none earlier)
+abbrev RightThree : Row → Result (ℕ × ℕ × ℕ) Code → Type 0
+RightThree numbers (Ok n) = ((earlier : List Row) → event_code earlier (codes "lay" ∷ numbers) ≡ None) × (line_of (codes "lay" ∷ numbers) ≡ Some (lay_line n.0 n.1 n.2))
+RightThree numbers (Err code) = ReadsEvent (codes "lay" ∷ numbers) (Err code)
 
-or_right : (a b : Bool) → b ≡ true → (a || b) ≡ true
-or_right true b e = refl
-or_right false b e = e
+three_row : (numbers : Row) → RightThree numbers (three_read (three_numerals numbers))
+three_row =
+    three_right RightThree
+    (λ numbers bad earlier. malformed_three earlier numbers bad)
+    (λ u v w a b d e f g bad earlier. code_of_three earlier u v w a b d e f g ∙ rw bad refl)
+    (λ u v w a b d e f g good. ((λ earlier. code_of_three earlier u v w a b d e f g ∙ rw good refl), refl))
 
-pub takes_remark : (earlier : List Row) (row : Row) (taken : EventLines) → is_remark 35 row ≡ true → HasEvents earlier taken
-    → (script_line_code earlier row ≡ None) × HasEvents (earlier ++ row ∷ []) taken
-takes_remark earlier row taken e has = takes_nothing earlier row taken (ignored_row row (or_right (is_empty row) (is_remark 35 row) e)) has
+pub lay_says : (numbers : Row) (n : ℕ × ℕ × ℕ) (event : Event Pick) → Ok n ≡ three_read (three_numerals numbers) → as_line event ≡ lay_line n.0 n.1 n.2 → ReadsEvent (spelling Lay ∷ numbers) (Ok event)
+lay_says numbers n event read is =
+    let right : RightThree numbers (Ok n) = subst (RightThree numbers) (sym read) (three_row numbers) in
+    (right.0, right.1 ∙ ap Some (sym is))
+
+pub lay_fault : (numbers : Row) (code : Code) → Err code ≡ three_read (three_numerals numbers) → ReadsEvent (spelling Lay ∷ numbers) (Err code)
+lay_fault numbers code read = subst (RightThree numbers) (sym read) (three_row numbers)

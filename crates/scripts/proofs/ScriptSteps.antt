@@ -15,16 +15,16 @@ use Rattle.dimacs.proofs.Items.{or-false}
 use Rattle.dimacs.proofs.NodeRows.{one_cases}
 use Rattle.machine.specs.declared.events.Event.TheVariants.{CheckpointStep}
 use Rattle.machine.specs.declared.pages.StepPages.{StepPages}
-use Rattle.scripts.specs.ScriptTexts.{StepLine, is_no_step, script_line_code}
+use Rattle.scripts.specs.ScriptTexts.{StepLine, is_no_step, event_code}
 use Rattle.scripts.specs.ScriptReading.{ReadsEvent}
 use Rattle.dimacs.proofs.CommandRows.{kept_refused, kept_number}
 
-bad_step : (others : Row) (earlier : List Row) → is_malformed 1 others ≡ true → script_line_code earlier (codes "step" ∷ others) ≡ Some BadLine
-unfolding script_line_code
+bad_step : (others : Row) (earlier : List Row) → is_malformed 1 others ≡ true → event_code earlier (codes "step" ∷ others) ≡ Some BadLine
+unfolding event_code
 bad_step others earlier e = rw e refl
 
-code_of_step : (earlier : List Row) (u : List ℕ) (a : Numeral) (r : Bool) → numeral u ≡ Some a → is_no_step a ≡ r → script_line_code earlier (codes "step" ∷ u ∷ []) ≡ cond r (Some NumberRange) None
-unfolding script_line_code
+code_of_step : (earlier : List Row) (u : List ℕ) (a : Numeral) (r : Bool) → numeral u ≡ Some a → is_no_step a ≡ r → event_code earlier (codes "step" ∷ u ∷ []) ≡ cond r (Some NumberRange) None
+unfolding event_code
 code_of_step earlier u a r e f = rw (e, f) (simp or-false)
 
 zero_kept : (n : Numeral) → eqb (kept n).size 0 ≡ eqb n.size 0

@@ -20,15 +20,15 @@ use Rattle.disk.specs.declared.stoppable.Pick.{Pick}
 use Rattle.machine.specs.declared.events.Event.{Event}
 use Rattle.machine.specs.declared.events.Writing.{Writing}
 use Rattle.scripts.specs.declared.script_stops.PicksRead.{PicksRead}
-use Rattle.scripts.specs.ScriptTexts.{ScriptLine, FlushLine, CheckpointLine, StepLine, StopLine, StopWithinLine, as_line, writing_line, line_of, picks_in, behind_picks, pick_from, writing_from, is_pick, is_writing, is_some_of_most, are_of_stop, is_no_call, is_no_byte, is_no_step, has_number_outside, script_line_code}
+use Rattle.scripts.specs.ScriptTexts.{ScriptLine, FlushLine, CheckpointLine, StepLine, StopLine, StopWithinLine, as_line, writing_line, line_of, picks_in, behind_picks, pick_from, writing_from, is_pick, is_writing, is_some_of_most, are_of_stop, is_no_call, is_no_byte, is_no_step, has_number_outside, event_code}
 use Rattle.scripts.specs.ScriptReading.{call_of_numeral, call_read, step_read, writing_read, map_line, cut_within, cut_of, picks_read, IsUnlessMemory, ReadsPicks, ReadsEvent}
 use Rattle.dimacs.proofs.CommandRows.{kept_refused, kept_number}
 use Rattle.scripts.proofs.ScriptPicks.{AllPicks, all_picks, many_picks}
 use Rattle.scripts.proofs.ScriptSteps.{no_step_kept}
 
 -- ---- no field
-pub stop_alone : (rest : Row) → rest ≡ [] → ((earlier : List Row) → script_line_code earlier (codes "stop" ∷ rest) ≡ None) × (line_of (codes "stop" ∷ rest) ≡ Some StopLine)
-unfolding script_line_code
+pub stop_alone : (rest : Row) → rest ≡ [] → ((earlier : List Row) → event_code earlier (codes "stop" ∷ rest) ≡ None) × (line_of (codes "stop" ∷ rest) ≡ Some StopLine)
+unfolding event_code
 stop_alone rest none = rw none ((λ earlier. refl), refl)
 
 -- ---- the number of a call
@@ -122,15 +122,15 @@ writing_cases (word ∷ behind) = word_case word behind
 -- ---- all of them
 -- what a line says, by the line of its event
 abbrev SaysLine : Row → Result ScriptLine Code → Type 0
-SaysLine row (Ok line) = ((earlier : List Row) → script_line_code earlier row ≡ None) × (line_of row ≡ Some line)
-SaysLine row (Err code) = (earlier : List Row) → script_line_code earlier row ≡ Some code
+SaysLine row (Ok line) = ((earlier : List Row) → event_code earlier row ≡ None) × (line_of row ≡ Some line)
+SaysLine row (Err code) = (earlier : List Row) → event_code earlier row ≡ Some code
 
-bad_line : (others : Row) (earlier : List Row) → are_of_stop others ≡ false → script_line_code earlier (codes "stop" ∷ others) ≡ Some BadLine
-unfolding script_line_code
+bad_line : (others : Row) (earlier : List Row) → are_of_stop others ≡ false → event_code earlier (codes "stop" ∷ others) ≡ Some BadLine
+unfolding event_code
 bad_line others earlier e = rw e refl
 
-code_of_stop : (others : Row) (r : Bool) (earlier : List Row) → are_of_stop others ≡ true → has_number_outside others ≡ r → script_line_code earlier (codes "stop" ∷ others) ≡ cond r (Some NumberRange) None
-unfolding script_line_code
+code_of_stop : (others : Row) (r : Bool) (earlier : List Row) → are_of_stop others ≡ true → has_number_outside others ≡ r → event_code earlier (codes "stop" ∷ others) ≡ cond r (Some NumberRange) None
+unfolding event_code
 code_of_stop others r earlier e f = rw (e, f) refl
 
 module _ (call : List ℕ) (behind : Row) where
@@ -185,7 +185,7 @@ module _ (call : List ℕ) (behind : Row) where
     within c w says = subst (SaysLine whole) (sym (cut_some c w)) says
 
     outside : (a c : Bool) → is_some (numeral call) ≡ true → is_writing (behind_picks behind) ≡ true → option_map_or is_no_call (numeral call) false ≡ a → some_numeral is_no_step (item_fields (behind_picks behind)) ≡ c
-        → ((a || false) || not right || c) ≡ true → (earlier : List Row) → script_line_code earlier whole ≡ Some NumberRange
+        → ((a || false) || not right || c) ≡ true → (earlier : List Row) → event_code earlier whole ≡ Some NumberRange
     outside a c numeral_is writing_is e g out earlier = code_of_stop all true earlier (are_all true true true numeral_is some writing_is) (outside_all a (not right) c e range g ∙ out)
 
     inside_right : (b : Bool) → right ≡ b → (n : ℕ) (line : ScriptLine) → is_some (numeral call) ≡ true → is_writing (behind_picks behind) ≡ true → option_map_or is_no_call (numeral call) false ≡ false

@@ -3,7 +3,7 @@ use Rattle.std.specs.Prelude.{◌≡◌, ◌⊎◌, ◌<◌, ℕ, Bool, true, fa
 use Rattle.std.specs.List.{prefix_len}
 use Rattle.std.specs.Str.{bytes_eq}
 use lib.Chars.{codes}
-use Rattle.roadnet.specs.declared.commands.Command.TheVariants.{Set as set_arc}
+use Rattle.roadnet.specs.declared.commands.Command.TheVariants.{Set as set_arc, Lay as lay_arc}
 use Rattle.dimacs.specs.declared.numeral.Numeral.{Numeral}
 use Rattle.dimacs.specs.declared.words.OneNumber.{OneNumber}
 use Rattle.dimacs.specs.declared.words.TwoNumbers.{TwoNumbers}
@@ -11,6 +11,7 @@ use Rattle.dimacs.specs.declared.words.TwoNumbers.TheVariants.{Set, Dist, From, 
 use Rattle.dimacs.specs.declared.fault.Code.{Code}
 use Rattle.dimacs.specs.declared.fault.Code.TheVariants.{BadLine, NumberRange}
 use Rattle.dimacs.specs.Commands.{form_of}
+use Rattle.dimacs.specs.Commanded.{grouping_of}
 use Rattle.dimacs.specs.Faults.{Row, has_first, is_empty, is_remark, some_numeral}
 use Rattle.dimacs.specs.Lines.{fields}
 use Rattle.dimacs.specs.Numerals.{numeral, kept}
@@ -24,14 +25,14 @@ use Rattle.machine.specs.declared.events.Event.{Event}
 use Rattle.scripts.specs.declared.script_words.Bare.{Bare}
 use Rattle.scripts.specs.declared.script_words.Bare.TheVariants.{Flush, Checkpoint, Task, Publish}
 use Rattle.scripts.specs.declared.script_words.Word.{Word}
-use Rattle.scripts.specs.declared.script_words.Word.TheVariants.{WithNone, WithOne, WithTwo, Stop, Step}
+use Rattle.scripts.specs.declared.script_words.Word.TheVariants.{WithNone, WithOne, WithTwo, Lay, Stop, Step}
 use Rattle.scripts.specs.declared.script_stops.PicksRead.{PicksRead}
 use Rattle.scripts.specs.declared.script_stops.WritingWord.{WritingWord}
 use Rattle.scripts.specs.declared.script_stops.WritingWord.TheVariants.{Flush as flush_word, Checkpoint as checkpoint_word, Step as step_word}
 use Rattle.scripts.specs.declared.script_texts.Kind.{Kind}
 use Rattle.scripts.specs.declared.script_texts.Kind.TheVariants.{Ignored, Known, Unknown}
 use Rattle.scripts.specs.declared.script_texts.EventLines.{EventLines}
-use Rattle.scripts.specs.ScriptTexts.{ScriptLine, CommandLine, FlushLine, CheckpointLine, StepLine, TaskLine, PublishLine, QueryLine, StopWithinLine, as_line, line_of, lines_in, numbered, is_stop, is_step, is_pick, pick_from, most_picks, is_some_of_most, is_no_call, is_no_byte, is_no_step, script_line_code}
+use Rattle.scripts.specs.ScriptTexts.{ScriptLine, GroupLine, FlushLine, CheckpointLine, StepLine, TaskLine, PublishLine, QueryLine, StopWithinLine, as_line, line_of, lines_in, numbered, is_stop, is_step, is_pick, pick_from, most_picks, is_some_of_most, is_no_call, is_no_byte, is_no_step, event_code}
 
 -- WORDS
 
@@ -42,11 +43,12 @@ spelling (WithNone Task) = codes "task"
 spelling (WithNone Publish) = codes "publish"
 spelling (WithOne word) = one_spelling word
 spelling (WithTwo word) = two_spelling word
+spelling Lay = codes "lay"
 spelling Stop = codes "stop"
 spelling Step = codes "step"
 
 abbrev pub words : List Word
-words = WithNone Flush ∷ WithNone Checkpoint ∷ WithNone Task ∷ WithNone Publish ∷ [] ++ map WithOne one_words ++ map WithTwo two_words ++ Stop ∷ Step ∷ []
+words = WithNone Flush ∷ WithNone Checkpoint ∷ WithNone Task ∷ WithNone Publish ∷ [] ++ map WithOne one_words ++ map WithTwo two_words ++ Lay ∷ Stop ∷ Step ∷ []
 
 -- the word that a field spells
 abbrev pub word_from : List ℕ → Option Word
@@ -65,13 +67,16 @@ bare_line Task = TaskLine
 bare_line Publish = PublishLine
 
 abbrev pub one_line : OneNumber → ℕ → ScriptLine
-one_line word n = CommandLine (one_command word n)
+one_line word n = GroupLine (one_command word n ∷ [])
 
 abbrev pub two_line : TwoNumbers → ℕ → ℕ → ScriptLine
-two_line Set n m = CommandLine (set_arc n m)
+two_line Set n m = GroupLine (set_arc n m ∷ [])
 two_line Dist n m = QueryLine (distance n m)
 two_line From n m = QueryLine (distance_from n m)
 two_line Lower n m = QueryLine (lower_bound n m)
+
+abbrev pub lay_line : ℕ → ℕ → ℕ → ScriptLine
+lay_line tail head length = GroupLine (lay_arc tail head length ∷ [])
 
 -- FIELDS BEHIND `stop`
 
@@ -160,15 +165,16 @@ IsUnlessMemory judged (Err code) = ByMemory code (judged ≡ Err code) ((line : 
 
 -- the line has no fault and is this event, or its code is told; or it has no fault, and memory ran out
 abbrev pub ReadsEvent : Row → Result (Event Pick) Code → Type 0
-ReadsEvent row (Ok event) = ((earlier : List Row) → script_line_code earlier row ≡ None) × (line_of row ≡ Some (as_line event))
-ReadsEvent row (Err code) = ByMemory code ((earlier : List Row) → script_line_code earlier row ≡ Some code) ((earlier : List Row) → script_line_code earlier row ≡ None)
+ReadsEvent row (Ok event) = ((earlier : List Row) → event_code earlier row ≡ None) × (line_of row ≡ Some (as_line event))
+ReadsEvent row (Err code) = ByMemory code ((earlier : List Row) → event_code earlier row ≡ Some code) ((earlier : List Row) → event_code earlier row ≡ None)
 
 -- the same of a line that may say nothing
 abbrev pub ReadsLine : Row → Result (Option (Event Pick)) Code → Type 0
-ReadsLine row (Ok None) = ((earlier : List Row) → script_line_code earlier row ≡ None) × (line_of row ≡ None)
+ReadsLine row (Ok None) = ((earlier : List Row) → event_code earlier row ≡ None) × (line_of row ≡ None)
 ReadsLine row (Ok (Some event)) = ReadsEvent row (Ok event)
 ReadsLine row (Err code) = ReadsEvent row (Err code)
 
 -- these lines were taken
-abbrev pub HasEvents : List Row → EventLines → Type 0
-HasEvents lines taken = map as_line taken.events.items ≡ lines_in lines
+pub record HasEvents (lines : List Row) (taken : EventLines) : Type 0 where
+  pub events_are : map as_line taken.events.items ≡ lines_in lines
+  pub opened_is : (grouping_of lines).opened ≡ taken.open

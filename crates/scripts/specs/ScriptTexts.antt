@@ -1,14 +1,14 @@
 -- Script texts: command texts with the lines of further events.
-use Rattle.std.specs.Prelude.{ℕ, Bool, true, false, not, ◌&&◌, ◌||◌, ◌==◌, List, [], ◌∷◌, ◌++◌, drop, map, Option, None, Some, is_some, option_map, nat_lt, nat_le, if◌then◌else◌}
-use Rattle.std.specs.List.{filter_map, find, prefix_len, take_while}
+use Rattle.std.specs.Prelude.{ℕ, Bool, true, false, not, ◌&&◌, ◌||◌, ◌==◌, List, [], ◌∷◌, ◌++◌, drop, map, Option, None, Some, is_some, option_map, unwrap_or, nat_lt, nat_le, if◌then◌else◌}
+use Rattle.std.specs.List.{cons_option, find, prefix_len, take_while}
 use Rattle.std.specs.Str.{bytes_eq}
 use lib.Chars.{codes}
 use Rattle.roadnet.specs.declared.commands.Command.{Command}
 use Rattle.dimacs.specs.declared.numeral.Numeral.{Numeral}
 use Rattle.dimacs.specs.declared.fault.Code.{Code}
-use Rattle.dimacs.specs.declared.fault.Code.TheVariants.{BadLine, NumberRange}
+use Rattle.dimacs.specs.declared.fault.Code.TheVariants.{BadLine, NumberRange, OpenGroup}
 use Rattle.dimacs.specs.Commands.{Form, form, commands, is_refused, command_code}
-use Rattle.dimacs.specs.Commanded.{command_from}
+use Rattle.dimacs.specs.Commanded.{begins, command_from, ends, group_code, grouping_of}
 use Rattle.dimacs.specs.Content.{size_at}
 use Rattle.dimacs.specs.Faults.{Row, Judge, has_first, is_malformed, item_fields, size_of, some_at, some_numeral}
 use Rattle.dimacs.specs.Numerals.{numeral}
@@ -24,9 +24,9 @@ use Rattle.machine.specs.declared.events.Writing.TheVariants.{Flush as a_flush, 
 
 -- WHAT A LINE SAYS
 
--- a line of a script: an event by its numbers, and its picks as a list; a stop within an event has that event's line
+-- an event of a script by its numbers, and its picks as a list; a command is a group of one; a stop within an event has that event's line
 pub data ScriptLine : Type 0 where
-  CommandLine : (command : Command) → ScriptLine
+  GroupLine : (group : List Command) → ScriptLine
   FlushLine : ScriptLine
   CheckpointLine : ScriptLine
   StepLine : (pages : ℕ) → ScriptLine
@@ -44,7 +44,7 @@ writing_line (a_step pages) = StepLine pages.pages
 
 -- the line of an event
 abbrev pub as_line : Event Pick → ScriptLine
-as_line (Submit command) = CommandLine command
+as_line (Submit group) = GroupLine group
 as_line Flush = FlushLine
 as_line Checkpoint = CheckpointLine
 as_line (CheckpointStep pages) = StepLine pages.pages
@@ -90,16 +90,28 @@ line_from word others = if bytes_eq word (codes "flush") then Some FlushLine
     else (if bytes_eq word (codes "lower") then Some (QueryLine (Lower (size_at others 0) (size_at others 1)))
     else (if bytes_eq word (codes "stop") then Some (stop_from others)
     else (if bytes_eq word (codes "step") then Some (StepLine (size_at others 0))
-    else option_map CommandLine (command_from word others)))))))))
+    else option_map (λ command. GroupLine (command ∷ [])) (command_from word others)))))))))
 
--- the event of a line, if it has one
+-- the event of a line that stands in no group, if it has one
 abbrev pub line_of : Row → Option ScriptLine
 line_of [] = None
 line_of (word ∷ others) = line_from word others
 
--- the events in the order of their lines
+-- the event that a line gives behind the earlier ones, if it gives one: that of a group stands at its `end`
+abbrev pub event_at : List Row → Row → List ScriptLine
+event_at earlier row =
+    if ends row then GroupLine (unwrap_or (grouping_of earlier).opened []) ∷ [] else
+    if begins row || is_some (grouping_of earlier).opened then [] else
+    cons_option (line_of row) []
+
+-- the events of these lines behind the earlier ones, in their order
+abbrev pub lines_behind : List Row → List Row → List ScriptLine
+lines_behind earlier [] = []
+lines_behind earlier (row ∷ rs) = event_at earlier row ++ lines_behind (earlier ++ row ∷ []) rs
+
+-- the events of a script in the order of their lines
 abbrev pub lines_in : List Row → List ScriptLine
-lines_in rs = filter_map line_of rs
+lines_in rs = lines_behind [] rs
 
 -- WHAT A LINE IS REFUSED FOR
 
@@ -159,11 +171,20 @@ step_applies others BadLine = is_malformed 1 others
 step_applies others NumberRange = some_at (λ is_none_such. is_none_such) (is_no_step ∷ []) others
 step_applies others code = false
 
--- the code of a line: of `stop` and `step` lines by their tables, of the others by that of command texts
-unfoldable pub script_line_code : Judge
-script_line_code earlier row = if is_stop row then find (stop_applies (item_fields row)) (BadLine ∷ NumberRange ∷ [])
+-- the code of a line that stands in no group: of `stop` and `step` lines by their tables, of the others by that of command texts
+unfoldable pub event_code : Judge
+event_code earlier row = if is_stop row then find (stop_applies (item_fields row)) (BadLine ∷ NumberRange ∷ [])
     else (if is_step row then find (step_applies (item_fields row)) (BadLine ∷ NumberRange ∷ []) else command_code numbered earlier row)
 
--- nothing at the end of a script is a fault
+-- The code of a line of a script. `begin`, `end` and the lines within a group are judged as in a command text, so that a line of another kind
+-- within one is BadLine.
+unfoldable pub script_line_code : Judge
+script_line_code earlier row = if is_some (grouping_of earlier).opened || (begins row || ends row) then group_code earlier row else event_code earlier row
+
+-- a script that ends within a group has OpenGroup
 abbrev pub script_text : TextKind (List ScriptLine)
-script_text = record { judge = script_line_code; end = λ rs. None; says = lines_in }
+script_text = record {
+  judge = script_line_code;
+  end = λ rs. if is_some (grouping_of rs).opened then Some OpenGroup else None;
+  says = lines_in;
+}

@@ -1,20 +1,23 @@
 //! The texts of scripts.
-ghost use Rattle.std.specs.Prelude.{◌≡◌, ◌∷◌, IfSome, map};
+ghost use Rattle.std.specs.Prelude.{◌≡◌, ◌≢◌, ◌∷◌, List, length, true, false, None, Some, Ok, IfSome, IfErr, map};
 ghost use Rattle.dimacs.specs.Lines.{fields};
-ghost use Rattle.dimacs.specs.Texts.{Parses, Reads, map_ok};
+ghost use Rattle.dimacs.specs.Faults.{Row};
+ghost use Rattle.dimacs.specs.Texts.{Ends, Parses, Reads, map_ok};
 ghost use Rattle.dimacs.specs.Counts.{CountsFailures, IsSameReader, failed_calls, reader_of};
 ghost use Rattle.scripts.specs.ScriptTexts.{as_line, script_text};
-ghost use Rattle.scripts.specs.ScriptReading.{IsKind, spelling, ReadsEvent, ReadsLine};
+ghost use Rattle.scripts.specs.ScriptReading.{HasEvents, IsKind, spelling, ReadsEvent, ReadsLine};
 
 use crate::script_steps::step_event;
 use crate::script_stops::stop_event;
-use crate::script_words::{Bare, Word, bare_event, one_event, two_event, word_of};
+use crate::script_words::{Bare, Word, bare_event, lay_event, one_event, two_event, word_of};
 use dimacs::{
-    Code, Counted, Ended, Fault, OneNumber, TakeLines, TwoNumbers, number, parse_lines, read_lines,
-    split_field, two_numbers,
+    Bound, Code, Counted, Ended, Fault, OneNumber, OpenGroup, TakeLines, TwoNumbers, bound_of,
+    is_blank, number, parse_lines, read_command, read_lines, split_field, three_numbers,
+    two_numbers,
 };
 use disk::Pick;
 use machine::Event;
+use roadnet::Command;
 use std::alloc::Global;
 use std::io::BufRead;
 
@@ -23,6 +26,8 @@ use std::io::BufRead;
 pub struct EventLines {
     alloc: Global,
     events: Vec<Event<Pick>>,
+    /// The group that is open, if one is.
+    open: OpenGroup,
 }
 
 /// A line by its word, with what stands behind it.
@@ -70,6 +75,14 @@ fn read_two(word: TwoNumbers, rest: &[u8]) -> Result<Event<Pick>, Code>
     Ok(two_event(word, first, second))
 }
 
+/// The event of `lay`, or the fault of what stands behind it.
+fn read_lay(rest: &[u8]) -> Result<Event<Pick>, Code>
+    ensures { ReadsEvent (spelling Word.Lay ∷ fields rest.now) result }
+{
+    let (tail, head, length) = three_numbers(rest)?;
+    Ok(lay_event(tail, head, length))
+}
+
 /// The event of a word, or the fault of what stands behind it.
 fn read_event(alloc: Global, word: Word, rest: &[u8]) -> Result<Event<Pick>, Code>
     ensures { ReadsEvent (spelling word ∷ fields rest.now) result }
@@ -78,12 +91,13 @@ fn read_event(alloc: Global, word: Word, rest: &[u8]) -> Result<Event<Pick>, Cod
         Word::WithNone(word) => read_bare(word, rest),
         Word::WithOne(word) => read_one(word, rest),
         Word::WithTwo(word) => read_two(word, rest),
+        Word::Lay => read_lay(rest),
         Word::Stop => stop_event(alloc, rest),
         Word::Step => step_event(rest),
     }
 }
 
-/// What a line of a script says: an event, or nothing.
+/// What a line of a script says that stands in no group: an event, or nothing.
 fn read_line(alloc: Global, line: &[u8]) -> Result<Option<Event<Pick>>, Code>
     ensures { ReadsLine (fields line.now) result }
 {
@@ -95,7 +109,12 @@ fn read_line(alloc: Global, line: &[u8]) -> Result<Option<Event<Pick>>, Code>
 }
 
 impl EventLines {
-    ghost use Rattle.std.specs.Prelude.{[]};
+    ghost use Rattle.std.specs.Prelude.{◌++◌, [], is_some, if◌then◌else◌};
+    ghost use lib.Chars.{codes};
+    ghost use Rattle.dimacs.specs.Commanded.{command_of, begins, ends};
+    ghost use Rattle.dimacs.specs.Commands.{commands, command_code};
+    ghost use Rattle.dimacs.specs.Taking.{Takes};
+    ghost use Rattle.scripts.specs.ScriptTexts.{script_line_code};
     ghost use Rattle.scripts.specs.ScriptReading.{HasEvents};
 
     /// No line has been taken.
@@ -105,6 +124,90 @@ impl EventLines {
         EventLines {
             alloc,
             events: Vec::new(alloc),
+            open: OpenGroup::none(alloc),
+        }
+    }
+
+    /// Adds an event. Says whether there was memory for it.
+    fn keep(&mut self, event: Event<Pick>) -> bool
+        ensures kept { self.new.events.items ≡ (if result then self.old.events.items ++ event ∷ [] else self.old.events.items) }
+        ensures open { self.new.open ≡ self.old.open }
+    {
+        self.events.push(event).is_ok()
+    }
+
+    /// Takes a line `begin`, with what follows the word.
+    fn begin(&mut self, rest: &[u8]) -> Result<(), Code>
+        ensures reads_nothing { IfErr result (λ code. code ≢ Code.Read) }
+        ensures takes { (earlier : List Row) → HasEvents earlier self.old → Takes script_line_code HasEvents earlier (codes "begin" ∷ fields rest.now) self.new result }
+    {
+        if !is_blank(rest) {
+            return Err(Code::BadLine);
+        }
+        match self.open.begin() {
+            Ok(()) => Ok(()),
+            Err(code) => Err(code),
+        }
+    }
+
+    /// Takes a line `end`, with what follows the word: it is the group's event.
+    fn end(&mut self, rest: &[u8]) -> Result<(), Code>
+        ensures reads_nothing { IfErr result (λ code. code ≢ Code.Read) }
+        ensures takes { (earlier : List Row) → HasEvents earlier self.old → Takes script_line_code HasEvents earlier (codes "end" ∷ fields rest.now) self.new result }
+    {
+        if !is_blank(rest) {
+            return Err(Code::BadLine);
+        }
+        let group = match self.open.end() {
+            Ok(group) => group,
+            Err(code) => return Err(code),
+        };
+        if !self.keep(Event::Submit { group }) {
+            return Err(Code::OutOfMemory);
+        }
+        Ok(())
+    }
+
+    /// Takes a line within a group that says this command.
+    fn add(&mut self, command: Command) -> Result<(), Code>
+        requires { is_some self.old.open ≡ true }
+        ensures reads_nothing { IfErr result (λ code. code ≢ Code.Read) }
+        ensures takes { (earlier : List Row) (row : Row) → begins row ≡ false → ends row ≡ false → command_code commands earlier row ≡ None → command_of row ≡ Some command → HasEvents earlier self.old → Takes script_line_code HasEvents earlier row self.new result }
+    {
+        match self.open.add(command) {
+            Ok(()) => Ok(()),
+            Err(code) => Err(code),
+        }
+    }
+
+    /// Takes a line within a group that is no `begin` and no `end`: a command, or nothing.
+    fn take_within(&mut self, line: &[u8]) -> Result<(), Code>
+        requires within { is_some self.old.open ≡ true }
+        requires no_bound { (begins (fields line.now) ≡ false) × (ends (fields line.now) ≡ false) }
+        ensures reads_nothing { IfErr result (λ code. code ≢ Code.Read) }
+        ensures takes { (earlier : List Row) → HasEvents earlier self.old → Takes script_line_code HasEvents earlier (fields line.now) self.new result }
+    {
+        match read_command(line)? {
+            None => Ok(()),
+            Some(command) => self.add(command),
+        }
+    }
+
+    /// Takes a line outside of groups that is no `begin` and no `end`: an event, or nothing.
+    fn take_event(&mut self, line: &[u8]) -> Result<(), Code>
+        requires outside { self.old.open ≡ None }
+        requires no_bound { (begins (fields line.now) ≡ false) × (ends (fields line.now) ≡ false) }
+        ensures reads_nothing { IfErr result (λ code. code ≢ Code.Read) }
+        ensures takes { (earlier : List Row) → HasEvents earlier self.old → Takes script_line_code HasEvents earlier (fields line.now) self.new result }
+    {
+        match read_line(self.alloc, line)? {
+            None => Ok(()),
+            Some(event) => {
+                if !self.keep(event) {
+                    return Err(Code::OutOfMemory);
+                }
+                Ok(())
+            }
         }
     }
 }
@@ -126,12 +229,16 @@ impl TakeLines for EventLines {
     const COMMENT: u8 = b'#';
 
     fn take_line(&mut self, line: &[u8]) -> Result<(), Code> {
-        match read_line(self.alloc, line)? {
-            None => Ok(()),
-            Some(event) => match self.events.push(event) {
-                Ok(()) => Ok(()),
-                Err(_) => Err(Code::OutOfMemory),
-            },
+        match bound_of(line) {
+            Bound::Begin(rest) => self.begin(rest),
+            Bound::End(rest) => self.end(rest),
+            Bound::Other => {
+                if self.open.is_open() {
+                    self.take_within(line)
+                } else {
+                    self.take_event(line)
+                }
+            }
         }
     }
 
@@ -146,26 +253,38 @@ impl TakeLines for EventLines {
     ghost blank_is_no_comment = { refl };
 }
 
-/// The events of the lines that were taken.
-fn events_of(ended: Ended<EventLines>) -> Vec<Event<Pick>>
-    ensures { result ≡ ended.taker.events }
+/// The events at the end of a script, which must not be within a group.
+fn events_at_end(ended: Ended<EventLines>) -> Result<Vec<Event<Pick>>, Fault>
+    ensures reads_nothing { IfErr result (λ fault. fault.code ≢ Code.Read) }
+    ensures ends { (lines : List Row) → HasEvents lines ended.taker → ended.lines ≡ length lines → Ends script_text lines (map_ok (λ events. map as_line events.items) result) }
 {
     let Ended {
         taker,
-        lines: _,
+        lines,
         at_run: _,
     } = ended;
-    let EventLines { alloc: _, events } = taker;
-    events
+    let EventLines {
+        alloc: _,
+        events,
+        open,
+    } = taker;
+    if open.is_open() {
+        return Err(Fault {
+            line: lines,
+            code: Code::OpenGroup,
+        });
+    }
+    Ok(events)
 }
 
-/// The events that a script gives, in the order of its lines, or the script's first fault. Whether numbers name an arc, a node or a
-/// length is judged where the event is run. It takes the memory of an event a line.
+/// The events that a script gives, in the order of its lines, or the script's first fault. The lines `begin` and `end` enclose the commands of a
+/// group, whose event stands at its `end`; a command elsewhere is a group of one. Whether numbers name an arc, a node or a length is judged
+/// where the event is run. It takes the memory of an event a line, and 32 bytes a command of a group that is enclosed.
 pub fn parse_script(alloc: Global, bytes: &[u8]) -> Result<Vec<Event<Pick>>, Fault>
     ensures { Parses script_text bytes.now (map_ok (λ events. map as_line events.items) result) }
 {
     let ended = parse_lines(EventLines::new(alloc), bytes)?;
-    Ok(events_of(ended))
+    events_at_end(ended)
 }
 
 /// The events that a reader's script gives, as `parse_script`. The count of failed calls tells a failed read from a fault of the
@@ -180,5 +299,5 @@ pub fn read_script_counted<R: BufRead>(
     ensures same { IsSameReader counted.old counted.new }
 {
     let ended = read_lines(alloc, counted, false, EventLines::new(alloc))?;
-    Ok(events_of(ended))
+    events_at_end(ended)
 }

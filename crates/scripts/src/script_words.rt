@@ -1,12 +1,12 @@
 //! The words with which the lines of a script begin.
 ghost use Rattle.std.specs.Prelude.{◌≡◌};
 ghost use Rattle.scripts.specs.ScriptTexts.{as_line};
-ghost use Rattle.scripts.specs.ScriptReading.{word_from, bare_line, one_line, two_line};
+ghost use Rattle.scripts.specs.ScriptReading.{word_from, bare_line, one_line, two_line, lay_line};
 
 use dimacs::{OneNumber, TwoNumbers, word_of_one, word_of_two};
 use disk::Pick;
 use machine::Event;
-use roadnet::Command;
+use roadnet::{Command, Group};
 use rows::Query;
 
 /// A word with no field behind it.
@@ -24,6 +24,7 @@ pub(crate) enum Word {
     WithNone(Bare),
     WithOne(OneNumber),
     WithTwo(TwoNumbers),
+    Lay,
     Stop,
     Step,
 }
@@ -49,6 +50,9 @@ pub(crate) fn word_of(field: &[u8]) -> Option<Word>
     }
     if let Some(word) = word_of_two(field) {
         return Some(Word::WithTwo(word));
+    }
+    if field == b"lay".as_slice() {
+        return Some(Word::Lay);
     }
     if field == b"stop".as_slice() {
         return Some(Word::Stop);
@@ -76,7 +80,7 @@ pub(crate) fn one_event(word: OneNumber, number: u64) -> Event<Pick>
     ensures { as_line result ≡ one_line word number }
 {
     Event::Submit {
-        command: word.command(number),
+        group: Group::one(word.command(number)),
     }
 }
 
@@ -86,10 +90,10 @@ pub(crate) fn two_event(word: TwoNumbers, first: u64, second: u64) -> Event<Pick
 {
     match word {
         TwoNumbers::Set => Event::Submit {
-            command: Command::Set {
+            group: Group::one(Command::Set {
                 arc: first,
                 length: second,
-            },
+            }),
         },
         TwoNumbers::Dist => Event::Ask {
             query: Query::Dist {
@@ -109,5 +113,14 @@ pub(crate) fn two_event(word: TwoNumbers, first: u64, second: u64) -> Event<Pick
                 target: second,
             },
         },
+    }
+}
+
+/// The event of `lay` with its three numbers.
+pub(crate) fn lay_event(tail: u64, head: u64, length: u64) -> Event<Pick>
+    ensures { as_line result ≡ lay_line tail head length }
+{
+    Event::Submit {
+        group: Group::one(Command::Lay { tail, head, length }),
     }
 }

@@ -163,7 +163,7 @@ fn one_session(rt: HostRuntime) -> Result<(), Fail> {
 }
 
 /// Each kind of line, and what is refused of each: lines, and what a session with them writes.
-const KINDS: [(&[u8], &[u8]); 12] = [
+const KINDS: [(&[u8], &[u8]); 18] = [
     (b"", b""),
     (b"quit", b""),
     (b"\n \t\r\n# quit\n  #quit\n#\nquit\ndist 1 6\n", b""),
@@ -200,6 +200,23 @@ const KINDS: [(&[u8], &[u8]); 12] = [
         b"close -1\nclose -0\nclose 9223372036854775808\nclose 9223372036854775807\nset 1 99999999999999999999\nset 99999999999999999999 x\n",
         b"no 5\nno 5\nno 5\nno 20\nno 5\nno 1\n",
     ),
+    (
+        b"begin\nclose 7\n# two\nset 8 4\nend\nwait\ndist 1 6\nbegin\nreopen 7\nreopen 7\nend\nreopen 7\n",
+        b"ok 1\nv 1\nv 1\nd 1 6 14\nno 23\nok 2\n",
+    ),
+    // A line that has a fault within a group is told at its end, and no line of the group is carried out.
+    (
+        b"begin\nclose 7\nwait\nclose -1\nend\nbegin\nclose -1\nclose\nend\nbegin\nclose 7\nquit now\nbegin\nend\nclose 7\n",
+        b"no 1\nno 5\nno 1\nok 1\n",
+    ),
+    (
+        b"end\nbegin\nend\nbegin x\nclose 7\nend\n",
+        b"no 1\nno 13\nno 1\nok 1\nno 1\n",
+    ),
+    // A group that is cut off is dropped.
+    (b"mark 3\nbegin\nclose 7\nquit\nend\n", b"ok 1\n"),
+    (b"mark 3\nbegin\nclose 7\n", b"ok 1\n"),
+    (b"lay 6 1 7\nlay 1 2\nlay 1 2 -3\n", b"no 29\nno 1\nno 5\n"),
 ];
 
 #[test]

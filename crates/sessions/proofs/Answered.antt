@@ -8,6 +8,7 @@ use Rattle.std.specs.Io.KnownBytes.{Appends}
 use mathlib.Core.List.{IsPrefix}
 use Rattle.roadnet.specs.declared.refusals.Refusal.{Refusal}
 use Rattle.roadnet.specs.declared.commands.Command.{Command}
+use Rattle.roadnet.specs.declared.groups.Group.{Group}
 use Rattle.rows.specs.declared.queries.Query.{Query}
 use Rattle.rows.specs.declared.queries.Reply.{Reply}
 use Rattle.rows.specs.Replies.{IsRight}
@@ -19,55 +20,58 @@ use Rattle.machine.specs.Laws.{IsAt}
 use Rattle.desk.specs.Readings.{Reading, IsViewAfter}
 use Rattle.dimacs.specs.declared.fault.Code.{Code}
 use Rattle.machine.specs.declared.events.Replied.{Replied}
-use Rattle.machine.specs.declared.events.Replied.TheVariants.{Durable}
+use Rattle.machine.specs.declared.events.Replied.TheVariants.{Durable, Refused as told_refused}
+use Rattle.roadnet.specs.declared.refusals.Refusal.TheVariants.{OutOfMemory}
+use Rattle.dimacs.specs.declared.fault.Code.TheVariants.{BadLine}
 use Rattle.printing.specs.Printed.{refusal_line}
 use Rattle.printing.specs.Replied.{printed_reply}
 use Rattle.sessions.specs.declared.answers.Accepted.{Accepted}
 use Rattle.sessions.specs.declared.lines.Line.{Line}
-use Rattle.sessions.specs.declared.lines.Line.TheVariants.{Ignored, Command as a_command, Query as a_query, Wait, Quit, Refused as a_fault}
+use Rattle.sessions.specs.declared.lines.Line.TheVariants.{Ignored, Command as a_command, Query as a_query, Wait, Quit, Begin, End, Refused as a_fault}
+use Rattle.sessions.specs.Drafts.{Drafted, IsWhole, fault_of}
 use Rattle.sessions.specs.Told.{AnswersAfter, HaveReceipts, HasMore, HasShown, ShowsLast, Settles, Replies, IsUnshown, claim_of, known_to, told_durable}
-use Rattle.sessions.specs.Turns.{Tells, Standing, IsSessionAt, IsKept, fault_number, version_or_refusal}
+use Rattle.sessions.specs.Turns.{Tells, Standing, IsEndAnswer, IsSessionAt, IsKept, fault_number, version_or_refusal}
 
 -- the answer of a reader that looked at a view and is lent for queries of it
-pub answered : (origin : Origin) (commands : List Command) (lent looked : Reading) (query asked : Query) (version : ℕ) (reply : Reply) → commands ≡ lent.known.commands → lent ≡ looked → IsViewAfter origin looked.known.commands looked.view
-    → version ≡ lent.view.version → query ≡ asked → IsRight lent.view.network asked reply → AnswersAfter origin commands query (record { version = version; reply = reply })
-answered origin commands lent looked query asked version reply same_final same view is_version is_query right =
-    let seen : IsViewAfter origin lent.known.commands lent.view = subst (λ (r : Reading). IsViewAfter origin r.known.commands r.view) (sym same) view in
+pub answered : (origin : Origin) (groups : List Group) (lent looked : Reading) (query asked : Query) (version : ℕ) (reply : Reply) → groups ≡ lent.known.groups → lent ≡ looked → IsViewAfter origin looked.known.groups looked.view
+    → version ≡ lent.view.version → query ≡ asked → IsRight lent.view.network asked reply → AnswersAfter origin groups query (record { version = version; reply = reply })
+answered origin groups lent looked query asked version reply same_final same view is_version is_query right =
+    let seen : IsViewAfter origin lent.known.groups lent.view = subst (λ (r : Reading). IsViewAfter origin r.known.groups r.view) (sym same) view in
     rw (same_final, is_query) (record { network = lent.view.network; network_is = seen.network; version = is_version ∙ seen.version; right = right })
 
 -- who knew nothing
-pub nothing_known : (old : Option Reading) (now : List Command) → old ≡ None → IsPrefix (known_to old) now
+pub nothing_known : (old : Option Reading) (now : List Group) → old ≡ None → IsPrefix (known_to old) now
 nothing_known old now none = rw none (now, refl)
 
 pub shown_origin : (origin : Origin) (last : Option Accepted) (shown : Beginning) → HasShown origin last (Some shown) → shown.origin ≡ origin
 shown_origin origin None shown has = absurd has
 shown_origin origin (Some accepted) shown has = has.0
 
-pub shows_none : (origin : Origin) (last : Option Accepted) (commands : List Command) (version : ℕ) → HasShown origin last None → version ≡ origin.version + length commands
-    → ShowsLast origin last commands version
-shows_none origin None commands version has is = is
-shows_none origin (Some accepted) commands version has is = absurd has
+pub shows_none : (origin : Origin) (last : Option Accepted) (groups : List Group) (version : ℕ) → HasShown origin last None → version ≡ origin.version + length groups
+    → ShowsLast origin last groups version
+shows_none origin None groups version has is = is
+shows_none origin (Some accepted) groups version has is = absurd has
 
-pub shows_last : (origin : Origin) (last : Option Accepted) (shown : Beginning) (commands : List Command) (version : ℕ) → HasShown origin last (Some shown) → IsPrefix shown.commands commands
-    → version ≡ origin.version + length commands → ShowsLast origin last commands version
-shows_last origin None shown commands version has begins is = absurd has
-shows_last origin (Some accepted) shown commands version has begins is = (at_more origin.version shown.commands commands (claim_of accepted).ticket begins has.1, is)
+pub shows_last : (origin : Origin) (last : Option Accepted) (shown : Beginning) (groups : List Group) (version : ℕ) → HasShown origin last (Some shown) → IsPrefix shown.groups groups
+    → version ≡ origin.version + length groups → ShowsLast origin last groups version
+shows_last origin None shown groups version has begins is = absurd has
+shows_last origin (Some accepted) shown groups version has begins is = (at_more origin.version shown.groups groups (claim_of accepted).ticket begins has.1, is)
 
-pub ok_shows : (origin : Origin) (last : Option Accepted) (shown : Beginning) (commands : List Command) (result : Result ℕ Refusal) → HasShown origin last (Some shown) → IsPrefix shown.commands commands
-    → IfOk result (λ version. version ≡ origin.version + length commands) → IfOk result (ShowsLast origin last commands)
-ok_shows origin last shown commands (Ok version) has begins is = shows_last origin last shown commands version has begins is
-ok_shows origin last shown commands (Err refusal) has begins is = tt
+pub ok_shows : (origin : Origin) (last : Option Accepted) (shown : Beginning) (groups : List Group) (result : Result ℕ Refusal) → HasShown origin last (Some shown) → IsPrefix shown.groups groups
+    → IfOk result (λ version. version ≡ origin.version + length groups) → IfOk result (ShowsLast origin last groups)
+ok_shows origin last shown groups (Ok version) has begins is = shows_last origin last shown groups version has begins is
+ok_shows origin last shown groups (Err refusal) has begins is = tt
 
 -- ---- what a session has receipts of
 
--- the same beginning has the same commands
+-- the same beginning has the same groups
 pub nothing_more : (origin : Origin) (had has : Option Beginning) → has ≡ had → HasMore origin had has []
 nothing_more origin had has same tickets held =
     subst (λ (ts : List Ticket). HaveReceipts origin has ts) (sym (append-nil tickets)) (subst (λ (f : Option Beginning). HaveReceipts origin f tickets) (sym same) held)
 
 -- a beginning that goes on from one that had some, and has a receipt more
 pub joined_receipt : (origin : Origin) (had : Option Beginning) (front own longer : Beginning) (ticket : Ticket) → had ≡ Some front → front.origin ≡ origin → own.origin ≡ origin → longer.origin ≡ front.origin
-    → IsPrefix front.commands longer.commands → IsPrefix own.commands longer.commands → (front.acknowledged ≤ longer.acknowledged) × (own.acknowledged ≤ longer.acknowledged)
+    → IsPrefix front.groups longer.groups → IsPrefix own.groups longer.groups → (front.acknowledged ≤ longer.acknowledged) × (own.acknowledged ≤ longer.acknowledged)
     → IsAcknowledgedIn own ticket → HasMore origin had (Some longer) (ticket ∷ [])
 joined_receipt origin had front own longer ticket some front_of own_of longer_of begins own_begins told is tickets held =
     let before : All (IsAcknowledgedIn front) tickets = (subst (λ (f : Option Beginning). HaveReceipts origin f tickets) some held).1 in (
@@ -84,61 +88,118 @@ first_receipt origin had own front ticket none own_of same is tickets held =
     let empty : tickets ≡ [] = subst (λ (f : Option Beginning). HaveReceipts origin f tickets) none held in
     rw (same, empty) (own_of, All-push (IsAcknowledgedIn own) [] ticket (All-nil (IsAcknowledgedIn own)) is)
 
--- the receipt of a command that is told to be durable
-pub told_receipt : (origin : Origin) (receipt : Claimed) (had has : Option Beginning) (command : Command) (number : ℕ) → receipt.origin ≡ origin → receipt.ticket.number ≡ number → receipt.ticket.command ≡ command
-    → HasMore receipt.origin had has (receipt.ticket ∷ []) → HasMore origin had has (told_durable command (Durable number))
-told_receipt origin receipt had has command number of_origin is_number is_command more =
-    let same : receipt.ticket ≡ record { number = number; command = command } = λ i. record { number = is_number i; command = is_command i } in
-    subst (λ (o : Origin). HasMore o had has (record { number = number; command = command } ∷ [])) of_origin (subst (λ (t : Ticket). HasMore receipt.origin had has (t ∷ [])) same more)
+-- the receipt of a group that is told to be durable
+pub told_receipt : (origin : Origin) (receipt : Claimed) (had has : Option Beginning) (group : Group) (number : ℕ) → receipt.origin ≡ origin → receipt.ticket.number ≡ number → receipt.ticket.group ≡ group
+    → HasMore receipt.origin had has (receipt.ticket ∷ []) → HasMore origin had has (told_durable group (Durable number))
+told_receipt origin receipt had has group number of_origin is_number is_group more =
+    let same : receipt.ticket ≡ record { number = number; group = group } = λ i. record { number = is_number i; group = is_group i } in
+    subst (λ (o : Origin). HasMore o had has (record { number = number; group = group } ∷ [])) of_origin (subst (λ (t : Ticket). HasMore receipt.origin had has (t ∷ [])) same more)
 
 -- what the session has is in the closed history, and what it has seen was shown
 pub kept_in : (origin : Origin) (whole shown : Beginning) (reader : Option Reading) (receipts : Option Beginning) (last : Standing) → whole.origin ≡ origin
-    → IfSome receipts (λ front. IsPrefix front.commands whole.commands × (front.acknowledged ≤ whole.acknowledged)) → IsPrefix (known_to reader) shown.commands
+    → IfSome receipts (λ front. IsPrefix front.groups whole.groups × (front.acknowledged ≤ whole.acknowledged)) → IsPrefix (known_to reader) shown.groups
     → IsSessionAt origin reader receipts last → IsKept whole shown last
 kept_in origin whole shown reader None last same held seen is = record {
   durable = λ kept keeps. rw is.durable (All-nil (IsAt whole.origin.version kept));
-  known = λ kept keeps. rw is.known (prefix_trans (known_to reader) shown.commands kept seen keeps.shown_too);
+  known = λ kept keeps. rw is.known (prefix_trans (known_to reader) shown.groups kept seen keeps.shown_too);
 }
 kept_in origin whole shown reader (Some front) last same held seen is = record {
   durable = λ kept keeps k d lt.
       let ticket = get_or last.durable k d in
       let there = acknowledged_more front whole ticket (same ∙ sym is.durable.0) held.0 held.1 (is.durable.1 k d lt) in
-      at_less whole.origin.version kept whole.commands ticket keeps.begins (let all = keeps.acknowledged in let told = there.acknowledged in omega (arith, all, told)) there.at;
-  known = λ kept keeps. rw is.known (prefix_trans (known_to reader) shown.commands kept seen keeps.shown_too);
+      at_less whole.origin.version kept whole.groups ticket keeps.begins (let all = keeps.acknowledged in let told = there.acknowledged in omega (arith, all, told)) there.at;
+  known = λ kept keeps. rw is.known (prefix_trans (known_to reader) shown.groups kept seen keeps.shown_too);
 }
 
 -- ---- what a line is told
 
-pub nothing_told : (origin : Origin) (line : Line) (last : Option Accepted) (known : List Command) (has : Option Beginning) (written : Option (List ℕ)) → (line ≡ Ignored) ⊎ (line ≡ Quit)
-    → Tells origin line last last known has has written written
+pub nothing_told : (origin : Origin) (line : Line) (last : Option Accepted) (known : List Group) (has : Option Beginning) (written : Option (List ℕ)) → (line ≡ Ignored) ⊎ ((line ≡ Quit) ⊎ (line ≡ Begin))
+    → Tells origin None line last last known has has written written
 nothing_told origin line last known has written (inl is) =
     rw is (record { told = []; durable = []; is_answer = (refl, refl, refl); kept = nothing_more origin has has refl; written = Appends-nil written })
-nothing_told origin line last known has written (inr is) =
+nothing_told origin line last known has written (inr (inl is)) =
+    rw is (record { told = []; durable = []; is_answer = (refl, refl, refl); kept = nothing_more origin has has refl; written = Appends-nil written })
+nothing_told origin line last known has written (inr (inr is)) =
     rw is (record { told = []; durable = []; is_answer = (refl, refl, refl); kept = nothing_more origin has has refl; written = Appends-nil written })
 
-pub told_command : {X E : Type 0} (origin : Origin) (command : Command) (before last : Option Accepted) (known : List Command) (had has : Option Beginning) (old new : Option (List ℕ)) (result : Result X E) (reply : Replied)
-    → Settles origin before last command reply → HasMore origin had has (told_durable command reply) → OnOk result (Appends old new (printed_reply reply))
-    → OnOk result (Tells origin (a_command command) before last known had has old new)
+-- within a group nothing is told before its end
+pub nothing_within : (origin : Origin) (draft : Drafted) (line : Line) (last : Option Accepted) (known : List Group) (has : Option Beginning) (written : Option (List ℕ)) → (line ≡ End → ⊥)
+    → Tells origin (Some draft) line last last known has has written written
+nothing_within origin draft End last known has written other = absurd (other refl)
+nothing_within origin draft _ last known has written other = record { told = []; durable = []; is_answer = (refl, refl, refl); kept = nothing_more origin has has refl; written = Appends-nil written }
+
+pub told_command : {X E : Type 0} (origin : Origin) (command : Command) (before last : Option Accepted) (known : List Group) (had has : Option Beginning) (old new : Option (List ℕ)) (result : Result X E) (reply : Replied)
+    → Settles origin before last (command ∷ []) reply → HasMore origin had has (told_durable (command ∷ []) reply) → OnOk result (Appends old new (printed_reply reply))
+    → OnOk result (Tells origin None (a_command command) before last known had has old new)
 told_command origin command before last known had has old new (Ok x) reply settles more appends =
-    record { told = printed_reply reply; durable = told_durable command reply; is_answer = (reply, settles, refl, refl); kept = more; written = appends }
+    record { told = printed_reply reply; durable = told_durable (command ∷ []) reply; is_answer = (reply, settles, refl, refl); kept = more; written = appends }
 told_command origin command before last known had has old new (Err e) reply settles more appends = tt
 
-pub told_query : {X E : Type 0} (origin : Origin) (query : Query) (before last : Option Accepted) (known : List Command) (had has : Option Beginning) (old new : Option (List ℕ)) (result : Result X E) (reply : Replied)
+pub told_query : {X E : Type 0} (origin : Origin) (query : Query) (before last : Option Accepted) (known : List Group) (had has : Option Beginning) (old new : Option (List ℕ)) (result : Result X E) (reply : Replied)
     → Replies origin known query reply → last ≡ before → has ≡ had → OnOk result (Appends old new (printed_reply reply))
-    → OnOk result (Tells origin (a_query query) before last known had has old new)
+    → OnOk result (Tells origin None (a_query query) before last known had has old new)
 told_query origin query before last known had has old new (Ok x) reply replies same kept appends =
     record { told = printed_reply reply; durable = []; is_answer = (reply, replies, refl, refl, same); kept = nothing_more origin had has kept; written = appends }
 told_query origin query before last known had has old new (Err e) reply replies same kept appends = tt
 
-pub told_wait : {X E : Type 0} (origin : Origin) (before last : Option Accepted) (known : List Command) (had has : Option Beginning) (old new : Option (List ℕ)) (result : Result X E) (shown : Result ℕ Refusal)
+pub told_wait : {X E : Type 0} (origin : Origin) (before last : Option Accepted) (known : List Group) (had has : Option Beginning) (old new : Option (List ℕ)) (result : Result X E) (shown : Result ℕ Refusal)
     → IfOk shown (ShowsLast origin last known) → IfErr shown IsUnshown → last ≡ before → has ≡ had → OnOk result (Appends old new (version_or_refusal shown))
-    → OnOk result (Tells origin Wait before last known had has old new)
+    → OnOk result (Tells origin None Wait before last known had has old new)
 told_wait origin before last known had has old new (Ok x) shown shows causes same kept appends =
     record { told = version_or_refusal shown; durable = []; is_answer = (shown, shows, causes, refl, refl, same); kept = nothing_more origin had has kept; written = appends }
 told_wait origin before last known had has old new (Err e) shown shows causes same kept appends = tt
 
-pub told_fault : {X E : Type 0} (origin : Origin) (code : Code) (before last : Option Accepted) (known : List Command) (had has : Option Beginning) (old new : Option (List ℕ)) (result : Result X E)
-    → last ≡ before → has ≡ had → OnOk result (Appends old new (refusal_line (fault_number code))) → OnOk result (Tells origin (a_fault code) before last known had has old new)
+pub told_fault : {X E : Type 0} (origin : Origin) (code : Code) (before last : Option Accepted) (known : List Group) (had has : Option Beginning) (old new : Option (List ℕ)) (result : Result X E)
+    → last ≡ before → has ≡ had → OnOk result (Appends old new (refusal_line (fault_number code))) → OnOk result (Tells origin None (a_fault code) before last known had has old new)
 told_fault origin code before last known had has old new (Ok x) same kept appends =
     record { told = refusal_line (fault_number code); durable = []; is_answer = (refl, refl, same); kept = nothing_more origin had has kept; written = appends }
 told_fault origin code before last known had has old new (Err e) same kept appends = tt
+
+-- an end that stands in no group
+pub told_no_end : {X E : Type 0} (origin : Origin) (before last : Option Accepted) (known : List Group) (had has : Option Beginning) (old new : Option (List ℕ)) (result : Result X E)
+    → last ≡ before → has ≡ had → OnOk result (Appends old new (refusal_line (fault_number BadLine))) → OnOk result (Tells origin None End before last known had has old new)
+told_no_end origin before last known had has old new (Ok x) same kept appends =
+    record { told = refusal_line (fault_number BadLine); durable = []; is_answer = (refl, refl, same); kept = nothing_more origin had has kept; written = appends }
+told_no_end origin before last known had has old new (Err e) same kept appends = tt
+
+-- ---- the end of a group
+end_answer : (origin : Origin) (fault found : Option Code) (group : Group) (before last : Option Accepted) (told : List ℕ) (durable : List Ticket) → fault ≡ found
+    → IsEndAnswer origin found group before last told durable → IsEndAnswer origin fault group before last told durable
+end_answer origin fault found group before last told durable e is = rw e is
+
+pub told_group : {X E : Type 0} (origin : Origin) (draft : Drafted) (group : Group) (before last : Option Accepted) (known : List Group) (had has : Option Beginning) (old new : Option (List ℕ)) (result : Result X E) (reply : Replied)
+    → IsWhole draft group → Settles origin before last group reply → HasMore origin had has (told_durable group reply) → OnOk result (Appends old new (printed_reply reply))
+    → OnOk result (Tells origin (Some draft) End before last known had has old new)
+told_group origin draft group before last known had has old new (Ok x) reply whole settles more appends =
+    let is : Settles origin before last draft.commands reply = subst (λ (g : Group). Settles origin before last g reply) whole.1 settles in
+    let kept : HasMore origin had has (told_durable draft.commands reply) = subst (λ (g : Group). HasMore origin had has (told_durable g reply)) whole.1 more in
+    record {
+      told = printed_reply reply;
+      durable = told_durable draft.commands reply;
+      is_answer = end_answer origin (fault_of draft) None draft.commands before last (printed_reply reply) (told_durable draft.commands reply) whole.0 (reply, inl is, refl, refl);
+      kept = kept;
+      written = appends;
+    }
+told_group origin draft group before last known had has old new (Err e) reply whole settles more appends = tt
+
+pub told_no_group : {X E : Type 0} (origin : Origin) (draft : Drafted) (code : Code) (last : Option Accepted) (known : List Group) (has : Option Beginning) (old new : Option (List ℕ)) (result : Result X E)
+    → fault_of draft ≡ Some code → OnOk result (Appends old new (refusal_line (fault_number code))) → OnOk result (Tells origin (Some draft) End last last known has has old new)
+told_no_group origin draft code last known has old new (Ok x) fault appends = record {
+  told = refusal_line (fault_number code);
+  durable = [];
+  is_answer = end_answer origin (fault_of draft) (Some code) draft.commands last last (refusal_line (fault_number code)) [] fault (refl, refl, refl);
+  kept = nothing_more origin has has refl;
+  written = appends;
+}
+told_no_group origin draft code last known has old new (Err e) fault appends = tt
+
+pub told_no_memory : {X E : Type 0} (origin : Origin) (draft : Drafted) (last : Option Accepted) (known : List Group) (has : Option Beginning) (old new : Option (List ℕ)) (result : Result X E)
+    → fault_of draft ≡ None → OnOk result (Appends old new (printed_reply (told_refused OutOfMemory))) → OnOk result (Tells origin (Some draft) End last last known has has old new)
+told_no_memory origin draft last known has old new (Ok x) whole appends = record {
+  told = printed_reply (told_refused OutOfMemory);
+  durable = [];
+  is_answer = end_answer origin (fault_of draft) None draft.commands last last (printed_reply (told_refused OutOfMemory)) [] whole (told_refused OutOfMemory, inr (refl, refl), refl, refl);
+  kept = nothing_more origin has has refl;
+  written = appends;
+}
+told_no_memory origin draft last known has old new (Err e) whole appends = tt

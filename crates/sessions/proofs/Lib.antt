@@ -2,6 +2,7 @@ mod Fieldwise
 mod Worded
 mod Numbered
 mod Staged
+mod Drafting
 mod Answered
 mod Bytewise
 mod Served

@@ -15,7 +15,7 @@ use Rattle.dimacs.specs.Numerals.{numeral}
 use Rattle.sessions.specs.declared.fields.Field.{Field}
 use Rattle.sessions.specs.declared.fields.Field.TheVariants.{Minus, Number, Other}
 use Rattle.sessions.specs.declared.fields.Numbers.{Numbers}
-use Rattle.sessions.specs.declared.fields.Numbers.TheVariants.{One, Two, TooMany}
+use Rattle.sessions.specs.declared.fields.Numbers.TheVariants.{One, Two, Three, TooMany}
 use Rattle.sessions.specs.Fields.{HasDigits, IsField, IsNumber, IsNumbers, as_row, number_of, signed_field}
 
 decimal_value : (c : ℕ) → 48 ≤ c → c ≤ 57 → digit_value c ≡ c - 48
@@ -139,11 +139,14 @@ one_more row field a none is = record { field = field; row_is = rw none refl; nu
 pub two_now : (row : Row) (field : List ℕ) (a b : Option Numeral) → IsNumbers row (One a) → b ≡ number_of field → IsNumbers (row ++ field ∷ []) (Two a b)
 two_now row field a b one is = record { first = one.field; second = field; row_is = rw one.row_is refl; first_number = one.number; second_number = is }
 
-pub too_many : (row : Row) (field : List ℕ) → 1 < length row → IsNumbers (row ++ field ∷ []) TooMany
+pub three_now : (row : Row) (field : List ℕ) (a b c : Option Numeral) → IsNumbers row (Two a b) → c ≡ number_of field → IsNumbers (row ++ field ∷ []) (Three a b c)
+three_now row field a b c two is = record { first = two.first; second = two.second; third = field; row_is = rw two.row_is refl; first_number = two.first_number; second_number = two.second_number; third_number = is }
+
+pub too_many : (row : Row) (field : List ℕ) → 2 < length row → IsNumbers (row ++ field ∷ []) TooMany
 too_many row field some = omega (arith, some, length-append row (field ∷ []))
 
-pub two_count : (row : Row) (a b : Option Numeral) → IsNumbers row (Two a b) → 1 < length row
-two_count row a b are = omega (arith, ap length are.row_is)
+pub three_count : (row : Row) (a b c : Option Numeral) → IsNumbers row (Three a b c) → 2 < length row
+three_count row a b c are = omega (arith, ap length are.row_is)
 
 pub no_field : (row : Row) (last : List ℕ) (numbers : Numbers) → last ≡ [] → IsNumbers row numbers → IsNumbers (row ++ as_row last) numbers
 no_field row last numbers none are = rw (none, append-nil row) are

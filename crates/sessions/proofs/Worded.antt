@@ -4,6 +4,7 @@ use Rattle.std.specs.Str.{bytes_eq}
 use Rattle.std.proofs.lemmas.Bool.{or_parts, lt-ltb, ne_eqb, false_from_ne_true}
 use Rattle.std.proofs.lemmas.Slice.Eq.{bytes_eq-Decides}
 use lib.Chars.{codes}
+use Rattle.roadnet.specs.declared.commands.Command.TheVariants.{Lay as lay_arc}
 use Rattle.dimacs.specs.declared.fault.Code.TheVariants.{BadLine, NumberRange}
 use Rattle.dimacs.specs.declared.numeral.Numeral.{Numeral}
 use Rattle.dimacs.specs.declared.words.OneNumber.{OneNumber}
@@ -18,12 +19,13 @@ use Rattle.dimacs.proofs.CommandRows.{kept_refused, kept_number}
 use Rattle.dimacs.proofs.Items.{known, or-false}
 use Rattle.dimacs.proofs.Spelled.{unformed}
 use Rattle.sessions.specs.declared.words.Bare.{Bare}
-use Rattle.sessions.specs.declared.words.Bare.TheVariants.{Wait, Quit}
-use Rattle.sessions.specs.declared.words.Word.TheVariants.{WithNone, WithOne, WithTwo}
-use Rattle.sessions.specs.declared.lines.Line.TheVariants.{Refused}
+use Rattle.sessions.specs.declared.words.Bare.TheVariants.{Wait, Quit, Begin, End}
+use Rattle.sessions.specs.declared.words.Word.TheVariants.{WithNone, WithOne, WithTwo, Lay}
+use Rattle.sessions.specs.declared.lines.Line.{Line}
+use Rattle.sessions.specs.declared.lines.Line.TheVariants.{Command as a_command, Refused}
 use Rattle.sessions.specs.declared.fields.Numbers.{Numbers}
-use Rattle.sessions.specs.declared.fields.Numbers.TheVariants.{Nothing, One, Two, TooMany}
-use Rattle.sessions.specs.Fields.{IsNumbers, AreTwo, number_of, has_one, has_two}
+use Rattle.sessions.specs.declared.fields.Numbers.TheVariants.{Nothing, One, Two, Three, TooMany}
+use Rattle.sessions.specs.Fields.{IsNumbers, AreTwo, AreThree, number_of, has_one, has_two, has_three}
 use Rattle.sessions.specs.SessionLines.{forms, session_code, line_of, AsksFor, IsLine}
 use Rattle.sessions.specs.Spelled.{spelling, words, word_from}
 use Rattle.sessions.specs.Words.{bare_line, one_line, two_line}
@@ -54,6 +56,9 @@ long_field field long =
       other_bytes field (codes "lower") (omega (arith, long)),
       other_bytes field (codes "wait") (omega (arith, long)),
       other_bytes field (codes "quit") (omega (arith, long)),
+      other_bytes field (codes "begin") (omega (arith, long)),
+      other_bytes field (codes "end") (omega (arith, long)),
+      other_bytes field (codes "lay") (omega (arith, long)),
     ) refl
 
 -- ---- words with so many numbers behind them
@@ -64,6 +69,8 @@ record IsForm (word : List ℕ) (n : ℕ) : Type 0 where
 bare_form : (word : Bare) → IsForm (spelling (WithNone word)) 0
 bare_form Wait = record { plain = λ numbers. refl; formed = λ numbers. refl }
 bare_form Quit = record { plain = λ numbers. refl; formed = λ numbers. refl }
+bare_form Begin = record { plain = λ numbers. refl; formed = λ numbers. refl }
+bare_form End = record { plain = λ numbers. refl; formed = λ numbers. refl }
 
 one_form : (word : OneNumber) → IsForm (spelling (WithOne word)) 1
 one_form Close = record { plain = λ numbers. refl; formed = λ numbers. refl }
@@ -77,9 +84,14 @@ two_form Dist = record { plain = λ numbers. refl; formed = λ numbers. refl }
 two_form From = record { plain = λ numbers. refl; formed = λ numbers. refl }
 two_form Lower = record { plain = λ numbers. refl; formed = λ numbers. refl }
 
+lay_form : IsForm (spelling Lay) 3
+lay_form = record { plain = λ numbers. refl; formed = λ numbers. refl }
+
 bare_made : (word : Bare) (numbers : Row) → line_of (spelling (WithNone word) ∷ numbers) ≡ Some (bare_line word)
 bare_made Wait numbers = refl
 bare_made Quit numbers = refl
+bare_made Begin numbers = refl
+bare_made End numbers = refl
 
 one_made : (word : OneNumber) (numbers : Row) → line_of (spelling (WithOne word) ∷ numbers) ≡ Some (one_line word (size_at numbers 0))
 one_made Close numbers = refl
@@ -92,6 +104,9 @@ two_made Set numbers = refl
 two_made Dist numbers = refl
 two_made From numbers = refl
 two_made Lower numbers = refl
+
+lay_made : (numbers : Row) → line_of (spelling Lay ∷ numbers) ≡ Some (a_command (lay_arc (size_at numbers 0) (size_at numbers 1) (size_at numbers 2)))
+lay_made numbers = refl
 
 malformed : (word : List ℕ) (n : ℕ) (numbers : Row) → IsForm word n → is_malformed n numbers ≡ true → session_code (word ∷ numbers) ≡ Some BadLine
 unfolding command_code
@@ -110,6 +125,11 @@ code_of_two : (word u v : List ℕ) (a b : Numeral) → IsForm word 2 → numera
 unfolding command_code
 code_of_two word u v a b f d e = rw (f.plain (u ∷ v ∷ []), f.formed (u ∷ v ∷ []), d, e) (simp or-false)
 
+code_of_three : (word u v w : List ℕ) (a b d : Numeral) → IsForm word 3 → numeral u ≡ Some a → numeral v ≡ Some b → numeral w ≡ Some d
+    → session_code (word ∷ u ∷ v ∷ w ∷ []) ≡ cond (is_refused a || (is_refused b || is_refused d)) (Some NumberRange) None
+unfolding command_code
+code_of_three word u v w a b d f e g h = rw (f.plain (u ∷ v ∷ w ∷ []), f.formed (u ∷ v ∷ w ∷ []), e, g, h) (simp or-false)
+
 -- ---- what stands behind a word
 -- not so many fields
 other_count : (n : ℕ) (numbers : Row) → length numbers ≢ n → is_malformed n numbers ≡ true
@@ -120,7 +140,8 @@ abbrev pub count_of : Numbers → ℕ
 count_of Nothing = 0
 count_of (One a) = 1
 count_of (Two a b) = 2
-count_of TooMany = 3
+count_of (Three a b c) = 3
+count_of TooMany = 4
 
 bad_bare : (word : Bare) (row : Row) → length row ≢ 0 → session_code (spelling (WithNone word) ∷ row) ≡ Some BadLine
 bad_bare word row other = malformed (spelling (WithNone word)) 0 row (bare_form word) (other_count 0 row other)
@@ -131,9 +152,14 @@ bad_one word row other = malformed (spelling (WithOne word)) 1 row (one_form wor
 bad_two : (word : TwoNumbers) (row : Row) → length row ≢ 2 → session_code (spelling (WithTwo word) ∷ row) ≡ Some BadLine
 bad_two word row other = malformed (spelling (WithTwo word)) 2 row (two_form word) (other_count 2 row other)
 
+bad_lay : (row : Row) → length row ≢ 3 → session_code (spelling Lay ∷ row) ≡ Some BadLine
+bad_lay row other = malformed (spelling Lay) 3 row lay_form (other_count 3 row other)
+
 bare_asks : (word : Bare) (row : Row) → AsksFor row (bare_line word) → IsLine row (bare_line word)
 bare_asks Wait row asks = asks
 bare_asks Quit row asks = asks
+bare_asks Begin row asks = asks
+bare_asks End row asks = asks
 
 one_asks : (word : OneNumber) (n : ℕ) (row : Row) → AsksFor row (one_line word n) → IsLine row (one_line word n)
 one_asks Close n row asks = asks
@@ -155,6 +181,7 @@ pub bare_fault : (word : Bare) (row : Row) (numbers : Numbers) → IsNumbers row
 bare_fault word row Nothing are some = let no : 0 < 0 = some in absurd (omega (arith, no))
 bare_fault word row (One a) are some = bad_bare word row (λ e. absurd (omega (arith, e, ap length are.row_is)))
 bare_fault word row (Two a b) are some = bad_bare word row (λ e. absurd (omega (arith, e, ap length are.row_is)))
+bare_fault word row (Three a b c) are some = bad_bare word row (λ e. absurd (omega (arith, e, ap length are.row_is)))
 bare_fault word row TooMany are some = bad_bare word row (λ e. absurd (omega (arith, e, are)))
 
 -- what a field is whose numeral is kept
@@ -206,6 +233,7 @@ one_fault word row (One None) are none =
     rw are.row_is (malformed (spelling (WithOne word)) 1 (are.field ∷ []) (one_form word) bad)
 one_fault word row (One (Some n)) are none = absurd (let absurdity : ⊥ = cc in absurdity)
 one_fault word row (Two a b) are none = bad_one word row (λ e. absurd (omega (arith, e, ap length are.row_is)))
+one_fault word row (Three a b c) are none = bad_one word row (λ e. absurd (omega (arith, e, ap length are.row_is)))
 one_fault word row TooMany are none = bad_one word row (λ e. absurd (omega (arith, e, are)))
 
 -- a word with two numbers
@@ -252,4 +280,61 @@ two_fault word row (Two (Some n) None) are none =
     let no : numeral are.second ≡ None = no_numeral are.second are.second_number in
     bad_pair word row (Some n) None are (rw (are.row_is, k.is, no) refl)
 two_fault word row (Two (Some n) (Some m)) are none = absurd (let absurdity : ⊥ = cc in absurdity)
+two_fault word row (Three a b c) are none = bad_two word row (λ e. absurd (omega (arith, e, ap length are.row_is)))
 two_fault word row TooMany are none = bad_two word row (λ e. absurd (omega (arith, e, are)))
+
+-- `lay` with three numbers
+same_lay : (x x' y y' z z' : ℕ) → x ≡ x' → y ≡ y' → z ≡ z' → ◌≡◌ {A = Option Line} (Some (a_command (lay_arc x y z))) (Some (a_command (lay_arc x' y' z')))
+same_lay x x' y y' z z' e f g = rw (e, f, g) refl
+
+lay_is : (u v w : List ℕ) (a b d : Numeral) → numeral u ≡ Some a → numeral v ≡ Some b → numeral w ≡ Some d → (is_refused a || (is_refused b || is_refused d)) ≡ false
+    → IsLine (spelling Lay ∷ u ∷ v ∷ w ∷ []) (a_command (lay_arc (kept a).size (kept b).size (kept d).size))
+lay_is u v w a b d e f g plain =
+    let parts = or_parts _ _ plain in
+    let others = or_parts _ _ parts.1 in
+    let first : size_at (u ∷ v ∷ w ∷ []) 0 ≡ (kept a).size = rw e (sym (ap (λ (n : Numeral). n.size) (kept_number a parts.0))) in
+    let second : size_at (u ∷ v ∷ w ∷ []) 1 ≡ (kept b).size = rw f (sym (ap (λ (n : Numeral). n.size) (kept_number b others.0))) in
+    let third : size_at (u ∷ v ∷ w ∷ []) 2 ≡ (kept d).size = rw g (sym (ap (λ (n : Numeral). n.size) (kept_number d others.1))) in
+    (code_of_three (spelling Lay) u v w a b d lay_form e f g ∙ rw plain refl, lay_made (u ∷ v ∷ w ∷ []) ∙ same_lay _ _ _ _ _ _ first second third)
+
+all_refused : (a b d n m k : Numeral) → n ≡ kept a → m ≡ kept b → k ≡ kept d → (is_refused a || (is_refused b || is_refused d)) ≡ (is_refused n || (is_refused m || is_refused k))
+all_refused a b d n m k p q r =
+    ap (λ (x : Bool). x || (is_refused b || is_refused d)) (sym (kept_refused a) ∙ sym (ap is_refused p)) ∙ ap (λ (y : Bool). is_refused n || y) (both_refused b d m k q r)
+
+pub lay_reads : (row : Row) (n m k : Numeral) → IsNumbers row (Three (Some n) (Some m) (Some k)) → (is_refused n || (is_refused m || is_refused k)) ≡ false
+    → IsLine (spelling Lay ∷ row) (a_command (lay_arc n.size m.size k.size))
+lay_reads row n m k are plain =
+    let h = kept_as are.first n are.first_number in
+    let i = kept_as are.second m are.second_number in
+    let j = kept_as are.third k are.third_number in
+    rw (are.row_is, h.kept_as, i.kept_as, j.kept_as) (lay_is are.first are.second are.third h.a i.a j.a h.is i.is j.is (all_refused h.a i.a j.a n m k h.kept_as i.kept_as j.kept_as ∙ plain))
+
+pub lay_range : (row : Row) (n m k : Numeral) → IsNumbers row (Three (Some n) (Some m) (Some k)) → (is_refused n || (is_refused m || is_refused k)) ≡ true → IsLine (spelling Lay ∷ row) (Refused NumberRange)
+lay_range row n m k are bad =
+    let h = kept_as are.first n are.first_number in
+    let i = kept_as are.second m are.second_number in
+    let j = kept_as are.third k are.third_number in
+    rw are.row_is
+    (code_of_three (spelling Lay) are.first are.second are.third h.a i.a j.a lay_form h.is i.is j.is ∙ rw (all_refused h.a i.a j.a n m k h.kept_as i.kept_as j.kept_as ∙ bad) refl)
+
+bad_triple : (row : Row) (a b c : Option Numeral) → AreThree row a b c → is_malformed 3 row ≡ true → session_code (spelling Lay ∷ row) ≡ Some BadLine
+bad_triple row a b c are bad = malformed (spelling Lay) 3 row lay_form bad
+
+pub lay_fault : (row : Row) (numbers : Numbers) → IsNumbers row numbers → has_three numbers ≡ false → IsLine (spelling Lay ∷ row) (Refused BadLine)
+lay_fault row Nothing are none = bad_lay row (λ e. absurd (omega (arith, e, ap length are)))
+lay_fault row (One a) are none = bad_lay row (λ e. absurd (omega (arith, e, ap length are.row_is)))
+lay_fault row (Two a b) are none = bad_lay row (λ e. absurd (omega (arith, e, ap length are.row_is)))
+lay_fault row (Three None b c) are none =
+    let no : numeral are.first ≡ None = no_numeral are.first are.first_number in
+    bad_triple row None b c are (rw (are.row_is, no) refl)
+lay_fault row (Three (Some n) None c) are none =
+    let h = kept_as are.first n are.first_number in
+    let no : numeral are.second ≡ None = no_numeral are.second are.second_number in
+    bad_triple row (Some n) None c are (rw (are.row_is, h.is, no) refl)
+lay_fault row (Three (Some n) (Some m) None) are none =
+    let h = kept_as are.first n are.first_number in
+    let i = kept_as are.second m are.second_number in
+    let no : numeral are.third ≡ None = no_numeral are.third are.third_number in
+    bad_triple row (Some n) (Some m) None are (rw (are.row_is, h.is, i.is, no) refl)
+lay_fault row (Three (Some n) (Some m) (Some k)) are none = absurd (let absurdity : ⊥ = cc in absurdity)
+lay_fault row TooMany are none = bad_lay row (λ e. absurd (omega (arith, e, are)))

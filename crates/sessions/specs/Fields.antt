@@ -10,7 +10,7 @@ use Rattle.dimacs.specs.Numerals.{numeral, kept}
 use Rattle.sessions.specs.declared.fields.Field.{Field}
 use Rattle.sessions.specs.declared.fields.Field.TheVariants.{Unbegun, Minus, Number, Other}
 use Rattle.sessions.specs.declared.fields.Numbers.{Numbers}
-use Rattle.sessions.specs.declared.fields.Numbers.TheVariants.{Nothing, One, Two, TooMany}
+use Rattle.sessions.specs.declared.fields.Numbers.TheVariants.{Nothing, One, Two, Three, TooMany}
 
 -- the numeral that a field is, if it is one, as the program keeps it
 abbrev pub number_of : List ℕ → Option Numeral
@@ -38,7 +38,7 @@ IsField field Minus = field ≡ 45 ∷ []
 IsField field (Number number) = IsNumber field number
 IsField field Other = (0 < length field) × ((more : List ℕ) → numeral (field ++ more) ≡ None)
 
--- one field, or two, with what each is as a number
+-- one field, two or three, with what each is as a number
 pub record IsOne (row : Row) (a : Option Numeral) : Type 0 where
   pub field : List ℕ
   pub row_is : row ≡ field ∷ []
@@ -51,19 +51,29 @@ pub record AreTwo (row : Row) (a b : Option Numeral) : Type 0 where
   pub first_number : a ≡ number_of first
   pub second_number : b ≡ number_of second
 
+pub record AreThree (row : Row) (a b c : Option Numeral) : Type 0 where
+  pub first : List ℕ
+  pub second : List ℕ
+  pub third : List ℕ
+  pub row_is : row ≡ first ∷ second ∷ third ∷ []
+  pub first_number : a ≡ number_of first
+  pub second_number : b ≡ number_of second
+  pub third_number : c ≡ number_of third
+
 -- what is known of the fields behind a word
 abbrev pub IsNumbers : Row → Numbers → Type 0
 IsNumbers row Nothing = row ≡ []
 IsNumbers row (One a) = IsOne row a
 IsNumbers row (Two a b) = AreTwo row a b
-IsNumbers row TooMany = 2 < length row
+IsNumbers row (Three a b c) = AreThree row a b c
+IsNumbers row TooMany = 3 < length row
 
 -- a field that has a byte, as a list of fields
 abbrev pub as_row : List ℕ → Row
 as_row [] = []
 as_row (b ∷ bs) = (b ∷ bs) ∷ []
 
--- one numeral, and two
+-- one numeral, two, and three
 abbrev pub has_one : Numbers → Bool
 has_one (One (Some n)) = true
 has_one others = false
@@ -71,3 +81,7 @@ has_one others = false
 abbrev pub has_two : Numbers → Bool
 has_two (Two (Some n) (Some m)) = true
 has_two others = false
+
+abbrev pub has_three : Numbers → Bool
+has_three (Three (Some n) (Some m) (Some k)) = true
+has_three others = false

@@ -4,5 +4,6 @@ pub mod Fields
 pub mod SessionLines
 pub mod Judging
 pub mod Reads
+pub mod Drafts
 pub mod Told
 pub mod Turns

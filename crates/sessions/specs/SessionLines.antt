@@ -1,4 +1,4 @@
--- The lines of a session: those of command texts, the queries of scripts, `wait` and `quit`.
+-- The lines of a session: those of command texts, the queries of scripts, `wait` and `quit`, and `begin` and `end` about a group.
 use Rattle.std.specs.Prelude.{◌≡◌, ℕ, ◌||◌, true, List, [], ◌∷◌, ◌++◌, Option, None, Some, if◌then◌else◌}
 use Rattle.std.specs.Option.{option_map}
 use Rattle.std.specs.Str.{bytes_eq}
@@ -10,11 +10,11 @@ use Rattle.dimacs.specs.Content.{size_at}
 use Rattle.dimacs.specs.Faults.{Row, is_empty, is_remark}
 use Rattle.rows.specs.declared.queries.Query.TheVariants.{Dist, From, Lower}
 use Rattle.sessions.specs.declared.lines.Line.{Line}
-use Rattle.sessions.specs.declared.lines.Line.TheVariants.{Ignored, Command, Query, Wait, Quit, Refused}
+use Rattle.sessions.specs.declared.lines.Line.TheVariants.{Ignored, Command, Query, Wait, Quit, Begin, End, Refused}
 
 -- the words of a session, with how many numbers follow them
 abbrev pub forms : List Form
-forms = commands ++ form (codes "dist") 2 ∷ form (codes "from") 2 ∷ form (codes "lower") 2 ∷ form (codes "wait") 0 ∷ form (codes "quit") 0 ∷ []
+forms = commands ++ form (codes "dist") 2 ∷ form (codes "from") 2 ∷ form (codes "lower") 2 ∷ form (codes "wait") 0 ∷ form (codes "quit") 0 ∷ form (codes "begin") 0 ∷ form (codes "end") 0 ∷ []
 
 -- the code of a line, by the table of command texts with these words
 abbrev pub session_code : Row → Option Code
@@ -27,7 +27,9 @@ line_from word others = if bytes_eq word (codes "dist") then Some (Query (Dist (
     else (if bytes_eq word (codes "lower") then Some (Query (Lower (size_at others 0) (size_at others 1)))
     else (if bytes_eq word (codes "wait") then Some Wait
     else (if bytes_eq word (codes "quit") then Some Quit
-    else option_map Command (command_from word others)))))
+    else (if bytes_eq word (codes "begin") then Some Begin
+    else (if bytes_eq word (codes "end") then Some End
+    else option_map Command (command_from word others)))))))
 
 abbrev pub line_of : Row → Option Line
 line_of [] = None
@@ -45,3 +47,5 @@ IsLine row (Command command) = AsksFor row (Command command)
 IsLine row (Query query) = AsksFor row (Query query)
 IsLine row Wait = AsksFor row Wait
 IsLine row Quit = AsksFor row Quit
+IsLine row Begin = AsksFor row Begin
+IsLine row End = AsksFor row End

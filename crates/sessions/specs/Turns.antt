@@ -3,12 +3,13 @@ use Rattle.std.specs.Prelude.{◌≡◌, ◌⊎◌, ℕ, Bool, true, false, List
 use Rattle.std.specs.Io.KnownBytes.{Appends}
 use mathlib.Core.List.{IsPrefix}
 use Rattle.dimacs.specs.declared.fault.Code.{Code}
-use Rattle.dimacs.specs.declared.fault.Code.TheVariants.{NumberRange}
-use Rattle.roadnet.specs.declared.commands.Command.{Command}
+use Rattle.dimacs.specs.declared.fault.Code.TheVariants.{BadLine, NumberRange, GroupSize}
+use Rattle.roadnet.specs.declared.groups.Group.{Group}
 use Rattle.roadnet.specs.declared.refusals.Refusal.{Refusal}
-use Rattle.roadnet.specs.declared.refusals.Refusal.TheVariants.{Read}
+use Rattle.roadnet.specs.declared.refusals.Refusal.TheVariants.{Read, OutOfMemory}
 use Rattle.roadnet.specs.Numbers.{number_of}
 use Rattle.machine.specs.declared.events.Replied.{Replied}
+use Rattle.machine.specs.declared.events.Replied.TheVariants.{Refused as told_refused}
 use Rattle.machine.specs.declared.calls.Ticket.{Ticket}
 use Rattle.machine.specs.Laws.{IsAt}
 use Rattle.history.specs.Origins.{Origin, Beginning}
@@ -20,13 +21,15 @@ use Rattle.printing.specs.Printed.{version_line, refusal_line}
 use Rattle.printing.specs.Replied.{printed_reply}
 use Rattle.sessions.specs.declared.answers.Accepted.{Accepted}
 use Rattle.sessions.specs.declared.lines.Line.{Line}
-use Rattle.sessions.specs.declared.lines.Line.TheVariants.{Ignored, Command as a_command, Query, Wait, Quit, Refused}
+use Rattle.sessions.specs.declared.lines.Line.TheVariants.{Ignored, Command as a_command, Query, Wait, Quit, Begin, End, Refused}
+use Rattle.sessions.specs.Drafts.{Drafted, fault_of, next_draft}
 use Rattle.sessions.specs.Reads.{ReadsOne, FailsInLine, ReadsLine}
 use Rattle.sessions.specs.Told.{HaveReceipts, HasMore, Settles, Replies, ShowsLast, IsUnshown, known_to, told_durable}
 
--- the number by which a line's fault is told
+-- the number by which the fault of a line or of a group is told
 abbrev pub fault_number : Code → ℕ
 fault_number NumberRange = 5
+fault_number GroupSize = 13
 fault_number other = 1
 
 -- `v V`, or `no CODE`
@@ -34,35 +37,46 @@ abbrev pub version_or_refusal : Result ℕ Refusal → List ℕ
 version_or_refusal (Ok version) = version_line version
 version_or_refusal (Err refusal) = refusal_line (number_of refusal)
 
--- What a line is told, and which commands it tells to be durable, where the session's last accepted command was `before` and is `last`, and the
--- session knows these commands.
-abbrev pub IsAnswer : Origin → Line → Option Accepted → Option Accepted → List Command → List ℕ → List Ticket → Type 0
-IsAnswer origin Ignored before last known told durable = (told ≡ []) × (durable ≡ []) × (last ≡ before)
-IsAnswer origin Quit before last known told durable = (told ≡ []) × (durable ≡ []) × (last ≡ before)
-IsAnswer origin (a_command command) before last known told durable =
-    (reply : Replied) × Settles origin before last command reply × (told ≡ printed_reply reply) × (durable ≡ told_durable command reply)
-IsAnswer origin (Query query) before last known told durable =
+-- What the end of a group is told that has this fault or none: the fault; or what its commands come to; or that no memory was given for them.
+abbrev pub IsEndAnswer : Origin → Option Code → Group → Option Accepted → Option Accepted → List ℕ → List Ticket → Type 0
+IsEndAnswer origin (Some code) group before last told durable = (told ≡ refusal_line (fault_number code)) × (durable ≡ []) × (last ≡ before)
+IsEndAnswer origin None group before last told durable =
+    (reply : Replied) × (Settles origin before last group reply ⊎ ((reply ≡ told_refused OutOfMemory) × (last ≡ before))) × (told ≡ printed_reply reply) × (durable ≡ told_durable group reply)
+
+-- What a line is told, and which groups it tells to be durable, within this group or outside of groups, where the session's last accepted group
+-- was `before` and is `last`, and the session knows these groups. A command outside is a group of its own. Within a group nothing is told before its end.
+abbrev pub IsAnswer : Origin → Option Drafted → Line → Option Accepted → Option Accepted → List Group → List ℕ → List Ticket → Type 0
+IsAnswer origin None (a_command command) before last known told durable =
+    (reply : Replied) × Settles origin before last (command ∷ []) reply × (told ≡ printed_reply reply) × (durable ≡ told_durable (command ∷ []) reply)
+IsAnswer origin None (Query query) before last known told durable =
     (reply : Replied) × Replies origin known query reply × (told ≡ printed_reply reply) × (durable ≡ []) × (last ≡ before)
-IsAnswer origin Wait before last known told durable =
+IsAnswer origin None Wait before last known told durable =
     (shown : Result ℕ Refusal) × IfOk shown (ShowsLast origin last known) × IfErr shown IsUnshown × (told ≡ version_or_refusal shown) × (durable ≡ []) × (last ≡ before)
-IsAnswer origin (Refused code) before last known told durable = (told ≡ refusal_line (fault_number code)) × (durable ≡ []) × (last ≡ before)
+IsAnswer origin None (Refused code) before last known told durable = (told ≡ refusal_line (fault_number code)) × (durable ≡ []) × (last ≡ before)
+IsAnswer origin None End before last known told durable = (told ≡ refusal_line (fault_number BadLine)) × (durable ≡ []) × (last ≡ before)
+IsAnswer origin None Ignored before last known told durable = (told ≡ []) × (durable ≡ []) × (last ≡ before)
+IsAnswer origin None Quit before last known told durable = (told ≡ []) × (durable ≡ []) × (last ≡ before)
+IsAnswer origin None Begin before last known told durable = (told ≡ []) × (durable ≡ []) × (last ≡ before)
+IsAnswer origin (Some draft) End before last known told durable = IsEndAnswer origin (fault_of draft) draft.commands before last told durable
+IsAnswer origin (Some draft) other before last known told durable = (told ≡ []) × (durable ≡ []) × (last ≡ before)
 
 -- The writer has this answer and no more. The beginning of the history that the session has goes on to one with what is told to be durable.
-pub record Tells (origin : Origin) (line : Line) (before last : Option Accepted) (known : List Command) (had has : Option Beginning) (old new : Option (List ℕ)) : Type 0 where
+pub record Tells (origin : Origin) (draft : Option Drafted) (line : Line) (before last : Option Accepted) (known : List Group) (had has : Option Beginning) (old new : Option (List ℕ)) : Type 0 where
   pub told : List ℕ
   pub durable : List Ticket
-  pub is_answer : IsAnswer origin line before last known told durable
+  pub is_answer : IsAnswer origin draft line before last known told durable
   pub kept : HasMore origin had has durable
   pub written : Appends old new told
 
--- how far a session is: the bytes that are left of its lines, what it told, the commands that it told to be durable, those that it has seen or was told
--- of, and its last accepted command
+-- how far a session is: the bytes that are left of its lines, what it told, the groups that it told to be durable, those that it has seen or was told
+-- of, its last accepted group, and the group that its lines are in, if they are in one
 pub record Standing : Type 0 where
   pub left : List ℕ
   pub told : List ℕ
   pub durable : List Ticket
-  pub known : List Command
+  pub known : List Group
   pub last : Option Accepted
+  pub draft : Option Drafted
 
 -- the line `quit`, which ends a session
 abbrev pub is_quit : Line → Bool
@@ -76,7 +90,8 @@ pub record IsTurn (origin : Origin) (old new : Standing) : Type 0 where
   pub read : ReadsOne old.left (Some new.left) line
   pub answer : List ℕ
   pub receipts : List Ticket
-  pub answers : IsAnswer origin line old.last new.last new.known answer receipts
+  pub answers : IsAnswer origin old.draft line old.last new.last new.known answer receipts
+  pub draft : new.draft ≡ next_draft old.draft line
   pub told : new.told ≡ old.told ++ answer
   pub durable : new.durable ≡ old.durable ++ receipts
   pub begins : IsPrefix old.known new.known
@@ -88,7 +103,7 @@ AreTurns origin first (next ∷ others) last = IsTurn origin first next × AreTu
 
 -- a session over this text that has just begun
 abbrev pub beginning : List ℕ → Standing
-beginning text = record { left = text; told = []; durable = []; known = []; last = None }
+beginning text = record { left = text; told = []; durable = []; known = []; last = None; draft = None }
 
 -- the lines of the text up to here were answered in their order, and the writer has the answers and no more
 pub record HasServed (origin : Origin) (text : List ℕ) (old new : Option (List ℕ)) (last : Standing) : Type 0 where
@@ -96,16 +111,16 @@ pub record HasServed (origin : Origin) (text : List ℕ) (old new : Option (List
   pub are : AreTurns origin (beginning text) turns last
   pub written : Appends old new last.told
 
--- the session has all that it told to be durable, and has seen or was told of these commands
+-- the session has all that it told to be durable, and has seen or was told of these groups
 pub record IsSessionAt (origin : Origin) (reader : Option Reading) (receipts : Option Beginning) (last : Standing) : Type 0 where
   pub known : last.known ≡ known_to reader
   pub durable : HaveReceipts origin receipts last.durable
 
--- Whatever a stop leaves of the closed desk: each command that the session told to be durable has its number in it, and it begins with all
--- commands after which the session answered a query.
+-- Whatever a stop leaves of the closed desk: each group that the session told to be durable has its number in it, and it begins with all
+-- groups after which the session answered a query.
 pub record IsKept (history shown : Beginning) (last : Standing) : Type 0 where
-  pub durable : (kept : List Command) → KeepsSeen history shown kept → All (IsAt history.origin.version kept) last.durable
-  pub known : (kept : List Command) → KeepsSeen history shown kept → IsPrefix last.known kept
+  pub durable : (kept : List Group) → KeepsSeen history shown kept → All (IsAt history.origin.version kept) last.durable
+  pub known : (kept : List Group) → KeepsSeen history shown kept → IsPrefix last.known kept
 
 -- Behind these lines comes the line `quit` or the end of the text; or the reader fails in a line, which is not carried out; and this holds of the session
 -- as far as it came. Where the writer fails nothing is said.

@@ -1,7 +1,7 @@
 //! Fields where numbers stand, taken byte by byte: none of their bytes is kept.
 ghost use Rattle.std.specs.Prelude.{◌≡◌, ◌≢◌, ◌∷◌, ◌++◌, [], List, ℕ, Some, false, MatchOption};
 ghost use Rattle.dimacs.specs.Faults.{Row};
-ghost use Rattle.sessions.specs.Fields.{IsField, IsNumbers, HasDigits, signed_field, number_of, as_row, has_one, has_two};
+ghost use Rattle.sessions.specs.Fields.{IsField, IsNumbers, HasDigits, signed_field, number_of, as_row, has_one, has_two, has_three};
 
 use dimacs::Numeral;
 
@@ -24,6 +24,7 @@ pub(crate) enum Numbers {
     Nothing,
     One(Option<Numeral>),
     Two(Option<Numeral>, Option<Numeral>),
+    Three(Option<Numeral>, Option<Numeral>, Option<Numeral>),
     /// More than any word has behind it.
     TooMany,
 }
@@ -72,7 +73,8 @@ impl Numbers {
         match self {
             Numbers::Nothing => Numbers::One(number),
             Numbers::One(first) => Numbers::Two(first, number),
-            Numbers::Two(..) => Numbers::TooMany,
+            Numbers::Two(first, second) => Numbers::Three(first, second, number),
+            Numbers::Three(..) => Numbers::TooMany,
             Numbers::TooMany => Numbers::TooMany,
         }
     }
@@ -106,6 +108,16 @@ pub(crate) fn two_of(numbers: Numbers) -> Option<(Numeral, Numeral)>
 {
     match numbers {
         Numbers::Two(Some(first), Some(second)) => Some((first, second)),
+        _ => None,
+    }
+}
+
+/// Three numerals and no other field.
+pub(crate) fn three_of(numbers: Numbers) -> Option<(Numeral, Numeral, Numeral)>
+    ensures { MatchOption result (has_three numbers ≡ false) (λ all. numbers ≡ Numbers.Three (Some all.0) (Some all.1) (Some all.2)) }
+{
+    match numbers {
+        Numbers::Three(Some(first), Some(second), Some(third)) => Some((first, second, third)),
         _ => None,
     }
 }

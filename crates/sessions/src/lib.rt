@@ -2,6 +2,7 @@
 #![tactic(auto)]
 
 mod answers;
+mod drafts;
 mod fields;
 mod letters;
 mod lines;

@@ -1,6 +1,8 @@
 //! The lines of a session, judged byte by byte: of the bytes of a line none is kept but those of a word.
 ghost use Rattle.std.specs.Prelude.{◌≡◌, ◌||◌, ◌∷◌, ◌++◌, [], List, ℕ, true, false};
+ghost use Rattle.std.specs.Bool.{Decides};
 ghost use Rattle.std.specs.Io.BufRead.{strip_last};
+ghost use Rattle.dimacs.specs.Commands.{is_refused};
 ghost use Rattle.dimacs.specs.Faults.{Row};
 ghost use Rattle.dimacs.specs.Lines.{is_blank, fields};
 ghost use Rattle.sessions.specs.Fields.{IsNumbers};
@@ -10,10 +12,10 @@ ghost use Rattle.sessions.specs.SessionLines.{IsLine};
 ghost use Rattle.sessions.specs.Judging.{IsStage, IsSoFar};
 ghost use Rattle.sessions.specs.Turns.{is_quit};
 
-use crate::fields::{Field, Numbers, one_of, two_of};
+use crate::fields::{Field, Numbers, one_of, three_of, two_of};
 use crate::letters::Letters;
 use crate::words::{Bare, Word};
-use dimacs::{Code, OneNumber, TwoNumbers};
+use dimacs::{Code, Numeral, OneNumber, TwoNumbers};
 use roadnet::Command;
 use rows::Query;
 
@@ -27,6 +29,10 @@ pub(crate) enum Line {
     /// The session's last accepted command is to be shown.
     Wait,
     Quit,
+    /// A group begins.
+    Begin,
+    /// The group ends.
+    End,
     /// It has this fault: 1 BadLine or 5 NumberRange.
     Refused(Code),
 }
@@ -36,6 +42,13 @@ pub(crate) fn is_quit(line: Line) -> bool
     ensures { result ≡ is_quit line }
 {
     matches!(line, Line::Quit)
+}
+
+/// Whether a line ends a group.
+pub(crate) fn is_end(line: Line) -> bool
+    ensures { Decides result (line ≡ Line.End) }
+{
+    matches!(line, Line::End)
 }
 
 /// How far a line came, by what it asks for.
@@ -70,6 +83,8 @@ fn bare_line(word: Bare) -> Line
     match word {
         Bare::Wait => Line::Wait,
         Bare::Quit => Line::Quit,
+        Bare::Begin => Line::Begin,
+        Bare::End => Line::End,
     }
 }
 
@@ -112,6 +127,7 @@ fn read_bare(word: Bare, numbers: Numbers) -> Line
         Numbers::Nothing => bare_line(word),
         Numbers::One(_) => Line::Refused(Code::BadLine),
         Numbers::Two(..) => Line::Refused(Code::BadLine),
+        Numbers::Three(..) => Line::Refused(Code::BadLine),
         Numbers::TooMany => Line::Refused(Code::BadLine),
     }
 }
@@ -142,6 +158,30 @@ fn read_two(word: TwoNumbers, numbers: Numbers) -> Line
     two_line(word, first.size, second.size)
 }
 
+/// Whether one of three numbers is refused.
+fn is_one_refused(first: Numeral, second: Numeral, third: Numeral) -> bool
+    ensures { result ≡ (is_refused first || (is_refused second || is_refused third)) }
+{
+    first.is_refused() || (second.is_refused() || third.is_refused())
+}
+
+/// What `lay` asks for, with the tail, the head and the length behind it.
+fn read_lay(numbers: Numbers) -> Line
+    ensures { (row : Row) → IsNumbers row numbers → IsLine (spelling Word.Lay ∷ row) result }
+{
+    let Some((tail, head, length)) = three_of(numbers) else {
+        return Line::Refused(Code::BadLine);
+    };
+    if is_one_refused(tail, head, length) {
+        return Line::Refused(Code::NumberRange);
+    }
+    Line::Command(Command::Lay {
+        tail: tail.size,
+        head: head.size,
+        length: length.size,
+    })
+}
+
 /// What a line asks for, by its word and what stands behind it.
 fn read_line(word: Word, numbers: Numbers) -> Line
     ensures { (row : Row) → IsNumbers row numbers → IsLine (spelling word ∷ row) result }
@@ -150,6 +190,7 @@ fn read_line(word: Word, numbers: Numbers) -> Line
         Word::WithNone(word) => read_bare(word, numbers),
         Word::WithOne(word) => read_one(word, numbers),
         Word::WithTwo(word) => read_two(word, numbers),
+        Word::Lay => read_lay(numbers),
     }
 }
 

@@ -22,10 +22,11 @@ use std::thread::Threads;
 /// Carries out the lines of a client in their order by the desk, each answered, and the answer sent out, before the next line is read. It ends at
 /// the line `quit` and at the end of the input; the desk goes on.
 ///
-/// The lines are the five commands (`ok N` once the command is durable, or `no CODE`), `dist S T`, `from X T` and `lower S T` (`v V` and an
-/// answer line, from a pin of that moment, or `no CODE`), `wait` (`v V` once the session's last accepted command is shown, or `no CODE`) and
-/// `quit`. Lines with no field and comments, which begin with `#`, have no answer; any other line has `no 1` or `no 5`. No line is too long:
-/// a line takes no memory.
+/// The lines are the six commands (`ok N` once the command is durable, or `no CODE`), `dist S T`, `from X T` and `lower S T` (`v V` and an
+/// answer line, from a pin of that moment, or `no CODE`), `wait` (`v V` once the session's last accepted group is shown, or `no CODE`) and
+/// `quit`. The lines `begin` and `end` enclose the commands of a group: nothing is answered before its end, which answers for the whole, `ok N` once it
+/// is durable, or the code of its first line that has a fault, or `no CODE`. A group that `quit` or the end of the input cuts off is dropped. Lines with no field and comments, which begin with `#`, have no answer; any other line has `no 1` or `no 5`. No line is too long:
+/// a line takes no memory; a group takes 32 bytes a command.
 ///
 /// What the session has of its desk is handed out: by that `Session::is_kept` says of the closed desk what the session's answers were promises of.
 ///

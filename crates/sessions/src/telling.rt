@@ -12,12 +12,13 @@ use printing::{CountedWriter, Failed, put_refusal, put_reply, put_version};
 use roadnet::Refusal;
 use std::io::Write;
 
-/// The number of a line's fault: 1 or 5.
+/// The number of a fault: 1, 5, or 13 of a group.
 fn number_of_fault(code: Code) -> u8
     ensures { result ≡ fault_number code }
 {
     match code {
         Code::NumberRange => 5,
+        Code::GroupSize => 13,
         _ => 1,
     }
 }
@@ -66,7 +67,7 @@ pub(crate) fn tell_version<W: Write>(
     out.flush()
 }
 
-/// `no CODE` for a line that has a fault, sent out.
+/// `no CODE` for a line or a group that has a fault, sent out.
 pub(crate) fn tell_fault<W: Write>(out: &mut CountedWriter<'_, W>, code: Code) -> Result<(), Failed>
     ensures ok { OnOk result (Appends (W.contents (writer_of out.old)) (W.contents (writer_of out.new)) (refusal_line (fault_number code))) }
     ensures refused { IfErr result (λ failed. failed ≡ Failed.Code Refusal.Write) }

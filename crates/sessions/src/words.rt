@@ -9,6 +9,8 @@ use dimacs::{OneNumber, TwoNumbers, word_of_one, word_of_two};
 pub(crate) enum Bare {
     Wait,
     Quit,
+    Begin,
+    End,
 }
 
 /// A word by what stands behind it.
@@ -17,6 +19,8 @@ pub(crate) enum Word {
     WithNone(Bare),
     WithOne(OneNumber),
     WithTwo(TwoNumbers),
+    /// `lay`, with three numbers behind it.
+    Lay,
 }
 
 /// The word that a field spells.
@@ -34,6 +38,15 @@ pub(crate) fn word_of(field: &[u8]) -> Option<Word>
     }
     if field == b"quit".as_slice() {
         return Some(Word::WithNone(Bare::Quit));
+    }
+    if field == b"begin".as_slice() {
+        return Some(Word::WithNone(Bare::Begin));
+    }
+    if field == b"end".as_slice() {
+        return Some(Word::WithNone(Bare::End));
+    }
+    if field == b"lay".as_slice() {
+        return Some(Word::Lay);
     }
     None
 }

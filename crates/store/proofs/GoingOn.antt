@@ -3,8 +3,6 @@ use Rattle.std.proofs.Common.{◌≡◌, ⊎_elim, ℕ, ◌+◌, ◌*◌, ◌≤
 use Rattle.std.specs.Prelude.{IfSome, option_map}
 use Rattle.std.proofs.Props.{props}
 use Rattle.std.proofs.Math.Logic.{∥∥₁_elim, ∥∥₁_map}
-use Rattle.std.proofs.lemmas.List.{length-map}
-use Rattle.std.proofs.lemmas.List.Elements.{recursion_from_All}
 use Rattle.disk.specs.Gated.{SameOutside, IsOpen, IsShut, IsOldOrShut, with_page}
 use Rattle.disk.specs.Moments.{LeavesOnly}
 use Rattle.disk.proofs.Steps.{and_then, weaker}
@@ -12,8 +10,8 @@ use Rattle.roadnet.specs.declared.commands.Command.{Command}
 use Rattle.roadnet.specs.Net.{Net, IsNetwork}
 use Rattle.pages.specs.declared.header.Header.{Header}
 use Rattle.pages.specs.declared.content.Slot.{Slot}
-use Rattle.pages.specs.Spelling.{AreFit, SpelledEntry, IsRecord, ends_of}
-use Rattle.pages.specs.Layout.{HeadOf, Words, other, word_pages, page_number, page_count}
+use Rattle.pages.specs.Spelling.{AreFit, SpelledEntry}
+use Rattle.pages.specs.Layout.{HeadOf, other, slot_pages, page_number, page_count}
 use Rattle.storefile.specs.StoreFile.{page, is_open, is_standing, joined, journal_page_at, HoldsSlot, StandsBy, StandsTidyFor}
 use Rattle.storefile.specs.Standing.{Standing, standing_of, IsStoredAs, IsTidyAt, HasFitNumbers, LeadsTo, with_other_slot}
 use Rattle.storefile.proofs.JournalWrite.{leads_more}
@@ -22,22 +20,23 @@ use Rattle.storefile.proofs.OtherSlot.{SameBeside, after_ends, leads_beside, slo
 use Rattle.storefile.proofs.PageBytes.{outside_pages, same_but}
 use Rattle.storefile.proofs.Rests.{stored_as, standing_is}
 use Rattle.storefile.proofs.Torn.{head_below}
-use Rattle.checkpoint.specs.Writing.{Draft, head_of, slot_at, slot_size, slot_gate, HoldsWords, IsSlotShut, IsSlotWhole, IsSlotShutOrWhole}
+use Rattle.checkpoint.specs.Writing.{Draft, head_of, slot_at, slot_size, slot_gate, slot_page_at, HoldsPages, IsSlotShut, IsSlotWhole, IsSlotShutOrWhole}
 use Rattle.checkpoint.proofs.SlotHeld.{holds_slot, gate_shut, while_beginning}
 use Rattle.store.specs.declared.going.GoingCheckpoint.{GoingCheckpoint}
 use Rattle.store.specs.Committing.{StandsTidily}
 use Rattle.store.specs.Going.{FitsStore, GoesOn, with_one_more}
-use Rattle.store.proofs.Checkpointed.{still_stands, shut_told, shut_tidily, shut_stands, nodes_told, arcs_told}
-use Rattle.store.proofs.Committed.{Follow, records_fit, page_body}
+use Rattle.store.proofs.Checkpointed.{still_stands, shut_told, shut_tidily, shut_stands, nodes_told, room_told}
+use Rattle.store.proofs.Committed.{Follow, are_records, page_body}
 
 -- ---- it begins
 
-pub begins : (content : List ℕ) (h : Header) (draft : Draft) (net : Net) (version next : ℕ) → draft.written ≡ 0 → draft.version ≡ version → draft.next_sequence ≡ next → IsNetwork net
+pub begins : (content : List ℕ) (h : Header) (draft : Draft) (net : Net) (version next : ℕ) → draft.written ≡ 0 → draft.version ≡ version → draft.next_sequence ≡ next → IsNetwork net → h.arcs ≤ length net.arcs
     → (IsOpen (slot_gate h draft.slot) content → ⊥) → GoesOn content h draft net 0 net version next
-begins content h draft net version next none same_version same_next is closed = record {
+begins content h draft net version next none same_version same_next is from closed = record {
   closed = closed;
-  words = λ i lt. absurd (omega (arith, lt, none));
+  pages = λ i lt. absurd (omega (arith, lt, none));
   frozen_is = is;
+  frozen_from = from;
   since = [];
   committed_is = refl;
   leads = record { held = tt; network = refl; version_is = omega (arith, same_version); next_is = omega (arith, same_next) };
@@ -45,7 +44,7 @@ begins content h draft net version next none same_version same_next is closed = 
 
 -- ---- a commit between two parts
 
-module _ (old new : List ℕ) (x : Standing) (net : Net) (commands : List Command) (follow : Follow x net commands) where
+module _ (old new : List ℕ) (x : Standing) (net : Net) (commands : List (List Command)) (follow : Follow x net commands) where
   pub fits_committed : (going : Option GoingCheckpoint) → IfSome going (λ g. FitsStore x.header x.slot x.epoch x.version x.next x.unchecked g.next g.committed)
       → IfSome (option_map with_one_more going) (λ g. FitsStore x.header x.slot x.epoch (x.version + length commands) (x.next + 1) (x.unchecked + 1) g.next g.committed)
   fits_committed None fits = tt
@@ -61,14 +60,14 @@ module _ (old new : List ℕ) (x : Standing) (net : Net) (commands : List Comman
 
   module _ (size : length old ≡ 4096 * page_count x.header) (is : new ≡ with_page old (4096 * journal_page_at x.header x.next) (page_body x commands)) where
     wrote : IsPage x.version x.next commands (page_body x commands)
-    wrote = is_page x.version x.next commands follow.versions follow.numbers.next_to follow.some follow.few (recursion_from_All IsRecord commands (records_fit commands follow.fit))
+    wrote = is_page x.version x.next commands follow.versions follow.numbers.next_to follow.each (are_records commands follow.each follow.few follow.some follow.fit)
 
     written : List ℕ
     written = with_page old (4096 * journal_page_at x.header x.next) (page_body x commands)
 
     outside : SameOutside (4096 * journal_page_at x.header x.next) 4096 old new
     outside = subst (λ (c : List ℕ). SameOutside (4096 * journal_page_at x.header x.next) 4096 old c) (sym is)
-        (page_outside old x.header x.version x.next commands (page_body x commands) follow.numbers.header size wrote)
+        (page_outside old x.header x.version x.next commands (page_body x commands) follow.numbers.header follow.today size wrote)
 
     goes_on_committed : (g : GoingCheckpoint) → FitsStore x.header x.slot x.epoch x.version x.next x.unchecked g.next g.committed → GoesOn old x.header g.next g.frozen g.committed x.network x.version x.next
         → GoesOn new x.header g.next g.frozen (g.committed + 1) net (x.version + length commands) (x.next + 1)
@@ -76,15 +75,16 @@ module _ (old new : List ℕ) (x : Standing) (net : Net) (commands : List Comman
         let below = head_below x.header g.next.slot in
         record {
           closed = λ opened. goes.closed (sym (outside.below (slot_gate x.header g.next.slot) (omega (arith, below))) ∙ opened);
-          words = λ i lt. same_but (journal_page_at x.header x.next) old new outside (page_number x.header (Words g.next.slot i)) (λ e. omega (arith, e, below, lt, fits.within)) ∙ goes.words i lt;
+          pages = λ i lt. same_but (journal_page_at x.header x.next) old new outside (slot_page_at x.header g.next.slot i) (λ e. omega (arith, e, below, lt, fits.within)) ∙ goes.pages i lt;
           frozen_is = goes.frozen_is;
+          frozen_from = goes.frozen_from;
           since = goes.since ++ commands ∷ [];
           committed_is = omega (arith, goes.committed_is, length-append goes.since (commands ∷ []));
           leads = leads_more (page old) (page new) x.header g.frozen x.network net g.next.version g.next.next_sequence x.version x.next goes.since commands goes.leads
               (same_but (journal_page_at x.header x.next) old new outside) (omega (arith, fits.next_is, fits.one_before, follow.room))
-              (subst (λ (c : List ℕ). is_standing (page c) x.header x.next ≡ true) (sym is) (page_stands old x.header x.version x.next commands (page_body x commands) follow.numbers.header size wrote))
-              (subst (λ (c : List ℕ). SpelledEntry (page c (journal_page_at x.header x.next)) (record { sequence = x.next; first_number = x.version + 1; commands = commands })) (sym is)
-              (page_spells old x.header x.version x.next commands (page_body x commands) follow.numbers.header size wrote))
+              (subst (λ (c : List ℕ). is_standing (page c) x.header x.next ≡ true) (sym is) (page_stands old x.header x.version x.next commands (page_body x commands) follow.numbers.header follow.today size wrote))
+              (subst (λ (c : List ℕ). SpelledEntry x.header.format (page c (journal_page_at x.header x.next)) (record { sequence = x.next; first_number = x.version + 1; groups = commands })) (sym is)
+              (page_spells old x.header x.version x.next commands (page_body x commands) follow.numbers.header follow.today size wrote))
               follow.goes;
         }
 
@@ -97,15 +97,16 @@ module _ (old new : List ℕ) (x : Standing) (net : Net) (commands : List Comman
 -- ---- a part, after which some are left
 
 pub goes_on_part : (old new : List ℕ) (h : Header) (slot : Slot) (draft : Draft) (count : ℕ) (frozen : Net) (committed : ℕ) (net : Net) (version next : ℕ) → draft.slot ≡ other slot
-    → IsSlotShut h draft.slot old new → HoldsWords (page new) h draft.slot frozen count → GoesOn old h draft frozen committed net version next
+    → IsSlotShut h draft.slot old new → HoldsPages (page new) h draft.slot frozen count → GoesOn old h draft frozen committed net version next
     → GoesOn new h (record draft { written = count }) frozen committed net version next
 goes_on_part old new h slot draft count frozen committed net version next is shut words goes =
     let same : SameBeside h (other slot) (page old) (page new) =
-    subst (λ (s : Slot). SameBeside h s (page old) (page new)) is (outside_pages (page_number h (HeadOf draft.slot)) (word_pages h + 1) old new shut.outside) in
+    subst (λ (s : Slot). SameBeside h s (page old) (page new)) is (outside_pages (page_number h (HeadOf draft.slot)) (slot_pages h + 1) old new shut.outside) in
     record {
       closed = shut.closed;
-      words = words;
+      pages = words;
       frozen_is = goes.frozen_is;
+      frozen_from = goes.frozen_from;
       since = goes.since;
       committed_is = goes.committed_is;
       leads = leads_beside (page old) (page new) h slot frozen net draft.version draft.next_sequence version next goes.since same goes.leads;
@@ -137,8 +138,8 @@ module _ (old : List ℕ) (x : Standing) (draft : Draft) (frozen : Net) (committ
     frozen_nodes : frozen.nodes ≡ x.header.nodes
     frozen_nodes = sym (after_ends frozen x.network (joined goes.since) goes.leads.network).nodes ∙ nodes_told old x told
 
-    frozen_arcs : length frozen.arcs ≡ x.header.arcs
-    frozen_arcs = sym (length-map frozen.arcs ends_of) ∙ sym (ap length (after_ends frozen x.network (joined goes.since) goes.leads.network).ends) ∙ length-map x.network.arcs ends_of ∙ arcs_told old x told
+    frozen_room : frozen.room ≡ x.header.room
+    frozen_room = sym (after_ends frozen x.network (joined goes.since) goes.leads.network).room ∙ room_told old x told
 
     head_fits : AreFit draft.epoch draft.version draft.next_sequence (length frozen.landmarks)
     head_fits = record {
@@ -150,7 +151,7 @@ module _ (old : List ℕ) (x : Standing) (draft : Draft) (frozen : Net) (committ
     }
 
     holds : HoldsSlot (page c) x.header draft.slot (head_of draft frozen) frozen
-    holds = holds_slot x.header draft.slot (head_of draft frozen) frozen old c whole goes.frozen_is frozen_nodes frozen_arcs refl head_fits
+    holds = holds_slot x.header draft.slot (head_of draft frozen) frozen old c whole goes.frozen_is frozen_nodes frozen_room goes.frozen_from refl refl head_fits
 
     slot_is : draft.slot ≡ other held.stored.slot
     slot_is = fits.slot_is ∙ ap other (sym held.slot_is)
@@ -182,6 +183,7 @@ module _ (old : List ℕ) (x : Standing) (draft : Draft) (frozen : Net) (committ
       stored = with_other_slot held.stored draft.epoch frozen draft.version draft.next_sequence goes.since;
       stands = taken;
       header_is = held.header_is;
+      format_is = held.format_is;
       slot_is = sym slot_is;
       epoch_is = refl;
       unchecked_is = goes.committed_is;
@@ -201,7 +203,7 @@ module _ (old : List ℕ) (x : Standing) (draft : Draft) (frozen : Net) (committ
   stands_by_parts stands goes c whole = (told_by_parts stands.0 goes c whole, tidy_by_parts stands.1 c whole)
 
   -- at each moment of a part
-  pub during_part : StandsTidily old x → ∥ GoesOn old x.header draft frozen committed x.network x.version x.next ∥₁ → (c : List ℕ) → IsSlotShutOrWhole x.header draft.slot (head_of draft frozen) frozen old c → StandsTidyFor x.header.journal_pages c x.network x.version
+  pub during_part : StandsTidily old x → ∥ GoesOn old x.header draft frozen committed x.network x.version x.next ∥₁ → (c : List ℕ) → IsSlotShutOrWhole x.header draft.slot (head_of draft frozen) frozen old c → StandsTidyFor x.header.journal_pages (slot_pages x.header) c x.network x.version
   during_part stands goes c way = ⊎_elim
       (λ shut. shut_stands old c x stands (subst (λ (s : Slot). IsSlotShut x.header s old c) fits.slot_is shut))
       (λ whole. still_stands c (taken_over x draft committed) (stands_by_parts stands goes c whole))
@@ -216,11 +218,11 @@ pub some_goes : {X : Type 0} (P : X → Type 0) (o : Option X) (x : X) → Some 
 some_goes P o x e h = ∥∥₁_map h (λ is. from_some P o x e is)
 
 pub words_held : (content : List ℕ) (h : Header) (draft : Draft) (frozen : Net) (committed : ℕ) (net : Net) (version next : ℕ) → ∥ GoesOn content h draft frozen committed net version next ∥₁
-    → HoldsWords (page content) h draft.slot frozen draft.written
-words_held content h draft frozen committed net version next goes = ∥∥₁_elim goes (Prim.hlevel props) (λ on. on.words)
+    → HoldsPages (page content) h draft.slot frozen draft.written
+words_held content h draft frozen committed net version next goes = ∥∥₁_elim goes (Prim.hlevel props) (λ on. on.pages)
 
 -- some of its word pages more are written
-pub fits_part : (h : Header) (slot : Slot) (epoch version next unchecked : ℕ) (draft new : Draft) (committed count : ℕ) → new ≡ record draft { written = count } → count ≤ word_pages h
+pub fits_part : (h : Header) (slot : Slot) (epoch version next unchecked : ℕ) (draft new : Draft) (committed count : ℕ) → new ≡ record draft { written = count } → count ≤ slot_pages h
     → FitsStore h slot epoch version next unchecked draft committed → FitsStore h slot epoch version next unchecked new committed
 fits_part h slot epoch version next unchecked draft new committed count is few fits =
     subst (λ (d : Draft). FitsStore h slot epoch version next unchecked d committed) (sym is) (record {
@@ -234,9 +236,9 @@ fits_part h slot epoch version next unchecked draft new committed count is few f
     })
 
 pub goes_part : (old c : List ℕ) (h : Header) (slot : Slot) (draft new : Draft) (count : ℕ) (frozen : Net) (committed : ℕ) (net : Net) (version next : ℕ) → draft.slot ≡ other slot → new ≡ record draft { written = count }
-    → IsSlotShut h draft.slot old c → HoldsWords (page c) h draft.slot frozen new.written → ∥ GoesOn old h draft frozen committed net version next ∥₁ → ∥ GoesOn c h new frozen committed net version next ∥₁
+    → IsSlotShut h draft.slot old c → HoldsPages (page c) h draft.slot frozen new.written → ∥ GoesOn old h draft frozen committed net version next ∥₁ → ∥ GoesOn c h new frozen committed net version next ∥₁
 goes_part old c h slot draft new count frozen committed net version next is_slot is shut words goes =
-    let held : HoldsWords (page c) h draft.slot frozen count = subst (λ (d : Draft). HoldsWords (page c) h draft.slot frozen d.written) is words in
+    let held : HoldsPages (page c) h draft.slot frozen count = subst (λ (d : Draft). HoldsPages (page c) h draft.slot frozen d.written) is words in
     subst (λ (d : Draft). ∥ GoesOn c h d frozen committed net version next ∥₁) (sym is)
     (∥∥₁_map goes (λ on. goes_on_part old c h slot draft count frozen committed net version next is_slot shut held on))
 
@@ -258,19 +260,19 @@ module _ (c : List ℕ) (x : Standing) (draft : Draft) (committed : ℕ) (slot :
 pub moments_of_part : {D : Type 0} (content : D → List ℕ) (moment : D → ℕ) (left_since : D → ℕ → List ℕ → Type 0) (old new : D) (x : Standing) (draft : Draft) (frozen : Net) (committed : ℕ)
     → HasFitNumbers x.header x.epoch x.version x.next x.unchecked → FitsStore x.header x.slot x.epoch x.version x.next x.unchecked draft committed → StandsTidily (content old) x
     → ∥ GoesOn (content old) x.header draft frozen committed x.network x.version x.next ∥₁ → LeavesOnly moment left_since old new (IsSlotShutOrWhole x.header draft.slot (head_of draft frozen) frozen (content old))
-    → LeavesOnly moment left_since old new (λ c. StandsTidyFor x.header.journal_pages c x.network x.version)
+    → LeavesOnly moment left_since old new (λ c. StandsTidyFor x.header.journal_pages (slot_pages x.header) c x.network x.version)
 moments_of_part content moment left_since old new x draft frozen committed numbers fits stands goes run =
-    weaker moment left_since old new (IsSlotShutOrWhole x.header draft.slot (head_of draft frozen) frozen (content old)) (λ c. StandsTidyFor x.header.journal_pages c x.network x.version) run
+    weaker moment left_since old new (IsSlotShutOrWhole x.header draft.slot (head_of draft frozen) frozen (content old)) (λ c. StandsTidyFor x.header.journal_pages (slot_pages x.header) c x.network x.version) run
     (λ c way. during_part (content old) x draft frozen committed numbers fits stands goes c way)
 
 -- at each moment while the gate is closed
 pub moments_of_beginning : {D : Type 0} (content : D → List ℕ) (moment : D → ℕ) (left_since : D → ℕ → List ℕ → Type 0) (old new : D) (x : Standing) (slot : Slot) → slot ≡ other x.slot → StandsTidily (content old) x
-    → LeavesOnly moment left_since old new (IsOldOrShut (content old) (slot_gate x.header slot)) → LeavesOnly moment left_since old new (λ c. StandsTidyFor x.header.journal_pages c x.network x.version)
+    → LeavesOnly moment left_since old new (IsOldOrShut (content old) (slot_gate x.header slot)) → LeavesOnly moment left_since old new (λ c. StandsTidyFor x.header.journal_pages (slot_pages x.header) c x.network x.version)
 moments_of_beginning content moment left_since old new x slot is stands run =
-    weaker moment left_since old new (IsOldOrShut (content old) (slot_gate x.header slot)) (λ c. StandsTidyFor x.header.journal_pages c x.network x.version) run
+    weaker moment left_since old new (IsOldOrShut (content old) (slot_gate x.header slot)) (λ c. StandsTidyFor x.header.journal_pages (slot_pages x.header) c x.network x.version) run
     (λ c way. ⊎_elim
     (λ shut. shut_stands (content old) c x stands (subst (λ (s : Slot). IsSlotShut x.header s (content old) c) is shut))
-    (λ same. subst (λ (d : List ℕ). StandsTidyFor x.header.journal_pages d x.network x.version) (sym same) (still_stands (content old) x stands))
+    (λ same. subst (λ (d : List ℕ). StandsTidyFor x.header.journal_pages (slot_pages x.header) d x.network x.version) (sym same) (still_stands (content old) x stands))
     (while_beginning x.header slot (content old) c way))
 
 pub begun_told : (old c : List ℕ) (x : Standing) (slot : Slot) → slot ≡ other x.slot → standing_of old ≡ Some x → IsShut (slot_gate x.header slot) 1 (slot_gate x.header slot) old c → standing_of c ≡ Some x
@@ -280,8 +282,8 @@ pub begun_tidily : (old c : List ℕ) (x : Standing) (slot : Slot) → slot ≡ 
 begun_tidily old c x slot is stands shut = shut_tidily old c x stands (subst (λ (s : Slot). IsSlotShut x.header s old c) is (gate_shut x.header slot old c shut))
 
 -- a checkpoint begins, and then its first part is written
-pub run_twice : {D : Type 0} (moment : D → ℕ) (left_since : D → ℕ → List ℕ → Type 0) (old mid new : D) (x y : Standing) → y ≡ x → LeavesOnly moment left_since old mid (λ c. StandsTidyFor x.header.journal_pages c x.network x.version)
-    → LeavesOnly moment left_since mid new (λ c. StandsTidyFor y.header.journal_pages c y.network y.version) → LeavesOnly moment left_since old new (λ c. StandsTidyFor x.header.journal_pages c x.network x.version)
+pub run_twice : {D : Type 0} (moment : D → ℕ) (left_since : D → ℕ → List ℕ → Type 0) (old mid new : D) (x y : Standing) → y ≡ x → LeavesOnly moment left_since old mid (λ c. StandsTidyFor x.header.journal_pages (slot_pages x.header) c x.network x.version)
+    → LeavesOnly moment left_since mid new (λ c. StandsTidyFor y.header.journal_pages (slot_pages y.header) c y.network y.version) → LeavesOnly moment left_since old new (λ c. StandsTidyFor x.header.journal_pages (slot_pages x.header) c x.network x.version)
 run_twice moment left_since old mid new x y is first second =
-    and_then moment left_since old mid new (λ c. StandsTidyFor x.header.journal_pages c x.network x.version) (λ c. StandsTidyFor y.header.journal_pages c y.network y.version) first second
-    (λ c stood. subst (λ (z : Standing). StandsTidyFor z.header.journal_pages c z.network z.version) is stood)
+    and_then moment left_since old mid new (λ c. StandsTidyFor x.header.journal_pages (slot_pages x.header) c x.network x.version) (λ c. StandsTidyFor y.header.journal_pages (slot_pages y.header) c y.network y.version) first second
+    (λ c stood. subst (λ (z : Standing). StandsTidyFor z.header.journal_pages (slot_pages z.header) c z.network z.version) is stood)

@@ -6,8 +6,9 @@ use Rattle.roadnet.specs.declared.arcs.RoadArc.{RoadArc}
 use Rattle.roadnet.specs.Net.{Net}
 use Rattle.pages.specs.declared.header.Header.{Header}
 use Rattle.pages.specs.declared.content.Slot.TheVariants.{A, B}
+use Rattle.pages.specs.declared.content.Format.TheVariants.{Two}
 use Rattle.pages.specs.Spelling.{zeros, page_of, header_fields, header_page, head_fields, head_page, ends_bytes, ends_of, word_bytes, word_of}
-use Rattle.pages.specs.Layout.{Part, Front, Arcs, HeadOf, Words, Journal, IsPart, arc_pages, word_pages, page_number, page_count}
+use Rattle.pages.specs.Layout.{Part, Front, Arcs, HeadOf, Words, EndsOf, Journal, IsPart, arc_pages, word_pages, end_pages, slot_pages, page_number, page_count}
 use Rattle.pages.proofs.Items.{length-items}
 use Rattle.pages.proofs.Heads.{length-fields}
 use Rattle.storefile.specs.StoreFile.{page, part}
@@ -29,8 +30,8 @@ words_size net i = length-page_of (flat_map word_bytes (map word_of (part 1023 i
 pub header_size : (h : Header) → length (header_page h) ≡ 4096
 header_size h = length-page_of (header_fields h) (omega arith)
 
-pub head_size : (net : Net) → length net.landmarks ≤ 1000 → length (head_page (first_head net)) ≡ 4096
-head_size net few = length-page_of (head_fields (first_head net)) (omega (arith, length-fields (first_head net) few))
+pub head_size : (net : Net) (v : ℕ) → length net.landmarks ≤ 1000 → length (head_page Two (first_head net v)) ≡ 4096
+head_size net v few = length-page_of (head_fields Two (first_head net v)) (omega (arith, length-fields Two (first_head net v) few))
 
 pub blank_size : length blank_page ≡ 4096
 blank_size = length-page_of [] (omega arith)
@@ -39,29 +40,31 @@ abbrev pub blanks : ℕ → List ℕ
 blanks k = blank_page
 
 -- the file as it is written
-abbrev pub written_file : Header → Net → List ℕ
-written_file h net = ((((header_page h ++ first_pages (page_of_arcs net) (arc_pages h)) ++ head_page (first_head net)) ++ first_pages (page_of_words net) (word_pages h)) ++ first_pages blanks (word_pages h + 1 + h.journal_pages))
+abbrev pub written_file : Header → Net → ℕ → List ℕ
+written_file h net v = ((((header_page h ++ first_pages (page_of_arcs net) (arc_pages h)) ++ head_page Two (first_head net v)) ++ first_pages (page_of_words net) (word_pages h)) ++ first_pages blanks (end_pages h + 1 + slot_pages h + h.journal_pages))
 
-module _ (h : Header) (net : Net) (few : length net.landmarks ≤ 1000) where
+module _ (h : Header) (net : Net) (v : ℕ) (few : length net.landmarks ≤ 1000) where
   abbrev rest : ℕ
-  rest = word_pages h + 1 + h.journal_pages
+  rest = end_pages h + 1 + slot_pages h + h.journal_pages
 
-  size : length (written_file h net) ≡ 4096 * page_count h
-  size = omega (arith, five_size (header_page h) (head_page (first_head net)) (page_of_arcs net) (page_of_words net) blanks (arc_pages h) (word_pages h) rest (header_size h) (head_size net few) (λ k lt. arcs_size net k) (λ k lt. words_size net k) (λ k lt. blank_size))
+  size : length (written_file h net v) ≡ 4096 * page_count h
+  size = omega (arith, five_size (header_page h) (head_page Two (first_head net v)) (page_of_arcs net) (page_of_words net) blanks (arc_pages h) (word_pages h) rest (header_size h) (head_size net v few) (λ k lt. arcs_size net k) (λ k lt. words_size net k) (λ k lt. blank_size))
 
-  behind : (k i : ℕ) → i < rest → k ≡ arc_pages h + word_pages h + 2 + i → page (written_file h net) k ≡ blank_page
-  behind k i lt is = page_fifth (header_page h) (head_page (first_head net)) (page_of_arcs net) (page_of_words net) blanks (arc_pages h) (word_pages h) rest (header_size h) (head_size net few) (λ k lt. arcs_size net k) (λ k lt. words_size net k) (λ k lt. blank_size) k i lt is
+  behind : (k i : ℕ) → i < rest → k ≡ arc_pages h + word_pages h + 2 + i → page (written_file h net v) k ≡ blank_page
+  behind k i lt is = page_fifth (header_page h) (head_page Two (first_head net v)) (page_of_arcs net) (page_of_words net) blanks (arc_pages h) (word_pages h) rest (header_size h) (head_size net v few) (λ k lt. arcs_size net k) (λ k lt. words_size net k) (λ k lt. blank_size) k i lt is
 
-  each : (part : Part) → IsPart h part → page (written_file h net) (page_number h part) ≡ new_page h net part
-  each Front is = page_zero (header_page h) (head_page (first_head net)) (page_of_arcs net) (page_of_words net) blanks (arc_pages h) (word_pages h) rest (header_size h) (head_size net few) (λ k lt. arcs_size net k) (λ k lt. words_size net k) (λ k lt. blank_size)
-  each (Arcs i) is = page_second (header_page h) (head_page (first_head net)) (page_of_arcs net) (page_of_words net) blanks (arc_pages h) (word_pages h) rest (header_size h) (head_size net few) (λ k lt. arcs_size net k) (λ k lt. words_size net k) (λ k lt. blank_size) i is
-  each (HeadOf A) is = page_third (header_page h) (head_page (first_head net)) (page_of_arcs net) (page_of_words net) blanks (arc_pages h) (word_pages h) rest (header_size h) (head_size net few) (λ k lt. arcs_size net k) (λ k lt. words_size net k) (λ k lt. blank_size) (page_number h (HeadOf A)) refl
-  each (HeadOf B) is = behind (page_number h (HeadOf B)) 0 (omega arith) (omega arith)
-  each (Words A i) is = page_fourth (header_page h) (head_page (first_head net)) (page_of_arcs net) (page_of_words net) blanks (arc_pages h) (word_pages h) rest (header_size h) (head_size net few) (λ k lt. arcs_size net k) (λ k lt. words_size net k) (λ k lt. blank_size) (page_number h (Words A i)) i is (omega arith)
-  each (Words B i) is = behind (page_number h (Words B i)) (1 + i) (omega (arith, is)) (omega arith)
-  each (Journal place) is = behind (page_number h (Journal place)) (word_pages h + 1 + place) (omega (arith, is)) (omega arith)
+  each : (part : Part) → IsPart h part → page (written_file h net v) (page_number h part) ≡ new_page h net v part
+  each Front is = page_zero (header_page h) (head_page Two (first_head net v)) (page_of_arcs net) (page_of_words net) blanks (arc_pages h) (word_pages h) rest (header_size h) (head_size net v few) (λ k lt. arcs_size net k) (λ k lt. words_size net k) (λ k lt. blank_size)
+  each (Arcs i) is = page_second (header_page h) (head_page Two (first_head net v)) (page_of_arcs net) (page_of_words net) blanks (arc_pages h) (word_pages h) rest (header_size h) (head_size net v few) (λ k lt. arcs_size net k) (λ k lt. words_size net k) (λ k lt. blank_size) i is
+  each (HeadOf A) is = page_third (header_page h) (head_page Two (first_head net v)) (page_of_arcs net) (page_of_words net) blanks (arc_pages h) (word_pages h) rest (header_size h) (head_size net v few) (λ k lt. arcs_size net k) (λ k lt. words_size net k) (λ k lt. blank_size) (page_number h (HeadOf A)) refl
+  each (EndsOf A i) is = behind (page_number h (EndsOf A i)) i (omega (arith, is)) (omega arith)
+  each (HeadOf B) is = behind (page_number h (HeadOf B)) (end_pages h) (omega arith) (omega arith)
+  each (Words A i) is = page_fourth (header_page h) (head_page Two (first_head net v)) (page_of_arcs net) (page_of_words net) blanks (arc_pages h) (word_pages h) rest (header_size h) (head_size net v few) (λ k lt. arcs_size net k) (λ k lt. words_size net k) (λ k lt. blank_size) (page_number h (Words A i)) i is (omega arith)
+  each (Words B i) is = behind (page_number h (Words B i)) (end_pages h + 1 + i) (omega (arith, is)) (omega arith)
+  each (EndsOf B i) is = behind (page_number h (EndsOf B i)) (end_pages h + 1 + word_pages h + i) (omega (arith, is)) (omega arith)
+  each (Journal place) is = behind (page_number h (Journal place)) (end_pages h + 1 + slot_pages h + place) (omega (arith, is)) (omega arith)
 
-  pub laid_out : IsLaidOut (written_file h net) h net
+  pub laid_out : IsLaidOut (written_file h net v) h net v
   laid_out = record { size = size; each = each }
 
 -- a page of zeros, as it is written
@@ -70,12 +73,12 @@ unfolding page_of zeros
 zeros_page = refl
 
 -- the file, piece by piece
-pub written_is : (h : Header) (net : Net) (s0 s1 s2 s3 s4 s5 hp hd : List ℕ) (n : ℕ) → s0 ≡ [] → s1 ≡ s0 ++ hp → hp ≡ header_page h → s2 ≡ s1 ++ first_pages (page_of_arcs net) (arc_pages h) → s3 ≡ s2 ++ hd → hd ≡ head_page (first_head net)
-    → s4 ≡ s3 ++ first_pages (page_of_words net) (word_pages h) → s5 ≡ s4 ++ first_pages blanks n → n ≡ word_pages h + 1 + h.journal_pages → s5 ≡ written_file h net
-written_is h net s0 s1 s2 s3 s4 s5 hp hd n e0 e1 is_hp e2 e3 is_hd e4 e5 is_n =
+pub written_is : (h : Header) (net : Net) (v : ℕ) (s0 s1 s2 s3 s4 s5 hp hd : List ℕ) (n : ℕ) → s0 ≡ [] → s1 ≡ s0 ++ hp → hp ≡ header_page h → s2 ≡ s1 ++ first_pages (page_of_arcs net) (arc_pages h) → s3 ≡ s2 ++ hd → hd ≡ head_page Two (first_head net v)
+    → s4 ≡ s3 ++ first_pages (page_of_words net) (word_pages h) → s5 ≡ s4 ++ first_pages blanks n → n ≡ end_pages h + 1 + slot_pages h + h.journal_pages → s5 ≡ written_file h net v
+written_is h net v s0 s1 s2 s3 s4 s5 hp hd n e0 e1 is_hp e2 e3 is_hd e4 e5 is_n =
     let one : s1 ≡ header_page h = e1 ∙ ap (λ (xs : List ℕ). xs ++ hp) e0 ∙ is_hp in
     let two = e2 ∙ ap (λ (xs : List ℕ). xs ++ first_pages (page_of_arcs net) (arc_pages h)) one in
     let three = e3 ∙ ap (λ (xs : List ℕ). xs ++ hd) two ∙ ap (λ (xs : List ℕ). (header_page h ++ first_pages (page_of_arcs net) (arc_pages h)) ++ xs) is_hd in
     let four = e4 ∙ ap (λ (xs : List ℕ). xs ++ first_pages (page_of_words net) (word_pages h)) three in
     e5 ∙ ap (λ (xs : List ℕ). xs ++ first_pages blanks n) four
-    ∙ ap (λ (k : ℕ). (((header_page h ++ first_pages (page_of_arcs net) (arc_pages h)) ++ head_page (first_head net)) ++ first_pages (page_of_words net) (word_pages h)) ++ first_pages blanks k) is_n
+    ∙ ap (λ (k : ℕ). (((header_page h ++ first_pages (page_of_arcs net) (arc_pages h)) ++ head_page Two (first_head net v)) ++ first_pages (page_of_words net) (word_pages h)) ++ first_pages blanks k) is_n

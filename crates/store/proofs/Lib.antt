@@ -1,3 +1,4 @@
+mod EachAlone
 pub mod Afterwards
 pub mod Appended
 pub mod Applied
@@ -9,9 +10,11 @@ pub mod GoingOn
 pub mod Growing
 pub mod InFlight
 pub mod LaidOut
+pub mod Migrated
 pub mod NewStore
 pub mod Refused
 pub mod Replayed
 pub mod Resting
+pub mod SameButNetwork
 pub mod StateKept
 pub mod Steps

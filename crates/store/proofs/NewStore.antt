@@ -1,15 +1,17 @@
 -- What the file of a new store stands for.
-use Rattle.std.proofs.Common.{◌≡◌, ◌≢◌, ℕ, ◌+◌, ◌*◌, ◌%◌, ◌^◌, ◌<◌, ◌≤◌, true, false, List, [], ◌∷◌, length, drop, map, Some, refl, sym, ◌∙◌, ap, subst, arith, length-take, length-drop}
+use Rattle.std.proofs.Common.{◌≡◌, ◌≢◌, ℕ, ◌+◌, ◌-◌, ◌*◌, ◌%◌, ◌^◌, ◌<◌, ◌≤◌, true, false, List, [], ◌∷◌, length, take, drop, map, Some, refl, sym, ◌∙◌, ap, subst, arith, length-take, length-drop}
 use Rattle.std.specs.List.{All, AllByRecursion}
-use Rattle.std.proofs.lemmas.List.{length-map}
+use Rattle.std.proofs.lemmas.List.{length-map, take_all}
 use Rattle.std.proofs.lemmas.List.Elements.{All-take, All-drop, recursion_from_All, All-from_recursion}
 use Rattle.std.proofs.Math.Nat.{mod-lt}
 use Rattle.roadnet.specs.declared.arcs.RoadArc.{RoadArc}
 use Rattle.roadnet.specs.Net.{Net, IsNetwork, IsArcAmong}
 use Rattle.pages.specs.declared.header.Header.{Header}
 use Rattle.pages.specs.declared.content.Slot.TheVariants.{A, B}
-use Rattle.pages.specs.Spelling.{zeros, page_of, body, header_page, IsHeader, IsEnds, ends_of, IsWord, word_of, head_page}
-use Rattle.pages.specs.Layout.{Front, Arcs, HeadOf, Words, Journal, places_in_use, page_number}
+use Rattle.pages.specs.declared.content.Format.TheVariants.{Two}
+use Rattle.pages.specs.Limits.{most_versions}
+use Rattle.pages.specs.Spelling.{zeros, page_of, body, header_page, IsHeader, IsEnds, ends_of, SpelledArcs, IsWord, word_of, head_page}
+use Rattle.pages.specs.Layout.{Front, Arcs, HeadOf, Words, EndsOf, Journal, places_in_use, slot_pages, page_number}
 use Rattle.storefile.specs.StoreFile.{page, part, is_open, journal_page_at, is_standing, Stored, Stores, HoldsArcs, HoldsSlot, StandsBy, StandsTidyFor, head_of}
 use Rattle.storefile.specs.Standing.{IsStoredAs, IsTidyAt, standing_of, HasFitNumbers}
 use Rattle.storefile.proofs.PageBytes.{gate_pages, gate_body, gate_opens, gate_length}
@@ -42,18 +44,22 @@ all_short net places i is = All-from_recursion (λ arc. arc.length < 2 ^ 31) (pa
 count_of : (places i : ℕ) (arcs : List RoadArc) → length (part places i arcs) ≡ places_in_use places i (length arcs)
 count_of places i arcs = omega (arith, length-take places (drop (places * i) arcs), length-drop (places * i) arcs)
 
+empty_list : (xs : List RoadArc) → length xs ≡ 0 → xs ≡ []
+empty_list [] e = refl
+empty_list (x ∷ xs) e = absurd cc
+
 blank_closed : is_open blank_page ≡ false
 unfolding page_of zeros
 blank_closed = refl
 
 pub sizes_fit : (net : Net) (j : ℕ) → IsNetwork net → 1 ≤ j → j ≤ 65536 → IsHeader (header_of net j)
-sizes_fit net j is some few = record { some_node = is.some_node; nodes_to = is.nodes_to; arcs_to = is.arcs_to; some_page = some; pages_to = few }
+sizes_fit net j is some few = record { some_node = is.some_node; nodes_to = is.nodes_to; arcs_to = is.arcs_to; room_to = is.room_to; room_fits = λ one. absurd cc; some_page = some; pages_to = few }
 
 -- what a new store stores
-abbrev pub first_stored : Net → ℕ → Stored
-first_stored net j = record { header = header_of net j; slot = A; epoch = 1; version = 0; sequence = 0; network = net; unchecked = [] }
+abbrev pub first_stored : Net → ℕ → ℕ → Stored
+first_stored net v j = record { header = header_of net j; slot = A; epoch = 1; version = v; sequence = 0; network = net; unchecked = [] }
 
-module _ (file : List ℕ) (net : Net) (j : ℕ) (network : IsNetwork net) (fits : IsHeader (header_of net j)) (laid : IsLaidOut file (header_of net j) net) where
+module _ (file : List ℕ) (net : Net) (v j : ℕ) (few_versions : v ≤ most_versions) (network : IsNetwork net) (fits : IsHeader (header_of net j)) (laid : IsLaidOut file (header_of net j) net v) where
   abbrev h : Header
   h = header_of net j
 
@@ -90,7 +96,7 @@ module _ (file : List ℕ) (net : Net) (j : ℕ) (network : IsNetwork net) (fits
   head_same : page whole head_at ≡ page half head_at
   head_same = gate_pages 0 half second_fits head_at (λ e. omega (arith, e))
 
-  head_body : body (page whole head_at) ≡ body (head_page (first_head net))
+  head_body : body (page whole head_at) ≡ body (head_page Two (first_head net v))
   head_body = ap body head_same ∙ gate_body head_at file first_fits ∙ ap body (laid.each (HeadOf A) tt)
 
   head_open : is_open (page whole head_at) ≡ true
@@ -107,22 +113,31 @@ module _ (file : List ℕ) (net : Net) (j : ℕ) (network : IsNetwork net) (fits
   none_stands : (q : ℕ) → is_standing (page whole) h q ≡ false
   none_stands q = let closed : is_open (page whole (journal_page_at h q)) ≡ false = journal_closed q in rw closed refl
 
+  all_arcs : take (length net.arcs) net.arcs ≡ net.arcs
+  all_arcs = take_all (length net.arcs) net.arcs (omega arith)
+
+  none_laid : (i : ℕ) → part 511 i (drop (length net.arcs) net.arcs) ≡ []
+  none_laid i = empty_list (part 511 i (drop (length net.arcs) net.arcs))
+      (omega (arith, length-take 511 (drop (511 * i) (drop (length net.arcs) net.arcs)), length-drop (511 * i) (drop (length net.arcs) net.arcs), length-drop (length net.arcs) net.arcs))
+
   holds_arcs : HoldsArcs (page whole) h net
   holds_arcs = record {
     nodes_are = refl;
-    count_is = refl;
-    each = λ i lt. record {
+    room_is = refl;
+    count_from = omega arith;
+    each = λ i lt. subst (λ (xs : List RoadArc). SpelledArcs net.nodes (places_in_use 511 i (length net.arcs)) (page whole (page_number h (Arcs i))) (map ends_of (part 511 i xs))) (sym all_arcs) (record {
       count_is = length-map (part 511 i net.arcs) ends_of ∙ count_of 511 i net.arcs;
       fits = all_map ends_of (IsEnds net.nodes) (IsArcAmong net.nodes) (ends_fit net.nodes) (part 511 i net.arcs) (recursion_from_All (IsArcAmong net.nodes) (part 511 i net.arcs) (from_all (IsArcAmong net.nodes) 511 i net.arcs network.each_arc));
       spelled = other_page (page_number h (Arcs i)) (λ e. omega (arith, e)) (λ e. omega (arith, e, lt)) ∙ laid.each (Arcs i) lt;
-    };
+    });
   }
 
-  holds_slot : HoldsSlot (page whole) h A (head_of (first_stored net j)) net
+  holds_slot : HoldsSlot (page whole) h A (head_of (first_stored net v j)) net
   holds_slot = record {
     head_is = record {
       fits = record {
-        numbers = record { epoch_from = omega arith; epoch_to = omega arith; sequence_to = omega arith; version_to = omega arith; count_to = network.landmarks_to };
+        numbers = record { epoch_from = omega arith; epoch_to = omega arith; sequence_to = omega arith; version_to = few_versions; count_to = network.landmarks_to };
+        arcs = (omega arith, network.arcs_to);
         ascending = network.ascending;
         each = recursion_from_All (λ (x : ℕ). (1 ≤ x) × (x ≤ net.nodes)) net.landmarks network.each_landmark;
       };
@@ -133,9 +148,14 @@ module _ (file : List ℕ) (net : Net) (j : ℕ) (network : IsNetwork net) (fits
       fits = all_map word_of IsWord (IsArcAmong net.nodes) (word_fits net.nodes) (part 1023 i net.arcs) (recursion_from_All (IsArcAmong net.nodes) (part 1023 i net.arcs) (from_all (IsArcAmong net.nodes) 1023 i net.arcs network.each_arc));
       spelled = other_page (page_number h (Words A i)) (λ e. omega (arith, e)) (λ e. omega (arith, e)) ∙ laid.each (Words A i) lt;
     };
+    ends = λ i lt. subst (λ (xs : List RoadArc). SpelledArcs net.nodes (places_in_use 511 i (length net.arcs - length net.arcs)) (page whole (page_number h (EndsOf A i))) (map ends_of xs)) (sym (none_laid i)) (record {
+      count_is = omega arith;
+      fits = tt;
+      spelled = other_page (page_number h (EndsOf A i)) (λ e. omega (arith, e)) (λ e. omega (arith, e)) ∙ laid.each (EndsOf A i) lt;
+    });
   }
 
-  stores : Stores (length whole) (page whole) (first_stored net j)
+  stores : Stores (length whole) (page whole) (first_stored net v j)
   stores = record {
     header = record { fits = fits; spelled = front_body };
     opened = front_open;
@@ -146,40 +166,41 @@ module _ (file : List ℕ) (net : Net) (j : ℕ) (network : IsNetwork net) (fits
     journal = tt;
     few = omega arith;
     longest = λ lt. none_stands 0;
-    versions_to = omega arith;
+    versions_to = omega (arith, few_versions);
   }
 
-  pub stands_by : StandsBy whole (first_stored net j) net 0 0
-  stands_by = record { is = stores; gives = record { network = refl; version_is = refl }; next_is = refl }
+  pub stands_by : StandsBy whole (first_stored net v j) net v 0
+  stands_by = record { is = stores; gives = record { network = refl; version_is = omega arith }; next_is = refl }
 
   pub tidy : IsTidyAt whole h 0
   tidy = λ q le. none_stands q
 
-  pub stands_tidy : StandsTidyFor h.journal_pages whole net 0
-  stands_tidy = (first_stored net j, 0, record { stands = stands_by; tidy = tidy }, refl)
+  pub stands_tidy : StandsTidyFor h.journal_pages (slot_pages h) whole net v
+  stands_tidy = (first_stored net v j, 0, record { stands = stands_by; tidy = tidy }, refl, refl, refl)
 
-  pub stored_as : IsStoredAs whole h A 1 net 0 0 0
-  stored_as = record { stored = first_stored net j; stands = stands_by; header_is = refl; slot_is = refl; epoch_is = refl; unchecked_is = refl }
+  pub stored_as : IsStoredAs whole h A 1 net v 0 0
+  stored_as = record { stored = first_stored net v j; stands = stands_by; header_is = refl; format_is = refl; slot_is = refl; epoch_is = refl; unchecked_is = refl }
 
-  pub standing : standing_of whole ≡ Some (record { header = h; slot = A; epoch = 1; network = net; version = 0; next = 0; unchecked = 0 })
-  standing = standing_is whole h A 1 net 0 0 0 stored_as
+  pub standing : standing_of whole ≡ Some (record { header = h; slot = A; epoch = 1; network = net; version = v; next = 0; unchecked = 0 })
+  standing = standing_is whole h A 1 net v 0 0 stored_as
 
-pub new_numbers : (h : Header) → IsHeader h → HasFitNumbers h 1 0 0 0
-new_numbers h fits = record { header = fits; version_to = omega arith; next_to = omega arith; epoch_to = omega arith; unchecked_to = omega arith; unchecked_from = omega arith }
+pub new_numbers : (h : Header) (v : ℕ) → IsHeader h → v ≤ most_versions → HasFitNumbers h 1 v 0 0
+new_numbers h v fits few = record { header = fits; version_to = few; next_to = omega arith; epoch_to = omega arith; unchecked_to = omega arith; unchecked_from = omega arith }
 
 -- what `create` has made, whatever its disk
-pub record IsCreated (content : List ℕ) (h : Header) (net : Net) : Type 0 where
-  pub stands : StandsTidyFor h.journal_pages content net 0
+pub record IsCreated (content : List ℕ) (h : Header) (net : Net) (v : ℕ) : Type 0 where
+  pub stands : StandsTidyFor h.journal_pages (slot_pages h) content net v
   pub tidy_at : IsTidyAt content h 0
-  pub standing_is : standing_of content ≡ Some (record { header = h; slot = A; epoch = 1; network = net; version = 0; next = 0; unchecked = 0 })
+  pub standing_is : standing_of content ≡ Some (record { header = h; slot = A; epoch = 1; network = net; version = v; next = 0; unchecked = 0 })
 
-pub same_header : (net : Net) (j nodes : ℕ) (arcs : List RoadArc) → nodes ≡ net.nodes → arcs ≡ net.arcs → ◌≡◌ {A = Header} (record { nodes = nodes; arcs = length arcs; journal_pages = j }) (header_of net j)
-same_header net j nodes arcs e f = rw (e, f) refl
+pub same_header : (net : Net) (j nodes room : ℕ) (arcs : List RoadArc) → nodes ≡ net.nodes → arcs ≡ net.arcs → room ≡ net.room → ◌≡◌ {A = Header} (record { format = Two; nodes = nodes; arcs = length arcs; room = room; journal_pages = j }) (header_of net j)
+same_header net j nodes room arcs e f g = rw (e, f, g) refl
 
-pub created : (content file : List ℕ) (h : Header) (net : Net) (j : ℕ) → IsNetwork net → IsHeader (header_of net j) → h ≡ header_of net j → IsLaidOut file h net → content ≡ with_gate (with_gate file (page_number h (HeadOf A))) 0 → IsCreated content h net
-created content file h net j network fits is laid opened =
-    let laid_as : IsLaidOut file (header_of net j) net = subst (λ (x : Header). IsLaidOut file x net) is laid in
-    let opened_as : content ≡ whole file net j network fits laid_as = subst (λ (x : Header). content ≡ with_gate (with_gate file (page_number x (HeadOf A))) 0) is opened in
-    let made : IsCreated (whole file net j network fits laid_as) (header_of net j) net =
-    record { stands = stands_tidy file net j network fits laid_as; tidy_at = tidy file net j network fits laid_as; standing_is = standing file net j network fits laid_as } in
-    subst (λ (x : Header). IsCreated content x net) (sym is) (subst (λ (d : List ℕ). IsCreated d (header_of net j) net) (sym opened_as) made)
+pub created : (content file : List ℕ) (h : Header) (net : Net) (v j : ℕ) → v ≤ most_versions → IsNetwork net → IsHeader (header_of net j) → h ≡ header_of net j → IsLaidOut file h net v → content ≡ with_gate (with_gate file (page_number h (HeadOf A))) 0
+    → IsCreated content h net v
+created content file h net v j few network fits is laid opened =
+    let laid_as : IsLaidOut file (header_of net j) net v = subst (λ (x : Header). IsLaidOut file x net v) is laid in
+    let opened_as : content ≡ whole file net v j few network fits laid_as = subst (λ (x : Header). content ≡ with_gate (with_gate file (page_number x (HeadOf A))) 0) is opened in
+    let made : IsCreated (whole file net v j few network fits laid_as) (header_of net j) net v =
+    record { stands = stands_tidy file net v j few network fits laid_as; tidy_at = tidy file net v j few network fits laid_as; standing_is = standing file net v j few network fits laid_as } in
+    subst (λ (x : Header). IsCreated content x net v) (sym is) (subst (λ (d : List ℕ). IsCreated d (header_of net j) net v) (sym opened_as) made)

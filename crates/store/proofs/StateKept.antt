@@ -9,7 +9,7 @@ use Rattle.roadnet.specs.declared.refusals.Refusal.{Refusal}
 use Rattle.roadnet.specs.declared.refusals.Refusal.TheVariants.{Device}
 use Rattle.roadnet.specs.Net.{Net}
 use Rattle.pages.specs.declared.header.Header.{Header}
-use Rattle.pages.specs.Layout.{word_pages}
+use Rattle.pages.specs.Layout.{word_pages, end_pages, slot_pages}
 use Rattle.storefile.specs.StoreFile.{StandsTidyFor}
 use Rattle.storefile.specs.Standing.{Standing, IsStoredAs, standing_of}
 use Rattle.storefile.proofs.Rests.{standing_is}
@@ -47,10 +47,13 @@ calm_if s works none = both s.broken s.going works none
 pub left_durable : {D : Type 0} (s : StoreState D) (content : List ℕ) (left : List ℕ → Type 0) → Only content left → IsDurable s content → (c : List ℕ) → left c → IsDurable s c
 left_durable s content left only stands c was = subst (IsDurable s) (sym (only c was)) stands
 
-pub few_pages : (h : Header) → h.arcs ≤ 67108864 → word_pages h ≤ 65601
-few_pages h few = let below : word_pages h < 65602 = (div-lt_iff_lt-mul (omega arith)).1 (omega (arith, few)) in omega (arith, below)
+pub few_pages : (h : Header) → h.room ≤ 67108864 → slot_pages h ≤ 196930
+few_pages h few =
+    let words : word_pages h < 65602 = (div-lt_iff_lt-mul (omega arith)).1 (omega (arith, few)) in
+    let ends : end_pages h < 131330 = (div-lt_iff_lt-mul (omega arith)).1 (omega (arith, few)) in
+    omega (arith, words, ends)
 
-pub durable_of : {D : Type 0} {disk : Ghosts D} (pages : Paged D disk) (content : List ℕ) → StandsTidily content (told_by pages) → StandsTidyFor pages.header.journal_pages content pages.network pages.version
+pub durable_of : {D : Type 0} {disk : Ghosts D} (pages : Paged D disk) (content : List ℕ) → StandsTidily content (told_by pages) → StandsTidyFor pages.header.journal_pages (slot_pages pages.header) content pages.network pages.version
 durable_of pages content stands = left_stands content (λ c. c ≡ content) (told_by pages) (λ c is. is) stands content refl
 
 -- ---- a store that came tidy
@@ -65,7 +68,7 @@ tidily content x tidy told =
 
 -- ---- a call of a store
 
-works_at_commit : (broken : Bool) (version unchecked journal_pages : ℕ) (net : Net) (commands : List Command) → refusal_of_commit broken version unchecked journal_pages net commands ≡ None → broken ≡ false
+works_at_commit : (broken : Bool) (version unchecked journal_pages : ℕ) (net : Net) (commands : List (List Command)) → refusal_of_commit broken version unchecked journal_pages net commands ≡ None → broken ≡ false
 works_at_commit true version unchecked journal_pages net commands none = cc
 works_at_commit false version unchecked journal_pages net commands none = refl
 
@@ -78,7 +81,7 @@ pub at_ok : {T X Y : Type 0} (Q : Refusal → Type 0) (result : Result T Refusal
 at_ok Q (Ok v) told f = f told
 at_ok Q (Err e) told f = tt
 
-pub worked_at_commit : {T : Type 0} (result : Result T Refusal) (broken : Bool) (version unchecked journal_pages : ℕ) (net : Net) (commands : List Command)
+pub worked_at_commit : {T : Type 0} (result : Result T Refusal) (broken : Bool) (version unchecked journal_pages : ℕ) (net : Net) (commands : List (List Command))
     → MatchResult result (λ _. refusal_of_commit broken version unchecked journal_pages net commands ≡ None) (MayRefuseCommit (refusal_of_commit broken version unchecked journal_pages net commands)) → OnOk result (broken ≡ false)
 worked_at_commit (Ok v) broken version unchecked journal_pages net commands none = works_at_commit broken version unchecked journal_pages net commands none
 worked_at_commit (Err e) broken version unchecked journal_pages net commands told = tt
@@ -148,13 +151,13 @@ module _ {D : Type 0} {disk : Ghosts D} where
       let s = at.1.0 in
       let x : Standing = record { header = s.header; slot = s.slot; epoch = s.epoch; network = pages.network; version = pages.version; next = next; unchecked = length s.unchecked } in
       let held : IsStoredAs (disk.content given) s.header s.slot s.epoch pages.network pages.version next (length s.unchecked) =
-      record { stored = s; stands = at.1.1; header_is = refl; slot_is = refl; epoch_is = refl; unchecked_is = refl } in
+      record { stored = s; stands = at.1.1; header_is = refl; format_is = at.1.2; slot_is = refl; epoch_is = refl; unchecked_is = refl } in
       (keeps honest x (standing_is (disk.content given) s.header s.slot s.epoch pages.network pages.version next (length s.unchecked) held)).2 refl works
 
-  pub stands_as_told : (pages : Paged D disk) (given : D) (in_flight : List Command) (content : List ℕ) → standing_of content ≡ Some (told_by pages) → StandsAs content (told (state_of pages given in_flight))
+  pub stands_as_told : (pages : Paged D disk) (given : D) (in_flight : List (List Command)) (content : List ℕ) → standing_of content ≡ Some (told_by pages) → StandsAs content (told (state_of pages given in_flight))
   stands_as_told pages given in_flight content is = record { standing = told_by pages; is = is; told_is = refl }
 
-  pub told_still : {T : Type 0} (result : Result T Refusal) (given : D) (old new : Paged D disk) (in_flight : List Command) → new.network ≡ old.network → new.version ≡ old.version → OnOk result (new.broken ≡ false)
+  pub told_still : {T : Type 0} (result : Result T Refusal) (given : D) (old new : Paged D disk) (in_flight : List (List Command)) → new.network ≡ old.network → new.version ≡ old.version → OnOk result (new.broken ≡ false)
       → KeepsTold given new → disk.honest given → StandsAt (disk.content given) old.network old.version → OnOk result (StandsAs (disk.content new.disk) (told (state_of new given in_flight)))
   told_still (Ok v) given old new in_flight network version works keeps honest at =
       stands_as_told new given in_flight (disk.content new.disk)

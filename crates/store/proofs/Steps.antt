@@ -1,18 +1,21 @@
 -- Opening a file in its parts.
-use Rattle.std.proofs.Common.{◌≡◌, ℕ, ◌*◌, Bool, true, false, List, Option, None, Some, Result, Ok, Err, refl, sym, ap, ◌∙◌}
+use Rattle.std.proofs.Common.{◌≡◌, ℕ, ◌*◌, Bool, true, false, List, ◌++◌, Option, None, Some, Result, Ok, Err, refl, sym, ap, ◌∙◌, arith}
 use Rattle.std.specs.Prelude.{◌==◌, IfOk}
 use Rattle.roadnet.specs.declared.commands.Command.{Command}
 use Rattle.roadnet.specs.declared.refusals.Refusal.{Refusal}
 use Rattle.roadnet.specs.declared.refusals.Refusal.TheVariants.{NotAStore, WrongFormat, Damaged}
 use Rattle.roadnet.specs.Net.{Net}
 use Rattle.pages.specs.declared.header.Header.{Header}
+use Rattle.pages.specs.declared.content.Format.{Format}
+use Rattle.pages.specs.declared.content.Format.TheVariants.{One, Two}
+use Rattle.pages.specs.Formats.{number_of}
 use Rattle.pages.specs.declared.content.Slot.{Slot}
 use Rattle.pages.specs.declared.content.Ends.{Ends}
 use Rattle.pages.specs.declared.content.Word.{Word}
 use Rattle.pages.specs.Contents.{Head}
 use Rattle.pages.specs.Layout.{page_count}
 use Rattle.storefile.specs.StoreFile.{Stored}
-use Rattle.storefile.specs.Judging.{◌>>=◌, unless_so, spelled_at, begins_as_store, format_of, header_in, ends_from, current_slot, words_from, network_from, journal_from, opened_from}
+use Rattle.storefile.specs.Judging.{◌>>=◌, unless_so, spelled_at, begins_as_store, format_of, header_in, ends_from, current_slot, words_from, laid_from, network_from, journal_from, opened_from}
 use Rattle.storefile.specs.Standing.{Standing}
 use Rattle.checkpoint.specs.Loading.{head_from, loaded_from}
 use Rattle.store.specs.Opening.{header_from, Current, current_from}
@@ -46,69 +49,72 @@ current_of s l = Ok (record { slot = s; head = l.0; network = l.1 })
 abbrev current_with : Slot → Head → Net → Current
 current_with s d n = record { slot = s; head = d; network = n }
 
-words_steps : {Z : Type 0} (h : Header) (ends : List Ends) (slot : Slot) (head : Head) (words : Result (List Word) Refusal) (goes_on : Current → Result Z Refusal)
-    → (((words >>= λ w. held head (network_from h ends w head)) >>= current_of slot) >>= goes_on)
-    ≡ (words >>= λ w. goes_on (current_with slot head (network_from h ends w head)))
-words_steps h ends slot head (Err d) goes_on = refl
-words_steps h ends slot head (Ok w) goes_on = refl
+words_steps : {Z : Type 0} (h : Header) (ends : List Ends) (slot : Slot) (head : Head) (words : Result (List Word) Refusal) (laid : Result (List Ends) Refusal) (goes_on : Current → Result Z Refusal)
+    → (((words >>= λ w. laid >>= λ l. held head (network_from h (ends ++ l) w head)) >>= current_of slot) >>= goes_on)
+    ≡ (words >>= λ w. laid >>= λ l. goes_on (current_with slot head (network_from h (ends ++ l) w head)))
+words_steps h ends slot head (Err d) laid goes_on = refl
+words_steps h ends slot head (Ok w) (Err d) goes_on = refl
+words_steps h ends slot head (Ok w) (Ok l) goes_on = refl
 
-head_steps : {Z : Type 0} (h : Header) (ends : List Ends) (slot : Slot) (head : Result Head Refusal) (words : Result (List Word) Refusal) (goes_on : Current → Result Z Refusal)
-    → (((head >>= λ d. words >>= λ w. held d (network_from h ends w d)) >>= current_of slot) >>= goes_on)
-    ≡ (head >>= λ d. words >>= λ w. goes_on (current_with slot d (network_from h ends w d)))
-head_steps h ends slot (Err d) words goes_on = refl
-head_steps h ends slot (Ok head) words goes_on = words_steps h ends slot head words goes_on
+head_steps : {Z : Type 0} (h : Header) (ends : List Ends) (slot : Slot) (head : Result Head Refusal) (words : Head → Result (List Word) Refusal) (laid : Head → Result (List Ends) Refusal) (goes_on : Current → Result Z Refusal)
+    → (((head >>= λ d. words d >>= λ w. laid d >>= λ l. held d (network_from h (ends ++ l) w d)) >>= current_of slot) >>= goes_on)
+    ≡ (head >>= λ d. words d >>= λ w. laid d >>= λ l. goes_on (current_with slot d (network_from h (ends ++ l) w d)))
+head_steps h ends slot (Err d) words laid goes_on = refl
+head_steps h ends slot (Ok head) words laid goes_on = words_steps h ends slot head (words head) (laid head) goes_on
 
-slot_steps : {Z : Type 0} (h : Header) (ends : List Ends) (slot : Result Slot Refusal) (head : Slot → Result Head Refusal) (words : Slot → Result (List Word) Refusal) (goes_on : Current → Result Z Refusal)
-    → ((slot >>= λ s. (head s >>= λ d. words s >>= λ w. held d (network_from h ends w d)) >>= current_of s) >>= goes_on)
-    ≡ (slot >>= λ s. head s >>= λ d. words s >>= λ w. goes_on (current_with s d (network_from h ends w d)))
-slot_steps h ends (Err d) head words goes_on = refl
-slot_steps h ends (Ok s) head words goes_on = head_steps h ends s (head s) (words s) goes_on
+slot_steps : {Z : Type 0} (h : Header) (ends : List Ends) (slot : Result Slot Refusal) (head : Slot → Result Head Refusal) (words : Slot → Head → Result (List Word) Refusal) (laid : Slot → Head → Result (List Ends) Refusal)
+    (goes_on : Current → Result Z Refusal)
+    → ((slot >>= λ s. (head s >>= λ d. words s d >>= λ w. laid s d >>= λ l. held d (network_from h (ends ++ l) w d)) >>= current_of s) >>= goes_on)
+    ≡ (slot >>= λ s. head s >>= λ d. words s d >>= λ w. laid s d >>= λ l. goes_on (current_with s d (network_from h (ends ++ l) w d)))
+slot_steps h ends (Err d) head words laid goes_on = refl
+slot_steps h ends (Ok s) head words laid goes_on = head_steps h ends s (head s) (words s) (laid s) goes_on
 
-current_steps : {Z : Type 0} (h : Header) (ends : Result (List Ends) Refusal) (slot : Result Slot Refusal) (head : Slot → Result Head Refusal) (words : Slot → Result (List Word) Refusal) (goes_on : Current → Result Z Refusal)
-    → ((ends >>= λ e. slot >>= λ s. (head s >>= λ d. words s >>= λ w. held d (network_from h e w d)) >>= current_of s) >>= goes_on)
-    ≡ (ends >>= λ e. slot >>= λ s. head s >>= λ d. words s >>= λ w. goes_on (current_with s d (network_from h e w d)))
-current_steps h (Err d) slot head words goes_on = refl
-current_steps h (Ok e) slot head words goes_on = slot_steps h e slot head words goes_on
+current_steps : {Z : Type 0} (h : Header) (ends : Result (List Ends) Refusal) (slot : Result Slot Refusal) (head : Slot → Result Head Refusal) (words : Slot → Head → Result (List Word) Refusal)
+    (laid : Slot → Head → Result (List Ends) Refusal) (goes_on : Current → Result Z Refusal)
+    → ((ends >>= λ e. slot >>= λ s. (head s >>= λ d. words s d >>= λ w. laid s d >>= λ l. held d (network_from h (e ++ l) w d)) >>= current_of s) >>= goes_on)
+    ≡ (ends >>= λ e. slot >>= λ s. head s >>= λ d. words s d >>= λ w. laid s d >>= λ l. goes_on (current_with s d (network_from h (e ++ l) w d)))
+current_steps h (Err d) slot head words laid goes_on = refl
+current_steps h (Ok e) slot head words laid goes_on = slot_steps h e slot head words laid goes_on
 
 -- what is stored, once the journal's pages are known
-abbrev pub stored_of : Header → Current → List (List Command) → Stored
+abbrev pub stored_of : Header → Current → List (List (List Command)) → Stored
 stored_of h c pages = record { header = h; slot = c.slot; epoch = c.head.epoch; version = c.head.version; sequence = c.head.next_sequence; network = c.network; unchecked = pages }
 
-abbrev stored_with : Header → Current → List (List Command) × Net → Result (Stored × Net) Refusal
+abbrev stored_with : Header → Current → List (List (List Command)) × Net → Result (Stored × Net) Refusal
 stored_with h c j = Ok (stored_of h c j.0, j.1)
 
 abbrev after_current : (ℕ → List ℕ) → Header → Current → Result (Stored × Net) Refusal
 after_current pages h c = journal_from pages h h.journal_pages c.head.next_sequence c.head.version c.network >>= stored_with h c
 
-opened_in_parts : (size : ℕ) (pages : ℕ → List ℕ) → opened_from size pages ≡ (header_from size (pages 0) >>= λ h. current_from pages h >>= after_current pages h)
-opened_in_parts size pages = sym (
-    bind_same (header_from size (pages 0)) (λ h. current_from pages h >>= after_current pages h)
-    (λ h. ends_from pages h >>= λ e. current_slot pages h >>= λ s. head_from pages h s >>= λ d. words_from pages h s >>= λ w. after_current pages h (current_with s d (network_from h e w d)))
-    (λ h. current_steps h (ends_from pages h) (current_slot pages h) (head_from pages h) (words_from pages h) (after_current pages h))
-    ∙ header_steps (unless_so (begins_as_store size (pages 0)) NotAStore) (unless_so (format_of (pages 0) == 1) WrongFormat) (spelled_at 0 (header_in (pages 0))) (λ h. unless_so (size == 4096 * page_count h) (Damaged 0))
-    (λ h. ends_from pages h >>= λ e. current_slot pages h >>= λ s. head_from pages h s >>= λ d. words_from pages h s >>= λ w. after_current pages h (current_with s d (network_from h e w d))))
+opened_in_parts : (f : Format) (size : ℕ) (pages : ℕ → List ℕ) → opened_from f size pages ≡ (header_from f size (pages 0) >>= λ h. current_from pages h >>= after_current pages h)
+opened_in_parts f size pages = sym (
+    bind_same (header_from f size (pages 0)) (λ h. current_from pages h >>= after_current pages h)
+    (λ h. ends_from pages h >>= λ e. current_slot pages h >>= λ s. head_from pages h s >>= λ d. words_from pages h s d.arcs >>= λ w. laid_from pages h s d.arcs >>= λ l. after_current pages h (current_with s d (network_from h (e ++ l) w d)))
+    (λ h. current_steps h (ends_from pages h) (current_slot pages h) (head_from pages h) (λ x d. words_from pages h x d.arcs) (λ x d. laid_from pages h x d.arcs) (after_current pages h))
+    ∙ header_steps (unless_so (begins_as_store size (pages 0)) NotAStore) (unless_so (format_of (pages 0) == number_of f) WrongFormat) (spelled_at 0 (header_in (pages 0))) (λ h. unless_so (size == 4096 * page_count h) (Damaged 0))
+    (λ h. ends_from pages h >>= λ e. current_slot pages h >>= λ s. head_from pages h s >>= λ d. words_from pages h s d.arcs >>= λ w. laid_from pages h s d.arcs >>= λ l. after_current pages h (current_with s d (network_from h (e ++ l) w d))))
 
-pub no_header : (size : ℕ) (pages : ℕ → List ℕ) (refusal : Refusal) → header_from size (pages 0) ≡ Err refusal → opened_from size pages ≡ Err refusal
-no_header size pages refusal e = opened_in_parts size pages ∙ ap (λ (r : Result Header Refusal). r >>= λ h. current_from pages h >>= after_current pages h) e
+pub no_header : (f : Format) (size : ℕ) (pages : ℕ → List ℕ) (refusal : Refusal) → header_from f size (pages 0) ≡ Err refusal → opened_from f size pages ≡ Err refusal
+no_header f size pages refusal e = opened_in_parts f size pages ∙ ap (λ (r : Result Header Refusal). r >>= λ h. current_from pages h >>= after_current pages h) e
 
-pub no_current : (size : ℕ) (pages : ℕ → List ℕ) (h : Header) (refusal : Refusal) → header_from size (pages 0) ≡ Ok h → current_from pages h ≡ Err refusal → opened_from size pages ≡ Err refusal
-no_current size pages h refusal is e =
-    opened_in_parts size pages ∙ ap (λ (r : Result Header Refusal). r >>= λ h. current_from pages h >>= after_current pages h) is
+pub no_current : (f : Format) (size : ℕ) (pages : ℕ → List ℕ) (h : Header) (refusal : Refusal) → header_from f size (pages 0) ≡ Ok h → current_from pages h ≡ Err refusal → opened_from f size pages ≡ Err refusal
+no_current f size pages h refusal is e =
+    opened_in_parts f size pages ∙ ap (λ (r : Result Header Refusal). r >>= λ h. current_from pages h >>= after_current pages h) is
     ∙ ap (λ (r : Result Current Refusal). r >>= after_current pages h) e
 
-pub no_journal : (size : ℕ) (pages : ℕ → List ℕ) (h : Header) (c : Current) (refusal : Refusal) → header_from size (pages 0) ≡ Ok h → current_from pages h ≡ Ok c
-    → journal_from pages h h.journal_pages c.head.next_sequence c.head.version c.network ≡ Err refusal → opened_from size pages ≡ Err refusal
-no_journal size pages h c refusal is held e =
-    opened_in_parts size pages ∙ ap (λ (r : Result Header Refusal). r >>= λ h. current_from pages h >>= after_current pages h) is
+pub no_journal : (f : Format) (size : ℕ) (pages : ℕ → List ℕ) (h : Header) (c : Current) (refusal : Refusal) → header_from f size (pages 0) ≡ Ok h → current_from pages h ≡ Ok c
+    → journal_from pages h h.journal_pages c.head.next_sequence c.head.version c.network ≡ Err refusal → opened_from f size pages ≡ Err refusal
+no_journal f size pages h c refusal is held e =
+    opened_in_parts f size pages ∙ ap (λ (r : Result Header Refusal). r >>= λ h. current_from pages h >>= after_current pages h) is
     ∙ ap (λ (r : Result Current Refusal). r >>= after_current pages h) held
-    ∙ ap (λ (r : Result (List (List Command) × Net) Refusal). r >>= stored_with h c) e
+    ∙ ap (λ (r : Result (List (List (List Command)) × Net) Refusal). r >>= stored_with h c) e
 
-pub all_known : (size : ℕ) (pages : ℕ → List ℕ) (h : Header) (c : Current) (commands : List (List Command)) (net : Net) → header_from size (pages 0) ≡ Ok h → current_from pages h ≡ Ok c
-    → journal_from pages h h.journal_pages c.head.next_sequence c.head.version c.network ≡ Ok (commands, net) → opened_from size pages ≡ Ok (stored_of h c commands, net)
-all_known size pages h c commands net is held e =
-    opened_in_parts size pages ∙ ap (λ (r : Result Header Refusal). r >>= λ h. current_from pages h >>= after_current pages h) is
+pub all_known : (f : Format) (size : ℕ) (pages : ℕ → List ℕ) (h : Header) (c : Current) (commands : List (List (List Command))) (net : Net) → header_from f size (pages 0) ≡ Ok h → current_from pages h ≡ Ok c
+    → journal_from pages h h.journal_pages c.head.next_sequence c.head.version c.network ≡ Ok (commands, net) → opened_from f size pages ≡ Ok (stored_of h c commands, net)
+all_known f size pages h c commands net is held e =
+    opened_in_parts f size pages ∙ ap (λ (r : Result Header Refusal). r >>= λ h. current_from pages h >>= after_current pages h) is
     ∙ ap (λ (r : Result Current Refusal). r >>= after_current pages h) held
-    ∙ ap (λ (r : Result (List (List Command) × Net) Refusal). r >>= stored_with h c) e
+    ∙ ap (λ (r : Result (List (List (List Command)) × Net) Refusal). r >>= stored_with h c) e
 
 -- ---- the current slot, step by step
 
@@ -136,32 +142,38 @@ slot_loaded pages h ends slot head net is chosen e =
 
 -- ---- the header, step by step
 
-pub no_store : (size : ℕ) (page : List ℕ) → begins_as_store size page ≡ false → header_from size page ≡ Err NotAStore
-no_store size page e = rw e refl
+pub format_by : (f g : Format) → number_of f ≡ number_of g → f ≡ g
+format_by One One e = refl
+format_by One Two e = absurd (omega arith)
+format_by Two One e = absurd (omega arith)
+format_by Two Two e = refl
 
-pub other_format : (size : ℕ) (page : List ℕ) → begins_as_store size page ≡ true → (format_of page == 1) ≡ false → header_from size page ≡ Err WrongFormat
-other_format size page begins e = rw (begins, e) refl
+pub no_store : (f : Format) (size : ℕ) (page : List ℕ) → begins_as_store size page ≡ false → header_from f size page ≡ Err NotAStore
+no_store f size page e = rw e refl
 
-pub no_spelling : (size : ℕ) (page : List ℕ) → begins_as_store size page ≡ true → (format_of page == 1) ≡ true → header_in page ≡ None → header_from size page ≡ Err (Damaged 0)
-no_spelling size page begins format e =
-    ap (λ (b : Bool). unless_so b NotAStore >>= λ _. unless_so (format_of page == 1) WrongFormat >>= λ _. spelled_at 0 (header_in page) >>= λ h. unless_so (size == 4096 * page_count h) (Damaged 0) >>= λ _. Ok h) begins
+pub other_format : (f : Format) (size : ℕ) (page : List ℕ) → begins_as_store size page ≡ true → (format_of page == number_of f) ≡ false → header_from f size page ≡ Err WrongFormat
+other_format f size page begins e = rw (begins, e) refl
+
+pub no_spelling : (f : Format) (size : ℕ) (page : List ℕ) → begins_as_store size page ≡ true → (format_of page == number_of f) ≡ true → header_in page ≡ None → header_from f size page ≡ Err (Damaged 0)
+no_spelling f size page begins format e =
+    ap (λ (b : Bool). unless_so b NotAStore >>= λ _. unless_so (format_of page == number_of f) WrongFormat >>= λ _. spelled_at 0 (header_in page) >>= λ h. unless_so (size == 4096 * page_count h) (Damaged 0) >>= λ _. Ok h) begins
     ∙ ap (λ (b : Bool). unless_so b WrongFormat >>= λ _. spelled_at 0 (header_in page) >>= λ h. unless_so (size == 4096 * page_count h) (Damaged 0) >>= λ _. Ok h) format
     ∙ ap (λ (o : Option Header). spelled_at 0 o >>= λ h. unless_so (size == 4096 * page_count h) (Damaged 0) >>= λ _. Ok h) e
 
-pub sized_so : (size : ℕ) (page : List ℕ) (h : Header) → begins_as_store size page ≡ true → (format_of page == 1) ≡ true → header_in page ≡ Some h
-    → header_from size page ≡ (unless_so (size == 4096 * page_count h) (Damaged 0) >>= λ _. Ok h)
-sized_so size page h begins format e =
-    ap (λ (b : Bool). unless_so b NotAStore >>= λ _. unless_so (format_of page == 1) WrongFormat >>= λ _. spelled_at 0 (header_in page) >>= λ h. unless_so (size == 4096 * page_count h) (Damaged 0) >>= λ _. Ok h) begins
+pub sized_so : (f : Format) (size : ℕ) (page : List ℕ) (h : Header) → begins_as_store size page ≡ true → (format_of page == number_of f) ≡ true → header_in page ≡ Some h
+    → header_from f size page ≡ (unless_so (size == 4096 * page_count h) (Damaged 0) >>= λ _. Ok h)
+sized_so f size page h begins format e =
+    ap (λ (b : Bool). unless_so b NotAStore >>= λ _. unless_so (format_of page == number_of f) WrongFormat >>= λ _. spelled_at 0 (header_in page) >>= λ h. unless_so (size == 4096 * page_count h) (Damaged 0) >>= λ _. Ok h) begins
     ∙ ap (λ (b : Bool). unless_so b WrongFormat >>= λ _. spelled_at 0 (header_in page) >>= λ h. unless_so (size == 4096 * page_count h) (Damaged 0) >>= λ _. Ok h) format
     ∙ ap (λ (o : Option Header). spelled_at 0 o >>= λ h. unless_so (size == 4096 * page_count h) (Damaged 0) >>= λ _. Ok h) e
 
-pub other_size : (size : ℕ) (page : List ℕ) (h : Header) → begins_as_store size page ≡ true → (format_of page == 1) ≡ true → header_in page ≡ Some h → (size == 4096 * page_count h) ≡ false
-    → header_from size page ≡ Err (Damaged 0)
-other_size size page h begins format e other = sized_so size page h begins format e ∙ ap (λ (b : Bool). unless_so b (Damaged 0) >>= λ _. Ok h) other
+pub other_size : (f : Format) (size : ℕ) (page : List ℕ) (h : Header) → begins_as_store size page ≡ true → (format_of page == number_of f) ≡ true → header_in page ≡ Some h → (size == 4096 * page_count h) ≡ false
+    → header_from f size page ≡ Err (Damaged 0)
+other_size f size page h begins format e other = sized_so f size page h begins format e ∙ ap (λ (b : Bool). unless_so b (Damaged 0) >>= λ _. Ok h) other
 
-pub header_known : (size : ℕ) (page : List ℕ) (h : Header) → begins_as_store size page ≡ true → (format_of page == 1) ≡ true → header_in page ≡ Some h → (size == 4096 * page_count h) ≡ true
-    → header_from size page ≡ Ok h
-header_known size page h begins format e same = sized_so size page h begins format e ∙ ap (λ (b : Bool). unless_so b (Damaged 0) >>= λ _. Ok h) same
+pub header_known : (f : Format) (size : ℕ) (page : List ℕ) (h : Header) → begins_as_store size page ≡ true → (format_of page == number_of f) ≡ true → header_in page ≡ Some h → (size == 4096 * page_count h) ≡ true
+    → header_from f size page ≡ Ok h
+header_known f size page h begins format e same = sized_so f size page h begins format e ∙ ap (λ (b : Bool). unless_so b (Damaged 0) >>= λ _. Ok h) same
 
 -- ---- the fields of a store
 

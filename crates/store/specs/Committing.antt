@@ -1,21 +1,25 @@
 -- What a commit answers, and what it asks of a store's content.
-use Rattle.std.specs.Prelude.{◌≡◌, ◌⊎◌, ℕ, ◌+◌, Bool, List, length, Option, Some, None, nat_lt, nat_le, if◌then◌else◌}
+use Rattle.std.specs.Prelude.{◌≡◌, ◌⊎◌, ℕ, ◌+◌, Bool, List, [], ◌∷◌, length, map, Option, Some, None, nat_lt, nat_le, if◌then◌else◌}
 use Rattle.roadnet.specs.declared.refusals.Refusal.{Refusal}
 use Rattle.roadnet.specs.declared.refusals.Refusal.TheVariants.{Broken, VersionsExhausted, JournalFull, OutOfMemory, Device}
 use Rattle.roadnet.specs.declared.commands.Command.{Command}
 use Rattle.roadnet.specs.Net.{Net}
-use Rattle.roadnet.specs.Step.{first_refusal}
+use Rattle.roadnet.specs.Batches.{first_refusal_of_all}
 use Rattle.storefile.specs.Standing.{Standing, standing_of, IsTidyAt}
 use Rattle.pages.specs.Limits.{most_versions}
 
--- Why a commit of these commands is refused whatever memory and the disk give, or nothing: the store is broken; the version would pass
+-- these commands, each a group of its own
+abbrev pub alone : List Command → List (List Command)
+alone commands = map (λ command. command ∷ []) commands
+
+-- Why a commit of these groups is refused whatever memory and the disk give, or nothing: the store is broken; the version would pass
 -- 2^48; no page of the journal is free; or the refusal of the first command that is not admitted after those before it.
-abbrev pub refusal_of_commit : Bool → ℕ → ℕ → ℕ → Net → List Command → Option Refusal
-refusal_of_commit broken version unchecked journal_pages net commands =
+abbrev pub refusal_of_commit : Bool → ℕ → ℕ → ℕ → Net → List (List Command) → Option Refusal
+refusal_of_commit broken version unchecked journal_pages net groups =
     if broken then Some Broken
-    else if nat_lt most_versions (version + length commands) then Some VersionsExhausted
+    else if nat_lt most_versions (version + length groups) then Some VersionsExhausted
     else if nat_le journal_pages unchecked then Some JournalFull
-    else first_refusal net commands
+    else first_refusal_of_all net groups
 
 -- With what a commit may refuse that has this cause: with the cause; and where there is none, for want of memory or since the disk failed.
 abbrev pub MayRefuseCommit : Option Refusal → Refusal → Type 0

@@ -5,18 +5,19 @@ use Rattle.pages.specs.declared.header.Header.{Header}
 use Rattle.pages.specs.declared.content.Slot.TheVariants.{A, B}
 use Rattle.pages.specs.Contents.{Head}
 use Rattle.pages.specs.Spelling.{page_of, header_page, arc_page, word_page, head_page, ends_of, word_of}
-use Rattle.pages.specs.Layout.{Part, Front, Arcs, HeadOf, Words, Journal, IsPart, page_number, page_count}
+use Rattle.pages.specs.Layout.{Part, Front, Arcs, HeadOf, Words, EndsOf, Journal, IsPart, page_number, page_count}
+use Rattle.pages.specs.declared.content.Format.TheVariants.{Two}
 use Rattle.storefile.specs.StoreFile.{page, part}
 use Rattle.disk.specs.Contents.{overwritten}
 use Rattle.disk.specs.Gated.{open_byte}
 
--- the sizes of a store of this network
+-- the format and the sizes of a store that is made for this network, with its room
 abbrev pub header_of : Net → ℕ → Header
-header_of net journal_pages = record { nodes = net.nodes; arcs = length net.arcs; journal_pages = journal_pages }
+header_of net journal_pages = record { format = Two; nodes = net.nodes; arcs = length net.arcs; room = net.room; journal_pages = journal_pages }
 
--- the head of slot A in a new store
-abbrev pub first_head : Net → Head
-first_head net = record { epoch = 1; version = 0; next_sequence = 0; landmarks = net.landmarks }
+-- the head of slot A in a new store, whose network has this version
+abbrev pub first_head : Net → ℕ → Head
+first_head net version = record { epoch = 1; version = version; next_sequence = 0; arcs = length net.arcs; landmarks = net.landmarks }
 
 -- a page of zeros
 abbrev pub blank_page : List ℕ
@@ -28,20 +29,22 @@ page_of_arcs net i = arc_page (map ends_of (part 511 i net.arcs))
 abbrev pub page_of_words : Net → ℕ → List ℕ
 page_of_words net i = word_page (map word_of (part 1023 i net.arcs))
 
--- the page of each part of a new store, its gate closed: slot A holds the network, slot B and the journal are blank
-abbrev pub new_page : Header → Net → Part → List ℕ
-new_page h net Front = header_page h
-new_page h net (Arcs i) = page_of_arcs net i
-new_page h net (HeadOf A) = head_page (first_head net)
-new_page h net (HeadOf B) = blank_page
-new_page h net (Words A i) = page_of_words net i
-new_page h net (Words B i) = blank_page
-new_page h net (Journal place) = blank_page
+-- the page of each part of a new store, its gate closed: slot A holds the network at its version, slot B and the journal are blank; all arcs
+-- stand in the arc pages, so the end pages are blank too
+abbrev pub new_page : Header → Net → ℕ → Part → List ℕ
+new_page h net version Front = header_page h
+new_page h net version (Arcs i) = page_of_arcs net i
+new_page h net version (HeadOf A) = head_page Two (first_head net version)
+new_page h net version (HeadOf B) = blank_page
+new_page h net version (Words A i) = page_of_words net i
+new_page h net version (Words B i) = blank_page
+new_page h net version (EndsOf slot i) = blank_page
+new_page h net version (Journal place) = blank_page
 
 -- the file has these pages and no others
-pub record IsLaidOut (file : List ℕ) (h : Header) (net : Net) : Type 0 where
+pub record IsLaidOut (file : List ℕ) (h : Header) (net : Net) (version : ℕ) : Type 0 where
   pub size : length file ≡ 4096 * page_count h
-  pub each : (part : Part) → IsPart h part → page file (page_number h part) ≡ new_page h net part
+  pub each : (part : Part) → IsPart h part → page file (page_number h part) ≡ new_page h net version part
 
 -- the bytes of the first pages, so many, one behind the other
 unfoldable pub first_pages : (ℕ → List ℕ) → ℕ → List ℕ

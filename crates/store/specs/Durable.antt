@@ -1,7 +1,7 @@
 -- What a stop between two calls of a store may leave.
 use Rattle.std.specs.Prelude.{◌≡◌, ◌≤◌, not, Bool, false, ◌&&◌, ◌==◌, is_none, unwrap_or, Option, Some}
 use Rattle.disk.specs.declared.disk.Disk.{Ghosts}
-use Rattle.pages.specs.Layout.{word_pages}
+use Rattle.pages.specs.Layout.{slot_pages}
 use Rattle.storefile.specs.Standing.{Standing, standing_of}
 use Rattle.store.specs.declared.paged.Paged.{Paged}
 use Rattle.store.specs.Going.{Progress, progress_of}
@@ -20,7 +20,7 @@ is_calm store = not store.broken && is_none (going_of store)
 
 -- the checkpoint that would begin now
 abbrev pub begun_by : {D : Type 0} {disk : Ghosts D} → Paged D disk → Progress
-begun_by store = record { version = store.version; left = word_pages store.header; committed = 0 }
+begun_by store = record { version = store.version; left = slot_pages store.header; committed = 0 }
 
 -- the checkpoint that a part is of: the one that is going, or else one that begins
 abbrev pub parts_of : {D : Type 0} {disk : Ghosts D} → Paged D disk → Progress

@@ -5,17 +5,17 @@ use Rattle.roadnet.specs.declared.commands.Command.{Command}
 use Rattle.roadnet.specs.Net.{Net, IsNetwork}
 use Rattle.pages.specs.declared.header.Header.{Header}
 use Rattle.pages.specs.declared.content.Slot.{Slot}
-use Rattle.pages.specs.Layout.{other, word_pages}
+use Rattle.pages.specs.Layout.{other, slot_pages}
 use Rattle.storefile.specs.StoreFile.{page}
 use Rattle.storefile.specs.Standing.{LeadsTo}
-use Rattle.checkpoint.specs.Writing.{Draft, slot_gate, HoldsWords}
+use Rattle.checkpoint.specs.Writing.{Draft, slot_gate, HoldsPages}
 use Rattle.store.specs.declared.going.GoingCheckpoint.{GoingCheckpoint}
 use Rattle.store.specs.declared.parts.Part.{Part}
 use Rattle.store.specs.declared.parts.Part.TheVariants.{Going, Done}
 
 -- ---- what callers see
 
--- A checkpoint that is going: the version that it holds, how many of its word pages are still to be written, and how many pages of the
+-- A checkpoint that is going: the version that it holds, how many of its word pages and end pages are still to be written, and how many pages of the
 -- journal were committed since it began.
 pub record Progress : Type 0 where
   pub version : ℕ
@@ -23,7 +23,7 @@ pub record Progress : Type 0 where
   pub committed : ℕ
 
 abbrev pub progress_of : Header → Option GoingCheckpoint → Option Progress
-progress_of header going = option_map (λ (g : GoingCheckpoint). record { version = g.next.version; left = word_pages header - g.next.written; committed = g.committed }) going
+progress_of header going = option_map (λ (g : GoingCheckpoint). record { version = g.next.version; left = slot_pages header - g.next.written; committed = g.committed }) going
 
 -- one page of the journal more was committed since it began
 abbrev pub with_page_committed : Progress → Progress
@@ -61,18 +61,19 @@ epoch_by p epoch pages = if nat_lt pages p.left then epoch else epoch + 1
 pub record FitsStore (h : Header) (slot : Slot) (epoch version next unchecked : ℕ) (draft : Draft) (committed : ℕ) : Type 0 where
   pub slot_is : draft.slot ≡ other slot
   pub epoch_is : draft.epoch ≡ epoch + 1
-  pub within : draft.written ≤ word_pages h
+  pub within : draft.written ≤ slot_pages h
   pub sequence_to : draft.next_sequence ≤ draft.version
   pub next_is : next ≡ draft.next_sequence + committed
   pub version_to : draft.version ≤ version
   pub one_before : committed < unchecked
 
--- Its slot has a closed gate and holds the first word pages of the frozen network, from which the journal pages committed since lead to this
+-- Its slot has a closed gate and holds the first pages of the frozen network, from which the journal pages committed since lead to this
 -- network and version.
 pub record GoesOn (content : List ℕ) (h : Header) (draft : Draft) (frozen : Net) (committed : ℕ) (net : Net) (version next : ℕ) : Type 0 where
   pub closed : IsOpen (slot_gate h draft.slot) content → ⊥
-  pub words : HoldsWords (page content) h draft.slot frozen draft.written
+  pub pages : HoldsPages (page content) h draft.slot frozen draft.written
   pub frozen_is : IsNetwork frozen
-  pub since : List (List Command)
+  pub frozen_from : h.arcs ≤ length frozen.arcs
+  pub since : List (List (List Command))
   pub committed_is : committed ≡ length since
   pub leads : LeadsTo (page content) h frozen draft.version draft.next_sequence since net version next

@@ -4,6 +4,7 @@ pub mod Created
 pub mod Durable
 pub mod Going
 pub mod Inspecting
+pub mod Migrating
 pub mod Opening
 pub mod Resting
 pub mod State

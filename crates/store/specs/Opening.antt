@@ -10,22 +10,28 @@ use Rattle.pages.specs.declared.header.Header.{Header}
 use Rattle.pages.specs.declared.content.Slot.{Slot}
 use Rattle.pages.specs.Contents.{Head}
 use Rattle.pages.specs.Layout.{page_count}
-use Rattle.storefile.specs.Judging.{◌>>=◌, unless_so, spelled_at, begins_as_store, format_of, header_in, entry_in, ends_from, current_slot, judged}
+use Rattle.storefile.specs.Judging.{◌>>=◌, unless_so, spelled_at, begins_as_store, format_of, header_in, entry_in, ends_from, current_slot, judged_in}
 use Rattle.checkpoint.specs.Loading.{loaded_from}
-use Rattle.pages.specs.Limits.{format, most_versions}
+use Rattle.pages.specs.Limits.{most_versions}
+use Rattle.pages.specs.declared.content.Format.{Format}
+use Rattle.pages.specs.declared.content.Format.TheVariants.{Two}
+use Rattle.pages.specs.Formats.{number_of}
 
--- the header of a file of this size, whose first page is this
-abbrev pub header_from : ℕ → List ℕ → Result Header Refusal
-header_from size page = do
+-- the header of a file of this format and this size, whose first page is this
+abbrev pub header_from : Format → ℕ → List ℕ → Result Header Refusal
+header_from format size page = do
   _ ← unless_so (begins_as_store size page) NotAStore
-  _ ← unless_so (format_of page == format) WrongFormat
+  _ ← unless_so (format_of page == number_of format) WrongFormat
   h ← spelled_at 0 (header_in page)
   _ ← unless_so (size == 4096 * page_count h) (Damaged 0)
   Ok h
 
--- the file begins with the header of a store, and is as long as the header announces
+-- the file begins with the header of a store of this format, and is as long as the header announces
+abbrev pub HeaderFitsIn : Format → List ℕ → Type 0
+HeaderFitsIn format file = (header : Header) × (header_from format (length file) (page file 0) ≡ Ok header)
+
 abbrev pub HeaderFits : List ℕ → Type 0
-HeaderFits file = (header : Header) × (header_from (length file) (page file 0) ≡ Ok header)
+HeaderFits file = HeaderFitsIn Two file
 
 -- what the current slot holds
 pub record Current : Type 0 where
@@ -41,35 +47,38 @@ current_from pages h = do
   loaded ← loaded_from pages h slot ends
   Ok (record { slot = slot; head = loaded.0; network = loaded.1 })
 
--- the commands of the journal page of this number, and the network after them; that before is net, at version v
-abbrev pub entry_from : ℕ → List ℕ → ℕ → Net → Result (List Command × Net) Refusal
-entry_from k page v net = do
-  e ← spelled_at k (entry_in page)
+-- the groups of the journal page of this number, and the network after them; that before is net, at version v
+abbrev pub entry_from : Format → ℕ → List ℕ → ℕ → Net → Result (List (List Command) × Net) Refusal
+entry_from format k page v net = do
+  e ← spelled_at k (entry_in format page)
   _ ← unless_so (e.first_number == v + 1) (Damaged k)
-  _ ← unless_so (nat_le (v + length e.commands) most_versions) (Damaged k)
-  next ← spelled_at k (after net e.commands)
-  Ok (e.commands, next)
+  _ ← unless_so (nat_le (v + length e.groups) most_versions) (Damaged k)
+  next ← spelled_at k (after net e.groups)
+  Ok (e.groups, next)
 
--- the commands of a page, and the network and version after them
-pub record IsCarriedOut (said : Result (List Command × Net) Refusal) (old : ℕ) (net : Net) (new : ℕ) : Type 0 where
-  pub commands : List Command
-  pub said_is : said ≡ Ok (commands, net)
-  pub version_is : new ≡ old + length commands
+-- the groups of a page, and the network and version after them
+pub record IsCarriedOut (said : Result (List (List Command) × Net) Refusal) (old : ℕ) (net : Net) (new : ℕ) : Type 0 where
+  pub groups : List (List Command)
+  pub said_is : said ≡ Ok (groups, net)
+  pub version_is : new ≡ old + length groups
 
--- the commands of so many pages, page by page, and the network and version after them
-pub record AreCarriedOut (said : Result (List (List Command) × Net) Refusal) (count old : ℕ) (net : Net) (new : ℕ) : Type 0 where
-  pub commands : List (List Command)
-  pub said_is : said ≡ Ok (commands, net)
-  pub count_is : length commands ≡ count
-  pub version_is : new ≡ old + length (joined commands)
+-- the groups of so many pages, page by page, and the network and version after them
+pub record AreCarriedOut (said : Result (List (List (List Command)) × Net) Refusal) (count old : ℕ) (net : Net) (new : ℕ) : Type 0 where
+  pub groups : List (List (List Command))
+  pub said_is : said ≡ Ok (groups, net)
+  pub count_is : length groups ≡ count
+  pub version_is : new ≡ old + length (joined groups)
 
 -- a refusal that says nothing of the file: no memory was given, or the disk failed
 abbrev pub IsPassing : Refusal → Type 0
 IsPassing refusal = (refusal ≡ OutOfMemory) ⊎ (refusal ≡ Device)
 
--- with what opening this file may be refused: as the format says, or passingly
+-- with what opening this file, in this format, may be refused: as the format says, or passingly
+abbrev pub MayRefuseToOpenIn : Format → List ℕ → Refusal → Type 0
+MayRefuseToOpenIn format file refusal = IsPassing refusal ⊎ (judged_in format file ≡ Some refusal)
+
 abbrev pub MayRefuseToOpen : List ℕ → Refusal → Type 0
-MayRefuseToOpen file refusal = IsPassing refusal ⊎ (judged file ≡ Some refusal)
+MayRefuseToOpen file refusal = MayRefuseToOpenIn Two file refusal
 
 abbrev pub StandsForSome : List ℕ → Type 0
 StandsForSome file = (net : Net) × (version : ℕ) × (next : ℕ) × StandsFor file net version next

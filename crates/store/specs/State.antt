@@ -1,12 +1,12 @@
 -- What a store is to those who call it: numbers and a network, and nothing of its pages but how many are unchecked, how many there are, and which slot
 -- is current.
-use Rattle.std.specs.Prelude.{◌≡◌, ℕ, Bool, not, ◌&&◌, ◌==◌, ◌≤◌, is_none, unwrap_or, List, length, Option, Some}
+use Rattle.std.specs.Prelude.{◌≡◌, ℕ, Bool, not, ◌&&◌, ◌==◌, ◌+◌, ◌-◌, ◌≤◌, is_none, unwrap_or, List, length, Option, Some}
 use Rattle.disk.specs.declared.disk.Disk.{Ghosts}
 use Rattle.roadnet.specs.declared.commands.Command.{Command}
 use Rattle.roadnet.specs.declared.refusals.Refusal.{Refusal}
 use Rattle.roadnet.specs.Net.{Net}
 use Rattle.pages.specs.declared.content.Slot.{Slot}
-use Rattle.pages.specs.Layout.{word_pages, pages_for}
+use Rattle.pages.specs.Layout.{slot_pages, pages_for}
 use Rattle.pages.specs.Limits.{most_versions}
 use Rattle.storefile.specs.StoreFile.{StandsFor, StandsTidyFor}
 use Rattle.storefile.specs.Standing.{Standing, standing_of, IsBeforeOrAfter}
@@ -34,25 +34,26 @@ pub record StoreState (D : Type 0) : Type 0 where
   pub broken : Bool
   -- the checkpoint that is going
   pub going : Option Progress
-  -- the commands in flight: those of the commit that failed, where one did
-  pub in_flight : List Command
+  -- the groups in flight: those of the commit that failed, where one did
+  pub in_flight : List (List Command)
 
 -- none of its numbers is past what a store has room for
 pub record HasRoom {D : Type 0} (s : StoreState D) : Type 0 where
   pub version_to : s.version ≤ most_versions
   pub unchecked_to : s.unchecked ≤ s.journal_pages
-  pub checkpoint_pages_to : s.checkpoint_pages ≤ 65601
+  pub checkpoint_pages_to : s.checkpoint_pages ≤ 196930
 
--- how many pages a checkpoint of this network has to write: one for each 1,023 arcs
-abbrev pub checkpoint_pages_of : Net → ℕ
-checkpoint_pages_of net = pages_for 1023 (length net.arcs)
+-- how many pages a checkpoint has to write, in a store that was made with so many arcs, of a network with this room: one for each 1,023 arcs
+-- that there may be, and one for each 511 that may be laid
+abbrev pub checkpoint_pages_of : ℕ → Net → ℕ
+checkpoint_pages_of first net = pages_for 1023 net.room + pages_for 511 (net.room - first)
 
--- a checkpoint has as many pages to write as the network's arcs need
+-- a checkpoint has as many pages to write as that; the arcs that the store was made with are among the network's
 abbrev pub HasCheckpointPages : {D : Type 0} → StoreState D → Type 0
-HasCheckpointPages s = s.checkpoint_pages ≡ checkpoint_pages_of s.network
+HasCheckpointPages s = (first : ℕ) × (first ≤ length s.network.arcs) × (s.checkpoint_pages ≡ checkpoint_pages_of first s.network)
 
 -- the state of a store with these pages, that was given this disk and has these commands in flight
-abbrev pub state_of : {D : Type 0} {disk : Ghosts D} → Paged D disk → D → List Command → StoreState D
+abbrev pub state_of : {D : Type 0} {disk : Ghosts D} → Paged D disk → D → List (List Command) → StoreState D
 state_of pages given in_flight = record {
   disk = pages.disk;
   given = given;
@@ -62,7 +63,7 @@ state_of pages given in_flight = record {
   epoch = pages.epoch;
   unchecked = pages.unchecked;
   journal_pages = pages.header.journal_pages;
-  checkpoint_pages = word_pages pages.header;
+  checkpoint_pages = slot_pages pages.header;
   broken = pages.broken;
   going = going_of pages;
   in_flight = in_flight;
@@ -92,7 +93,7 @@ abbrev pub told : {D : Type 0} → StoreState D → Told
 told s = record { network = s.network; version = s.version; slot = s.slot; epoch = s.epoch; unchecked = s.unchecked; journal_pages = s.journal_pages; checkpoint_pages = s.checkpoint_pages }
 
 abbrev pub told_of : Standing → Told
-told_of x = record { network = x.network; version = x.version; slot = x.slot; epoch = x.epoch; unchecked = x.unchecked; journal_pages = x.header.journal_pages; checkpoint_pages = word_pages x.header }
+told_of x = record { network = x.network; version = x.version; slot = x.slot; epoch = x.epoch; unchecked = x.unchecked; journal_pages = x.header.journal_pages; checkpoint_pages = slot_pages x.header }
 
 -- the content stands for this network at this version
 abbrev pub StandsAt : List ℕ → Net → ℕ → Type 0
@@ -111,16 +112,16 @@ HasCommittedNothing honest content s = honest s.given × StandsAt (content s.giv
 
 -- the content stands, tidy, for the network and version of the store
 abbrev pub IsDurable : {D : Type 0} → StoreState D → List ℕ → Type 0
-IsDurable s content = StandsTidyFor s.journal_pages content s.network s.version
+IsDurable s content = StandsTidyFor s.journal_pages s.checkpoint_pages content s.network s.version
 
 -- the same, or for those after these commands
-abbrev pub IsDurableOrAfter : {D : Type 0} → StoreState D → List Command → List ℕ → Type 0
-IsDurableOrAfter s commands content = IsBeforeOrAfter s.journal_pages s.network s.version commands content
+abbrev pub IsDurableOrAfter : {D : Type 0} → StoreState D → List (List Command) → List ℕ → Type 0
+IsDurableOrAfter s commands content = IsBeforeOrAfter s.journal_pages s.checkpoint_pages s.network s.version commands content
 
 -- ---- what calls refuse and do
 
 -- why a commit of these commands is refused whatever memory and the disk give
-abbrev pub commit_refusal : {D : Type 0} → StoreState D → List Command → Option Refusal
+abbrev pub commit_refusal : {D : Type 0} → StoreState D → List (List Command) → Option Refusal
 commit_refusal s commands = refusal_of_commit s.broken s.version s.unchecked s.journal_pages s.network commands
 
 -- it is neither broken nor has a checkpoint going

@@ -4,6 +4,7 @@ ghost use Rattle.disk.specs.Contents.{Only, Rose};
 ghost use Rattle.disk.specs.Moments.{LeavesOnly, AddsNothing};
 ghost use Rattle.roadnet.specs.declared.refusals.Refusal.TheVariants.{Device as device, OutOfMemory as out_of_memory};
 ghost use Rattle.pagereader.specs.Outcomes.{failures_told};
+ghost use Rattle.pages.specs.Layout.{slot_pages};
 ghost use Rattle.storefile.specs.StoreFile.{StandsTidyFor};
 ghost use Rattle.storefile.specs.Standing.{standing_of};
 ghost use Rattle.store.specs.Committing.{StandsTidily};
@@ -40,7 +41,7 @@ impl<D: Disk> Paged<D> {
         ensures counted { D.failures self.new.disk ≡ failures_told result (D.failures self.old.disk) }
         ensures breaks { IfErr result (λ refusal. refusal ≡ device → self.new.broken ≡ true) }
         ensures kept { OnErr result (going_of self.new ≡ None) }
-        ensures any_moment { D.honest self.old.disk → StandsTidily (D.content self.old.disk) (told_by self.old) → LeavesOnly D.moment D.left_since self.old.disk self.new.disk (λ c. StandsTidyFor self.old.header.journal_pages c self.old.network self.old.version) }
+        ensures any_moment { D.honest self.old.disk → StandsTidily (D.content self.old.disk) (told_by self.old) → LeavesOnly D.moment D.left_since self.old.disk self.new.disk (λ c. StandsTidyFor self.old.header.journal_pages (slot_pages self.old.header) c self.old.network self.old.version) }
         ensures stands { D.honest self.old.disk → StandsTidily (D.content self.old.disk) (told_by self.old) → OnOk result (StandsTidily (D.content self.new.disk) (told_by self.new)) }
         ensures as_told { D.honest self.old.disk → standing_of (D.content self.old.disk) ≡ Some (told_by self.old) → OnOk result (standing_of (D.content self.new.disk) ≡ Some (told_by self.new)) }
         ensures honest { D.honest self.new.disk ↔ D.honest self.old.disk }
@@ -90,7 +91,7 @@ impl<D: Disk> Paged<D> {
         ensures failed { OnErr result (Rose (D.failures self.old.disk) (D.failures self.new.disk)) }
         ensures breaks { OnErr result (self.new.broken ≡ true) }
         ensures kept { OnErr result ((told_by self.new ≡ told_by self.old) × (going_of self.new ≡ going_of self.old)) }
-        ensures any_moment { D.honest self.old.disk → StandsTidily (D.content self.old.disk) (told_by self.old) → LeavesOnly D.moment D.left_since self.old.disk self.new.disk (λ c. StandsTidyFor self.old.header.journal_pages c self.old.network self.old.version) }
+        ensures any_moment { D.honest self.old.disk → StandsTidily (D.content self.old.disk) (told_by self.old) → LeavesOnly D.moment D.left_since self.old.disk self.new.disk (λ c. StandsTidyFor self.old.header.journal_pages (slot_pages self.old.header) c self.old.network self.old.version) }
         ensures stands { D.honest self.old.disk → StandsTidily (D.content self.old.disk) (told_by self.old) → OnOk result (StandsTidily (D.content self.new.disk) (told_by self.new)) }
         ensures as_told { D.honest self.old.disk → standing_of (D.content self.old.disk) ≡ Some (told_by self.old) → OnOk result (standing_of (D.content self.new.disk) ≡ Some (told_by self.new)) }
         ensures honest { D.honest self.new.disk ↔ D.honest self.old.disk }
@@ -148,8 +149,8 @@ impl<D: Disk> Paged<D> {
         ensures kept { OnErr result ((told_by self.new ≡ told_by self.old) × (going_of self.new ≡ going_of self.old)) }
         ensures adds_nothing { self.old.broken ≡ true → AddsNothing D.moment D.left_since self.old.disk self.new.disk }
         // A stop at any moment of the call, or after it, leaves what stands for this network and version.
-        ensures any_moment { self.old.broken ≡ false → D.honest self.old.disk → StandsTidily (D.content self.old.disk) (told_by self.old) → LeavesOnly D.moment D.left_since self.old.disk self.new.disk (λ c. StandsTidyFor self.old.header.journal_pages c self.old.network self.old.version) }
-        ensures left { self.old.broken ≡ false → D.honest self.old.disk → StandsTidily (D.content self.old.disk) (told_by self.old) → (c : List ℕ) → D.left self.new.disk c → StandsTidyFor self.old.header.journal_pages c self.old.network self.old.version }
+        ensures any_moment { self.old.broken ≡ false → D.honest self.old.disk → StandsTidily (D.content self.old.disk) (told_by self.old) → LeavesOnly D.moment D.left_since self.old.disk self.new.disk (λ c. StandsTidyFor self.old.header.journal_pages (slot_pages self.old.header) c self.old.network self.old.version) }
+        ensures left { self.old.broken ≡ false → D.honest self.old.disk → StandsTidily (D.content self.old.disk) (told_by self.old) → (c : List ℕ) → D.left self.new.disk c → StandsTidyFor self.old.header.journal_pages (slot_pages self.old.header) c self.old.network self.old.version }
         // After Ok it leaves the content alone, which stands for it, by the fields as they are now.
         ensures only { D.honest self.old.disk → OnOk result (Only (D.content self.new.disk) (D.left self.new.disk)) }
         ensures stands { D.honest self.old.disk → StandsTidily (D.content self.old.disk) (told_by self.old) → OnOk result (StandsTidily (D.content self.new.disk) (told_by self.new)) }

@@ -1,10 +1,13 @@
-// Commands made durable, all of them or none.
+// Groups of commands made durable, all of them or none.
 ghost use Rattle.std.specs.Prelude.{◌≡◌, ◌≢◌, ◌+◌, ◌≤◌, ◌↔◌, true, false, List, ℕ, length, Some, None, IfOk, OnOk, OnErr, IfErr, MatchResult, option_map};
+ghost use Rattle.std.specs.List.{AllByRecursion};
 ghost use Rattle.disk.specs.Contents.{Only, Rose};
 ghost use Rattle.disk.specs.Moments.{LeavesOnly, AddsNothing};
+ghost use Rattle.roadnet.specs.Groups.{count_of};
 ghost use Rattle.roadnet.specs.Step.{after};
 ghost use Rattle.roadnet.specs.declared.refusals.Refusal.TheVariants.{Device as device};
 ghost use Rattle.pagereader.specs.Outcomes.{failures_told};
+ghost use Rattle.pages.specs.Layout.{slot_pages};
 ghost use Rattle.storefile.specs.StoreFile.{StandsTidyFor};
 ghost use Rattle.storefile.specs.Standing.{IsBeforeOrAfter};
 ghost use Rattle.store.specs.Durable.{told_by, going_of};
@@ -17,16 +20,25 @@ use crate::paged::Paged;
 use disk::Disk;
 use journal::append_page;
 use pages::MOST_VERSIONS;
-use roadnet::{Command, Refusal};
+use roadnet::{Group, Refusal};
+
+// No group is empty.
+fn none_is_empty(groups: &[Group])
+    ensures { AllByRecursion (λ group. 1 ≤ length group) groups.now }
+{
+    for group in groups {
+        let _commands = group.commands();
+    }
+}
 
 impl<D: Disk> Paged<D> {
-    // `Store::commit`, by its pages.
-    pub fn commit(&mut self, commands: &[Command]) -> Result<u64, Refusal>
-        requires some { 1 ≤ length commands.now }
-        requires few { length commands.now ≤ most_commands }
-        // At Ok the commands are carried out, each counted, and one page more is unchecked.
-        ensures version { IfOk result (λ version. (version ≡ self.new.version) × (version ≡ self.old.version + length commands.now)) }
-        ensures network { OnOk result (after self.old.network commands.now ≡ Some self.new.network) }
+    // `Store::commit_groups`, by its pages.
+    pub fn commit_groups(&mut self, groups: &[Group]) -> Result<u64, Refusal>
+        requires some { 1 ≤ length groups.now }
+        requires few { count_of groups.now ≤ most_commands }
+        // At Ok the groups are carried out, each counted, and one page more is unchecked.
+        ensures version { IfOk result (λ version. (version ≡ self.new.version) × (version ≡ self.old.version + length groups.now)) }
+        ensures network { OnOk result (after self.old.network groups.now ≡ Some self.new.network) }
         ensures unchecked { OnOk result (self.new.unchecked ≡ self.old.unchecked + 1) }
         ensures next { OnOk result (self.new.next_sequence ≡ self.old.next_sequence + 1) }
         ensures works { OnOk result (self.new.broken ≡ false) }
@@ -37,7 +49,7 @@ impl<D: Disk> Paged<D> {
         ensures slot { self.new.slot ≡ self.old.slot }
         ensures epoch { self.new.epoch ≡ self.old.epoch }
         // It refuses exactly where there is a cause; and where there is none, for want of memory, or where the disk failed in this call.
-        ensures refused { MatchResult result (λ version. refusal_of_commit self.old.broken self.old.version self.old.unchecked self.old.header.journal_pages self.old.network commands.now ≡ None) (MayRefuseCommit (refusal_of_commit self.old.broken self.old.version self.old.unchecked self.old.header.journal_pages self.old.network commands.now)) }
+        ensures refused { MatchResult result (λ version. refusal_of_commit self.old.broken self.old.version self.old.unchecked self.old.header.journal_pages self.old.network groups.now ≡ None) (MayRefuseCommit (refusal_of_commit self.old.broken self.old.version self.old.unchecked self.old.header.journal_pages self.old.network groups.now)) }
         ensures same { IfErr result (λ refusal. refusal ≢ device → self.new ≡ self.old) }
         ensures failed { IfErr result (λ refusal. refusal ≡ device → Rose (D.failures self.old.disk) (D.failures self.new.disk)) }
         // The count rises by one where that is told, and else not at all: no failure is passed over.
@@ -45,11 +57,11 @@ impl<D: Disk> Paged<D> {
         ensures breaks { IfErr result (λ refusal. refusal ≡ device → self.new.broken ≡ true) }
         ensures kept { OnErr result ((self.new.network ≡ self.old.network) × (self.new.version ≡ self.old.version) × (self.new.unchecked ≡ self.old.unchecked) × (self.new.next_sequence ≡ self.old.next_sequence)) }
         ensures adds_nothing { self.old.broken ≡ true → AddsNothing D.moment D.left_since self.old.disk self.new.disk }
-        // A stop at any moment of the call leaves what stands for the network before the commands, or after them.
-        ensures any_moment { self.old.broken ≡ false → D.honest self.old.disk → StandsTidily (D.content self.old.disk) (told_by self.old) → LeavesOnly D.moment D.left_since self.old.disk self.new.disk (IsBeforeOrAfter self.old.header.journal_pages self.old.network self.old.version commands.now) }
+        // A stop at any moment of the call leaves what stands for the network before the groups, or after them.
+        ensures any_moment { self.old.broken ≡ false → D.honest self.old.disk → StandsTidily (D.content self.old.disk) (told_by self.old) → LeavesOnly D.moment D.left_since self.old.disk self.new.disk (IsBeforeOrAfter self.old.header.journal_pages (slot_pages self.old.header) self.old.network self.old.version groups.now) }
         // So does one after the call; and after Ok, what stands for the network after them.
-        ensures in_flight { self.old.broken ≡ false → D.honest self.old.disk → StandsTidily (D.content self.old.disk) (told_by self.old) → (c : List ℕ) → D.left self.new.disk c → IsBeforeOrAfter self.old.header.journal_pages self.old.network self.old.version commands.now c }
-        ensures durable { D.honest self.old.disk → StandsTidily (D.content self.old.disk) (told_by self.old) → OnOk result ((c : List ℕ) → D.left self.new.disk c → StandsTidyFor self.new.header.journal_pages c self.new.network self.new.version) }
+        ensures in_flight { self.old.broken ≡ false → D.honest self.old.disk → StandsTidily (D.content self.old.disk) (told_by self.old) → (c : List ℕ) → D.left self.new.disk c → IsBeforeOrAfter self.old.header.journal_pages (slot_pages self.old.header) self.old.network self.old.version groups.now c }
+        ensures durable { D.honest self.old.disk → StandsTidily (D.content self.old.disk) (told_by self.old) → OnOk result ((c : List ℕ) → D.left self.new.disk c → StandsTidyFor self.new.header.journal_pages (slot_pages self.new.header) c self.new.network self.new.version) }
         ensures only { D.honest self.old.disk → OnOk result (Only (D.content self.new.disk) (D.left self.new.disk)) }
         ensures stands { D.honest self.old.disk → StandsTidily (D.content self.old.disk) (told_by self.old) → OnOk result (StandsTidily (D.content self.new.disk) (told_by self.new)) }
         ensures honest { D.honest self.new.disk ↔ D.honest self.old.disk }
@@ -57,25 +69,26 @@ impl<D: Disk> Paged<D> {
         if self.broken {
             return Err(Refusal::Broken);
         }
-        let count = commands.len() as u64;
+        let count = groups.len() as u64;
         if self.version + count > MOST_VERSIONS {
             return Err(Refusal::VersionsExhausted);
         }
         if self.unchecked >= self.header.journal_pages {
             return Err(Refusal::JournalFull);
         }
-        let landmarks = self.network.prepare(commands)?;
+        none_is_empty(groups);
+        let undo = self.network.carry_out(groups)?;
         let Ok(()) = append_page(
             &mut self.disk,
             &self.header,
             self.next_sequence,
             self.version + 1,
-            commands,
+            groups,
         ) else {
+            self.network.take_back(undo);
             self.broken = true;
             return Err(Refusal::Device);
         };
-        self.network.carry_out(commands, landmarks);
         self.version += count;
         self.next_sequence += 1;
         self.unchecked += 1;

@@ -5,11 +5,13 @@ ghost use Rattle.disk.specs.Contents.{Only, Rose, failures_after};
 ghost use Rattle.disk.specs.Moments.{StaysSame};
 ghost use Rattle.pages.specs.declared.content.Slot.TheVariants.{A as slot_a};
 ghost use Rattle.pages.specs.Spelling.{IsHeader};
-ghost use Rattle.pages.specs.Layout.{HeadOf, arc_pages, word_pages, page_number, page_count};
+ghost use Rattle.pages.specs.Layout.{HeadOf, arc_pages, word_pages, slot_pages, page_number, page_count};
+ghost use Rattle.pages.specs.Limits.{most_versions};
 ghost use Rattle.pagereader.specs.Outcomes.{failures_with};
 ghost use Rattle.storefile.specs.StoreFile.{StandsTidyFor};
 ghost use Rattle.storefile.specs.Standing.{IsTidyAt, standing_of};
 ghost use Rattle.store.specs.Durable.{told_by, going_of};
+ghost use Rattle.store.specs.State.{checkpoint_pages_of};
 ghost use Rattle.store.specs.Created.{blank_page, page_of_arcs, page_of_words, IsLaidOut, first_pages, with_gate, so_far, IsInStep};
 
 use crate::batch::Batch;
@@ -17,8 +19,8 @@ use crate::paged::Paged;
 use checkpoint::part_of;
 use disk::{Disk, DiskError, length_of, open_gate, settle};
 use pages::{
-    ARCS_A_PAGE, GATE_AT, Header, PAGE_SIZE, Slot, WORDS_A_PAGE, encode_arc_page, encode_header,
-    encode_slot_head, encode_word_page,
+    ARCS_A_PAGE, Format, GATE_AT, Header, PAGE_SIZE, Slot, WORDS_A_PAGE, encode_arc_page,
+    encode_header, encode_slot_head, encode_word_page,
 };
 use roadnet::{Network, Refusal};
 use std::alloc::Global;
@@ -86,22 +88,31 @@ fn lay_out<D: Disk>(
     batch: &mut Batch,
     header: &Header,
     network: &Network,
+    version: u64,
 ) -> Result<(), DiskError>
     requires header { IsHeader header.now }
     requires start { batch.old ≡ record { next = 0; bytes = [] } }
     requires empty { D.honest disk.old → D.content disk.old ≡ [] }
-    ensures laid_out { D.honest disk.old → OnOk result (IsLaidOut (D.content disk.new) header.now network.now) }
+    ensures laid_out { D.honest disk.old → OnOk result (IsLaidOut (D.content disk.new) header.now network.now version) }
     ensures counted { D.failures disk.new ≡ failures_after result (D.failures disk.old) }
     ensures honest { D.honest disk.new ↔ D.honest disk.old }
 {
     batch.put(disk, &encode_header(header))?;
     put_arcs(disk, batch, header, network)?;
-    batch.put(disk, &encode_slot_head(1, 0, 0, network.landmarks()))?;
+    let head = encode_slot_head(
+        Format::Two,
+        1,
+        version,
+        0,
+        network.arcs().len() as u32,
+        network.landmarks(),
+    );
+    batch.put(disk, &head)?;
     put_words(disk, batch, header, network)?;
     put_blank(
         disk,
         batch,
-        header.word_pages() + 1 + u64::from(header.journal_pages),
+        header.end_pages() + 1 + header.slot_pages() + u64::from(header.journal_pages),
     )?;
     batch.flush(disk)
 }
@@ -121,24 +132,27 @@ fn open_gates<D: Disk>(disk: &mut D, header: &Header) -> Result<(), DiskError>
     open_gate(disk, GATE_AT as u64)
 }
 
-/// The pages of a new store, as `create` makes it.
+/// The pages of a new store of this network at this version, as `create` and `migrate` make it.
 pub fn create_paged<D: Disk>(
     alloc: Global,
     disk: D,
     network: &Network,
+    version: u64,
     journal_pages: u32,
 ) -> Result<Paged<D>, (Refusal, D)>
+    requires versions { version ≤ most_versions }
     requires some { 1 ≤ journal_pages }
     requires few { journal_pages ≤ 65536 }
     ensures network { IfOk result (λ store. store.network ≡ network.now) }
-    ensures version { IfOk result (λ store. store.version ≡ 0) }
+    ensures version { IfOk result (λ store. store.version ≡ version) }
     ensures journal_pages { IfOk result (λ store. store.header.journal_pages ≡ journal_pages) }
+    ensures checkpoint_pages { IfOk result (λ store. slot_pages store.header ≡ checkpoint_pages_of (length network.now.arcs) network.now) }
     ensures unchecked { IfOk result (λ store. store.unchecked ≡ 0) }
     ensures slot { IfOk result (λ store. (store.slot ≡ slot_a) × (store.epoch ≡ 1)) }
     ensures works { IfOk result (λ store. store.broken ≡ false) }
     ensures none_going { IfOk result (λ store. going_of store ≡ None) }
-    // The content stands for the network at version 0, is tidy, has so many journal pages, and is all that a stop may leave.
-    ensures stands { D.honest disk → IfOk result (λ store. StandsTidyFor journal_pages (D.content store.disk) network.now 0) }
+    // The content stands for the network at this version, is tidy, has so many journal pages and a slot for the network's room, and is all that a stop may leave.
+    ensures stands { D.honest disk → IfOk result (λ store. StandsTidyFor journal_pages (checkpoint_pages_of (length network.now.arcs) network.now) (D.content store.disk) network.now version) }
     ensures only { D.honest disk → IfOk result (λ store. Only (D.content store.disk) (D.left store.disk)) }
     ensures tidy { D.honest disk → IfOk result (λ store. IsTidyAt (D.content store.disk) store.header store.next_sequence) }
     ensures standing { D.honest disk → IfOk result (λ store. standing_of (D.content store.disk) ≡ Some (told_by store)) }
@@ -166,11 +180,13 @@ pub fn create_paged<D: Disk>(
         return Err((Refusal::OutOfMemory, disk));
     };
     let header = Header {
+        format: Format::Two,
         nodes: copy.nodes(),
         arcs: copy.arcs().len() as u32,
+        room: copy.room(),
         journal_pages,
     };
-    let Ok(()) = lay_out(&mut disk, &mut batch, &header, &copy) else {
+    let Ok(()) = lay_out(&mut disk, &mut batch, &header, &copy, version) else {
         return Err((Refusal::Device, disk));
     };
     let Ok(()) = open_gates(&mut disk, &header) else {
@@ -181,7 +197,7 @@ pub fn create_paged<D: Disk>(
         disk,
         header,
         network: copy,
-        version: 0,
+        version,
         slot: Slot::A,
         epoch: 1,
         next_sequence: 0,

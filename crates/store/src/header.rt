@@ -13,7 +13,7 @@ ghost use Rattle.pages.specs.Limits.{magic};
 use byteorder::{BigEndian, ByteOrder};
 use disk::{Disk, length_of};
 use pagereader::read_page;
-use pages::{FORMAT, Gate, Header, MAGIC, PAGE_SIZE, decode_header, gate_of};
+use pages::{Format, Gate, Header, MAGIC, PAGE_SIZE, decode_header, gate_of};
 use roadnet::Refusal;
 
 fn has_magic(page: &[u8; PAGE_SIZE]) -> bool
@@ -51,10 +51,11 @@ fn format_of(page: &[u8; PAGE_SIZE]) -> u32
     BigEndian::read_u32(&page[8..])
 }
 
-// The header of a file of this length, whose first page is this.
-fn judge_header(page: &[u8; PAGE_SIZE], length: u64) -> Result<Header, Refusal>
-    ensures header { header_from length page.now ≡ result }
+// The header of a file of this format and this length, whose first page is this.
+fn judge_header(page: &[u8; PAGE_SIZE], length: u64, format: Format) -> Result<Header, Refusal>
+    ensures header { header_from format length page.now ≡ result }
     ensures fits { IfOk result IsHeader }
+    ensures format { IfOk result (λ header. header.format ≡ format) }
     ensures size { IfOk result (λ header. length ≡ 4096 * page_count header) }
     ensures causes { IfErr result MayEndOpening }
     ensures memory { IfErr result (λ refusal. refusal ≢ out_of_memory) }
@@ -63,7 +64,7 @@ fn judge_header(page: &[u8; PAGE_SIZE], length: u64) -> Result<Header, Refusal>
     if !begins_as_store(page, length) {
         return Err(Refusal::NotAStore);
     }
-    if format_of(page) != FORMAT {
+    if format_of(page) != format.number() {
         return Err(Refusal::WrongFormat);
     }
     let Some(header) = decode_header(page) else {
@@ -75,12 +76,13 @@ fn judge_header(page: &[u8; PAGE_SIZE], length: u64) -> Result<Header, Refusal>
     Ok(header)
 }
 
-/// The header of the store on the disk, whose sizes are those of the file. Nothing is changed, and no memory is asked for.
-pub fn read_header<D: Disk>(disk: &mut D) -> Result<Header, Refusal>
-    ensures header { D.honest disk.old → IfOk result (λ header. header_from (length (D.content disk.old)) (page (D.content disk.old) 0) ≡ Ok header) }
+/// The header of the store of this format on the disk, whose sizes are those of the file. Nothing is changed, and no memory is asked for.
+pub fn read_header<D: Disk>(disk: &mut D, format: Format) -> Result<Header, Refusal>
+    ensures header { D.honest disk.old → IfOk result (λ header. header_from format (length (D.content disk.old)) (page (D.content disk.old) 0) ≡ Ok header) }
     ensures fits { IfOk result IsHeader }
+    ensures format { IfOk result (λ header. header.format ≡ format) }
     ensures size { D.honest disk.old → IfOk result (λ header. length (D.content disk.old) ≡ 4096 * page_count header) }
-    ensures refused { D.honest disk.old → IfErr result (λ refusal. MayRefuse (header_from (length (D.content disk.old)) (page (D.content disk.old) 0)) refusal) }
+    ensures refused { D.honest disk.old → IfErr result (λ refusal. MayRefuse (header_from format (length (D.content disk.old)) (page (D.content disk.old) 0)) refusal) }
     ensures causes { IfErr result MayEndOpening }
     ensures memory { IfErr result (λ refusal. refusal ≢ out_of_memory) }
     ensures same { D.honest disk.old → StaysSame D.content D.left D.moment D.left_since disk.old disk.new }
@@ -97,5 +99,5 @@ pub fn read_header<D: Disk>(disk: &mut D) -> Result<Header, Refusal>
     let Ok(()) = read_page(disk, 0, &mut page) else {
         return Err(Refusal::Device);
     };
-    judge_header(&page, length)
+    judge_header(&page, length, format)
 }

@@ -1,6 +1,7 @@
 //! A store: a road network that is kept on a disk.
 #![tactic(auto)]
 
+mod alone;
 mod arming;
 mod batch;
 mod checkpoint_parts;
@@ -11,14 +12,18 @@ mod going;
 mod header;
 mod in_flight;
 mod making;
+mod migration;
 mod opening;
 mod paged;
 mod parts;
 mod replay;
+mod rooms;
 mod standing;
 mod store;
 
 pub use making::{create, open};
+pub use migration::migrate;
 pub use parts::Part;
+pub use rooms::with_given_room;
 pub use standing::{Inspected, Standing, inspect};
 pub use store::Store;

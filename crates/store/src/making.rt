@@ -1,5 +1,5 @@
 // A store made on an empty disk, and one that is opened.
-ghost use Rattle.std.specs.Prelude.{◌≡◌, ◌≢◌, ◌⊎◌, ◌≤◌, ◌↔◌, List, ℕ, [], false, None, IfOk, IfErr, MatchResult};
+ghost use Rattle.std.specs.Prelude.{◌≡◌, ◌≢◌, ◌⊎◌, ◌≤◌, ◌↔◌, List, ℕ, [], length, false, None, IfOk, IfErr, MatchResult};
 ghost use Rattle.roadnet.specs.declared.refusals.Refusal.TheVariants.{OutOfMemory as out_of_memory, Device as device, NotEmpty as not_empty};
 ghost use Rattle.disk.specs.Contents.{Only, Rose};
 ghost use Rattle.disk.specs.Moments.{StaysSame};
@@ -7,7 +7,7 @@ ghost use Rattle.pagereader.specs.Outcomes.{failures_with, MayEndOpening};
 ghost use Rattle.storefile.specs.StoreFile.{StandsTidyFor};
 ghost use Rattle.pages.specs.declared.content.Slot.TheVariants.{A as slot_a};
 ghost use Rattle.store.specs.Opening.{HeaderFits, IsPassing, MayRefuseToOpen, StandsForSome};
-ghost use Rattle.store.specs.State.{HasCheckpointPages, IsTidy, StandsAs, StandsAt, told};
+ghost use Rattle.store.specs.State.{checkpoint_pages_of, IsTidy, StandsAs, StandsAt, told};
 
 use crate::creation::create_paged;
 use crate::in_flight::InFlight;
@@ -24,7 +24,7 @@ use std::snapshot::Snapshot;
 /// was. It takes linear time, and memory for a copy of the network and 64 pages.
 ///
 /// With 64 journal pages, the store of `examples/six.gr` is a file of 70 pages: the header, one page of arcs, two slots of a head and
-/// one page of words, and the journal.
+/// one page of words, and the journal. With room for 10 arcs each slot has a page of ends besides, and there are 72 pages.
 pub fn create<D: Disk>(
     alloc: Global,
     disk: D,
@@ -36,18 +36,19 @@ pub fn create<D: Disk>(
     ensures network { IfOk result (λ store. store.network ≡ network.now) }
     ensures version { IfOk result (λ store. store.version ≡ 0) }
     ensures journal_pages { IfOk result (λ store. store.journal_pages ≡ journal_pages) }
+    // A checkpoint writes what the network's room needs.
+    ensures checkpoint_pages { IfOk result (λ store. store.checkpoint_pages ≡ checkpoint_pages_of (length network.now.arcs) network.now) }
     ensures unchecked { IfOk result (λ store. store.unchecked ≡ 0) }
     ensures slot { IfOk result (λ store. (store.slot ≡ slot_a) × (store.epoch ≡ 1)) }
     ensures works { IfOk result (λ store. store.broken ≡ false) }
     ensures none_going { IfOk result (λ store. store.going ≡ None) }
     ensures none_in_flight { IfOk result (λ store. store.in_flight ≡ []) }
     ensures given { IfOk result (λ store. store.given ≡ store.disk) }
-    // The content stands for the network at version 0, is tidy, has so many journal pages, and is all that a stop may leave.
-    ensures stands { D.honest disk → IfOk result (λ store. StandsTidyFor journal_pages (D.content store.disk) network.now 0) }
+    // The content stands for the network at version 0, is tidy, has so many journal pages and a slot for the network's room, and is all that a stop may leave.
+    ensures stands { D.honest disk → IfOk result (λ store. StandsTidyFor journal_pages (checkpoint_pages_of (length network.now.arcs) network.now) (D.content store.disk) network.now 0) }
     ensures only { D.honest disk → IfOk result (λ store. Only (D.content store.disk) (D.left store.disk)) }
     ensures tidy { D.honest disk → IfOk result (λ store. IsTidy (D.content store.disk)) }
     ensures told { D.honest disk → IfOk result (λ store. StandsAs (D.content store.disk) (told store)) }
-    ensures checkpoint_pages { D.honest disk → IfOk result HasCheckpointPages }
     ensures empty { D.honest disk → IfOk result (λ store. D.content disk ≡ []) }
     ensures refused { IfErr result (λ refused. (refused.0 ≡ not_empty) ⊎ ((refused.0 ≡ device) ⊎ (refused.0 ≡ out_of_memory))) }
     ensures not_empty { D.honest disk → IfErr result (λ refused. refused.0 ≡ not_empty → D.content disk ≢ []) }
@@ -58,7 +59,7 @@ pub fn create<D: Disk>(
     ensures same { D.honest disk → IfErr result (λ refused. refused.0 ≢ device → StaysSame D.content D.left D.moment D.left_since disk refused.1) }
     ensures honest { (IfOk result (λ store. D.honest store.disk ↔ D.honest disk)) × (IfErr result (λ refused. D.honest refused.1 ↔ D.honest disk)) }
 {
-    let pages = create_paged(alloc, disk, network, journal_pages)?;
+    let pages = create_paged(alloc, disk, network, 0, journal_pages)?;
     let given = Snapshot::of(&pages.disk);
     let in_flight = InFlight::none();
     Ok(Store {

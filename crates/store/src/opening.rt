@@ -1,16 +1,17 @@
-ghost use Rattle.std.specs.Prelude.{◌≡◌, ◌+◌, ◌*◌, ◌↔◌, false, ℕ, List, Ok, Some, length, IfOk, IfErr, OnOk, MatchResult};
+ghost use Rattle.std.specs.Prelude.{◌≡◌, ◌≤◌, ◌+◌, ◌*◌, ◌↔◌, false, ℕ, List, Ok, Some, length, IfOk, IfErr, OnOk, MatchResult};
 ghost use Rattle.roadnet.specs.declared.refusals.Refusal.TheVariants.{OutOfMemory as out_of_memory, Device as device};
 ghost use Rattle.disk.specs.Contents.{Only, Rose};
 ghost use Rattle.disk.specs.Moments.{StaysSame};
+ghost use Rattle.pages.specs.declared.content.Format.TheVariants.{Two as two};
 ghost use Rattle.pages.specs.Spelling.{IsHeader, IsHead};
 ghost use Rattle.pages.specs.Layout.{page_count};
 ghost use Rattle.storefile.specs.StoreFile.{page, StandsFor};
-ghost use Rattle.storefile.specs.Judging.{journal_from, opened};
-ghost use Rattle.storefile.specs.Standing.{HasFitNumbers, standing_of};
+ghost use Rattle.storefile.specs.Judging.{journal_from, opened, opened_in};
+ghost use Rattle.storefile.specs.Standing.{HasFitNumbers, standing_in, standing_of};
 ghost use Rattle.pagereader.specs.Outcomes.{failures_told, MayRefuse, MayEndOpening, failures_with};
 ghost use Rattle.checkpoint.specs.Loading.{head_of};
 ghost use Rattle.store.specs.Durable.{told_by, going_of};
-ghost use Rattle.store.specs.Opening.{header_from, HeaderFits, current_from, AreCarriedOut, IsPassing, MayRefuseToOpen, StandsForSome};
+ghost use Rattle.store.specs.Opening.{header_from, HeaderFits, HeaderFitsIn, current_from, AreCarriedOut, IsPassing, MayRefuseToOpen, StandsForSome};
 
 use crate::header::read_header;
 use crate::paged::Paged;
@@ -19,7 +20,7 @@ use checkpoint::{Checkpoint, choose, load, read_arcs};
 use disk::{Disk, settle};
 use journal::Ring;
 use pagereader::PageReader;
-use pages::{Header, Slot};
+use pages::{Format, Header, Slot};
 use roadnet::{Network, Refusal};
 use std::alloc::Global;
 
@@ -44,7 +45,7 @@ fn read_current<D: Disk>(
     requires header { IsHeader header.now }
     requires whole { D.honest disk.old → length (D.content disk.old) ≡ 4096 * page_count header.now }
     ensures current { D.honest disk.old → IfOk result (λ x. current_from (page (D.content disk.old)) header.now ≡ Ok (record { slot = x.0; head = head_of x.1; network = x.1.network })) }
-    ensures fits { IfOk result (λ x. IsHead header.now.nodes (head_of x.1)) }
+    ensures fits { IfOk result (λ x. IsHead header.now (head_of x.1)) }
     ensures refused { D.honest disk.old → IfErr result (λ refusal. MayRefuse (current_from (page (D.content disk.old)) header.now) refusal) }
     ensures causes { IfErr result MayEndOpening }
     ensures same { D.honest disk.old → StaysSame D.content D.left D.moment D.left_since disk.old disk.new }
@@ -69,7 +70,7 @@ fn read_journal<D: Disk>(
     checkpoint: Checkpoint,
 ) -> Result<Found, Refusal>
     requires header { IsHeader header.now }
-    requires fits { IsHead header.now.nodes (head_of checkpoint) }
+    requires fits { IsHead header.now (head_of checkpoint) }
     requires whole { D.honest disk.old → length (D.content disk.old) ≡ 4096 * page_count header.now }
     ensures carried_out { D.honest disk.old → IfOk result (λ found. AreCarriedOut (journal_from (page (D.content disk.old)) header.now header.now.journal_pages checkpoint.next_sequence checkpoint.version checkpoint.network) found.unchecked checkpoint.version found.network found.version) }
     ensures header { IfOk result (λ found. found.header ≡ header.now) }
@@ -77,6 +78,7 @@ fn read_journal<D: Disk>(
     ensures epoch { IfOk result (λ found. found.epoch ≡ checkpoint.epoch) }
     ensures next { IfOk result (λ found. found.next_sequence ≡ checkpoint.next_sequence + found.unchecked) }
     ensures numbers { IfOk result (λ found. HasFitNumbers found.header found.epoch found.version found.next_sequence found.unchecked) }
+    ensures arcs_from { IfOk result (λ found. found.header.arcs ≤ length found.network.arcs) }
     ensures refused { D.honest disk.old → IfErr result (λ refusal. MayRefuse (journal_from (page (D.content disk.old)) header.now header.now.journal_pages checkpoint.next_sequence checkpoint.version checkpoint.network) refusal) }
     ensures causes { IfErr result MayEndOpening }
     ensures same { D.honest disk.old → StaysSame D.content D.left D.moment D.left_since disk.old disk.new }
@@ -117,11 +119,13 @@ fn read_journal<D: Disk>(
 // The same of a file with this header.
 fn read_behind<D: Disk>(alloc: Global, disk: &mut D, header: &Header) -> Result<Found, Refusal>
     requires header { IsHeader header.now }
-    requires spelled { D.honest disk.old → header_from (length (D.content disk.old)) (page (D.content disk.old) 0) ≡ Ok header.now }
+    requires spelled { D.honest disk.old → header_from header.now.format (length (D.content disk.old)) (page (D.content disk.old) 0) ≡ Ok header.now }
     requires whole { D.honest disk.old → length (D.content disk.old) ≡ 4096 * page_count header.now }
-    ensures standing { D.honest disk.old → IfOk result (λ found. standing_of (D.content disk.old) ≡ Some (record { header = found.header; slot = found.slot; epoch = found.epoch; network = found.network; version = found.version; next = found.next_sequence; unchecked = found.unchecked })) }
+    ensures standing { D.honest disk.old → IfOk result (λ found. standing_in (opened_in header.now.format (D.content disk.old)) ≡ Some (record { header = found.header; slot = found.slot; epoch = found.epoch; network = found.network; version = found.version; next = found.next_sequence; unchecked = found.unchecked })) }
     ensures numbers { IfOk result (λ found. HasFitNumbers found.header found.epoch found.version found.next_sequence found.unchecked) }
-    ensures refused { D.honest disk.old → IfErr result (λ refusal. MayRefuse (opened (D.content disk.old)) refusal) }
+    ensures arcs_from { IfOk result (λ found. found.header.arcs ≤ length found.network.arcs) }
+    ensures header { IfOk result (λ found. found.header ≡ header.now) }
+    ensures refused { D.honest disk.old → IfErr result (λ refusal. MayRefuse (opened_in header.now.format (D.content disk.old)) refusal) }
     ensures causes { IfErr result MayEndOpening }
     ensures same { D.honest disk.old → StaysSame D.content D.left D.moment D.left_since disk.old disk.new }
     ensures counted { D.failures disk.new ≡ failures_told result (D.failures disk.old) }
@@ -131,29 +135,33 @@ fn read_behind<D: Disk>(alloc: Global, disk: &mut D, header: &Header) -> Result<
     read_journal(alloc, disk, header, slot, checkpoint)
 }
 
-// The same of a file that is synced.
-fn read_synced<D: Disk>(alloc: Global, disk: &mut D) -> Result<Found, Refusal>
-    ensures standing { D.honest disk.old → IfOk result (λ found. standing_of (D.content disk.old) ≡ Some (record { header = found.header; slot = found.slot; epoch = found.epoch; network = found.network; version = found.version; next = found.next_sequence; unchecked = found.unchecked })) }
+// The same of a file of this format that is synced.
+fn read_synced<D: Disk>(alloc: Global, disk: &mut D, format: Format) -> Result<Found, Refusal>
+    ensures standing { D.honest disk.old → IfOk result (λ found. standing_in (opened_in format (D.content disk.old)) ≡ Some (record { header = found.header; slot = found.slot; epoch = found.epoch; network = found.network; version = found.version; next = found.next_sequence; unchecked = found.unchecked })) }
     ensures numbers { IfOk result (λ found. HasFitNumbers found.header found.epoch found.version found.next_sequence found.unchecked) }
-    ensures refused { D.honest disk.old → IfErr result (λ refusal. MayRefuse (opened (D.content disk.old)) refusal) }
-    ensures order { D.honest disk.old → IfErr result (λ refusal. refusal ≡ out_of_memory → HeaderFits (D.content disk.old)) }
+    ensures arcs_from { IfOk result (λ found. found.header.arcs ≤ length found.network.arcs) }
+    ensures format { IfOk result (λ found. found.header.format ≡ format) }
+    ensures refused { D.honest disk.old → IfErr result (λ refusal. MayRefuse (opened_in format (D.content disk.old)) refusal) }
+    ensures order { D.honest disk.old → IfErr result (λ refusal. refusal ≡ out_of_memory → HeaderFitsIn format (D.content disk.old)) }
     ensures causes { IfErr result MayEndOpening }
     ensures same { D.honest disk.old → StaysSame D.content D.left D.moment D.left_since disk.old disk.new }
     ensures counted { D.failures disk.new ≡ failures_told result (D.failures disk.old) }
     ensures honest { D.honest disk.new ↔ D.honest disk.old }
 {
-    let header = read_header(disk)?;
+    let header = read_header(disk, format)?;
     read_behind(alloc, disk, &header)
 }
 
-/// Syncs, and then judges and reads the whole file, in the order of the format. Nothing is written. The first refusal ends it: no store (40),
+/// Syncs, and then judges and reads the whole file of this format, in its order. Nothing is written. The first refusal ends it: no store (40),
 /// another format (41), a damaged page (42). That the disk failed (43) may come at each step, that no memory was given (11) behind the header.
-pub fn find<D: Disk>(alloc: Global, disk: &mut D) -> Result<Found, Refusal>
-    ensures standing { D.honest disk.old → IfOk result (λ found. standing_of (D.content disk.old) ≡ Some (record { header = found.header; slot = found.slot; epoch = found.epoch; network = found.network; version = found.version; next = found.next_sequence; unchecked = found.unchecked })) }
+pub fn find_in<D: Disk>(alloc: Global, disk: &mut D, format: Format) -> Result<Found, Refusal>
+    ensures standing { D.honest disk.old → IfOk result (λ found. standing_in (opened_in format (D.content disk.old)) ≡ Some (record { header = found.header; slot = found.slot; epoch = found.epoch; network = found.network; version = found.version; next = found.next_sequence; unchecked = found.unchecked })) }
     ensures numbers { IfOk result (λ found. HasFitNumbers found.header found.epoch found.version found.next_sequence found.unchecked) }
-    ensures refused { D.honest disk.old → IfErr result (λ refusal. MayRefuse (opened (D.content disk.old)) refusal) }
+    ensures arcs_from { IfOk result (λ found. found.header.arcs ≤ length found.network.arcs) }
+    ensures format { IfOk result (λ found. found.header.format ≡ format) }
+    ensures refused { D.honest disk.old → IfErr result (λ refusal. MayRefuse (opened_in format (D.content disk.old)) refusal) }
     ensures at_rest { D.honest disk.old → OnOk result (Only (D.content disk.new) (D.left disk.new)) }
-    ensures order { D.honest disk.old → IfErr result (λ refusal. refusal ≡ out_of_memory → HeaderFits (D.content disk.old)) }
+    ensures order { D.honest disk.old → IfErr result (λ refusal. refusal ≡ out_of_memory → HeaderFitsIn format (D.content disk.old)) }
     ensures causes { IfErr result MayEndOpening }
     ensures same { D.honest disk.old → StaysSame D.content D.left D.moment D.left_since disk.old disk.new }
     ensures counted { D.failures disk.new ≡ failures_told result (D.failures disk.old) }
@@ -162,7 +170,24 @@ pub fn find<D: Disk>(alloc: Global, disk: &mut D) -> Result<Found, Refusal>
     let Ok(()) = settle(disk) else {
         return Err(Refusal::Device);
     };
-    read_synced(alloc, disk)
+    read_synced(alloc, disk, format)
+}
+
+/// The same in the format in which stores are opened.
+pub fn find<D: Disk>(alloc: Global, disk: &mut D) -> Result<Found, Refusal>
+    ensures standing { D.honest disk.old → IfOk result (λ found. standing_of (D.content disk.old) ≡ Some (record { header = found.header; slot = found.slot; epoch = found.epoch; network = found.network; version = found.version; next = found.next_sequence; unchecked = found.unchecked })) }
+    ensures numbers { IfOk result (λ found. HasFitNumbers found.header found.epoch found.version found.next_sequence found.unchecked) }
+    ensures arcs_from { IfOk result (λ found. found.header.arcs ≤ length found.network.arcs) }
+    ensures today { IfOk result (λ found. found.header.format ≡ two) }
+    ensures refused { D.honest disk.old → IfErr result (λ refusal. MayRefuse (opened (D.content disk.old)) refusal) }
+    ensures at_rest { D.honest disk.old → OnOk result (Only (D.content disk.new) (D.left disk.new)) }
+    ensures order { D.honest disk.old → IfErr result (λ refusal. refusal ≡ out_of_memory → HeaderFits (D.content disk.old)) }
+    ensures causes { IfErr result MayEndOpening }
+    ensures same { D.honest disk.old → StaysSame D.content D.left D.moment D.left_since disk.old disk.new }
+    ensures counted { D.failures disk.new ≡ failures_told result (D.failures disk.old) }
+    ensures honest { D.honest disk.new ↔ D.honest disk.old }
+{
+    find_in(alloc, disk, Format::Two)
 }
 
 /// The pages of the store on a disk, as `open` finds them.

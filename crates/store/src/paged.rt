@@ -1,5 +1,6 @@
-ghost use Rattle.std.specs.Prelude.{◌≡◌, false, IfSome};
+ghost use Rattle.std.specs.Prelude.{◌≡◌, ◌≤◌, false, length, IfSome};
 ghost use Rattle.std.proofs.Props.{props};
+ghost use Rattle.pages.specs.declared.content.Format.TheVariants.{Two as two};
 ghost use Rattle.storefile.specs.Standing.{HasFitNumbers};
 ghost use Rattle.store.specs.Resting.{IsAtRest};
 ghost use Rattle.store.specs.Going.{FitsStore, GoesOn};
@@ -30,6 +31,8 @@ pub struct Paged<D: Disk> {
     /// The checkpoint that is going.
     pub(crate) going: Option<GoingCheckpoint>,
     ghost numbers: { HasFitNumbers header epoch version next_sequence unchecked },
+    ghost today: { header.format ≡ two },
+    ghost arcs_from: { header.arcs ≤ length network.arcs },
     ghost rests: { broken ≡ false → D.honest disk → IsAtRest (D.content disk) (D.left disk) header },
     ghost fits: { IfSome going (λ g. FitsStore header slot epoch version next_sequence unchecked g.next g.committed) } by { Prim.hlevel props },
     ghost goes_on: { broken ≡ false → D.honest disk → ∥ IfSome going (λ g. GoesOn (D.content disk) header g.next g.frozen g.committed network version next_sequence) ∥₁ },

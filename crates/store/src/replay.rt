@@ -1,6 +1,6 @@
-ghost use Rattle.std.specs.Prelude.{◌≡◌, ◌+◌, ◌*◌, ◌≤◌, ◌↔◌, true, false, None, Some, length, IfOk, IfErr, OnErr};
+ghost use Rattle.std.specs.Prelude.{◌≡◌, ◌+◌, ◌*◌, ◌≤◌, ◌↔◌, true, false, None, Some, length, map, IfOk, IfErr, OnOk, OnErr};
 ghost use Rattle.disk.specs.Moments.{StaysSame};
-ghost use Rattle.roadnet.specs.Step.{refusal_of, step, after};
+ghost use Rattle.roadnet.specs.Step.{refusal_of, step, step_group};
 ghost use Rattle.pages.specs.Spelling.{IsHeader};
 ghost use Rattle.pages.specs.Layout.{page_count};
 ghost use Rattle.storefile.specs.StoreFile.{page, journal_page_at};
@@ -12,7 +12,7 @@ ghost use Rattle.pages.specs.Limits.{most_versions};
 
 use disk::Disk;
 use pagereader::read_page;
-use pages::{Header, MOST_VERSIONS, PAGE_SIZE, decode_journal_page};
+use pages::{Format, Header, MOST_VERSIONS, PAGE_SIZE, Record, decode_journal_page};
 use roadnet::{Command, Network, OutOfMemory, Refusal};
 use std::alloc::Global;
 
@@ -32,13 +32,13 @@ fn carry_out(network: &mut Network, command: Command) -> Result<bool, OutOfMemor
     }
 }
 
-// Carries the commands out, each where it is admitted in its turn. Answers whether all were.
-fn apply_all(network: &mut Network, commands: &[Command]) -> Result<bool, OutOfMemory>
-    ensures all { IfOk result (λ all. all ≡ true → after network.old commands.now ≡ Some network.new) }
-    ensures one_refused { IfOk result (λ all. all ≡ false → after network.old commands.now ≡ None) }
+// Carries the commands of these records out, each where it is admitted in its turn. Answers whether all were.
+fn apply_all(network: &mut Network, records: &[Record]) -> Result<bool, OutOfMemory>
+    ensures all { IfOk result (λ all. all ≡ true → step_group network.old (map (λ r. r.command) records.now) ≡ Some network.new) }
+    ensures one_refused { IfOk result (λ all. all ≡ false → step_group network.old (map (λ r. r.command) records.now) ≡ None) }
 {
-    for &command in commands {
-        let Ok(carried) = carry_out(network, command) else {
+    for record in records {
+        let Ok(carried) = carry_out(network, record.command) else {
             return Err(OutOfMemory);
         };
         if !carried {
@@ -53,19 +53,21 @@ fn judge_page(
     alloc: Global,
     page: &[u8; PAGE_SIZE],
     number: u64,
+    format: Format,
     version: u64,
     network: &mut Network,
 ) -> Result<u64, Refusal>
     requires { version ≤ most_versions }
-    ensures carried_out { IfOk result (λ new. IsCarriedOut (entry_from number page.now version network.old) version network.new new) }
+    ensures carried_out { IfOk result (λ new. IsCarriedOut (entry_from format number page.now version network.old) version network.new new) }
     ensures fits { IfOk result (λ new. new ≤ most_versions) }
     ensures later { IfOk result (λ new. version + 1 ≤ new) }
-    ensures refused { IfErr result (λ refusal. MayLack (entry_from number page.now version network.old) refusal) }
+    ensures grows { OnOk result (length network.old.arcs ≤ length network.new.arcs) }
+    ensures refused { IfErr result (λ refusal. MayLack (entry_from format number page.now version network.old) refusal) }
     ensures causes { IfErr result MayEndOpening }
     ensures quiet { IsQuiet result }
 {
     let damaged = Refusal::Damaged { page: number };
-    let Ok(found) = decode_journal_page(alloc, page) else {
+    let Ok(found) = decode_journal_page(alloc, page, format) else {
         return Err(Refusal::OutOfMemory);
     };
     let Some(entry) = found else {
@@ -74,11 +76,11 @@ fn judge_page(
     if entry.first_number() != version + 1 {
         return Err(damaged);
     }
-    let new = version + entry.commands().len() as u64;
+    let new = version + entry.group_count() as u64;
     if new > MOST_VERSIONS {
         return Err(damaged);
     }
-    let Ok(all) = apply_all(network, entry.commands()) else {
+    let Ok(all) = apply_all(network, entry.records()) else {
         return Err(Refusal::OutOfMemory);
     };
     if !all {
@@ -99,10 +101,11 @@ fn replay_page<D: Disk>(
     requires header { IsHeader header.now }
     requires version { version ≤ most_versions }
     requires whole { D.honest disk.old → length (D.content disk.old) ≡ 4096 * page_count header.now }
-    ensures carried_out { D.honest disk.old → IfOk result (λ new. IsCarriedOut (entry_from (journal_page_at header.now sequence) (page (D.content disk.old) (journal_page_at header.now sequence)) version network.old) version network.new new) }
+    ensures carried_out { D.honest disk.old → IfOk result (λ new. IsCarriedOut (entry_from header.now.format (journal_page_at header.now sequence) (page (D.content disk.old) (journal_page_at header.now sequence)) version network.old) version network.new new) }
     ensures fits { IfOk result (λ new. new ≤ most_versions) }
     ensures later { IfOk result (λ new. version + 1 ≤ new) }
-    ensures refused { D.honest disk.old → IfErr result (λ refusal. MayRefuse (entry_from (journal_page_at header.now sequence) (page (D.content disk.old) (journal_page_at header.now sequence)) version network.old) refusal) }
+    ensures grows { OnOk result (length network.old.arcs ≤ length network.new.arcs) }
+    ensures refused { D.honest disk.old → IfErr result (λ refusal. MayRefuse (entry_from header.now.format (journal_page_at header.now sequence) (page (D.content disk.old) (journal_page_at header.now sequence)) version network.old) refusal) }
     ensures causes { IfErr result MayEndOpening }
     ensures same { D.honest disk.old → StaysSame D.content D.left D.moment D.left_since disk.old disk.new }
     ensures counted { D.failures disk.new ≡ failures_told result (D.failures disk.old) }
@@ -113,10 +116,10 @@ fn replay_page<D: Disk>(
     let Ok(()) = read_page(disk, number, &mut page) else {
         return Err(Refusal::Device);
     };
-    judge_page(alloc, &page, number, version, network)
+    judge_page(alloc, &page, number, header.format, version, network)
 }
 
-/// Carries out the commands of the unchecked pages, page by page. Answers the version after them. The first page that isn't spelled rightly,
+/// Carries out the commands of the unchecked pages, page by page. Answers the version after them: each group counts one. The first page that isn't spelled rightly,
 /// whose first number isn't the next, that passes version 2^48 or of which a command isn't admitted in its turn, is damaged. On the disk
 /// nothing is changed.
 pub fn replay<D: Disk>(
@@ -136,6 +139,7 @@ pub fn replay<D: Disk>(
     ensures carried_out { D.honest disk.old → IfOk result (λ new. AreCarriedOut (journal_from (page (D.content disk.old)) header.now header.now.journal_pages from version network.old) count version network.new new) }
     ensures fits { IfOk result (λ new. new ≤ most_versions) }
     ensures later { IfOk result (λ new. version + count ≤ new) }
+    ensures grows { OnOk result (length network.old.arcs ≤ length network.new.arcs) }
     ensures refused { D.honest disk.old → IfErr result (λ refusal. MayRefuse (journal_from (page (D.content disk.old)) header.now header.now.journal_pages from version network.old) refusal) }
     ensures causes { IfErr result MayEndOpening }
     ensures same { D.honest disk.old → StaysSame D.content D.left D.moment D.left_since disk.old disk.new }

@@ -2,21 +2,23 @@
 ghost use Rattle.std.specs.Prelude.{◌≡◌, ◌≢◌, ◌+◌, ◌≤◌, ◌↔◌, true, false, List, [], ℕ, None, Some, Ok, length, IfOk, OnOk, OnErr, IfErr, MatchResult, option_map};
 ghost use Rattle.disk.specs.Contents.{Only, Rose};
 ghost use Rattle.disk.specs.Moments.{LeavesOnly, AddsNothing};
+ghost use Rattle.roadnet.specs.Groups.{count_of};
 ghost use Rattle.roadnet.specs.Step.{after};
 ghost use Rattle.roadnet.specs.declared.refusals.Refusal.TheVariants.{Device as device, OutOfMemory as out_of_memory};
 ghost use Rattle.pages.specs.Limits.{most_commands};
 ghost use Rattle.pagereader.specs.Outcomes.{failures_told};
-ghost use Rattle.store.specs.Committing.{MayRefuseCommit};
+ghost use Rattle.store.specs.Committing.{alone, MayRefuseCommit};
 ghost use Rattle.store.specs.Checkpointing.{refusal_of_checkpoint, MayRefuseCheckpoint};
-ghost use Rattle.pages.specs.Layout.{other};
+ghost use Rattle.pages.specs.Layout.{other, slot_pages};
 ghost use Rattle.store.specs.Going.{part_by, progress_by, slot_by, epoch_by, unchecked_by, with_page_committed};
 ghost use Rattle.store.specs.State.{CameTidy, HasCommittedNothing, HasRoom, HasCheckpointPages, IsDurable, IsDurableOrAfter, StandsAs, told, commit_refusal, is_calm, checkpoint_of, has_all_checked};
 
+use crate::alone::groups_of;
 use crate::in_flight::{InFlight, Made, has_failed};
 use crate::paged::Paged;
 use crate::parts::Part;
 use disk::Disk;
-use roadnet::{Command, Network, Refusal};
+use roadnet::{Command, Group, Network, Refusal};
 use std::marker::Model;
 use std::snapshot::Snapshot;
 
@@ -28,13 +30,14 @@ pub struct Store<D: Disk> {
     pub(crate) pages: Paged<D>,
     /// The disk as it was when the store was made or opened.
     pub(crate) given: Snapshot<D>,
-    /// The commands of the commit that failed, where one did.
+    /// The groups of the commit that failed, where one did.
     pub(crate) in_flight: InFlight,
 }
 
 impl<D: Disk> Model for Store<D> {
     ghost use Rattle.std.specs.Prelude.{◌≡◌, true, false, List, [], ℕ};
     ghost use Rattle.disk.specs.Contents.{Only};
+    ghost use Rattle.pages.specs.Layout.{slot_pages};
     ghost use Rattle.store.specs.Committing.{StandsTidily};
     ghost use Rattle.store.specs.Durable.{told_by, KeepsTold};
     ghost use Rattle.storefile.specs.Standing.{IsBeforeOrAfter};
@@ -42,14 +45,14 @@ impl<D: Disk> Model for Store<D> {
 
     ghost Value = { StoreState D };
 
-    ghost view = { λ s. state_of s.pages s.given.value s.in_flight.commands };
+    ghost view = { λ s. state_of s.pages s.given.value s.in_flight.groups };
 
     ghost invariant = { λ s.
-        (s.pages.broken ≡ false → s.in_flight.commands ≡ [])
+        (s.pages.broken ≡ false → s.in_flight.groups ≡ [])
         × (CameTidy D.honest D.content s.given.value
         → D.honest s.pages.disk
         × (s.pages.broken ≡ false → Only (D.content s.pages.disk) (D.left s.pages.disk) × StandsTidily (D.content s.pages.disk) (told_by s.pages))
-        × (s.pages.broken ≡ true → (c : List ℕ) → D.left s.pages.disk c → IsBeforeOrAfter s.pages.header.journal_pages s.pages.network s.pages.version s.in_flight.commands c))
+        × (s.pages.broken ≡ true → (c : List ℕ) → D.left s.pages.disk c → IsBeforeOrAfter s.pages.header.journal_pages (slot_pages s.pages.header) s.pages.network s.pages.version s.in_flight.groups c))
         × KeepsTold s.given.value s.pages };
 }
 
@@ -61,10 +64,10 @@ impl<D: Disk> Store<D> {
         self.pages.network()
     }
 
-    /// The version of the durable network: how many commands were ever made durable. Where the store came tidy, over a disk that keeps the disk
+    /// The version of the durable network: how many groups were ever made durable. Where the store came tidy, over a disk that keeps the disk
     /// model, and is not broken, a stop leaves the content alone, and it stands for this network and version: a fact of the store,
     /// whatever was called since. Where it is broken, each content that a stop may leave stands for them, or for those after the
-    /// commands in flight, which are those of the commit that failed, or none.
+    /// groups in flight, which are those of the commit that failed, or none.
     pub fn version(&self) -> u64
         ensures version { result ≡ self.now.version }
         ensures honest { CameTidy D.honest D.content self.now.given → D.honest self.now.disk }
@@ -106,7 +109,7 @@ impl<D: Disk> Store<D> {
 
     /// The disk, of which no call is made. Where the store came tidy, over a disk that keeps the disk model, and is not broken, its content
     /// is all that a stop may leave, and stands for the store's network and version: opened, it gives both again. Where it is
-    /// broken, each content that a stop may leave stands for them, or for those after the commands in flight.
+    /// broken, each content that a stop may leave stands for them, or for those after the groups in flight.
     pub fn close(self) -> D
         ensures disk { result ≡ self.disk }
         ensures honest { CameTidy D.honest D.content self.given → D.honest result }
@@ -117,24 +120,24 @@ impl<D: Disk> Store<D> {
         self.pages.close()
     }
 
-    /// Makes these commands, 1 to 253, durable as one page of the journal, and carries them out. Answers the new version: each command
-    /// counts one. All of them take place or none, whatever a stop does at any moment; at `Ok` they are there for good.
+    /// Makes these groups, of 1 to 253 commands in all, durable as one page of the journal, and carries them out. Answers the new version:
+    /// each group counts one. All of them take place or none, whatever a stop does at any moment; at `Ok` they are there for good.
     ///
     /// Refused, the first that holds, is a broken store (45), a version that would pass 2^48 (28), a journal without a free page (44), and
-    /// the first command that isn't admitted after those before it (20 to 27); then want of memory (11), all before any call of the disk;
+    /// the first command that isn't admitted after those before it (20 to 27, 29); then want of memory (11), all before any call of the disk;
     /// then a disk that failed (43), after which the store is broken and writes nothing more. After each other refusal nothing is changed.
     ///
     /// It makes four writes and syncs, or six where the page at that place is open. It takes 4 bytes a landmark, and never a copy of the
     /// arcs: n commands cost O(n^2) comparisons.
     ///
-    /// In a new store of `examples/six.gr`, `Close { arc: 7 }` twice in one call is `AlreadyClosed`, and version 0 stays; once, it answers 1.
+    /// In a new store of `examples/six.gr`, `Close { arc: 7 }` twice in one call, as two groups or as one, is `AlreadyClosed`, and version 0 stays; once, it answers 1.
     /// With a journal of 2 pages, the third commit before a checkpoint is `JournalFull`.
-    pub fn commit(&mut self, commands: &[Command]) -> Result<u64, Refusal>
-        requires some { 1 ≤ length commands.now }
-        requires few { length commands.now ≤ most_commands }
-        // At Ok the commands are carried out, each counted, and one page more is unchecked.
-        ensures version { IfOk result (λ version. (version ≡ self.new.version) × (version ≡ self.old.version + length commands.now)) }
-        ensures network { OnOk result (after self.old.network commands.now ≡ Some self.new.network) }
+    pub fn commit_groups(&mut self, groups: &[Group]) -> Result<u64, Refusal>
+        requires some { 1 ≤ length groups.now }
+        requires few { count_of groups.now ≤ most_commands }
+        // At Ok the groups are carried out, each counted, and one page more is unchecked.
+        ensures version { IfOk result (λ version. (version ≡ self.new.version) × (version ≡ self.old.version + length groups.now)) }
+        ensures network { OnOk result (after self.old.network groups.now ≡ Some self.new.network) }
         ensures unchecked { OnOk result (self.new.unchecked ≡ self.old.unchecked + 1) }
         ensures works { OnOk result (self.new.broken ≡ false) }
         ensures slot { (self.new.slot ≡ self.old.slot) × (self.new.epoch ≡ self.old.epoch) }
@@ -143,7 +146,50 @@ impl<D: Disk> Store<D> {
         ensures given { self.new.given ≡ self.old.given }
         ensures sizes { (self.new.journal_pages ≡ self.old.journal_pages) × (self.new.checkpoint_pages ≡ self.old.checkpoint_pages) }
         // It refuses exactly where there is a cause; and where there is none, for want of memory, or where the disk failed in this call.
-        ensures refused { MatchResult result (λ _. commit_refusal self.old commands.now ≡ None) (MayRefuseCommit (commit_refusal self.old commands.now)) }
+        ensures refused { MatchResult result (λ _. commit_refusal self.old groups.now ≡ None) (MayRefuseCommit (commit_refusal self.old groups.now)) }
+        ensures same { IfErr result (λ refusal. refusal ≢ device → self.new ≡ self.old) }
+        ensures failed { IfErr result (λ refusal. refusal ≡ device → Rose (D.failures self.old.disk) (D.failures self.new.disk)) }
+        // The count rises by one where that is told, and else not at all: no failure is passed over.
+        ensures counted { D.failures self.new.disk ≡ failures_told result (D.failures self.old.disk) }
+        ensures breaks { IfErr result (λ refusal. refusal ≡ device → self.new.broken ≡ true) }
+        ensures kept { OnErr result ((self.new.network ≡ self.old.network) × (self.new.version ≡ self.old.version)) }
+        ensures kept_pages { OnErr result ((self.new.unchecked ≡ self.old.unchecked) × (self.new.going ≡ self.old.going)) }
+        ensures adds_nothing { self.old.broken ≡ true → AddsNothing D.moment D.left_since self.old.disk self.new.disk }
+        // A stop at any moment of the call, or after it, leaves what stands for the network before the groups, or after them.
+        ensures any_moment { CameTidy D.honest D.content self.old.given → self.old.broken ≡ false → LeavesOnly D.moment D.left_since self.old.disk self.new.disk (IsDurableOrAfter self.old groups.now) }
+        ensures in_flight { CameTidy D.honest D.content self.old.given → self.old.broken ≡ false → (c : List ℕ) → D.left self.new.disk c → IsDurableOrAfter self.old groups.now c }
+        // Where the disk failed in it, these groups are in flight.
+        ensures failed_in_flight { IfErr result (λ refusal. refusal ≡ device → self.new.in_flight ≡ groups.now) }
+        ensures none_in_flight { OnOk result (self.new.in_flight ≡ []) }
+        // After Ok it leaves the content alone, which stands for the network after them.
+        ensures only { D.honest self.old.disk → OnOk result (Only (D.content self.new.disk) (D.left self.new.disk)) }
+        ensures durable { CameTidy D.honest D.content self.old.given → OnOk result ((c : List ℕ) → D.left self.new.disk c → IsDurable self.new c) }
+        ensures honest { D.honest self.new.disk ↔ D.honest self.old.disk }
+    {
+        let made = self.pages.commit_groups(groups);
+        let failed = has_failed(&made);
+        self.in_flight = self.in_flight.after(&Made { groups, failed });
+        made
+    }
+
+    /// As `commit_groups`, of commands each of which is a group of its own: n commands are n versions. All of them take place or none.
+    ///
+    /// In a new store of `examples/six.gr`, `Close { arc: 7 }` and `Set { arc: 8, length: 4 }` answer 2.
+    pub fn commit(&mut self, commands: &[Command]) -> Result<u64, Refusal>
+        requires some { 1 ≤ length commands.now }
+        requires few { length commands.now ≤ most_commands }
+        // At Ok the commands are carried out, each counted, and one page more is unchecked.
+        ensures version { IfOk result (λ version. (version ≡ self.new.version) × (version ≡ self.old.version + length commands.now)) }
+        ensures network { OnOk result (after self.old.network (alone commands.now) ≡ Some self.new.network) }
+        ensures unchecked { OnOk result (self.new.unchecked ≡ self.old.unchecked + 1) }
+        ensures works { OnOk result (self.new.broken ≡ false) }
+        ensures slot { (self.new.slot ≡ self.old.slot) × (self.new.epoch ≡ self.old.epoch) }
+        // A checkpoint that is going goes on, and counts the page.
+        ensures going { OnOk result (self.new.going ≡ option_map with_page_committed self.old.going) }
+        ensures given { self.new.given ≡ self.old.given }
+        ensures sizes { (self.new.journal_pages ≡ self.old.journal_pages) × (self.new.checkpoint_pages ≡ self.old.checkpoint_pages) }
+        // It refuses exactly where there is a cause; and where there is none, for want of memory, or where the disk failed in this call.
+        ensures refused { MatchResult result (λ _. commit_refusal self.old (alone commands.now) ≡ None) (MayRefuseCommit (commit_refusal self.old (alone commands.now))) }
         ensures same { IfErr result (λ refusal. refusal ≢ device → self.new ≡ self.old) }
         ensures failed { IfErr result (λ refusal. refusal ≡ device → Rose (D.failures self.old.disk) (D.failures self.new.disk)) }
         // The count rises by one where that is told, and else not at all: no failure is passed over.
@@ -153,24 +199,22 @@ impl<D: Disk> Store<D> {
         ensures kept_pages { OnErr result ((self.new.unchecked ≡ self.old.unchecked) × (self.new.going ≡ self.old.going)) }
         ensures adds_nothing { self.old.broken ≡ true → AddsNothing D.moment D.left_since self.old.disk self.new.disk }
         // A stop at any moment of the call, or after it, leaves what stands for the network before the commands, or after them.
-        ensures any_moment { CameTidy D.honest D.content self.old.given → self.old.broken ≡ false → LeavesOnly D.moment D.left_since self.old.disk self.new.disk (IsDurableOrAfter self.old commands.now) }
-        ensures in_flight { CameTidy D.honest D.content self.old.given → self.old.broken ≡ false → (c : List ℕ) → D.left self.new.disk c → IsDurableOrAfter self.old commands.now c }
+        ensures any_moment { CameTidy D.honest D.content self.old.given → self.old.broken ≡ false → LeavesOnly D.moment D.left_since self.old.disk self.new.disk (IsDurableOrAfter self.old (alone commands.now)) }
+        ensures in_flight { CameTidy D.honest D.content self.old.given → self.old.broken ≡ false → (c : List ℕ) → D.left self.new.disk c → IsDurableOrAfter self.old (alone commands.now) c }
         // Where the disk failed in it, these commands are in flight.
-        ensures failed_in_flight { IfErr result (λ refusal. refusal ≡ device → self.new.in_flight ≡ commands.now) }
+        ensures failed_in_flight { IfErr result (λ refusal. refusal ≡ device → self.new.in_flight ≡ (alone commands.now)) }
         ensures none_in_flight { OnOk result (self.new.in_flight ≡ []) }
         // After Ok it leaves the content alone, which stands for the network after them.
         ensures only { D.honest self.old.disk → OnOk result (Only (D.content self.new.disk) (D.left self.new.disk)) }
         ensures durable { CameTidy D.honest D.content self.old.given → OnOk result ((c : List ℕ) → D.left self.new.disk c → IsDurable self.new c) }
         ensures honest { D.honest self.new.disk ↔ D.honest self.old.disk }
     {
-        let made = self.pages.commit(commands);
-        let failed = has_failed(&made);
-        self.in_flight = self.in_flight.after(&Made { commands, failed });
-        made
+        let groups = groups_of(commands);
+        self.commit_groups(&groups[..commands.len()])
     }
 
     /// Writes a part of a checkpoint: of the one that is going, or else of one that begins. A checkpoint holds the network as it was when it
-    /// began, and goes to the slot that is not current. At most so many word pages, 1 to 64, are written. Answers `Going` where some are
+    /// began, and goes to the slot that is not current. At most so many word pages and end pages, 1 to 64, are written. Answers `Going` where some are
     /// left then. Else the slot is current, only the pages of the journal committed since the checkpoint began are unchecked, and it
     /// answers `Done` with the version that the checkpoint holds. Where none is going and no page is unchecked, nothing is done.
     ///

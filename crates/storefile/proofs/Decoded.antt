@@ -1,10 +1,11 @@
 -- What a decoder tells of a page is what is found in it.
 use Rattle.std.proofs.Common.{◌≡◌, ℕ, ◌^◌, ◌<◌, List, Option, Some, None, refl}
 use Rattle.pages.specs.declared.header.Header.{Header}
+use Rattle.pages.specs.declared.content.Format.{Format}
 use Rattle.pages.specs.declared.content.Ends.{Ends}
 use Rattle.pages.specs.declared.content.Word.{Word}
 use Rattle.pages.specs.Contents.{Head, Entry}
-use Rattle.pages.specs.Spelling.{Decodes, SpelledHeader, SpelledArcs, SpelledWords, SpelledHead, SpelledEntry}
+use Rattle.pages.specs.Spelling.{Decodes, IsHeader, SpelledHeader, SpelledArcs, SpelledWords, SpelledHead, SpelledEntry}
 use Rattle.pages.proofs.Records.{IsBytes}
 use Rattle.storefile.specs.Judging.{header_in, arcs_in, words_in, head_in, entry_in}
 use Rattle.storefile.proofs.Opened.{header_found, arcs_found, words_found, head_found, entry_found}
@@ -25,8 +26,8 @@ decoded_arcs nodes count page decoded lt tells = told (SpelledArcs nodes count p
 pub decoded_words : (count : ℕ) (page : List ℕ) (decoded : Option (List Word)) → IsBytes page → Decodes (SpelledWords count page) decoded → words_in count page ≡ decoded
 decoded_words count page decoded is tells = told (SpelledWords count page) (words_in count page) decoded (words_found count page) (words_spelled count page) tells
 
-pub decoded_head : (nodes : ℕ) (page : List ℕ) (decoded : Option Head) → nodes < 2 ^ 32 → Decodes (SpelledHead nodes page) decoded → head_in nodes page ≡ decoded
-decoded_head nodes page decoded lt tells = told (SpelledHead nodes page) (head_in nodes page) decoded (λ x s. head_found nodes page x lt s) (head_spelled nodes page) tells
+pub decoded_head : (h : Header) (page : List ℕ) (decoded : Option Head) → IsHeader h → Decodes (SpelledHead h page) decoded → head_in h page ≡ decoded
+decoded_head h page decoded ok tells = told (SpelledHead h page) (head_in h page) decoded (λ x s. head_found h page x ok s) (head_spelled h page) tells
 
-pub decoded_entry : (page : List ℕ) (decoded : Option Entry) → IsBytes page → Decodes (SpelledEntry page) decoded → entry_in page ≡ decoded
-decoded_entry page decoded is tells = told (SpelledEntry page) (entry_in page) decoded (entry_found page) (entry_spelled page) tells
+pub decoded_entry : (f : Format) (page : List ℕ) (decoded : Option Entry) → Decodes (SpelledEntry f page) decoded → entry_in f page ≡ decoded
+decoded_entry f page decoded tells = told (SpelledEntry f page) (entry_in f page) decoded (entry_found f page) (entry_spelled f page) tells

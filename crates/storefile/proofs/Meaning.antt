@@ -11,12 +11,15 @@ use Rattle.roadnet.specs.Step.{after}
 use Rattle.pages.specs.declared.header.Header.{Header}
 use Rattle.pages.specs.declared.content.Slot.{Slot}
 use Rattle.pages.specs.Contents.{Entry}
-use Rattle.pages.specs.Spelling.{body, zeros, page_of, entry_fields, entry_page, IsRecord, IsEntry, SpelledEntry, IsHeader}
-use Rattle.pages.specs.Layout.{page_count}
+use Rattle.pages.specs.Spelling.{body, zeros, page_of, entry_page, AreRecords, IsEntry, SpelledEntry, IsHeader}
+use Rattle.pages.specs.declared.content.Format.{Format}
+use Rattle.pages.specs.declared.content.Format.TheVariants.{Two}
+use Rattle.pages.specs.Grouping.{records_in}
+use Rattle.pages.specs.Layout.{slot_pages, page_count}
 use Rattle.pages.proofs.Padding.{length-zeros}
-use Rattle.pages.proofs.Entries.{length-fields, entry_read}
+use Rattle.pages.proofs.Entries.{fields_of, length-fields, entry_read}
 use Rattle.storefile.specs.StoreFile.{page, is_open, first_field, is_standing, journal_page_at, StandsTidyBy}
-use Rattle.storefile.specs.Standing.{IsStoredAs, IsTidyAt, IsBeforeOrAfter, with_commands}
+use Rattle.storefile.specs.Standing.{IsStoredAs, IsTidyAt, IsBeforeOrAfter, with_groups}
 use Rattle.storefile.proofs.PageBytes.{shut_gate, body_front, gate_behind, written_outside, written_page}
 use Rattle.storefile.proofs.JournalWrite.{closed_page, open_page, this_one}
 
@@ -38,24 +41,24 @@ stands_at : (p : List ℕ) (q : ℕ) → is_open p ≡ true → first_field p �
 stands_at p q opened first = rw opened (this_one (first_field p) q first)
 
 -- a journal page that is written at the place of this sequence, by its body
-pub record IsPage (version next : ℕ) (commands : List Command) (b : List ℕ) : Type 0 where
-  pub fits : IsEntry (record { sequence = next; first_number = version + 1; commands = commands })
-  pub is : b ≡ body (entry_page (record { sequence = next; first_number = version + 1; commands = commands }))
-  pub versions : version + length commands ≤ 2 ^ 48
+pub record IsPage (version next : ℕ) (groups : List (List Command)) (b : List ℕ) : Type 0 where
+  pub fits : IsEntry Two (record { sequence = next; first_number = version + 1; groups = groups })
+  pub is : b ≡ body (entry_page (record { sequence = next; first_number = version + 1; groups = groups }))
+  pub versions : version + length groups ≤ 2 ^ 48
 
-pub page_size : (version next : ℕ) (commands : List Command) (b : List ℕ) → IsPage version next commands b → length b ≡ 4095
-page_size version next commands b wrote =
-    let e : Entry = record { sequence = next; first_number = version + 1; commands = commands } in
-    let few : length (entry_fields e) ≤ 4095 = length-fields e wrote.fits.commands_to in
-    ap length wrote.is ∙ length-body (entry_page e) (length-page_of (entry_fields e) (omega (arith, few)))
+pub page_size : (version next : ℕ) (groups : List (List Command)) (b : List ℕ) → IsPage version next groups b → length b ≡ 4095
+page_size version next groups b wrote =
+    let e : Entry = record { sequence = next; first_number = version + 1; groups = groups } in
+    let few : length (fields_of next (version + 1) (records_in groups)) ≤ 4095 = length-fields next (version + 1) (records_in groups) wrote.fits.records.few in
+    ap length wrote.is ∙ length-body (entry_page e) (length-page_of (fields_of next (version + 1) (records_in groups)) (omega (arith, few)))
 
-pub is_page : (version next : ℕ) (commands : List Command) → version + length commands ≤ 2 ^ 48 → next ≤ version → 1 ≤ length commands → length commands ≤ 253 → AllByRecursion IsRecord commands
-    → IsPage version next commands (body (entry_page (record { sequence = next; first_number = version + 1; commands = commands })))
-is_page version next commands versions le some few each =
-    record { fits = record { sequence_fits = omega arith; number_fits = omega arith; some_command = some; commands_to = few; each = each }; is = refl; versions = versions }
+pub is_page : (version next : ℕ) (groups : List (List Command)) → version + length groups ≤ 2 ^ 48 → next ≤ version → AllByRecursion (λ group. 1 ≤ length group) groups → AreRecords Two (records_in groups)
+    → IsPage version next groups (body (entry_page (record { sequence = next; first_number = version + 1; groups = groups })))
+is_page version next groups versions le some records =
+    record { fits = record { sequence_fits = omega arith; number_fits = omega arith; groups = some; records = records }; is = refl; versions = versions }
 
 -- the page that is written, whatever stands beside it
-module _ (old : List ℕ) (h : Header) (version next : ℕ) (commands : List Command) (b : List ℕ) (header : IsHeader h) (size : length old ≡ 4096 * page_count h) (wrote : IsPage version next commands b) where
+module _ (old : List ℕ) (h : Header) (version next : ℕ) (commands : List (List Command)) (b : List ℕ) (header : IsHeader h) (today : h.format ≡ Two) (size : length old ≡ 4096 * page_count h) (wrote : IsPage version next commands b) where
   fits_in : 4096 * journal_page_at h next + 4096 ≤ length old
   fits_in = page_within h next (length old) header size
 
@@ -68,14 +71,15 @@ module _ (old : List ℕ) (h : Header) (version next : ℕ) (commands : List Com
   the_page : page (with_page old (4096 * journal_page_at h next) b) (journal_page_at h next) ≡ b ++ 165 ∷ []
   the_page = written_page (journal_page_at h next) old (b ++ 165 ∷ []) fits_in fills
 
-  pub page_spells : SpelledEntry (page (with_page old (4096 * journal_page_at h next) b) (journal_page_at h next)) (record { sequence = next; first_number = version + 1; commands = commands })
-  page_spells = record { fits = wrote.fits; spelled = ap body the_page ∙ body_front b 165 (page_size version next commands b wrote) ∙ wrote.is }
+  pub page_spells : SpelledEntry h.format (page (with_page old (4096 * journal_page_at h next) b) (journal_page_at h next)) (record { sequence = next; first_number = version + 1; groups = commands })
+  page_spells = subst (λ (f : Format). SpelledEntry f (page (with_page old (4096 * journal_page_at h next) b) (journal_page_at h next)) (record { sequence = next; first_number = version + 1; groups = commands })) (sym today)
+      (record { fits = wrote.fits; spelled = ap body the_page ∙ body_front b 165 (page_size version next commands b wrote) ∙ wrote.is })
 
   pub page_stands : is_standing (page (with_page old (4096 * journal_page_at h next) b)) h next ≡ true
   page_stands = stands_at (page (with_page old (4096 * journal_page_at h next) b) (journal_page_at h next)) next (ap is_open the_page ∙ gate_behind b (page_size version next commands b wrote))
-      (entry_read (page (with_page old (4096 * journal_page_at h next) b) (journal_page_at h next)) (record { sequence = next; first_number = version + 1; commands = commands }) page_spells).sequence
+      (entry_read h.format (page (with_page old (4096 * journal_page_at h next) b) (journal_page_at h next)) (record { sequence = next; first_number = version + 1; groups = commands }) page_spells).sequence
 
-module _ (old : List ℕ) (h : Header) (slot : Slot) (epoch : ℕ) (net net' : Net) (version next unchecked : ℕ) (commands : List Command) (b : List ℕ)
+module _ (old : List ℕ) (h : Header) (slot : Slot) (epoch : ℕ) (net net' : Net) (version next unchecked : ℕ) (commands : List (List Command)) (b : List ℕ)
     (held : IsStoredAs old h slot epoch net version next unchecked) (tidy : IsTidyAt old h next) (room : unchecked < h.journal_pages) (wrote : IsPage version next commands b) (goes : after net commands ≡ Some net') where
   at : ℕ
   at = journal_page_at held.stored.header next
@@ -95,6 +99,9 @@ module _ (old : List ℕ) (h : Header) (slot : Slot) (epoch : ℕ) (net net' : N
   same_pages : held.stored.header.journal_pages ≡ h.journal_pages
   same_pages = ap (λ (x : Header). x.journal_pages) held.header_is
 
+  same_slots : slot_pages held.stored.header ≡ slot_pages h
+  same_slots = ap slot_pages held.header_is
+
   within : 4096 * journal_page_at held.stored.header next + 4096 ≤ length old
   within = page_within held.stored.header next (length old) held.stands.is.header.fits held.stands.is.size_is
 
@@ -109,21 +116,23 @@ module _ (old : List ℕ) (h : Header) (slot : Slot) (epoch : ℕ) (net net' : N
       closed_page old c held.stored net version next tidy_by has_room there.outside (shut_gate (journal_page_at held.stored.header next) (4096 * journal_page_at held.stored.header next) 4096 old c there)
 
   -- written whole: the file stands for the network after the commands
-  pub stands_more : StandsTidyBy (with_page old (4096 * journal_page_at h next) b) (with_commands held.stored commands) net' (version + length commands) (next + 1)
+  pub stands_more : StandsTidyBy (with_page old (4096 * journal_page_at h next) b) (with_groups held.stored commands) net' (version + length commands) (next + 1)
   stands_more =
       let k : ℕ = journal_page_at held.stored.header next in
       let new : page (with_page old (4096 * journal_page_at held.stored.header next) b) (journal_page_at held.stored.header next) ≡ b ++ 165 ∷ [] = written_page (journal_page_at held.stored.header next) old (b ++ 165 ∷ []) within whole in
       let outside : SameOutside (4096 * journal_page_at held.stored.header next) 4096 old (with_page old (4096 * journal_page_at held.stored.header next) b) = written_outside (journal_page_at held.stored.header next) old (b ++ 165 ∷ []) within whole in
-      let spells : SpelledEntry (page (with_page old (4096 * journal_page_at held.stored.header next) b) (journal_page_at held.stored.header next)) (record { sequence = next; first_number = version + 1; commands = commands }) =
-      record { fits = wrote.fits; spelled = ap body new ∙ body_front b 165 long ∙ wrote.is } in
-      subst (λ (j : ℕ). StandsTidyBy (with_page old (4096 * j) b) (with_commands held.stored commands) net' (version + length commands) (next + 1)) place
+      let spells : SpelledEntry held.stored.header.format (page (with_page old (4096 * journal_page_at held.stored.header next) b) (journal_page_at held.stored.header next)) (record { sequence = next; first_number = version + 1; groups = commands }) =
+      subst (λ (f : Format). SpelledEntry f (page (with_page old (4096 * journal_page_at held.stored.header next) b) (journal_page_at held.stored.header next)) (record { sequence = next; first_number = version + 1; groups = commands })) (sym held.format_is)
+      (record { fits = wrote.fits; spelled = ap body new ∙ body_front b 165 long ∙ wrote.is }) in
+      subst (λ (j : ℕ). StandsTidyBy (with_page old (4096 * j) b) (with_groups held.stored commands) net' (version + length commands) (next + 1)) place
       (open_page old (with_page old (4096 * journal_page_at held.stored.header next) b) held.stored net net' version next commands tidy_by has_room outside (ap is_open new ∙ gate_behind b long) spells wrote.versions goes)
 
   pub stored_more : IsStoredAs (with_page old (4096 * journal_page_at h next) b) h slot epoch net' (version + length commands) (next + 1) (unchecked + 1)
   stored_more = record {
-    stored = with_commands held.stored commands;
+    stored = with_groups held.stored commands;
     stands = stands_more.stands;
     header_is = held.header_is;
+    format_is = held.format_is;
     slot_is = held.slot_is;
     epoch_is = held.epoch_is;
     unchecked_is = omega (arith, held.unchecked_is, length-append held.stored.unchecked (commands ∷ []));
@@ -133,18 +142,18 @@ module _ (old : List ℕ) (h : Header) (slot : Slot) (epoch : ℕ) (net net' : N
   tidy_more = subst (λ (x : Header). IsTidyAt (with_page old (4096 * journal_page_at h next) b) x (next + 1)) held.header_is stands_more.tidy
 
   -- what a stop leaves
-  pub before_or_after : (c : List ℕ) → IsWholeOrShut old (4096 * journal_page_at h next) b c → IsBeforeOrAfter h.journal_pages net version commands c
+  pub before_or_after : (c : List ℕ) → IsWholeOrShut old (4096 * journal_page_at h next) b c → IsBeforeOrAfter h.journal_pages (slot_pages h) net version commands c
   before_or_after c way = ⊎_elim
-      (λ shut. inl (held.stored, next, stays c shut, same_pages))
+      (λ shut. inl (held.stored, next, stays c shut, same_pages, same_slots, held.format_is))
       (λ whole_way. ⊎_elim
-      (λ same. inl (held.stored, next, subst (λ (d : List ℕ). StandsTidyBy d held.stored net version next) (sym same) tidy_by, same_pages))
-      (λ new. inr (net', goes, (with_commands held.stored commands, next + 1, subst (λ (d : List ℕ). StandsTidyBy d (with_commands held.stored commands) net' (version + length commands) (next + 1)) (sym new) stands_more, same_pages)))
+      (λ same. inl (held.stored, next, subst (λ (d : List ℕ). StandsTidyBy d held.stored net version next) (sym same) tidy_by, same_pages, same_slots, held.format_is))
+      (λ new. inr (net', goes, (with_groups held.stored commands, next + 1, subst (λ (d : List ℕ). StandsTidyBy d (with_groups held.stored commands) net' (version + length commands) (next + 1)) (sym new) stands_more, same_pages, same_slots, held.format_is)))
       whole_way)
       way
 
 -- a store at rest, before a commit's first call
-pub rests : (content : List ℕ) (left : List ℕ → Type 0) (h : Header) (slot : Slot) (epoch : ℕ) (net : Net) (version next unchecked : ℕ) (commands : List Command) → Only content left → IsStoredAs content h slot epoch net version next unchecked
-    → IsTidyAt content h next → (c : List ℕ) → left c → IsBeforeOrAfter h.journal_pages net version commands c
+pub rests : (content : List ℕ) (left : List ℕ → Type 0) (h : Header) (slot : Slot) (epoch : ℕ) (net : Net) (version next unchecked : ℕ) (commands : List (List Command)) → Only content left → IsStoredAs content h slot epoch net version next unchecked
+    → IsTidyAt content h next → (c : List ℕ) → left c → IsBeforeOrAfter h.journal_pages (slot_pages h) net version commands c
 rests content left h slot epoch net version next unchecked commands only held tidy c was =
     inl (
       held.stored,
@@ -152,4 +161,6 @@ rests content left h slot epoch net version next unchecked commands only held ti
       subst (λ (d : List ℕ). StandsTidyBy d held.stored net version next) (sym (only c was))
           (record { stands = held.stands; tidy = subst (λ (x : Header). IsTidyAt content x next) (sym held.header_is) tidy }),
       ap (λ (x : Header). x.journal_pages) held.header_is,
+      ap slot_pages held.header_is,
+      held.format_is,
     )

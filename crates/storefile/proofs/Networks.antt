@@ -1,13 +1,13 @@
 -- What a file stores is a network.
-use Rattle.std.proofs.Common.{◌≡◌, ℕ, zero, suc, ◌+◌, ◌*◌, ◌/◌, ◌<◌, ◌≤◌, List, [], ◌∷◌, ◌++◌, length, take, drop, sym, ap, subst, ◌∙◌, arith, map}
+use Rattle.std.proofs.Common.{◌≡◌, ℕ, zero, suc, ◌+◌, ◌-◌, ◌*◌, ◌/◌, ◌<◌, ◌≤◌, List, [], ◌∷◌, ◌++◌, length, take, drop, sym, ap, subst, ◌∙◌, arith, map}
 use Rattle.std.specs.List.{All, AllByRecursion}
-use Rattle.std.proofs.lemmas.List.{drop-drop, drop_all, take-append-drop}
+use Rattle.std.proofs.lemmas.List.{drop-drop, drop_all, take-append-drop, length-take, length-drop}
 use Rattle.std.proofs.lemmas.List.Elements.{All-from_recursion}
 use Rattle.roadnet.specs.declared.arcs.RoadArc.{RoadArc}
 use Rattle.roadnet.specs.Net.{IsArcAmong}
 use Rattle.roadnet.proofs.Kept.{after_is_network}
 use Rattle.pages.specs.Spelling.{IsEnds, IsWord, ends_of, word_of}
-use Rattle.storefile.specs.StoreFile.{page, part, commands_of}
+use Rattle.storefile.specs.StoreFile.{page, part, groups_of}
 use Rattle.storefile.specs.Laws.{StoresNetworks, StandsForNetworks}
 
 all_append : {X : Type 0} (P : X → Type 0) (xs ys : List X) → AllByRecursion P xs → AllByRecursion P ys → AllByRecursion P (xs ++ ys)
@@ -37,16 +37,23 @@ are_arcs nodes (arc ∷ arcs) he hw =
 
 pub stores_networks : StoresNetworks
 stores_networks size pages s is =
+    let room : length s.network.arcs ≤ s.header.room = is.held.head_is.fits.arcs.1 in
+    let first : AllByRecursion (λ arc. IsEnds s.header.nodes (ends_of arc)) (take s.header.arcs s.network.arcs) =
+    all_parts (λ arc. IsEnds s.header.nodes (ends_of arc)) 511 (take s.header.arcs s.network.arcs) ((s.header.arcs + 510) / 511) 0
+    (λ j le lt. from_map ends_of (IsEnds s.header.nodes) (part 511 j (take s.header.arcs s.network.arcs)) (is.arcs.each j (omega (arith, lt))).fits) (omega (arith, length-take s.header.arcs s.network.arcs)) in
+    let laid : AllByRecursion (λ arc. IsEnds s.header.nodes (ends_of arc)) (drop s.header.arcs s.network.arcs) =
+    all_parts (λ arc. IsEnds s.header.nodes (ends_of arc)) 511 (drop s.header.arcs s.network.arcs) ((s.header.room - s.header.arcs + 510) / 511) 0
+    (λ j le lt. from_map ends_of (IsEnds s.header.nodes) (part 511 j (drop s.header.arcs s.network.arcs)) (is.held.ends j (omega (arith, lt))).fits) (omega (arith, room, length-drop s.header.arcs s.network.arcs)) in
     let ends : AllByRecursion (λ arc. IsEnds s.header.nodes (ends_of arc)) s.network.arcs =
-    all_parts (λ arc. IsEnds s.header.nodes (ends_of arc)) 511 s.network.arcs ((s.header.arcs + 510) / 511) 0
-    (λ j le lt. from_map ends_of (IsEnds s.header.nodes) (part 511 j s.network.arcs) (is.arcs.each j (omega (arith, lt))).fits) (omega (arith, is.arcs.count_is)) in
+    subst (AllByRecursion (λ arc. IsEnds s.header.nodes (ends_of arc))) (take-append-drop s.header.arcs s.network.arcs) (all_append (λ arc. IsEnds s.header.nodes (ends_of arc)) (take s.header.arcs s.network.arcs) (drop s.header.arcs s.network.arcs) first laid) in
     let words : AllByRecursion (λ arc. IsWord (word_of arc)) s.network.arcs =
-    all_parts (λ arc. IsWord (word_of arc)) 1023 s.network.arcs ((s.header.arcs + 1022) / 1023) 0
-    (λ j le lt. from_map word_of IsWord (part 1023 j s.network.arcs) (is.held.words j (omega (arith, lt))).fits) (omega (arith, is.arcs.count_is)) in
+    all_parts (λ arc. IsWord (word_of arc)) 1023 s.network.arcs ((s.header.room + 1022) / 1023) 0
+    (λ j le lt. from_map word_of IsWord (part 1023 j s.network.arcs) (is.held.words j (omega (arith, lt))).fits) (omega (arith, room)) in
     record {
       some_node = omega (arith, is.arcs.nodes_are, is.header.fits.some_node);
       nodes_to = omega (arith, is.arcs.nodes_are, is.header.fits.nodes_to);
-      arcs_to = omega (arith, is.arcs.count_is, is.header.fits.arcs_to);
+      arcs_to = omega (arith, is.arcs.room_is, room);
+      room_to = omega (arith, is.arcs.room_is, is.header.fits.room_to);
       each_arc = subst (λ (n : ℕ). All (IsArcAmong n) s.network.arcs) (sym is.arcs.nodes_are) (All-from_recursion (IsArcAmong s.header.nodes) s.network.arcs (are_arcs s.header.nodes s.network.arcs ends words));
       each_landmark = subst (λ (n : ℕ). All (λ (x : ℕ). (1 ≤ x) × (x ≤ n)) s.network.landmarks) (sym is.arcs.nodes_are) (All-from_recursion (λ (x : ℕ). (1 ≤ x) × (x ≤ s.header.nodes)) s.network.landmarks is.held.head_is.fits.each);
       ascending = is.held.head_is.fits.ascending;
@@ -54,4 +61,4 @@ stores_networks size pages s is =
     }
 
 pub stands_for_networks : StandsForNetworks
-stands_for_networks file net v q a = (after_is_network a.0.network net (commands_of a.0) (stores_networks (length file) (page file) a.0 a.1.is) a.1.gives.network, omega (arith, a.1.gives.version_is, a.1.is.versions_to))
+stands_for_networks format file net v q a = (after_is_network a.0.network net (groups_of a.0) (stores_networks (length file) (page file) a.0 a.1.is) a.1.gives.network, omega (arith, a.1.gives.version_is, a.1.is.versions_to))

@@ -1,11 +1,11 @@
 -- A file that stores something is opened, with that.
-use Rattle.std.proofs.Common.{◌≡◌, ℕ, zero, suc, ◌+◌, ◌*◌, ◌^◌, ◌≤◌, ◌<◌, Bool, true, false, cond, List, [], ◌∷◌, ◌++◌, length, take, drop, Option, Some, None, Result, Ok, Err, refl, sym, ap, subst, ◌∙◌, arith, eq-eqb}
+use Rattle.std.proofs.Common.{◌≡◌, ℕ, zero, suc, ◌+◌, ◌-◌, ◌*◌, ◌^◌, ◌≤◌, ◌<◌, Bool, true, false, cond, List, [], ◌∷◌, ◌++◌, length, take, drop, Option, Some, None, Result, Ok, Err, refl, sym, ap, subst, ◌∙◌, arith, eq-eqb}
 use Rattle.std.specs.Prelude.{nat_le, nat_lt, ◌&&◌, ◌==◌, map, codes, option_and_then}
 use Rattle.std.specs.List.{zip, flat_map}
 use Rattle.std.specs.Str.{bytes_eq}
 use Rattle.std.proofs.lemmas.Bool.Decides.{nat_tests}
 use Rattle.std.proofs.lemmas.Bool.{le-leb}
-use Rattle.std.proofs.lemmas.List.{drop-drop, drop_all, take-append-drop, length-append, length-map, take-map}
+use Rattle.std.proofs.lemmas.List.{drop-drop, drop_all, take-append-drop, map-append, length-append, length-map, length-take, length-drop, take-map}
 use Rattle.byteorder.specs.Endian.{big_number, big_bytes}
 use Rattle.byteorder.specs.Numbers.{big_number-reads_back}
 use Rattle.roadnet.specs.declared.arcs.RoadArc.{RoadArc}
@@ -18,10 +18,13 @@ use Rattle.pages.specs.declared.header.Header.{Header}
 use Rattle.pages.specs.declared.content.Slot.{Slot}
 use Rattle.pages.specs.declared.content.Slot.TheVariants.{A, B}
 use Rattle.pages.specs.Contents.{Entry}
-use Rattle.pages.specs.Spelling.{header_fields, ends_of, word_of}
-use Rattle.pages.specs.Layout.{places_in_use, arc_pages, word_pages, head_page_at, page_count}
-use Rattle.storefile.proofs.Names.{arc_page_at, word_page_at}
-use Rattle.storefile.specs.StoreFile.{part, is_open, journal_page_at, Stored, commands_of, first_field, is_standing, IsCurrent, HoldsJournal, Stores}
+use Rattle.pages.specs.Spelling.{header_fields, SpelledHeader, ends_of, word_of}
+use Rattle.pages.specs.declared.content.Format.{Format}
+use Rattle.pages.specs.declared.content.Format.TheVariants.{One, Two}
+use Rattle.pages.specs.Formats.{number_of, room_field}
+use Rattle.pages.specs.Layout.{places_in_use, arc_pages, word_pages, end_pages, head_page_at, page_count}
+use Rattle.storefile.proofs.Names.{arc_page_at, word_page_at, end_page_at}
+use Rattle.storefile.specs.StoreFile.{part, is_open, journal_page_at, head_of, Stored, groups_of, first_field, is_standing, IsCurrent, HoldsJournal, Stores}
 use Rattle.storefile.specs.Judging.{all_spelled, current_slot, ◌>>=◌, arc_from, header_in, arcs_in, words_in, head_in, entry_in, journal_from, opened_from}
 use Rattle.pages.proofs.Padding.{begins}
 use Rattle.storefile.proofs.Opened.{and_true, same_bytes, header_found, arcs_found, words_found, head_found, entry_found}
@@ -74,14 +77,14 @@ arcs_joined (arc ∷ arcs) = ap (λ xs. arc ∷ xs) (arcs_joined arcs)
 
 -- ---- the journal
 
-first_defined : (o : Option Net) (ds : List Command) (final : Net) → option_and_then (λ next. after next ds) o ≡ Some final → (next : Net) × (o ≡ Some next) × (after next ds ≡ Some final)
+first_defined : (o : Option Net) (ds : List (List Command)) (final : Net) → option_and_then (λ next. after next ds) o ≡ Some final → (next : Net) × (o ≡ Some next) × (after next ds ≡ Some final)
 first_defined None ds final e = absurd cc
 first_defined (Some next) ds final e = (next, refl, e)
 
 some_same : (a b : Net) → after a [] ≡ Some b → a ≡ b
 some_same a b e = cc
 
-pub journal_found : (pages : ℕ → List ℕ) (h : Header) (most q v : ℕ) (net final : Net) (css : List (List Command)) → HoldsJournal pages h q v css → length css ≤ most
+pub journal_found : (pages : ℕ → List ℕ) (h : Header) (most q v : ℕ) (net final : Net) (css : List (List (List Command))) → HoldsJournal pages h q v css → length css ≤ most
     → (length css < most → is_standing pages h (q + length css) ≡ false) → after net (flat_map (λ cs. cs) css) ≡ Some final → v + length (flat_map (λ cs. cs) css) ≤ 2 ^ 48
     → journal_from pages h most q v net ≡ Ok (css, final)
 journal_found pages h zero q v net final [] holds few longest done fits = ap (λ (n : Net). Ok ([], n)) (some_same net final done)
@@ -91,9 +94,9 @@ journal_found pages h (suc most) q v net final [] holds few longest done fits =
     let stops : is_standing pages h q ≡ false = subst (λ (k : ℕ). is_standing pages h k ≡ false) e (longest (omega arith)) in
     rw stops (ap (λ (n : Net). Ok ([], n)) (some_same net final done))
 journal_found pages h (suc most) q v net final (cs ∷ css) holds few longest done fits =
-    let e : Entry = record { sequence = q; first_number = v + 1; commands = cs } in
+    let e : Entry = record { sequence = q; first_number = v + 1; groups = cs } in
     let stands : is_standing pages h q ≡ true = holds.0 in
-    let found : entry_in (pages (journal_page_at h q)) ≡ Some e = entry_found (pages (journal_page_at h q)) e holds.1 in
+    let found : entry_in h.format (pages (journal_page_at h q)) ≡ Some e = entry_found h.format (pages (journal_page_at h q)) e holds.1 in
     let first : (v + 1 == v + 1) ≡ true = grind (arith, nat_tests) in
     let joined = length-append cs (flat_map (λ xs. xs) css) in
     let version : nat_le (v + length cs) (2 ^ 48) ≡ true = le-leb (v + length cs) (2 ^ 48) (omega (arith, fits, joined)) in
@@ -110,42 +113,63 @@ part-map f zero n xs = sym (take-map f n xs)
 part-map f (suc k) n [] = sym (take-map f n [])
 part-map f (suc k) n (x ∷ xs) = part-map f k n xs
 
-with_arcs : (net : Net) (n : ℕ) (arcs : List RoadArc) → n ≡ net.nodes → arcs ≡ net.arcs → ◌≡◌ {A = Net} (record { nodes = n; arcs = arcs; landmarks = net.landmarks }) net
-with_arcs net n arcs p q = rw (p, q) refl
+with_arcs : (net : Net) (n r : ℕ) (arcs : List RoadArc) → n ≡ net.nodes → r ≡ net.room → arcs ≡ net.arcs → ◌≡◌ {A = Net} (record { nodes = n; arcs = arcs; landmarks = net.landmarks; room = r }) net
+with_arcs net n r arcs p t q = rw (p, t, q) refl
+
+-- the first arcs' ends and the others' are those of all
+pub both_ends : (n : ℕ) (arcs : List RoadArc) → map ends_of (take n arcs) ++ map ends_of (drop n arcs) ≡ map ends_of arcs
+both_ends n arcs = sym (map-append ends_of (take n arcs) (drop n arcs)) ∙ ap (map ends_of) (take-append-drop n arcs)
+
+-- the number of its format is read in a page that spells a header
+pub format_found : (page : List ℕ) (h : Header) → SpelledHeader page h → big_number 4 (drop 8 page) ≡ number_of h.format
+format_found page h spells =
+    let b = begins page (header_fields h) (omega arith) spells.spelled in
+    ap (λ (xs : List ℕ). big_number 4 (drop 8 xs)) b.1
+    ∙ big_number-reads_back 4 (number_of h.format) (big_bytes 4 h.nodes ++ big_bytes 4 h.arcs ++ big_bytes 4 h.journal_pages ++ big_bytes 4 (room_field h.format h.room) ++ b.0) (number_fits h.format)
+  where
+    number_fits : (f : Format) → number_of f < 2 ^ 32
+    number_fits One = omega arith
+    number_fits Two = omega arith
 
 -- one step of opening that is not refused
 passed : {X Y : Type 0} (r : Result X Refusal) (x : X) (f : X → Result Y Refusal) (y : Result Y Refusal) → r ≡ Ok x → f x ≡ y → (r >>= f) ≡ y
 passed r x f y e g = ap (λ t. t >>= f) e ∙ g
 
-pub opened_whole : (size : ℕ) (pages : ℕ → List ℕ) (s : Stored) (final : Net) → Stores size pages s → after s.network (commands_of s) ≡ Some final → opened_from size pages ≡ Ok (s, final)
+pub opened_whole : (size : ℕ) (pages : ℕ → List ℕ) (s : Stored) (final : Net) → Stores size pages s → after s.network (groups_of s) ≡ Some final → opened_from s.header.format size pages ≡ Ok (s, final)
 opened_whole size pages s final is done =
     let h = s.header in
     let net = s.network in
+    let arcs_to : length s.network.arcs ≤ s.header.room = is.held.head_is.fits.arcs.1 in
     let b = begins (pages 0) (header_fields s.header) (omega arith) is.header.spelled in
     let big : 4096 ≤ size = omega (arith, is.size_is, is.header.fits.some_page) in
     let magic : (nat_le 4096 size && bytes_eq (take 8 (pages 0)) (codes "ROADMRK1") && is_open (pages 0)) ≡ true = and_true _ _ (and_true _ _ (le-leb 4096 size big) (same_bytes _ _ (ap (take 8) b.1))) is.opened in
-    let format : big_number 4 (drop 8 (pages 0)) ≡ 1 = ap (λ (xs : List ℕ). big_number 4 (drop 8 xs)) b.1 ∙ big_number-reads_back 4 1 (big_bytes 4 s.header.nodes ++ big_bytes 4 s.header.arcs ++ big_bytes 4 s.header.journal_pages ++ b.0) (omega arith) in
     let head : header_in (pages 0) ≡ Some s.header = header_found (pages 0) s.header is.header in
     let sized : (size == 4096 * page_count s.header) ≡ true = eq-eqb size (4096 * page_count s.header) is.size_is in
-    let one : (big_number 4 (drop 8 (pages 0)) == 1) ≡ true = eq-eqb (big_number 4 (drop 8 (pages 0))) 1 format in
-    let ends : all_spelled (λ i. arcs_in s.header.nodes (places_in_use 511 i s.header.arcs) (pages (arc_page_at i))) arc_page_at 0 (arc_pages s.header) ≡ Ok (map ends_of s.network.arcs) =
-    all_found (λ i. arcs_in s.header.nodes (places_in_use 511 i s.header.arcs) (pages (arc_page_at i))) arc_page_at 511 (map ends_of s.network.arcs) (arc_pages s.header) 0
-    (λ j le lt. arcs_found s.header.nodes (places_in_use 511 j s.header.arcs) (pages (arc_page_at j)) (map ends_of (part 511 j s.network.arcs)) (omega (arith, is.header.fits.nodes_to)) (is.arcs.each j (omega arith))
-    ∙ ap (λ xs. Some xs) (part-map ends_of (511 * j) 511 s.network.arcs))
-    (omega (arith, length-map s.network.arcs ends_of, is.arcs.count_is)) in
+    let one : (big_number 4 (drop 8 (pages 0)) == number_of s.header.format) ≡ true = eq-eqb (big_number 4 (drop 8 (pages 0))) (number_of s.header.format) (format_found (pages 0) s.header is.header) in
+    let ends : all_spelled (λ i. arcs_in s.header.nodes (places_in_use 511 i s.header.arcs) (pages (arc_page_at i))) arc_page_at 0 (arc_pages s.header) ≡ Ok (map ends_of (take s.header.arcs s.network.arcs)) =
+    all_found (λ i. arcs_in s.header.nodes (places_in_use 511 i s.header.arcs) (pages (arc_page_at i))) arc_page_at 511 (map ends_of (take s.header.arcs s.network.arcs)) (arc_pages s.header) 0
+    (λ j le lt. arcs_found s.header.nodes (places_in_use 511 j s.header.arcs) (pages (arc_page_at j)) (map ends_of (part 511 j (take s.header.arcs s.network.arcs))) (omega (arith, is.header.fits.nodes_to)) (is.arcs.each j (omega arith))
+    ∙ ap (λ xs. Some xs) (part-map ends_of (511 * j) 511 (take s.header.arcs s.network.arcs)))
+    (omega (arith, length-map (take s.header.arcs s.network.arcs) ends_of, length-take s.header.arcs s.network.arcs)) in
     let slot : current_slot pages s.header ≡ Ok s.slot = slot_found pages s.header s.slot is.current in
-    let headed : head_in s.header.nodes (pages (head_page_at s.header s.slot)) ≡ Some (record { epoch = s.epoch; version = s.version; next_sequence = s.sequence; landmarks = s.network.landmarks }) =
-    head_found s.header.nodes (pages (head_page_at s.header s.slot)) (record { epoch = s.epoch; version = s.version; next_sequence = s.sequence; landmarks = s.network.landmarks }) (omega (arith, is.header.fits.nodes_to)) is.held.head_is in
-    let words : all_spelled (λ i. words_in (places_in_use 1023 i s.header.arcs) (pages (word_page_at s.header s.slot i))) (word_page_at s.header s.slot) 0 (word_pages s.header) ≡ Ok (map word_of s.network.arcs) =
-    all_found (λ i. words_in (places_in_use 1023 i s.header.arcs) (pages (word_page_at s.header s.slot i))) (word_page_at s.header s.slot) 1023 (map word_of s.network.arcs) (word_pages s.header) 0
-    (λ j le lt. words_found (places_in_use 1023 j s.header.arcs) (pages (word_page_at s.header s.slot j)) (map word_of (part 1023 j s.network.arcs)) (is.held.words j (omega arith))
+    let headed : head_in s.header (pages (head_page_at s.header s.slot)) ≡ Some (head_of s) =
+    head_found s.header (pages (head_page_at s.header s.slot)) (head_of s) is.header.fits is.held.head_is in
+    let words : all_spelled (λ i. words_in (places_in_use 1023 i (length s.network.arcs)) (pages (word_page_at s.header s.slot i))) (word_page_at s.header s.slot) 0 (word_pages s.header) ≡ Ok (map word_of s.network.arcs) =
+    all_found (λ i. words_in (places_in_use 1023 i (length s.network.arcs)) (pages (word_page_at s.header s.slot i))) (word_page_at s.header s.slot) 1023 (map word_of s.network.arcs) (word_pages s.header) 0
+    (λ j le lt. words_found (places_in_use 1023 j (length s.network.arcs)) (pages (word_page_at s.header s.slot j)) (map word_of (part 1023 j s.network.arcs)) (is.held.words j (omega arith))
     ∙ ap (λ xs. Some xs) (part-map word_of (1023 * j) 1023 s.network.arcs))
-    (omega (arith, length-map s.network.arcs word_of, is.arcs.count_is)) in
-    let same = with_arcs s.network s.header.nodes (map arc_from (zip (map ends_of s.network.arcs) (map word_of s.network.arcs))) (sym is.arcs.nodes_are) (arcs_joined s.network.arcs) in
+    (omega (arith, length-map s.network.arcs word_of, arcs_to)) in
+    let laid : all_spelled (λ i. arcs_in s.header.nodes (places_in_use 511 i (length s.network.arcs - s.header.arcs)) (pages (end_page_at s.header s.slot i))) (end_page_at s.header s.slot) 0 (end_pages s.header) ≡ Ok (map ends_of (drop s.header.arcs s.network.arcs)) =
+    all_found (λ i. arcs_in s.header.nodes (places_in_use 511 i (length s.network.arcs - s.header.arcs)) (pages (end_page_at s.header s.slot i))) (end_page_at s.header s.slot) 511 (map ends_of (drop s.header.arcs s.network.arcs)) (end_pages s.header) 0
+    (λ j le lt. arcs_found s.header.nodes (places_in_use 511 j (length s.network.arcs - s.header.arcs)) (pages (end_page_at s.header s.slot j)) (map ends_of (part 511 j (drop s.header.arcs s.network.arcs))) (omega (arith, is.header.fits.nodes_to)) (is.held.ends j (omega arith))
+    ∙ ap (λ xs. Some xs) (part-map ends_of (511 * j) 511 (drop s.header.arcs s.network.arcs)))
+    (omega (arith, length-map (drop s.header.arcs s.network.arcs) ends_of, length-drop s.header.arcs s.network.arcs, arcs_to)) in
+    let all = ap (λ es. map arc_from (zip es (map word_of s.network.arcs))) (both_ends s.header.arcs s.network.arcs) ∙ arcs_joined s.network.arcs in
+    let same = with_arcs s.network s.header.nodes s.header.room (map arc_from (zip (map ends_of (take s.header.arcs s.network.arcs) ++ map ends_of (drop s.header.arcs s.network.arcs)) (map word_of s.network.arcs))) (sym is.arcs.nodes_are) (sym is.arcs.room_is) all in
     let journal = ap (λ (n : Net). journal_from pages s.header s.header.journal_pages s.sequence s.version n) same
     ∙ journal_found pages s.header s.header.journal_pages s.sequence s.version s.network final s.unchecked is.journal is.few is.longest done is.versions_to in
     let stored : Net → Result (Stored × Net) Refusal = λ n. Ok (record { header = s.header; slot = s.slot; epoch = s.epoch; version = s.version; sequence = s.sequence; network = n; unchecked = s.unchecked }, final) in
-    rw (magic, one, head, sized, ends, slot, headed, words, journal) (ap stored same)
+    rw (magic, one, head, sized, ends, slot, headed, words, laid, journal) (ap stored same)
 
 pub ok_same : (a b : Stored × Net) → ◌≡◌ {A = Result (Stored × Net) Refusal} (Ok a) (Ok b) → a ≡ b
 ok_same a b e = cc

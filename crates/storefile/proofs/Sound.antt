@@ -4,12 +4,12 @@ use Rattle.std.specs.Prelude.{nat_le, nat_lt, ◌&&◌, ◌==◌, map, min, slic
 use Rattle.std.specs.List.{zip, list_all, AllByRecursion}
 use Rattle.std.specs.Str.{bytes_eq}
 use Rattle.std.proofs.lemmas.Bool.Decides.{nat_tests}
-use Rattle.std.proofs.lemmas.Bool.{leb-true, ltb-true, cases_lt}
+use Rattle.std.proofs.lemmas.Bool.{leb-true, ltb-true, eqb-true, cases_lt}
 use Rattle.std.proofs.lemmas.Slice.Eq.{bytes_eq-Decides}
-use Rattle.std.proofs.lemmas.List.{drop-drop, drop_at, take_at, take_all, append-nil, length-append, nil_from_length}
+use Rattle.std.proofs.lemmas.List.{drop-drop, drop_all, drop_at, take_at, take_all, append-nil, length-append, nil_from_length}
 use Rattle.byteorder.specs.Endian.{big_number}
 use Rattle.roadnet.specs.declared.commands.Command.{Command}
-use Rattle.roadnet.specs.declared.commands.Command.TheVariants.{Set, Close, Reopen, Mark, Unmark}
+use Rattle.roadnet.specs.declared.commands.Command.TheVariants.{Set, Close, Reopen, Mark, Unmark, Lay}
 use Rattle.roadnet.specs.declared.refusals.Refusal.{Refusal}
 use Rattle.pages.specs.declared.header.Header.{Header}
 use Rattle.pages.specs.declared.content.Ends.{Ends}
@@ -17,12 +17,19 @@ use Rattle.pages.specs.declared.content.Word.{Word}
 use Rattle.pages.specs.declared.content.Slot.{Slot}
 use Rattle.pages.specs.declared.content.Slot.TheVariants.{A, B}
 use Rattle.pages.specs.Contents.{Head, Entry}
-use Rattle.pages.specs.Spelling.{body, IsHeader, SpelledHeader, arc_page, SpelledArcs, word_page, SpelledWords, IsHead, SpelledHead, IsWord, IsRecord, IsEntry, SpelledEntry, ends_of, word_of}
-use Rattle.storefile.proofs.Names.{header_body, head_body, entry_body}
+use Rattle.pages.specs.Spelling.{body, IsHeader, SpelledHeader, arc_page, SpelledArcs, word_page, SpelledWords, IsHead, SpelledHead, IsWord, FitsRecord, MayGoOn, IsRecord, AreRecords, IsEntry, SpelledEntry, ends_of, word_of}
+use Rattle.pages.specs.declared.content.Format.{Format}
+use Rattle.pages.specs.declared.content.Format.TheVariants.{One, Two}
+use Rattle.pages.specs.declared.content.Record.{Record}
+use Rattle.pages.specs.Formats.{IsRoomFor, landmarks_at}
+use Rattle.pages.specs.Grouping.{grouped, are_whole, is_of_format}
+use Rattle.pages.proofs.Grouped.{groups_some, records_again}
+use Rattle.pages.proofs.Records.{record_of_format}
+use Rattle.storefile.proofs.Names.{header_body, head_body, records_body}
 use Rattle.pages.specs.Reading.{read_header, read_items, read_ends, read_word, read_records, is_ends}
 use Rattle.storefile.specs.StoreFile.{is_open, first_field, IsCurrent}
 use Rattle.pages.specs.Layout.{head_page_at}
-use Rattle.storefile.specs.Judging.{◌>>=◌, unless_so, spelled_at, all_spelled, kept, is_header, header_in, arcs_in, words_in, is_ascending, read_head, is_head, head_in, is_record, is_entry, entry_with, entry_in, current_slot, arc_from}
+use Rattle.storefile.specs.Judging.{◌>>=◌, unless_so, spelled_at, all_spelled, kept, is_room_for, is_header, header_in, arcs_in, words_in, is_ascending, read_head, is_head, head_in, fits_record, is_record, are_entry, entry_with, entry_in, current_slot, arc_from}
 use Rattle.pages.proofs.Items.{length-read}
 use Rattle.pages.proofs.Padding.{both}
 use Rattle.pages.proofs.Places.{are_ends, all_pass}
@@ -59,8 +66,27 @@ equal xs ys e = (bytes_eq-Decides xs ys).0 e
 
 -- ---- what is found is spelled
 
+room_from : (f : Format) (arcs room : ℕ) → is_room_for f arcs room ≡ true → IsRoomFor f arcs room
+room_from One arcs room e = λ one. eqb-true room arcs e
+room_from Two arcs room e = λ one. absurd cc
+
 header_from : (h : Header) → is_header h ≡ true → IsHeader h
-header_from h e = record { some_node = grind (arith, nat_tests); nodes_to = grind (arith, nat_tests); arcs_to = grind (arith, nat_tests); some_page = grind (arith, nat_tests); pages_to = grind (arith, nat_tests) }
+header_from h e =
+    let a = both _ _ e in
+    let b = both _ _ a.0 in
+    let c = both _ _ b.0 in
+    let d = both _ _ c.0 in
+    let f = both _ _ d.0 in
+    let g = both _ _ f.0 in
+    record {
+      some_node = leb-true 1 h.nodes g.0;
+      nodes_to = leb-true h.nodes 33554432 g.1;
+      arcs_to = leb-true h.arcs h.room f.1;
+      room_to = leb-true h.room 67108864 d.1;
+      room_fits = room_from h.format h.arcs h.room c.1;
+      some_page = leb-true 1 h.journal_pages b.1;
+      pages_to = leb-true h.journal_pages 65536 a.1;
+    }
 
 pub header_spelled : (page : List ℕ) (h : Header) → header_in page ≡ Some h → SpelledHeader page h
 header_spelled page h e =
@@ -93,52 +119,71 @@ from_ascending (x ∷ y ∷ xs) (suc k) e lt =
     let s : suc (k + 1) ≡ suc k + 1 = omega arith in
     subst (λ (j : ℕ). slice_index (y ∷ xs) k < slice_index (x ∷ y ∷ xs) j) s (from_ascending (y ∷ xs) k b.1 (omega arith))
 
-head_from : (nodes : ℕ) (s : Head) → length s.landmarks ≤ 1000 → is_head nodes s ≡ true → IsHead nodes s
-head_from nodes s few e =
+head_from : (h : Header) (s : Head) → length s.landmarks ≤ 1000 → is_head h s ≡ true → IsHead h s
+head_from h s few e =
     let b = both _ _ e in
     let d = both _ _ b.0 in
-    let t : (nat_le 1 s.epoch && nat_le s.epoch (s.next_sequence + 1) && nat_le s.next_sequence s.version && nat_le s.version (2 ^ 48)) ≡ true = d.0 in
+    let n = both _ _ d.0 in
+    let m = both _ _ n.1 in
+    let t : (nat_le 1 s.epoch && nat_le s.epoch (s.next_sequence + 1) && nat_le s.next_sequence s.version && nat_le s.version (2 ^ 48)) ≡ true = n.0 in
     record {
       numbers = record { epoch_from = grind (arith, nat_tests); epoch_to = grind (arith, nat_tests); sequence_to = grind (arith, nat_tests); version_to = grind (arith, nat_tests); count_to = few };
+      arcs = (leb-true h.arcs s.arcs m.0, leb-true s.arcs h.room m.1);
       ascending = λ k lt. from_ascending s.landmarks k d.1 lt;
-      each = are_nodes nodes s.landmarks b.1;
+      each = are_nodes h.nodes s.landmarks b.1;
     }
 
-pub head_spelled : (nodes : ℕ) (page : List ℕ) (s : Head) → head_in nodes page ≡ Some s → SpelledHead nodes page s
-head_spelled nodes page s e =
-    let g = guard_ok (nat_le (big_number 4 (drop 24 page)) 1000) (kept (is_head nodes (read_head page) && bytes_eq (body page) (head_body (read_head page))) (read_head page)) s e in
+pub head_spelled : (h : Header) (page : List ℕ) (s : Head) → head_in h page ≡ Some s → SpelledHead h page s
+head_spelled h page s e =
+    let g = guard_ok (nat_le (big_number 4 (drop 24 page)) 1000) (kept (is_head h (read_head h page) && bytes_eq (body page) (head_body h.format (read_head h page))) (read_head h page)) s e in
     let few : big_number 4 (drop 24 page) ≤ 1000 = leb-true _ _ g.0 in
-    let k = kept_ok (is_head nodes (read_head page) && bytes_eq (body page) (head_body (read_head page))) (read_head page) s g.1 in
-    let b = both (is_head nodes (read_head page)) (bytes_eq (body page) (head_body (read_head page))) k.0 in
-    subst (SpelledHead nodes page) k.1 (record { fits = head_from nodes (read_head page) (omega (arith, few, length-read (big_number 4) 4 (big_number 4 (drop 24 page)) (drop 28 page))) b.0; spelled = equal _ _ b.1 })
+    let k = kept_ok (is_head h (read_head h page) && bytes_eq (body page) (head_body h.format (read_head h page))) (read_head h page) s g.1 in
+    let b = both (is_head h (read_head h page)) (bytes_eq (body page) (head_body h.format (read_head h page))) k.0 in
+    subst (SpelledHead h page) k.1 (record { fits = head_from h (read_head h page) (omega (arith, few, length-read (big_number 4) 4 (big_number 4 (drop 24 page)) (drop (landmarks_at h.format) page))) b.0; spelled = equal _ _ b.1 })
 
-record_from : (c : Command) → is_record c ≡ true → IsRecord c
-record_from (Set k w) e = let b = both (nat_lt k (2 ^ 32)) (nat_lt w (2 ^ 32)) e in (ltb-true k (2 ^ 32) b.0, ltb-true w (2 ^ 32) b.1)
-record_from (Close k) e = ltb-true k (2 ^ 32) e
-record_from (Reopen k) e = ltb-true k (2 ^ 32) e
-record_from (Mark x) e = ltb-true x (2 ^ 32) e
-record_from (Unmark x) e = ltb-true x (2 ^ 32) e
+command_from : (c : Command) → fits_record c ≡ true → FitsRecord Two c
+command_from (Set k w) e = let b = both (nat_lt k (2 ^ 32)) (nat_lt w (2 ^ 32)) e in (ltb-true k (2 ^ 32) b.0, ltb-true w (2 ^ 32) b.1)
+command_from (Close k) e = ltb-true k (2 ^ 32) e
+command_from (Reopen k) e = ltb-true k (2 ^ 32) e
+command_from (Mark x) e = ltb-true x (2 ^ 32) e
+command_from (Unmark x) e = ltb-true x (2 ^ 32) e
+command_from (Lay t h w) e =
+    let b = both (nat_lt t (2 ^ 32) && nat_lt h (2 ^ 32)) (nat_lt w (2 ^ 32)) e in
+    let a = both (nat_lt t (2 ^ 32)) (nat_lt h (2 ^ 32)) b.0 in
+    (tt, ltb-true t (2 ^ 32) a.0, ltb-true h (2 ^ 32) a.1, ltb-true w (2 ^ 32) b.1)
 
-entry_from : (e : Entry) → is_entry e ≡ true → IsEntry e
-entry_from e h =
-    let b = both (nat_lt e.sequence (2 ^ 64) && nat_lt e.first_number (2 ^ 64) && nat_le 1 (length e.commands) && nat_le (length e.commands) 253) (list_all is_record e.commands) h in
-    let t : (nat_lt e.sequence (2 ^ 64) && nat_lt e.first_number (2 ^ 64) && nat_le 1 (length e.commands) && nat_le (length e.commands) 253) ≡ true = b.0 in
+may_go_on : (b : Bool) → MayGoOn Two b
+may_go_on true = tt
+may_go_on false = tt
+
+record_from : (f : Format) (r : Record) → is_record f r ≡ true → IsRecord f r
+record_from f r e =
+    let b = both (fits_record r.command) (is_of_format f r) e in
+    record_of_format f r (record { command = command_from r.command b.0; more = may_go_on r.goes_on }) b.1
+
+entry_from : (f : Format) (q n : ℕ) (rs : List Record) → are_entry f q n rs ≡ true → IsEntry f (record { sequence = q; first_number = n; groups = grouped rs })
+entry_from f q n rs h =
+    let a = both _ _ h in
+    let b = both _ _ a.0 in
+    let t : (nat_lt q (2 ^ 64) && nat_lt n (2 ^ 64) && nat_le 1 (length rs) && nat_le (length rs) 253) ≡ true = b.0 in
     record {
       sequence_fits = grind (arith, nat_tests);
       number_fits = grind (arith, nat_tests);
-      some_command = grind (arith, nat_tests);
-      commands_to = grind (arith, nat_tests);
-      each = all_pass is_record IsRecord record_from e.commands b.1;
+      groups = groups_some rs;
+      records = subst (AreRecords f) (sym (records_again rs b.1)) (record { some = grind (arith, nat_tests); few = grind (arith, nat_tests); each = all_pass (is_record f) (IsRecord f) (record_from f) rs a.1 });
     }
 
-pub entry_spelled : (page : List ℕ) (e : Entry) → entry_in page ≡ Some e → SpelledEntry page e
-entry_spelled page e h =
-    let g = guard_ok (nat_le (big_number 2 (drop 16 page)) 253) (option_and_then (entry_with page) (read_records (big_number 2 (drop 16 page)) (drop 32 page))) e h in
-    let t = then_ok (entry_with page) (read_records (big_number 2 (drop 16 page)) (drop 32 page)) e g.1 in
-    let made : Entry = record { sequence = big_number 8 page; first_number = big_number 8 (drop 8 page); commands = t.0 } in
-    let k = kept_ok (is_entry (record { sequence = big_number 8 page; first_number = big_number 8 (drop 8 page); commands = t.0 }) && bytes_eq (body page) (entry_body (record { sequence = big_number 8 page; first_number = big_number 8 (drop 8 page); commands = t.0 }))) (record { sequence = big_number 8 page; first_number = big_number 8 (drop 8 page); commands = t.0 }) e t.2 in
-    let b = both (is_entry (record { sequence = big_number 8 page; first_number = big_number 8 (drop 8 page); commands = t.0 })) (bytes_eq (body page) (entry_body (record { sequence = big_number 8 page; first_number = big_number 8 (drop 8 page); commands = t.0 }))) k.0 in
-    subst (SpelledEntry page) k.1 (record { fits = entry_from made b.0; spelled = equal _ _ b.1 })
+pub entry_spelled : (f : Format) (page : List ℕ) (e : Entry) → entry_in f page ≡ Some e → SpelledEntry f page e
+entry_spelled f page e h =
+    let g = guard_ok (nat_le (big_number 2 (drop 16 page)) 253) (option_and_then (entry_with f page) (read_records (big_number 2 (drop 16 page)) (drop 32 page))) e h in
+    let t = then_ok (entry_with f page) (read_records (big_number 2 (drop 16 page)) (drop 32 page)) e g.1 in
+    let k = kept_ok (are_entry f (big_number 8 page) (big_number 8 (drop 8 page)) t.0 && bytes_eq (body page) (records_body (big_number 8 page) (big_number 8 (drop 8 page)) t.0)) (record { sequence = big_number 8 page; first_number = big_number 8 (drop 8 page); groups = grouped t.0 }) e t.2 in
+    let b = both (are_entry f (big_number 8 page) (big_number 8 (drop 8 page)) t.0) (bytes_eq (body page) (records_body (big_number 8 page) (big_number 8 (drop 8 page)) t.0)) k.0 in
+    let whole : are_whole t.0 ≡ true = (both _ _ (both _ _ b.0).0).1 in
+    subst (SpelledEntry f page) k.1 (record {
+      fits = entry_from f (big_number 8 page) (big_number 8 (drop 8 page)) t.0 b.0;
+      spelled = equal _ _ b.1 ∙ ap (λ (rs : List Record). records_body (big_number 8 page) (big_number 8 (drop 8 page)) rs) (sym (records_again t.0 whole));
+    })
 
 -- ---- the current slot
 
@@ -178,28 +223,26 @@ front_part places ys zs e =
       | inr le ↦ take_at ys zs places (omega arith)
     ]
 
-full_before : (places m i n : ℕ) → places * (i + suc n) < m + places → 1 ≤ n → places ≤ m - places * i
-full_before places m i zero tight some = absurd (omega arith)
-full_before places m i (suc n) tight some =
-    let wide : places * (i + suc (suc n)) ≡ places * i + places + places + places * n = omega arith in
-    omega arith
+-- There may be more pages than the items fill: the pages behind them hold none.
+none_there : {X : Type 0} (places k : ℕ) (xs : List X) → length xs ≤ k → take places (drop k xs) ≡ take places []
+none_there places k xs le = ap (take places) (drop_all k xs le)
 
-pub all_parts : {X : Type 0} (decode : ℕ → Option (List X)) (number : ℕ → ℕ) (places m : ℕ) (sized : (j : ℕ) (ys : List X) → decode j ≡ Some ys → length ys ≡ min places (m - places * j)) (n i : ℕ) (xs : List X)
-    → all_spelled decode number i n ≡ Ok xs → m ≤ places * (i + n) → places * (i + n) < m + places
+pub every_part : {X : Type 0} (decode : ℕ → Option (List X)) (number : ℕ → ℕ) (places m : ℕ) (sized : (j : ℕ) (ys : List X) → decode j ≡ Some ys → length ys ≡ min places (m - places * j)) (n i : ℕ) (xs : List X)
+    → all_spelled decode number i n ≡ Ok xs → m ≤ places * (i + n) → 0 < places
     → (length xs ≡ m - places * i) × ((j : ℕ) → i ≤ j → j < i + n → decode j ≡ Some (take places (drop (places * (j - i)) xs)))
-all_parts decode number places m sized zero i xs e covers tight =
+every_part decode number places m sized zero i xs e covers some =
     let none : [] ≡ xs = cc in
     let same : i + 0 ≡ i = omega arith in
     let past : m ≤ places * i = subst (λ (k : ℕ). m ≤ places * k) same covers in
     (sym (ap length none) ∙ (let z : 0 ≡ m - places * i = omega arith in z), λ j le lt. absurd (omega arith))
-all_parts {X = X} decode number places m sized (suc n) i xs e covers tight =
+every_part {X = X} decode number places m sized (suc n) i xs e covers some =
     let a = bind_ok (spelled_at (number i) (decode i)) (λ first. all_spelled decode number (suc i) n >>= λ others. Ok (first ++ others)) xs e in
     let b = bind_ok (all_spelled decode number (suc i) n) (λ others. Ok (a.0 ++ others)) xs a.2 in
     let here : decode i ≡ Some a.0 = spelled_ok (number i) (decode i) a.0 a.1 in
     let joined : a.0 ++ b.0 ≡ xs = cc (b.2) in
     let size = sized i a.0 here in
     let shift : i + suc n ≡ suc i + n = omega arith in
-    let further = all_parts decode number places m sized n (suc i) b.0 b.1 (subst (λ (k : ℕ). m ≤ places * k) shift covers) (subst (λ (k : ℕ). places * k < m + places) shift tight) in
+    let further = every_part decode number places m sized n (suc i) b.0 b.1 (subst (λ (k : ℕ). m ≤ places * k) shift covers) some in
     let next : places * suc i ≡ places * i + places = omega arith in
     let total : length a.0 + length b.0 ≡ m - places * i = omega (arith, size, further.0) in
     let first : decode i ≡ Some (take places (a.0 ++ b.0)) = here ∙ ap (λ t. Some t) (sym (front_part places a.0 b.0 (omega (arith, size, total)))) in (
@@ -207,11 +250,18 @@ all_parts {X = X} decode number places m sized (suc n) i xs e covers tight =
       subst (λ (ts : List X). (j : ℕ) → i ≤ j → j < i + suc n → decode j ≡ Some (take places (drop (places * (j - i)) ts))) joined (λ j le lt.
           elim (cases_lt i j) [
             | inl later ↦
-                let k = j - suc i in
-                let full : length a.0 ≡ places = omega (arith, size, full_before places m i n tight (omega arith)) in
                 let split : places * (j - i) ≡ places + places * (j - suc i) = let d : j - i ≡ suc (j - suc i) = omega arith in ap (λ (t : ℕ). places * t) d ∙ (let q : places * suc (j - suc i) ≡ places + places * (j - suc i) = omega arith in q) in
-                further.1 j later (omega arith)
-                ∙ ap (λ ts. Some (take places ts)) (ap (drop (places * (j - suc i))) (sym (drop_at a.0 b.0 places full)) ∙ drop-drop (places * (j - suc i)) places (a.0 ++ b.0) ∙ ap (λ (t : ℕ). drop t (a.0 ++ b.0)) (sym split))
+                elim (cases_lt (length a.0) places) [
+                  | inl short ↦
+                      let empty : length b.0 ≡ 0 = omega (arith, size, further.0, next) in
+                      let past : length (a.0 ++ b.0) ≤ places * (j - i) = omega (arith, length-append a.0 b.0, split) in
+                      further.1 j later (omega arith)
+                      ∙ ap (λ ts. Some ts) (none_there places (places * (j - suc i)) b.0 (omega arith) ∙ sym (none_there places (places * (j - i)) (a.0 ++ b.0) past))
+                  | inr ge ↦
+                      let full : length a.0 ≡ places = omega (arith, size) in
+                      further.1 j later (omega arith)
+                      ∙ ap (λ ts. Some (take places ts)) (ap (drop (places * (j - suc i))) (sym (drop_at a.0 b.0 places full)) ∙ drop-drop (places * (j - suc i)) places (a.0 ++ b.0) ∙ ap (λ (t : ℕ). drop t (a.0 ++ b.0)) (sym split))
+                ]
             | inr le' ↦
                 let same : i ≡ j = omega arith in
                 let zero : places * (j - i) ≡ 0 = let d : j - i ≡ 0 = omega arith in ap (λ (t : ℕ). places * t) d ∙ (let q : places * 0 ≡ 0 = omega arith in q) in

@@ -1,24 +1,26 @@
 -- What a store's file stands for between calls, and while a page of its journal is written.
-use Rattle.std.specs.Prelude.{◌≡◌, ◌⊎◌, ℕ, ◌+◌, ◌^◌, ◌≤◌, List, [], ◌∷◌, ◌++◌, length, Option, Some, None, Result, Ok, Err}
+use Rattle.std.specs.Prelude.{◌≡◌, ◌⊎◌, ℕ, ◌+◌, ◌≤◌, List, [], ◌∷◌, ◌++◌, length, Option, Some, None, Result, Ok, Err}
 use Rattle.roadnet.specs.declared.commands.Command.{Command}
 use Rattle.roadnet.specs.declared.refusals.Refusal.{Refusal}
 use Rattle.roadnet.specs.Net.{Net}
 use Rattle.roadnet.specs.Step.{after}
 use Rattle.pages.specs.declared.header.Header.{Header}
 use Rattle.pages.specs.declared.content.Slot.{Slot}
+use Rattle.pages.specs.declared.content.Format.TheVariants.{Two}
 use Rattle.pages.specs.Contents.{Entry}
 use Rattle.pages.specs.Spelling.{IsHeader}
 use Rattle.pages.specs.Layout.{other}
-use Rattle.storefile.specs.StoreFile.{page, joined, Stored, HoldsJournal, StandsBy, StandsTidyFor, HasNoLaterPage, commands_of, next_sequence}
+use Rattle.storefile.specs.StoreFile.{page, joined, Stored, HoldsJournal, StandsBy, StandsTidyFor, HasNoLaterPage, groups_of, next_sequence}
 use Rattle.storefile.specs.Judging.{opened}
 use Rattle.pages.specs.Limits.{most_versions}
 
--- The file has these sizes and this current slot of this epoch, stands for this network at this version, the page of this sequence is
--- written next, and so many pages of its journal are unchecked.
+-- The file, in the format in which stores are opened, has these sizes and this current slot of this epoch, stands for this network at this
+-- version, the page of this sequence is written next, and so many pages of its journal are unchecked.
 pub record IsStoredAs (file : List ℕ) (h : Header) (slot : Slot) (epoch : ℕ) (net : Net) (version next unchecked : ℕ) : Type 0 where
   pub stored : Stored
   pub stands : StandsBy file stored net version next
   pub header_is : stored.header ≡ h
+  pub format_is : stored.header.format ≡ Two
   pub slot_is : stored.slot ≡ slot
   pub epoch_is : stored.epoch ≡ epoch
   pub unchecked_is : unchecked ≡ length stored.unchecked
@@ -40,7 +42,7 @@ standing_in (Ok x) = Some (record {
   slot = x.0.slot;
   epoch = x.0.epoch;
   network = x.1;
-  version = x.0.version + length (commands_of x.0);
+  version = x.0.version + length (groups_of x.0);
   next = next_sequence x.0;
   unchecked = length x.0.unchecked;
 })
@@ -61,32 +63,33 @@ pub record HasFitNumbers (h : Header) (epoch version next unchecked : ℕ) : Typ
   pub unchecked_to : unchecked ≤ h.journal_pages
   pub unchecked_from : unchecked ≤ next
 
--- what is stored once this page of commands is written too
-abbrev pub with_commands : Stored → List Command → Stored
-with_commands s commands = record s { unchecked = s.unchecked ++ commands ∷ [] }
+-- what is stored once this page of groups is written too
+abbrev pub with_groups : Stored → List (List Command) → Stored
+with_groups s groups = record s { unchecked = s.unchecked ++ groups ∷ [] }
 
 -- what is stored once the other slot holds this network, at this epoch, version and next sequence, and the journal holds these pages
 -- behind it
-abbrev pub with_other_slot : Stored → ℕ → Net → ℕ → ℕ → List (List Command) → Stored
+abbrev pub with_other_slot : Stored → ℕ → Net → ℕ → ℕ → List (List (List Command)) → Stored
 with_other_slot s epoch network version sequence behind =
     record { header = s.header; slot = other s.slot; epoch = epoch; version = version; sequence = sequence; network = network; unchecked = behind }
 
 -- The journal holds these pages from one sequence on, and they lead from one network and version to another; the page that follows them has
 -- the last sequence.
-pub record LeadsTo (pages : ℕ → List ℕ) (h : Header) (from : Net) (from_version from_next : ℕ) (commands : List (List Command)) (to : Net) (version next : ℕ) : Type 0 where
-  pub held : HoldsJournal pages h from_next from_version commands
-  pub network : after from (joined commands) ≡ Some to
-  pub version_is : version ≡ from_version + length (joined commands)
-  pub next_is : next ≡ from_next + length commands
+pub record LeadsTo (pages : ℕ → List ℕ) (h : Header) (from : Net) (from_version from_next : ℕ) (groups : List (List (List Command))) (to : Net) (version next : ℕ) : Type 0 where
+  pub held : HoldsJournal pages h from_next from_version groups
+  pub network : after from (joined groups) ≡ Some to
+  pub version_is : version ≡ from_version + length (joined groups)
+  pub next_is : next ≡ from_next + length groups
 
--- the journal page that holds these commands behind what is stored
-abbrev pub entry_behind : Stored → List Command → Entry
-entry_behind s commands = record { sequence = next_sequence s; first_number = s.version + length (commands_of s) + 1; commands = commands }
+-- the journal page that holds these groups behind what is stored
+abbrev pub entry_behind : Stored → List (List Command) → Entry
+entry_behind s groups = record { sequence = next_sequence s; first_number = s.version + length (groups_of s) + 1; groups = groups }
 
--- the file is tidy, has so many journal pages, and stands for the network after these commands, each counted
-abbrev pub StandsTidyAfter : ℕ → List ℕ → Net → ℕ → List Command → Type 0
-StandsTidyAfter journal_pages file net version commands = (net' : Net) × (after net commands ≡ Some net') × StandsTidyFor journal_pages file net' (version + length commands)
+-- the file is tidy, has these sizes, and stands for the network after these groups, each counted
+abbrev pub StandsTidyAfter : ℕ → ℕ → List ℕ → Net → ℕ → List (List Command) → Type 0
+StandsTidyAfter journal_pages checkpoint_pages file net version groups = (net' : Net) × (after net groups ≡ Some net') × StandsTidyFor journal_pages checkpoint_pages file net' (version + length groups)
 
--- what a stop within the commit of these commands may leave: the file stands for what it stood for, or for what it stands for after them
-abbrev pub IsBeforeOrAfter : ℕ → Net → ℕ → List Command → List ℕ → Type 0
-IsBeforeOrAfter journal_pages net version commands file = StandsTidyFor journal_pages file net version ⊎ StandsTidyAfter journal_pages file net version commands
+-- what a stop within the commit of these groups may leave: the file stands for what it stood for, or for what it stands for after them
+abbrev pub IsBeforeOrAfter : ℕ → ℕ → Net → ℕ → List (List Command) → List ℕ → Type 0
+IsBeforeOrAfter journal_pages checkpoint_pages net version groups file =
+    StandsTidyFor journal_pages checkpoint_pages file net version ⊎ StandsTidyAfter journal_pages checkpoint_pages file net version groups

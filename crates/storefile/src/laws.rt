@@ -1,11 +1,12 @@
 // Laws of the definitions.
 
-ghost use Rattle.storefile.specs.Laws.{AtMostOne, IsNotRefused, StandsUnlessRefused, StoresNetworks, StandsForNetworks, StandingIsStored, ClosedPageMeansNothing, OpenPageIsOneMore, ClosedSlotMeansNothing, OpenSlotIsCurrent, SlotsKeepTidy};
-ghost use Rattle.storefile.specs.Vectors.{FileExamples};
+ghost use Rattle.storefile.specs.Laws.{AtMostOne, InOneFormat, IsNotRefused, StandsUnlessRefused, StoresNetworks, StandsForNetworks, StandingIsStored, ClosedPageMeansNothing, OpenPageIsOneMore, ClosedSlotMeansNothing, OpenSlotIsCurrent, SlotsKeepTidy};
+ghost use Rattle.storefile.specs.Vectors.{FileExamples, GroupExamples, RoomExamples, OldExamples};
 
 /// A file stands for at most one network, version and next sequence, and for one exactly where opening refuses it nowhere.
 pub fn meaning_of_a_file()
     ensures at_most_one { AtMostOne }
+    ensures one_format { InOneFormat }
     ensures not_refused { IsNotRefused }
     ensures unless_refused { StandsUnlessRefused }
     ensures networks { StoresNetworks }
@@ -29,4 +30,19 @@ pub fn slot_that_is_written()
 /// The worked files are judged so.
 pub fn worked_files()
     ensures { FileExamples }
+{}
+
+/// So are those with groups.
+pub fn worked_groups()
+    ensures { GroupExamples }
+{}
+
+/// So are those of networks with room.
+pub fn worked_rooms()
+    ensures { RoomExamples }
+{}
+
+/// So are those of format 1.
+pub fn worked_old_files()
+    ensures { OldExamples }
 {}

@@ -3,6 +3,7 @@ use Rattle.std.proofs.Common.{◌≡◌, ◌∙◌, ℕ, List, length, None, Som
 use Rattle.std.specs.Prelude.{IfErr, OnOk}
 use Rattle.roadnet.specs.declared.refusals.Refusal.{Refusal}
 use Rattle.roadnet.specs.declared.refusals.Refusal.TheVariants.{OutOfMemory}
+use Rattle.pages.specs.declared.content.Format.TheVariants.{Two}
 use Rattle.pages.specs.declared.header.Header.{Header}
 use Rattle.storefile.specs.StoreFile.{page}
 use Rattle.storefile.specs.Standing.{Standing, standing_in, standing_of}
@@ -16,9 +17,9 @@ use Rattle.storetexts.specs.Refused.{IfNoMemory}
 pub fits : (file : List ℕ) (standing : Standing) → standing_of file ≡ Some standing → HeaderFits file
 fits file standing is = go _ refl
   where
-    go : (said : Result Header Refusal) → header_from (length file) (page file 0) ≡ said → HeaderFits file
+    go : (said : Result Header Refusal) → header_from Two (length file) (page file 0) ≡ said → HeaderFits file
     go (Ok header) said = (header, said)
-    go (Err refusal) said = absurd (let never : None ≡ Some standing = sym (ap standing_in (no_header (length file) (page file) refusal said)) ∙ is in cc)
+    go (Err refusal) said = absurd (let never : None ≡ Some standing = sym (ap standing_in (no_header Two (length file) (page file) refusal said)) ∙ is in cc)
 
 pub memory_any : (failed : Failed) (P : Type 0) → P → IfNoMemory failed P
 memory_any (Code OutOfMemory) P p = p

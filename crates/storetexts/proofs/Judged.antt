@@ -4,14 +4,14 @@ use Rattle.std.specs.Prelude.{IfSome, IfErr}
 use Rattle.roadnet.specs.declared.refusals.Refusal.{Refusal}
 use Rattle.roadnet.specs.declared.refusals.Refusal.TheVariants.{OutOfMemory, Device, Write}
 use Rattle.pagereader.specs.Outcomes.{MayEndOpening}
-use Rattle.roadnet.specs.declared.commands.Command.{Command}
+use Rattle.roadnet.specs.declared.groups.Group.{Group}
 use Rattle.roadnet.specs.Net.{Net}
-use Rattle.dimacs.specs.Commanded.{command_text}
+use Rattle.dimacs.specs.Commanded.{group_text}
 use Rattle.dimacs.specs.Texts.{Source, OfReader, Reads}
 use Rattle.printing.specs.declared.failed.Failed.{Failed}
 use Rattle.printing.specs.declared.failed.Failed.TheVariants.{Text, Code}
 use Rattle.printing.specs.Failing.{CountsWrites}
-use Rattle.storetexts.specs.Applied.{commands_of, GivesCommands, IsRefusedApply}
+use Rattle.storetexts.specs.Applied.{groups_of, GivesGroups, IsRefusedApply}
 use Rattle.storetexts.specs.Applying.{IsCutOffBy}
 use Rattle.store.specs.Opening.{IsPassing}
 use Rattle.storetexts.specs.Asked.{OfStore, IsUnopened, IsUnread, IsRefusedAsk}
@@ -46,7 +46,7 @@ pub apply_refused_known : (Honest : Type 0) (file : List ℕ) (known : Option (L
 apply_refused_known Honest file None refusal may = tt
 apply_refused_known Honest file (Some text) refusal may = apply_refused Honest file text (OfReader (Some text)) refusal refl may
 
-apply_refused_later : (Honest : Type 0) (file text : List ℕ) (source : Source) (refusal : Refusal) → OfStore Honest file (GivesCommands text) → IsUnopened Honest file refusal → IsRefusedApply Honest file text source (Code refusal)
+apply_refused_later : (Honest : Type 0) (file text : List ℕ) (source : Source) (refusal : Refusal) → OfStore Honest file (GivesGroups text) → IsUnopened Honest file refusal → IsRefusedApply Honest file text source (Code refusal)
 apply_refused_later Honest file text source Write gives may = gives
 apply_refused_later Honest file text source _ gives may = (may, inr gives)
 
@@ -60,7 +60,7 @@ ends_of_device refusal h = ⊎_elim
 pub unopened_of_device : (Honest : Type 0) (file : List ℕ) (refusal : Refusal) → IsPassing refusal → IsUnopened Honest file refusal
 unopened_of_device Honest file refusal h = (ends_of_device refusal h, λ honest. inl h)
 
--- ---- a run of commands that ended early
+-- ---- a run of groups that ended early
 module _ (P : Failed → Type 0) (written : P (Code Write)) (device : (refusal : Refusal) → IsPassing refusal → P (Code refusal)) where
   by_cut_off : (failed : Failed) → IsCutOffBy failed → P failed
   by_cut_off (Text which fault) h = absurd h
@@ -74,15 +74,15 @@ module _ (P : Failed → Type 0) (written : P (Code Write)) (device : (refusal :
 pub kind_cut_off : {X : Type 0} (r : Result X Failed) → IfErr r IsCutOffBy → IfErr r IsOfStore
 kind_cut_off r h = if_cut_off IsOfStore tt (λ refusal of. opening_of_store refusal (ends_of_device refusal of)) r h
 
-module _ {P : Net → ℕ → Type 0} (Honest : Type 0) (file : List ℕ) (o : OfStore Honest file P) (list : List Command) where
-  gives : (text : List ℕ) → commands_of text ≡ Ok list → OfStore Honest file (GivesCommands text)
+module _ {P : Net → ℕ → Type 0} (Honest : Type 0) (file : List ℕ) (o : OfStore Honest file P) (list : List Group) where
+  gives : (text : List ℕ) → groups_of text ≡ Ok list → OfStore Honest file (GivesGroups text)
   gives text said = record { net = o.net; version = o.version; stands = o.stands; holds = (list, said) }
 
-  pub cut_off_refused : {X : Type 0} (r : Result X Failed) (text : List ℕ) (source : Source) → commands_of text ≡ Ok list → IfErr r IsCutOffBy → IfErr r (IsRefusedApply Honest file text source)
+  pub cut_off_refused : {X : Type 0} (r : Result X Failed) (text : List ℕ) (source : Source) → groups_of text ≡ Ok list → IfErr r IsCutOffBy → IfErr r (IsRefusedApply Honest file text source)
   cut_off_refused r text source said h =
       if_cut_off (IsRefusedApply Honest file text source) (gives text said) (λ refusal of. apply_refused_later Honest file text source refusal (gives text said) (unopened_of_device Honest file refusal of)) r h
 
-  pub cut_off_refused_known : {X : Type 0} (r : Result X Failed) (known left : Option (List ℕ)) → IfSome known (λ text. Reads command_text text left (Ok list)) → IfErr r IsCutOffBy
+  pub cut_off_refused_known : {X : Type 0} (r : Result X Failed) (known left : Option (List ℕ)) → IfSome known (λ text. Reads group_text text left (Ok list)) → IfErr r IsCutOffBy
       → IfErr r (λ failed. IfSome known (λ text. IsRefusedApply Honest file text (OfReader left) failed))
   cut_off_refused_known r None left said h = if_cut_off (λ failed. Unit {0}) tt (λ refusal of. tt) r h
   cut_off_refused_known r (Some text) left said h = cut_off_refused r text (OfReader left) said.0 h

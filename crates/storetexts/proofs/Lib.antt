@@ -13,5 +13,6 @@ pub mod Checkpointed
 pub mod RefusedFirst
 pub mod TextApplied
 pub mod Checked
+pub mod Moved
 pub mod Read
 pub mod Fitting

@@ -1,17 +1,19 @@
 -- A store made of two readers' texts, and the refusals of these.
-use Rattle.std.proofs.Common.{◌≡◌, ◌⊎◌, inl, inr, ℕ, List, Option, None, Some, Result, Ok, Err, refl}
-use Rattle.std.specs.Prelude.{IfSome, IfErr}
+use Rattle.std.proofs.Common.{◌≡◌, ◌∙◌, ◌⊎◌, inl, inr, ℕ, ◌≤◌, List, length, Option, None, Some, Result, Ok, Err, refl, sym, ap, subst}
+use Rattle.std.specs.Prelude.{IfSome, IfOk, IfErr, OnOk}
 use Rattle.roadnet.specs.declared.refusals.Refusal.{Refusal}
 use Rattle.roadnet.specs.declared.refusals.Refusal.TheVariants.{Write, Device, NotEmpty, OutOfMemory}
-use Rattle.roadnet.specs.Net.{Net}
+use Rattle.roadnet.specs.Net.{Net, IsRoomFor, most_landmarks}
 use Rattle.disk.specs.Contents.{Only}
 use Rattle.storefile.specs.StoreFile.{StandsTidyFor}
+use Rattle.store.specs.Migrating.{room_of, roomed}
+use Rattle.store.specs.State.{checkpoint_pages_of}
 use Rattle.dimacs.specs.Content.{content}
 use Rattle.dimacs.specs.Texts.{Source}
 use Rattle.printing.specs.declared.failed.Failed.{Failed}
 use Rattle.printing.specs.declared.failed.Failed.TheVariants.{Code}
 use Rattle.printing.specs.Failing.{CountsWrites}
-use Rattle.storetexts.specs.Created.{landmarks_of, with_landmarks, IsNetworkOf, IsRefusedMarking, IsOfNetwork, IsOfMaking, IsRefusedNetwork, GiveNetwork, IsRefusedCreate, IsNewStore, IsNewStoreOf}
+use Rattle.storetexts.specs.Created.{landmarks_of, with_landmarks, IsNetworkOf, IsRefusedPlan, IsOfNetwork, IsOfMaking, IsRefusedNetwork, GiveNetwork, IsRefusedCreate, IsNewStore, IsNewStoreOf}
 use Rattle.storetexts.specs.Refused.{IfDone, IfNotEmpty, IfNoMemory, CountsDevice}
 
 done_weaker : (r : Result (Unit {0}) Failed) (P Q : Type 0) → (P → Q) → IfDone r P → IfDone r Q
@@ -24,18 +26,18 @@ done_any (Ok done) P p = p
 done_any (Err (Code Write)) P p = p
 done_any (Err failed) P p = tt
 
-pub made_so : (net : Net) (pages : ℕ) (content : List ℕ) (left : List ℕ → Type 0) → StandsTidyFor pages content net 0 → Only content left → IsNewStore net pages content left
+pub made_so : (net : Net) (pages : ℕ) (content : List ℕ) (left : List ℕ → Type 0) → StandsTidyFor pages (checkpoint_pages_of (length net.arcs) net) content net 0 → Only content left → IsNewStore net pages content left
 made_so net pages content left stands only = record { stands = stands; only = only }
 
-both_known : (a b : Option (List ℕ)) (net : Net) (pages : ℕ) (content : List ℕ) (left : List ℕ → Type 0)
-    → IfSome a (λ n. IfSome b (λ l. IsNetworkOf n l net)) → IsNewStore net pages content left → IfSome a (λ n. IfSome b (λ l. IsNewStoreOf n l pages content left))
-both_known None b net pages content left is made = tt
-both_known (Some n) None net pages content left is made = tt
-both_known (Some n) (Some l) net pages content left is made = record { net = net; network_is = is; made = made }
+both_known : (room : Option ℕ) (a b : Option (List ℕ)) (net : Net) (pages : ℕ) (content : List ℕ) (left : List ℕ → Type 0)
+    → IfSome a (λ n. IfSome b (λ l. IsNetworkOf n l room net)) → IsNewStore net pages content left → IfSome a (λ n. IfSome b (λ l. IsNewStoreOf n l room pages content left))
+both_known room None b net pages content left is made = tt
+both_known room (Some n) None net pages content left is made = tt
+both_known room (Some n) (Some l) net pages content left is made = record { net = net; network_is = is; made = made }
 
-pub made_of_both : (r : Result (Unit {0}) Failed) (a b : Option (List ℕ)) (net : Net) (pages : ℕ) (content : List ℕ) (left : List ℕ → Type 0)
-    → IfSome a (λ n. IfSome b (λ l. IsNetworkOf n l net)) → IfDone r (IsNewStore net pages content left) → IfDone r (IfSome a (λ n. IfSome b (λ l. IsNewStoreOf n l pages content left)))
-made_of_both r a b net pages content left is made = done_weaker r _ _ (both_known a b net pages content left is) made
+pub made_of_both : (r : Result (Unit {0}) Failed) (room : Option ℕ) (a b : Option (List ℕ)) (net : Net) (pages : ℕ) (content : List ℕ) (left : List ℕ → Type 0)
+    → IfSome a (λ n. IfSome b (λ l. IsNetworkOf n l room net)) → IfDone r (IsNewStore net pages content left) → IfDone r (IfSome a (λ n. IfSome b (λ l. IsNewStoreOf n l room pages content left)))
+made_of_both r room a b net pages content left is made = done_weaker r _ _ (both_known room a b net pages content left is) made
 
 module _ (failed : Failed) (of : IsOfNetwork failed) where
   pub network_not_empty : (P : Type 0) → IfNotEmpty failed P
@@ -62,53 +64,87 @@ module _ (failed : Failed) (of : IsOfNetwork failed) where
       go _ h = refl
 
 -- ---- what is refused
-making_refused : (n l : List ℕ) (ns ls : Source) (failed : Failed) → GiveNetwork n l → IsOfMaking failed → IsRefusedCreate n l ns ls failed
-making_refused n l ns ls (Code NotEmpty) give h = give
-making_refused n l ns ls (Code Device) give h = give
-making_refused n l ns ls (Code Write) give h = give
-making_refused n l ns ls (Code OutOfMemory) give h = give
-making_refused n l ns ls _ give h = absurd h
+making_refused : (n l : List ℕ) (room : Option ℕ) (ns ls : Source) (failed : Failed) → GiveNetwork n l room → IsOfMaking failed → IsRefusedCreate n l room ns ls failed
+making_refused n l room ns ls (Code NotEmpty) give h = give
+making_refused n l room ns ls (Code Device) give h = give
+making_refused n l room ns ls (Code Write) give h = give
+making_refused n l room ns ls (Code OutOfMemory) give h = give.1.given
+making_refused n l room ns ls _ give h = absurd h
 
--- both texts were read, and the landmarks cannot be marked
-marking_refused : (n l : List ℕ) (ns ls : Source) (net : Net) (marks : List ℕ) (refusal : Refusal) → content n ≡ Ok net → landmarks_of net l ≡ Ok marks → IsRefusedMarking marks refusal
-    → IsRefusedNetwork n l ns ls (Code refusal)
-marking_refused n l ns ls net marks refusal network marks_are (inl many) = rw many.0 (record { net = net; network_is = network; holds = (marks, marks_are, many.1) })
-marking_refused n l ns ls net marks refusal network marks_are (inr memory) =
-    rw memory.0 (with_landmarks net marks, record { net = net; network_is = network; marks = marks; marks_are = marks_are; few = memory.1; marked_is = refl })
+-- both texts were read, and no network is made of them
+plan_refused : (n l : List ℕ) (room : Option ℕ) (ns ls : Source) (net : Net) (marks : List ℕ) (refusal : Refusal) → content n ≡ Ok net → landmarks_of net l ≡ Ok marks → IsRefusedPlan net marks room refusal
+    → IsRefusedNetwork n l room ns ls (Code refusal)
+plan_refused n l room ns ls net marks refusal network marks_are (inl (inl many)) = rw many.0 (record { net = net; network_is = network; holds = (marks, marks_are, many.1) })
+plan_refused n l room ns ls net marks refusal network marks_are (inl (inr memory)) = rw memory.0 (record { net = net; network_is = network; marks = marks; marks_are = marks_are; few = memory.1 })
+plan_refused n l room ns ls net marks refusal network marks_are (inr none) = rw none.0 (record { net = net; network_is = network; marks = marks; marks_are = marks_are; few = none.1 }, none.2)
 
--- the same of what marking them answers
-pub marking_told : {X : Type 0} (r : Result X Refusal) (n l : List ℕ) (ns ls : Source) (net : Net) (marks : List ℕ) → content n ≡ Ok net → landmarks_of net l ≡ Ok marks
-    → IfErr r (IsRefusedMarking marks) → IfErr r (λ refusal. IsRefusedNetwork n l ns ls (Code refusal))
-marking_told (Ok marked) n l ns ls net marks network marks_are why = tt
-marking_told (Err refusal) n l ns ls net marks network marks_are why = marking_refused n l ns ls net marks refusal network marks_are why
+-- the same of what making it answers
+pub plan_told : {X : Type 0} (r : Result X Refusal) (n l : List ℕ) (room : Option ℕ) (ns ls : Source) (net : Net) (marks : List ℕ) → content n ≡ Ok net → landmarks_of net l ≡ Ok marks
+    → IfErr r (IsRefusedPlan net marks room) → IfErr r (λ refusal. IsRefusedNetwork n l room ns ls (Code refusal))
+plan_told (Ok made) n l room ns ls net marks network marks_are why = tt
+plan_told (Err refusal) n l room ns ls net marks network marks_are why = plan_refused n l room ns ls net marks refusal network marks_are why
 
-pub marking_told_known : {X : Type 0} (r : Result X Refusal) (a b : Option (List ℕ)) (ns ls : Source) (net : Net) (marks : List ℕ) → IfSome a (λ n. content n ≡ Ok net)
-    → IfSome b (λ l. landmarks_of net l ≡ Ok marks) → IfErr r (IsRefusedMarking marks) → IfErr r (λ refusal. IfSome a (λ n. IfSome b (λ l. IsRefusedNetwork n l ns ls (Code refusal))))
-marking_told_known (Ok marked) a b ns ls net marks network marks_are why = tt
-marking_told_known (Err refusal) None b ns ls net marks network marks_are why = tt
-marking_told_known (Err refusal) (Some n) None ns ls net marks network marks_are why = tt
-marking_told_known (Err refusal) (Some n) (Some l) ns ls net marks network marks_are why = marking_refused n l ns ls net marks refusal network marks_are why
+pub plan_told_known : {X : Type 0} (r : Result X Refusal) (a b : Option (List ℕ)) (room : Option ℕ) (ns ls : Source) (net : Net) (marks : List ℕ) → IfSome a (λ n. content n ≡ Ok net)
+    → IfSome b (λ l. landmarks_of net l ≡ Ok marks) → IfErr r (IsRefusedPlan net marks room) → IfErr r (λ refusal. IfSome a (λ n. IfSome b (λ l. IsRefusedNetwork n l room ns ls (Code refusal))))
+plan_told_known (Ok made) a b room ns ls net marks network marks_are why = tt
+plan_told_known (Err refusal) None b room ns ls net marks network marks_are why = tt
+plan_told_known (Err refusal) (Some n) None room ns ls net marks network marks_are why = tt
+plan_told_known (Err refusal) (Some n) (Some l) room ns ls net marks network marks_are why = plan_refused n l room ns ls net marks refusal network marks_are why
 
-pub network_refused : (n l : List ℕ) (ns ls : Source) (failed : Failed) → IsRefusedNetwork n l ns ls failed → IsRefusedCreate n l ns ls failed
-network_refused n l ns ls (Code NotEmpty) h = absurd h
-network_refused n l ns ls (Code Device) h = absurd h
-network_refused n l ns ls (Code Write) h = absurd h
-network_refused n l ns ls _ h = h
+-- ---- landmarks, and then a room
+-- landmarks don't bear on the room
+same_room : (net : Net) (marks : List ℕ) (room : Option ℕ) → room_of (with_landmarks net marks) room ≡ room_of net room
+same_room net marks None = refl
+same_room net marks (Some n) = refl
 
-pub network_refused_known : (a b : Option (List ℕ)) (ns ls : Source) (failed : Failed) → IfSome a (λ n. IfSome b (λ l. IsRefusedNetwork n l ns ls failed)) → IfSome a (λ n. IfSome b (λ l. IsRefusedCreate n l ns ls failed))
-network_refused_known None b ns ls failed h = tt
-network_refused_known (Some n) None ns ls failed h = tt
-network_refused_known (Some n) (Some l) ns ls failed h = network_refused n l ns ls failed h
+module _ (net marked : Net) (marks : List ℕ) (room : Option ℕ) (is : marked ≡ with_landmarks net marks) where
+  pub marked_room : (made : Net) → made ≡ roomed marked room → made ≡ roomed (with_landmarks net marks) room
+  marked_room made made_is = made_is ∙ ap (λ (n : Net). roomed n room) is
 
-pub all_making_refused : (r : Result (Unit {0}) Failed) (n l : List ℕ) (ns ls : Source) (net : Net) → IsNetworkOf n l net → IfErr r IsOfMaking → IfErr r (IsRefusedCreate n l ns ls)
-all_making_refused (Ok done) n l ns ls net is h = tt
-all_making_refused (Err failed) n l ns ls net is h = making_refused n l ns ls failed (net, is) h
+  pub room_fits : IsRoomFor marked (room_of marked room) → IsRoomFor net (room_of net room)
+  room_fits fits = rw (is, same_room net marks room) at fits
 
-pub all_making_refused_known : (r : Result (Unit {0}) Failed) (a b : Option (List ℕ)) (ns ls : Source) (net : Net) → IfSome a (λ n. IfSome b (λ l. IsNetworkOf n l net)) → IfErr r IsOfMaking → IfErr r (λ failed. IfSome a (λ n. IfSome b (λ l. IsRefusedCreate n l ns ls failed)))
-all_making_refused_known (Ok done) a b ns ls net is h = tt
-all_making_refused_known (Err failed) None b ns ls net is h = tt
-all_making_refused_known (Err failed) (Some n) None ns ls net is h = tt
-all_making_refused_known (Err failed) (Some n) (Some l) ns ls net is h = making_refused n l ns ls failed (net, is) h
+  pub no_room : ¬ IsRoomFor marked (room_of marked room) → ¬ IsRoomFor net (room_of net room)
+  no_room unfit fits = unfit (rw (is, same_room net marks room) fits)
+
+-- both texts were read, and a network was made of them
+made_network : (n l : List ℕ) (room : Option ℕ) (net made : Net) (marks : List ℕ) → content n ≡ Ok net → landmarks_of net l ≡ Ok marks → length marks ≤ most_landmarks → IsRoomFor net (room_of net room)
+    → made ≡ roomed (with_landmarks net marks) room → IsNetworkOf n l room made
+made_network n l room net made marks network marks_are few fits is = record { given = record { net = net; network_is = network; marks = marks; marks_are = marks_are; few = few }; fits = fits; made_is = is }
+
+pub network_told : {E : Type 0} (r : Result Net E) (n l : List ℕ) (room : Option ℕ) (net : Net) (marks : List ℕ) → content n ≡ Ok net → landmarks_of net l ≡ Ok marks → OnOk r (length marks ≤ most_landmarks)
+    → OnOk r (IsRoomFor net (room_of net room)) → IfOk r (λ made. made ≡ roomed (with_landmarks net marks) room) → IfOk r (IsNetworkOf n l room)
+network_told (Ok made) n l room net marks network marks_are few fits is = made_network n l room net made marks network marks_are few fits is
+network_told (Err e) n l room net marks network marks_are few fits is = tt
+
+pub network_told_known : {E : Type 0} (r : Result Net E) (a b : Option (List ℕ)) (room : Option ℕ) (net : Net) (marks : List ℕ) → IfSome a (λ n. content n ≡ Ok net) → IfSome b (λ l. landmarks_of net l ≡ Ok marks)
+    → OnOk r (length marks ≤ most_landmarks) → OnOk r (IsRoomFor net (room_of net room)) → IfOk r (λ made. made ≡ roomed (with_landmarks net marks) room)
+    → IfOk r (λ made. IfSome a (λ n. IfSome b (λ l. IsNetworkOf n l room made)))
+network_told_known (Err e) a b room net marks network marks_are few fits is = tt
+network_told_known (Ok made) None b room net marks network marks_are few fits is = tt
+network_told_known (Ok made) (Some n) None room net marks network marks_are few fits is = tt
+network_told_known (Ok made) (Some n) (Some l) room net marks network marks_are few fits is = made_network n l room net made marks network marks_are few fits is
+
+pub network_refused : (n l : List ℕ) (room : Option ℕ) (ns ls : Source) (failed : Failed) → IsRefusedNetwork n l room ns ls failed → IsRefusedCreate n l room ns ls failed
+network_refused n l room ns ls (Code NotEmpty) h = absurd h
+network_refused n l room ns ls (Code Device) h = absurd h
+network_refused n l room ns ls (Code Write) h = absurd h
+network_refused n l room ns ls _ h = h
+
+pub network_refused_known : (a b : Option (List ℕ)) (room : Option ℕ) (ns ls : Source) (failed : Failed) → IfSome a (λ n. IfSome b (λ l. IsRefusedNetwork n l room ns ls failed)) → IfSome a (λ n. IfSome b (λ l. IsRefusedCreate n l room ns ls failed))
+network_refused_known None b room ns ls failed h = tt
+network_refused_known (Some n) None room ns ls failed h = tt
+network_refused_known (Some n) (Some l) room ns ls failed h = network_refused n l room ns ls failed h
+
+pub all_making_refused : (r : Result (Unit {0}) Failed) (n l : List ℕ) (room : Option ℕ) (ns ls : Source) (net : Net) → IsNetworkOf n l room net → IfErr r IsOfMaking → IfErr r (IsRefusedCreate n l room ns ls)
+all_making_refused (Ok done) n l room ns ls net is h = tt
+all_making_refused (Err failed) n l room ns ls net is h = making_refused n l room ns ls failed (net, is) h
+
+pub all_making_refused_known : (r : Result (Unit {0}) Failed) (a b : Option (List ℕ)) (room : Option ℕ) (ns ls : Source) (net : Net) → IfSome a (λ n. IfSome b (λ l. IsNetworkOf n l room net)) → IfErr r IsOfMaking → IfErr r (λ failed. IfSome a (λ n. IfSome b (λ l. IsRefusedCreate n l room ns ls failed)))
+all_making_refused_known (Ok done) a b room ns ls net is h = tt
+all_making_refused_known (Err failed) None b room ns ls net is h = tt
+all_making_refused_known (Err failed) (Some n) None room ns ls net is h = tt
+all_making_refused_known (Err failed) (Some n) (Some l) room ns ls net is h = making_refused n l room ns ls failed (net, is) h
 
 pub making_kinds : (r : Result (Unit {0}) Failed) → IfErr r IsOfMaking → IfErr r (λ failed. IsOfNetwork failed ⊎ IsOfMaking failed)
 making_kinds (Ok done) h = tt

@@ -1,7 +1,7 @@
--- What a stop at any moment leaves while commands are applied, and what the disk's count of failures is.
+-- What a stop at any moment leaves while groups are applied, and what the disk's count of failures is.
 use Rattle.std.proofs.Common.{◌≡◌, ◌∙◌, ⊎_elim, inl, inr, ℕ, ◌+◌, ◌-◌, ◌≤◌, false, List, [], ◌∷◌, ◌++◌, append_assoc, append-nil, length-append, Result, Ok, Err, refl, sym, ap, subst, arith}
 use Rattle.std.proofs.lemmas.List.{take-append-le}
-use Rattle.roadnet.specs.declared.commands.Command.{Command}
+use Rattle.roadnet.specs.declared.groups.Group.{Group}
 use Rattle.roadnet.specs.declared.refusals.Refusal.{Refusal}
 use Rattle.roadnet.specs.declared.refusals.Refusal.TheVariants.{Write}
 use Rattle.roadnet.specs.Net.{Net}
@@ -12,6 +12,7 @@ use Rattle.storefile.specs.StoreFile.{StandsTidyFor}
 use Rattle.machine.specs.declared.calls.Ticket.{Ticket}
 use Rattle.machine.specs.Machine.{Machine, IsState, batch, latest}
 use Rattle.machine.specs.Calls.{Submits, Flushes, failed}
+use Rattle.machine.proofs.Counted.{batch_count}
 use Rattle.machine.proofs.Kept.{left_between, broken}
 use Rattle.keeper.specs.Keeping.{LedgerState, IsDurableIn}
 use Rattle.printing.specs.declared.failed.Failed.{Failed}
@@ -41,14 +42,15 @@ module _ {D : Type 0} (moment : D → ℕ) (left_since : D → ℕ → List ℕ 
   pub adds_nothing : (old new : D) (P : List ℕ → Type 0) → AddsNothing moment left_since old new → AddsOnly moment left_since old new P
   adds_nothing old new P n = record { later = n.later; each = λ t c le since. inl (n.each t c le since) }
 
--- ---- the accepted commands grow
-pub within_more : (net : Net) (version : ℕ) (accepted more : List Command) (c : List ℕ) → StandsWithin net version accepted c → StandsWithin net version (accepted ++ more) c
+-- ---- the accepted groups grow
+pub within_more : (net : Net) (version : ℕ) (accepted more : List Group) (c : List ℕ) → StandsWithin net version accepted c → StandsWithin net version (accepted ++ more) c
 within_more net version accepted more c w = record {
   count = w.count;
   count_to = omega (arith, w.count_to, length-append accepted more);
   network = w.network;
   network_is = ap (after net) (take-append-le w.count accepted more w.count_to) ∙ w.network_is;
   journal_pages = w.journal_pages;
+  checkpoint_pages = w.checkpoint_pages;
   stands = w.stands;
 }
 
@@ -57,7 +59,7 @@ in_more m n g c w =
     let more : StandsWithin m.base m.base_version (m.accepted ++ g.more) c = within_more m.base m.base_version m.accepted g.more c w in
     let of_base : StandsWithin n.base m.base_version (m.accepted ++ g.more) c = subst (λ (b : Net). StandsWithin b m.base_version (m.accepted ++ g.more) c) (sym g.base) more in
     let of_version : StandsWithin n.base n.base_version (m.accepted ++ g.more) c = subst (λ (v : ℕ). StandsWithin n.base v (m.accepted ++ g.more) c) (sym g.base_version) of_base in
-    subst (λ (l : List Command). StandsWithin n.base n.base_version l c) (sym g.accepted) of_version
+    subst (λ (l : List Group). StandsWithin n.base n.base_version l c) (sym g.accepted) of_version
 
 pub grows_none : (m : Machine) → Grows m m
 grows_none m = record { base = refl; base_version = refl; more = []; accepted = sym (append-nil m.accepted) }
@@ -67,13 +69,22 @@ grows_both l m n g h = record {
   base = h.base ∙ g.base;
   base_version = h.base_version ∙ g.base_version;
   more = g.more ++ h.more;
-  accepted = h.accepted ∙ (ap (λ (a : List Command). a ++ h.more) g.accepted ∙ append_assoc l.accepted g.more h.more);
+  accepted = h.accepted ∙ (ap (λ (a : List Group). a ++ h.more) g.accepted ∙ append_assoc l.accepted g.more h.more);
 }
 
 pub grows_kept : (m n : Machine) → KeepsAccepted m n → Grows m n
 grows_kept m n k = record { base = k.base; base_version = k.base_version; more = []; accepted = k.accepted ∙ sym (append-nil m.accepted) }
 
-pub grows_submit : (m n : Machine) (c : Command) (r : Result Ticket Refusal) → Submits m c r n → Grows m n
+-- what one call kept, and the next
+pub kept_both : (l m n : Machine) → KeepsAccepted l m → KeepsAccepted m n → KeepsAccepted l n
+kept_both l m n g h = record {
+  base = h.base ∙ g.base;
+  base_version = h.base_version ∙ g.base_version;
+  accepted = h.accepted ∙ g.accepted;
+  durable = let first = g.durable in let second = h.durable in omega (arith, first, second);
+}
+
+pub grows_submit : (m n : Machine) (c : Group) (r : Result Ticket Refusal) → Submits m c r n → Grows m n
 grows_submit m n c (Ok t) h = subst (Grows m) (sym h.2) (record { base = refl; base_version = refl; more = c ∷ []; accepted = refl })
 grows_submit m n c (Err r) h = subst (Grows m) (sym h.1) (grows_none m)
 
@@ -97,13 +108,13 @@ durable_within m s c held =
       network = held.network;
       network_is = held.network_is;
       journal_pages = m.sizes.journal_pages;
-      stands = subst (StandsTidyFor m.sizes.journal_pages c held.network) counted held.stands;
+      checkpoint_pages = m.sizes.checkpoint_pages;
+      stands = subst (StandsTidyFor m.sizes.journal_pages m.sizes.checkpoint_pages c held.network) counted held.stands;
     }
 
 pub in_flight_within : (m : Machine) → IsState m → (c : List ℕ) → IsDurableIn (failed m (batch m)) c → StandsIn m c
 in_flight_within m s c held =
-    let within = s.durable_accepted in
-    durable_within (failed m (batch m)) (broken m s (batch m) (omega (arith, within))) c held
+    durable_within (failed m (batch m)) (broken m s (batch m) (batch_count m s)) c held
 
 pub leaves_by : {D : Type 0} (moment : D → ℕ) (left_since : D → ℕ → List ℕ → Type 0) (old new : D) (m n : Machine) (P : List ℕ → Type 0) → ((c : List ℕ) → P c → StandsIn m c) → Grows m n
     → LeavesOnly moment left_since old new P → AddsOnly moment left_since old new (StandsIn n)

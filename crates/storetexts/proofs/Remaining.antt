@@ -1,17 +1,19 @@
--- What a stop leaves of a store to which commands were applied.
-use Rattle.std.proofs.Common.{◌≡◌, ◌∙◌, ℕ, ◌+◌, ◌-◌, ◌<◌, ◌≤◌, false, List, [], ◌∷◌, ◌++◌, length, get_or, take, Option, None, Some, Result, ◌⊎◌, ⊎_elim, inr, Ok, Err, sym, ap, subst, arith}
+-- What a stop leaves of a store to which groups were applied.
+use Rattle.std.proofs.Common.{◌≡◌, ◌∙◌, ℕ, ◌+◌, ◌-◌, ◌<◌, ◌≤◌, false, List, [], ◌∷◌, ◌++◌, length, get_or, take, drop, Option, None, Some, Result, ◌⊎◌, ⊎_elim, inr, Ok, Err, sym, ap, subst, arith}
 use Rattle.std.specs.Prelude.{All, OnOk, IfErr, IfSome, slice_get}
 use Rattle.std.proofs.lemmas.List.{take_all, take_more}
 use Rattle.std.proofs.lemmas.Option.{slice_get_cases}
 use Rattle.std.proofs.lemmas.List.Elements.{All-weaker, All-get_or}
-use Rattle.roadnet.specs.declared.commands.Command.{Command}
+use Rattle.roadnet.specs.declared.groups.Group.{Group}
+use Rattle.roadnet.specs.Groups.{count_of}
 use Rattle.roadnet.specs.Net.{Net}
 use Rattle.roadnet.specs.Step.{after}
-use Rattle.dimacs.specs.Commanded.{command_text}
+use Rattle.dimacs.specs.Commanded.{group_text}
 use Rattle.dimacs.specs.Texts.{Reads}
 use Rattle.storefile.specs.StoreFile.{StandsTidyFor}
 use Rattle.machine.specs.Machine.{Machine, latest, pending, network_at}
 use Rattle.machine.specs.Lives.{HoldsDurable}
+use Rattle.machine.proofs.Counted.{versions_are_fewer}
 use Rattle.machine.proofs.Kept.{left_between}
 use Rattle.keeper.specs.Keeping.{Holds}
 use Rattle.printing.specs.declared.failed.Failed.{Failed}
@@ -20,7 +22,7 @@ use Rattle.roadnet.specs.declared.refusals.Refusal.TheVariants.{Write}
 use Rattle.storetexts.specs.declared.outcomes.Outcome.{Outcome}
 use Rattle.storetexts.specs.declared.outcomes.Outcome.TheVariants.{Accepted, Refused}
 use Rattle.storetexts.specs.Outcomes.{ComesTo, accepted_in, outcome_lines, IsSettled, IsUnsettledAt}
-use Rattle.storetexts.specs.Applied.{commands_of, StandsAfter, AppliesAll, IsApplied, KeepsTold, TellsFront, AppliesSome, IsCutOff, IfNotWrite, TellsAll, StandsWithin, StandsAmong}
+use Rattle.storetexts.specs.Applied.{groups_of, StandsAfter, AppliesAll, IsApplied, KeepsTold, TellsFront, AppliesSome, IsCutOff, IfNotWrite, TellsAll, StandsWithin, StandsAmong}
 use Rattle.storetexts.specs.Applying.{IsSteady, HaveCome, FirstHaveCome, KeepsAccepted, AreTold, IfTold, IfEndedEarly, StandsIn}
 use Rattle.storetexts.proofs.Comings.{IsPlace, place, as_many}
 use Rattle.storetexts.proofs.Stepping.{latest_is, settled_all, come_kept, come_told}
@@ -29,22 +31,22 @@ settled_later : (a b : ℕ) → a ≤ b → (o : Outcome) → IsSettled a o → 
 settled_later a b le (Accepted n) s = omega (arith, s, le)
 settled_later a b le (Refused r) s = tt
 
-module _ (net : Net) (version told : ℕ) (cs : List Command) (os : List Outcome) (m : Machine) (h : HaveCome net version cs os told m) (s : IsSteady m) where
+module _ (net : Net) (version told : ℕ) (cs : List Group) (os : List Outcome) (m : Machine) (h : HaveCome net version cs os told m) (s : IsSteady m) where
   network_there : (v : ℕ) → network_at m v ≡ after net (take (v - version) (accepted_in cs os))
   network_there v =
       ap (λ (n : Net). after n (take (v - m.base_version) m.accepted)) h.base_is
       ∙ (ap (λ (b : ℕ). after net (take (v - b) m.accepted)) h.version_is
-      ∙ ap (λ (l : List Command). after net (take (v - version) l)) h.accepted_is)
+      ∙ ap (λ (l : List Group). after net (take (v - version) l)) h.accepted_is)
 
   -- a content that holds what is durable keeps what was told
-  pub kept_told : (content : List ℕ) → HoldsDurable (StandsTidyFor m.sizes.journal_pages) m content → KeepsTold net version cs os told m.durable content
+  pub kept_told : (content : List ℕ) → HoldsDurable (StandsTidyFor m.sizes.journal_pages m.sizes.checkpoint_pages) m content → KeepsTold net version cs os told m.durable content
   kept_told content held =
       let v = held.version in
       let between = left_between m s.state v held.left in
       let from : m.durable ≤ v = between.0 in
       let to : v ≤ latest m = between.1 in
       let base : m.base_version ≤ m.durable = let a = s.state.base_opened in let b = s.state.opened_shown in let d = s.state.shown_durable in omega (arith, a, b, d) in
-      let p : IsPlace net version v told cs os = place version net version v told cs os h.come (omega (arith, base, from, h.version_is)) (omega (arith, to, latest_is net version told cs os m h)) h.told_to
+      let p : IsPlace net version v told cs os = place 0 net version v told cs os h.come (omega (arith, base, from, h.version_is)) (omega (arith, to, latest_is net version told cs os m h)) h.told_to
       (All-weaker (IsSettled m.durable) (IsSettled v) (settled_later m.durable v from) (take told os) h.settled) in
       record {
         kept = p.kept;
@@ -55,19 +57,20 @@ module _ (net : Net) (version told : ℕ) (cs : List Command) (os : List Outcome
           network = held.network;
           network_is = ap (after net) p.same ∙ (sym (network_there v) ∙ held.network_is);
           journal_pages = m.sizes.journal_pages;
-          stands = subst (StandsTidyFor m.sizes.journal_pages content held.network) p.counted held.stands;
+          checkpoint_pages = m.sizes.checkpoint_pages;
+          stands = subst (StandsTidyFor m.sizes.journal_pages m.sizes.checkpoint_pages content held.network) p.counted held.stands;
         };
       }
 
 -- where all is told, it keeps all
-pub kept_all : (net : Net) (version durable : ℕ) (cs : List Command) (os : List Outcome) (content : List ℕ) → ComesTo version net version cs os → KeepsTold net version cs os (length os) durable content → StandsAfter net version cs os content
+pub kept_all : (net : Net) (version durable : ℕ) (cs : List Group) (os : List Outcome) (content : List ℕ) → ComesTo 0 net version cs os → KeepsTold net version cs os (length os) durable content → StandsAfter net version cs os content
 kept_all net version durable cs os content come k =
-    let long : length os ≡ length cs = as_many version net version cs os come in
+    let long : length os ≡ length cs = as_many 0 net version cs os come in
     let same_cs : take k.kept cs ≡ cs = take_all k.kept cs (omega (arith, k.told_kept, long)) in
     let same_os : take k.kept os ≡ os = take_all k.kept os k.told_kept in
-    subst (λ (l : List Outcome). StandsAfter net version cs l content) same_os (subst (λ (l : List Command). StandsAfter net version l (take k.kept os) content) same_cs k.stands)
+    subst (λ (l : List Outcome). StandsAfter net version cs l content) same_os (subst (λ (l : List Group). StandsAfter net version l (take k.kept os) content) same_cs k.stands)
 
-pub applies_all : (net : Net) (version : ℕ) (cs : List Command) (os : List Outcome) (told : ℕ) (m : Machine) (content : List ℕ) (left : List ℕ → Type 0) (old new : Option (List ℕ))
+pub applies_all : (net : Net) (version : ℕ) (cs : List Group) (os : List Outcome) (told : ℕ) (m : Machine) (content : List ℕ) (left : List ℕ → Type 0) (old new : Option (List ℕ))
     → HaveCome net version cs os (length os) m → IsSteady m → m.broken ≡ false → Holds content left m → left content → told ≡ length os → AreTold old new os told
     → AppliesAll net version cs content left old new
 applies_all net version cs os told m content left old new h s calm holds now all lines = record {
@@ -85,15 +88,18 @@ front_of : (failed : Failed) (durable : ℕ) (os : List Outcome) (told : ℕ) (o
 front_of (Code Write) durable os told old new settled lines next = tt
 front_of _ durable os told old new settled lines next = record { written = lines; settled = settled; next = next }
 
-pub applies_some : (net : Net) (version : ℕ) (cs : List Command) (os : List Outcome) (told : ℕ) (m : Machine) (content : List ℕ) (left : List ℕ → Type 0) (old new : Option (List ℕ)) (failed : Failed)
-    → FirstHaveCome net version cs os told m → IsSteady m → pending m ≤ 253 → Holds content left m → IfNotWrite failed (AreTold old new os told) → IfNotWrite failed (IsUnsettledAt m.durable os told)
+pub applies_some : (net : Net) (version : ℕ) (cs : List Group) (os : List Outcome) (told : ℕ) (m : Machine) (content : List ℕ) (left : List ℕ → Type 0) (old new : Option (List ℕ)) (failed : Failed)
+    → FirstHaveCome net version cs os told m → IsSteady m → pending m ≤ 505 → Holds content left m → IfNotWrite failed (AreTold old new os told) → IfNotWrite failed (IsUnsettledAt m.durable os told)
     → AppliesSome net version cs left old new failed
 applies_some net version cs os told m content left old new failed h s waiting holds lines next = record {
   taken = h.taken;
   outcomes = os;
   come = h.come.come;
   durable = m.durable;
-  waiting = let long = latest_is net version told (take h.taken cs) os m h.come in omega (arith, waiting, long);
+  waiting =
+      let behind : pending m ≡ count_of (drop (m.durable - version) (accepted_in (take h.taken cs) os)) =
+      ap (λ (b : ℕ). count_of (drop (m.durable - b) m.accepted)) h.come.version_is ∙ ap (λ (l : List Group). count_of (drop (m.durable - version) l)) h.come.accepted_is in
+      omega (arith, waiting, behind);
   told = told;
   told_to = h.come.told_to;
   each_left = λ c was. kept_told net version told (take h.taken cs) os m h.come s c (holds.each_left c was);
@@ -101,7 +107,7 @@ applies_some net version cs os told m content left old new failed h s waiting ho
 }
 
 -- ---- a flush, and what is told behind it
-pub settle_come : (net : Net) (version told told' : ℕ) (cs : List Command) (os : List Outcome) (m m' : Machine)
+pub settle_come : (net : Net) (version told told' : ℕ) (cs : List Group) (os : List Outcome) (m m' : Machine)
     → KeepsAccepted m m' → told' ≤ length os → (All (IsSettled m'.durable) (take told os) → All (IsSettled m'.durable) (take told' os))
     → HaveCome net version cs os told m → HaveCome net version cs os told' m'
 settle_come net version told told' cs os m m' k to more h =
@@ -121,22 +127,23 @@ all_if_unsettled durable os told to next all = ⊎_elim
     (λ past. omega (arith, to, past.0))
     (slice_get_cases os told).1
 
-pub settle_all : (net : Net) (version told told' : ℕ) (cs : List Command) (os : List Outcome) (m m' : Machine)
+pub settle_all : (net : Net) (version told told' : ℕ) (cs : List Group) (os : List Outcome) (m m' : Machine)
     → KeepsAccepted m m' → IsSteady m' → pending m' ≡ 0 → told' ≤ length os → IsUnsettledAt m'.durable os told'
     → HaveCome net version cs os told m → told' ≡ length os
 settle_all net version told told' cs os m m' k s none to next h =
     let later = come_kept net version told cs os m h m' k in
     let within = s.state.durable_accepted in
-    all_if_unsettled m'.durable os told' to next (settled_all net version told cs os m' later (omega (arith, within, none)))
+    let fewer = (versions_are_fewer m' s.state).0 in
+    all_if_unsettled m'.durable os told' to next (settled_all net version told cs os m' later (omega (arith, within, none, fewer)))
 
--- ---- commands taken one by one
-pub come_next : (net : Net) (version : ℕ) (cs : List Command) (i : ℕ) (d : Command) (os : List Outcome) (told : ℕ) (m : Machine) → i < length cs
+-- ---- groups taken one by one
+pub come_next : (net : Net) (version : ℕ) (cs : List Group) (i : ℕ) (d : Group) (os : List Outcome) (told : ℕ) (m : Machine) → i < length cs
     → HaveCome net version (take i cs ++ get_or cs i d ∷ []) os told m → HaveCome net version (take (i + 1) cs) os told m
-come_next net version cs i d os told m lt h = subst (λ (l : List Command). HaveCome net version l os told m) (sym (take_more cs i d lt)) h
+come_next net version cs i d os told m lt h = subst (λ (l : List Group). HaveCome net version l os told m) (sym (take_more cs i d lt)) h
 
-pub come_end : (net : Net) (version : ℕ) (cs : List Command) (i : ℕ) (os : List Outcome) (told : ℕ) (m : Machine) → length cs ≤ i
+pub come_end : (net : Net) (version : ℕ) (cs : List Group) (i : ℕ) (os : List Outcome) (told : ℕ) (m : Machine) → length cs ≤ i
     → HaveCome net version (take i cs) os told m → HaveCome net version cs os told m
-come_end net version cs i os told m end h = subst (λ (l : List Command). HaveCome net version l os told m) (take_all i cs end) h
+come_end net version cs i os told m end h = subst (λ (l : List Group). HaveCome net version l os told m) (take_all i cs end) h
 
 pub on_ok_any : {X E : Type 0} (r : Result X E) (P : Type 0) → P → OnOk r P
 on_ok_any (Ok x) P p = p
@@ -146,8 +153,12 @@ pub on_ok_too : {X E : Type 0} (r : Result X E) (P Q : Type 0) → OnOk r P → 
 on_ok_too (Ok x) P Q p f = f p
 on_ok_too (Err e) P Q p f = tt
 
+pub on_ok_both : {X E : Type 0} (r : Result X E) (P Q R : Type 0) → OnOk r P → OnOk r Q → (P → Q → R) → OnOk r R
+on_ok_both (Ok x) P Q R p q f = f p q
+on_ok_both (Err e) P Q R p q f = tt
+
 -- ---- how it ends
-module _ (net : Net) (version : ℕ) (first m : Machine) (cs : List Command) (os : List Outcome) (told : ℕ) (content : List ℕ) (left : List ℕ → Type 0) (old new : Option (List ℕ)) (begun : HaveCome net version [] [] 0 first) (s : IsSteady m) (holds : Holds content left m) where
+module _ (net : Net) (version : ℕ) (first m : Machine) (cs : List Group) (os : List Outcome) (told : ℕ) (content : List ℕ) (left : List ℕ → Type 0) (old new : Option (List ℕ)) (begun : HaveCome net version [] [] 0 first) (s : IsSteady m) (holds : Holds content left m) where
   pub ended_all : (r : Result (Unit {0}) Failed) → OnOk r ((n : Net) (v : ℕ) → HaveCome n v [] [] 0 first → HaveCome n v cs os told m) → OnOk r (m.broken ≡ false)
       → OnOk r ((n : Net) (v : ℕ) → HaveCome n v [] [] 0 first → told ≡ length os) → IfTold r (AreTold old new os told) → left content → OnOk r (AppliesAll net version cs content left old new)
   ended_all (Ok done) come calm all lines now =
@@ -155,13 +166,13 @@ module _ (net : Net) (version : ℕ) (first m : Machine) (cs : List Command) (os
       applies_all net version cs os told m content left old new (subst (λ (n : ℕ). HaveCome net version cs os n m) whole (come net version begun)) s calm holds now whole lines
   ended_all (Err failed) come calm all lines now = tt
 
-  pub ended_some : (r : Result (Unit {0}) Failed) → ((n : Net) (v : ℕ) → HaveCome n v [] [] 0 first → FirstHaveCome n v cs os told m) → pending m ≤ 253 → IfTold r (AreTold old new os told) → IfEndedEarly r (IsUnsettledAt m.durable os told)
+  pub ended_some : (r : Result (Unit {0}) Failed) → ((n : Net) (v : ℕ) → HaveCome n v [] [] 0 first → FirstHaveCome n v cs os told m) → pending m ≤ 505 → IfTold r (AreTold old new os told) → IfEndedEarly r (IsUnsettledAt m.durable os told)
       → IfErr r (AppliesSome net version cs left old new)
   ended_some (Ok done) some waiting lines next = tt
   ended_some (Err failed) some waiting lines next = applies_some net version cs os told m content left old new failed (some net version begun) s waiting holds lines next
 
 -- all that was told, also where the content isn't known
-pub told_all : (net : Net) (version : ℕ) (first m : Machine) (cs : List Command) (os : List Outcome) (told : ℕ) (old new : Option (List ℕ)) → HaveCome net version [] [] 0 first → (r : Result (Unit {0}) Failed)
+pub told_all : (net : Net) (version : ℕ) (first m : Machine) (cs : List Group) (os : List Outcome) (told : ℕ) (old new : Option (List ℕ)) → HaveCome net version [] [] 0 first → (r : Result (Unit {0}) Failed)
     → OnOk r ((n : Net) (v : ℕ) → HaveCome n v [] [] 0 first → HaveCome n v cs os told m) → OnOk r ((n : Net) (v : ℕ) → HaveCome n v [] [] 0 first → told ≡ length os) → IfTold r (AreTold old new os told)
     → OnOk r (TellsAll net version cs old new)
 told_all net version first m cs os told old new begun (Ok done) come all lines = record {
@@ -174,24 +185,24 @@ told_all net version first m cs os told old new begun (Ok done) come all lines =
 }
 told_all net version first m cs os told old new begun (Err failed) come all lines = tt
 
--- a stop at any moment leaves a beginning of what was accepted of the first commands
-pub among : (net : Net) (version : ℕ) (cs : List Command) (os : List Outcome) (told : ℕ) (m : Machine) → FirstHaveCome net version cs os told m → (c : List ℕ) → StandsIn m c → StandsAmong net version cs c
+-- a stop at any moment leaves a beginning of what was accepted of the first groups
+pub among : (net : Net) (version : ℕ) (cs : List Group) (os : List Outcome) (told : ℕ) (m : Machine) → FirstHaveCome net version cs os told m → (c : List ℕ) → StandsIn m c → StandsAmong net version cs c
 among net version cs os told m h c w =
     let of_base : StandsWithin net m.base_version m.accepted c = subst (λ (n : Net). StandsWithin n m.base_version m.accepted c) h.come.base_is w in
     let of_version : StandsWithin net version m.accepted c = subst (λ (v : ℕ). StandsWithin net v m.accepted c) h.come.version_is of_base in
-    record { taken = h.taken; outcomes = os; come = h.come.come; stands = subst (λ (l : List Command). StandsWithin net version l c) h.come.accepted_is of_version }
+    record { taken = h.taken; outcomes = os; come = h.come.come; stands = subst (λ (l : List Group). StandsWithin net version l c) h.come.accepted_is of_version }
 
 -- ---- the same of a text
 pub if_known : (known : Option (List ℕ)) (P : List ℕ → Type 0) → ((text : List ℕ) → P text) → IfSome known P
 if_known None P p = tt
 if_known (Some text) P p = p text
 
-module _ {X : Type 0} (net : Net) (version : ℕ) (list : List Command) (left : List ℕ → Type 0) (r : Result X Failed) where
-  pub applied_known : (content : List ℕ) (known rest : Option (List ℕ)) (old new : Option (List ℕ)) → OnOk r (AppliesAll net version list content left old new) → IfSome known (λ text. Reads command_text text rest (Ok list))
+module _ {X : Type 0} (net : Net) (version : ℕ) (list : List Group) (left : List ℕ → Type 0) (r : Result X Failed) where
+  pub applied_known : (content : List ℕ) (known rest : Option (List ℕ)) (old new : Option (List ℕ)) → OnOk r (AppliesAll net version list content left old new) → IfSome known (λ text. Reads group_text text rest (Ok list))
       → OnOk r (IfSome known (λ text. IsApplied net version text content left old new))
   applied_known content known rest old new applies read = go r applies
     where
-      read_so : (k : Option (List ℕ)) → IfSome k (λ text. Reads command_text text rest (Ok list)) → AppliesAll net version list content left old new → IfSome k (λ text. IsApplied net version text content left old new)
+      read_so : (k : Option (List ℕ)) → IfSome k (λ text. Reads group_text text rest (Ok list)) → AppliesAll net version list content left old new → IfSome k (λ text. IsApplied net version text content left old new)
       read_so None said a = tt
       read_so (Some text) said a = record { list = list; list_is = said.0; applies = a }
 
@@ -199,18 +210,18 @@ module _ {X : Type 0} (net : Net) (version : ℕ) (list : List Command) (left : 
       go (Ok done) a = read_so known read a
       go (Err failed) a = tt
 
-  pub applied_text : (content text : List ℕ) (old old' new new' : Option (List ℕ)) → old' ≡ old → new' ≡ new → OnOk r (AppliesAll net version list content left old' new') → commands_of text ≡ Ok list → OnOk r (IsApplied net version text content left old new)
+  pub applied_text : (content text : List ℕ) (old old' new new' : Option (List ℕ)) → old' ≡ old → new' ≡ new → OnOk r (AppliesAll net version list content left old' new') → groups_of text ≡ Ok list → OnOk r (IsApplied net version text content left old new)
   applied_text content text old old' new new' e f applies said = go r applies
     where
       go : (x : Result X Failed) → OnOk x (AppliesAll net version list content left old' new') → OnOk x (IsApplied net version text content left old new)
       go (Ok done) a = record { list = list; list_is = said; applies = subst (λ (o : Option (List ℕ)). AppliesAll net version list content left o new) e (subst (λ (o : Option (List ℕ)). AppliesAll net version list content left old' o) f a) }
       go (Err failed) a = tt
 
-  pub cut_off_known : (A : Type 0) (known rest : Option (List ℕ)) (old new : Option (List ℕ)) → IfErr r (AppliesSome net version list left old new) → IfSome known (λ text. Reads command_text text rest (Ok list))
+  pub cut_off_known : (A : Type 0) (known rest : Option (List ℕ)) (old new : Option (List ℕ)) → IfErr r (AppliesSome net version list left old new) → IfSome known (λ text. Reads group_text text rest (Ok list))
       → IfErr r (λ failed. IfSome known (λ text. A ⊎ IsCutOff net version text left old new failed))
   cut_off_known A known rest old new applies read = go r applies
     where
-      read_so : (failed : Failed) (k : Option (List ℕ)) → IfSome k (λ text. Reads command_text text rest (Ok list)) → AppliesSome net version list left old new failed → IfSome k (λ text. A ⊎ IsCutOff net version text left old new failed)
+      read_so : (failed : Failed) (k : Option (List ℕ)) → IfSome k (λ text. Reads group_text text rest (Ok list)) → AppliesSome net version list left old new failed → IfSome k (λ text. A ⊎ IsCutOff net version text left old new failed)
       read_so failed None said a = tt
       read_so failed (Some text) said a = inr (record { list = list; list_is = said.0; applies = a })
 
@@ -218,7 +229,7 @@ module _ {X : Type 0} (net : Net) (version : ℕ) (list : List Command) (left : 
       go (Ok done) a = tt
       go (Err failed) a = read_so failed known read a
 
-  pub cut_off_text : (A : Type 0) (text : List ℕ) (old old' new new' : Option (List ℕ)) → old' ≡ old → new' ≡ new → IfErr r (AppliesSome net version list left old' new') → commands_of text ≡ Ok list
+  pub cut_off_text : (A : Type 0) (text : List ℕ) (old old' new new' : Option (List ℕ)) → old' ≡ old → new' ≡ new → IfErr r (AppliesSome net version list left old' new') → groups_of text ≡ Ok list
       → IfErr r (λ failed. A ⊎ IsCutOff net version text left old new failed)
   cut_off_text A text old old' new new' e f applies said = go r applies
     where

@@ -1,7 +1,7 @@
--- The commands of a text while they are applied: how the ledger's machine stands to what they came to.
+-- The groups of a text while they are applied: how the ledger's machine stands to what they came to.
 use Rattle.std.specs.Prelude.{◌≡◌, ◌⊎◌, ℕ, ◌≤◌, false, List, [], ◌∷◌, ◌++◌, Option, None, All, length, take, Result, Ok, Err, ⊤}
 use Rattle.std.specs.Io.KnownBytes.{Appends}
-use Rattle.roadnet.specs.declared.commands.Command.{Command}
+use Rattle.roadnet.specs.declared.groups.Group.{Group}
 use Rattle.roadnet.specs.declared.refusals.Refusal.TheVariants.{Write}
 use Rattle.roadnet.specs.Net.{Net}
 use Rattle.store.specs.Opening.{IsPassing}
@@ -22,17 +22,17 @@ pub record IsSteady (m : Machine) : Type 0 where
   pub none_going : m.broken ≡ false → m.checkpoint ≡ None
   pub some_page : 1 ≤ m.sizes.journal_pages
 
--- Commands on this network at this version came to these outcomes; the machine has accepted just the accepted ones, and the first
+-- Groups on this network at this version came to these outcomes; the machine has accepted just the accepted ones, and the first
 -- outcomes, so many, are settled.
-pub record HaveCome (net : Net) (version : ℕ) (commands : List Command) (outcomes : List Outcome) (told : ℕ) (m : Machine) : Type 0 where
+pub record HaveCome (net : Net) (version : ℕ) (groups : List Group) (outcomes : List Outcome) (told : ℕ) (m : Machine) : Type 0 where
   pub base_is : m.base ≡ net
   pub version_is : m.base_version ≡ version
-  pub come : ComesTo version net version commands outcomes
-  pub accepted_is : m.accepted ≡ accepted_in commands outcomes
+  pub come : ComesTo 0 net version groups outcomes
+  pub accepted_is : m.accepted ≡ accepted_in groups outcomes
   pub told_to : told ≤ length outcomes
   pub settled : All (IsSettled m.durable) (take told outcomes)
 
--- the same commands are accepted, and what was durable stays so
+-- the same groups are accepted, and what was durable stays so
 pub record KeepsAccepted (old new : Machine) : Type 0 where
   pub base : new.base ≡ old.base
   pub base_version : new.base_version ≡ old.base_version
@@ -59,14 +59,14 @@ IsCutOffBy (Text which fault) = ⊥
 IsCutOffBy (Code Write) = ⊤
 IsCutOffBy (Code refusal) = IsPassing refusal
 
--- the same as `HaveCome` of the first of these commands
-pub record FirstHaveCome (net : Net) (version : ℕ) (commands : List Command) (outcomes : List Outcome) (told : ℕ) (m : Machine) : Type 0 where
+-- the same as `HaveCome` of the first of these groups
+pub record FirstHaveCome (net : Net) (version : ℕ) (groups : List Group) (outcomes : List Outcome) (told : ℕ) (m : Machine) : Type 0 where
   pub taken : ℕ
-  pub come : HaveCome net version (take taken commands) outcomes told m
+  pub come : HaveCome net version (take taken groups) outcomes told m
 
 -- ---- from one state of the applying to a later one
 
--- how far commands are applied: what they came to, how many of these outcomes are told, and the machine of the ledger
+-- how far groups are applied: what they came to, how many of these outcomes are told, and the machine of the ledger
 pub record Progress : Type 0 where
   pub outcomes : List Outcome
   pub told : ℕ
@@ -75,20 +75,20 @@ pub record Progress : Type 0 where
 abbrev pub progress : {D : Type 0} → Applying D → Progress
 progress a = record { outcomes = a.outcomes.items; told = a.told; machine = a.ledger.machine }
 
--- whatever commands came to the old outcomes came, with this one behind them, to the new ones
-abbrev pub ComesBehind : Command → Progress → Progress → Type 0
-ComesBehind command old new = (net : Net) (version : ℕ) (commands : List Command)
-    → HaveCome net version commands old.outcomes old.told old.machine → HaveCome net version (commands ++ command ∷ []) new.outcomes new.told new.machine
+-- whatever groups came to the old outcomes came, with this one behind them, to the new ones
+abbrev pub ComesBehind : Group → Progress → Progress → Type 0
+ComesBehind group old new = (net : Net) (version : ℕ) (groups : List Group)
+    → HaveCome net version groups old.outcomes old.told old.machine → HaveCome net version (groups ++ group ∷ []) new.outcomes new.told new.machine
 
--- whatever commands came to the old outcomes came to the new ones
+-- whatever groups came to the old outcomes came to the new ones
 abbrev pub ComesStill : Progress → Progress → Type 0
-ComesStill old new = (net : Net) (version : ℕ) (commands : List Command)
-    → HaveCome net version commands old.outcomes old.told old.machine → HaveCome net version commands new.outcomes new.told new.machine
+ComesStill old new = (net : Net) (version : ℕ) (groups : List Group)
+    → HaveCome net version groups old.outcomes old.told old.machine → HaveCome net version groups new.outcomes new.told new.machine
 
--- where commands came to the old outcomes, each of the new ones is told
+-- where groups came to the old outcomes, each of the new ones is told
 abbrev pub AllTold : Progress → Progress → Type 0
-AllTold old new = (net : Net) (version : ℕ) (commands : List Command)
-    → HaveCome net version commands old.outcomes old.told old.machine → new.told ≡ length new.outcomes
+AllTold old new = (net : Net) (version : ℕ) (groups : List Group)
+    → HaveCome net version groups old.outcomes old.told old.machine → new.told ≡ length new.outcomes
 
 -- what was told is still the same
 abbrev pub SameTold : Progress → List Outcome → Type 0
@@ -117,12 +117,12 @@ ForBegun first Holds = (net : Net) (version : ℕ) → HaveCome net version [] [
 abbrev pub ForCame : {D : Type 0} → (D → Type 0) → (D → List ℕ) → LedgerState D → (Net → ℕ → Type 0) → Type 0
 ForCame honest content ledger Holds = CameTidy honest content ledger.given → ForBegun ledger.machine Holds
 
--- all of these commands have come so far, or the first of them
-abbrev pub ComeTo : Machine → List Command → Progress → Type 0
-ComeTo first commands p = ForBegun first (λ net version. HaveCome net version commands p.outcomes p.told p.machine)
+-- all of these groups have come so far, or the first of them
+abbrev pub ComeTo : Machine → List Group → Progress → Type 0
+ComeTo first groups p = ForBegun first (λ net version. HaveCome net version groups p.outcomes p.told p.machine)
 
-abbrev pub FirstComeTo : Machine → List Command → Progress → Type 0
-FirstComeTo first commands p = ForBegun first (λ net version. FirstHaveCome net version commands p.outcomes p.told p.machine)
+abbrev pub FirstComeTo : Machine → List Group → Progress → Type 0
+FirstComeTo first groups p = ForBegun first (λ net version. FirstHaveCome net version groups p.outcomes p.told p.machine)
 
 -- ---- what a stop leaves meanwhile
 
@@ -131,17 +131,17 @@ pub record AddsOnly {D : Type 0} (moment : D → ℕ) (left_since : D → ℕ �
   pub later : moment old ≤ moment new
   pub each : (t : ℕ) (c : List ℕ) → t ≤ moment old → left_since new t c → left_since old t c ⊎ P c
 
--- the accepted commands of the new machine begin with those of the old one
+-- the accepted groups of the new machine begin with those of the old one
 pub record Grows (old new : Machine) : Type 0 where
   pub base : new.base ≡ old.base
   pub base_version : new.base_version ≡ old.base_version
-  pub more : List Command
+  pub more : List Group
   pub accepted : new.accepted ≡ old.accepted ++ more
 
--- the content stands for the network after a beginning of the machine's accepted commands
+-- the content stands for the network after a beginning of the machine's accepted groups
 abbrev pub StandsIn : Machine → List ℕ → Type 0
 StandsIn m content = StandsWithin m.base m.base_version m.accepted content
 
--- where the store came tidy, a stop at any moment leaves what it might have left before, or a beginning of the accepted commands
+-- where the store came tidy, a stop at any moment leaves what it might have left before, or a beginning of the accepted groups
 abbrev pub Leaves : {D : Type 0} → (D → Type 0) → (D → List ℕ) → (D → ℕ) → (D → ℕ → List ℕ → Type 0) → LedgerState D → LedgerState D → Type 0
 Leaves honest content moment left_since old new = CameTidy honest content old.given → AddsOnly moment left_since old.disk new.disk (StandsIn new.machine)

@@ -5,3 +5,4 @@ pub mod Asked
 pub mod Applied
 pub mod Applying
 pub mod Checked
+pub mod Moved

@@ -1,10 +1,11 @@
--- What the commands of a text come to, one after the other, and how it is told.
-use Rattle.std.specs.Prelude.{◌≡◌, ◌⊎◌, ℕ, ◌+◌, ◌≤◌, List, [], ◌∷◌, slice_get, Option, None, Some, IfSome, map, nat_le, if◌then◌else◌, ⊤}
-use Rattle.roadnet.specs.declared.commands.Command.{Command}
+-- What the groups of a text come to, one after the other, and how it is told.
+use Rattle.std.specs.Prelude.{◌≡◌, ◌⊎◌, ℕ, ◌+◌, ◌≤◌, List, [], ◌∷◌, length, slice_get, Option, None, Some, IfSome, map, nat_le, nat_lt, if◌then◌else◌, ⊤}
+use Rattle.roadnet.specs.declared.groups.Group.{Group}
+use Rattle.roadnet.specs.Batches.{changed_by}
 use Rattle.roadnet.specs.declared.refusals.Refusal.{Refusal}
 use Rattle.roadnet.specs.declared.refusals.Refusal.TheVariants.{OutOfMemory, HistoryFull, VersionsExhausted}
 use Rattle.roadnet.specs.Net.{Net}
-use Rattle.roadnet.specs.Step.{refusal_of, changed}
+use Rattle.roadnet.specs.Step.{first_refusal}
 use Rattle.machine.specs.declared.events.Replied.{Replied}
 use Rattle.machine.specs.declared.events.Replied.TheVariants.{Durable, Refused as told_refused}
 use Rattle.machine.specs.Machine.{most_versions, most_of_life}
@@ -21,37 +22,37 @@ reply_of (Refused refusal) = told_refused refusal
 abbrev pub outcome_lines : List Outcome → List ℕ
 outcome_lines outcomes = printed_replies (map reply_of outcomes)
 
--- For what the command after so many versions is refused, memory apart, where the store was opened at an earlier one: 16,777,216 commands
--- were accepted since, or the version would pass 2^48, or the network doesn't admit it.
-abbrev pub refusal_at : ℕ → Net → ℕ → Command → Option Refusal
-refusal_at opened net version command =
-    if nat_le (opened + most_of_life) version then Some HistoryFull else
+-- For what the group after so many versions is refused, memory apart, where so many commands were accepted since the store was opened: they would
+-- pass 16,777,216, or the version would pass 2^48, or the network doesn't admit the group.
+abbrev pub refusal_at : ℕ → Net → ℕ → Group → Option Refusal
+refusal_at life net version group =
+    if nat_lt most_of_life (life + length group) then Some HistoryFull else
     if nat_le most_versions version then Some VersionsExhausted else
-    refusal_of net command
+    first_refusal net group
 
 -- refused for this cause, or else for want of memory
 abbrev pub IsRefusedFor : Option Refusal → Refusal → Type 0
 IsRefusedFor cause refusal = (cause ≡ Some refusal) ⊎ ((cause ≡ None) × (refusal ≡ OutOfMemory))
 
--- Commands on this network at this version come to these outcomes, one each: accepted as the next version is what has no cause of refusal
--- after those accepted before it.
-abbrev pub ComesTo : ℕ → Net → ℕ → List Command → List Outcome → Type 0
-ComesTo opened net version [] [] = Unit {0}
-ComesTo opened net version [] (outcome ∷ outcomes) = ⊥
-ComesTo opened net version (command ∷ commands) [] = ⊥
-ComesTo opened net version (command ∷ commands) (Accepted number ∷ outcomes) =
-    (refusal_at opened net version command ≡ None) × (number ≡ version + 1) × ComesTo opened (changed net command) (version + 1) commands outcomes
-ComesTo opened net version (command ∷ commands) (Refused refusal ∷ outcomes) =
-    IsRefusedFor (refusal_at opened net version command) refusal × ComesTo opened net version commands outcomes
+-- Groups on this network at this version, where so many commands were accepted since the store was opened, come to these outcomes, one each:
+-- accepted as the next version is what has no cause of refusal after those accepted before it.
+abbrev pub ComesTo : ℕ → Net → ℕ → List Group → List Outcome → Type 0
+ComesTo life net version [] [] = Unit {0}
+ComesTo life net version [] (outcome ∷ outcomes) = ⊥
+ComesTo life net version (group ∷ groups) [] = ⊥
+ComesTo life net version (group ∷ groups) (Accepted number ∷ outcomes) =
+    (refusal_at life net version group ≡ None) × (number ≡ version + 1) × ComesTo (life + length group) (changed_by net group) (version + 1) groups outcomes
+ComesTo life net version (group ∷ groups) (Refused refusal ∷ outcomes) =
+    IsRefusedFor (refusal_at life net version group) refusal × ComesTo life net version groups outcomes
 
--- the commands that were accepted, in order
-abbrev pub accepted_in : List Command → List Outcome → List Command
+-- the groups that were accepted, in order
+abbrev pub accepted_in : List Group → List Outcome → List Group
 accepted_in [] outcomes = []
-accepted_in (command ∷ commands) [] = []
-accepted_in (command ∷ commands) (Accepted number ∷ outcomes) = command ∷ accepted_in commands outcomes
-accepted_in (command ∷ commands) (Refused refusal ∷ outcomes) = accepted_in commands outcomes
+accepted_in (group ∷ groups) [] = []
+accepted_in (group ∷ groups) (Accepted number ∷ outcomes) = group ∷ accepted_in groups outcomes
+accepted_in (group ∷ groups) (Refused refusal ∷ outcomes) = accepted_in groups outcomes
 
--- the command is durable at this version, or was refused
+-- the group is durable at this version, or was refused
 abbrev pub IsSettled : ℕ → Outcome → Type 0
 IsSettled durable (Accepted number) = number ≤ durable
 IsSettled durable (Refused refusal) = ⊤

@@ -1,4 +1,4 @@
-// The commands of a text, applied to a store.
+// The groups of a text, applied to a store.
 ghost use Rattle.std.specs.Prelude.{◌≡◌, ◌⊎◌, ◌+◌, ◌≤◌, ◌<◌, ◌↔◌, [], false, length, vec_capacity, OnOk, IfOk, IfErr, IfSome, MatchResult};
 ghost use Rattle.std.specs.Bool.{Decides};
 ghost use Rattle.dimacs.specs.Counts.{failed_calls, reader_of, IsSameReader};
@@ -27,17 +27,20 @@ use disk::Disk;
 use keeper::Ledger;
 use pages::MOST_COMMANDS;
 use printing::{CountedWriter, Failed, of_text, put_reply};
-use roadnet::{Command, Refusal};
+use roadnet::{Group, Refusal};
 use std::alloc::Global;
 use std::io::{BufRead, Write};
 use store::open;
 
 const COMMANDS: u8 = 0;
 
-/// How many commands are made durable at a time.
+/// With so many commands pending they are made durable: as many as a page of the journal has at most.
 const MOST_OF_PAGE: u64 = MOST_COMMANDS as u64;
 
-/// Commands being applied, one after the other: the ledger of the store, what the commands came to, in order, and how many of these
+/// At the end they are made durable while any are pending.
+const ANY: u64 = 1;
+
+/// Groups being applied, one after the other: the ledger of the store, what the groups came to, in order, and how many of these
 /// outcomes are told.
 #[derive(Drop)]
 struct Applying<D: Disk> {
@@ -47,16 +50,16 @@ struct Applying<D: Disk> {
 }
 
 impl<D: Disk> Applying<D> {
-    /// Submits the next command, and notes what it came to.
-    fn take(&mut self, command: Command)
+    /// Submits a copy of the next group, and notes what it came to.
+    fn take(&mut self, group: &Group)
         requires steady { IsSteady self.old.ledger.machine }
         requires calm { self.old.ledger.machine.broken ≡ false }
-        requires few { pending self.old.ledger.machine < 4096 }
+        requires few { pending self.old.ledger.machine < 253 }
         requires room { length self.old.outcomes.items < vec_capacity self.old.outcomes }
         ensures steady { IsSteady self.new.ledger.machine }
         ensures calm { self.new.ledger.machine.broken ≡ false }
-        ensures come { ComesBehind command (progress self.old) (progress self.new) }
-        ensures one { pending self.new.ledger.machine ≤ pending self.old.ledger.machine + 1 }
+        ensures come { ComesBehind group.now (progress self.old) (progress self.new) }
+        ensures waiting { pending self.new.ledger.machine ≤ 505 }
         ensures noted { length self.new.outcomes.items ≡ length self.old.outcomes.items + 1 }
         ensures room { vec_capacity self.new.outcomes ≡ vec_capacity self.old.outcomes }
         ensures told { self.new.told ≡ self.old.told }
@@ -65,10 +68,9 @@ impl<D: Disk> Applying<D> {
         ensures disk { self.new.ledger.disk ≡ self.old.ledger.disk }
         ensures given { self.new.ledger.given ≡ self.old.ledger.given }
     {
-        let outcome = match self.ledger.submit(command) {
-            Ok(ticket) => Outcome::Accepted {
-                number: ticket.number,
-            },
+        let _size = group.commands().len();
+        let outcome = match self.ledger.submit_copy(group) {
+            Ok(number) => Outcome::Accepted { number },
             Err(refusal) => Outcome::Refused { refusal },
         };
         self.outcomes.push_reserved(outcome);
@@ -95,16 +97,16 @@ impl<D: Disk> Applying<D> {
         Ok(())
     }
 
-    /// A checkpoint, and then a flush of the pending commands, of which there are some.
+    /// A checkpoint, and then a flush of the first pending groups, of which there are some.
     fn flush_anew(&mut self) -> Result<(), Refusal>
         requires steady { IsSteady self.old.ledger.machine }
         requires calm { self.old.ledger.machine.broken ≡ false }
         requires some { 1 ≤ pending self.old.ledger.machine }
-        requires few { pending self.old.ledger.machine ≤ 253 }
         ensures steady { IsSteady self.new.ledger.machine }
         ensures kept { KeepsAccepted self.old.ledger.machine self.new.ledger.machine }
         ensures calm { OnOk result (self.new.ledger.machine.broken ≡ false) }
-        ensures done { OnOk result (pending self.new.ledger.machine ≡ 0) }
+        ensures fewer { OnOk result (pending self.new.ledger.machine < pending self.old.ledger.machine) }
+        ensures no_more { pending self.new.ledger.machine ≤ pending self.old.ledger.machine }
         ensures refused { IfErr result IsPassing }
         ensures outcomes { self.new.outcomes ≡ self.old.outcomes }
         ensures told { self.new.told ≡ self.old.told }
@@ -118,15 +120,16 @@ impl<D: Disk> Applying<D> {
         Ok(())
     }
 
-    /// Makes the pending commands durable, at most 253. Where the journal is full a checkpoint is written first.
+    /// Makes the first pending groups durable, of which there are some. Where the journal is full a checkpoint is written first.
     fn flush(&mut self) -> Result<(), Refusal>
         requires steady { IsSteady self.old.ledger.machine }
         requires calm { self.old.ledger.machine.broken ≡ false }
-        requires few { pending self.old.ledger.machine ≤ 253 }
+        requires some { 1 ≤ pending self.old.ledger.machine }
         ensures steady { IsSteady self.new.ledger.machine }
         ensures kept { KeepsAccepted self.old.ledger.machine self.new.ledger.machine }
         ensures calm { OnOk result (self.new.ledger.machine.broken ≡ false) }
-        ensures done { OnOk result (pending self.new.ledger.machine ≡ 0) }
+        ensures fewer { OnOk result (pending self.new.ledger.machine < pending self.old.ledger.machine) }
+        ensures no_more { pending self.new.ledger.machine ≤ pending self.old.ledger.machine }
         ensures refused { IfErr result IsPassing }
         ensures outcomes { self.new.outcomes ≡ self.old.outcomes }
         ensures told { self.new.told ≡ self.old.told }
@@ -135,9 +138,6 @@ impl<D: Disk> Applying<D> {
         ensures given { self.new.ledger.given ≡ self.old.ledger.given }
         ensures honest { D.honest self.new.ledger.disk ↔ D.honest self.old.ledger.disk }
     {
-        if self.ledger.pending() == 0 {
-            return Ok(());
-        }
         match self.ledger.flush() {
             Ok(_) => Ok(()),
             Err(Refusal::JournalFull) => self.flush_anew(),
@@ -145,7 +145,31 @@ impl<D: Disk> Applying<D> {
         }
     }
 
-    /// Whether the outcome may be told: the command is durable, or was refused.
+    /// Flushes while so many commands are pending, or more.
+    fn flush_below(&mut self, limit: u64) -> Result<(), Refusal>
+        requires steady { IsSteady self.old.ledger.machine }
+        requires calm { self.old.ledger.machine.broken ≡ false }
+        requires some { 1 ≤ limit }
+        ensures steady { IsSteady self.new.ledger.machine }
+        ensures kept { KeepsAccepted self.old.ledger.machine self.new.ledger.machine }
+        ensures calm { OnOk result (self.new.ledger.machine.broken ≡ false) }
+        ensures done { OnOk result (pending self.new.ledger.machine < limit) }
+        ensures no_more { pending self.new.ledger.machine ≤ pending self.old.ledger.machine }
+        ensures refused { IfErr result IsPassing }
+        ensures outcomes { self.new.outcomes ≡ self.old.outcomes }
+        ensures told { self.new.told ≡ self.old.told }
+        ensures counted { D.failures self.new.ledger.disk ≡ failures_told result (D.failures self.old.ledger.disk) }
+        ensures leaves { Leaves D.honest D.content D.moment D.left_since self.old.ledger self.new.ledger }
+        ensures given { self.new.ledger.given ≡ self.old.ledger.given }
+        ensures honest { D.honest self.new.ledger.disk ↔ D.honest self.old.ledger.disk }
+    {
+        'pages: while self.ledger.pending() >= limit {
+            self.flush()?;
+        }
+        Ok(())
+    }
+
+    /// Whether the outcome may be told: the group is durable, or was refused.
     fn is_settled(&self, outcome: &Outcome) -> bool
         ensures { Decides result (IsSettled self.now.ledger.machine.durable outcome.now) }
     {
@@ -155,7 +179,7 @@ impl<D: Disk> Applying<D> {
         }
     }
 
-    /// Writes a line for each outcome that is not told yet, up to the first command that is not durable.
+    /// Writes a line for each outcome that is not told yet, up to the first group that is not durable.
     fn tell<W: Write>(&mut self, out: &mut CountedWriter<'_, W>) -> Result<(), Failed>
         requires { self.old.told ≤ length self.old.outcomes.items }
         ensures ledger { self.new.ledger ≡ self.old.ledger }
@@ -179,21 +203,22 @@ impl<D: Disk> Applying<D> {
         Ok(())
     }
 
-    /// Makes the pending commands durable, tells what may be told, also where that is refused, and sends it out.
-    fn settle<W: Write>(&mut self, out: &mut CountedWriter<'_, W>) -> Result<(), Failed>
+    /// Makes groups durable while so many commands are pending, or more, tells what may be told, also where that is refused, and sends it out.
+    fn settle<W: Write>(&mut self, limit: u64, out: &mut CountedWriter<'_, W>) -> Result<(), Failed>
         requires steady { IsSteady self.old.ledger.machine }
         requires calm { self.old.ledger.machine.broken ≡ false }
-        requires few { pending self.old.ledger.machine ≤ 253 }
+        requires some { 1 ≤ limit }
+        requires few { pending self.old.ledger.machine ≤ 505 }
         requires told_to { self.old.told ≤ length self.old.outcomes.items }
         ensures steady { IsSteady self.new.ledger.machine }
         ensures come { ComesStill (progress self.old) (progress self.new) }
         ensures calm { OnOk result (self.new.ledger.machine.broken ≡ false) }
-        ensures done { OnOk result (pending self.new.ledger.machine ≡ 0) }
-        ensures waiting { pending self.new.ledger.machine ≤ 253 }
+        ensures done { OnOk result (pending self.new.ledger.machine < limit) }
+        ensures waiting { pending self.new.ledger.machine ≤ 505 }
         ensures told_to { self.new.told ≤ length self.new.outcomes.items }
-        // What is told ends before the first command that isn't durable.
+        // What is told ends before the first group that isn't durable.
         ensures next { IfEndedEarly result (StopsAt (progress self.new) self.new.told) }
-        ensures all { OnOk result (AllTold (progress self.old) (progress self.new)) }
+        ensures all { OnOk result (pending self.new.ledger.machine ≡ 0 → AllTold (progress self.old) (progress self.new)) }
         ensures lines { IfTold result (TellsOn (W.contents (writer_of out.old)) (W.contents (writer_of out.new)) (progress self.old) (progress self.new)) }
         ensures outcomes { self.new.outcomes ≡ self.old.outcomes }
         ensures refused { IfErr result IsCutOffBy }
@@ -205,16 +230,16 @@ impl<D: Disk> Applying<D> {
         ensures given { self.new.ledger.given ≡ self.old.ledger.given }
         ensures honest { D.honest self.new.ledger.disk ↔ D.honest self.old.ledger.disk }
     {
-        let flushed = self.flush();
+        let flushed = self.flush_below(limit);
         self.tell(out)?;
         out.flush()?;
         flushed.map_err(Failed::Code)
     }
 
-    /// Takes the next command, and settles what is pending where that is as much as a page holds.
+    /// Takes the next group, and settles what is pending where that is as much as a page holds.
     fn advance<W: Write>(
         &mut self,
-        command: Command,
+        group: &Group,
         out: &mut CountedWriter<'_, W>,
     ) -> Result<(), Failed>
         requires steady { IsSteady self.old.ledger.machine }
@@ -223,11 +248,11 @@ impl<D: Disk> Applying<D> {
         requires told_to { self.old.told ≤ length self.old.outcomes.items }
         requires room { length self.old.outcomes.items < vec_capacity self.old.outcomes }
         ensures steady { IsSteady self.new.ledger.machine }
-        ensures come { ComesBehind command (progress self.old) (progress self.new) }
+        ensures come { ComesBehind group.now (progress self.old) (progress self.new) }
         ensures calm { OnOk result (self.new.ledger.machine.broken ≡ false) }
         ensures few { OnOk result (pending self.new.ledger.machine < 253) }
-        ensures waiting { pending self.new.ledger.machine ≤ 253 }
-        // What is told ends before the first command that isn't durable.
+        ensures waiting { pending self.new.ledger.machine ≤ 505 }
+        // What is told ends before the first group that isn't durable.
         ensures next { IfEndedEarly result (StopsAt (progress self.new) self.new.told) }
         ensures told_to { self.new.told ≤ length self.new.outcomes.items }
         ensures noted { length self.new.outcomes.items ≡ length self.old.outcomes.items + 1 }
@@ -242,17 +267,17 @@ impl<D: Disk> Applying<D> {
         ensures given { self.new.ledger.given ≡ self.old.ledger.given }
         ensures honest { D.honest self.new.ledger.disk ↔ D.honest self.old.ledger.disk }
     {
-        self.take(command);
+        self.take(group);
         if self.ledger.pending() < MOST_OF_PAGE {
             return Ok(());
         }
-        self.settle(out)
+        self.settle(MOST_OF_PAGE, out)
     }
 
-    /// Takes the commands in their order, and settles them, 253 at a time.
+    /// Takes the groups in their order, and settles what is pending where that is as much as a page holds.
     fn take_all<W: Write>(
         &mut self,
-        commands: &[Command],
+        groups: &[Group],
         out: &mut CountedWriter<'_, W>,
     ) -> Result<(), Failed>
         requires steady { IsSteady self.old.ledger.machine }
@@ -260,13 +285,13 @@ impl<D: Disk> Applying<D> {
         requires none { pending self.old.ledger.machine ≡ 0 }
         requires new { self.old.outcomes.items ≡ [] }
         requires untold { self.old.told ≡ 0 }
-        requires room { length commands.now ≤ vec_capacity self.old.outcomes }
+        requires room { length groups.now ≤ vec_capacity self.old.outcomes }
         ensures steady { IsSteady self.new.ledger.machine }
-        ensures some { FirstComeTo self.old.ledger.machine commands.now (progress self.new) }
-        ensures come { OnOk result (ComeTo self.old.ledger.machine commands.now (progress self.new)) }
+        ensures some { FirstComeTo self.old.ledger.machine groups.now (progress self.new) }
+        ensures come { OnOk result (ComeTo self.old.ledger.machine groups.now (progress self.new)) }
         ensures calm { OnOk result (self.new.ledger.machine.broken ≡ false) }
-        ensures waiting { pending self.new.ledger.machine ≤ 253 }
-        // What is told ends before the first command that isn't durable.
+        ensures waiting { pending self.new.ledger.machine ≤ 505 }
+        // What is told ends before the first group that isn't durable.
         ensures next { IfEndedEarly result (StopsAt (progress self.new) self.new.told) }
         ensures told_to { self.new.told ≤ length self.new.outcomes.items }
         ensures lines { IfTold result (AreTold (W.contents (writer_of out.old)) (W.contents (writer_of out.new)) self.new.outcomes.items self.new.told) }
@@ -279,16 +304,16 @@ impl<D: Disk> Applying<D> {
         ensures given { self.new.ledger.given ≡ self.old.ledger.given }
         ensures honest { D.honest self.new.ledger.disk ↔ D.honest self.old.ledger.disk }
     {
-        for index in 0..commands.len() {
-            self.advance(commands[index], out)?;
+        for index in 0..groups.len() {
+            self.advance(&groups[index], out)?;
         }
         Ok(())
     }
 
-    /// Takes the commands and settles them all.
+    /// Takes the groups and settles them all.
     fn run<W: Write>(
         &mut self,
-        commands: &[Command],
+        groups: &[Group],
         out: &mut CountedWriter<'_, W>,
     ) -> Result<(), Failed>
         requires steady { IsSteady self.old.ledger.machine }
@@ -296,14 +321,14 @@ impl<D: Disk> Applying<D> {
         requires none { pending self.old.ledger.machine ≡ 0 }
         requires new { self.old.outcomes.items ≡ [] }
         requires untold { self.old.told ≡ 0 }
-        requires room { length commands.now ≤ vec_capacity self.old.outcomes }
+        requires room { length groups.now ≤ vec_capacity self.old.outcomes }
         ensures steady { IsSteady self.new.ledger.machine }
-        ensures some { FirstComeTo self.old.ledger.machine commands.now (progress self.new) }
-        ensures come { OnOk result (ComeTo self.old.ledger.machine commands.now (progress self.new)) }
+        ensures some { FirstComeTo self.old.ledger.machine groups.now (progress self.new) }
+        ensures come { OnOk result (ComeTo self.old.ledger.machine groups.now (progress self.new)) }
         ensures calm { OnOk result (self.new.ledger.machine.broken ≡ false) }
         ensures done { OnOk result (pending self.new.ledger.machine ≡ 0) }
-        ensures waiting { pending self.new.ledger.machine ≤ 253 }
-        // What is told ends before the first command that isn't durable.
+        ensures waiting { pending self.new.ledger.machine ≤ 505 }
+        // What is told ends before the first group that isn't durable.
         ensures next { IfEndedEarly result (StopsAt (progress self.new) self.new.told) }
         ensures lines { IfTold result (AreTold (W.contents (writer_of out.old)) (W.contents (writer_of out.new)) self.new.outcomes.items self.new.told) }
         ensures all { OnOk result (ForBegun self.old.ledger.machine (λ net version. self.new.told ≡ length self.new.outcomes.items)) }
@@ -316,8 +341,8 @@ impl<D: Disk> Applying<D> {
         ensures given { self.new.ledger.given ≡ self.old.ledger.given }
         ensures honest { D.honest self.new.ledger.disk ↔ D.honest self.old.ledger.disk }
     {
-        self.take_all(commands, out)?;
-        self.settle(out)
+        self.take_all(groups, out)?;
+        self.settle(ANY, out)
     }
 
     /// The disk, of which no call is made.
@@ -361,31 +386,31 @@ fn ledger_on<D: Disk>(alloc: Global, disk: D) -> Result<Ledger<D>, (Refusal, D)>
     }
 }
 
-/// Applies these commands to the store of a ledger that has just begun.
-fn apply_commands<D: Disk, W: Write>(
+/// Applies these groups to the store of a ledger that has just begun.
+fn apply_groups<D: Disk, W: Write>(
     alloc: Global,
     ledger: Ledger<D>,
-    commands: &[Command],
+    groups: &[Group],
     out: &mut CountedWriter<'_, W>,
 ) -> (Result<(), Failed>, D)
     requires steady { IsSteady ledger.machine }
     requires calm { ledger.machine.broken ≡ false }
     requires none { pending ledger.machine ≡ 0 }
     ensures applied { ForCame D.honest D.content ledger (λ net version. OnOk result.0
-        (AppliesAll net version commands.now (D.content result.1) (D.left result.1) (W.contents (writer_of out.old)) (W.contents (writer_of out.new)))) }
+        (AppliesAll net version groups.now (D.content result.1) (D.left result.1) (W.contents (writer_of out.old)) (W.contents (writer_of out.new)))) }
     ensures cut_off { ForCame D.honest D.content ledger (λ net version. IfErr result.0
-        (AppliesSome net version commands.now (D.left result.1) (W.contents (writer_of out.old)) (W.contents (writer_of out.new)))) }
+        (AppliesSome net version groups.now (D.left result.1) (W.contents (writer_of out.old)) (W.contents (writer_of out.new)))) }
     ensures told { ForBegun ledger.machine (λ net version. OnOk result.0
-        (TellsAll net version commands.now (W.contents (writer_of out.old)) (W.contents (writer_of out.new)))) }
+        (TellsAll net version groups.now (W.contents (writer_of out.old)) (W.contents (writer_of out.new)))) }
     ensures any_moment { ForCame D.honest D.content ledger (λ net version.
-        AddsOnly D.moment D.left_since ledger.disk result.1 (StandsAmong net version commands.now)) }
+        AddsOnly D.moment D.left_since ledger.disk result.1 (StandsAmong net version groups.now)) }
     ensures counted { CountsDevice (D.failures ledger.disk) (D.failures result.1) result.0 }
     ensures refused { IfErr result.0 IsCutOffBy }
     ensures writes { CountsWrites (failed_writes out.old) (failed_writes out.new) result.0 }
     ensures same { IsSameWriter out.old out.new }
     ensures honest { D.honest result.1 ↔ D.honest ledger.disk }
 {
-    let outcomes = match Vec::with_capacity(alloc, commands.len()) {
+    let outcomes = match Vec::with_capacity(alloc, groups.len()) {
         Ok(outcomes) => outcomes,
         Err(_) => {
             let (_, disk) = ledger.close();
@@ -397,7 +422,7 @@ fn apply_commands<D: Disk, W: Write>(
         outcomes,
         told: 0,
     };
-    let ended = applying.run(commands, out);
+    let ended = applying.run(groups, out);
     (ended, applying.close())
 }
 
@@ -405,37 +430,38 @@ fn apply_commands<D: Disk, W: Write>(
 fn apply_to_writer<D: Disk, W: Write>(
     alloc: Global,
     ledger: Ledger<D>,
-    commands: &[Command],
+    groups: &[Group],
     out: &mut W,
 ) -> (Result<(), Failed>, D)
     requires steady { IsSteady ledger.machine }
     requires calm { ledger.machine.broken ≡ false }
     requires none { pending ledger.machine ≡ 0 }
     ensures applied { ForCame D.honest D.content ledger (λ net version. OnOk result.0
-        (AppliesAll net version commands.now (D.content result.1) (D.left result.1) (W.contents out.old) (W.contents out.new))) }
+        (AppliesAll net version groups.now (D.content result.1) (D.left result.1) (W.contents out.old) (W.contents out.new))) }
     ensures cut_off { ForCame D.honest D.content ledger (λ net version. IfErr result.0
-        (AppliesSome net version commands.now (D.left result.1) (W.contents out.old) (W.contents out.new))) }
-    ensures told { ForBegun ledger.machine (λ net version. OnOk result.0 (TellsAll net version commands.now (W.contents out.old) (W.contents out.new))) }
+        (AppliesSome net version groups.now (D.left result.1) (W.contents out.old) (W.contents out.new))) }
+    ensures told { ForBegun ledger.machine (λ net version. OnOk result.0 (TellsAll net version groups.now (W.contents out.old) (W.contents out.new))) }
     ensures any_moment { ForCame D.honest D.content ledger (λ net version.
-        AddsOnly D.moment D.left_since ledger.disk result.1 (StandsAmong net version commands.now)) }
+        AddsOnly D.moment D.left_since ledger.disk result.1 (StandsAmong net version groups.now)) }
     ensures counted { CountsDevice (D.failures ledger.disk) (D.failures result.1) result.0 }
     ensures refused { IfErr result.0 IsCutOffBy }
     ensures honest { D.honest result.1 ↔ D.honest ledger.disk }
 {
     let mut counted = CountedWriter::new(out);
-    apply_commands(alloc, ledger, commands, &mut counted)
+    apply_groups(alloc, ledger, groups, &mut counted)
 }
 
-/// Applies the commands of a reader's text to the store on a disk, in their order, and writes one line a command: `ok N` once the command is
-/// durable as version N, or `no CODE` for one that is refused (20 to 28, 62, 11). The disk is handed back.
+/// Applies the groups of commands of a reader's text to the store on a disk, in their order, and writes one line a group: `ok N` once the group
+/// is durable as version N, or `no CODE` for one that is refused (20 to 29, 62, 11). The disk is handed back.
 ///
-/// The store is opened first, then the text is read whole, then the commands are applied. 253 commands at a time are made durable; where
-/// the journal is full a checkpoint is written. It takes 24 bytes a command for what it came to, beside the text's 24 and the ledger: no row is computed.
+/// The store is opened first, then the text is read whole, then the groups are applied. While 253 commands or more are pending groups are made
+/// durable, and at the end all; where the journal is full a checkpoint is written. It takes 24 bytes a group for what it came to, beside the
+/// text's and the ledger's groups: no row is computed.
 ///
 /// Refused is what is refused on opening: no store (40), another format (41), a damaged page (42), a disk that fails (43), want of memory
 /// (11); then a fault of the text, `which` 0. Nothing is applied or written then. A disk that fails later (43) and want of memory for a
-/// flush or checkpoint (11) end it after the lines before the first command that is not durable: no command that is told is lost. A failed
-/// write (12) ends it too: then the last commands may be durable and not told, or lost. A failed read is fault 10 of the line being read; it
+/// flush or checkpoint (11) end it after the lines before the first group that is not durable: no group that is told is lost. A failed
+/// write (12) ends it too: then the last groups may be durable and not told, or lost. A failed read is fault 10 of the line being read; it
 /// and 12 are told only where the count of the reader's or the writer's failed calls rose. After an `Err` reader and writer are not used
 /// again.
 pub fn apply_counted<D: Disk, R: BufRead, W: Write>(
@@ -445,7 +471,7 @@ pub fn apply_counted<D: Disk, R: BufRead, W: Write>(
     out: &mut CountedWriter<'_, W>,
 ) -> (Result<(), Failed>, D)
     // Where the disk stands, tidy, for this network at this version, all that a stop may leave stands for that network after the accepted
-    // commands, and the lines of all commands are written.
+    // groups, and the lines of all groups are written.
     ensures applied { ForTidy D.honest D.content disk (λ net version. OnOk result.0 (IfSome (R.remaining (reader_of commands.old))
         (λ text. IsApplied net version text (D.content result.1) (D.left result.1) (W.contents (writer_of out.old)) (W.contents (writer_of out.new))))) }
     // Where it ends early, nothing was begun, or nothing that was told is lost.
@@ -453,10 +479,10 @@ pub fn apply_counted<D: Disk, R: BufRead, W: Write>(
         (λ text. (StaysSame D.content D.left D.moment D.left_since disk result.1 × (writer_of out.new ≡ writer_of out.old))
         ⊎ IsCutOff net version text (D.left result.1) (W.contents (writer_of out.old)) (W.contents (writer_of out.new)) failed))) }
     // A stop at any moment of the call leaves what it might have left before, or what stands for the network after a beginning of the
-    // text's accepted commands.
+    // text's accepted groups.
     ensures any_moment { ForTidy D.honest D.content disk (λ net version. IfSome (R.remaining (reader_of commands.old))
         (λ text. AtAnyMoment D.moment D.left_since D.left disk result.1 (IsWithin net version text))) }
-    // Over any disk: Ok comes where a store was opened, and all commands of the text are told.
+    // Over any disk: Ok comes where a store was opened, and all groups of the text are told.
     ensures told { OnOk result.0 (IfSome (R.remaining (reader_of commands.old))
         (λ text. IsTold (D.honest disk) (D.content disk) text (W.contents (writer_of out.old)) (W.contents (writer_of out.new)))) }
     ensures refused { IfErr result.0 (λ failed. IfSome (R.remaining (reader_of commands.old))
@@ -478,14 +504,14 @@ pub fn apply_counted<D: Disk, R: BufRead, W: Write>(
         Ok(ledger) => ledger,
         Err((refusal, disk)) => return (Err(Failed::Code(refusal)), disk),
     };
-    let commands = match of_text(COMMANDS, read_commands_counted(alloc, commands)) {
-        Ok(commands) => commands,
+    let groups = match of_text(COMMANDS, read_commands_counted(alloc, commands)) {
+        Ok(groups) => groups,
         Err(failed) => {
             let (_, disk) = ledger.close();
             return (Err(failed), disk);
         }
     };
-    apply_commands(alloc, ledger, &commands, out)
+    apply_groups(alloc, ledger, &groups, out)
 }
 
 /// The same for a text in memory, over any writer, whose failed calls nobody counts.
@@ -514,12 +540,12 @@ pub fn apply_text<D: Disk, W: Write>(
         Ok(ledger) => ledger,
         Err((refused, disk)) => return (Err(Failed::Code(refused)), disk),
     };
-    let commands = match of_text(COMMANDS, parse_commands(alloc, commands)) {
-        Ok(commands) => commands,
+    let groups = match of_text(COMMANDS, parse_commands(alloc, commands)) {
+        Ok(groups) => groups,
         Err(failed) => {
             let (_, disk) = ledger.close();
             return (Err(failed), disk);
         }
     };
-    apply_to_writer(alloc, ledger, &commands, out)
+    apply_to_writer(alloc, ledger, &groups, out)
 }

@@ -7,6 +7,7 @@ ghost use Rattle.disk.specs.Moments.{StaysSame};
 ghost use Rattle.rows.specs.Kept.{IsWidth};
 ghost use Rattle.printing.specs.Counting.{failed_writes, writer_of, IsSameWriter};
 ghost use Rattle.printing.specs.Failing.{CountsReads, CountsWrites, LeavesUnwritten};
+ghost use Rattle.printing.specs.Widths.{told_width};
 ghost use Rattle.querytexts.specs.Batch.{AnswersAll};
 ghost use Rattle.querytexts.specs.Once.{IsUnanswered};
 ghost use Rattle.storetexts.specs.Asked.{IsAsked, IsRefusedAsk};
@@ -35,7 +36,7 @@ fn ask_opened<T: Threads, D: Disk, W: Write>(
     out: &mut CountedWriter<'_, W>,
 ) -> (Result<Done, Failed>, D)
     requires { ForSome delta IsWidth }
-    ensures width { IfOk result.0 (λ done. done.delta ≡ delta) }
+    ensures width { IfOk result.0 (λ done. told_width done ≡ delta) }
     ensures answered { OnOk result.0 (AnswersAll store.network store.version pairs.now (W.contents (writer_of out.old)) (W.contents (writer_of out.new))) }
     ensures refused { IfErr result.0 IsUnanswered }
     ensures disk { result.1 ≡ store.disk }
@@ -76,7 +77,7 @@ pub fn ask_counted<T: Threads, D: Disk, R: BufRead, W: Write>(
     out: &mut CountedWriter<'_, W>,
 ) -> (Result<Done, Failed>, D)
     requires { ForSome delta IsWidth }
-    ensures width { IfOk result.0 (λ done. done.delta ≡ delta) }
+    ensures width { IfOk result.0 (λ done. told_width done ≡ delta) }
     // Over any disk the answers are right in the network of the store that was opened.
     ensures answered { OnOk result.0 (IfSome (R.remaining (reader_of p2p.old))
         (λ text. IsAsked (D.honest disk) (D.content disk) text (W.contents (writer_of out.old)) (W.contents (writer_of out.new)))) }
@@ -120,7 +121,7 @@ pub fn ask_text<T: Threads, D: Disk, W: Write>(
     out: &mut W,
 ) -> (Result<Done, Failed>, D)
     requires { ForSome delta IsWidth }
-    ensures width { IfOk result.0 (λ done. done.delta ≡ delta) }
+    ensures width { IfOk result.0 (λ done. told_width done ≡ delta) }
     ensures answered { OnOk result.0 (IsAsked (D.honest disk) (D.content disk) p2p.now (W.contents out.old) (W.contents out.new)) }
     ensures refused { IfErr result.0 (IsRefusedAsk (D.honest disk) (D.content disk) p2p.now InMemory) }
     ensures order { D.honest disk → IfErr result.0 (λ failed. IfNoMemory failed (HeaderFits (D.content disk))) }

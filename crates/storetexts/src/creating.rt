@@ -10,8 +10,9 @@ ghost use Rattle.disk.specs.Moments.{StaysSame};
 ghost use Rattle.printing.specs.Counting.{failed_writes, writer_of, IsSameWriter};
 ghost use Rattle.printing.specs.Failing.{CountsFirst, CountsSecond, CountsWrites, LeavesUnwritten};
 ghost use Rattle.printing.specs.Replied.{number_line};
-ghost use Rattle.roadnet.specs.Net.{most_landmarks};
-ghost use Rattle.storetexts.specs.Created.{with_landmarks, IsNetworkOf, IsRefusedMarking, IsRefusedNetwork, IsOfNetwork, IsOfMaking};
+ghost use Rattle.roadnet.specs.Net.{IsRoomFor, most_landmarks};
+ghost use Rattle.store.specs.Migrating.{room_of, roomed};
+ghost use Rattle.storetexts.specs.Created.{with_landmarks, IsNetworkOf, IsRefusedMarking, IsRefusedPlan, IsRefusedNetwork, IsOfNetwork, IsOfMaking};
 ghost use Rattle.storetexts.specs.Created.{IsRefusedCreate, IsNewStore, IsNewStoreOf};
 ghost use Rattle.storetexts.specs.Refused.{CountsDevice, IfDone, IfNoDevice, IfOfTexts, IfNotEmpty, IfNoMemory};
 
@@ -22,7 +23,7 @@ use printing::{CountedWriter, Failed, of_text, put_reply};
 use roadnet::{Command, MOST_LANDMARKS, Network, Refusal};
 use std::alloc::Global;
 use std::io::{BufRead, Write};
-use store::create;
+use store::{create, with_given_room};
 
 const NETWORK: u8 = 0;
 
@@ -50,22 +51,44 @@ fn with_landmarks(network: Network, landmarks: &[u32]) -> Result<Network, Refusa
     Ok(marked)
 }
 
-/// The network of a reader's `.gr` text, with the landmarks of another reader's `.ss` text. Both texts are read whole, the network first,
-/// and the first fault decides: `which` is 0 for the network and 1 for the landmarks. Nodes of the landmarks are judged by the network's
+/// The network, which has no landmark, with these of its nodes as landmarks and with room for so many arcs, if a number is given. Refused are more than
+/// 1,000 landmarks (27), want of memory (11), and then a room below the number of arcs or above 67,108,864 (9).
+fn planned(network: Network, landmarks: &[u32], room: Option<u64>) -> Result<Network, Refusal>
+    requires bare { network.landmarks ≡ [] }
+    requires ascending { IsStrictlyIncreasing landmarks.now }
+    requires nodes { AreNodes network.nodes landmarks.now }
+    ensures made { IfOk result (λ made. made ≡ roomed (with_landmarks network landmarks.now) room) }
+    ensures few { OnOk result (length landmarks.now ≤ most_landmarks) }
+    ensures fits { OnOk result (IsRoomFor network (room_of network room)) }
+    ensures refused { IfErr result (IsRefusedPlan network landmarks.now room) }
+{
+    let marked = match with_landmarks(network, landmarks) {
+        Ok(marked) => marked,
+        Err(refusal) => return Err(refusal),
+    };
+    match with_given_room(marked, room) {
+        Ok(made) => Ok(made),
+        Err(refused) => Err(refused.0),
+    }
+}
+
+/// The network of a reader's `.gr` text, with the landmarks of another reader's `.ss` text, and with room for so many arcs, if a
+/// number is given. Both texts are read whole, the network first, and the first fault decides: `which` is 0 for the network and 1 for the landmarks. Nodes of the landmarks are judged by the network's
 /// number of nodes.
 ///
-/// More than 1,000 landmarks are refused with 27; where they are not, want of memory outside the texts with 11. A failed read is fault
+/// More than 1,000 landmarks are refused with 27, then want of memory outside the texts with 11, then a room that is none with 9. A failed read is fault
 /// 10 of the text and line being read: it is told only where the count of that reader's failed calls rose. After an `Err` the readers are
 /// not used again.
 pub fn read_planned<R: BufRead, Q: BufRead>(
     alloc: Global,
     gr: &mut Counted<'_, R>,
     ss: &mut Counted<'_, Q>,
+    room: Option<u64>,
 ) -> Result<Network, Failed>
     ensures network { IfOk result (λ marked. IfSome (R.remaining (reader_of gr.old)) (λ network. IfSome (Q.remaining (reader_of ss.old))
-        (λ landmarks. IsNetworkOf network landmarks marked))) }
+        (λ landmarks. IsNetworkOf network landmarks room marked))) }
     ensures refused { IfErr result (λ failed. IfSome (R.remaining (reader_of gr.old)) (λ network. IfSome (Q.remaining (reader_of ss.old))
-        (λ landmarks. IsRefusedNetwork network landmarks (OfReader (R.remaining (reader_of gr.new))) (OfReader (Q.remaining (reader_of ss.new))) failed))) }
+        (λ landmarks. IsRefusedNetwork network landmarks room (OfReader (R.remaining (reader_of gr.new))) (OfReader (Q.remaining (reader_of ss.new))) failed))) }
     ensures kinds { IfErr result IsOfNetwork }
     ensures reads_network { CountsFirst (failed_calls gr.old) (failed_calls gr.new) result }
     ensures reads_landmarks { CountsSecond (failed_calls ss.old) (failed_calls ss.new) result }
@@ -74,17 +97,17 @@ pub fn read_planned<R: BufRead, Q: BufRead>(
 {
     let network = of_text(NETWORK, read_gr_counted(alloc, gr))?;
     let landmarks = of_text(LANDMARKS, read_ss_counted(alloc, ss, network.nodes()))?;
-    with_landmarks(network, &landmarks).map_err(Failed::Code)
+    planned(network, &landmarks, room).map_err(Failed::Code)
 }
 
 /// The same for texts in memory.
-fn parse_planned(alloc: Global, gr: &[u8], ss: &[u8]) -> Result<Network, Failed>
-    ensures network { IfOk result (IsNetworkOf gr.now ss.now) }
-    ensures refused { IfErr result (IsRefusedNetwork gr.now ss.now InMemory InMemory) }
+fn parse_planned(alloc: Global, gr: &[u8], ss: &[u8], room: Option<u64>) -> Result<Network, Failed>
+    ensures network { IfOk result (IsNetworkOf gr.now ss.now room) }
+    ensures refused { IfErr result (IsRefusedNetwork gr.now ss.now room InMemory InMemory) }
 {
     let network = of_text(NETWORK, parse_gr(alloc, gr))?;
     let landmarks = of_text(LANDMARKS, parse_ss(alloc, ss, network.nodes()))?;
-    with_landmarks(network, &landmarks).map_err(Failed::Code)
+    planned(network, &landmarks, room).map_err(Failed::Code)
 }
 
 /// Makes a store of the network on an empty disk, with so many journal pages, 1 to 65,536, at version 0; then writes `ok 0` and sends it
@@ -135,14 +158,15 @@ pub fn create_counted<D: Disk, R: BufRead, Q: BufRead, W: Write>(
     gr: &mut Counted<'_, R>,
     ss: &mut Counted<'_, Q>,
     journal_pages: u32,
+    room: Option<u64>,
     out: &mut CountedWriter<'_, W>,
 ) -> (Result<(), Failed>, D)
     requires some { 1 ≤ journal_pages }
     requires few { journal_pages ≤ 65536 }
     ensures made { D.honest disk → IfDone result.0 (IfSome (R.remaining (reader_of gr.old)) (λ network. IfSome (Q.remaining (reader_of ss.old))
-        (λ landmarks. IsNewStoreOf network landmarks journal_pages (D.content result.1) (D.left result.1)))) }
+        (λ landmarks. IsNewStoreOf network landmarks room journal_pages (D.content result.1) (D.left result.1)))) }
     ensures refused { IfErr result.0 (λ failed. IfSome (R.remaining (reader_of gr.old)) (λ network. IfSome (Q.remaining (reader_of ss.old))
-        (λ landmarks. IsRefusedCreate network landmarks (OfReader (R.remaining (reader_of gr.new))) (OfReader (Q.remaining (reader_of ss.new))) failed))) }
+        (λ landmarks. IsRefusedCreate network landmarks room (OfReader (R.remaining (reader_of gr.new))) (OfReader (Q.remaining (reader_of ss.new))) failed))) }
     ensures codes { IfErr result.0 (λ failed. IsOfNetwork failed ⊎ IsOfMaking failed) }
     ensures unread { IfErr result.0 (λ failed. IfOfTexts failed (result.1 ≡ disk)) }
     // 46 comes exactly where the disk isn't empty, 43 apart; 11 where it is empty, or before any call of it.
@@ -162,7 +186,7 @@ pub fn create_counted<D: Disk, R: BufRead, Q: BufRead, W: Write>(
     ensures same_landmark_reader { IsSameReader ss.old ss.new }
     ensures same_writer { IsSameWriter out.old out.new }
 {
-    match read_planned(alloc, gr, ss) {
+    match read_planned(alloc, gr, ss, room) {
         Ok(network) => create_store(alloc, disk, &network, journal_pages, out),
         Err(failed) => (Err(failed), disk),
     }
@@ -175,12 +199,13 @@ pub fn create_text<D: Disk, W: Write>(
     gr: &[u8],
     ss: &[u8],
     journal_pages: u32,
+    room: Option<u64>,
     out: &mut W,
 ) -> (Result<(), Failed>, D)
     requires some { 1 ≤ journal_pages }
     requires few { journal_pages ≤ 65536 }
-    ensures made { D.honest disk → IfDone result.0 (IsNewStoreOf gr.now ss.now journal_pages (D.content result.1) (D.left result.1)) }
-    ensures refused { IfErr result.0 (IsRefusedCreate gr.now ss.now InMemory InMemory) }
+    ensures made { D.honest disk → IfDone result.0 (IsNewStoreOf gr.now ss.now room journal_pages (D.content result.1) (D.left result.1)) }
+    ensures refused { IfErr result.0 (IsRefusedCreate gr.now ss.now room InMemory InMemory) }
     ensures unread { IfErr result.0 (λ failed. IfOfTexts failed (result.1 ≡ disk)) }
     // 46 comes exactly where the disk isn't empty, 43 apart; 11 where it is empty, or before any call of it.
     ensures empty { D.honest disk → IfDone result.0 (D.content disk ≡ []) }
@@ -193,7 +218,7 @@ pub fn create_text<D: Disk, W: Write>(
     ensures told { OnOk result.0 (Appends (W.contents out.old) (W.contents out.new) (number_line (codes "ok ") 0)) }
     ensures unwritten { IfErr result.0 (LeavesUnwritten out.old out.new) }
 {
-    match parse_planned(alloc, gr, ss) {
+    match parse_planned(alloc, gr, ss, room) {
         Ok(network) => {
             let mut out = CountedWriter::new(out);
             create_store(alloc, disk, &network, journal_pages, &mut out)

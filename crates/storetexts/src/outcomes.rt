@@ -1,11 +1,11 @@
-// What commands come to.
+// What groups come to.
 ghost use Rattle.std.specs.Prelude.{◌≡◌};
 ghost use Rattle.storetexts.specs.Outcomes.{reply_of};
 
 use machine::Replied;
 use roadnet::Refusal;
 
-/// What a command came to.
+/// What a group came to.
 #[derive(Clone, Copy, Debug, PartialEq, Eq)]
 pub enum Outcome {
     /// It was accepted as this number, the version that it leads to.
@@ -14,7 +14,7 @@ pub enum Outcome {
     Refused { refusal: Refusal },
 }
 
-/// How the outcome is told, once the command is durable: as a version that is durable, or as a refusal.
+/// How the outcome is told, once the group is durable: as a version that is durable, or as a refusal.
 pub(crate) fn reply_of(outcome: Outcome) -> Replied
     ensures { result ≡ reply_of outcome }
 {

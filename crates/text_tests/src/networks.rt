@@ -163,6 +163,8 @@ fn number_of(code: Code) -> u8 {
         Code::TooLarge => 9,
         Code::Read => 10,
         Code::OutOfMemory => 11,
+        Code::GroupSize => 13,
+        Code::OpenGroup => 14,
     }
 }
 

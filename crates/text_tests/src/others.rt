@@ -4,7 +4,7 @@ use dimacs::{
     Code, Counted, Fault, Pair, parse_commands, parse_p2p, parse_ss, read_commands,
     read_commands_counted, read_p2p, read_p2p_counted, read_ss, read_ss_counted,
 };
-use roadnet::Command;
+use roadnet::{Command, Group};
 use std::alloc::Global;
 use std::io;
 use std::io::{BufReader, ErrorKind, Read};
@@ -60,10 +60,11 @@ fn are_pairs(rt: &impl Abort, pairs: &[Pair]) {
     );
 }
 
-fn are_commands(rt: &impl Abort, commands: &[Command]) {
-    assert_eq!(rt; commands.len(), 7);
-    for (command, written) in commands.iter().zip(WRITTEN.iter()) {
-        assert_eq!(rt; *command, *written);
+/// Each command is a group of its own.
+fn are_commands(rt: &impl Abort, groups: &[Group]) {
+    assert_eq!(rt; groups.len(), 7);
+    for (group, written) in groups.iter().zip(WRITTEN.iter()) {
+        assert!(rt; group.commands() == [*written].as_slice());
     }
 }
 
@@ -196,6 +197,47 @@ fn faults_of_commands(rt: HostRuntime) {
         1,
         Code::NumberRange,
     );
+}
+
+/// The lines that bound a group, and those within one: a text that ends within a group is refused, and so is a group without a command.
+#[test]
+fn faults_of_groups(rt: HostRuntime) {
+    let table: [(&[u8], u64, Code); 11] = [
+        (b"begin\nend\n", 2, Code::GroupSize),
+        (b"begin\n# none\n\nend\n", 4, Code::GroupSize),
+        (b"begin\nclose 7\n", 2, Code::OpenGroup),
+        (b"close 7\nbegin", 2, Code::OpenGroup),
+        (b"begin\nbegin\n", 2, Code::BadLine),
+        (b"close 7\nend\n", 2, Code::BadLine),
+        (b"begin 1\n", 1, Code::BadLine),
+        (b"begin\nclose 7\nend 1\n", 3, Code::BadLine),
+        (b"begin\ndist 1 2\nend\n", 2, Code::BadLine),
+        (b"lay 1 2\n", 1, Code::BadLine),
+        (b"lay 1 2 -3\n", 1, Code::NumberRange),
+    ];
+    for (text, line, code) in table {
+        refuses_commands(&rt, rt.alloc(), text, line, code);
+    }
+}
+
+/// Texts, with how many commands each of their groups has: a reader of lines that gives each command alone, or that loses the last, is
+/// refused.
+#[test]
+fn groups_as_written(rt: HostRuntime) -> Result<(), Fail> {
+    let table: [(&[u8], &[usize]); 4] = [
+        (b"begin\nclose 7\nset 8 4\nend\nreopen 7\n", &[2, 1]),
+        (b"begin\n# one\n\nlay 1 2 3\n end\t\r\n", &[1]),
+        (b"lay 1 2 3\nmark 3", &[1, 1]),
+        (b"begin\nmark 3\nend\nbegin\nmark 3\nunmark 3\nend", &[1, 2]),
+    ];
+    for (text, sizes) in table {
+        let groups = parse_commands(rt.alloc(), text)?;
+        assert_eq!(&rt; groups.len(), sizes.len());
+        for (group, size) in groups.iter().zip(sizes.iter()) {
+            assert_eq!(&rt; group.commands().len(), *size);
+        }
+    }
+    Ok(())
 }
 
 /// A reader whose n-th read fails.

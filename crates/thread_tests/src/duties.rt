@@ -1,13 +1,20 @@
 // What a desk's threads owe its callers. Each play has its moves, and what is told of them; the bodies that it refuses are named above it.
 use crate::boards::{FREE, Post, Rule, SHUT};
 use crate::playing::{CLOSE, Move, Play, SHORTER, outcome_of};
+use desk::Setup;
 use roadnet::{Command, Refusal};
 use std::test::Fail;
+
+/// One row worker, and searches by the network's default width.
+const ALONE: Setup = Setup {
+    delta: None,
+    workers: 1,
+};
 
 /// A desk with one landmark and one row worker, whose disk does not fail and whose gate holds nobody.
 const PLAIN: Play<'static> = Play {
     landmarks: &[3],
-    workers: 1,
+    setup: ALONE,
     more_arcs: 0,
     journal_pages: 64,
     failing: 0,
@@ -236,6 +243,8 @@ fn halted_desk_takes_no_command(rt: HostRuntime) -> Result<(), Fail> {
             Move::Submit(Command::Reopen { arc: 7 }),
             Move::Submit(Command::Mark { node: 1 }),
             Move::Submit(Command::Unmark { node: 3 }),
+            Move::Submit(LAY),
+            Move::Group(&DETOUR),
             Move::Let(Post::Flush, u64::MAX),
             Move::SeeLast,
             Move::SettleLast,
@@ -246,7 +255,7 @@ fn halted_desk_takes_no_command(rt: HostRuntime) -> Result<(), Fail> {
     };
     let told = outcome_of(rt, rt.alloc(), &at)?;
     let wanted =
-        "1; 600; 61 Closed; 61 Closed; 61 Closed; 61 Closed; 61 Closed; 600; 600; 1; 600:14; flushes [0, 253, 506]; steps []; left 600, shown 600, kept 600";
+        "1; 600; 61 Closed; 61 Closed; 61 Closed; 61 Closed; 61 Closed; 61 Closed; 61 Closed; 600; 600; 1; 600:14; flushes [0, 253, 506]; steps []; left 600, shown 600, kept 600";
     assert_eq!(rt; told.as_str(), wanted);
     Ok(())
 }
@@ -303,24 +312,32 @@ fn gate_is_asked_without_the_lock(rt: HostRuntime) -> Result<(), Fail> {
     Ok(())
 }
 
-// As many row workers run as the setup says: of six landmarks each has the worker whose turn it is.
+// As many row workers run as the setup says: of six landmarks each has the worker whose turn it is. The views' searches have the setup's
+// width, or else the network's, which is 1 where no arc is longer than 1,024: both the view of the start and the one behind a command. Not a
+// desk that builds by one worker or by the network's width whatever it is told.
 #[test]
-fn workers_are_those_of_the_setup(rt: HostRuntime) -> Result<(), Fail> {
-    for (workers, rows) in [
-        (1, "[1, 1, 1, 1, 1, 1]"),
-        (4, "[1, 2, 3, 4, 1, 2]"),
-        (6, "[1, 2, 3, 4, 5, 6]"),
-        (64, "[1, 2, 3, 4, 5, 6]"),
+fn views_are_built_by_the_setup(rt: HostRuntime) -> Result<(), Fail> {
+    for (workers, delta, width, rows) in [
+        (1, None, 1, "[1, 1, 1, 1, 1, 1]"),
+        (4, Some(5), 5, "[1, 2, 3, 4, 1, 2]"),
+        (6, Some(2147483647), 2147483647, "[1, 2, 3, 4, 5, 6]"),
+        (64, Some(2), 2, "[1, 2, 3, 4, 5, 6]"),
     ] {
         let at = Play {
             landmarks: &[1, 2, 3, 4, 5, 6],
-            workers,
-            moves: &[Move::Submit(CLOSE), Move::See, Move::Rows],
+            setup: Setup { delta, workers },
+            moves: &[
+                Move::Width,
+                Move::Submit(CLOSE),
+                Move::See,
+                Move::Width,
+                Move::Rows,
+            ],
             ..PLAIN
         };
         let told = outcome_of(rt, rt.alloc(), &at)?;
         let wanted = format!(in rt.alloc();
-            "1; 1; {rows}; flushes [0]; steps []; left 1, shown 1, kept 1"
+            "{width}; 1; 1; {width}; {rows}; flushes [0]; steps []; left 1, shown 1, kept 1"
         )?;
         assert_eq!(rt; told, wanted);
     }
@@ -379,6 +396,72 @@ fn callers_are_served(rt: HostRuntime) -> Result<(), Fail> {
                 ..PLAIN
             },
             "8; flushes [0, 1, 2, 3, 4, 5, 6, 7]; steps [1, 2, 3, 4, 5, 6, 7, 8]; left 8, shown 8, kept 8",
+        ),
+    ];
+    for (at, wanted) in &plays {
+        let told = outcome_of(rt, rt.alloc(), at)?;
+        assert_eq!(rt; told.as_str(), *wanted);
+    }
+    Ok(())
+}
+
+/// From node 6 to node 1: there is no room for it.
+const LAY: Command = Command::Lay {
+    tail: 6,
+    head: 1,
+    length: 7,
+};
+
+const DETOUR: [Command; 2] = [CLOSE, SHORTER];
+
+/// Refused at its last command, once arc 7 is closed.
+const TWICE_OPENED: [Command; 3] = [
+    SHORTER,
+    Command::Reopen { arc: 7 },
+    Command::Reopen { arc: 7 },
+];
+
+const MANY: [Command; 196] = [SHORTER; 196];
+
+const TOO_MANY: [Command; 253] = [SHORTER; 253];
+
+// A group is one version, and is shown as a whole or not at all; one that is refused leaves nothing behind. The queue counts commands: a group
+// with which they would be more than 4,096 is refused, a smaller one is taken behind that. A flush takes whole groups, so the last but one has
+// 105 commands.
+#[test]
+fn groups_are_whole(rt: HostRuntime) -> Result<(), Fail> {
+    let plays = [
+        (
+            Play {
+                moves: &[
+                    Move::Group(&DETOUR),
+                    Move::See,
+                    Move::Look,
+                    Move::Group(&TWICE_OPENED),
+                    Move::Group(&[LAY, SHORTER]),
+                    Move::Group(&[]),
+                    Move::Look,
+                    Move::Settle,
+                ],
+                ..PLAIN
+            },
+            "1; 1; 1:14; 23 AlreadyOpen; 29 NoRoom; 13 GroupSize; 1:14; 1; flushes [0]; steps []; left 1, shown 1, kept 1",
+        ),
+        (
+            Play {
+                flush: SHUT,
+                moves: &[
+                    Move::Submit(SHORTER),
+                    Move::Fill(3899),
+                    Move::Group(&TOO_MANY),
+                    Move::Group(&MANY),
+                    Move::Submit(SHORTER),
+                    Move::Let(Post::Flush, u64::MAX),
+                    Move::SettleLast,
+                ],
+                ..PLAIN
+            },
+            "1; 3900; 50 QueueFull; 3901; 50 QueueFull; 3901; flushes [0, 253, 506, 759, 1012, 1265, 1518, 1771, 2024, 2277, 2530, 2783, 3036, 3289, 3542, 3795, 3900]; steps []; left 3901, shown 3901, kept 3901",
         ),
     ];
     for (at, wanted) in &plays {

@@ -1,5 +1,7 @@
 // A desk of a new store is started, called in order, and closed. What is answered is told as text.
 ghost use Rattle.std.specs.Prelude.{◌≡◌, ◌≤◌, true, IfOk};
+ghost use Rattle.std.specs.Option.{ForSome};
+ghost use Rattle.rows.specs.Kept.{IsWidth};
 ghost use Rattle.store.specs.State.{CameTidy, is_calm};
 ghost use Rattle.desk.specs.Openings.{IsNewDesk};
 
@@ -8,7 +10,7 @@ use crate::stores::{Kept, store_of_six};
 use crate::waking::wake;
 use desk::{Closed, Desk, Gate, Handle, History, Naming, Reader, Setup, Ticket};
 use disk::Disk;
-use roadnet::{Command, Refusal};
+use roadnet::{Command, Group, Refusal};
 use rows::Reply;
 use std::alloc::Global;
 use std::collections::VecDeque;
@@ -27,6 +29,8 @@ pub(crate) const SHORTER: Command = Command::Set { arc: 8, length: 4 };
 pub(crate) enum Move {
     /// A command is submitted. Told is its number.
     Submit(Command),
+    /// A group of these commands is. Told is its number.
+    Group(&'static [Command]),
     /// So many commands more. Told is the last number.
     Fill(u32),
     /// The oldest ticket is settled, and is gone then. Told is its number.
@@ -55,13 +59,15 @@ pub(crate) enum Move {
     Numbers(Post),
     /// Told is the worker of each node's row.
     Rows,
+    /// A new reader looks. Told is the width of the buckets of its view.
+    Width,
 }
 
 /// A desk, its gate, and what is done with it.
 #[derive(Clone, Copy)]
 pub(crate) struct Play<'a> {
     pub(crate) landmarks: &'a [u32],
-    pub(crate) workers: u32,
+    pub(crate) setup: Setup,
     /// How many arcs the network has beside those of the worked rows.
     pub(crate) more_arcs: u32,
     pub(crate) journal_pages: u32,
@@ -87,7 +93,13 @@ fn submit<N: Naming, D: Disk + Drop, G: Gate + Drop, R: Wait + Copy>(
     tickets: &mut VecDeque<Held<N>>,
     command: Command,
 ) -> Result<u64, Refusal> {
-    let ticket = desk.submit(command)?;
+    keep(tickets, desk.submit(command)?)
+}
+
+/// Keeps a ticket. Told is its number.
+fn keep<N: Naming>(tickets: &mut VecDeque<Held<N>>, ticket: Ticket) -> Result<u64, Refusal>
+    requires { ticket.origin ≡ N.origin }
+{
     let number = ticket.ticket().number;
     let held = Held {
         ticket,
@@ -97,6 +109,19 @@ fn submit<N: Naming, D: Disk + Drop, G: Gate + Drop, R: Wait + Copy>(
         Ok(()) => Ok(number),
         Err(_) => Err(Refusal::OutOfMemory),
     }
+}
+
+/// Submits a group, and keeps its ticket.
+fn submit_group<N: Naming, D: Disk + Drop, G: Gate + Drop, R: Wait + Copy>(
+    alloc: Global,
+    desk: &Handle<N, D, G, R>,
+    tickets: &mut VecDeque<Held<N>>,
+    commands: &[Command],
+) -> Result<u64, Refusal> {
+    let Ok(commands) = Vec::from_slice(alloc, commands) else {
+        return Err(Refusal::OutOfMemory);
+    };
+    keep(tickets, desk.submit_group(Group::new(commands)?)?)
 }
 
 /// Submits so many, and keeps their tickets. Told is the last number.
@@ -180,6 +205,15 @@ fn look<N: Naming, D: Disk + Drop, G: Gate + Drop, R: Threads + Wait + Copy>(
     text.or(Err(Refusal::OutOfMemory))
 }
 
+/// The width of the buckets of the view at which a new reader looks.
+fn width<N: Naming, D: Disk + Drop, G: Gate + Drop, R: Wait + Copy>(
+    desk: &Handle<N, D, G, R>,
+) -> Result<u64, Refusal> {
+    let mut reader = desk.reader()?;
+    let pinned = reader.pin()?;
+    Ok(u64::from(pinned.width()))
+}
+
 /// What is told of a list of numbers.
 fn list_of(alloc: Global, numbers: &[u64]) -> Result<String, Refusal> {
     format!(in alloc; "{numbers:?}; ").or(Err(Refusal::OutOfMemory))
@@ -247,6 +281,7 @@ fn play_move<
 ) -> Result<String, Refusal> {
     match step {
         Move::Submit(command) => text_of(alloc, submit(desk, tickets, command)),
+        Move::Group(commands) => text_of(alloc, submit_group(alloc, desk, tickets, commands)),
         Move::Fill(count) => text_of(alloc, fill(desk, tickets, count)),
         Move::SettleEach(count) => text_of(alloc, settle_each(desk, tickets, count)),
         Move::Settle => text_of(alloc, settle(desk, tickets.pop_front())),
@@ -267,6 +302,7 @@ fn play_move<
         Move::Crowd => crowd(alloc, desk),
         Move::Numbers(post) => list_of(alloc, board.door(post).numbers().lock(rt).as_slice()),
         Move::Rows => list_of(alloc, &board.workers()),
+        Move::Width => text_of(alloc, width(desk)),
     }
 }
 
@@ -314,12 +350,12 @@ fn left_of(alloc: Global, closed: Closed<Kept>) -> Result<String, Refusal> {
         journal_pages: _,
         whole: _,
     } = closed;
-    let commands = history.len();
-    let seen = shown.commands().len();
+    let groups = history.len();
+    let seen = shown.groups().len();
     match open(alloc, disk.into_inner()) {
         Ok(store) => {
             let version = store.version();
-            format!(in alloc; "left {commands}, shown {seen}, kept {version}").or(Err(
+            format!(in alloc; "left {groups}, shown {seen}, kept {version}").or(Err(
                 Refusal::OutOfMemory,
             ))
         }
@@ -340,18 +376,15 @@ fn play_desk<
     store: Store<D>,
     gate: G,
     board: &Board,
-    workers: u32,
+    setup: Setup,
     moves: &[Move],
 ) -> Result<(String, Closed<D>), Refusal>
     requires calm { is_calm store ≡ true }
-    requires workers { (1 ≤ workers) × (workers ≤ 64) }
+    requires width { ForSome setup.delta IsWidth }
+    requires workers { (1 ≤ setup.workers) × (setup.workers ≤ 64) }
     requires new { IsNewDesk N.origin history store }
     requires came_tidy { N.came_tidy → CameTidy D.honest D.content store.given }
 {
-    let setup = Setup {
-        delta: None,
-        workers,
-    };
     let desk: Desk<N, D, G, R> = Desk::start(rt, alloc, history, store, gate, setup)?;
     let told = play_moves(&rt, alloc, desk.handle(), board, moves);
     let closed = desk.close()?;
@@ -374,7 +407,7 @@ fn gate_of<R: Wait + Clock + Copy>(
     Ok((Watch { rt, board: shared }, board))
 }
 
-/// What is told of a play: the answers, what the gate noted, and what the desk left. Refused (5) are also numbers of pages and workers that no
+/// What is told of a play: the answers, what the gate noted, and what the desk left. Refused (5) are also numbers of pages, workers and widths that no
 /// journal and no desk has.
 pub(crate) fn outcome_of<R: Threads + Wait + Clock + Copy + Send + Sync + 'static>(
     rt: R,
@@ -382,15 +415,20 @@ pub(crate) fn outcome_of<R: Threads + Wait + Clock + Copy + Send + Sync + 'stati
     play: &Play<'_>,
 ) -> Result<String, Refusal> {
     let pages = play.journal_pages;
-    let workers = play.workers;
-    if pages < 1 || pages > 65536 || workers < 1 || workers > 64 {
+    let setup = play.setup;
+    if pages < 1 || pages > 65536 || setup.workers < 1 || setup.workers > 64 {
+        return Err(Refusal::NumberRange);
+    }
+    if let Some(width) = setup.delta
+        && (width < 1 || width > 2147483647)
+    {
         return Err(Refusal::NumberRange);
     }
     let store = store_of_six(alloc, play.landmarks, play.more_arcs, pages, play.failing)?;
     let history = History::new(store.network(), store.version());
     let (gate, board) = gate_of(rt, alloc, play)?;
     let (told, closed) = play_desk::<Brand, _, _, _>(
-        rt, alloc, history, store, gate, &board, workers, play.moves,
+        rt, alloc, history, store, gate, &board, setup, play.moves,
     )?;
     let noted = noted(&rt, alloc, &board)?;
     let left = left_of(alloc, closed)?;

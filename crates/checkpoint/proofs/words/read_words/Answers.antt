@@ -6,13 +6,15 @@ use Rattle.storefile.specs.StoreFile.{page}
 use Rattle.pagereader.specs.Runs.{IsRunOf}
 use Rattle.pagereader.proofs.Unchanged.{nothing_read, read_more}
 use Rattle.checkpoint.proofs.Flawless.{none_yet, more_words, whole_fits}
-use Rattle.checkpoint.proofs.SoFar.{words_start, words_more, words_stop, words_done}
+use Rattle.checkpoint.proofs.SoFar.{words_of_page, words_start, words_more, words_stop_as, words_done}
+use Rattle.checkpoint.specs.Loading.{WordsArePut}
 use Rattle.checkpoint.proofs.words.read_words.Goals as goal
 
 pub loop-i-init : goal.loop-i-init
 loop-i-init g c = record {
-  said = λ h. words_start (g.D.Disk.content c.args.disk.now) c.args.header.now c.args.slot c.args.arcs.now;
-  fits = none_yet c.args.header.now c.args.arcs.now;
+  said = λ h. words_start (g.D.Disk.content c.args.disk.now) c.args.header.now c.args.slot (length c.args.arcs.now) c.args.arcs.now;
+  fits = none_yet (length c.args.arcs.now) c.args.arcs.now;
+  count = refl;
   ends = refl;
   run = c.requires.run;
   read = nothing_read g.D.Disk.content g.D.Disk.left g.D.Disk.moment g.D.Disk.left_since g.D.Disk.failures g.D.Disk.honest c.args.disk.now;
@@ -25,17 +27,19 @@ returns-in_err-take_page-clause-refused g c h =
     let lt : c.loop-i.i < word_pages c.args.header.now = omega arith in
     let at : c.read.new.into ≡ page (g.D.Disk.content c.args.disk.now) (page_number c.args.header.now (Words c.args.slot c.loop-i.i)) =
     c.in-Ok.ensures.bytes then_honest ∙ ap (λ (file : List ℕ). page file c.word_page.result) (c.loop-i.invariant.read.stays h).same_content ∙ ap (page (g.D.Disk.content c.args.disk.now)) c.word_page.ensures in
-    rw (p.1, p.2) (words_stop (g.D.Disk.content c.args.disk.now) c.args.header.now c.args.slot c.loop-i.arcs c.loop-i.i c.read.new.into _ (c.loop-i.invariant.said h) lt at c.in_err-take_page.ensures.refused)
+    rw (p.1, p.2) (words_stop_as (g.D.Disk.content c.args.disk.now) c.args.header.now c.args.slot (length c.args.arcs.now) (length c.loop-i.arcs) c.loop-i.arcs c.loop-i.i c.read.new.into _ c.loop-i.invariant.count (c.loop-i.invariant.said h) lt at c.in_err-take_page.ensures.refused)
 
 pub loop-i-preserved : goal.loop-i-preserved
 loop-i-preserved g c = record {
   said = λ h.
+      let put = subst (λ (n : ℕ). WordsArePut (words_of_page c.args.header.now c.args.slot n c.loop-i.i c.read.new.into) (take (min (1023 * c.loop-i.i) n) c.loop-i.arcs) (take (min (1023 * (c.loop-i.i + 1)) n) c.take_page.new.arcs)) c.loop-i.invariant.count c.in_ok-take_page.ensures.spelled in
       let then_honest = c.loop-i.invariant.read.honest_then.1 h in
       let lt : c.loop-i.i < word_pages c.args.header.now = omega arith in
       let at : c.read.new.into ≡ page (g.D.Disk.content c.args.disk.now) (page_number c.args.header.now (Words c.args.slot c.loop-i.i)) =
       c.in-Ok.ensures.bytes then_honest ∙ ap (λ (file : List ℕ). page file c.word_page.result) (c.loop-i.invariant.read.stays h).same_content ∙ ap (page (g.D.Disk.content c.args.disk.now)) c.word_page.ensures in
-      words_more (g.D.Disk.content c.args.disk.now) c.args.header.now c.args.slot c.loop-i.arcs c.take_page.new.arcs c.loop-i.i c.read.new.into (c.loop-i.invariant.said h) lt at c.in_ok-take_page.ensures.spelled;
-  fits = more_words c.args.header.now c.args.slot c.loop-i.i c.read.new.into (take (min (1023 * c.loop-i.i) c.args.header.now.arcs) c.loop-i.arcs) (take (min (1023 * (c.loop-i.i + 1)) c.args.header.now.arcs) c.take_page.new.arcs) c.in_ok-take_page.ensures.spelled c.loop-i.invariant.fits;
+      words_more (g.D.Disk.content c.args.disk.now) c.args.header.now c.args.slot (length c.args.arcs.now) c.loop-i.arcs c.take_page.new.arcs c.loop-i.i c.read.new.into (c.loop-i.invariant.said h) lt at put;
+  fits = more_words c.args.header.now c.args.slot (length c.args.arcs.now) c.loop-i.i c.read.new.into (take (min (1023 * c.loop-i.i) (length c.args.arcs.now)) c.loop-i.arcs) (take (min (1023 * (c.loop-i.i + 1)) (length c.args.arcs.now)) c.take_page.new.arcs) (subst (λ (n : ℕ). WordsArePut (words_of_page c.args.header.now c.args.slot n c.loop-i.i c.read.new.into) (take (min (1023 * c.loop-i.i) n) c.loop-i.arcs) (take (min (1023 * (c.loop-i.i + 1)) n) c.take_page.new.arcs)) c.loop-i.invariant.count c.in_ok-take_page.ensures.spelled) c.loop-i.invariant.fits;
+  count = c.take_page.ensures.count ∙ c.loop-i.invariant.count;
   ends = c.take_page.ensures.ends ∙ c.loop-i.invariant.ends;
   run = λ h. subst (λ (file : List ℕ). IsRunOf file c.read.new.self) (c.loop-i.invariant.read.stays h).same_content (c.in-Ok.ensures.run (c.loop-i.invariant.read.honest_then.1 h));
   read = read_more g.D.Disk.content g.D.Disk.left g.D.Disk.moment g.D.Disk.left_since g.D.Disk.failures g.D.Disk.honest c.args.disk.now c.loop-i.disk c.read.new.disk c.loop-i.invariant.read
@@ -45,11 +49,11 @@ loop-i-preserved g c = record {
 pub returns-clause-spelled : goal.returns-clause-spelled
 returns-clause-spelled g c h =
     let past : word_pages c.args.header.now ≤ c.loop-i.i = omega arith in
-    let count : length c.loop-i.arcs ≡ c.args.header.now.arcs = omega arith in
-    words_done (g.D.Disk.content c.args.disk.now) c.args.header.now c.args.slot c.loop-i.arcs c.loop-i.i past count (c.loop-i.invariant.said h)
+    let count = c.loop-i.invariant.count in
+    words_done (g.D.Disk.content c.args.disk.now) c.args.header.now c.args.slot (length c.args.arcs.now) c.loop-i.arcs c.loop-i.i past count c.requires.count (c.loop-i.invariant.said h)
 
 pub returns-clause-fits : goal.returns-clause-fits
 returns-clause-fits g c =
     let past : word_pages c.args.header.now ≤ c.loop-i.i = omega arith in
-    let count : length c.loop-i.arcs ≡ c.args.header.now.arcs = omega arith in
-    whole_fits c.args.header.now c.loop-i.arcs c.loop-i.i past count c.loop-i.invariant.fits
+    let count = c.loop-i.invariant.count in
+    whole_fits c.args.header.now (length c.args.arcs.now) c.loop-i.arcs c.loop-i.i past count c.requires.count c.loop-i.invariant.fits

@@ -1,8 +1,8 @@
 use Rattle.std.proofs.Common.{◌≡◌, ℕ, ◌*◌, length, sym, ◌∙◌, ap, subst, arith}
 use Rattle.pages.specs.Layout.{page_count}
 use Rattle.storefile.specs.StoreFile.{page}
-use Rattle.checkpoint.specs.Writing.{HoldsWords}
-use Rattle.checkpoint.proofs.SlotHeld.{rests_shut, no_words}
+use Rattle.checkpoint.specs.Writing.{HoldsPages}
+use Rattle.checkpoint.proofs.SlotHeld.{rests_shut, no_pages}
 use Rattle.checkpoint_tests.proofs.writing.write_whole.Goals as goal
 
 pub begin-requires-clause-at_rest : goal.begin-requires-clause-at_rest
@@ -29,7 +29,7 @@ complete-requires-clause-shut g c h =
     let begun = c.begin.ensures.honest.0 h in
     rests_shut c.args.header.now c.args.next.now.slot (g.D.Disk.content c.begin.new.disk) (g.D.Disk.left c.begin.new.disk) (c.in_ok-begin.ensures.at_rest begun) (c.in_ok-begin.ensures.shut begun).closed
 
-pub complete-requires-clause-words : goal.complete-requires-clause-words
-complete-requires-clause-words g c h =
-    subst (λ (n : ℕ). HoldsWords (page (g.D.Disk.content c.begin.new.disk)) c.args.header.now c.args.next.now.slot c.args.network.now n) (sym c.requires.start)
-    (no_words c.args.header.now c.args.next.now.slot (page (g.D.Disk.content c.begin.new.disk)) c.args.network.now)
+pub complete-requires-clause-pages : goal.complete-requires-clause-pages
+complete-requires-clause-pages g c h =
+    subst (λ (n : ℕ). HoldsPages (page (g.D.Disk.content c.begin.new.disk)) c.args.header.now c.args.next.now.slot c.args.network.now n) (sym c.requires.start)
+    (no_pages c.args.header.now c.args.next.now.slot (page (g.D.Disk.content c.begin.new.disk)) c.args.network.now)

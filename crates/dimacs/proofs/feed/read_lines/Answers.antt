@@ -4,7 +4,7 @@ use Rattle.dimacs.proofs.feed.read_lines.Goals as goal
 
 pub loop-feed-init : goal.loop-feed-init
 loop-feed-init g c = record {
-  far = begins g.T.TakeLines.judge g.T.TakeLines.has_taken g.T.TakeLines.COMMENT _ _ c.requires c.new.ensures.items refl;
+  far = begins g.T.TakeLines.judge g.T.TakeLines.has_taken g.T.TakeLines.COMMENT _ _ c.requires c.new.ensures refl;
   room = search rules;
   until = refl;
   failed = refl;

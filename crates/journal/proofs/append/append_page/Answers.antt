@@ -18,14 +18,14 @@ write_gated-requires-clause-fits g c =
 
 pub returns-clause-written : goal.returns-clause-written
 returns-clause-written g c h =
-    let e : Entry = record { sequence = c.args.sequence; first_number = c.args.first_number; commands = c.args.commands.now } in
+    let e : Entry = record { sequence = c.args.sequence; first_number = c.args.first_number; groups = c.args.groups.now } in
     let is : c.body_of-body.result.now ≡ body (entry_page e) = c.body_of-body.ensures.bytes ∙ ap body c.encode_journal_page-page.ensures in
     let at : c.journal_page-number.result ≡ journal_page_at c.args.header.now c.args.sequence = c.journal_page-number.ensures in
     rw (sym at, sym is) (c.write_gated.ensures.written h)
 
 pub returns-clause-any_moment : goal.returns-clause-any_moment
 returns-clause-any_moment g c h =
-    let e : Entry = record { sequence = c.args.sequence; first_number = c.args.first_number; commands = c.args.commands.now } in
+    let e : Entry = record { sequence = c.args.sequence; first_number = c.args.first_number; groups = c.args.groups.now } in
     let is : c.body_of-body.result.now ≡ body (entry_page e) = c.body_of-body.ensures.bytes ∙ ap body c.encode_journal_page-page.ensures in
     let at : c.journal_page-number.result ≡ journal_page_at c.args.header.now c.args.sequence = c.journal_page-number.ensures in
     rw (sym at, sym is) (c.write_gated.ensures.any_moment h)

@@ -4,7 +4,7 @@ use Rattle.disk.specs.declared.stoppable.Pick.{Pick}
 use Rattle.roadnet.specs.declared.refusals.Refusal.TheVariants.{OutOfMemory}
 use Rattle.store.specs.State.{CameTidy}
 use Rattle.machine.specs.declared.events.Event.{Event}
-use Rattle.roadnet.specs.declared.commands.Command.{Command}
+use Rattle.roadnet.specs.declared.groups.Group.{Group}
 use Rattle.machine.specs.Machine.{Machine, start}
 use Rattle.machine.specs.LifeInRun.{within as in_life}
 use Rattle.machine.proofs.Kept.{started}
@@ -24,10 +24,9 @@ returns-in-Err-clause-lives g c came =
     let first : First = first_of store in
     let m : Machine = start first.sizes first.network first.version first.unchecked in
     let tells = c.in-Err.ensures in
-    let slot = tells.checkpoint_pages came in
     let there : c.close.result ≡ store.disk = (let back = c.in-Err.ensures.handed_back in let shut = c.close.ensures in cc) in
     rw (there, c.new-in-Err.ensures.items, c.new.ensures.items)
-    (run_no_memory first [] [] [] m (run_none {P = Pick} first tells.room.version_to tells.room.unchecked_to slot) (g.D.Disk.left store.disk)
+    (run_no_memory first [] [] [] m (run_none {P = Pick} first tells.room.version_to tells.room.unchecked_to) (g.D.Disk.left store.disk)
     (started first.sizes first.network first.version first.unchecked tells.room.version_to tells.room.unchecked_to)
     (held_at_start store (g.D.Disk.content store.disk) (g.D.Disk.left store.disk) (tells.only came) (tells.stands came))
     c.args.events.now)
@@ -41,15 +40,14 @@ loop-event-init g c =
     record {
       room = omega (arith, none, c.new-2.ensures.len);
       goes = λ came.
-          let slot = c.in-Ok.ensures.checkpoint_pages came in
           record {
             came = subst (λ (d : g.row.D.Denot). CameTidy g.D.Disk.honest g.D.Disk.content d) (sym c.in-Ok.ensures.given) came;
             run = run_as first [] [] c.new-3.result.items [] c.new-2.result.items c.in-Ok.life.keeper.machine c.new-3.ensures.items c.new-2.ensures.items
-                (subst (λ (m : Machine). HasRun {P = Pick} first [] [] [] m) (sym begins) (run_none {P = Pick} first c.in-Ok.ensures.room.version_to c.in-Ok.ensures.room.unchecked_to slot));
+                (subst (λ (m : Machine). HasRun {P = Pick} first [] [] [] m) (sym begins) (run_none {P = Pick} first c.in-Ok.ensures.room.version_to c.in-Ok.ensures.room.unchecked_to));
           };
       cut = λ came.
           cut_none _ _ _ _ first c.new-3.result.items _ c.new-3.ensures.items
-          (ap (λ (cs : List Command). in_life first.network first.version cs c.in-Ok.life.keeper.machine) c.new-2.ensures.items ∙ ap (in_life first.network first.version []) begins);
+          (ap (λ (cs : List Group). in_life first.network first.version cs c.in-Ok.life.keeper.machine) c.new-2.ensures.items ∙ ap (in_life first.network first.version []) begins);
       delta = c.in-Ok.ensures.delta;
       counted = fails_as {P = Pick} [] [] c.new-3.result.items (g.D.Disk.failures store.disk) _ c.new-3.ensures.items (rw c.in-Ok.ensures.disk (fails_none {P = Pick} (g.D.Disk.failures store.disk)));
     }

@@ -1,5 +1,5 @@
 use Rattle.keeper.proofs.Ticketed.{ticket_flushed}
 use Rattle.keeper_tests.proofs.keeping.flushed.Goals as goal
 
-pub receipt-receipt-requires : goal.receipt-receipt-requires
-receipt-receipt-requires g c = ticket_flushed c.args.keeper.now.machine c.flush-answer.new.self.machine c.args.ticket.now c.flush-answer.result c.flush-answer.ensures.step c.requires
+pub receipt-requires : goal.receipt-requires
+receipt-requires g c = ticket_flushed c.args.keeper.now.machine c.flush-answer.new.self.machine c.args.ticket c.flush-answer.result c.flush-answer.ensures.step c.requires

@@ -8,4 +8,4 @@ pub publish_as-requires : goal.publish_as-requires
 publish_as-requires g c next is =
     let now = c.args.writer.desk.shown.value in
     let h = c.requires.pending in
-    sees _ _ now next (h.0 ∙ sym (ap (λ (x : Showing). x.shown.origin) is)) (subst (λ (x : Showing). IsPrefix now.shown.commands x.shown.commands) (sym is) h.1)
+    sees _ _ now next (h.0 ∙ sym (ap (λ (x : Showing). x.shown.origin) is)) (subst (λ (x : Showing). IsPrefix now.shown.groups x.shown.groups) (sym is) h.1)

@@ -6,7 +6,7 @@ use Rattle.rehearsals.proofs.running.rehearsed.Goals as goal
 pub returns-clause-run : goal.returns-clause-run
 returns-clause-run g c honest =
     let made = c.in_ok-store.ensures in
-    replies_to c.in_ok-store.store _ c.args.network.now c.args.journal_pages _ c.args.events.now _ _ _ (made.checkpoint_pages honest) made.network made.version made.unchecked made.journal_pages
+    replies_to c.in_ok-store.store _ c.args.network.now c.args.journal_pages _ c.args.events.now _ _ _ made.checkpoint_pages made.network made.version made.unchecked made.journal_pages
     (c.rehearse.ensures.lives (rw made.given (made.honest.0.1 honest, made.tidy honest)))
 
 pub returns-clause-ended : goal.returns-clause-ended

@@ -18,7 +18,7 @@ returns-clause-writes g c honest empty =
     ended_counts Done c.in-Ok.run'.ended c.in-Some.refusal _ _ c.in-Some.is (c.in-Ok.ensures.ended honest) (c.in_default-flush.ensures.counts ∙ c.in_default.ensures.counts)
 
 pub returns-in-None-clause-width : goal.returns-in-None-clause-width
-returns-in-None-clause-width g c = c.in-Ok.ensures.width
+returns-in-None-clause-width g c = c.by-done.ensures.width ∙ c.in-Ok.ensures.width
 
 pub returns-in-None-clause-answered : goal.returns-in-None-clause-answered
 returns-in-None-clause-answered g c honest =

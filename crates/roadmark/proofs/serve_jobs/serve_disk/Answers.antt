@@ -22,7 +22,7 @@ returns-clause-opened g c honest =
     let origin = c.new-history.result.origin in
     let base = c.new-history.ensures.base.0 ∙ c.network.ensures in
     let version = c.new-history.ensures.base.1 ∙ c.version.ensures.version in
-    stands_for_origin content c.serve_store.result (λ ended. ended.1.whole.origin) origin
+    stands_for_origin content c.serve_store.result (λ ended. ended.closed.whole.origin) origin
     (subst (λ (v : ℕ). StandsAt content origin.base v) (sym version)
     (subst (λ (n : Net). StandsAt content n c.in-Ok.store.version) (sym base) (c.in-Ok.ensures.stands honest)))
     c.serve_store.ensures.origin
@@ -35,12 +35,12 @@ by_origin (Err e) origin_of origin P holds same = tt
 
 pub returns-clause-answered : goal.returns-clause-answered
 returns-clause-answered g c =
-    by_origin c.serve_store.result (λ ended. ended.1.whole.origin) c.new-history.result.origin
+    by_origin c.serve_store.result (λ ended. ended.closed.whole.origin) c.new-history.result.origin
     (λ origin ended.
     IfSome (g.I.Read.remaining (reader_of c.args.reader.now))
     (λ text.
     Serves origin text (g.I.Read.remaining (reader_of c.serve_store.new.reader)) (g.W.Write.contents (writer_of c.args.writer.now)) (g.W.Write.contents (writer_of c.serve_store.new.writer))
-    (IsKept ended.1.whole ended.1.shown) ended.0))
+    (IsKept ended.closed.whole ended.closed.shown) ended.outcome))
     c.serve_store.ensures.answered
     c.serve_store.ensures.origin
 

@@ -1,19 +1,8 @@
-use Rattle.std.proofs.Common.{◌≡◌, ◌∙◌, ℕ, List, get_or, sym, ap, subst}
-use Rattle.std.specs.List.Sorted.{IsStrictlyIncreasing}
-use Rattle.std.proofs.lemmas.List.Sums.{fold_more}
-use Rattle.roadnet.specs.declared.commands.Command.TheVariants.{Set}
-use Rattle.roadnet.specs.Batches.{changed_landmarks}
-use Rattle.roadnet.proofs.InTurn.{ascends-changed}
+use Rattle.std.proofs.Common.{[], ◌∙◌, sym, subst}
+use Rattle.std.specs.List.{All}
+use Rattle.roadnet.specs.Batches.{HasFitNumbers}
+use Rattle.roadnet.proofs.TakenBack.{group_all}
 use Rattle.roadnet.proofs.batches.landmarks_after.Goals as goal
 
-pub change_landmarks-requires-clause-ascending : goal.change_landmarks-requires-clause-ascending
-change_landmarks-requires-clause-ascending c = c.loop-command.invariant.1
-
-pub loop-command-preserved : goal.loop-command-preserved
-loop-command-preserved c =
-    let is : c.change_landmarks.new.landmarks.items ≡ changed_landmarks c.loop-command.found.items (get_or c.args.commands.now c.loop-command.command-index (Set 0 0)) = c.in_ok-change_landmarks.ensures in (
-      is
-          ∙ ap (λ (l : List ℕ). changed_landmarks l (get_or c.args.commands.now c.loop-command.command-index (Set 0 0))) c.loop-command.invariant.0
-          ∙ sym (fold_more changed_landmarks c.args.landmarks.now c.args.commands.now c.loop-command.command-index (Set 0 0) c.loop-command-test.true),
-      subst IsStrictlyIncreasing (sym is) (ascends-changed c.loop-command.found.items (get_or c.args.commands.now c.loop-command.command-index (Set 0 0)) c.loop-command.invariant.1),
-    )
+pub change_landmarks_by-requires-clause-fits : goal.change_landmarks_by-requires-clause-fits
+change_landmarks_by-requires-clause-fits c = subst (All HasFitNumbers) (sym (c.commands.ensures.value ∙ c.group-item.is)) (group_all HasFitNumbers c.args.groups.now c.loop-group.group-index c.group-item.result c.loop-group-test.true c.requires.fits)

@@ -1,14 +1,13 @@
-use Rattle.std.proofs.Common.{Ok, map, refl}
+use Rattle.std.proofs.Common.{map}
 use Rattle.std.proofs.lemmas.Result.{err_from_is_err_and}
 use Rattle.dimacs.specs.Counts.{reader_of}
 use Rattle.dimacs.proofs.TextEnds.{read_ended, read_told}
-use Rattle.scripts.specs.ScriptTexts.{as_line, script_text}
+use Rattle.scripts.specs.ScriptTexts.{script_text}
 use Rattle.scripts.specs.ScriptReading.{HasEvents}
 use Rattle.scripts.proofs.script_texts.read_script_counted.Goals as goal
 
 pub returns-clause-read : goal.returns-clause-read
-returns-clause-read g c =
-    rw c.events_of.ensures (read_ended script_text HasEvents _ _ c.in_ok-ended.ended (Ok (map as_line c.in_ok-ended.ended.taker.events.items)) c.in_ok-ended.ensures.read (λ lines taken same. (refl, taken)))
+returns-clause-read g c = read_ended script_text HasEvents _ _ c.in_ok-ended.ended _ c.in_ok-ended.ensures.read c.events_at_end.ensures.ends
 
 pub returns-in_err-ended-clause-read : goal.returns-in_err-ended-clause-read
 returns-in_err-ended-clause-read g c =

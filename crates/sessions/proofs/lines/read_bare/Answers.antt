@@ -11,5 +11,8 @@ returns-in-One c row are = bare_fault c.args.word row c.args.numbers are (rw c.i
 pub returns-in-Two : goal.returns-in-Two
 returns-in-Two c row are = bare_fault c.args.word row c.args.numbers are (rw c.in-Two.is (omega arith))
 
+pub returns-in-Three : goal.returns-in-Three
+returns-in-Three c row are = bare_fault c.args.word row c.args.numbers are (rw c.in-Three.is (omega arith))
+
 pub returns-in-TooMany : goal.returns-in-TooMany
 returns-in-TooMany c row are = bare_fault c.args.word row c.args.numbers are (rw c.in-TooMany.is (omega arith))

@@ -8,3 +8,6 @@ returns-in-WithOne c row are = rw c.in-WithOne.is (c.read_one.ensures row are)
 
 pub returns-in-WithTwo : goal.returns-in-WithTwo
 returns-in-WithTwo c row are = rw c.in-WithTwo.is (c.read_two.ensures row are)
+
+pub returns-in-Lay : goal.returns-in-Lay
+returns-in-Lay c row are = rw c.in-Lay.is (c.read_lay.ensures row are)

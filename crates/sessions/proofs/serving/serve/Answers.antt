@@ -4,7 +4,7 @@ use Rattle.sessions.proofs.serving.serve.Goals as goal
 
 pub loop-init : goal.loop-init
 loop-init g c = record {
-  far = far_begun g.N.Naming.origin _ _ _ _ _ c.new-session.ensures.reader c.new-session.ensures.receipts c.new-session.ensures.last;
+  far = far_begun g.N.Naming.origin _ _ _ _ _ _ c.new-session.ensures.reader c.new-session.ensures.receipts c.new-session.ensures.last c.new-session.ensures.draft;
   failed_reads = refl;
   same_reader = refl;
   failed_writes = refl;
@@ -13,7 +13,7 @@ loop-init g c = record {
 
 pub loop-preserved : goal.loop-preserved
 loop-preserved g c = record {
-  far = far_turned g.N.Naming.origin _ _ _ _ _ _ _ _ _ _ _ _ c.in-Ok-Some.line (search rules) c.loop.invariant.far (search rules) c.in_default.ensures.told c.answer.ensures.begins;
+  far = far_turned g.N.Naming.origin _ _ _ _ _ _ _ _ _ _ _ _ _ _ c.in-Ok-Some.line (search rules) c.loop.invariant.far (search rules) (λ draft has. rw c.in_default.is at (c.answer.ensures.told draft has)) c.answer.ensures.draft c.answer.ensures.begins;
   failed_reads = search rules;
   same_reader = search rules;
   failed_writes = search rules;

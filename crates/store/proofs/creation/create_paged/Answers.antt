@@ -1,8 +1,11 @@
-use Rattle.std.proofs.Common.{length, sym, subst}
+use Rattle.std.proofs.Common.{◌∙◌, length, refl, ap, sym, subst, arith}
 use Rattle.roadnet.specs.Net.{Net}
 use Rattle.pages.specs.declared.header.Header.{Header}
+use Rattle.pages.specs.declared.content.Format.TheVariants.{Two}
+use Rattle.pages.specs.Layout.{slot_pages}
 use Rattle.pages.specs.Spelling.{IsHeader}
 use Rattle.storefile.specs.StoreFile.{StandsTidyFor}
+use Rattle.store.specs.State.{checkpoint_pages_of}
 use Rattle.store.proofs.NewStore.{created, same_header, sizes_fit, new_numbers}
 use Rattle.store.proofs.Resting.{size_told}
 use Rattle.store.proofs.creation.create_paged.Goals as goal
@@ -10,30 +13,38 @@ use Rattle.store.proofs.creation.create_paged.Goals as goal
 pub invariant_of-result : goal.invariant_of-result
 invariant_of-result g c =
     let net : Net = c.in-Ok-copy.copy in
-    let is = same_header net c.args.journal_pages c.nodes.result c.arcs.result.now c.nodes.ensures.value c.arcs.ensures.value in
+    let is = same_header net c.args.journal_pages c.nodes.result c.room.result c.arcs.result.now c.nodes.ensures.value c.arcs.ensures.value c.room.ensures.value in
     let fits = sizes_fit net c.args.journal_pages c.nodes.ensures.network c.requires.some c.requires.few in
     record {
-      numbers = new_numbers (record { nodes = c.nodes.result; arcs = length c.arcs.result.now; journal_pages = c.args.journal_pages }) (subst (λ (x : Header). IsHeader x) (sym is) fits);
+      numbers = new_numbers (record { format = Two; nodes = c.nodes.result; arcs = length c.arcs.result.now; room = c.room.result; journal_pages = c.args.journal_pages }) c.args.version (subst (λ (x : Header). IsHeader x) (sym is) fits) c.requires.versions;
+      today = refl;
+      arcs_from = omega (arith, ap length c.arcs.ensures.value);
       rests = λ works honest.
           let laid = c.open_gates.ensures.honest.0 honest in
           let begun = c.lay_out.ensures.honest.0 laid in
-          let made = created (g.D.Disk.content c.open_gates.new.disk) (g.D.Disk.content c.lay_out.new.disk) (record { nodes = c.nodes.result; arcs = length c.arcs.result.now; journal_pages = c.args.journal_pages }) net c.args.journal_pages
+          let made = created (g.D.Disk.content c.open_gates.new.disk) (g.D.Disk.content c.lay_out.new.disk) (record { format = Two; nodes = c.nodes.result; arcs = length c.arcs.result.now; room = c.room.result; journal_pages = c.args.journal_pages }) net c.args.version c.args.journal_pages c.requires.versions
           c.nodes.ensures.network fits is (c.in-Ok-lay_out.ensures.laid_out begun) (c.in-Ok-open_gates.ensures.opened laid) in
           (c.in-Ok-open_gates.ensures.at_rest laid, size_told (g.D.Disk.content c.open_gates.new.disk) _ made.standing_is);
       fits = tt;
       goes_on = λ works honest. ∣ tt ∣₁;
     }
 
+pub returns-clause-checkpoint_pages : goal.returns-clause-checkpoint_pages
+returns-clause-checkpoint_pages g c =
+    let is = same_header c.in-Ok-copy.copy c.args.journal_pages c.nodes.result c.room.result c.arcs.result.now c.nodes.ensures.value c.arcs.ensures.value c.room.ensures.value in
+    ap slot_pages is ∙ ap (λ (n : Net). checkpoint_pages_of (length n.arcs) n) c.in-Ok-copy.ensures.same
+
 pub returns-clause-stands : goal.returns-clause-stands
 returns-clause-stands g c = λ h.
     let net : Net = c.in-Ok-copy.copy in
-    let is = same_header net c.args.journal_pages c.nodes.result c.arcs.result.now c.nodes.ensures.value c.arcs.ensures.value in
+    let is = same_header net c.args.journal_pages c.nodes.result c.room.result c.arcs.result.now c.nodes.ensures.value c.arcs.ensures.value c.room.ensures.value in
     let fits = sizes_fit net c.args.journal_pages c.nodes.ensures.network c.requires.some c.requires.few in
     let begun = c.length_of.ensures.honest.1 h in
     let laid = c.lay_out.ensures.honest.1 begun in
-    let made = created (g.D.Disk.content c.open_gates.new.disk) (g.D.Disk.content c.lay_out.new.disk) (record { nodes = c.nodes.result; arcs = length c.arcs.result.now; journal_pages = c.args.journal_pages }) net c.args.journal_pages
+    let made = created (g.D.Disk.content c.open_gates.new.disk) (g.D.Disk.content c.lay_out.new.disk) (record { format = Two; nodes = c.nodes.result; arcs = length c.arcs.result.now; room = c.room.result; journal_pages = c.args.journal_pages }) net c.args.version c.args.journal_pages c.requires.versions
     c.nodes.ensures.network fits is (c.in-Ok-lay_out.ensures.laid_out begun) (c.in-Ok-open_gates.ensures.opened laid) in
-    subst (λ (n : Net). StandsTidyFor c.args.journal_pages (g.D.Disk.content c.open_gates.new.disk) n 0) c.in-Ok-copy.ensures.same made.stands
+    let sized = subst (λ (x : Header). StandsTidyFor x.journal_pages (slot_pages x) (g.D.Disk.content c.open_gates.new.disk) net c.args.version) is made.stands in
+    subst (λ (n : Net). StandsTidyFor c.args.journal_pages (checkpoint_pages_of (length n.arcs) n) (g.D.Disk.content c.open_gates.new.disk) n c.args.version) c.in-Ok-copy.ensures.same sized
 
 pub returns-clause-only : goal.returns-clause-only
 returns-clause-only g c = λ h. c.in-Ok-open_gates.ensures.at_rest (c.lay_out.ensures.honest.1 (c.length_of.ensures.honest.1 h))
@@ -41,21 +52,21 @@ returns-clause-only g c = λ h. c.in-Ok-open_gates.ensures.at_rest (c.lay_out.en
 pub returns-clause-tidy : goal.returns-clause-tidy
 returns-clause-tidy g c = λ h.
     let net : Net = c.in-Ok-copy.copy in
-    let is = same_header net c.args.journal_pages c.nodes.result c.arcs.result.now c.nodes.ensures.value c.arcs.ensures.value in
+    let is = same_header net c.args.journal_pages c.nodes.result c.room.result c.arcs.result.now c.nodes.ensures.value c.arcs.ensures.value c.room.ensures.value in
     let fits = sizes_fit net c.args.journal_pages c.nodes.ensures.network c.requires.some c.requires.few in
     let begun = c.length_of.ensures.honest.1 h in
     let laid = c.lay_out.ensures.honest.1 begun in
-    let made = created (g.D.Disk.content c.open_gates.new.disk) (g.D.Disk.content c.lay_out.new.disk) (record { nodes = c.nodes.result; arcs = length c.arcs.result.now; journal_pages = c.args.journal_pages }) net c.args.journal_pages
+    let made = created (g.D.Disk.content c.open_gates.new.disk) (g.D.Disk.content c.lay_out.new.disk) (record { format = Two; nodes = c.nodes.result; arcs = length c.arcs.result.now; room = c.room.result; journal_pages = c.args.journal_pages }) net c.args.version c.args.journal_pages c.requires.versions
     c.nodes.ensures.network fits is (c.in-Ok-lay_out.ensures.laid_out begun) (c.in-Ok-open_gates.ensures.opened laid) in
     made.tidy_at
 
 pub returns-clause-standing : goal.returns-clause-standing
 returns-clause-standing g c = λ h.
     let net : Net = c.in-Ok-copy.copy in
-    let is = same_header net c.args.journal_pages c.nodes.result c.arcs.result.now c.nodes.ensures.value c.arcs.ensures.value in
+    let is = same_header net c.args.journal_pages c.nodes.result c.room.result c.arcs.result.now c.nodes.ensures.value c.arcs.ensures.value c.room.ensures.value in
     let fits = sizes_fit net c.args.journal_pages c.nodes.ensures.network c.requires.some c.requires.few in
     let begun = c.length_of.ensures.honest.1 h in
     let laid = c.lay_out.ensures.honest.1 begun in
-    let made = created (g.D.Disk.content c.open_gates.new.disk) (g.D.Disk.content c.lay_out.new.disk) (record { nodes = c.nodes.result; arcs = length c.arcs.result.now; journal_pages = c.args.journal_pages }) net c.args.journal_pages
+    let made = created (g.D.Disk.content c.open_gates.new.disk) (g.D.Disk.content c.lay_out.new.disk) (record { format = Two; nodes = c.nodes.result; arcs = length c.arcs.result.now; room = c.room.result; journal_pages = c.args.journal_pages }) net c.args.version c.args.journal_pages c.requires.versions
     c.nodes.ensures.network fits is (c.in-Ok-lay_out.ensures.laid_out begun) (c.in-Ok-open_gates.ensures.opened laid) in
     made.standing_is

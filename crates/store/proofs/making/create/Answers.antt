@@ -1,8 +1,6 @@
-use Rattle.std.proofs.Common.{◌≡◌, true, false, refl, sym, ◌∙◌, ap, subst}
-use Rattle.pages.specs.Layout.{pages_for}
+use Rattle.std.proofs.Common.{◌≡◌, true, false, refl, sym, ◌∙◌, subst}
 use Rattle.store.specs.Durable.{told_by}
 use Rattle.store.specs.State.{CameTidy}
-use Rattle.store.proofs.ArcsKept.{arcs_of_header}
 use Rattle.store.proofs.StateKept.{tidily, told_at_first}
 use Rattle.store.proofs.making.create.Goals as goal
 
@@ -24,6 +22,3 @@ returns-clause-tidy g c honest = (told_by c.in_ok-pages.pages, (c.in_ok-pages.en
 
 pub returns-clause-told : goal.returns-clause-told
 returns-clause-told g c honest = record { standing = told_by c.in_ok-pages.pages; is = c.in_ok-pages.ensures.standing honest; told_is = refl }
-
-pub returns-clause-checkpoint_pages : goal.returns-clause-checkpoint_pages
-returns-clause-checkpoint_pages g c honest = ap (pages_for 1023) (arcs_of_header (g.D.Disk.content c.in_ok-pages.pages.disk) (told_by c.in_ok-pages.pages) (c.in_ok-pages.ensures.standing honest))

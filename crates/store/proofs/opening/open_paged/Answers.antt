@@ -7,6 +7,8 @@ use Rattle.store.proofs.opening.open_paged.Goals as goal
 pub invariant_of-result : goal.invariant_of-result
 invariant_of-result g c = record {
   numbers = c.in-Ok.ensures.numbers;
+  today = c.in-Ok.ensures.today;
+  arcs_from = c.in-Ok.ensures.arcs_from;
   rests = λ works now.
       let h = c.find.ensures.honest.0 now in
       (c.in-Ok.ensures.at_rest h, ap length (c.find.ensures.same h).same_content ∙ size_told (g.D.Disk.content c.args.disk) _ (c.in-Ok.ensures.standing h));
@@ -21,4 +23,4 @@ returns-in-Err-clause-opens g c h all =
 pub returns-clause-stands : goal.returns-clause-stands
 returns-clause-stands g c h =
     let held = stored_as (g.D.Disk.content c.args.disk) (record { header = c.in-Ok.found.header; slot = c.in-Ok.found.slot; epoch = c.in-Ok.found.epoch; network = c.in-Ok.found.network; version = c.in-Ok.found.version; next = c.in-Ok.found.next_sequence; unchecked = c.in-Ok.found.unchecked }) (c.in-Ok.ensures.standing h) in
-    (held.stored, held.stands)
+    (held.stored, held.stands, held.format_is)

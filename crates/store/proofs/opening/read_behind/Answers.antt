@@ -1,7 +1,7 @@
 use Rattle.std.proofs.Common.{◌≡◌, ◌∙◌, ℕ, ◌+◌, List, length, ap, sym}
 use Rattle.std.proofs.lemmas.Result.{err_from_is_err_and, IfErr-weaker}
 use Rattle.storefile.specs.StoreFile.{page, joined}
-use Rattle.storefile.specs.Judging.{journal_from, opened}
+use Rattle.storefile.specs.Judging.{journal_from, opened_in}
 use Rattle.storefile.specs.Standing.{standing_in}
 use Rattle.pagereader.proofs.Outcomes.{may_refuse_whole}
 use Rattle.checkpoint.specs.Loading.{head_of}
@@ -12,8 +12,8 @@ use Rattle.store.proofs.opening.read_behind.Goals as goal
 pub returns-in_err-slot-clause-refused : goal.returns-in_err-slot-clause-refused
 returns-in_err-slot-clause-refused g c h =
     let p = err_from_is_err_and c.from_residual.result c.from_residual.ensures.1 in
-    rw (p.1, p.2) (may_refuse_whole (current_from (page (g.D.Disk.content c.args.disk.now)) c.args.header.now) (opened (g.D.Disk.content c.args.disk.now)) _
-    (λ e. no_current (length (g.D.Disk.content c.args.disk.now)) (page (g.D.Disk.content c.args.disk.now)) c.args.header.now _ (c.requires.spelled h) e)
+    rw (p.1, p.2) (may_refuse_whole (current_from (page (g.D.Disk.content c.args.disk.now)) c.args.header.now) (opened_in c.args.header.now.format (g.D.Disk.content c.args.disk.now)) _
+    (λ e. no_current c.args.header.now.format (length (g.D.Disk.content c.args.disk.now)) (page (g.D.Disk.content c.args.disk.now)) c.args.header.now _ (c.requires.spelled h) e)
     (c.in_err-slot.ensures.refused h))
 
 pub returns-clause-standing : goal.returns-clause-standing
@@ -23,13 +23,13 @@ returns-clause-standing g c h =
     let checkpoint = c.in_ok-slot.checkpoint in
     of_found c.read_journal.result _ _ _ _ _ _ (c.read_journal.ensures.carried_out h1) c.read_journal.ensures.header c.read_journal.ensures.slot c.read_journal.ensures.epoch c.read_journal.ensures.next
     (λ found out header slot_is epoch next.
-    let told : opened (g.D.Disk.content c.args.disk.now) ≡ _ =
-    all_known (length (g.D.Disk.content c.args.disk.now)) (page (g.D.Disk.content c.args.disk.now)) c.args.header.now (record { slot = slot; head = head_of checkpoint; network = checkpoint.network }) out.commands found.network
+    let told : opened_in c.args.header.now.format (g.D.Disk.content c.args.disk.now) ≡ _ =
+    all_known c.args.header.now.format (length (g.D.Disk.content c.args.disk.now)) (page (g.D.Disk.content c.args.disk.now)) c.args.header.now (record { slot = slot; head = head_of checkpoint; network = checkpoint.network }) out.groups found.network
     (c.requires.spelled h) (c.in_ok-slot.ensures.current h)
     (ap (λ (file : List ℕ). journal_from (page file) c.args.header.now c.args.header.now.journal_pages checkpoint.next_sequence checkpoint.version checkpoint.network) (sym (c.in_ok-slot.ensures.same h).same_content) ∙ out.said_is) in
     ap standing_in told
     ∙ same_standing c.args.header.now found.header slot found.slot checkpoint.epoch found.epoch found.network
-    (checkpoint.version + length (joined out.commands)) found.version (checkpoint.next_sequence + length out.commands) found.next_sequence (length out.commands) found.unchecked
+    (checkpoint.version + length (joined out.groups)) found.version (checkpoint.next_sequence + length out.groups) found.next_sequence (length out.groups) found.unchecked
     (sym header) (sym slot_is) (sym epoch) (sym out.version_is)
     (ap (λ (n : ℕ). checkpoint.next_sequence + n) out.count_is ∙ sym next) out.count_is)
 
@@ -40,8 +40,8 @@ returns-clause-refused g c h =
     let checkpoint = c.in_ok-slot.checkpoint in
     IfErr-weaker c.read_journal.result _ _
     (λ refusal may. may_refuse_whole (journal_from (page (g.D.Disk.content c.read_current.new.disk)) c.args.header.now c.args.header.now.journal_pages checkpoint.next_sequence checkpoint.version checkpoint.network)
-    (opened (g.D.Disk.content c.args.disk.now)) refusal
-    (λ e. no_journal (length (g.D.Disk.content c.args.disk.now)) (page (g.D.Disk.content c.args.disk.now)) c.args.header.now (record { slot = slot; head = head_of checkpoint; network = checkpoint.network }) refusal
+    (opened_in c.args.header.now.format (g.D.Disk.content c.args.disk.now)) refusal
+    (λ e. no_journal c.args.header.now.format (length (g.D.Disk.content c.args.disk.now)) (page (g.D.Disk.content c.args.disk.now)) c.args.header.now (record { slot = slot; head = head_of checkpoint; network = checkpoint.network }) refusal
     (c.requires.spelled h) (c.in_ok-slot.ensures.current h)
     (ap (λ (file : List ℕ). journal_from (page file) c.args.header.now c.args.header.now.journal_pages checkpoint.next_sequence checkpoint.version checkpoint.network) (sym (c.in_ok-slot.ensures.same h).same_content) ∙ e))
     may) (c.read_journal.ensures.refused h1)

@@ -1,6 +1,8 @@
 use Rattle.std.proofs.Common.{◌≡◌, Some, take}
-use Rattle.roadnet.specs.Step.{after}
+use Rattle.std.specs.Prelude.{map}
+use Rattle.roadnet.specs.Step.{step_group}
+use Rattle.pages.specs.declared.content.Record.{Record}
 use Rattle.store.proofs.replay.apply_all.Given as goal
 
-abbrev pub invariant-loop-command : goal.invariant-loop-command
-invariant-loop-command l = after l.fn.network (take l.command-index l.commands) ≡ Some l.network
+abbrev pub invariant-loop-record : goal.invariant-loop-record
+invariant-loop-record l = step_group l.fn.network (map (λ (r : Record). r.command) (take l.record-index l.records)) ≡ Some l.network

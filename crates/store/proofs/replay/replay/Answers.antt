@@ -13,6 +13,7 @@ loop-i-init g c = record {
   said = λ h. pages_start (page (g.D.Disk.content c.args.disk.now)) c.args.header.now c.args.from c.args.version c.args.network.now;
   fits = c.requires.version;
   later = omega arith;
+  grows = omega arith;
   read = nothing_read g.D.Disk.content g.D.Disk.left g.D.Disk.moment g.D.Disk.left_since g.D.Disk.failures g.D.Disk.honest c.args.disk.now;
 }
 
@@ -25,12 +26,12 @@ returns-in_err-reached-clause-refused g c h =
     let within : c.loop-i.i < c.args.header.now.journal_pages = omega arith in
     let same = (c.loop-i.invariant.read.stays h).same_content in
     rw (p.1, p.2) (may_refuse_whole
-    (entry_from (journal_page_at c.args.header.now (c.args.from + c.from.result)) (page (g.D.Disk.content c.loop-i.disk) (journal_page_at c.args.header.now (c.args.from + c.from.result))) c.loop-i.reached c.loop-i.network)
+    (entry_from c.args.header.now.format (journal_page_at c.args.header.now (c.args.from + c.from.result)) (page (g.D.Disk.content c.loop-i.disk) (journal_page_at c.args.header.now (c.args.from + c.from.result))) c.loop-i.reached c.loop-i.network)
     (journal_from (page (g.D.Disk.content c.args.disk.now)) c.args.header.now c.args.header.now.journal_pages c.args.from c.args.version c.args.network.now) _
     (λ e. pages_stop (journal_from (page (g.D.Disk.content c.args.disk.now)) c.args.header.now c.args.header.now.journal_pages c.args.from c.args.version c.args.network.now)
     (page (g.D.Disk.content c.args.disk.now)) c.args.header.now c.args.from c.args.version c.loop-i.i c.loop-i.reached c.loop-i.network _ (c.loop-i.invariant.said h) within (longest.stand c.loop-i.i lt)
-    (ap (λ (n : ℕ). entry_from (journal_page_at c.args.header.now (c.args.from + n)) (page (g.D.Disk.content c.args.disk.now) (journal_page_at c.args.header.now (c.args.from + n))) c.loop-i.reached c.loop-i.network) (sym c.from.ensures)
-    ∙ ap (λ (file : List ℕ). entry_from (journal_page_at c.args.header.now (c.args.from + c.from.result)) (page file (journal_page_at c.args.header.now (c.args.from + c.from.result))) c.loop-i.reached c.loop-i.network) (sym same)
+    (ap (λ (n : ℕ). entry_from c.args.header.now.format (journal_page_at c.args.header.now (c.args.from + n)) (page (g.D.Disk.content c.args.disk.now) (journal_page_at c.args.header.now (c.args.from + n))) c.loop-i.reached c.loop-i.network) (sym c.from.ensures)
+    ∙ ap (λ (file : List ℕ). entry_from c.args.header.now.format (journal_page_at c.args.header.now (c.args.from + c.from.result)) (page file (journal_page_at c.args.header.now (c.args.from + c.from.result))) c.loop-i.reached c.loop-i.network) (sym same)
     ∙ e))
     (c.in_err-reached.ensures.refused (c.loop-i.invariant.read.honest_then.1 h)))
 
@@ -42,15 +43,16 @@ loop-i-preserved g c = record {
       let lt : c.loop-i.i < c.args.count = omega arith in
       let within : c.loop-i.i < c.args.header.now.journal_pages = omega arith in
       let same = (c.loop-i.invariant.read.stays h).same_content in
-      let out = subst (λ (n : ℕ). IsCarriedOut (entry_from (journal_page_at c.args.header.now (c.args.from + n)) (page (g.D.Disk.content c.args.disk.now) (journal_page_at c.args.header.now (c.args.from + n))) c.loop-i.reached c.loop-i.network) c.loop-i.reached c.replay_page.new.network c.in_ok-reached.reached)
+      let out = subst (λ (n : ℕ). IsCarriedOut (entry_from c.args.header.now.format (journal_page_at c.args.header.now (c.args.from + n)) (page (g.D.Disk.content c.args.disk.now) (journal_page_at c.args.header.now (c.args.from + n))) c.loop-i.reached c.loop-i.network) c.loop-i.reached c.replay_page.new.network c.in_ok-reached.reached)
       c.from.ensures
-      (subst (λ (file : List ℕ). IsCarriedOut (entry_from (journal_page_at c.args.header.now (c.args.from + c.from.result)) (page file (journal_page_at c.args.header.now (c.args.from + c.from.result))) c.loop-i.reached c.loop-i.network) c.loop-i.reached c.replay_page.new.network c.in_ok-reached.reached)
+      (subst (λ (file : List ℕ). IsCarriedOut (entry_from c.args.header.now.format (journal_page_at c.args.header.now (c.args.from + c.from.result)) (page file (journal_page_at c.args.header.now (c.args.from + c.from.result))) c.loop-i.reached c.loop-i.network) c.loop-i.reached c.replay_page.new.network c.in_ok-reached.reached)
       same (c.in_ok-reached.ensures.carried_out (c.loop-i.invariant.read.honest_then.1 h))) in
       pages_more (journal_from (page (g.D.Disk.content c.args.disk.now)) c.args.header.now c.args.header.now.journal_pages c.args.from c.args.version c.args.network.now)
       (page (g.D.Disk.content c.args.disk.now)) c.args.header.now c.args.from c.args.version c.loop-i.i c.loop-i.reached c.in_ok-reached.reached c.loop-i.network c.replay_page.new.network
       (page (g.D.Disk.content c.args.disk.now) (journal_page_at c.args.header.now (c.args.from + c.loop-i.i))) (c.loop-i.invariant.said h) within (longest.stand c.loop-i.i lt) refl out;
   fits = c.in_ok-reached.ensures.fits;
   later = omega (arith, c.in_ok-reached.ensures.later, c.loop-i.invariant.later);
+  grows = omega (arith, c.in_ok-reached.ensures.grows, c.loop-i.invariant.grows);
   read = read_more g.D.Disk.content g.D.Disk.left g.D.Disk.moment g.D.Disk.left_since g.D.Disk.failures g.D.Disk.honest c.args.disk.now c.loop-i.disk c.replay_page.new.disk c.loop-i.invariant.read
       (record { stays = c.in_ok-reached.ensures.same; honest_then = c.in_ok-reached.ensures.honest; counted = c.in_ok-reached.ensures.counted });
 }

@@ -1,4 +1,4 @@
-use Rattle.std.proofs.Common.{◌≤◌, ◌+◌, ◌^◌}
+use Rattle.std.proofs.Common.{◌≤◌, ◌+◌, ◌^◌, length}
 use Rattle.storefile.specs.StoreFile.{page}
 use Rattle.storefile.specs.Judging.{journal_from}
 use Rattle.pagereader.proofs.Unchanged.{HasRead}
@@ -10,5 +10,6 @@ invariant-loop-i g l = record {
   said : g.D.Disk.honest l.fn.disk → PagesSoFar (journal_from (page (g.D.Disk.content l.fn.disk)) l.header l.header.journal_pages l.from l.version l.fn.network) (page (g.D.Disk.content l.fn.disk)) l.header l.from l.version l.i l.reached l.network;
   fits : l.reached ≤ 2 ^ 48;
   later : l.version + l.i ≤ l.reached;
+  grows : length l.fn.network.arcs ≤ length l.network.arcs;
   read : HasRead g.D.Disk.content g.D.Disk.left g.D.Disk.moment g.D.Disk.left_since g.D.Disk.failures g.D.Disk.honest l.fn.disk l.disk;
 }

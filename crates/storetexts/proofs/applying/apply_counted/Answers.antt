@@ -1,6 +1,6 @@
 use Rattle.std.specs.Prelude.{⊤, IfSome, vec_items}
 use Rattle.std.proofs.Common.{rules, ◌≡◌, inl, refl}
-use Rattle.dimacs.specs.Commanded.{command_text}
+use Rattle.dimacs.specs.Commanded.{group_text}
 use Rattle.dimacs.specs.Counts.{reader_of}
 use Rattle.dimacs.specs.Texts.{OfReader, Reads}
 use Rattle.printing.specs.declared.failed.Failed.TheVariants.{Code}
@@ -18,10 +18,10 @@ use Rattle.storetexts.proofs.Fitting.{if_no_memory, memory_any}
 use Rattle.storetexts.proofs.applying.apply_counted.Goals as goal
 
 pub returns-in-Err-clause-cut_off : goal.returns-in-Err-clause-cut_off
-returns-in-Err-clause-cut_off g c honest pages net version stands = if_known _ _ (λ text. inl (c.in-Err.ensures.handed_back honest, refl))
+returns-in-Err-clause-cut_off g c honest pages slots net version stands = if_known _ _ (λ text. inl (c.in-Err.ensures.handed_back honest, refl))
 
 pub returns-in-Err-clause-any_moment : goal.returns-in-Err-clause-any_moment
-returns-in-Err-clause-any_moment g c honest pages net version stands =
+returns-in-Err-clause-any_moment g c honest pages slots net version stands =
     if_known _ _ (λ text. nothing_since g.D.Disk.moment g.D.Disk.left_since g.D.Disk.left c.args.disk _ c.args.disk (λ content. g.met.D.Disk.only_now c.args.disk content honest) (c.in-Err.ensures.handed_back honest).adds_nothing _)
 
 pub returns-in-Err-clause-refused : goal.returns-in-Err-clause-refused
@@ -46,11 +46,11 @@ returns-in-Err-clause-unwritten g c =
 
 pub returns-in-Err-of_text-clause-cut_off :
     goal.returns-in-Err-of_text-clause-cut_off
-returns-in-Err-of_text-clause-cut_off g c honest pages net version stands = if_known _ _ (λ text. inl (search rules, refl))
+returns-in-Err-of_text-clause-cut_off g c honest pages slots net version stands = if_known _ _ (λ text. inl (search rules, refl))
 
 pub returns-in-Err-of_text-clause-any_moment :
     goal.returns-in-Err-of_text-clause-any_moment
-returns-in-Err-of_text-clause-any_moment g c honest pages net version stands =
+returns-in-Err-of_text-clause-any_moment g c honest pages slots net version stands =
     rw c.close-disk.ensures.disk
     (if_known _ _ (λ text. nothing_since g.D.Disk.moment g.D.Disk.left_since g.D.Disk.left c.args.disk _ c.args.disk (λ content. g.met.D.Disk.only_now c.args.disk content honest) (c.in-Ok.ensures.same honest).adds_nothing _))
 
@@ -58,57 +58,57 @@ pub returns-in-Err-of_text-clause-refused : goal.returns-in-Err-of_text-clause-r
 returns-in-Err-of_text-clause-refused g c =
     let known = g.R.Read.remaining (reader_of c.args.commands.now) in
     let left = g.R.Read.remaining (reader_of c.read_commands_counted.new.counted) in
-    fault_of vec_items 0 c.read_commands_counted.result c.in-Err-of_text.failed c.in-Err-of_text.ensures (λ r. IfSome known (λ text. Reads command_text text left r)) c.read_commands_counted.ensures.read
+    fault_of vec_items 0 c.read_commands_counted.result c.in-Err-of_text.failed c.in-Err-of_text.ensures (λ r. IfSome known (λ text. Reads group_text text left r)) c.read_commands_counted.ensures.read
     (λ failed. IfSome known (λ text. IsRefusedApply (g.D.Disk.honest c.args.disk) (g.D.Disk.content c.args.disk) text (OfReader left) failed))
     (fault_known _ _ _ c.in-Ok.ensures.opened known left)
 
 pub returns-clause-applied : goal.returns-clause-applied
-returns-clause-applied g c honest pages net version stands =
-    let list : c.deref.result.now ≡ c.in-Ok-of_text.commands.items = search rules in
-    let applies = c.apply_commands.ensures.applied (c.in-Ok.ensures.came honest pages net version stands) net version (c.in-Ok.ensures.begins honest pages net version stands) in
-    applied_known net version c.in-Ok-of_text.commands.items _ c.apply_commands.result.0 _ _ _ _ _ (rw list at applies) (value_of vec_items 0 c.read_commands_counted.result c.in-Ok-of_text.commands c.in-Ok-of_text.ensures (λ r. IfSome (g.R.Read.remaining (reader_of c.args.commands.now)) (λ text. Reads command_text text (g.R.Read.remaining (reader_of c.read_commands_counted.new.counted)) r)) c.read_commands_counted.ensures.read)
+returns-clause-applied g c honest pages slots net version stands =
+    let list : c.deref.result.now ≡ c.in-Ok-of_text.groups.items = search rules in
+    let applies = c.apply_groups.ensures.applied (c.in-Ok.ensures.came honest pages slots net version stands) net version (c.in-Ok.ensures.begins honest pages slots net version stands) in
+    applied_known net version c.in-Ok-of_text.groups.items _ c.apply_groups.result.0 _ _ _ _ _ (rw list at applies) (value_of vec_items 0 c.read_commands_counted.result c.in-Ok-of_text.groups c.in-Ok-of_text.ensures (λ r. IfSome (g.R.Read.remaining (reader_of c.args.commands.now)) (λ text. Reads group_text text (g.R.Read.remaining (reader_of c.read_commands_counted.new.counted)) r)) c.read_commands_counted.ensures.read)
 
 pub returns-clause-cut_off : goal.returns-clause-cut_off
-returns-clause-cut_off g c honest pages net version stands =
-    let list : c.deref.result.now ≡ c.in-Ok-of_text.commands.items = search rules in
-    let applies = c.apply_commands.ensures.cut_off (c.in-Ok.ensures.came honest pages net version stands) net version (c.in-Ok.ensures.begins honest pages net version stands) in
-    cut_off_known net version c.in-Ok-of_text.commands.items _ c.apply_commands.result.0 _ _ _ _ _ (rw list at applies) (value_of vec_items 0 c.read_commands_counted.result c.in-Ok-of_text.commands c.in-Ok-of_text.ensures (λ r. IfSome (g.R.Read.remaining (reader_of c.args.commands.now)) (λ text. Reads command_text text (g.R.Read.remaining (reader_of c.read_commands_counted.new.counted)) r)) c.read_commands_counted.ensures.read)
+returns-clause-cut_off g c honest pages slots net version stands =
+    let list : c.deref.result.now ≡ c.in-Ok-of_text.groups.items = search rules in
+    let applies = c.apply_groups.ensures.cut_off (c.in-Ok.ensures.came honest pages slots net version stands) net version (c.in-Ok.ensures.begins honest pages slots net version stands) in
+    cut_off_known net version c.in-Ok-of_text.groups.items _ c.apply_groups.result.0 _ _ _ _ _ (rw list at applies) (value_of vec_items 0 c.read_commands_counted.result c.in-Ok-of_text.groups c.in-Ok-of_text.ensures (λ r. IfSome (g.R.Read.remaining (reader_of c.args.commands.now)) (λ text. Reads group_text text (g.R.Read.remaining (reader_of c.read_commands_counted.new.counted)) r)) c.read_commands_counted.ensures.read)
 
 pub returns-clause-any_moment : goal.returns-clause-any_moment
-returns-clause-any_moment g c honest pages net version stands =
-    let list : c.deref.result.now ≡ c.in-Ok-of_text.commands.items = search rules in
-    let moments = c.apply_commands.ensures.any_moment (c.in-Ok.ensures.came honest pages net version stands) net version (c.in-Ok.ensures.begins honest pages net version stands) in
-    known_since g.D.Disk.moment g.D.Disk.left_since g.D.Disk.left c.args.disk c.in-Ok.ledger.disk c.apply_commands.result.1 (λ content. g.met.D.Disk.only_now c.args.disk content honest)
-    (c.in-Ok.ensures.same honest).adds_nothing net version c.in-Ok-of_text.commands.items _ _ (value_of vec_items 0 c.read_commands_counted.result c.in-Ok-of_text.commands c.in-Ok-of_text.ensures (λ r. IfSome (g.R.Read.remaining (reader_of c.args.commands.now)) (λ text. Reads command_text text (g.R.Read.remaining (reader_of c.read_commands_counted.new.counted)) r)) c.read_commands_counted.ensures.read) (rw list at moments)
+returns-clause-any_moment g c honest pages slots net version stands =
+    let list : c.deref.result.now ≡ c.in-Ok-of_text.groups.items = search rules in
+    let moments = c.apply_groups.ensures.any_moment (c.in-Ok.ensures.came honest pages slots net version stands) net version (c.in-Ok.ensures.begins honest pages slots net version stands) in
+    known_since g.D.Disk.moment g.D.Disk.left_since g.D.Disk.left c.args.disk c.in-Ok.ledger.disk c.apply_groups.result.1 (λ content. g.met.D.Disk.only_now c.args.disk content honest)
+    (c.in-Ok.ensures.same honest).adds_nothing net version c.in-Ok-of_text.groups.items _ _ (value_of vec_items 0 c.read_commands_counted.result c.in-Ok-of_text.groups c.in-Ok-of_text.ensures (λ r. IfSome (g.R.Read.remaining (reader_of c.args.commands.now)) (λ text. Reads group_text text (g.R.Read.remaining (reader_of c.read_commands_counted.new.counted)) r)) c.read_commands_counted.ensures.read) (rw list at moments)
 
 pub returns-clause-told : goal.returns-clause-told
 returns-clause-told g c =
-    let list : c.deref.result.now ≡ c.in-Ok-of_text.commands.items = search rules in
-    let tells = c.apply_commands.ensures.told in
-    told_known _ _ c.in-Ok.ledger.machine c.in-Ok.ensures.opened c.in-Ok-of_text.commands.items c.apply_commands.result.0 _ _ _ _ (rw list at tells) (value_of vec_items 0 c.read_commands_counted.result c.in-Ok-of_text.commands c.in-Ok-of_text.ensures (λ r. IfSome (g.R.Read.remaining (reader_of c.args.commands.now)) (λ text. Reads command_text text (g.R.Read.remaining (reader_of c.read_commands_counted.new.counted)) r)) c.read_commands_counted.ensures.read)
+    let list : c.deref.result.now ≡ c.in-Ok-of_text.groups.items = search rules in
+    let tells = c.apply_groups.ensures.told in
+    told_known _ _ c.in-Ok.ledger.machine c.in-Ok.ensures.opened c.in-Ok-of_text.groups.items c.apply_groups.result.0 _ _ _ _ (rw list at tells) (value_of vec_items 0 c.read_commands_counted.result c.in-Ok-of_text.groups c.in-Ok-of_text.ensures (λ r. IfSome (g.R.Read.remaining (reader_of c.args.commands.now)) (λ text. Reads group_text text (g.R.Read.remaining (reader_of c.read_commands_counted.new.counted)) r)) c.read_commands_counted.ensures.read)
 
 pub returns-clause-refused : goal.returns-clause-refused
 returns-clause-refused g c =
     let known = g.R.Read.remaining (reader_of c.args.commands.now) in
     let left = g.R.Read.remaining (reader_of c.read_commands_counted.new.counted) in
-    cut_off_refused_known (g.D.Disk.honest c.args.disk) (g.D.Disk.content c.args.disk) c.in-Ok.ensures.opened c.in-Ok-of_text.commands.items c.apply_commands.result.0 known left
-    (value_of vec_items 0 c.read_commands_counted.result c.in-Ok-of_text.commands c.in-Ok-of_text.ensures (λ r. IfSome known (λ text. Reads command_text text left r)) c.read_commands_counted.ensures.read) c.apply_commands.ensures.refused
+    cut_off_refused_known (g.D.Disk.honest c.args.disk) (g.D.Disk.content c.args.disk) c.in-Ok.ensures.opened c.in-Ok-of_text.groups.items c.apply_groups.result.0 known left
+    (value_of vec_items 0 c.read_commands_counted.result c.in-Ok-of_text.groups c.in-Ok-of_text.ensures (λ r. IfSome known (λ text. Reads group_text text left r)) c.read_commands_counted.ensures.read) c.apply_groups.ensures.refused
 
 pub returns-clause-codes : goal.returns-clause-codes
-returns-clause-codes g c = kind_cut_off c.apply_commands.result.0 c.apply_commands.ensures.refused
+returns-clause-codes g c = kind_cut_off c.apply_groups.result.0 c.apply_groups.ensures.refused
 
 pub returns-clause-failed : goal.returns-clause-failed
-returns-clause-failed g c = counts_from c.apply_commands.result.0 _ _ _ c.in-Ok.ensures.counted c.apply_commands.ensures.counted
+returns-clause-failed g c = counts_from c.apply_groups.result.0 _ _ _ c.in-Ok.ensures.counted c.apply_groups.ensures.counted
 
 pub returns-clause-untouched : goal.returns-clause-untouched
-returns-clause-untouched g c honest = cut_off_later c.apply_commands.result.0 _ c.apply_commands.ensures.refused
+returns-clause-untouched g c honest = cut_off_later c.apply_groups.result.0 _ c.apply_groups.ensures.refused
 
 pub returns-clause-unwritten : goal.returns-clause-unwritten
-returns-clause-unwritten g c = cut_off_later c.apply_commands.result.0 _ c.apply_commands.ensures.refused
+returns-clause-unwritten g c = cut_off_later c.apply_groups.result.0 _ c.apply_groups.ensures.refused
 
 pub returns-clause-honest : goal.returns-clause-honest
 returns-clause-honest g c =
-    (λ after. c.in-Ok.ensures.honest.0.0 (c.apply_commands.ensures.honest.0 after), λ before. c.apply_commands.ensures.honest.1 (c.in-Ok.ensures.honest.0.1 before))
+    (λ after. c.in-Ok.ensures.honest.0.0 (c.apply_groups.ensures.honest.0 after), λ before. c.apply_groups.ensures.honest.1 (c.in-Ok.ensures.honest.0.1 before))
 
 pub returns-in-Err-of_text-clause-untouched : goal.returns-in-Err-of_text-clause-untouched
 returns-in-Err-of_text-clause-untouched g c honest = rw c.close-disk.ensures.disk (text_or_file_refused c.in-Err-of_text.failed _ (c.in-Ok.ensures.same honest))
@@ -117,7 +117,7 @@ pub returns-in-Err-clause-order : goal.returns-in-Err-clause-order
 returns-in-Err-clause-order g c honest = memory_told c.in-Err.refusal _ (c.in-Err.ensures.order honest)
 
 pub returns-clause-order : goal.returns-clause-order
-returns-clause-order g c honest = if_no_memory c.apply_commands.result.0 _ (c.in-Ok.ensures.fits honest)
+returns-clause-order g c honest = if_no_memory c.apply_groups.result.0 _ (c.in-Ok.ensures.fits honest)
 
 pub returns-in-Err-of_text-clause-order : goal.returns-in-Err-of_text-clause-order
 returns-in-Err-of_text-clause-order g c honest = memory_any c.in-Err-of_text.failed _ (c.in-Ok.ensures.fits honest)

@@ -1,6 +1,6 @@
 use Rattle.std.specs.Prelude.{⊤, vec_items}
 use Rattle.std.proofs.Common.{rules, ◌≡◌, refl}
-use Rattle.dimacs.specs.Commanded.{command_text}
+use Rattle.dimacs.specs.Commanded.{group_text}
 use Rattle.dimacs.specs.Texts.{InMemory, Parses}
 use Rattle.printing.specs.declared.failed.Failed.TheVariants.{Code}
 use Rattle.storetexts.specs.Applied.{IsRefusedApply}
@@ -8,7 +8,7 @@ use Rattle.storetexts.proofs.Judged.{apply_refused, cut_off_refused}
 use Rattle.storetexts.proofs.Meanwhile.{counts_code, counts_from}
 use Rattle.storetexts.proofs.RefusedFirst.{text_or_file_refused, cut_off_later}
 use Rattle.storetexts.proofs.Remaining.{applied_text, cut_off_text}
-use Rattle.storetexts.proofs.TextApplied.{fault_of as fault_of_commands, told_text, nothing_since, text_since}
+use Rattle.storetexts.proofs.TextApplied.{fault_of as fault_of_groups, told_text, nothing_since, text_since}
 use Rattle.printing.proofs.ReadTexts.{value_of}
 use Rattle.storetexts.proofs.Read.{fault_of}
 use Rattle.storetexts.proofs.Checked.{memory_told}
@@ -16,7 +16,7 @@ use Rattle.storetexts.proofs.Fitting.{if_no_memory, memory_any}
 use Rattle.storetexts.proofs.applying.apply_text.Goals as goal
 
 pub returns-in-Err-clause-any_moment : goal.returns-in-Err-clause-any_moment
-returns-in-Err-clause-any_moment g c honest pages net version stands =
+returns-in-Err-clause-any_moment g c honest pages slots net version stands =
     nothing_since g.D.Disk.moment g.D.Disk.left_since g.D.Disk.left c.args.disk _ c.args.disk (λ content. g.met.D.Disk.only_now c.args.disk content honest) (c.in-Err.ensures.handed_back honest).adds_nothing _
 
 pub returns-in-Err-clause-refused : goal.returns-in-Err-clause-refused
@@ -35,45 +35,45 @@ returns-in-Err-clause-unwritten g c =
 
 pub returns-in-Err-of_text-clause-any_moment :
     goal.returns-in-Err-of_text-clause-any_moment
-returns-in-Err-of_text-clause-any_moment g c honest pages net version stands =
+returns-in-Err-of_text-clause-any_moment g c honest pages slots net version stands =
     rw c.close-disk.ensures.disk
     (nothing_since g.D.Disk.moment g.D.Disk.left_since g.D.Disk.left c.args.disk _ c.args.disk (λ content. g.met.D.Disk.only_now c.args.disk content honest) (c.in-Ok.ensures.same honest).adds_nothing _)
 
 pub returns-in-Err-of_text-clause-refused : goal.returns-in-Err-of_text-clause-refused
 returns-in-Err-of_text-clause-refused g c =
-    fault_of vec_items 0 c.parse_commands.result c.in-Err-of_text.failed c.in-Err-of_text.ensures (Parses command_text c.args.commands.now) c.parse_commands.ensures
+    fault_of vec_items 0 c.parse_commands.result c.in-Err-of_text.failed c.in-Err-of_text.ensures (Parses group_text c.args.commands.now) c.parse_commands.ensures
     (IsRefusedApply (g.D.Disk.honest c.args.disk) (g.D.Disk.content c.args.disk) c.args.commands.now InMemory)
-    (fault_of_commands _ _ _ c.in-Ok.ensures.opened c.args.commands.now InMemory)
+    (fault_of_groups _ _ _ c.in-Ok.ensures.opened c.args.commands.now InMemory)
 
 pub returns-clause-applied : goal.returns-clause-applied
-returns-clause-applied g c honest pages net version stands =
-    let list : c.deref.result.now ≡ c.in-Ok-of_text.commands.items = search rules in
-    let applies = c.apply_to_writer.ensures.applied (c.in-Ok.ensures.came honest pages net version stands) net version (c.in-Ok.ensures.begins honest pages net version stands) in
-    applied_text net version c.in-Ok-of_text.commands.items _ c.apply_to_writer.result.0 _ c.args.commands.now _ _ _ _ refl refl (rw list at applies) (value_of vec_items 0 c.parse_commands.result c.in-Ok-of_text.commands c.in-Ok-of_text.ensures (Parses command_text c.args.commands.now) c.parse_commands.ensures)
+returns-clause-applied g c honest pages slots net version stands =
+    let list : c.deref.result.now ≡ c.in-Ok-of_text.groups.items = search rules in
+    let applies = c.apply_to_writer.ensures.applied (c.in-Ok.ensures.came honest pages slots net version stands) net version (c.in-Ok.ensures.begins honest pages slots net version stands) in
+    applied_text net version c.in-Ok-of_text.groups.items _ c.apply_to_writer.result.0 _ c.args.commands.now _ _ _ _ refl refl (rw list at applies) (value_of vec_items 0 c.parse_commands.result c.in-Ok-of_text.groups c.in-Ok-of_text.ensures (Parses group_text c.args.commands.now) c.parse_commands.ensures)
 
 pub returns-clause-cut_off : goal.returns-clause-cut_off
-returns-clause-cut_off g c honest pages net version stands =
-    let list : c.deref.result.now ≡ c.in-Ok-of_text.commands.items = search rules in
-    let applies = c.apply_to_writer.ensures.cut_off (c.in-Ok.ensures.came honest pages net version stands) net version (c.in-Ok.ensures.begins honest pages net version stands) in
-    cut_off_text net version c.in-Ok-of_text.commands.items _ c.apply_to_writer.result.0 _ c.args.commands.now _ _ _ _ refl refl (rw list at applies) (value_of vec_items 0 c.parse_commands.result c.in-Ok-of_text.commands c.in-Ok-of_text.ensures (Parses command_text c.args.commands.now) c.parse_commands.ensures)
+returns-clause-cut_off g c honest pages slots net version stands =
+    let list : c.deref.result.now ≡ c.in-Ok-of_text.groups.items = search rules in
+    let applies = c.apply_to_writer.ensures.cut_off (c.in-Ok.ensures.came honest pages slots net version stands) net version (c.in-Ok.ensures.begins honest pages slots net version stands) in
+    cut_off_text net version c.in-Ok-of_text.groups.items _ c.apply_to_writer.result.0 _ c.args.commands.now _ _ _ _ refl refl (rw list at applies) (value_of vec_items 0 c.parse_commands.result c.in-Ok-of_text.groups c.in-Ok-of_text.ensures (Parses group_text c.args.commands.now) c.parse_commands.ensures)
 
 pub returns-clause-any_moment : goal.returns-clause-any_moment
-returns-clause-any_moment g c honest pages net version stands =
-    let list : c.deref.result.now ≡ c.in-Ok-of_text.commands.items = search rules in
-    let moments = c.apply_to_writer.ensures.any_moment (c.in-Ok.ensures.came honest pages net version stands) net version (c.in-Ok.ensures.begins honest pages net version stands) in
+returns-clause-any_moment g c honest pages slots net version stands =
+    let list : c.deref.result.now ≡ c.in-Ok-of_text.groups.items = search rules in
+    let moments = c.apply_to_writer.ensures.any_moment (c.in-Ok.ensures.came honest pages slots net version stands) net version (c.in-Ok.ensures.begins honest pages slots net version stands) in
     text_since g.D.Disk.moment g.D.Disk.left_since g.D.Disk.left c.args.disk c.in-Ok.ledger.disk c.apply_to_writer.result.1 (λ content. g.met.D.Disk.only_now c.args.disk content honest)
-    (c.in-Ok.ensures.same honest).adds_nothing net version c.in-Ok-of_text.commands.items c.args.commands.now (value_of vec_items 0 c.parse_commands.result c.in-Ok-of_text.commands c.in-Ok-of_text.ensures (Parses command_text c.args.commands.now) c.parse_commands.ensures) (rw list at moments)
+    (c.in-Ok.ensures.same honest).adds_nothing net version c.in-Ok-of_text.groups.items c.args.commands.now (value_of vec_items 0 c.parse_commands.result c.in-Ok-of_text.groups c.in-Ok-of_text.ensures (Parses group_text c.args.commands.now) c.parse_commands.ensures) (rw list at moments)
 
 pub returns-clause-told : goal.returns-clause-told
 returns-clause-told g c =
-    let list : c.deref.result.now ≡ c.in-Ok-of_text.commands.items = search rules in
+    let list : c.deref.result.now ≡ c.in-Ok-of_text.groups.items = search rules in
     let tells = c.apply_to_writer.ensures.told in
-    told_text _ _ c.in-Ok.ledger.machine c.in-Ok.ensures.opened c.in-Ok-of_text.commands.items c.apply_to_writer.result.0 c.args.commands.now _ _ (rw list at tells) (value_of vec_items 0 c.parse_commands.result c.in-Ok-of_text.commands c.in-Ok-of_text.ensures (Parses command_text c.args.commands.now) c.parse_commands.ensures)
+    told_text _ _ c.in-Ok.ledger.machine c.in-Ok.ensures.opened c.in-Ok-of_text.groups.items c.apply_to_writer.result.0 c.args.commands.now _ _ (rw list at tells) (value_of vec_items 0 c.parse_commands.result c.in-Ok-of_text.groups c.in-Ok-of_text.ensures (Parses group_text c.args.commands.now) c.parse_commands.ensures)
 
 pub returns-clause-refused : goal.returns-clause-refused
 returns-clause-refused g c =
-    cut_off_refused (g.D.Disk.honest c.args.disk) (g.D.Disk.content c.args.disk) c.in-Ok.ensures.opened c.in-Ok-of_text.commands.items c.apply_to_writer.result.0 c.args.commands.now InMemory
-    (value_of vec_items 0 c.parse_commands.result c.in-Ok-of_text.commands c.in-Ok-of_text.ensures (Parses command_text c.args.commands.now) c.parse_commands.ensures) c.apply_to_writer.ensures.refused
+    cut_off_refused (g.D.Disk.honest c.args.disk) (g.D.Disk.content c.args.disk) c.in-Ok.ensures.opened c.in-Ok-of_text.groups.items c.apply_to_writer.result.0 c.args.commands.now InMemory
+    (value_of vec_items 0 c.parse_commands.result c.in-Ok-of_text.groups c.in-Ok-of_text.ensures (Parses group_text c.args.commands.now) c.parse_commands.ensures) c.apply_to_writer.ensures.refused
 
 pub returns-clause-failed : goal.returns-clause-failed
 returns-clause-failed g c = counts_from c.apply_to_writer.result.0 _ _ _ c.in-Ok.ensures.counted c.apply_to_writer.ensures.counted

@@ -8,17 +8,17 @@ use Rattle.storetexts.proofs.Fitting.{fits}
 use Rattle.storetexts.proofs.applying.ledger_on.Goals as goal
 
 pub returns-in-Ok-clause-begins : goal.returns-in-Ok-clause-begins
-returns-in-Ok-clause-begins g c honest pages net version stands =
+returns-in-Ok-clause-begins g c honest pages slots net version stands =
     let tells = c.in_ok-store.ensures.told honest in
-    let o : IsOpened pages (g.D.Disk.content c.args.disk) net version tells.standing = is_opened pages (g.D.Disk.content c.args.disk) net version tells.standing stands tells.is in
+    let o : IsOpened pages slots (g.D.Disk.content c.args.disk) net version tells.standing = is_opened pages slots (g.D.Disk.content c.args.disk) net version tells.standing stands tells.is in
     let network : c.in_ok-store.store.network ≡ net = sym (ap (λ (t : Told). t.network) tells.told_is) ∙ o.network_is in
     let at : c.in_ok-store.store.version ≡ version = sym (ap (λ (t : Told). t.version) tells.told_is) ∙ o.version_is in
     none_come net c.in_ok-store.store.network version c.in_ok-store.store.version c.in_ok-store.store.unchecked _ c.in-Ok.ledger.machine c.in-Ok.ensures.begins network at
 
 pub returns-in-Ok-clause-came : goal.returns-in-Ok-clause-came
-returns-in-Ok-clause-came g c honest pages net version stands =
+returns-in-Ok-clause-came g c honest pages slots net version stands =
     let tells = c.in_ok-store.ensures.told honest in
-    let o : IsOpened pages (g.D.Disk.content c.args.disk) net version tells.standing = is_opened pages (g.D.Disk.content c.args.disk) net version tells.standing stands tells.is in
+    let o : IsOpened pages slots (g.D.Disk.content c.args.disk) net version tells.standing = is_opened pages slots (g.D.Disk.content c.args.disk) net version tells.standing stands tells.is in
     let there : CameTidy g.D.Disk.honest g.D.Disk.content c.in_ok-store.store.disk = (c.in_ok-store.ensures.honest.0.1 honest, (tells.standing, subst (λ (d : List ℕ). StandsTidily d tells.standing) (sym (c.in_ok-store.ensures.same honest).same_content) o.stands)) in
     subst (λ (d : g.row.D.Denot). CameTidy g.D.Disk.honest g.D.Disk.content d) (sym (c.in-Ok.ensures.given ∙ c.in_ok-store.ensures.given)) there
 

@@ -9,22 +9,22 @@ use Rattle.dimacs.proofs.feed.Feed.look.Goals as goal
 
 pub returns-then-is_remark-clause-kept : goal.returns-then-is_remark-clause-kept
 returns-then-is_remark-clause-kept g c =
-    on_mark c.keep_mark.result g.T.TakeLines.COMMENT c.args.self.now.kept.items _ g.met.T.TakeLines.return_is_no_comment (search rules) c.keep_mark.ensures.kept
+    on_mark c.keep_mark.result g.T.TakeLines.COMMENT c.args.self.now.kept.bytes.items _ g.met.T.TakeLines.return_is_no_comment (search rules) c.keep_mark.ensures.kept
 
 pub returns-in-Ok-clause-refused : goal.returns-in-Ok-clause-refused
 returns-in-Ok-clause-refused g c earlier front taken stands =
-    let plain : is_remark g.T.TakeLines.COMMENT (fields c.args.self.now.kept.items) ≡ false = search rules in
-    let line : c.without_carriage_return-front.result.now ≡ strip_last 13 c.args.self.now.kept.items = c.without_carriage_return-front.ensures ∙ ap (strip_last 13) c.deref-2.ensures.value in
+    let plain : is_remark g.T.TakeLines.COMMENT (fields c.args.self.now.kept.bytes.items) ≡ false = search rules in
+    let line : c.without_carriage_return-front.result.now ≡ strip_last 13 c.args.self.now.kept.bytes.items = c.without_carriage_return-front.ensures ∙ ap (strip_last 13) (c.seen-2.ensures ∙ c.is_due.ensures.kept) in
     let over : Overflowing c.without_carriage_return-front.result.now = c.overflows.ensures (search rules) in
     let takes = c.in-Ok.ensures.takes earlier taken in
     never_taken g.T.TakeLines.judge g.T.TakeLines.has_taken g.T.TakeLines.COMMENT g.T.TakeLines.code_of_overflow c.overflow_decides.ensures g.met.T.TakeLines.blank_is_no_comment
-    _ earlier c.args.self.now.kept.items _ plain (rw line at over) (rw line at takes)
+    _ earlier c.args.self.now.kept.bytes.items _ plain (rw line at over) (rw line at takes)
 
 pub returns-in-Err-clause-refused : goal.returns-in-Err-clause-refused
 returns-in-Err-clause-refused g c earlier front taken stands =
-    let plain : is_remark g.T.TakeLines.COMMENT (fields c.args.self.now.kept.items) ≡ false = search rules in
-    let line : c.without_carriage_return-front.result.now ≡ strip_last 13 c.args.self.now.kept.items = c.without_carriage_return-front.ensures ∙ ap (strip_last 13) c.deref-2.ensures.value in
+    let plain : is_remark g.T.TakeLines.COMMENT (fields c.args.self.now.kept.bytes.items) ≡ false = search rules in
+    let line : c.without_carriage_return-front.result.now ≡ strip_last 13 c.args.self.now.kept.bytes.items = c.without_carriage_return-front.ensures ∙ ap (strip_last 13) (c.seen-2.ensures ∙ c.is_due.ensures.kept) in
     let over : Overflowing c.without_carriage_return-front.result.now = c.overflows.ensures (search rules) in
     let takes = c.in-Err.ensures.takes earlier taken in
     told_early g.T.TakeLines.judge g.T.TakeLines.has_taken g.T.TakeLines.COMMENT g.T.TakeLines.code_of_overflow c.overflow_decides.ensures g.met.T.TakeLines.blank_is_no_comment
-    earlier front c.args.self.now.kept.items _ stands plain (rw line at over) (rw line at takes)
+    earlier front c.args.self.now.kept.bytes.items _ stands plain (rw line at over) (rw line at takes)

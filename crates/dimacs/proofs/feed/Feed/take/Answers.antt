@@ -29,7 +29,7 @@ loop-piece-preserved g c =
       within = λ text more within.
           let at = c.loop-piece.invariant.within text more within in
           let went = answered g.T.TakeLines.judge g.T.TakeLines.has_taken _ _ _ _ _ false (search rules) (c.in_ok-take_whole.ensures.taken at.earlier at.front at.taken at.kept) in
-          took_line _ _ _ text _ _ _ more _ _ at split.0 split.1 went.0 went.1 went.2 c.take_whole.ensures.until (search rules) c.clear.ensures.items;
+          took_line _ _ _ text _ _ _ more _ _ at split.0 split.1 went.0 went.1 went.2 c.take_whole.ensures.until (search rules) c.in_ok-take_whole.ensures.empty;
       lines = omega (arith, ap length split.0, length-append c.in-Some.piece.now (10 ∷ c.in-Some.more.now), c.loop-piece.invariant.lines, c.take_whole.ensures.lines);
       until = search rules;
       left = search rules;

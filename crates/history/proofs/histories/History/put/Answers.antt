@@ -30,7 +30,7 @@ invariant_of-self c =
       c.new_pen-next.ensures.right,
       sym (follows ∙ ap (λ p. p.nib.key) c.of-following.ensures),
       ⊎_elim (λ none. omega (arith, i.7, none, c.counted-more.ensures.value))
-          (λ room. omega (arith, i.1, room, ap (λ (b : Beginning). length b.commands) c.self.view_is, c.counted-more.ensures.few)) c.requires.room,
+          (λ room. omega (arith, i.1, room, ap (λ (b : Beginning). length b.groups) c.self.view_is, c.counted-more.ensures.few)) c.requires.room,
     )
 
 pub returns : goal.returns

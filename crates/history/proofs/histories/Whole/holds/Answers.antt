@@ -7,8 +7,8 @@ use Rattle.history.proofs.Beginnings.{taken_in_whole, acknowledged_in_whole}
 use Rattle.history.proofs.Chains.{chain_begins, chain_legal}
 use Rattle.history.proofs.histories.Whole.holds.Goals as goal
 
-pub returns-clause-commands : goal.returns-clause-commands
-returns-clause-commands c =
+pub returns-clause-groups : goal.returns-clause-groups
+returns-clause-groups c =
     let a = chain c.self.inside.root c.self.inside.seen.log in
     let b = chain c.front.inside.root c.front.inside.seen.log in
     let both = chain c.self.inside.root c.learn.new.self.log in

@@ -1,4 +1,5 @@
-use Rattle.std.proofs.Common.{rules, refl, ap, subst}
+use Rattle.std.proofs.Common.{rules, ◌-◌, ◌∙◌, drop, refl, ap, sym, subst}
+use Rattle.roadnet.specs.Groups.{count_of}
 use Rattle.store.specs.State.{CameTidy, Told}
 use Rattle.machine.specs.Machine.{Sizes}
 use Rattle.keeper.proofs.Held.{holds_armed}
@@ -18,4 +19,6 @@ invariant_of-self g c = (
             (ap sizes_told c.arm.ensures.told) (ap (λ (t : Told). t.version) c.arm.ensures.told) refl refl (λ v le. refl) c.self.invariant.0.state held.1,
       ),
   c.self.invariant.3,
+  c.self.invariant.4,
+  c.self.invariant.5 ∙ ap (λ (t : Told). count_of (drop (t.version - c.self.inside.opened) c.self.inside.history.items)) (sym c.arm.ensures.told),
 )

@@ -1,4 +1,5 @@
-use Rattle.std.proofs.Common.{rules, ◌≡◌, inl, ⊎_elim, true, false, refl, sym, ◌∙◌, subst}
+use Rattle.roadnet.specs.Groups.{count_of}
+use Rattle.std.proofs.Common.{rules, ◌≡◌, ℕ, ◌-◌, drop, ap, inl, ⊎_elim, true, false, refl, sym, ◌∙◌, subst}
 use Rattle.disk.specs.Contents.{Only}
 use Rattle.disk.proofs.Steps.{weaker}
 use Rattle.store.specs.State.{StoreState, CameTidy, IsDurable}
@@ -39,9 +40,11 @@ invariant_of-self g c = (
             left = inl (sym c.checkpoint_part-written.ensures.version);
             network = c.self.inside.store.network;
             network_is = c.self.invariant.0.durable_is;
-            stands = rw (c.checkpoint_part-written.ensures.sizes.0) (c.checkpoint_part-written.ensures.left came works_then d was);
+            stands = rw (c.checkpoint_part-written.ensures.sizes.0, c.checkpoint_part-written.ensures.sizes.1) (c.checkpoint_part-written.ensures.left came works_then d was);
           };
         },
       ),
   c.self.invariant.3,
+  c.self.invariant.4,
+  c.self.invariant.5 ∙ ap (λ (v : ℕ). count_of (drop (v - c.self.inside.opened) c.self.inside.history.items)) (sym c.checkpoint_part-written.ensures.version),
 )

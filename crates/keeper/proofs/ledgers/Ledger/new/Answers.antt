@@ -1,4 +1,5 @@
-use Rattle.std.proofs.Common.{rules, inl, refl, ◌∙◌}
+use Rattle.std.proofs.Common.{rules, ◌-◌, inl, refl, length, ap, sym, ◌∙◌, arith}
+use Rattle.machine.proofs.Counted.{none_behind}
 use Rattle.store.proofs.StateKept.{works_if_calm, left_durable}
 use Rattle.keeper.proofs.Held.{at_base}
 use Rattle.keeper.proofs.ledgers.Ledger.new.Goals as goal
@@ -25,4 +26,6 @@ invariant_of-result g c = (
         },
       ),
   search rules,
+  sym (none_behind (c.version-opened.result - c.version-opened.result) c.new.result.items (omega (arith, ap length c.new.ensures.items))),
+  sym (none_behind (c.args.store.version - c.version-opened.result) c.new.result.items (omega (arith, ap length c.new.ensures.items))),
 )

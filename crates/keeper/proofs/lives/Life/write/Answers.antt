@@ -1,7 +1,10 @@
 use Rattle.std.proofs.Common.{◌∙◌}
 use Rattle.keeper.proofs.Failing.{told_by_write}
-use Rattle.keeper.proofs.LifeKept.{life_checkpoint, moment_later}
+use Rattle.keeper.proofs.LifeKept.{life_flush, life_checkpoint, moment_later}
 use Rattle.keeper.proofs.lives.Life.write.Goals as goal
+
+pub invariant_of-self-clause-living : goal.invariant_of-self-clause-living
+invariant_of-self-clause-living g c = life_flush _ _ _ _ c.args.self.now.living c.flush.result c.flush.ensures.step
 
 pub invariant_of-self-in-Checkpoint-clause-living : goal.invariant_of-self-in-Checkpoint-clause-living
 invariant_of-self-in-Checkpoint-clause-living g c = life_checkpoint _ _ _ _ c.checkpoint.result c.checkpoint.ensures.does c.args.self.now.living

@@ -1,9 +1,9 @@
 use Rattle.std.proofs.Common.{◌≡◌, ◌-◌, take, ◌++◌, ◌∷◌, [], List, refl, ◌∙◌, ap}
 use Rattle.std.specs.Prelude.{IfOk}
-use Rattle.roadnet.specs.declared.commands.Command.{Command}
+use Rattle.roadnet.specs.declared.groups.Group.{Group}
 use Rattle.machine.specs.declared.events.Replied.{Replied}
 use Rattle.machine.specs.declared.events.Replied.TheVariants.{Opened, Stopped}
-use Rattle.machine.specs.Machine.{commands_to}
+use Rattle.machine.specs.Machine.{groups_to}
 use Rattle.machine.specs.declared.events.Event.TheVariants.{Stop}
 use Rattle.keeper.specs.Cutting.{IsCut}
 use Rattle.keeper.specs.Failures.{failures_at_end}
@@ -27,10 +27,10 @@ returns-clause-goes g c first done going =
     if_ok_both c.resume.result _ _ _ _
     (λ x b h t. run_as first _ _ x.replies.items _ x.history.items x.life.keeper.machine
     (t ∙ ap (λ (rs : List Replied). rs ++ Opened x.life.keeper.machine.base_version ∷ []) replies)
-    (h ∙ ap (λ (cs : List Command). cs ++ commands_to m x.life.keeper.machine.base_version) history)
+    (h ∙ ap (λ (cs : List Group). cs ++ groups_to m x.life.keeper.machine.base_version) history)
     (opened_by_stop first done self.replies.items self.history.items m run x.life.keeper.machine c.args.self.life.living.state b))
-    (c.resume.ensures.begins m there is run.pages) (c.resume.ensures.history m there is run.pages) c.resume.ensures.told in
-    if_ok_both c.resume.result _ _ _ _ (λ x ran came _. record { came = came; run = ran }) runs (c.resume.ensures.came m there is run.pages) runs
+    (c.resume.ensures.begins m there is) (c.resume.ensures.history m there is) c.resume.ensures.told in
+    if_ok_both c.resume.result _ _ _ _ (λ x ran came _. record { came = came; run = ran }) runs (c.resume.ensures.came m there is) runs
 
 pub returns-clause-ends : goal.returns-clause-ends
 returns-clause-ends g c first done going rest =
@@ -45,7 +45,7 @@ returns-clause-ends g c first done going rest =
     if_err_both c.resume.result _ _ _ _ _
     (λ x why each t h. lives_as (g.D.Disk.left x.disk) first _ _ x.replies.items x.ended _ x.history.items
     (t ∙ ap (λ (rs : List Replied). rs ++ Stopped ∷ []) replies)
-    (h ∙ (ap (λ (cs : List Command). cs ++ take (halted.durable - halted.opened) halted.commands.items) history ∙ ap (λ (cs : List Command). self.history.items ++ cs) (durable_front halted.opened halted.durable m halted.commands.items is.opened_is is.durable_is is.commands_are)))
+    (h ∙ (ap (λ (cs : List Group). cs ++ take (halted.durable - halted.opened) halted.groups.items) history ∙ ap (λ (cs : List Group). self.history.items ++ cs) (durable_front halted.opened halted.durable m halted.groups.items is.opened_is is.durable_is is.groups_are)))
     (not_opened_by_stop first done self.replies.items self.history.items m run (g.D.Disk.left x.disk) rest x.ended c.args.self.life.living.state why each))
     (c.resume.ensures.ended m there is) (c.resume.ensures.left m there is) c.resume.ensures.stopped c.resume.ensures.durable
 
@@ -78,8 +78,8 @@ returns-clause-cut g c first done going =
     first done self.replies.items self.history.items m run c.args.self.life.living.state self.life.keeper.disk (c.halt-halted.ensures.held going.came) (g.D.Disk.content halted.disk) (c.halt-halted.ensures.cut going.came)
     x.life.keeper.machine x.replies.items x.history.items (g.D.Disk.content x.life.keeper.disk) b stands
     (t ∙ ap (λ (rs : List Replied). rs ++ Opened x.life.keeper.machine.base_version ∷ []) replies)
-    (h ∙ ap (λ (cs : List Command). cs ++ commands_to m x.life.keeper.machine.base_version) history) same)
-    (c.resume.ensures.begins m there is run.pages) (c.resume.ensures.history m there is run.pages) c.resume.ensures.told (c.resume.ensures.stands m there is run.pages) (c.resume.ensures.content there)
+    (h ∙ ap (λ (cs : List Group). cs ++ groups_to m x.life.keeper.machine.base_version) history) same)
+    (c.resume.ensures.begins m there is) (c.resume.ensures.history m there is) c.resume.ensures.told (c.resume.ensures.stands m there is) (c.resume.ensures.content there)
 
 pub returns-clause-cut_last : goal.returns-clause-cut_last
 returns-clause-cut_last g c first done going =

@@ -3,9 +3,9 @@ use Rattle.std.specs.Prelude.{◌≢◌, IfOk}
 use Rattle.machine.specs.declared.events.Replied.{Replied}
 use Rattle.machine.specs.declared.events.Replied.TheVariants.{Refused, Opened, Stopped}
 use Rattle.store.specs.State.{CameTidy}
-use Rattle.roadnet.specs.declared.commands.Command.{Command}
+use Rattle.roadnet.specs.declared.groups.Group.{Group}
 use Rattle.roadnet.specs.declared.refusals.Refusal.TheVariants.{Device}
-use Rattle.machine.specs.Machine.{Machine, commands_to}
+use Rattle.machine.specs.Machine.{Machine, groups_to}
 use Rattle.machine.specs.Lives.{Writes}
 use Rattle.keeper.specs.Rehearsing.{HasRun}
 use Rattle.keeper.specs.Cutting.{IsCut, HoldsFor}
@@ -15,7 +15,7 @@ use Rattle.keeper.proofs.Failing.{match_both, fails_as, ends_told, no_stop_writt
 use Rattle.keeper.proofs.LivesInRun.{writes_later, writes_same}
 use Rattle.keeper.proofs.Cut.{came_alone, own_failure, armed_so}
 use Rattle.keeper.proofs.Stops.{was_armed, within_turn, within_last}
-use Rattle.keeper.proofs.Runs.{if_ok_both, if_ok_five, if_err_both, if_err_map, run_as, lives_as, durable_front, slot_then, told_of, opened_told, not_opened_told}
+use Rattle.keeper.proofs.Runs.{if_ok_both, if_ok_five, if_err_both, if_err_map, run_as, lives_as, durable_front, told_of, opened_told, not_opened_told}
 use Rattle.keeper.proofs.rehearsing.Run.stop_within.Goals as goal
 
 pub resume-requires-clause-room : goal.resume-requires-clause-room
@@ -23,10 +23,10 @@ resume-requires-clause-room g c =
     let m = c.args.self.life.keeper.machine in
     let mid = c.write-written.new.self.keeper.machine in
     let wrote = subst (λ (x : Machine). Writes x c.args.writing c.write-written.result mid) c.arm.ensures.machine c.write-written.ensures.does in
-    let same : c.halt-halted.result.0.commands.items ≡ m.accepted = c.halt-halted.ensures.commands ∙ writes_same c.args.writing c.write-written.result m mid wrote in
-    let many : length c.halt-halted.result.0.commands.items ≡ length m.accepted = ap length same in
+    let same : c.halt-halted.result.0.groups.items ≡ m.accepted = c.halt-halted.ensures.groups ∙ writes_same c.args.writing c.write-written.result m mid wrote in
+    let many : length c.halt-halted.result.0.groups.items ≡ length m.accepted = ap length same in
     let history = c.halt-halted.ensures.history in
-    rw history (omega (arith, many, c.requires.room, c.halt-halted.result.0.commands.ok.0))
+    rw history (omega (arith, many, c.requires.room, c.halt-halted.result.0.groups.ok.0))
 
 pub returns-clause-goes : goal.returns-clause-goes
 returns-clause-goes g c event within first done going =
@@ -43,14 +43,13 @@ returns-clause-goes g c event within first done going =
     let replies : halted.replies.items ≡ self.replies.items = (let e = c.halt-halted.ensures.replies in cc) in
     let history : halted.history.items ≡ self.history.items = (let e = c.halt-halted.ensures.history in cc) in
     let told = told_of first done self.replies.items self.history.items m run mid later c.args.writing c.write-written.result c.tell_write.new.replies.items c.args.self.life.living.state wrote (rw replies at c.tell_write.ensures.told) in
-    let slot = slot_then first done self.replies.items self.history.items m run mid later in
     let runs : IfOk c.resume.result (λ x. HasRun first (done ++ event ∷ []) x.replies.items x.history.items x.life.keeper.machine) =
     if_ok_both c.resume.result _ _ _ _
     (λ x b h t. run_as first _ _ x.replies.items _ x.history.items x.life.keeper.machine t
-    (h ∙ ap (λ (cs : List Command). cs ++ commands_to mid x.life.keeper.machine.base_version) history)
+    (h ∙ ap (λ (cs : List Group). cs ++ groups_to mid x.life.keeper.machine.base_version) history)
     (opened_told first done self.replies.items self.history.items m run mid later event c.args.writing c.tell_write.new.replies.items x.life.keeper.machine within told b))
-    (c.resume.ensures.begins mid there is slot) (c.resume.ensures.history mid there is slot) c.resume.ensures.told in
-    if_ok_both c.resume.result _ _ _ _ (λ x ran came _. record { came = came; run = ran }) runs (c.resume.ensures.came mid there is slot) runs
+    (c.resume.ensures.begins mid there is) (c.resume.ensures.history mid there is) c.resume.ensures.told in
+    if_ok_both c.resume.result _ _ _ _ (λ x ran came _. record { came = came; run = ran }) runs (c.resume.ensures.came mid there is) runs
 
 pub returns-clause-ends : goal.returns-clause-ends
 returns-clause-ends g c event within first done going rest =
@@ -69,7 +68,7 @@ returns-clause-ends g c event within first done going rest =
     let told = told_of first done self.replies.items self.history.items m run mid later c.args.writing c.write-written.result c.tell_write.new.replies.items c.args.self.life.living.state wrote (rw replies at c.tell_write.ensures.told) in
     if_err_both c.resume.result _ _ _ _ _
     (λ x why each t h. lives_as (g.D.Disk.left x.disk) first _ _ x.replies.items x.ended _ x.history.items t
-    (h ∙ (ap (λ (cs : List Command). cs ++ take (halted.durable - halted.opened) halted.commands.items) history ∙ ap (λ (cs : List Command). self.history.items ++ cs) (durable_front halted.opened halted.durable mid halted.commands.items is.opened_is is.durable_is is.commands_are)))
+    (h ∙ (ap (λ (cs : List Group). cs ++ take (halted.durable - halted.opened) halted.groups.items) history ∙ ap (λ (cs : List Group). self.history.items ++ cs) (durable_front halted.opened halted.durable mid halted.groups.items is.opened_is is.durable_is is.groups_are)))
     (not_opened_told first done self.replies.items self.history.items m run mid later (g.D.Disk.left x.disk) event c.args.writing c.tell_write.new.replies.items rest x.ended within told why each))
     (c.resume.ensures.ended mid there is) (c.resume.ensures.left mid there is) c.resume.ensures.stopped c.resume.ensures.durable
 
@@ -121,13 +120,12 @@ returns-clause-cut g c event within names picks first done going =
     let held : HoldsFor g.D.Disk.honest g.D.Disk.content g.D.Disk.left before m = (c.durable.ensures.honest began, subst (λ (x : Machine). Holds (g.D.Disk.content before) (g.D.Disk.left before) x) c.arm.ensures.machine (c.durable.ensures.holds began)) in
     let was = was_armed g.D.Disk.honest g.D.Disk.content g.D.Disk.left g.D.Stoppable.armed g.D.Disk.moment (IsCut g.D.Stoppable.synced g.D.Stoppable.is_unsynced g.D.Disk.content)
     first done self.replies.items self.history.items m run mid later c.args.call before disk c.args.self.life.living.state held (λ some. armed_so c.args.call _ _ (c.arm.ensures.armed some)) (c.write-written.ensures.later began) in
-    let slot = slot_then first done self.replies.items self.history.items m run mid later in
     if_ok_five c.resume.result _ _ _ _ _ _
     (λ x b h t stands same. within_turn g.D.Disk.honest g.D.Disk.content g.D.Disk.left g.D.Stoppable.armed g.D.Disk.moment (IsCut g.D.Stoppable.synced g.D.Stoppable.is_unsynced g.D.Disk.content)
     first done self.replies.items self.history.items m run mid later event c.args.writing _ within c.args.call names picks c.tell_write.new.replies.items told disk (c.halt-halted.ensures.held came) (g.D.Disk.content halted.disk) (c.halt-halted.ensures.cut came) was alone own
     x.life.keeper.machine x.replies.items x.history.items (g.D.Disk.content x.life.keeper.disk) b stands t
-    (h ∙ ap (λ (cs : List Command). cs ++ commands_to mid x.life.keeper.machine.base_version) history) same)
-    (c.resume.ensures.begins mid there is slot) (c.resume.ensures.history mid there is slot) c.resume.ensures.told (c.resume.ensures.stands mid there is slot) (c.resume.ensures.content there)
+    (h ∙ ap (λ (cs : List Group). cs ++ groups_to mid x.life.keeper.machine.base_version) history) same)
+    (c.resume.ensures.begins mid there is) (c.resume.ensures.history mid there is) c.resume.ensures.told (c.resume.ensures.stands mid there is) (c.resume.ensures.content there)
 
 pub returns-clause-cut_last : goal.returns-clause-cut_last
 returns-clause-cut_last g c event within names picks first done going =

@@ -1,6 +1,6 @@
 use Rattle.std.proofs.Common.{◌≡◌, ◌-◌, ℕ, List, take, sym, ap, ◌∙◌, subst}
 use mathlib.Core.List.{IsPrefix}
-use Rattle.roadnet.specs.declared.commands.Command.{Command}
+use Rattle.roadnet.specs.declared.groups.Group.{Group}
 use Rattle.rows.specs.Views.{Viewed}
 use Rattle.history.specs.Origins.{Beginning}
 use Rattle.published.specs.Showing.{Showing}
@@ -9,12 +9,12 @@ use Rattle.office.proofs.offices.Office.publish.Goals as goal
 
 pub switch-requires-clause-begins : goal.switch-requires-clause-begins
 switch-requires-clause-begins g c =
-    let commands = c.self.inside.history.commands in
+    let groups = c.self.inside.history.groups in
     let m = c.self.inside.keeper.machine in
     let viewed = c.deref.result.now in
     let same : c.version.result ≡ viewed.version = c.version.ensures ∙ ap (λ (x : Viewed). x.version) (c.deref-2.ensures ∙ sym c.deref.ensures) in
-    let next : c.new-next.result.shown.commands ≡ take (viewed.version - m.base_version) commands =
-    ap (λ (x : Showing). x.shown.commands) c.new-next.ensures ∙ (ap (λ (b : Beginning). b.commands) c.front.ensures
-    ∙ (ap (λ (v : ℕ). take (v - c.opened.result) commands) same ∙ ap (λ (v : ℕ). take (viewed.version - v) commands) c.opened.ensures.version)) in
-    subst (λ (l : List Command). IsPrefix c.self.inside.publisher.shown.commands l) (sym next)
+    let next : c.new-next.result.shown.groups ≡ take (viewed.version - m.base_version) groups =
+    ap (λ (x : Showing). x.shown.groups) c.new-next.ensures ∙ (ap (λ (b : Beginning). b.groups) c.front.ensures
+    ∙ (ap (λ (v : ℕ). take (v - c.opened.result) groups) same ∙ ap (λ (v : ℕ). take (viewed.version - v) groups) c.opened.ensures.version)) in
+    subst (λ (l : List Group). IsPrefix c.self.inside.publisher.shown.groups l) (sym next)
     (task_begins _ _ _ _ _ c.self.invariant.0 c.opened.ensures.state viewed.version viewed.network c.in_default.ensures)

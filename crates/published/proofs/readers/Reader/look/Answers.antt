@@ -8,10 +8,10 @@ use Rattle.published.proofs.readers.Reader.look.Goals.{in-Some+else-not-begins, 
 
 pub returns-clause-begins : goal.returns-clause-begins
 returns-clause-begins c =
-    let found = c.view.inside.commands.commands in
-    let begun : Option Beginning → Type 0 = λ learned. IsPrefix (unwrap_or learned c.self.inside.seen).commands found in
+    let found = c.view.inside.groups.groups in
+    let begun : Option Beginning → Type 0 = λ learned. IsPrefix (unwrap_or learned c.self.inside.seen).groups found in
     rw (← c.self.view_is)
     (elim c.match-self.branch [
       | in-Some+else-not-begins w ↦ subst begun (sym w.in-Some.is) w.if-not-begins.ensures
-      | in_default w ↦ subst begun (sym w.in_default.is) (subst (λ (x : Showing). IsPrefix c.self.inside.seen.commands x.shown.commands) (sym c.view.view_is) c.in_ok-view.ensures.shown.1.1)
+      | in_default w ↦ subst begun (sym w.in_default.is) (subst (λ (x : Showing). IsPrefix c.self.inside.seen.groups x.shown.groups) (sym c.view.view_is) c.in_ok-view.ensures.shown.1.1)
     ])

@@ -1,34 +1,66 @@
-use Rattle.std.proofs.Common.{◌≡◌, ◌∙◌, List, Some, length, ap, sym, subst, fold}
+use Rattle.std.proofs.Common.{◌≡◌, ◌∙◌, ℕ, List, Some, None, ap, sym, subst, fold}
 use Rattle.std.specs.List.{All}
-use Rattle.std.specs.Vec.{with_items}
-use Rattle.std.proofs.lemmas.List.{with_items_is}
 use Rattle.roadnet.specs.declared.arcs.RoadArc.{RoadArc}
 use Rattle.roadnet.specs.Net.{Net, IsNetwork}
-use Rattle.roadnet.specs.Batches.{NamesArcAmong, changed_arcs}
-use Rattle.roadnet.proofs.InTurn.{IsNetwork-changed_by, after_is_changed, carried, names_arcs}
+use Rattle.roadnet.specs.Batches.{HasFitNumbers, changed_arcs, changed_by_all, changed_landmarks}
+use Rattle.roadnet.specs.Groups.{commands_of}
+use Rattle.roadnet.specs.Step.{first_refusal}
+use Rattle.roadnet.proofs.InTurn.{after_all_is_changed, all_admitted_fit, carried_all, refused_as_their_commands}
+use Rattle.roadnet.proofs.GroupsInTurn.{IsNetwork-changed_by_all}
 use Rattle.roadnet.proofs.networks.Network.carry_out.Goals as goal
 
-pub change_arcs-requires : goal.change_arcs-requires
-change_arcs-requires c =
-    subst (λ (arcs : List RoadArc). All (NamesArcAmong (length arcs)) c.args.commands.now) (sym (c.deref_mut.ensures.value ∙ ap (λ (net : Net). net.arcs) c.self.view_is))
-    (names_arcs c.args.self.now c.args.commands.now c.requires.admitted)
+pub landmarks_after-requires-clause-fits : goal.landmarks_after-requires-clause-fits
+landmarks_after-requires-clause-fits c =
+    all_admitted_fit c.args.self.now (commands_of c.args.groups.now) (subst IsNetwork c.self.view_is c.self.invariant) (sym (refused_as_their_commands c.args.self.now c.args.groups.now) ∙ c.in_default.ensures)
+
+pub change_all-requires : goal.change_all-requires
+change_all-requires c =
+    all_admitted_fit c.args.self.now (commands_of c.args.groups.now) (subst IsNetwork c.self.view_is c.self.invariant) (sym (refused_as_their_commands c.args.self.now c.args.groups.now) ∙ c.in_default.ensures)
+
+pub returns-clause-fits : goal.returns-clause-fits
+returns-clause-fits c =
+    all_admitted_fit c.args.self.now (commands_of c.args.groups.now) (subst IsNetwork c.self.view_is c.self.invariant) (sym (refused_as_their_commands c.args.self.now c.args.groups.now) ∙ c.in_default.ensures)
+
+pub change_all-requires-2 : goal.change_all-requires-2
+change_all-requires-2 c =
+    all_admitted_fit c.args.self.now (commands_of c.args.groups.now) (subst IsNetwork c.self.view_is c.self.invariant) (sym (refused_as_their_commands c.args.self.now c.args.groups.now) ∙ c.in_default.ensures)
+
+pub returns-then-name_no_node-clause-fits : goal.returns-then-name_no_node-clause-fits
+returns-then-name_no_node-clause-fits c =
+    all_admitted_fit c.args.self.now (commands_of c.args.groups.now) (subst IsNetwork c.self.view_is c.self.invariant) (sym (refused_as_their_commands c.args.self.now c.args.groups.now) ∙ c.in_default.ensures)
+
+pub returns-then-name_no_node-clause-ok : goal.returns-then-name_no_node-clause-ok
+returns-then-name_no_node-clause-ok c =
+    let arcs : c.change_all.new.arcs.items ≡ fold changed_arcs c.args.self.now.arcs (commands_of c.args.groups.now) =
+    c.in-Ok.ensures.ok ∙ ap (λ (net : Net). fold changed_arcs net.arcs (commands_of c.args.groups.now)) c.self.view_is in
+    let landmarks : c.self.inside.landmarks.items ≡ fold changed_landmarks c.args.self.now.landmarks (commands_of c.args.groups.now) =
+    sym (c.name_no_node.ensures c.if-name_no_node.true c.self.inside.landmarks.items) ∙ ap (λ (net : Net). fold changed_landmarks net.landmarks (commands_of c.args.groups.now)) c.self.view_is in
+    let is = carried_all c.args.self.now c.args.groups.now c.self.inside.nodes c.change_all.new.arcs.items c.self.inside.landmarks.items c.self.inside.room (ap (λ (net : Net). net.nodes) c.self.view_is) arcs landmarks (ap (λ (net : Net). net.room) c.self.view_is) in
+    after_all_is_changed c.args.self.now c.args.groups.now c.in_default.ensures ∙ ap Some is
+
+pub invariant_of-self-2 : goal.invariant_of-self-2
+invariant_of-self-2 c =
+    let arcs : c.change_all-2.new.arcs.items ≡ fold changed_arcs c.args.self.now.arcs (commands_of c.args.groups.now) =
+    c.in-Ok-change_all.ensures.ok ∙ ap (λ (net : Net). fold changed_arcs net.arcs (commands_of c.args.groups.now)) c.self.view_is in
+    let landmarks : c.replace-landmarks.new.dest.items ≡ fold changed_landmarks c.args.self.now.landmarks (commands_of c.args.groups.now) =
+    ap (λ v. v.items) c.replace-landmarks.ensures.after ∙ (c.in-Ok-landmarks_after.ensures ∙ ap (λ (l : List ℕ). fold changed_landmarks l (commands_of c.args.groups.now)) (c.deref.ensures.value ∙ ap (λ (net : Net). net.landmarks) c.self.view_is)) in
+    let is = carried_all c.args.self.now c.args.groups.now c.self.inside.nodes c.change_all-2.new.arcs.items c.replace-landmarks.new.dest.items c.self.inside.room (ap (λ (net : Net). net.nodes) c.self.view_is) arcs landmarks (ap (λ (net : Net). net.room) c.self.view_is) in
+    subst IsNetwork is (IsNetwork-changed_by_all c.args.self.now c.args.groups.now (subst IsNetwork c.self.view_is c.self.invariant) c.in_default.ensures)
+
+pub returns-clause-ok : goal.returns-clause-ok
+returns-clause-ok c =
+    let arcs : c.change_all-2.new.arcs.items ≡ fold changed_arcs c.args.self.now.arcs (commands_of c.args.groups.now) =
+    c.in-Ok-change_all.ensures.ok ∙ ap (λ (net : Net). fold changed_arcs net.arcs (commands_of c.args.groups.now)) c.self.view_is in
+    let landmarks : c.replace-landmarks.new.dest.items ≡ fold changed_landmarks c.args.self.now.landmarks (commands_of c.args.groups.now) =
+    ap (λ v. v.items) c.replace-landmarks.ensures.after ∙ (c.in-Ok-landmarks_after.ensures ∙ ap (λ (l : List ℕ). fold changed_landmarks l (commands_of c.args.groups.now)) (c.deref.ensures.value ∙ ap (λ (net : Net). net.landmarks) c.self.view_is)) in
+    let is = carried_all c.args.self.now c.args.groups.now c.self.inside.nodes c.change_all-2.new.arcs.items c.replace-landmarks.new.dest.items c.self.inside.room (ap (λ (net : Net). net.nodes) c.self.view_is) arcs landmarks (ap (λ (net : Net). net.room) c.self.view_is) in
+    after_all_is_changed c.args.self.now c.args.groups.now c.in_default.ensures ∙ ap Some is
 
 pub invariant_of-self : goal.invariant_of-self
 invariant_of-self c =
-    let written : (with_items c.self.inside.arcs c.change_arcs.new.arcs).items ≡ c.change_arcs.new.arcs =
-    with_items_is c.self.inside.arcs c.change_arcs.new.arcs (c.change_arcs.auto.arcs ∙ c.deref_mut.ensures.len) in
-    let arcs : (with_items c.self.inside.arcs c.change_arcs.new.arcs).items ≡ fold changed_arcs c.args.self.now.arcs c.args.commands.now =
-    written ∙ c.change_arcs.ensures ∙ ap (λ (l : List RoadArc). fold changed_arcs l c.args.commands.now) (c.deref_mut.ensures.value ∙ ap (λ (net : Net). net.arcs) c.self.view_is) in
-    subst IsNetwork
-    (carried c.args.self.now c.args.commands.now c.self.inside.nodes (with_items c.self.inside.arcs c.change_arcs.new.arcs).items c.args.landmarks.items (ap (λ (net : Net). net.nodes) c.self.view_is) arcs c.requires.landmarks)
-    (IsNetwork-changed_by c.args.self.now c.args.commands.now (subst IsNetwork c.self.view_is c.self.invariant) c.requires.admitted)
-
-pub returns : goal.returns
-returns c =
-    let written : (with_items c.self.inside.arcs c.change_arcs.new.arcs).items ≡ c.change_arcs.new.arcs =
-    with_items_is c.self.inside.arcs c.change_arcs.new.arcs (c.change_arcs.auto.arcs ∙ c.deref_mut.ensures.len) in
-    let arcs : (with_items c.self.inside.arcs c.change_arcs.new.arcs).items ≡ fold changed_arcs c.args.self.now.arcs c.args.commands.now =
-    written ∙ c.change_arcs.ensures ∙ ap (λ (l : List RoadArc). fold changed_arcs l c.args.commands.now) (c.deref_mut.ensures.value ∙ ap (λ (net : Net). net.arcs) c.self.view_is) in
-    after_is_changed c.args.self.now c.args.commands.now c.requires.admitted
-    ∙ ap Some
-    (carried c.args.self.now c.args.commands.now c.self.inside.nodes (with_items c.self.inside.arcs c.change_arcs.new.arcs).items c.args.landmarks.items (ap (λ (net : Net). net.nodes) c.self.view_is) arcs c.requires.landmarks)
+    let arcs : c.change_all.new.arcs.items ≡ fold changed_arcs c.args.self.now.arcs (commands_of c.args.groups.now) =
+    c.in-Ok.ensures.ok ∙ ap (λ (net : Net). fold changed_arcs net.arcs (commands_of c.args.groups.now)) c.self.view_is in
+    let landmarks : c.self.inside.landmarks.items ≡ fold changed_landmarks c.args.self.now.landmarks (commands_of c.args.groups.now) =
+    sym (c.name_no_node.ensures c.if-name_no_node.true c.self.inside.landmarks.items) ∙ ap (λ (net : Net). fold changed_landmarks net.landmarks (commands_of c.args.groups.now)) c.self.view_is in
+    let is = carried_all c.args.self.now c.args.groups.now c.self.inside.nodes c.change_all.new.arcs.items c.self.inside.landmarks.items c.self.inside.room (ap (λ (net : Net). net.nodes) c.self.view_is) arcs landmarks (ap (λ (net : Net). net.room) c.self.view_is) in
+    subst IsNetwork is (IsNetwork-changed_by_all c.args.self.now c.args.groups.now (subst IsNetwork c.self.view_is c.self.invariant) c.in_default.ensures)

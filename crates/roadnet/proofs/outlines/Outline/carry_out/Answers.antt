@@ -1,67 +1,48 @@
-use Rattle.std.proofs.Common.{◌≡◌, refl, arith}
-use Rattle.roadnet.specs.declared.commands.Command.TheVariants.{Set, Close, Reopen, Mark, Unmark}
-use Rattle.roadnet.specs.Members.{with_member}
-use Rattle.roadnet.proofs.Outlined.{closed_there, each_steps_to, outline_kept, reopen_within, reopened_there, with_landmarks}
+use Rattle.std.proofs.Common.{◌≡◌, ◌∙◌, ℕ, List, ap, sym, subst, fold}
+use Rattle.std.specs.List.{All}
+use Rattle.roadnet.specs.declared.commands.Command.{Command}
+use Rattle.roadnet.specs.Batches.{HasFitNumbers, changed_landmarks}
+use Rattle.roadnet.specs.Flags.{changed_flags}
+use Rattle.roadnet.specs.Groups.{commands_of}
+use Rattle.roadnet.proofs.Flagged.{commands_of_one, outline_kept, steps_by}
+use Rattle.roadnet.proofs.InTurn.{all_admitted_fit}
 use Rattle.roadnet.proofs.outlines.Outline.carry_out.Goals as goal
-use Rattle.roadnet.proofs.outlines.Outline.carry_out.Goals.{in-Some-2, in-None-2, in-Some-3, in-None-3}
 
-pub index_mut-found-requires-in-Reopen : goal.index_mut-found-requires-in-Reopen
-index_mut-found-requires-in-Reopen c =
-    let inside = reopen_within _ c.in-Reopen.arc c.self.invariant (rw (← c.self.view_is, c.in-Reopen.is) at c.requires.admitted) in
-    omega (arith, inside, c.self.inside.opened.len)
+pub invariant_of-self-then-names_no_node : goal.invariant_of-self-then-names_no_node
+invariant_of-self-then-names_no_node c =
+    let there = c.self.invariant in
+    let opened_is : c.change_flags.new.flags.items ≡ fold changed_flags c.self.inside.opened.items c.args.group.now =
+    c.in_ok-change_flags.ensures.ok ∙ ap (λ (cs : List Command). fold changed_flags c.self.inside.opened.items cs) c.commands-commands.ensures.value in
+    let landmarks_is : c.self.inside.landmarks.items ≡ fold changed_landmarks c.self.inside.landmarks.items c.args.group.now =
+    sym (c.names_no_node.ensures c.if-names_no_node.true c.self.inside.landmarks.items) ∙ ap (λ (cs : List Command). fold changed_landmarks c.self.inside.landmarks.items cs) c.commands-commands.ensures.value in
+    outline_kept there.0 (record { nodes = c.self.inside.nodes; opened = c.self.inside.opened.items; landmarks = c.self.inside.landmarks.items; room = c.self.inside.room }) c.args.group.now c.change_flags.new.flags.items c.self.inside.landmarks.items there.2 (c.requires.admitted there.0 (there.2 ∙ c.self.view_is)) opened_is landmarks_is there.1
 
-pub invariant_of-self : goal.invariant_of-self
-invariant_of-self c =
-    let admitted = rw (← c.self.view_is, c.in-Close.is) at c.requires.admitted in
-    outline_kept _ _ (Close c.in-Close.arc) admitted (closed_there _ c.in-Close.arc c.self.invariant admitted) c.self.invariant
+pub returns-then-names_no_node-clause-ok : goal.returns-then-names_no_node-clause-ok
+returns-then-names_no_node-clause-ok c net of =
+    let opened_is : c.change_flags.new.flags.items ≡ fold changed_flags c.self.inside.opened.items c.args.group.now =
+    c.in_ok-change_flags.ensures.ok ∙ ap (λ (cs : List Command). fold changed_flags c.self.inside.opened.items cs) c.commands-commands.ensures.value in
+    let landmarks_is : c.self.inside.landmarks.items ≡ fold changed_landmarks c.self.inside.landmarks.items c.args.group.now =
+    sym (c.names_no_node.ensures c.if-names_no_node.true c.self.inside.landmarks.items) ∙ ap (λ (cs : List Command). fold changed_landmarks c.self.inside.landmarks.items cs) c.commands-commands.ensures.value in
+    steps_by net (record { nodes = c.self.inside.nodes; opened = c.self.inside.opened.items; landmarks = c.self.inside.landmarks.items; room = c.self.inside.room }) c.args.group.now c.change_flags.new.flags.items c.self.inside.landmarks.items (of ∙ sym c.self.view_is) (c.requires.admitted net of) opened_is landmarks_is
 
-pub invariant_of-self-in-Close-2 : goal.invariant_of-self-in-Close-2
-invariant_of-self-in-Close-2 c =
-    let admitted = rw (← c.self.view_is, c.in-Close.is) at c.requires.admitted in
-    outline_kept _ _ (Close c.in-Close.arc) admitted (closed_there _ c.in-Close.arc c.self.invariant admitted) c.self.invariant
+pub landmarks_after-requires-clause-fits : goal.landmarks_after-requires-clause-fits
+landmarks_after-requires-clause-fits c =
+    let there = c.self.invariant in
+    subst (All HasFitNumbers) (sym (commands_of_one c.one.result.now c.args.group.now c.one.ensures)) (all_admitted_fit there.0 c.args.group.now there.1 (c.requires.admitted there.0 (there.2 ∙ c.self.view_is)))
 
-pub invariant_of-self-in-Reopen : goal.invariant_of-self-in-Reopen
-invariant_of-self-in-Reopen c =
-    let admitted = rw (← c.self.view_is, c.in-Reopen.is) at c.requires.admitted in
-    outline_kept _ _ (Reopen c.in-Reopen.arc) admitted (reopened_there _ c.in-Reopen.arc c.self.invariant admitted) c.self.invariant
+pub invariant_of-self-2 : goal.invariant_of-self-2
+invariant_of-self-2 c =
+    let there = c.self.invariant in
+    let opened_is : c.change_flags-2.new.flags.items ≡ fold changed_flags c.self.inside.opened.items c.args.group.now =
+    c.in_ok-change_flags-2.ensures.ok ∙ ap (λ (cs : List Command). fold changed_flags c.self.inside.opened.items cs) c.commands-commands.ensures.value in
+    let landmarks_is : c.replace.new.dest.items ≡ fold changed_landmarks c.self.inside.landmarks.items c.args.group.now =
+    ap (λ v. v.items) c.replace.ensures.after ∙ (c.in_ok-landmarks.ensures ∙ (ap (λ (l : List ℕ). fold changed_landmarks l (commands_of c.one.result.now)) c.deref.ensures.value ∙ ap (λ (cs : List Command). fold changed_landmarks c.self.inside.landmarks.items cs) (commands_of_one c.one.result.now c.args.group.now c.one.ensures))) in
+    outline_kept there.0 (record { nodes = c.self.inside.nodes; opened = c.self.inside.opened.items; landmarks = c.self.inside.landmarks.items; room = c.self.inside.room }) c.args.group.now c.change_flags-2.new.flags.items c.replace.new.dest.items there.2 (c.requires.admitted there.0 (there.2 ∙ c.self.view_is)) opened_is landmarks_is there.1
 
-pub invariant_of-self-in-Reopen-2 : goal.invariant_of-self-in-Reopen-2
-invariant_of-self-in-Reopen-2 c =
-    let admitted = rw (← c.self.view_is, c.in-Reopen.is) at c.requires.admitted in
-    outline_kept _ _ (Reopen c.in-Reopen.arc) admitted (reopened_there _ c.in-Reopen.arc c.self.invariant admitted) c.self.invariant
-
-pub invariant_of-self-in-Some : goal.invariant_of-self-in-Some
-invariant_of-self-in-Some c =
-    let admitted = rw (← c.self.view_is, c.in-Mark.is) at c.requires.admitted in
-    let landmarks : c.in-Some.landmarks.items ≡ with_member c.in-Mark.node c.self.inside.landmarks.items = rw (← c.self.view_is, c.in-Some.is, c.in-Mark.is) at c.requires.landmarks in
-    outline_kept _ _ (Mark c.in-Mark.node) admitted
-    (with_landmarks c.self.inside.nodes c.self.inside.opened.items _ _ landmarks) c.self.invariant
-
-pub invariant_of-self-in-Unmark : goal.invariant_of-self-in-Unmark
-invariant_of-self-in-Unmark c =
-    let admitted = rw (← c.self.view_is, c.in-Unmark.is) at c.requires.admitted in
-    outline_kept _ _ (Unmark c.in-Unmark.node) admitted (with_landmarks c.self.inside.nodes c.self.inside.opened.items _ _ c.take_out.ensures) c.self.invariant
-
-pub invariant_of-self-in-Unmark-2 : goal.invariant_of-self-in-Unmark-2
-invariant_of-self-in-Unmark-2 c =
-    let admitted = rw (← c.self.view_is, c.in-Unmark.is) at c.requires.admitted in
-    outline_kept _ _ (Unmark c.in-Unmark.node) admitted (with_landmarks c.self.inside.nodes c.self.inside.opened.items _ _ c.take_out.ensures) c.self.invariant
-
-pub returns-in-Set : goal.returns-in-Set
-returns-in-Set c = rw c.in-Set.is (each_steps_to c.args.self.now c.args.self.now (Set c.in-Set.arc c.in-Set.length) (rw c.in-Set.is at c.requires.admitted) refl)
-
-pub returns-in-Close : goal.returns-in-Close
-returns-in-Close c =
-    let admitted = rw (← c.self.view_is, c.in-Close.is) at c.requires.admitted in
-    elim c.match-room-2.branch [
-      | in-Some-2 w ↦ rw (← c.self.view_is, c.in-Close.is, w.self-is) (each_steps_to _ _ (Close c.in-Close.arc) admitted (closed_there _ c.in-Close.arc c.self.invariant admitted))
-      | in-None-2 w ↦ rw (← c.self.view_is, c.in-Close.is, w.self-is) (each_steps_to _ _ (Close c.in-Close.arc) admitted (closed_there _ c.in-Close.arc c.self.invariant admitted))
-    ]
-
-pub returns-in-Reopen : goal.returns-in-Reopen
-returns-in-Reopen c =
-    let admitted = rw (← c.self.view_is, c.in-Reopen.is) at c.requires.admitted in
-    elim c.match-room-3.branch [
-      | in-Some-3 w ↦ rw (← c.self.view_is, c.in-Reopen.is, w.self-is) (each_steps_to _ _ (Reopen c.in-Reopen.arc) admitted (reopened_there _ c.in-Reopen.arc c.self.invariant admitted))
-      | in-None-3 w ↦ rw (← c.self.view_is, c.in-Reopen.is, w.self-is) (each_steps_to _ _ (Reopen c.in-Reopen.arc) admitted (reopened_there _ c.in-Reopen.arc c.self.invariant admitted))
-    ]
+pub returns-clause-ok : goal.returns-clause-ok
+returns-clause-ok c net of =
+    let opened_is : c.change_flags-2.new.flags.items ≡ fold changed_flags c.self.inside.opened.items c.args.group.now =
+    c.in_ok-change_flags-2.ensures.ok ∙ ap (λ (cs : List Command). fold changed_flags c.self.inside.opened.items cs) c.commands-commands.ensures.value in
+    let landmarks_is : c.replace.new.dest.items ≡ fold changed_landmarks c.self.inside.landmarks.items c.args.group.now =
+    ap (λ v. v.items) c.replace.ensures.after ∙ (c.in_ok-landmarks.ensures ∙ (ap (λ (l : List ℕ). fold changed_landmarks l (commands_of c.one.result.now)) c.deref.ensures.value ∙ ap (λ (cs : List Command). fold changed_landmarks c.self.inside.landmarks.items cs) (commands_of_one c.one.result.now c.args.group.now c.one.ensures))) in
+    steps_by net (record { nodes = c.self.inside.nodes; opened = c.self.inside.opened.items; landmarks = c.self.inside.landmarks.items; room = c.self.inside.room }) c.args.group.now c.change_flags-2.new.flags.items c.replace.new.dest.items (of ∙ sym c.self.view_is) (c.requires.admitted net of) opened_is landmarks_is

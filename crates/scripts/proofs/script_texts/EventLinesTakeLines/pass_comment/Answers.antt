@@ -1,4 +1,4 @@
-use Rattle.scripts.proofs.ScriptLines.{takes_remark}
+use Rattle.scripts.proofs.ScriptGroups.{takes_remark}
 use Rattle.scripts.proofs.script_texts.EventLinesTakeLines.pass_comment.Goals as goal
 
 pub returns : goal.returns

@@ -48,7 +48,7 @@ module _ {M : Type 1} {𝓤 : Ura M} (𝓛 : Logic 𝓤) (mem : Memory → SProp
     one = vptr a.1.0.ref_ptr.0 a.1.0.ref_ptr.1
 
     abbrev more : (in_flight.the_row).Denot
-    more = record { commands = if a.1.0.now.failed then a.1.0.now.commands.now else a.0.now.commands }
+    more = record { groups = if a.1.0.now.failed then a.1.0.now.groups.now else a.0.now.groups }
 
     abbrev bound : (walk_of 𝓛 it.ended stayed (it.clauses 𝓛 mem run)).Ghost
     bound = ((κs, qs, bounds, a, (before ∷ [], (one ∷ [], tt))), tt)

@@ -6,8 +6,8 @@ use Rattle.store.specs.Going.{FitsStore, GoesOn}
 use Rattle.store.proofs.GoingOn.{from_some, some_goes, words_held, told_as, stands_as, moments_of_part, told_by_parts, stands_by_parts}
 use Rattle.store.proofs.paged.Paged.complete_checkpoint.Goals as goal
 
-pub complete-requires-clause-words : goal.complete-requires-clause-words
-complete-requires-clause-words g c h =
+pub complete-requires-clause-pages : goal.complete-requires-clause-pages
+complete-requires-clause-pages g c h =
     let s = c.args.self.now in
     let p = c.in-Some.going in
     let goes = some_goes (λ (y : GoingCheckpoint). GoesOn (g.D.Disk.content s.disk) s.header y.next y.frozen y.committed s.network s.version s.next_sequence) s.going p c.in-Some.ensures.value (s.goes_on c.requires.works h) in

@@ -9,8 +9,8 @@ use Rattle.store.proofs.Checkpointed.{shut_told, shut_tidily}
 use Rattle.store.proofs.GoingOn.{from_some, some_goes, words_held, fits_part, goes_part, told_as, stands_as, moments_of_part, told_by_parts, stands_by_parts}
 use Rattle.store.proofs.paged.Paged.go_on.Goals as goal
 
-pub go_on-requires-clause-words : goal.go_on-requires-clause-words
-go_on-requires-clause-words g c h =
+pub go_on-requires-clause-pages : goal.go_on-requires-clause-pages
+go_on-requires-clause-pages g c h =
     let s = c.args.self.now in
     let p = c.in-Some.going in
     let goes = some_goes (λ (y : GoingCheckpoint). GoesOn (g.D.Disk.content s.disk) s.header y.next y.frozen y.committed s.network s.version s.next_sequence) s.going p c.in-Some.ensures.value (s.goes_on c.requires.works h) in
@@ -51,6 +51,8 @@ invariant_of-self-then-not-whole g c =
     let written : c.go_on.new.self ≡ record p.next { written = p.next.written + c.args.pages } = c.in-Ok.ensures.part c.if-not-whole.true in
     record {
       numbers = s.numbers;
+      today = s.today;
+      arcs_from = s.arcs_from;
       rests = λ works now.
           let h = c.go_on.ensures.honest.0 now in
           (c.in-Ok.ensures.at_rest h, (c.in-Ok.ensures.shut h c.if-not-whole.true).outside.same_length ∙ (s.rests c.requires.works h).1);
@@ -59,7 +61,7 @@ invariant_of-self-then-not-whole g c =
       goes_on = λ works now.
           let h = c.go_on.ensures.honest.0 now in
           goes_part (g.D.Disk.content s.disk) (g.D.Disk.content c.go_on.new.disk) s.header s.slot p.next c.go_on.new.self (p.next.written + c.args.pages) p.frozen p.committed s.network s.version s.next_sequence fits.slot_is written
-          (c.in-Ok.ensures.shut h c.if-not-whole.true) (c.in-Ok.ensures.words h c.if-not-whole.true)
+          (c.in-Ok.ensures.shut h c.if-not-whole.true) (c.in-Ok.ensures.pages h c.if-not-whole.true)
           (some_goes (λ (y : GoingCheckpoint). GoesOn (g.D.Disk.content s.disk) s.header y.next y.frozen y.committed s.network s.version s.next_sequence) s.going p c.in-Some.ensures.value (s.goes_on c.requires.works h));
     }
 

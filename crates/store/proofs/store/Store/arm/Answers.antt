@@ -21,7 +21,7 @@ invariant_of-self g c =
                   λ d was. rests.0 d ((e.left d).0 was) ∙ sym e.content,
                   subst (λ (x : Standing). StandsTidily (g.D.Disk.content n.disk) x) (sym told) (subst (λ (d : List ℕ). StandsTidily d (told_by p)) (sym e.content) rests.1),
                 ),
-            λ broke d was. stands_still p n c.self.inside.in_flight.commands e.header e.network e.version d (held.2 (sym e.broken ∙ broke) d ((e.left d).0 was)),
+            λ broke d was. stands_still p n c.self.inside.in_flight.groups e.header e.network e.version d (held.2 (sym e.broken ∙ broke) d ((e.left d).0 was)),
           ),
       told_armed c.self.inside.given.value p n told e.broken e.content e.honest c.self.invariant.2,
     )

@@ -13,7 +13,7 @@ invariant_of-self g c =
           let held = c.self.invariant.1 came in (
             e.honest.1 held.0,
             rests_after c.checkpoint.result p n e.same e.breaks worked (e.only held.0) (e.stands held.0) held.1,
-            left_after_checkpoint c.checkpoint.result p n c.self.inside.in_flight.commands e.refused e.same e.works e.header e.network e.version (λ works. e.left works held.0 (held.1 works).1) held.2,
+            left_after_checkpoint c.checkpoint.result p n c.self.inside.in_flight.groups e.refused e.same e.works e.header e.network e.version (λ works. e.left works held.0 (held.1 works).1) held.2,
           ),
       told_after_checkpoint c.checkpoint.result c.self.inside.given.value p n e.honest e.version e.same e.breaks worked e.as_told c.self.invariant.2,
     )
@@ -29,4 +29,4 @@ returns-clause-left g c = rw (← c.self.view_is) (λ came works.
 pub returns-clause-before_commit : goal.returns-clause-before_commit
 returns-clause-before_commit g c =
     let e = c.checkpoint.ensures in
-    rw (← c.self.view_is) (λ none. told_still c.checkpoint.result c.self.inside.given.value c.self.inside.pages c.checkpoint.new.self c.self.inside.in_flight.commands e.network e.version e.works (invariant_of-self g c).2 none.0 none.1)
+    rw (← c.self.view_is) (λ none. told_still c.checkpoint.result c.self.inside.given.value c.self.inside.pages c.checkpoint.new.self c.self.inside.in_flight.groups e.network e.version e.works (invariant_of-self g c).2 none.0 none.1)

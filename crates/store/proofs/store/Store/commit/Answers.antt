@@ -1,57 +1,16 @@
-use Rattle.std.proofs.Common.{◌∙◌, length}
-use Rattle.store.proofs.InFlight.{AreInFlight, worked_before, in_flight_still, in_flight_else, in_flight_at_device, none_at_ok, same_state, left_after_commit}
-use Rattle.store.proofs.StateKept.{worked_at_commit, at_ok_with, rests_after, told_after_commit, kept_version}
+use Rattle.std.proofs.Common.{◌∙◌, ◌≡◌, ◌≤◌, ℕ, List, ap, sym, subst, false}
+use Rattle.roadnet.specs.Groups.{count_of}
+use Rattle.roadnet.specs.declared.commands.Command.{Command}
+use Rattle.pages.specs.Limits.{most_commands}
+use Rattle.store.specs.State.{CameTidy, IsDurableOrAfter}
+use Rattle.store.proofs.EachAlone.{count_alone}
 use Rattle.store.proofs.store.Store.commit.Goals as goal
 
-pub invariant_of-self : goal.invariant_of-self
-invariant_of-self g c =
-    let p = c.self.inside.pages in
-    let n = c.commit-made.new.self in
-    let e = c.commit-made.ensures in
-    let result = c.commit-made.result in
-    let failed = c.has_failed-failed.result in
-    let commands = c.args.commands.now in
-    let before = c.self.inside.in_flight.commands in
-    let after = c.after-self-inside.result.commands in
-    let worked = worked_at_commit result p.broken p.version p.unchecked p.header.journal_pages p.network commands e.refused in
-    let are : AreInFlight result failed commands before after = (c.has_failed-failed.ensures, c.after-self-inside.ensures) in (
-      λ works. in_flight_still result failed n commands before after are e.breaks works ∙ c.self.invariant.0 (worked_before result p n e.same e.breaks worked works),
-      λ came.
-          let held = c.self.invariant.1 came in (
-            e.honest.1 held.0,
-            rests_after result p n e.same e.breaks worked (e.only held.0) (e.stands held.0) held.1,
-            left_after_commit result failed p n commands before after e.refused are e.same e.works e.header e.kept (λ works. e.in_flight works held.0 (held.1 works).1) held.2,
-          ),
-      told_after_commit result c.self.inside.given.value p n (length commands) c.requires.some e.honest e.version (kept_version result p n e.kept) e.same e.breaks c.self.invariant.2,
-    )
-
-pub returns-clause-any_moment : goal.returns-clause-any_moment
-returns-clause-any_moment g c = rw (← c.self.view_is) (λ came works.
-    let held = c.self.invariant.1 came in c.commit-made.ensures.any_moment works held.0 (held.1 works).1)
+pub commit_groups-requires-clause-few : goal.commit_groups-requires-clause-few
+commit_groups-requires-clause-few g c =
+    subst (λ (n : ℕ). n ≤ most_commands) (sym (ap count_of c.groups_of-groups.ensures ∙ count_alone c.args.commands.now)) c.requires.few
 
 pub returns-clause-in_flight : goal.returns-clause-in_flight
-returns-clause-in_flight g c = rw (← c.self.view_is) (λ came works.
-    let held = c.self.invariant.1 came in c.commit-made.ensures.in_flight works held.0 (held.1 works).1)
-
-pub returns-clause-durable : goal.returns-clause-durable
-returns-clause-durable g c = rw (← c.self.view_is) (λ came.
-    let held = c.self.invariant.1 came in
-    let p = c.self.inside.pages in
-    at_ok_with _ c.commit-made.result (worked_at_commit c.commit-made.result p.broken p.version p.unchecked p.header.journal_pages p.network c.args.commands.now c.commit-made.ensures.refused)
-    (λ works. c.commit-made.ensures.durable held.0 (held.1 works).1))
-
-pub returns-clause-same : goal.returns-clause-same
-returns-clause-same g c =
-    rw (← c.self.view_is) (
-    let before = c.self.inside.in_flight.commands in
-    let after = c.after-self-inside.result.commands in
-    same_state c.commit-made.result c.self.inside.pages c.commit-made.new.self c.self.inside.given.value before after c.commit-made.ensures.same
-    (in_flight_else c.commit-made.result c.has_failed-failed.result c.args.commands.now before after (c.has_failed-failed.ensures, c.after-self-inside.ensures)))
-
-pub returns-clause-failed_in_flight : goal.returns-clause-failed_in_flight
-returns-clause-failed_in_flight g c =
-    in_flight_at_device c.commit-made.result c.has_failed-failed.result c.args.commands.now c.self.inside.in_flight.commands c.after-self-inside.result.commands (c.has_failed-failed.ensures, c.after-self-inside.ensures)
-
-pub returns-clause-none_in_flight : goal.returns-clause-none_in_flight
-returns-clause-none_in_flight g c =
-    none_at_ok c.commit-made.result c.commit-made.new.self.broken c.after-self-inside.result.commands c.commit-made.ensures.works (invariant_of-self g c).0
+returns-clause-in_flight g c =
+    subst (λ (groups : List (List Command)). CameTidy g.D.Disk.honest g.D.Disk.content c.args.self.now.given → c.args.self.now.broken ≡ false → (l : List ℕ) → g.D.Disk.left c.commit_groups.new.self.disk l → IsDurableOrAfter c.args.self.now groups l)
+    c.groups_of-groups.ensures c.commit_groups.ensures.in_flight

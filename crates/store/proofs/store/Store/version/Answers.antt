@@ -1,7 +1,5 @@
-use Rattle.std.proofs.Common.{ap}
-use Rattle.pages.specs.Layout.{pages_for}
 use Rattle.store.specs.Durable.{told_by}
-use Rattle.store.proofs.ArcsKept.{arcs_of_header}
+use Rattle.store.proofs.ArcsKept.{net_of_header, pages_of_header}
 use Rattle.store.proofs.InFlight.{left_always}
 use Rattle.store.proofs.StateKept.{few_pages, durable_of, told_before_commit, stands_as_told}
 use Rattle.store.proofs.store.Store.version.Goals as goal
@@ -12,7 +10,7 @@ returns-clause-honest g c = rw (← c.self.view_is) (λ came. (c.self.invariant.
 pub returns-clause-room : goal.returns-clause-room
 returns-clause-room g c =
     let n = c.self.inside.pages.numbers in
-    rw (← c.self.view_is) (record { version_to = n.version_to; unchecked_to = n.unchecked_to; checkpoint_pages_to = few_pages c.self.inside.pages.header n.header.arcs_to })
+    rw (← c.self.view_is) (record { version_to = n.version_to; unchecked_to = n.unchecked_to; checkpoint_pages_to = few_pages c.self.inside.pages.header n.header.room_to })
 
 pub returns-clause-only : goal.returns-clause-only
 returns-clause-only g c = rw (← c.self.view_is) (λ honest works. (c.self.inside.pages.rests works honest).0)
@@ -22,10 +20,10 @@ returns-clause-stands g c = rw (← c.self.view_is) (λ came works. durable_of c
 
 pub returns-clause-checkpoint_pages : goal.returns-clause-checkpoint_pages
 returns-clause-checkpoint_pages g c =
-    rw (← c.self.view_is) (λ came works. ap (pages_for 1023) (arcs_of_header (g.D.Disk.content c.self.inside.pages.disk) (told_by c.self.inside.pages) ((c.self.invariant.1 came).1 works).1.0))
+    rw (← c.self.view_is) (λ came works. pages_of_header c.self.inside.pages.header c.self.inside.pages.network (net_of_header (g.D.Disk.content c.self.inside.pages.disk) (told_by c.self.inside.pages) ((c.self.invariant.1 came).1 works).1.0))
 
 pub returns-clause-left : goal.returns-clause-left
-returns-clause-left g c = rw (← c.self.view_is) (λ came. let held = c.self.invariant.1 came in left_always c.self.inside.pages c.self.inside.in_flight.commands held.1 held.2)
+returns-clause-left g c = rw (← c.self.view_is) (λ came. let held = c.self.invariant.1 came in left_always c.self.inside.pages c.self.inside.in_flight.groups held.1 held.2)
 
 pub returns-clause-none_in_flight : goal.returns-clause-none_in_flight
 returns-clause-none_in_flight g c = rw (← c.self.view_is) c.self.invariant.0
@@ -33,4 +31,4 @@ returns-clause-none_in_flight g c = rw (← c.self.view_is) c.self.invariant.0
 pub returns-clause-before_commit : goal.returns-clause-before_commit
 returns-clause-before_commit g c = rw (← c.self.view_is) (λ none works.
     let p = c.self.inside.pages in
-    stands_as_told p c.self.inside.given.value c.self.inside.in_flight.commands (g.D.Disk.content p.disk) (told_before_commit c.self.inside.given.value p c.self.invariant.2 none.0 none.1 works))
+    stands_as_told p c.self.inside.given.value c.self.inside.in_flight.groups (g.D.Disk.content p.disk) (told_before_commit c.self.inside.given.value p c.self.invariant.2 none.0 none.1 works))

@@ -1,18 +1,18 @@
-use Rattle.std.proofs.Common.{take}
+use Rattle.std.proofs.Common.{take, arith}
 use Rattle.storetexts.proofs.Meanwhile.{leaves_both}
-use Rattle.storetexts.proofs.Remaining.{on_ok_any, on_ok_too}
+use Rattle.storetexts.proofs.Remaining.{on_ok_any, on_ok_both}
 use Rattle.storetexts.proofs.applying.Applying.run.Goals as goal
 
 pub returns-clause-some : goal.returns-clause-some
 returns-clause-some g c net version have =
     let some = c.in_ok-take_all.ensures.some net version have in
-    record { taken = some.taken; come = c.settle.ensures.come net version (take some.taken c.args.commands.now) some.come }
+    record { taken = some.taken; come = c.settle.ensures.come net version (take some.taken c.args.groups.now) some.come }
 
 pub returns-clause-come : goal.returns-clause-come
-returns-clause-come g c = on_ok_any c.settle.result _ (λ net version have. c.settle.ensures.come net version c.args.commands.now (c.in_ok-take_all.ensures.come net version have))
+returns-clause-come g c = on_ok_any c.settle.result _ (λ net version have. c.settle.ensures.come net version c.args.groups.now (c.in_ok-take_all.ensures.come net version have))
 
 pub returns-clause-all : goal.returns-clause-all
-returns-clause-all g c = on_ok_too c.settle.result _ _ c.settle.ensures.all (λ all net version have. all net version c.args.commands.now (c.in_ok-take_all.ensures.come net version have))
+returns-clause-all g c = on_ok_both c.settle.result _ _ _ c.settle.ensures.done c.settle.ensures.all (λ done all net version have. all (omega (arith, done)) net version c.args.groups.now (c.in_ok-take_all.ensures.come net version have))
 
 pub returns-clause-leaves : goal.returns-clause-leaves
 returns-clause-leaves g c =

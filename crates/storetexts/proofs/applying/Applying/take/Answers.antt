@@ -1,34 +1,45 @@
-use Rattle.std.proofs.Common.{◌≡◌, ◌∙◌, List, [], ◌∷◌, ◌++◌, Ok, Err, take, sym, ap, subst}
+use Rattle.std.proofs.Common.{◌≡◌, ◌∙◌, ◌+◌, ◌≤◌, List, [], ◌∷◌, ◌++◌, length, Ok, Err, take, sym, ap, subst, arith}
 use Rattle.std.proofs.lemmas.List.{take-append-le}
 use Rattle.storetexts.specs.declared.outcomes.Outcome.{Outcome}
 use Rattle.storetexts.specs.Applying.{HaveCome}
-use Rattle.storetexts.proofs.Stepping.{come_submit, steady_submit}
+use Rattle.machine.specs.Machine.{pending}
+use Rattle.keeper.specs.Parts.{ticket_for}
+use Rattle.storetexts.proofs.Stepping.{come_submit, steady_submit, waiting_submit}
 use Rattle.storetexts.proofs.applying.Applying.take.Goals as goal
 use Rattle.storetexts.proofs.applying.Applying.take.Goals.{in-Ok, in-Err}
 
 pub returns-clause-steady : goal.returns-clause-steady
 returns-clause-steady g c =
-    elim c.match-submit.branch [
-      | in-Ok w ↦ steady_submit _ _ c.args.command (Ok w.in-Ok.ticket) w.in-Ok.ensures.step c.requires.steady
-      | in-Err w ↦ steady_submit _ _ c.args.command (Err w.in-Err.refusal) w.in-Err.ensures.step c.requires.steady
+    elim c.match-submit_copy.branch [
+      | in-Ok w ↦ steady_submit _ _ c.args.group.now (ticket_for c.args.group.now (Ok w.in-Ok.number)) w.in-Ok.ensures.step c.requires.steady
+      | in-Err w ↦ steady_submit _ _ c.args.group.now (ticket_for c.args.group.now (Err w.in-Err.refusal)) w.in-Err.ensures.step c.requires.steady
     ]
 
 pub returns-clause-come : goal.returns-clause-come
-returns-clause-come g c net version commands have =
+returns-clause-come g c net version groups have =
     let items = c.args.self.now.outcomes.items in
     let told = c.args.self.now.told in
-    let pushed : c.push_reserved.new.self.items ≡ items ++ c.match-submit.outcome ∷ [] = c.push_reserved.ensures.items in
-    elim c.match-submit.branch [
+    let most : length c.args.group.now ≤ 253 = c.commands-size.ensures.group.1 in
+    let few : pending c.args.self.now.ledger.machine + length c.args.group.now ≤ 4096 = omega (arith, most, c.requires.few) in
+    let pushed : c.push_reserved.new.self.items ≡ items ++ c.match-submit_copy.outcome ∷ [] = c.push_reserved.ensures.items in
+    elim c.match-submit_copy.branch [
       | in-Ok w ↦
-          subst (λ (l : List Outcome). HaveCome net version (commands ++ c.args.command ∷ []) l told c.submit.new.self.machine) (sym (pushed ∙ ap (λ (o : Outcome). items ++ o ∷ []) w.outcome-is))
-          (come_submit net version told commands items _ c.submit.new.self.machine c.args.command (Ok w.in-Ok.ticket) c.requires.steady c.requires.calm c.requires.few w.in-Ok.ensures.step have)
+          subst (λ (l : List Outcome). HaveCome net version (groups ++ c.args.group.now ∷ []) l told c.submit_copy.new.self.machine) (sym (pushed ∙ ap (λ (o : Outcome). items ++ o ∷ []) w.outcome-is))
+          (come_submit net version told groups items _ c.submit_copy.new.self.machine c.args.group.now (ticket_for c.args.group.now (Ok w.in-Ok.number)) c.requires.steady c.requires.calm few w.in-Ok.ensures.step have)
       | in-Err w ↦
-          subst (λ (l : List Outcome). HaveCome net version (commands ++ c.args.command ∷ []) l told c.submit.new.self.machine) (sym (pushed ∙ ap (λ (o : Outcome). items ++ o ∷ []) w.outcome-is))
-          (come_submit net version told commands items _ c.submit.new.self.machine c.args.command (Err w.in-Err.refusal) c.requires.steady c.requires.calm c.requires.few w.in-Err.ensures.step have)
+          subst (λ (l : List Outcome). HaveCome net version (groups ++ c.args.group.now ∷ []) l told c.submit_copy.new.self.machine) (sym (pushed ∙ ap (λ (o : Outcome). items ++ o ∷ []) w.outcome-is))
+          (come_submit net version told groups items _ c.submit_copy.new.self.machine c.args.group.now (ticket_for c.args.group.now (Err w.in-Err.refusal)) c.requires.steady c.requires.calm few w.in-Err.ensures.step have)
     ]
 
 pub returns-clause-first : goal.returns-clause-first
 returns-clause-first g c within =
     let items = c.args.self.now.outcomes.items in
-    let pushed : c.push_reserved.new.self.items ≡ items ++ c.match-submit.outcome ∷ [] = c.push_reserved.ensures.items in
-    ap (take c.args.self.now.told) pushed ∙ take-append-le c.args.self.now.told items (c.match-submit.outcome ∷ []) within
+    let pushed : c.push_reserved.new.self.items ≡ items ++ c.match-submit_copy.outcome ∷ [] = c.push_reserved.ensures.items in
+    ap (take c.args.self.now.told) pushed ∙ take-append-le c.args.self.now.told items (c.match-submit_copy.outcome ∷ []) within
+
+pub returns-clause-waiting : goal.returns-clause-waiting
+returns-clause-waiting g c =
+    elim c.match-submit_copy.branch [
+      | in-Ok w ↦ waiting_submit _ _ c.args.group.now (ticket_for c.args.group.now (Ok w.in-Ok.number)) c.requires.steady.state c.commands-size.ensures.group c.requires.few w.in-Ok.ensures.step
+      | in-Err w ↦ waiting_submit _ _ c.args.group.now (ticket_for c.args.group.now (Err w.in-Err.refusal)) c.requires.steady.state c.commands-size.ensures.group c.requires.few w.in-Err.ensures.step
+    ]

@@ -1,5 +1,7 @@
-use Rattle.std.proofs.Common.{◌∙◌, ◌+◌, ◌<◌, length, Err, arith}
+use Rattle.std.proofs.Common.{◌∙◌, ◌+◌, ◌<◌, [], ◌∷◌, ◌++◌, length, take, subst, Err, arith}
 use Rattle.std.proofs.lemmas.Result.{err_from_is_err_and}
+use Rattle.roadnet.specs.declared.groups.Group.{Group}
+use Rattle.storetexts.specs.Applying.{HaveCome}
 use Rattle.storetexts.proofs.Meanwhile.{grows_both, leaves_both, counts_from}
 use Rattle.storetexts.proofs.Remaining.{come_next, come_end}
 use Rattle.storetexts.proofs.applying.Applying.take_all.Goals as goal
@@ -7,14 +9,21 @@ use Rattle.storetexts.proofs.applying.Applying.take_all.Goals as goal
 pub returns-in_err-advance-clause-some : goal.returns-in_err-advance-clause-some
 returns-in_err-advance-clause-some g c net version have =
     let i = c.loop-index.index in
-    let lt : i < length c.args.commands.now = c.loop-index-test.true in
-    record { taken = i + 1; come = come_next net version c.args.commands.now i _ _ _ _ lt (c.advance.ensures.come net version _ (c.loop-index.invariant.come net version have)) }
+    let lt : i < length c.args.groups.now = c.loop-index-test.true in
+    let new = c.advance.new.self in
+    record {
+      taken = i + 1;
+      come = come_next net version c.args.groups.now i c.index-groups-index.result new.outcomes.items new.told new.ledger.machine lt
+          (subst (λ (x : Group). HaveCome net version (take i c.args.groups.now ++ x ∷ []) new.outcomes.items new.told new.ledger.machine) c.index-groups-index.is
+          (c.advance.ensures.come net version (take i c.args.groups.now) (c.loop-index.invariant.come net version have)));
+    }
 
 pub loop-index-preserved : goal.loop-index-preserved
 loop-index-preserved g c =
     let i = c.loop-index.index in
-    let lt : i < length c.args.commands.now = c.loop-index-test.true in
+    let lt : i < length c.args.groups.now = c.loop-index-test.true in
     let before = c.loop-index.invariant in
+    let new = c.advance.new.self in
     record {
       steady = c.in_ok-advance.ensures.steady;
       calm = c.in_ok-advance.ensures.calm;
@@ -22,7 +31,10 @@ loop-index-preserved g c =
       told_to = c.in_ok-advance.ensures.told_to;
       noted = omega (arith, c.in_ok-advance.ensures.noted, before.noted);
       room = c.in_ok-advance.ensures.room ∙ before.room;
-      come = λ net version have. come_next net version c.args.commands.now i _ _ _ _ lt (c.in_ok-advance.ensures.come net version _ (before.come net version have));
+      come = λ net version have.
+          come_next net version c.args.groups.now i c.index-groups-index.result new.outcomes.items new.told new.ledger.machine lt
+          (subst (λ (x : Group). HaveCome net version (take i c.args.groups.now ++ x ∷ []) new.outcomes.items new.told new.ledger.machine) c.index-groups-index.is
+          (c.in_ok-advance.ensures.come net version (take i c.args.groups.now) (before.come net version have)));
       lines = c.in_ok-advance.ensures.lines _ before.lines;
       counts = c.in_ok-advance.ensures.writes ∙ before.counts;
       same = c.in_ok-advance.ensures.same ∙ before.same;
@@ -38,7 +50,7 @@ pub returns-clause-some : goal.returns-clause-some
 returns-clause-some g c net version have = record { taken = c.loop-index.index; come = c.loop-index.invariant.come net version have }
 
 pub returns-clause-come : goal.returns-clause-come
-returns-clause-come g c net version have = come_end net version c.args.commands.now c.loop-index.index _ _ _ c.loop-index-test.false (c.loop-index.invariant.come net version have)
+returns-clause-come g c net version have = come_end net version c.args.groups.now c.loop-index.index _ _ _ c.loop-index-test.false (c.loop-index.invariant.come net version have)
 
 pub returns-in_err-advance-clause-counted : goal.returns-in_err-advance-clause-counted
 returns-in_err-advance-clause-counted g c =

@@ -14,7 +14,7 @@ invariant-loop-index g l = record {
   told_to : l.self.told ≤ length l.self.outcomes.items;
   noted : length l.self.outcomes.items ≡ l.index;
   room : vec_capacity l.self.outcomes ≡ vec_capacity l.initial.self.outcomes;
-  come : (net : Net) (version : ℕ) → HaveCome net version [] [] 0 l.initial.self.ledger.machine → HaveCome net version (take l.index l.commands) l.self.outcomes.items l.self.told l.self.ledger.machine;
+  come : (net : Net) (version : ℕ) → HaveCome net version [] [] 0 l.initial.self.ledger.machine → HaveCome net version (take l.index l.groups) l.self.outcomes.items l.self.told l.self.ledger.machine;
   lines : AreTold (g.W.Write.contents (writer_of l.initial.out)) (g.W.Write.contents (writer_of l.out)) l.self.outcomes.items l.self.told;
   counts : failed_writes l.out ≡ failed_writes l.initial.out;
   same : IsSameWriter l.initial.out l.out;

@@ -1,0 +1,105 @@
+ghost use Rattle.std.specs.Prelude.{◌≡◌, ◌+◌, ◌-◌, ◌*◌, ◌<◌, ◌≤◌, ◌↔◌, ◌++◌, Ok, length, map, min, take, drop, IfErr, OnOk};
+ghost use Rattle.std.specs.List.{AllByRecursion};
+ghost use Rattle.disk.specs.Moments.{StaysSame};
+ghost use Rattle.pages.specs.Spelling.{IsHeader, IsEnds, ends_of, word_of};
+ghost use Rattle.pages.specs.Layout.{EndsOf, page_number, page_count, end_pages, places_in_use};
+ghost use Rattle.storefile.specs.StoreFile.{page};
+ghost use Rattle.storefile.specs.Judging.{spelled_at, arcs_in, laid_from};
+ghost use Rattle.pagereader.specs.Runs.{IsRunOf};
+ghost use Rattle.pagereader.specs.Outcomes.{failures_told, IsQuiet, MayLack, MayRefuse, MayEndOpening};
+ghost use Rattle.checkpoint.specs.Loading.{EndsArePut};
+
+use disk::Disk;
+use pagereader::PageReader;
+use pages::{ARCS_A_PAGE, Ends, Header, PAGE_SIZE, Slot, decode_arc_page};
+use roadnet::{Refusal, RoadArc};
+use std::alloc::Global;
+
+/// Gives the arcs of a store that its arc pages don't have the ends that a slot's end pages spell. The first page that isn't spelled
+/// rightly is damaged. On the disk nothing is changed.
+pub fn read_laid<D: Disk>(
+    alloc: Global,
+    disk: &mut D,
+    header: &Header,
+    slot: Slot,
+    reader: &mut PageReader,
+    arcs: &mut [RoadArc],
+) -> Result<(), Refusal>
+    requires header { IsHeader header.now }
+    requires whole { D.honest disk.old → length (D.content disk.old) ≡ 4096 * page_count header.now }
+    requires run { D.honest disk.old → IsRunOf (D.content disk.old) reader.old }
+    requires from { header.now.arcs ≤ length arcs.old }
+    requires count { length arcs.old ≤ header.now.room }
+    requires ends { AllByRecursion (IsEnds header.now.nodes) (map ends_of (take header.now.arcs arcs.old)) }
+    ensures spelled { D.honest disk.old → OnOk result (laid_from (page (D.content disk.old)) header.now slot (length arcs.old) ≡ Ok (map ends_of (drop header.now.arcs arcs.new))) }
+    ensures fits { OnOk result (AllByRecursion (IsEnds header.now.nodes) (map ends_of arcs.new)) }
+    ensures first { map ends_of (take header.now.arcs arcs.new) ≡ map ends_of (take header.now.arcs arcs.old) }
+    ensures words { map word_of arcs.new ≡ map word_of arcs.old }
+    ensures count { length arcs.new ≡ length arcs.old }
+    ensures refused { D.honest disk.old → IfErr result (λ refusal. MayRefuse (laid_from (page (D.content disk.old)) header.now slot (length arcs.old)) refusal) }
+    ensures run { D.honest disk.old → IsRunOf (D.content disk.old) reader.new }
+    ensures causes { IfErr result MayEndOpening }
+    ensures same { D.honest disk.old → StaysSame D.content D.left D.moment D.left_since disk.old disk.new }
+    ensures counted { D.failures disk.new ≡ failures_told result (D.failures disk.old) }
+    ensures honest { D.honest disk.new ↔ D.honest disk.old }
+{
+    let mut page = [0; PAGE_SIZE];
+    let end = header.head_page(slot) + 1 + header.slot_pages();
+    for i in 0..header.end_pages() {
+        let Ok(()) = reader.read(disk, header.end_page(slot, i), end, &mut page) else {
+            return Err(Refusal::Device);
+        };
+        take_page(alloc, &page, header, slot, i, arcs)?;
+    }
+    Ok(())
+}
+
+// Puts the ends of the i-th end page of a slot.
+fn take_page(
+    alloc: Global,
+    page: &[u8; PAGE_SIZE],
+    header: &Header,
+    slot: Slot,
+    i: u64,
+    arcs: &mut [RoadArc],
+) -> Result<(), Refusal>
+    requires within { i < end_pages header.now }
+    requires header { IsHeader header.now }
+    requires from { header.now.arcs ≤ length arcs.old }
+    requires count { length arcs.old ≤ header.now.room }
+    ensures count { length arcs.new ≡ length arcs.old }
+    ensures first { map ends_of (take header.now.arcs arcs.new) ≡ map ends_of (take header.now.arcs arcs.old) }
+    ensures words { map word_of arcs.new ≡ map word_of arcs.old }
+    ensures spelled { OnOk result (EndsArePut (spelled_at (page_number header.now (EndsOf slot i)) (arcs_in header.now.nodes (places_in_use 511 i (length arcs.old - header.now.arcs)) page.now)) (take (min (511 * i) (length arcs.old - header.now.arcs)) (drop header.now.arcs arcs.old)) (take (min (511 * (i + 1)) (length arcs.old - header.now.arcs)) (drop header.now.arcs arcs.new))) }
+    ensures refused { IfErr result (λ refusal. MayLack (spelled_at (page_number header.now (EndsOf slot i)) (arcs_in header.now.nodes (places_in_use 511 i (length arcs.old - header.now.arcs)) page.now)) refusal) }
+    ensures causes { IfErr result MayEndOpening }
+    ensures quiet { IsQuiet result }
+{
+    let count = header.ends_on_page(i, arcs.len() as u32);
+    let Ok(found) = decode_arc_page(alloc, page, header.nodes, count) else {
+        return Err(Refusal::OutOfMemory);
+    };
+    let Some(spelled) = found else {
+        return Err(Refusal::Damaged {
+            page: header.end_page(slot, i),
+        });
+    };
+    let laid = arcs.len() - header.arcs as usize;
+    let first = header.arcs as usize + (ARCS_A_PAGE * i as usize).min(laid);
+    put_ends(spelled.ends(), first, arcs);
+    Ok(())
+}
+
+// Puts these ends, one pair an arc, from the arc at this place on.
+fn put_ends(ends: &[Ends], first: usize, arcs: &mut [RoadArc])
+    requires { first + length ends.now ≤ length arcs.old }
+    ensures ends { map ends_of (take (first + length ends.now) arcs.new) ≡ map ends_of (take first arcs.old) ++ ends.now }
+    ensures words { map word_of arcs.new ≡ map word_of arcs.old }
+    ensures count { length arcs.new ≡ length arcs.old }
+{
+    for (i, e) in ends.iter().enumerate() {
+        let arc = &mut arcs[first + i];
+        arc.tail = e.tail;
+        arc.head = e.head;
+    }
+}

@@ -1,0 +1,135 @@
+//! The front of a line, kept while its end isn't read.
+ghost use Rattle.std.specs.Prelude.{◌≡◌, ◌+◌, ◌*◌, ◌<◌, ◌≤◌, ◌++◌, ◌∷◌, length, IfErr, OnOk, MatchBool, [], true};
+
+use crate::fault::Code;
+use crate::line::{ends_in_blank, without_carriage_return};
+use crate::taking::{TakeLines, take_or_run};
+use std::alloc::Global;
+
+/// What is kept of the front of a line. All of it is looked at when it is twice as much as at the last look, and once more where the line
+/// ends, when it is dropped: so its bytes are looked at three times at most, taken together.
+#[derive(Drop)]
+pub(crate) struct Front {
+    bytes: Vec<u8>,
+    /// How many bytes were kept at the last look.
+    judged: usize,
+    /// How many bytes all looks saw.
+    looked: usize,
+    ghost within: { judged ≤ length bytes.items },
+    ghost linear: { looked ≤ 2 * judged },
+}
+
+impl Front {
+    ghost use Rattle.std.specs.Prelude.{◌≢◌, List};
+    ghost use Rattle.std.specs.Io.BufRead.{strip_last};
+    ghost use Rattle.dimacs.specs.Lines.{fields};
+    ghost use Rattle.dimacs.specs.Faults.{Row};
+    ghost use Rattle.dimacs.specs.Overflow.{EndsInBlank};
+    ghost use Rattle.dimacs.specs.Progress.{TakesOrRuns};
+
+    /// Nothing is kept.
+    pub(crate) fn new(alloc: Global) -> Front
+        ensures { result.bytes.items ≡ [] }
+    {
+        Front {
+            bytes: Vec::new(alloc),
+            judged: 0,
+            looked: 0,
+        }
+    }
+
+    pub(crate) fn is_empty(&self) -> bool
+        ensures yes { result ≡ true → length self.now.bytes.items ≡ 0 }
+        ensures no { length self.now.bytes.items ≡ 0 → result ≡ true }
+    {
+        self.bytes.is_empty()
+    }
+
+    /// Whether this byte alone is kept.
+    pub(crate) fn is_byte(&self, byte: u8) -> bool
+        ensures yes { result ≡ true → self.now.bytes.items ≡ byte ∷ [] }
+        ensures no { self.now.bytes.items ≡ byte ∷ [] → result ≡ true }
+    {
+        match self.bytes.as_slice() {
+            [first] => *first == byte,
+            _ => false,
+        }
+    }
+
+    /// Whether the last byte is a blank.
+    pub(crate) fn ends_in_blank(&self) -> bool
+        ensures { result ≡ true → EndsInBlank self.now.bytes.items }
+    {
+        ends_in_blank(&self.bytes)
+    }
+
+    /// Keeps these bytes too.
+    pub(crate) fn append(&mut self, bytes: &[u8]) -> Result<(), Code>
+        ensures kept { OnOk result (self.new.bytes.items ≡ self.old.bytes.items ++ bytes.now) }
+        ensures refused { IfErr result (λ code. code ≡ Code.OutOfMemory) }
+        ensures judged { self.new.judged ≡ self.old.judged }
+        ensures looked { self.new.looked ≡ self.old.looked }
+    {
+        match self.bytes.extend_from_slice(bytes) {
+            Ok(()) => Ok(()),
+            Err(_) => Err(Code::OutOfMemory),
+        }
+    }
+
+    /// Keeps nothing.
+    pub(crate) fn clear(&mut self)
+        ensures { self.new.bytes.items ≡ [] }
+    {
+        self.bytes.clear();
+        self.judged = 0;
+        self.looked = 0;
+    }
+
+    /// Whether what is kept is twice as much as at the last look. Then it counts as looked at.
+    pub(crate) fn is_due(&mut self) -> bool
+        ensures kept { self.new.bytes.items ≡ self.old.bytes.items }
+        ensures due { MatchBool result
+            ((2 * self.old.judged ≤ length self.old.bytes.items)
+            × (self.new.judged ≡ length self.old.bytes.items) × (self.new.looked ≡ self.old.looked + length self.old.bytes.items))
+            ((length self.old.bytes.items < 2 * self.old.judged)
+            × (self.new.judged ≡ self.old.judged) × (self.new.looked ≡ self.old.looked)) }
+    {
+        let length = self.bytes.len();
+        if length / 2 < self.judged {
+            return false;
+        }
+        self.judged = length;
+        self.looked += length;
+        true
+    }
+
+    /// All that is kept, which counts as looked at.
+    pub(crate) fn seen(&self) -> &[u8]
+        requires { self.now.judged ≡ length self.now.bytes.items }
+        ensures { result.now ≡ self.now.bytes.items }
+    {
+        self.bytes.as_slice()
+    }
+
+    /// Takes the line that begins with what is kept and ends with this piece, of which nothing is kept then.
+    pub(crate) fn take_whole<T: TakeLines>(
+        &mut self,
+        taker: &mut T,
+        until_run: bool,
+        piece: &[u8],
+    ) -> Result<bool, Code>
+        ensures reads_nothing { IfErr result (λ code. code ≢ Code.Read) }
+        ensures empty { OnOk result (self.new.bytes.items ≡ []) }
+        ensures taken { (earlier : List Row) → T.has_taken earlier taker.old
+            → TakesOrRuns T.judge T.has_taken until_run earlier
+            (fields (strip_last 13 (self.old.bytes.items ++ piece.now))) taker.new result }
+    {
+        if self.bytes.is_empty() {
+            return take_or_run(taker, until_run, without_carriage_return(piece));
+        }
+        self.append(piece)?;
+        let at_run = take_or_run(taker, until_run, without_carriage_return(&self.bytes))?;
+        self.clear();
+        Ok(at_run)
+    }
+}

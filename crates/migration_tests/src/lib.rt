@@ -1,0 +1,16 @@
+//! Tests of stores that are made from stores of format 1, by the public call: what is made, what is refused and in which order, calls of either disk that
+//! fail, stops, and growths that are refused.
+#![tactic(auto)]
+
+#[cfg(test)]
+mod failing;
+#[cfg(test)]
+mod memory;
+#[cfg(test)]
+mod migrating;
+#[cfg(test)]
+mod old;
+#[cfg(test)]
+mod refusing;
+#[cfg(test)]
+mod worked;

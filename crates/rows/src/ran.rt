@@ -1,0 +1,36 @@
+//! What ran, and tells how.
+ghost use Rattle.std.specs.Prelude.{◌≡◌, ℕ, Option, None};
+ghost use Rattle.rows.specs.Kept.{given_width};
+
+use crate::searches::Searches;
+
+/// What made rows, or came of it, and tells how they were made. Who tells it by one has it from what ran, and not from a number.
+pub trait Ran {
+    /// The width of the buckets that was given, if one was.
+    ghost width_given: { Self → Option ℕ };
+
+    /// How many row workers were asked for, where the rows are shared out.
+    ghost workers_given: { Self → Option ℕ };
+
+    /// The width of the buckets of its searches that was given, if one was: else they have the network's default.
+    fn width(&self) -> Option<u32>
+        ensures { result ≡ width_given self.now };
+
+    /// How many row workers share its rows out, where they do.
+    fn workers(&self) -> Option<u32>
+        ensures { result ≡ workers_given self.now };
+}
+
+impl Ran for Searches {
+    ghost width_given = { λ searches. given_width searches };
+
+    ghost workers_given = { λ searches. None };
+
+    fn width(&self) -> Option<u32> {
+        self.delta()
+    }
+
+    fn workers(&self) -> Option<u32> {
+        None
+    }
+}

@@ -1,0 +1,25 @@
+use Rattle.sessions.proofs.drafts.Draft.with.Goals as goal
+
+pub returns-in-Ignored : goal.returns-in-Ignored
+returns-in-Ignored c draft is = rw c.in-Ignored.is is
+
+pub returns-in-Command : goal.returns-in-Command
+returns-in-Command c draft is = rw c.in-Command.is (c.and.ensures draft is)
+
+pub returns-in-Refused : goal.returns-in-Refused
+returns-in-Refused c draft is = rw c.in-Refused.is (c.faulty.ensures draft is)
+
+pub returns-in-Query : goal.returns-in-Query
+returns-in-Query c draft is = rw c.in-Query.is (c.faulty-in-Query.ensures draft is)
+
+pub returns-in-Wait : goal.returns-in-Wait
+returns-in-Wait c draft is = rw c.in-Wait.is (c.faulty-in-Wait.ensures draft is)
+
+pub returns-in-Quit : goal.returns-in-Quit
+returns-in-Quit c draft is = rw c.in-Quit.is (c.faulty-in-Quit.ensures draft is)
+
+pub returns-in-Begin : goal.returns-in-Begin
+returns-in-Begin c draft is = rw c.in-Begin.is (c.faulty-in-Begin.ensures draft is)
+
+pub returns-in-End : goal.returns-in-End
+returns-in-End c draft is = rw c.in-End.is (c.faulty-in-End.ensures draft is)

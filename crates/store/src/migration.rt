@@ -1,0 +1,98 @@
+// A store made from one of the format before.
+ghost use Rattle.std.specs.Prelude.{◌≡◌, ◌≢◌, ◌⊎◌, ◌↔◌, List, ℕ, [], false, None, IfOk, IfErr, MatchResult, length};
+ghost use Rattle.roadnet.specs.declared.refusals.Refusal.TheVariants.{Device as device};
+ghost use Rattle.disk.specs.Contents.{Only, Rose};
+ghost use Rattle.disk.specs.Moments.{StaysSame};
+ghost use Rattle.pages.specs.declared.content.Format.TheVariants.{One as one};
+ghost use Rattle.pages.specs.declared.content.Slot.TheVariants.{A as slot_a};
+ghost use Rattle.storefile.specs.StoreFile.{StandsTidyFor};
+ghost use Rattle.store.specs.State.{checkpoint_pages_of, IsTidy, StandsAs, told};
+ghost use Rattle.store.specs.Migrating.{IsMigrated, MayEndMigrating, MayRefuseToMigrate};
+
+use crate::creation::create_paged;
+use crate::in_flight::InFlight;
+use crate::opening::{Found, find_in};
+use crate::store::Store;
+use disk::{Disk, length_of};
+use pages::Format;
+use roadnet::Refusal;
+use std::alloc::Global;
+use std::snapshot::Snapshot;
+
+/// Makes a store, on the empty disk `new`, of the network for which the store of format 1 on the disk `old` stands, at its version and with its
+/// journal pages, and with room for so many arcs; where no room is given, for those that there are.
+///
+/// Refused, the first that holds, is a new disk that is not empty (46); what opening refuses of the old store, where each format but 1
+/// is another one (40, 41, 42); a room below the number of arcs or above 67,108,864 (9); then want of memory (11). 43 comes at each call of
+/// either disk. The new disk is handed back then. The old one is read alone: its content stays, and what a stop may leave of it.
+///
+/// It takes the memory of opening the old store, a copy of its network, and 64 pages.
+pub fn migrate<O: Disk, D: Disk>(
+    alloc: Global,
+    old: &mut O,
+    new: D,
+    room: Option<u64>,
+) -> Result<Store<D>, (Refusal, D)>
+    // The old content stands, in format 1, for the network at this version, but for its room; each content that a stop may leave of the new
+    // disk stands, tidy, for the network with its room at that version.
+    ensures migrated { O.honest old.old → IfOk result (λ store. IsMigrated (O.content old.old) store.network store.version store.journal_pages room) }
+    ensures stands { D.honest new → IfOk result (λ store. StandsTidyFor store.journal_pages store.checkpoint_pages (D.content store.disk) store.network store.version) }
+    ensures only { D.honest new → IfOk result (λ store. Only (D.content store.disk) (D.left store.disk)) }
+    ensures left { D.honest new → IfOk result (λ store. (c : List ℕ) → D.left store.disk c → StandsTidyFor store.journal_pages store.checkpoint_pages c store.network store.version) }
+    ensures tidy { D.honest new → IfOk result (λ store. IsTidy (D.content store.disk)) }
+    ensures told { D.honest new → IfOk result (λ store. StandsAs (D.content store.disk) (told store)) }
+    ensures checkpoint_pages { IfOk result (λ store. store.checkpoint_pages ≡ checkpoint_pages_of (length store.network.arcs) store.network) }
+    ensures unchecked { IfOk result (λ store. store.unchecked ≡ 0) }
+    ensures slot { IfOk result (λ store. (store.slot ≡ slot_a) × (store.epoch ≡ 1)) }
+    ensures works { IfOk result (λ store. store.broken ≡ false) }
+    ensures none_going { IfOk result (λ store. store.going ≡ None) }
+    ensures none_in_flight { IfOk result (λ store. store.in_flight ≡ []) }
+    ensures given { IfOk result (λ store. store.given ≡ store.disk) }
+    ensures refused { O.honest old.old → D.honest new → IfErr result (λ refused. MayRefuseToMigrate (D.content new) (O.content old.old) room refused.0) }
+    ensures causes { IfErr result (λ refused. MayEndMigrating refused.0) }
+    // Where 43 is told, a disk failed in this call; and else none did.
+    ensures failed { IfErr result (λ refused. refused.0 ≡ device → Rose (O.failures old.old) (O.failures old.new) ⊎ Rose (D.failures new) (D.failures refused.1)) }
+    ensures counted { MatchResult result (λ store. (O.failures old.new ≡ O.failures old.old) × (D.failures store.disk ≡ D.failures new)) (λ refused. refused.0 ≢ device → (O.failures old.new ≡ O.failures old.old) × (D.failures refused.1 ≡ D.failures new)) }
+    // The old store is untouched; at each refusal but 43 the new disk is too.
+    ensures untouched { O.honest old.old → StaysSame O.content O.left O.moment O.left_since old.old old.new }
+    ensures same { D.honest new → IfErr result (λ refused. refused.0 ≢ device → StaysSame D.content D.left D.moment D.left_since new refused.1) }
+    ensures honest { O.honest old.new ↔ O.honest old.old }
+    ensures honest_new { (IfOk result (λ store. D.honest store.disk ↔ D.honest new)) × (IfErr result (λ refused. D.honest refused.1 ↔ D.honest new)) }
+{
+    let mut new = new;
+    let Ok(length) = length_of(&mut new) else {
+        return Err((Refusal::Device, new));
+    };
+    if length != 0 {
+        return Err((Refusal::NotEmpty, new));
+    }
+    let found = match find_in(alloc, old, Format::One) {
+        Ok(found) => found,
+        Err(refusal) => return Err((refusal, new)),
+    };
+    let Found {
+        header,
+        slot: _,
+        epoch: _,
+        network,
+        version,
+        next_sequence: _,
+        unchecked: _,
+    } = found;
+    let room = match room {
+        Some(room) => room,
+        None => u64::from(network.room()),
+    };
+    let network = match network.with_room(room) {
+        Ok(network) => network,
+        Err((refusal, _)) => return Err((refusal, new)),
+    };
+    let pages = create_paged(alloc, new, &network, version, header.journal_pages)?;
+    let given = Snapshot::of(&pages.disk);
+    let in_flight = InFlight::none();
+    Ok(Store {
+        pages,
+        given,
+        in_flight,
+    })
+}

@@ -1,6 +1,6 @@
 #!/usr/bin/env bash
 # Runs every tour of README.md, docs/PROGRAM.md and the man page with the built program, and compares what is printed with what stands there.
-#   examples/tour.sh [PROGRAM]
+#   tools/tour.sh [PROGRAM]
 # A tour is a code block, four blanks wide, whose first line begins with `$ `. Such a line is run, and the lines after it are what it prints on both streams. Each heading
 # `## ` begins in a new folder with the examples and the program as ./roadmark. Then the words and options of help are compared with those of the man page.
 set -u
@@ -57,6 +57,6 @@ for folder in "$work"/*/; do
 done
 echo "$steps commands of the tours, $wrong with another output"
 
-"$top/docs/compare_help.sh" "$program" || wrong=$((wrong + 1))
-"$top/docs/compare_clauses.py" || wrong=$((wrong + 1))
+"$top/tools/compare_help.sh" "$program" || wrong=$((wrong + 1))
+"$top/tools/compare_clauses.py" || wrong=$((wrong + 1))
 [ "$wrong" = 0 ]

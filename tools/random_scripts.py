@@ -2,7 +2,7 @@
 """Runs random scripts by `rehearse`, and compares each line that the program prints with a model of it: a second store, with the format
 of docs/STORE_FORMAT.md and the disk of docs/DISK.md, whose pages are bytes on a disk that can be stopped, and whose distances are found by another search.
 
-    examples/random_scripts.py [COUNT [SEED [PROGRAM]]]
+    tools/random_scripts.py [COUNT [SEED [PROGRAM]]]
 
 runs COUNT scripts (1,000) from SEED (1) on. Needs the built program: crates/roadmark/out/roadmark, or the path that is given."""
 import heapq, os, random, struct, subprocess, sys, tempfile

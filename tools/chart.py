@@ -1,12 +1,12 @@
 #!/usr/bin/env python3
 """Draws docs/speed.svg from docs/speed.table: a line for each peer on each network, ours to the peer's on a logarithmic scale.
 
-    docs/chart.py
+    tools/chart.py
 """
 import math
 import pathlib
 
-FOLDER = pathlib.Path(__file__).resolve().parent
+FOLDER = pathlib.Path(__file__).resolve().parent.parent / "docs"
 LEFT, WIDTH, TOP, LINE = 290, 540, 70, 18
 NAMES = 190
 LEAST, MOST = 0.1, 10.0

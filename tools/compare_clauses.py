@@ -1,7 +1,7 @@
 #!/usr/bin/env python3
 """Holds the calls and clauses that docs/PROMISES.md and README.md name against the contracts in crates/*/src.
 
-    docs/compare_clauses.py
+    tools/compare_clauses.py
 """
 import pathlib
 import re

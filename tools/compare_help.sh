@@ -1,6 +1,6 @@
 #!/usr/bin/env bash
 # Holds the words, their arguments and their options that the program's help names against those of the man page, and sees that each help has an example.
-#   docs/compare_help.sh [PROGRAM]
+#   tools/compare_help.sh [PROGRAM]
 set -u
 top=$(cd "$(dirname "${BASH_SOURCE[0]}")/.." && pwd)
 program=$(realpath "${1:-$top/crates/roadmark/out/roadmark}")

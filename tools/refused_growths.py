@@ -195,7 +195,7 @@ def main():
                 growth += 1
                 told = f"{room}/told"
                 where = dict(os.environ, LD_PRELOAD=f"{room}/refusing.so", REFUSED_GROWTH=str(growth), REFUSED_TOLD=told)
-                words = [program, "rehearse", f"{HERE}/six.gr", f"{room}/script", "--journal", str(pages)]
+                words = [program, "rehearse", os.path.join(HERE, "../examples/six.gr"), f"{room}/script", "--journal", str(pages)]
                 run = subprocess.run(words, env=where, capture_output=True, text=True, timeout=60)
                 is_met = os.path.exists(told)
                 if is_met:

@@ -59,4 +59,5 @@ echo "$steps commands of the tours, $wrong with another output"
 
 "$top/tools/compare_help.sh" "$program" || wrong=$((wrong + 1))
 "$top/tools/compare_clauses.py" || wrong=$((wrong + 1))
+"$top/tools/compare_quotations.py" || wrong=$((wrong + 1))
 [ "$wrong" = 0 ]

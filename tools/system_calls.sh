@@ -1,9 +1,9 @@
 #!/usr/bin/env bash
 # Shows that the calls which crates/filedisk/src/system.rt notes are the ones that reach the system: runs a test over a real file, built by
-# `rt test` in crates/filedisk, under strace, and holds its calls against those that the test makes. Needs strace.
+# `rt test` in crates/filedisk_tests, under strace, and holds its calls against those that the test makes. Needs strace.
 set -eu
 top=$(cd "$(dirname "${BASH_SOURCE[0]}")/.." && pwd)
-test=$top/crates/filedisk/out/filedisk_tests
+test=$top/crates/filedisk_tests/out/filedisk_tests_tests
 wanted=$(mktemp)
 seen=$(mktemp)
 trap 'rm -f "$wanted" "$seen"' EXIT
@@ -33,7 +33,7 @@ ftruncate(3, 4294967310) = 0
 CALLS
 
 # the loader's own reads come before the lock
-strace -f -e trace=flock,fsync,fdatasync,ftruncate,pread64,pwrite64 "$test" tests::offsets_of_a_real_file 2>&1 |
+strace -f -e trace=flock,fsync,fdatasync,ftruncate,pread64,pwrite64 "$test" real_files::offsets_of_a_real_file 2>&1 |
     sed -n '/^flock/,$p' | grep '^[a-z0-9]*(' | sed 's/) *= /) = /' > "$seen"
 
 if diff "$wanted" "$seen"; then

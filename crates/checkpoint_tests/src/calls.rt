@@ -1,11 +1,10 @@
 // Which writes and syncs each call of a store makes, and in which order, by the record of a disk in memory.
-use crate::worked::{created, opened};
 use disk::{MemDisk, Pick, Recorded, Stoppable};
 use fixtures::arc;
 use roadnet::{Command, Network, Refusal};
 use std::alloc::Global;
-use std::test::Fail;
 use store::{Store, inspect};
+use store_fixtures::{created, opened};
 
 // A write of so many whole pages from one on, of a page's bytes before its gate, or of its gate; or a sync.
 #[derive(Clone, Copy)]
@@ -450,70 +449,84 @@ const ROWS: [Row; 26] = [
     },
 ];
 
+// Opens the store on this disk, does these works and closes it.
+fn worked_on(alloc: Global, disk: MemDisk, works: &[Work]) -> Result<MemDisk, Refusal> {
+    let mut store = opened(alloc, disk)?;
+    work_on(&mut store, works)?;
+    Ok(store.close())
+}
+
+// The disk of a new store of a row, once it was worked on. All of it is synced: a stop changes nothing, and the record begins anew.
+fn begun(alloc: Global, row: &Row) -> Result<MemDisk, Refusal> {
+    let network = parallel(alloc, row.arcs, row.room)?;
+    let mut disk = worked_on(alloc, created(alloc, &network, 2)?, row.before)?;
+    let _ = disk.stop(&[Pick::Old]);
+    Ok(disk)
+}
+
 // The number of the first call of a row that is made otherwise.
 fn first_wrong(alloc: Global, row: &Row) -> Result<Option<usize>, Refusal> {
-    let network = parallel(alloc, row.arcs, row.room)?;
-    let mut store = opened(alloc, created(alloc, &network, 2)?)?;
-    work_on(&mut store, row.before)?;
-    let mut disk = store.close();
-    // All of it is synced: a stop changes nothing, and the record begins anew.
-    let _ = disk.stop(&[Pick::Old]);
-    let mut store = opened(alloc, disk)?;
-    work_on(&mut store, row.works)?;
-    Ok(first_other(&store.close(), row.calls))
+    let disk = worked_on(alloc, begun(alloc, row)?, row.works)?;
+    Ok(first_other(&disk, row.calls))
 }
 
 // Refused are bodies written twice, a gate that is written closed though it reads closed, a sync too many, one too few or one at another place, a
 // part that does not sync what it wrote, more or fewer pages in a write, and a call where nothing is to be written.
 #[test]
-fn calls_of_a_store(rt: HostRuntime) -> Result<(), Fail> {
+fn calls_of_a_store(rt: HostRuntime) -> Result<(), Refusal> {
     for (i, row) in ROWS.iter().enumerate() {
         assert_eq!(rt; first_wrong(rt.alloc(), row)?, None, "row {i}");
     }
     Ok(())
 }
 
+// How many arcs there are, the room, how many journal pages, and the calls by which the store is made.
+const CREATIONS: [(usize, u64, u32, &[Call]); 5] = [
+    (8, 8, 2, &[Pages(0, 8), Sync, Gate(2), Sync, Gate(0), Sync]),
+    (
+        8,
+        8,
+        64,
+        &[
+            Pages(0, 64),
+            Pages(64, 6),
+            Sync,
+            Gate(2),
+            Sync,
+            Gate(0),
+            Sync,
+        ],
+    ),
+    (
+        8,
+        10,
+        64,
+        &[
+            Pages(0, 64),
+            Pages(64, 8),
+            Sync,
+            Gate(2),
+            Sync,
+            Gate(0),
+            Sync,
+        ],
+    ),
+    (0, 0, 1, &[Pages(0, 4), Sync, Gate(1), Sync, Gate(0), Sync]),
+    (0, 1, 1, &[Pages(0, 8), Sync, Gate(1), Sync, Gate(0), Sync]),
+];
+
+// The disk of a new store of so many arcs with room for so many, and with so many journal pages.
+fn new_disk(alloc: Global, arcs: usize, room: u64, journal_pages: u32) -> Result<MemDisk, Refusal> {
+    let network = parallel(alloc, arcs, room)?;
+    created(alloc, &network, journal_pages.clamp(1, 64))
+}
+
 // Of a store that is made all pages are written, the journal's too, with closed gates; then a sync, slot A's gate, a sync, the header's gate
 // and a sync. No write has more than 64 pages.
 #[test]
-fn calls_of_create(rt: HostRuntime) -> Result<(), Fail> {
-    let alloc = rt.alloc();
-    let rows: [(usize, u64, u32, &[Call]); 5] = [
-        (8, 8, 2, &[Pages(0, 8), Sync, Gate(2), Sync, Gate(0), Sync]),
-        (
-            8,
-            8,
-            64,
-            &[
-                Pages(0, 64),
-                Pages(64, 6),
-                Sync,
-                Gate(2),
-                Sync,
-                Gate(0),
-                Sync,
-            ],
-        ),
-        (
-            8,
-            10,
-            64,
-            &[
-                Pages(0, 64),
-                Pages(64, 8),
-                Sync,
-                Gate(2),
-                Sync,
-                Gate(0),
-                Sync,
-            ],
-        ),
-        (0, 0, 1, &[Pages(0, 4), Sync, Gate(1), Sync, Gate(0), Sync]),
-        (0, 1, 1, &[Pages(0, 8), Sync, Gate(1), Sync, Gate(0), Sync]),
-    ];
-    for (arcs, room, journal_pages, calls) in rows {
-        let network = parallel(alloc, arcs, room)?;
-        let disk = created(alloc, &network, journal_pages.clamp(1, 64))?;
+fn calls_of_create(rt: HostRuntime) -> Result<(), Refusal> {
+    for (arcs, room, journal_pages, calls) in CREATIONS {
+        let disk = new_disk(rt.alloc(), arcs, room, journal_pages)?;
         assert_eq!(rt; first_other(&disk, calls), None, "{arcs} arcs, room {room}");
     }
     Ok(())
@@ -521,11 +534,10 @@ fn calls_of_create(rt: HostRuntime) -> Result<(), Fail> {
 
 // A look at a file syncs it, and writes nothing.
 #[test]
-fn calls_of_a_look(rt: HostRuntime) -> Result<(), Fail> {
-    let alloc = rt.alloc();
-    let mut disk = created(alloc, &parallel(alloc, 8, 8)?, 2)?;
+fn calls_of_a_look(rt: HostRuntime) -> Result<(), Refusal> {
+    let mut disk = new_disk(rt.alloc(), 8, 8, 2)?;
     let _ = disk.stop(&[Pick::Old]);
-    inspect(alloc, &mut disk)?;
+    inspect(rt.alloc(), &mut disk)?;
     assert_eq!(rt; first_other(&disk, &[Sync]), None);
     Ok(())
 }

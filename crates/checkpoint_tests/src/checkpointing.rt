@@ -1,12 +1,11 @@
 ghost use Rattle.std.specs.Prelude.{◌≤◌, length};
 
-use crate::worked::{is_page, opened, roomy, six};
 use disk::{Disk, FuseDisk, MemDisk, Pick, Stoppable};
 use fixtures::arc;
 use roadnet::{Command, Group, Refusal, RoadArc};
 use std::alloc::Global;
-use std::test::Fail;
 use store::Store;
+use store_fixtures::{PageRow, first_other_page, opened, roomy_disk, six_disk};
 
 // Opens over a fuse that passes the sync of the opening and k writes and syncs more.
 pub fn fused(alloc: Global, disk: MemDisk, k: u64) -> Result<Store<FuseDisk<MemDisk>>, Refusal> {
@@ -26,10 +25,67 @@ pub fn set(arc: u64, length: u64) -> Command {
     Command::Set { arc, length }
 }
 
-// The length of arc 1, the version, and how many pages are unchecked.
-fn told<D: Disk>(store: &Store<D>) -> (Option<u32>, u64, u32) {
+// What a store tells: the length of arc 1, the version, how many pages are unchecked, and whether it is calm.
+type Told = (Option<u32>, u64, u32, bool);
+
+fn told<D: Disk>(store: &Store<D>) -> Told {
     let length = store.network().arc(1).map(|arc| arc.length);
-    (length, store.version(), store.unchecked())
+    (length, store.version(), store.unchecked(), store.calm())
+}
+
+// What is done with a store: nothing, which answers its version, a commit of `set 1` to this length, one of `close 7` or of `lay 6 1 7`, or a
+// checkpoint.
+#[derive(Clone, Copy)]
+enum Step {
+    Look,
+    Set(u64),
+    Close,
+    Lay,
+    Checkpoint,
+}
+
+// A step, its answer, and what the store tells then.
+type Row = (Step, Result<u64, Refusal>, Told);
+
+fn take_step<D: Disk>(store: &mut Store<D>, step: Step) -> Result<u64, Refusal> {
+    match step {
+        Step::Look => Ok(store.version()),
+        Step::Set(length) => store.commit(&[set(1, length)]),
+        Step::Close => store.commit(&[Command::Close { arc: 7 }]),
+        Step::Lay => store.commit(&[LAY]),
+        Step::Checkpoint => store.checkpoint(),
+    }
+}
+
+// The first row that goes otherwise, if there is one.
+fn first_other<D: Disk>(store: &mut Store<D>, rows: &[Row]) -> Option<usize> {
+    for at in 0..rows.len() {
+        let (done, answer, tells) = rows[at];
+        if take_step(store, done) != answer || told(store) != tells {
+            return Some(at);
+        }
+    }
+    None
+}
+
+// Opens the store on this disk, makes these steps and closes it. Answers the first that goes otherwise, and the disk.
+fn lived(alloc: Global, disk: MemDisk, rows: &[Row]) -> Result<(Option<usize>, MemDisk), Refusal> {
+    let mut store = opened(alloc, disk)?;
+    let other = first_other(&mut store, rows);
+    Ok((other, store.close()))
+}
+
+// The same over a fuse that passes the sync of the opening and k writes and syncs more, stopped with this pick.
+fn cut(
+    alloc: Global,
+    disk: MemDisk,
+    k: u64,
+    rows: &[Row],
+    pick: Pick,
+) -> Result<(Option<usize>, MemDisk), Refusal> {
+    let mut store = fused(alloc, disk, k)?;
+    let other = first_other(&mut store, rows);
+    Ok((other, stopped(store, &[pick])))
 }
 
 // Heads without landmarks: of slot B after `close 7` and a checkpoint, and of slot A after two checkpoints, the second at version 3 with
@@ -63,7 +119,7 @@ pub const LAY: Command = Command::Lay {
 
 // A journal of two pages that is full, of a store with room for so many arcs. Where there is room for one more, the second version lays it.
 pub fn full(alloc: Global, room: u64) -> Result<MemDisk, Refusal> {
-    let mut store = opened(alloc, roomy(alloc, room, 2)?)?;
+    let mut store = opened(alloc, roomy_disk(alloc, room, 2)?)?;
     store.commit(&[set(1, 1)])?;
     if room == 8 {
         store.commit(&[set(1, 2)])?;
@@ -82,46 +138,83 @@ pub fn reused(alloc: Global, room: u64) -> Result<MemDisk, Refusal> {
     Ok(store.close())
 }
 
+const FULL: [Row; 4] = [
+    (Step::Set(1), Ok(1), (Some(1), 1, 1, true)),
+    (Step::Set(2), Ok(2), (Some(2), 2, 2, true)),
+    (
+        Step::Set(3),
+        Err(Refusal::JournalFull),
+        (Some(2), 2, 2, true),
+    ),
+    (Step::Checkpoint, Ok(2), (Some(2), 2, 0, true)),
+];
+
+const CUT: [Row; 1] = [(Step::Set(3), Err(Refusal::Device), (Some(2), 2, 0, false))];
+
+// A further commit, and a checkpoint of slot A.
+const FURTHER: [Row; 3] = [
+    (Step::Look, Ok(2), (Some(2), 2, 0, true)),
+    (Step::Set(3), Ok(3), (Some(3), 3, 1, true)),
+    (Step::Checkpoint, Ok(3), (Some(3), 3, 0, true)),
+];
+
+// The head of slot A.
+const THIRD_HEAD: [PageRow; 1] = [(2, &HEAD_3, 165)];
+
+const THIRD: [Row; 1] = [(Step::Look, Ok(3), (Some(3), 3, 0, true))];
+
 #[test]
-fn reuse_needs_a_checkpoint(rt: HostRuntime) -> Result<(), Fail> {
+fn reuse_needs_a_checkpoint(rt: HostRuntime) -> Result<(), Refusal> {
     let alloc = rt.alloc();
-    let mut store = opened(alloc, six(alloc, 2)?)?;
-    assert_eq!(rt; store.commit(&[set(1, 1)]), Ok(1));
-    assert_eq!(rt; store.commit(&[set(1, 2)]), Ok(2));
-    assert_eq!(rt; store.commit(&[set(1, 3)]), Err(Refusal::JournalFull));
-    assert_eq!(rt; store.checkpoint(), Ok(2));
-    assert!(rt; told(&store) == (Some(2), 2, 0));
-    let mut store = fused(alloc, store.close(), 3)?;
-    assert_eq!(rt; store.commit(&[set(1, 3)]), Err(Refusal::Device));
-    assert!(rt; !store.calm() && told(&store) == (Some(2), 2, 0));
-    let mut store = opened(alloc, stopped(store, &[Pick::Byte(170)]))?;
-    assert!(rt; told(&store) == (Some(2), 2, 0));
-    // A further commit, and a checkpoint of slot A.
-    assert_eq!(rt; store.commit(&[set(1, 3)]), Ok(3));
-    assert_eq!(rt; store.checkpoint(), Ok(3));
-    assert!(rt; told(&store) == (Some(3), 3, 0));
-    let mut disk = store.close();
-    assert!(rt; is_page(&mut disk, 2, &HEAD_3, 165)?);
-    let store = opened(alloc, disk)?;
-    assert!(rt; told(&store) == (Some(3), 3, 0));
+    let (full, disk) = lived(alloc, six_disk(alloc, 2)?, &FULL)?;
+    let (within, disk) = cut(alloc, disk, 3, &CUT, Pick::Byte(170))?;
+    let (further, mut disk) = lived(alloc, disk, &FURTHER)?;
+    assert_eq!(rt; first_other_page(&mut disk, &THIRD_HEAD)?, None);
+    let (third, _) = lived(alloc, disk, &THIRD)?;
+    assert!(rt; (full, within, further, third) == (None, None, None, None));
     Ok(())
 }
+
+const CHECKED: [Row; 1] = [(Step::Checkpoint, Ok(2), (Some(2), 2, 0, true))];
+
+const CUT_AGAIN: [Row; 2] = [
+    (Step::Look, Ok(2), (Some(2), 2, 0, true)),
+    (Step::Set(9), Err(Refusal::Device), (Some(2), 2, 0, false)),
+];
+
+const SECOND: [Row; 1] = [(Step::Look, Ok(2), (Some(2), 2, 0, true))];
 
 // The page that is reused is closed, and half written; then the next commit is stopped in its body, which could open the gate if that were
 // written first.
 #[test]
-fn closed_gate_is_not_rewritten(rt: HostRuntime) -> Result<(), Fail> {
+fn closed_gate_is_not_rewritten(rt: HostRuntime) -> Result<(), Refusal> {
     let alloc = rt.alloc();
-    let mut store = opened(alloc, full(alloc, 8)?)?;
-    assert_eq!(rt; store.checkpoint(), Ok(2));
-    let mut store = fused(alloc, store.close(), 3)?;
-    assert_eq!(rt; store.commit(&[set(1, 3)]), Err(Refusal::Device));
-    let mut store = fused(alloc, stopped(store, &[Pick::New]), 1)?;
-    assert!(rt; told(&store) == (Some(2), 2, 0));
-    assert_eq!(rt; store.commit(&[set(1, 9)]), Err(Refusal::Device));
-    let store = opened(alloc, stopped(store, &[Pick::Byte(165)]))?;
-    assert!(rt; told(&store) == (Some(2), 2, 0));
+    let (checked, disk) = lived(alloc, full(alloc, 8)?, &CHECKED)?;
+    let (once, disk) = cut(alloc, disk, 3, &CUT, Pick::New)?;
+    let (again, disk) = cut(alloc, disk, 1, &CUT_AGAIN, Pick::Byte(165))?;
+    let (second, _) = lived(alloc, disk, &SECOND)?;
+    assert!(rt; (checked, once, again, second) == (None, None, None, None));
     Ok(())
+}
+
+// What two checkpoints in a row are answered where the first is cut behind k writes and syncs, whether the store is calm then, and what a stop
+// with this pick leaves.
+fn checkpoint_cut(
+    alloc: Global,
+    disk: MemDisk,
+    k: u64,
+    pick: Pick,
+) -> Result<([Result<u64, Refusal>; 2], bool, MemDisk), Refusal> {
+    let mut store = fused(alloc, disk, k)?;
+    let answers = [store.checkpoint(), store.checkpoint()];
+    let calm = store.calm();
+    Ok((answers, calm, stopped(store, &[pick])))
+}
+
+// What the store on this disk tells, and how many arcs it has.
+fn found(alloc: Global, disk: MemDisk) -> Result<(Told, u64), Refusal> {
+    let store = opened(alloc, disk)?;
+    Ok((told(&store), store.network().arcs().len() as u64))
 }
 
 // Whether a checkpoint that is cut behind k writes and syncs, and stopped with this pick, is told rightly: of a journal of two pages that is full,
@@ -138,21 +231,18 @@ fn is_told_rightly(
     } else {
         (full(alloc, room)?, 2, 2, 5)
     };
-    let mut store = fused(alloc, disk, k)?;
-    let answers = [store.checkpoint(), store.checkpoint()];
+    let (answers, calm, disk) = checkpoint_cut(alloc, disk, k, pick)?;
     let wanted = if k < calls {
         [Err(Refusal::Device), Err(Refusal::Broken)]
     } else {
         [Ok(version), Ok(version)]
     };
-    let calm = store.calm() == (k >= calls);
     let is_new = k >= calls
         || k.wrapping_add(1) == calls && (pick == Pick::New || pick == Pick::Byte(165));
     let left = if is_new { 0 } else { unchecked };
-    let store = opened(alloc, stopped(store, &[pick]))?;
-    let same = told(&store) == (u32::try_from(version).ok(), version, left)
-        && store.network().arcs().len() as u64 == room;
-    Ok(calm && answers == wanted && same)
+    let tells = (u32::try_from(version).ok(), version, left, true);
+    let same = found(alloc, disk)? == (tells, room);
+    Ok(calm == (k >= calls) && answers == wanted && same)
 }
 
 // The first call and pick by which a checkpoint is not told rightly, if there is one.
@@ -169,7 +259,7 @@ fn first_wrong(alloc: Global, row: (bool, u64)) -> Result<Option<(u64, Pick)>, R
 
 // In a store with room for a ninth arc the write of the words is one of words and ends.
 #[test]
-fn first_checkpoint_is_stopped(rt: HostRuntime) -> Result<(), Fail> {
+fn first_checkpoint_is_stopped(rt: HostRuntime) -> Result<(), Refusal> {
     for room in [8, 9] {
         assert_eq!(rt;
             first_wrong(rt.alloc(), (false, room))?,
@@ -181,57 +271,80 @@ fn first_checkpoint_is_stopped(rt: HostRuntime) -> Result<(), Fail> {
 }
 
 #[test]
-fn next_checkpoint_is_stopped(rt: HostRuntime) -> Result<(), Fail> {
+fn next_checkpoint_is_stopped(rt: HostRuntime) -> Result<(), Refusal> {
     for room in [8, 9] {
         assert_eq!(rt; first_wrong(rt.alloc(), (true, room))?, None, "room {room}");
     }
     Ok(())
 }
 
+const LAID: [Row; 2] = [
+    (Step::Lay, Ok(1), (Some(17), 1, 1, true)),
+    (Step::Checkpoint, Ok(1), (Some(17), 1, 0, true)),
+];
+
+// Pages that stand on a disk, by their number, bytes and gate.
+const PAGES_OF_NINE: [PageRow; 4] = [
+    (4, &[], 0),
+    (5, &HEAD_OF_NINE, 165),
+    (6, &WORDS_OF_NINE, 0),
+    (7, &ENDS_OF_NINE, 0),
+];
+
+// What the store on this disk tells, its ninth arc and its room.
+fn found_nine(alloc: Global, disk: MemDisk) -> Result<(Told, Option<RoadArc>, u32), Refusal> {
+    let store = opened(alloc, disk)?;
+    let network = store.network();
+    Ok((told(&store), network.arc(9), network.room()))
+}
+
 // With room for ten arcs, slot B is a head, a page of words and one of ends, from page 5 on.
 #[test]
-fn ends_of_a_laid_arc(rt: HostRuntime) -> Result<(), Fail> {
+fn ends_of_a_laid_arc(rt: HostRuntime) -> Result<(), Refusal> {
     let alloc = rt.alloc();
-    let mut store = opened(alloc, roomy(alloc, 10, 64)?)?;
-    assert_eq!(rt; store.commit(&[LAY]), Ok(1));
-    assert_eq!(rt; store.checkpoint(), Ok(1));
-    let mut disk = store.close();
-    assert_eq!(rt; disk.len(), Ok(4096 * 72));
-    assert!(rt; is_page(&mut disk, 4, &[], 0)?);
-    assert!(rt; is_page(&mut disk, 5, &HEAD_OF_NINE, 165)?);
-    assert!(rt; is_page(&mut disk, 6, &WORDS_OF_NINE, 0)?);
-    assert!(rt; is_page(&mut disk, 7, &ENDS_OF_NINE, 0)?);
-    let store = opened(alloc, disk)?;
-    assert!(rt; told(&store) == (Some(17), 1, 0));
-    assert!(rt; store.network().arc(9) == Some(arc(6, 1, 7)) && store.network().room() == 10);
+    let (other, mut disk) = lived(alloc, roomy_disk(alloc, 10, 64)?, &LAID)?;
+    assert!(rt; other.is_none() && disk.len() == Ok(4096 * 72));
+    assert_eq!(rt; first_other_page(&mut disk, &PAGES_OF_NINE)?, None);
+    let ninth = Some(arc(6, 1, 7));
+    assert!(rt; found_nine(alloc, disk)? == ((Some(17), 1, 0, true), ninth, 10));
     Ok(())
 }
 
-#[test]
-fn stop_within_checkpoint(rt: HostRuntime) -> Result<(), Fail> {
-    let alloc = rt.alloc();
-    let mut store = opened(alloc, six(alloc, 64)?)?;
-    assert_eq!(rt; store.commit(&[Command::Close { arc: 7 }]), Ok(1));
-    let mut store = fused(alloc, store.close(), 4)?;
-    assert_eq!(rt; store.checkpoint(), Err(Refusal::Device));
-    let mut disk = stopped(store, &[Pick::Old]);
-    assert!(rt; is_page(&mut disk, 4, &HEAD_2, 0)?);
-    let mut store = fused(alloc, disk, 4)?;
-    assert!(rt; told(&store) == (Some(17), 1, 1));
-    assert_eq!(rt; store.checkpoint(), Err(Refusal::Device));
-    let mut disk = stopped(store, &[Pick::New]);
-    assert!(rt; is_page(&mut disk, 4, &HEAD_2, 165)?);
-    assert!(rt; is_page(&mut disk, 5, &WORDS, 0)?);
+const CLOSED: [Row; 1] = [(Step::Close, Ok(1), (Some(17), 1, 1, true))];
+
+const CUT_CHECKPOINT: [Row; 2] = [
+    (Step::Look, Ok(1), (Some(17), 1, 1, true)),
+    (
+        Step::Checkpoint,
+        Err(Refusal::Device),
+        (Some(17), 1, 1, false),
+    ),
+];
+
+// The pages of slot B, where the gate's write is missing, and where it is made.
+const SHUT: [PageRow; 1] = [(4, &HEAD_2, 0)];
+
+const OPENED: [PageRow; 2] = [(4, &HEAD_2, 165), (5, &WORDS, 0)];
+
+// What the store on this disk tells, and its seventh arc.
+fn found_seventh(alloc: Global, disk: MemDisk) -> Result<(Told, Option<RoadArc>), Refusal> {
     let store = opened(alloc, disk)?;
-    assert!(rt; told(&store) == (Some(17), 1, 0));
-    assert!(rt;
-        store.network().arc(7)
-            == Some(RoadArc {
-                tail: 5,
-                head: 2,
-                length: 0,
-                opened: false
-            })
-    );
+    Ok((told(&store), store.network().arc(7)))
+}
+
+#[test]
+fn stop_within_checkpoint(rt: HostRuntime) -> Result<(), Refusal> {
+    let alloc = rt.alloc();
+    let (closed, disk) = lived(alloc, six_disk(alloc, 64)?, &CLOSED)?;
+    let (once, mut disk) = cut(alloc, disk, 4, &CUT_CHECKPOINT, Pick::Old)?;
+    assert_eq!(rt; first_other_page(&mut disk, &SHUT)?, None);
+    let (again, mut disk) = cut(alloc, disk, 4, &CUT_CHECKPOINT, Pick::New)?;
+    assert_eq!(rt; first_other_page(&mut disk, &OPENED)?, None);
+    assert!(rt; (closed, once, again) == (None, None, None));
+    let seventh = RoadArc {
+        opened: false,
+        ..arc(5, 2, 0)
+    };
+    assert!(rt; found_seventh(alloc, disk)? == ((Some(17), 1, 0, true), Some(seventh)));
     Ok(())
 }

@@ -12,6 +12,4 @@ mod refusing;
 #[cfg(test)]
 mod reuse;
 #[cfg(test)]
-mod worked;
-#[cfg(test)]
 mod writing;

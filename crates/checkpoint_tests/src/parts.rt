@@ -1,13 +1,12 @@
 ghost use Rattle.std.specs.Prelude.{◌≤◌};
 
 use crate::checkpointing::{fused, stopped};
-use crate::worked::{created, opened};
 use disk::{Disk, MemDisk, Pick};
 use fixtures::arc;
 use roadnet::{Command, Group, Network, Refusal, RoadArc};
 use std::alloc::Global;
-use std::test::Fail;
 use store::{Part, Store};
+use store_fixtures::{created, opened};
 
 // A store of so many arcs from node 1 to node 2, of length 5, with room for so many; and how many pages each of the three parts of its checkpoint has.
 #[derive(Drop)]
@@ -96,39 +95,117 @@ fn stands<D: Disk>(store: &Store<D>, plan: &Plan, version: u64, unchecked: u32) 
         && is_closed_to_version(store, plan)
 }
 
+// What is done with a store: nothing, the closing of this arc, a part of a checkpoint of so many pages, or a whole one.
+#[derive(Clone, Copy)]
+enum Step {
+    Look,
+    Close(u64),
+    Part(u32),
+    Whole,
+}
+
+// A step, which version it tells, if it tells one, and what stands then: the version, and how many pages are unchecked.
+type Row = (Step, Result<Option<u64>, Refusal>, u64, u32);
+
+fn take_step<D: Disk>(
+    alloc: Global,
+    store: &mut Store<D>,
+    step: Step,
+) -> Result<Option<u64>, Refusal> {
+    match step {
+        Step::Look => Ok(None),
+        Step::Close(arc) => Ok(Some(close(alloc, store, arc)?)),
+        Step::Part(pages) => match store.checkpoint_part(pages.clamp(1, 64))? {
+            Part::Going => Ok(None),
+            Part::Done(version) => Ok(Some(version)),
+        },
+        Step::Whole => Ok(Some(store.checkpoint()?)),
+    }
+}
+
+// The first row that goes otherwise, if there is one.
+fn first_other<D: Disk>(
+    alloc: Global,
+    store: &mut Store<D>,
+    plan: &Plan,
+    rows: &[Row],
+) -> Option<usize> {
+    for at in 0..rows.len() {
+        let (done, answer, version, unchecked) = rows[at];
+        if take_step(alloc, store, done) != answer || !stands(store, plan, version, unchecked) {
+            return Some(at);
+        }
+    }
+    None
+}
+
+// Opens the store on this disk, makes these steps and closes it. Answers the first that goes otherwise, and the disk.
+fn lived(
+    alloc: Global,
+    plan: &Plan,
+    disk: MemDisk,
+    rows: &[Row],
+) -> Result<(Option<usize>, MemDisk), Refusal> {
+    let mut store = opened(alloc, disk)?;
+    let other = first_other(alloc, &mut store, plan, rows);
+    Ok((other, store.close()))
+}
+
+// The first rows of a store with so many journal pages, and of the same opened again, that go otherwise.
+fn lived_twice(
+    alloc: Global,
+    plan: &Plan,
+    journal_pages: u32,
+    rows: &[Row],
+    then: &[Row],
+) -> Result<(Option<usize>, Option<usize>), Refusal>
+    requires some { 1 ≤ journal_pages }
+    requires few { journal_pages ≤ 65536 }
+{
+    let disk = new_disk(alloc, plan, journal_pages)?;
+    let (first, disk) = lived(alloc, plan, disk, rows)?;
+    let (second, _) = lived(alloc, plan, disk, then)?;
+    Ok((first, second))
+}
+
+const BETWEEN: [Row; 6] = [
+    (Step::Close(1), Ok(Some(1)), 1, 1),
+    (Step::Part(1), Ok(None), 1, 1),
+    (Step::Close(2), Ok(Some(2)), 2, 2),
+    (Step::Close(3), Err(Refusal::JournalFull), 2, 2),
+    (Step::Part(64), Ok(Some(1)), 2, 1),
+    (Step::Close(3), Ok(Some(3)), 3, 2),
+];
+
+const BETWEEN_OPENED: [Row; 3] = [
+    (Step::Look, Ok(None), 3, 2),
+    (Step::Whole, Ok(Some(3)), 3, 0),
+    (Step::Part(1), Ok(Some(3)), 3, 0),
+];
+
 #[test]
-fn commits_between_parts(rt: HostRuntime) -> Result<(), Fail> {
-    let alloc = rt.alloc();
+fn commits_between_parts(rt: HostRuntime) -> Result<(), Refusal> {
     for plan in &PLANS {
-        let mut store = opened(alloc, new_disk(alloc, plan, 2)?)?;
-        assert_eq!(rt; close(alloc, &mut store, 1), Ok(1));
-        assert_eq!(rt; store.checkpoint_part(1), Ok(Part::Going));
-        assert_eq!(rt; close(alloc, &mut store, 2), Ok(2));
-        assert_eq!(rt; close(alloc, &mut store, 3), Err(Refusal::JournalFull));
-        assert!(rt; stands(&store, plan, 2, 2));
-        assert_eq!(rt; store.checkpoint_part(64), Ok(Part::Done(1)));
-        assert!(rt; stands(&store, plan, 2, 1));
-        assert_eq!(rt; close(alloc, &mut store, 3), Ok(3));
-        let mut store = opened(alloc, store.close())?;
-        assert!(rt; stands(&store, plan, 3, 2));
-        assert_eq!(rt; store.checkpoint(), Ok(3));
-        assert_eq!(rt; store.checkpoint_part(1), Ok(Part::Done(3)));
+        let told = lived_twice(rt.alloc(), plan, 2, &BETWEEN, &BETWEEN_OPENED)?;
+        assert!(rt; told == (None, None), "{told:?}");
     }
     Ok(())
 }
 
+const GOES_ON: [Row; 4] = [
+    (Step::Close(1), Ok(Some(1)), 1, 1),
+    (Step::Part(2), Ok(None), 1, 1),
+    (Step::Close(2), Ok(Some(2)), 2, 2),
+    (Step::Whole, Ok(Some(1)), 2, 1),
+];
+
+const GOES_ON_OPENED: [Row; 1] = [(Step::Look, Ok(None), 2, 1)];
+
 #[test]
-fn checkpoint_goes_on(rt: HostRuntime) -> Result<(), Fail> {
-    let alloc = rt.alloc();
+fn checkpoint_goes_on(rt: HostRuntime) -> Result<(), Refusal> {
     for plan in &PLANS {
-        let mut store = opened(alloc, new_disk(alloc, plan, 4)?)?;
-        assert_eq!(rt; close(alloc, &mut store, 1), Ok(1));
-        assert_eq!(rt; store.checkpoint_part(2), Ok(Part::Going));
-        assert_eq!(rt; close(alloc, &mut store, 2), Ok(2));
-        assert_eq!(rt; store.checkpoint(), Ok(1));
-        assert!(rt; stands(&store, plan, 2, 1));
-        let store = opened(alloc, store.close())?;
-        assert!(rt; stands(&store, plan, 2, 1));
+        let told = lived_twice(rt.alloc(), plan, 4, &GOES_ON, &GOES_ON_OPENED)?;
+        assert!(rt; told == (None, None), "{told:?}");
     }
     Ok(())
 }
@@ -159,24 +236,33 @@ fn run<D: Disk>(
     Ok(())
 }
 
+// Whether the run is cut on this store, and which version was told last. Where it is cut, the store is broken.
+fn ran<D: Disk>(alloc: Global, store: &mut Store<D>, plan: &Plan) -> Result<(bool, u64), Refusal> {
+    let mut told = 0;
+    match run(alloc, store, plan, &mut told) {
+        Ok(()) => Ok((false, told)),
+        Err(Refusal::Device) if store.checkpoint_part(1) == Err(Refusal::Broken) => {
+            Ok((true, told))
+        }
+        Err(_) => Err(Refusal::NotYet),
+    }
+}
+
 // Cuts the run at the k-th write or sync, and stops. Answers whether it was cut, which version was told, and what the stop leaves.
 fn cut_at(alloc: Global, plan: &Plan, pick: Pick, k: u64) -> Result<(bool, u64, MemDisk), Refusal> {
     let mut store = fused(alloc, new_disk(alloc, plan, 2)?, k)?;
-    let mut told = 0;
-    let cut = match run(alloc, &mut store, plan, &mut told) {
-        Ok(()) => false,
-        Err(Refusal::Device) => true,
-        Err(refusal) => return Err(refusal),
-    };
-    if cut && store.checkpoint_part(1) != Err(Refusal::Broken) {
-        return Err(Refusal::NotYet);
-    }
+    let (cut, told) = ran(alloc, &mut store, plan)?;
     Ok((cut, told, stopped(store, &[pick])))
 }
 
-// The same, opened, with a checkpoint and a commit behind it. Answers whether all was told rightly, and whether the run was cut.
-fn stopped_at(alloc: Global, plan: &Plan, pick: Pick, k: u64) -> Result<(bool, bool), Refusal> {
-    let (cut, told, disk) = cut_at(alloc, plan, pick, k)?;
+// Whether the store on this disk has a version that was told, or may have been, and is right, also behind a checkpoint and a commit; and the
+// disk then, with the version.
+fn goes_on(
+    alloc: Global,
+    plan: &Plan,
+    disk: MemDisk,
+    (cut, told): (bool, u64),
+) -> Result<(bool, u64, MemDisk), Refusal> {
     let mut store = opened(alloc, disk)?;
     let version = store.version();
     let next = version.wrapping_add(1);
@@ -184,8 +270,21 @@ fn stopped_at(alloc: Global, plan: &Plan, pick: Pick, k: u64) -> Result<(bool, b
         && is_closed_to_version(&store, plan)
         && store.checkpoint() == Ok(version)
         && close(alloc, &mut store, next) == Ok(next);
-    let store = opened(alloc, store.close())?;
-    Ok((right && stands(&store, plan, next, 1), cut))
+    Ok((right, next, store.close()))
+}
+
+// Whether the store on this disk stands at this version, with a page unchecked.
+fn stands_on(alloc: Global, plan: &Plan, disk: MemDisk, version: u64) -> Result<bool, Refusal> {
+    let store = opened(alloc, disk)?;
+    Ok(stands(&store, plan, version, 1))
+}
+
+// Cuts the run at the k-th write or sync, stops, and opens again. Answers whether all was told rightly, and whether the run was cut.
+fn stopped_at(alloc: Global, plan: &Plan, pick: Pick, k: u64) -> Result<(bool, bool), Refusal> {
+    let (cut, told, disk) = cut_at(alloc, plan, pick, k)?;
+    let (right, next, disk) = goes_on(alloc, plan, disk, (cut, told))?;
+    let stands = stands_on(alloc, plan, disk, next)?;
+    Ok((right && stands, cut))
 }
 
 // The first of 23 calls at which a run is not stopped rightly, if there is one; the 24th is not made.
@@ -198,34 +297,34 @@ fn sweep(alloc: Global, plan: &Plan, pick: Pick) -> Result<Option<u64>, Refusal>
     Ok(None)
 }
 
+// The same of each plan.
+fn sweep_all(alloc: Global, pick: Pick) -> Result<[Option<u64>; 2], Refusal> {
+    Ok([
+        sweep(alloc, &PLANS[0], pick)?,
+        sweep(alloc, &PLANS[1], pick)?,
+    ])
+}
+
 #[test]
-fn parts_are_stopped_with_old(rt: HostRuntime) -> Result<(), Fail> {
-    for plan in &PLANS {
-        assert_eq!(rt; sweep(rt.alloc(), plan, Pick::Old)?, None);
-    }
+fn parts_are_stopped_with_old(rt: HostRuntime) -> Result<(), Refusal> {
+    assert_eq!(rt; sweep_all(rt.alloc(), Pick::Old)?, [None, None]);
     Ok(())
 }
 
 #[test]
-fn parts_are_stopped_with_new(rt: HostRuntime) -> Result<(), Fail> {
-    for plan in &PLANS {
-        assert_eq!(rt; sweep(rt.alloc(), plan, Pick::New)?, None);
-    }
+fn parts_are_stopped_with_new(rt: HostRuntime) -> Result<(), Refusal> {
+    assert_eq!(rt; sweep_all(rt.alloc(), Pick::New)?, [None, None]);
     Ok(())
 }
 
 #[test]
-fn parts_are_stopped_with_open_gates(rt: HostRuntime) -> Result<(), Fail> {
-    for plan in &PLANS {
-        assert_eq!(rt; sweep(rt.alloc(), plan, Pick::Byte(165))?, None);
-    }
+fn parts_are_stopped_with_open_gates(rt: HostRuntime) -> Result<(), Refusal> {
+    assert_eq!(rt; sweep_all(rt.alloc(), Pick::Byte(165))?, [None, None]);
     Ok(())
 }
 
 #[test]
-fn parts_are_stopped_with_zeros(rt: HostRuntime) -> Result<(), Fail> {
-    for plan in &PLANS {
-        assert_eq!(rt; sweep(rt.alloc(), plan, Pick::Byte(0))?, None);
-    }
+fn parts_are_stopped_with_zeros(rt: HostRuntime) -> Result<(), Refusal> {
+    assert_eq!(rt; sweep_all(rt.alloc(), Pick::Byte(0))?, [None, None]);
     Ok(())
 }

@@ -6,12 +6,11 @@ ghost use Rattle.store.specs.State.{StandsAs, told};
 
 use crate::checkpointing::{full, reused, set};
 use crate::parts::{PLANS, one_closed};
-use crate::worked::opened;
 use disk::{Disk, FailOnce, MemDisk};
 use roadnet::Refusal;
 use std::alloc::Global;
-use std::test::Fail;
 use store::{Store, open};
+use store_fixtures::opened;
 
 // Opens the disk, and once more where it failed. The second opening gives what the first would have: both are judged by the content as it
 // was at first.
@@ -140,7 +139,7 @@ const ROWS: [(Work, u64, (u64, u32, u32)); 4] = [
 ];
 
 #[test]
-fn works_are_tried_again(rt: HostRuntime) -> Result<(), Fail> {
+fn works_are_tried_again(rt: HostRuntime) -> Result<(), Refusal> {
     for (i, &(work, calls, stands)) in ROWS.iter().enumerate() {
         for k in 1..=23 {
             let refusal = if k <= calls {

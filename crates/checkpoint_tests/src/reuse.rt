@@ -2,11 +2,11 @@
 ghost use Rattle.std.specs.Prelude.{◌≤◌, length};
 
 use crate::checkpointing::{fused, set, stopped};
-use crate::worked::{opened, six};
 use disk::{Disk, MemDisk, Pick};
 use roadnet::Refusal;
 use std::alloc::Global;
 use store::Store;
+use store_fixtures::{opened, six_disk, with_bytes};
 
 const ROUNDS: u32 = 40;
 
@@ -32,7 +32,7 @@ fn is_right<D: Disk>(store: &Store<D>) -> bool {
 }
 
 // How far a run came.
-#[derive(Drop)]
+#[derive(Clone, Copy)]
 struct Ran {
     // how many commits were told
     told: u64,
@@ -82,16 +82,25 @@ fn bytes_of(alloc: Global, disk: &mut MemDisk) -> Result<Vec<u8>, Refusal> {
     Ok(bytes)
 }
 
-// A disk with these bytes, all of them synced.
-fn with_bytes(alloc: Global, bytes: &[u8]) -> Result<MemDisk, Refusal> {
-    let mut disk = MemDisk::new(alloc);
-    let Ok(()) = disk.write_at(0, bytes) else {
-        return Err(Refusal::Device);
-    };
-    let Ok(()) = disk.sync() else {
-        return Err(Refusal::Device);
-    };
-    Ok(disk)
+// Whether the network of the store on this disk is right, and its version.
+fn found(alloc: Global, disk: MemDisk) -> Result<(bool, u64), Refusal> {
+    let store = opened(alloc, disk)?;
+    Ok((is_right(&store), store.version()))
+}
+
+// Stops the commit of this round at its (k + 1)-th write or sync. Answers what it told, and what the stop leaves.
+fn next_stopped(
+    alloc: Global,
+    bytes: &[u8],
+    round: u64,
+    k: u64,
+    picks: &[Pick],
+) -> Result<(Result<u64, Refusal>, MemDisk), Refusal>
+    requires { 1 ≤ length picks.now }
+{
+    let mut store = fused(alloc, with_bytes(alloc, bytes)?, k)?;
+    let answer = store.commit(&[set(round % 8 + 1, round)]);
+    Ok((answer, stopped(store, picks)))
 }
 
 // Stops the commit of the next round at each of its calls, and opens again. Answers whether each opening was right.
@@ -100,11 +109,9 @@ fn next_is_right(alloc: Global, bytes: &[u8], version: u64, picks: &[Pick]) -> R
 {
     let round = version.min(u64::from(ROUNDS));
     for k in 0..7 {
-        let mut store = fused(alloc, with_bytes(alloc, bytes)?, k)?;
-        let answer = store.commit(&[set(round % 8 + 1, round)]);
-        let store = opened(alloc, stopped(store, picks))?;
-        let told = store.version();
-        if !is_right(&store) || told < version || told.wrapping_sub(version) > 1 {
+        let (answer, disk) = next_stopped(alloc, bytes, round, k, picks)?;
+        let (right, told) = found(alloc, disk)?;
+        if !right || told < version || told.wrapping_sub(version) > 1 {
             return Ok(false);
         }
         match answer {
@@ -116,19 +123,35 @@ fn next_is_right(alloc: Global, bytes: &[u8], version: u64, picks: &[Pick]) -> R
     Ok(false)
 }
 
+// Stops a run at its (k + 1)-th write or sync. Answers how far it came, and what the stop leaves.
+fn run_stopped(alloc: Global, k: u64, picks: &[Pick]) -> Result<(Ran, MemDisk), Refusal>
+    requires { 1 ≤ length picks.now }
+{
+    let mut store = fused(alloc, six_disk(alloc, 3)?, k)?;
+    let ran = run(&mut store)?;
+    Ok((ran, stopped(store, picks)))
+}
+
+// Whether the store on this disk is right behind such a run, and behind stops of the next commit.
+fn is_left_rightly(alloc: Global, ran: Ran, disk: MemDisk, picks: &[Pick]) -> Result<bool, Refusal>
+    requires { 1 ≤ length picks.now }
+{
+    let mut disk = disk;
+    let bytes = bytes_of(alloc, &mut disk)?;
+    let (right, version) = found(alloc, disk)?;
+    let more = if ran.commit_failed { 1 } else { 0 };
+    if !right || ran.told > version || version.wrapping_sub(ran.told) > more {
+        return Ok(false);
+    }
+    next_is_right(alloc, &bytes, version, picks)
+}
+
 // Stops a run at its (k + 1)-th write or sync. Answers whether it was stopped, or nothing where an opening was wrong.
 fn stopped_at(alloc: Global, k: u64, picks: &[Pick]) -> Result<Option<bool>, Refusal>
     requires { 1 ≤ length picks.now }
 {
-    let mut store = fused(alloc, six(alloc, 3)?, k)?;
-    let ran = run(&mut store)?;
-    let mut disk = stopped(store, picks);
-    let bytes = bytes_of(alloc, &mut disk)?;
-    let store = opened(alloc, disk)?;
-    let version = store.version();
-    let more = if ran.commit_failed { 1 } else { 0 };
-    let right = is_right(&store) && ran.told <= version && version.wrapping_sub(ran.told) <= more;
-    if !right || !next_is_right(alloc, &bytes, version, picks)? {
+    let (ran, disk) = run_stopped(alloc, k, picks)?;
+    if !is_left_rightly(alloc, ran, disk, picks)? {
         return Ok(None);
     }
     Ok(Some(ran.commit_failed || ran.checkpoint_failed))

@@ -1,13 +1,13 @@
 ghost use Rattle.std.specs.Prelude.{◌≡◌, ◌≤◌, length};
 ghost use Rattle.pages.specs.Spelling.{IsHeader};
 
-use crate::worked::is_page;
 use checkpoint::NextCheckpoint;
 use disk::{Disk, DiskError, MemDisk, Pick, Stoppable, length_of, settle};
 use fixtures::arc;
 use pages::{Format, Header, Slot};
 use roadnet::{Network, Refusal, RoadArc};
 use std::alloc::Global;
+use store_fixtures::{PageRow, first_other_page};
 
 // The head of slot B after the first checkpoint, at version 1.
 const HEAD: [u8; 32] =
@@ -157,22 +157,65 @@ fn write<D: Disk>(
     }
 }
 
-// The head of slot B and the page of words behind it, for the landmarks 3 and 6 too; no other page is written, nor is a stop's choice left.
+// The file of zeros in which that checkpoint is written. No stop's choice is left.
+fn written(
+    alloc: Global,
+    header: &Header,
+    network: &Network,
+    max_pages: u32,
+) -> Result<MemDisk, Refusal>
+    requires header { IsHeader header.now }
+    requires some { 1 ≤ max_pages }
+    requires few { max_pages ≤ 64 }
+{
+    let mut disk = file(alloc, header, 0)?;
+    write(alloc, &mut disk, header, network, max_pages)?;
+    if disk.stop(&[Pick::Byte(7)]) {
+        return Err(Refusal::NotYet);
+    }
+    Ok(disk)
+}
+
+// The pages of the file of six nodes: the head of slot B and the page of words behind it, and no other.
+const PAGES: [PageRow; 8] = [
+    (4, &HEAD, 165),
+    (5, &WORDS, 0),
+    (0, &[], 0),
+    (1, &[], 0),
+    (2, &[], 0),
+    (3, &[], 0),
+    (6, &[], 0),
+    (7, &[], 0),
+];
+
+const PAGES_WITH_LANDMARKS: [PageRow; 8] = [
+    (4, &HEAD_WITH_LANDMARKS, 165),
+    (5, &WORDS, 0),
+    (0, &[], 0),
+    (1, &[], 0),
+    (2, &[], 0),
+    (3, &[], 0),
+    (6, &[], 0),
+    (7, &[], 0),
+];
+
+// The first of these pages that the file of six nodes with these landmarks has otherwise.
+fn first_other_of_six(
+    alloc: Global,
+    landmarks: &[u32],
+    pages: &[PageRow],
+) -> Result<Option<u64>, Refusal> {
+    let mut disk = written(alloc, &SIX, &six(alloc, landmarks)?, 64)?;
+    first_other_page(&mut disk, pages)
+}
+
 #[test]
 fn slot_b_after_a_checkpoint(rt: HostRuntime) -> Result<(), Refusal> {
-    let rows: [(&[u32], &[u8]); 2] = [(&[], &HEAD), (&[6, 3], &HEAD_WITH_LANDMARKS)];
-    for (landmarks, head) in rows {
-        assert!(rt; head.len() <= 4095);
-        let network = six(rt.alloc(), landmarks)?;
-        let mut disk = file(rt.alloc(), &SIX, 0)?;
-        write(rt.alloc(), &mut disk, &SIX, &network, 64)?;
-        assert!(rt; !disk.stop(&[Pick::Byte(7)]));
-        assert!(rt; is_page(&mut disk, 4, head, 165)?);
-        assert!(rt; is_page(&mut disk, 5, &WORDS, 0)?);
-        for number in [0, 1, 2, 3, 6, 7] {
-            assert!(rt; is_page(&mut disk, number, &[], 0)?, "page {number}");
-        }
-    }
+    assert_eq!(rt; first_other_of_six(rt.alloc(), &[], &PAGES)?, None);
+    assert_eq!(rt;
+        first_other_of_six(rt.alloc(), &[6, 3], &PAGES_WITH_LANDMARKS)?,
+        None
+    );
     Ok(())
 }
 
@@ -193,16 +236,18 @@ fn five_writes_and_syncs_or_seven(rt: HostRuntime) -> Result<(), Refusal> {
     Ok(())
 }
 
+const PAGES_OF_2047: [PageRow; 3] = [
+    (10, &HEAD_OF_2047, 165),
+    (13, &[0, 0, 7, 255], 0),
+    (14, &[], 0),
+];
+
 // 2,047 arcs have three word pages, the last of which holds one word.
 #[test]
 fn three_word_pages(rt: HostRuntime) -> Result<(), Refusal> {
     let network = numbered(rt.alloc(), 2, 2047, 2047)?;
-    let mut disk = file(rt.alloc(), &THREE_PAGES, 0)?;
-    write(rt.alloc(), &mut disk, &THREE_PAGES, &network, 2)?;
-    assert!(rt; !disk.stop(&[Pick::Byte(7)]));
-    assert!(rt; is_page(&mut disk, 10, &HEAD_OF_2047, 165)?);
-    assert!(rt; is_page(&mut disk, 13, &[0, 0, 7, 255], 0)?);
-    assert!(rt; is_page(&mut disk, 14, &[], 0)?);
+    let mut disk = written(rt.alloc(), &THREE_PAGES, &network, 2)?;
+    assert_eq!(rt; first_other_page(&mut disk, &PAGES_OF_2047)?, None);
     Ok(())
 }
 
@@ -231,53 +276,63 @@ fn first_other(disk: &mut MemDisk, words: &[(u64, u32)]) -> Result<Option<u64>, 
     Ok(None)
 }
 
+const WORDS_OF_66000: [(u64, u32); 6] = [
+    (4096 * 198, 1),
+    (4096 * 198 + 4088, 1023),
+    (4096 * 262, 65473),
+    (4096 * 262 + 2104, 65999),
+    (4096 * 262 + 2108, 66000),
+    (4096 * 262 + 2112, 0),
+];
+
 // 66,000 arcs have 65 word pages, so there are two writes of words.
 #[test]
 fn sixty_five_word_pages(rt: HostRuntime) -> Result<(), Refusal> {
     let network = numbered(rt.alloc(), 2, 66_000, 66_000)?;
-    let mut disk = file(rt.alloc(), &MANY_PAGES, 0)?;
-    write(rt.alloc(), &mut disk, &MANY_PAGES, &network, 64)?;
-    assert!(rt; !disk.stop(&[Pick::Byte(7)]));
+    let mut disk = written(rt.alloc(), &MANY_PAGES, &network, 64)?;
     assert_eq!(rt; disk.len(), Ok(4096 * 264));
-    let words = [
-        (4096 * 198, 1),
-        (4096 * 198 + 4088, 1023),
-        (4096 * 262, 65473),
-        (4096 * 262 + 2104, 65999),
-        (4096 * 262 + 2108, 66000),
-        (4096 * 262 + 2112, 0),
-    ];
-    assert_eq!(rt; first_other(&mut disk, &words)?, None);
+    assert_eq!(rt; first_other(&mut disk, &WORDS_OF_66000)?, None);
     Ok(())
 }
+
+const PAGES_OF_602: [PageRow; 12] = [
+    (8, &HEAD_OF_602, 165),
+    (0, &[], 0),
+    (1, &[], 0),
+    (2, &[], 0),
+    (3, &[], 0),
+    (4, &[], 0),
+    (5, &[], 0),
+    (6, &[], 0),
+    (7, &[], 0),
+    (10, &[], 0),
+    (13, &[], 0),
+    (14, &[], 0),
+];
+
+const WORDS_OF_602: [(u64, u32); 12] = [
+    (4096 * 9, 1),
+    (4096 * 9 + 2404, 602),
+    (4096 * 9 + 2408, 0),
+    (4096 * 11, 3),
+    (4096 * 11 + 4, 1000),
+    (4096 * 11 + 4080, 513),
+    (4096 * 11 + 4084, 1000),
+    (4096 * 11 + 4088, 0),
+    (4096 * 12, 514),
+    (4096 * 12 + 704, 602),
+    (4096 * 12 + 708, 1000),
+    (4096 * 12 + 712, 0),
+];
 
 // A store of two arcs with room for 1,030, of which 602 are there: slot B's head is page 8, pages 9 and 10 are words, the second of them past the arcs, and
 // pages 11 to 13 ends, of arc 3 and those behind it, the last of them past the arcs. The first write has words and ends.
 #[test]
 fn words_and_then_ends(rt: HostRuntime) -> Result<(), Refusal> {
     let network = numbered(rt.alloc(), 1000, 602, 1030)?;
-    let mut disk = file(rt.alloc(), &ROOMY, 0)?;
-    write(rt.alloc(), &mut disk, &ROOMY, &network, 3)?;
-    assert!(rt; !disk.stop(&[Pick::Byte(7)]));
+    let mut disk = written(rt.alloc(), &ROOMY, &network, 3)?;
     assert_eq!(rt; disk.len(), Ok(4096 * 15));
-    assert!(rt; is_page(&mut disk, 8, &HEAD_OF_602, 165)?);
-    for number in [0, 1, 2, 3, 4, 5, 6, 7, 10, 13, 14] {
-        assert!(rt; is_page(&mut disk, number, &[], 0)?, "page {number}");
-    }
-    let words = [
-        (4096 * 9, 1),
-        (4096 * 9 + 2404, 602),
-        (4096 * 9 + 2408, 0),
-        (4096 * 11, 3),
-        (4096 * 11 + 4, 1000),
-        (4096 * 11 + 4080, 513),
-        (4096 * 11 + 4084, 1000),
-        (4096 * 11 + 4088, 0),
-        (4096 * 12, 514),
-        (4096 * 12 + 704, 602),
-        (4096 * 12 + 708, 1000),
-        (4096 * 12 + 712, 0),
-    ];
-    assert_eq!(rt; first_other(&mut disk, &words)?, None);
+    assert_eq!(rt; first_other_page(&mut disk, &PAGES_OF_602)?, None);
+    assert_eq!(rt; first_other(&mut disk, &WORDS_OF_602)?, None);
     Ok(())
 }

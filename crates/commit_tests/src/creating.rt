@@ -1,9 +1,9 @@
-use crate::worked::{is_page, opened, six_in_room};
-use disk::{Disk, FuseDisk, MemDisk, Pick, Stoppable};
+use disk::{Disk, DiskError, FuseDisk, MemDisk, Pick, Stoppable};
 use fixtures::six_with;
 use roadnet::{Network, Refusal};
 use std::alloc::Global;
 use store::create;
+use store_fixtures::{PageRow, first_other_page, opened, six_in_room};
 
 // The header of six nodes and eight arcs with a journal of 64 pages, with room for no more arcs and with room for ten.
 const HEADER: [u8; 28] =
@@ -36,41 +36,73 @@ fn made(alloc: Global, network: &Network) -> Result<MemDisk, Refusal> {
     }
 }
 
+// The first pages of a new store, by number, bytes and gate.
+const PAGES: [PageRow; 4] = [
+    (0, &HEADER, 165),
+    (1, &ARCS, 0),
+    (2, &HEAD, 165),
+    (3, &WORDS, 0),
+];
+
+const ROOMY_PAGES: [PageRow; 4] = [
+    (0, &ROOMY_HEADER, 165),
+    (1, &ARCS, 0),
+    (2, &HEAD, 165),
+    (3, &WORDS, 0),
+];
+
+// The first page from 4 on, of so many, that is not zeros, if there is one.
+fn first_used<D: Disk>(disk: &mut D, pages: u64) -> Result<Option<u64>, Refusal> {
+    for number in 4..pages {
+        if first_other_page(disk, &[(number, &[], 0)])?.is_some() {
+            return Ok(Some(number));
+        }
+    }
+    Ok(None)
+}
+
+// Whether a new store with this room has so many pages, these among them, and zeros on the others. No stop's choice is left.
+fn has_pages(alloc: Global, room: u64, first: &[PageRow], pages: u64) -> Result<bool, Refusal> {
+    let mut disk = made(alloc, &six_in_room(alloc, &[6, 3], room)?)?;
+    let is_whole = disk.len() == Ok(pages.wrapping_mul(4096)) && !disk.stop(&[Pick::Byte(7)]);
+    let other = first_other_page(&mut disk, first)?;
+    let used = first_used(&mut disk, pages)?;
+    Ok(is_whole && other.is_none() && used.is_none())
+}
+
 // Without room each slot is a head and a page of words, and with room a page of ends besides: of page 4 on all are zeros in either, the end pages 4 and 7
 // too.
 #[test]
 fn pages_of_a_new_store(rt: HostRuntime) -> Result<(), Refusal> {
-    for (room, header, pages) in [(8, HEADER, 70), (10, ROOMY_HEADER, 72)] {
-        let mut disk = made(rt.alloc(), &six_in_room(rt.alloc(), &[6, 3], room)?)?;
-        assert_eq!(rt; disk.len(), Ok(4096 * pages), "room {room}");
-        assert!(rt; !disk.stop(&[Pick::Byte(7)]));
-        assert!(rt; is_page(&mut disk, 0, &header, 165)?, "room {room}");
-        assert!(rt; is_page(&mut disk, 1, &ARCS, 0)?, "room {room}");
-        assert!(rt; is_page(&mut disk, 2, &HEAD, 165)?, "room {room}");
-        assert!(rt; is_page(&mut disk, 3, &WORDS, 0)?, "room {room}");
-        for number in 4..pages {
-            assert!(rt;
-                is_page(&mut disk, number, &[], 0)?,
-                "room {room}, page {number}"
-            );
-        }
-    }
+    assert!(rt; has_pages(rt.alloc(), 8, &PAGES, 70)?);
+    assert!(rt; has_pages(rt.alloc(), 10, &ROOMY_PAGES, 72)?);
     Ok(())
+}
+
+// What is told where a store is to be made on a disk with a byte, and how long the disk is then.
+fn refused(alloc: Global) -> Result<(Refusal, Result<u64, DiskError>), Refusal> {
+    let network = six_with(alloc, &[6, 3])?;
+    let mut disk = MemDisk::new(alloc);
+    let Ok(()) = disk.write_at(0, &[7]) else {
+        return Err(Refusal::Device);
+    };
+    match create(alloc, disk, &network, 1) {
+        Ok(_) => Err(Refusal::NotYet),
+        Err((refusal, mut disk)) => Ok((refusal, disk.len())),
+    }
 }
 
 #[test]
 fn a_disk_with_bytes_is_refused(rt: HostRuntime) -> Result<(), Refusal> {
-    let network = six_with(rt.alloc(), &[6, 3])?;
-    let mut disk = MemDisk::new(rt.alloc());
-    let Ok(()) = disk.write_at(0, &[7]) else {
-        return Err(Refusal::Device);
-    };
-    let Err((refusal, mut disk)) = create(rt.alloc(), disk, &network, 1) else {
-        return Err(Refusal::Device);
-    };
-    assert_eq!(rt; refusal, Refusal::NotEmpty);
-    assert_eq!(rt; disk.len(), Ok(1));
+    assert!(rt; refused(rt.alloc())? == (Refusal::NotEmpty, Ok(1)));
     Ok(())
+}
+
+// The version of the store on this disk, the number of its arcs and its room.
+fn found(alloc: Global, disk: MemDisk) -> Result<(u64, usize, u32), Refusal> {
+    let store = opened(alloc, disk)?;
+    let network = store.network();
+    Ok((store.version(), network.arcs().len(), network.room()))
 }
 
 // Whether a disk that passes k writes and syncs fails to take the store with room for ten arcs, and what opening answers of what a stop with this pick
@@ -89,10 +121,7 @@ fn stopped(
     };
     let mut disk = disk.into_inner();
     let _ = disk.stop(&[pick]);
-    let opens = opened(alloc, disk).map(|store| {
-        let network = store.network();
-        (store.version(), network.arcs().len(), network.room())
-    });
+    let opens = found(alloc, disk);
     Ok((fails, opens))
 }
 

@@ -1,13 +1,12 @@
 // Runs of commits that are stopped at each of their calls.
 ghost use Rattle.std.specs.Prelude.{◌<◌, length};
 
-use crate::worked::{opened, roomy};
 use disk::{Disk, FuseDisk, MemDisk, Pick, Stoppable};
 use fixtures::arc;
 use roadnet::{Command, Group, Network, Refusal, RoadArc};
 use std::alloc::Global;
-use std::test::Fail;
 use store::Store;
+use store_fixtures::{opened, roomy_disk};
 
 // The room of the store: eight arcs are there, and four are laid along a run of 16 commits and the next.
 const ROOM: u64 = 13;
@@ -209,24 +208,38 @@ fn stopped(
     }
 }
 
+// Whether so many commits stand in the store on this disk.
+fn stands_on(alloc: Global, disk: MemDisk, commits: u64) -> Result<bool, Refusal> {
+    let store = opened(alloc, disk)?;
+    Ok(stands(&store, commits))
+}
+
+// Stops the commit behind so many at each of its calls, in turn.
+fn next_stopped(
+    alloc: Global,
+    disk: MemDisk,
+    standing: u64,
+    picks: &[Pick],
+) -> Result<(MemDisk, u64), Refusal>
+    requires { 0 < length picks.now }
+{
+    let (mut disk, mut standing) = (disk, standing);
+    for more in 0..5u64 {
+        let next = standing.saturating_add(1);
+        (disk, standing) = stopped(alloc, disk, standing, next, more, picks)?;
+    }
+    Ok((disk, standing))
+}
+
 // Stops a run of ten commits at each of its calls, and then the next commit at each of its own.
 fn sweep(alloc: Global, picks: &[Pick]) -> Result<(), Refusal>
     requires { 0 < length picks.now }
 {
     for calls in 0..41u64 {
-        let (mut disk, mut standing) = stopped(
-            alloc,
-            roomy(alloc, ROOM, 16)?,
-            0,
-            10,
-            calls,
-            picks,
-        )?;
-        for more in 0..5u64 {
-            let next = standing.saturating_add(1);
-            (disk, standing) = stopped(alloc, disk, standing, next, more, picks)?;
-        }
-        if !stands(&opened(alloc, disk)?, standing) {
+        let disk = roomy_disk(alloc, ROOM, 16)?;
+        let (disk, standing) = stopped(alloc, disk, 0, 10, calls, picks)?;
+        let (disk, standing) = next_stopped(alloc, disk, standing, picks)?;
+        if !stands_on(alloc, disk, standing)? {
             return Err(Refusal::NotYet);
         }
     }
@@ -234,43 +247,56 @@ fn sweep(alloc: Global, picks: &[Pick]) -> Result<(), Refusal>
 }
 
 #[test]
-fn stops_leave_old_bytes(rt: HostRuntime) -> Result<(), Fail> {
-    Ok(sweep(rt.alloc(), &[Pick::Old])?)
+fn stops_leave_old_bytes(rt: HostRuntime) -> Result<(), Refusal> {
+    sweep(rt.alloc(), &[Pick::Old])
 }
 
 #[test]
-fn stops_leave_new_bytes(rt: HostRuntime) -> Result<(), Fail> {
-    Ok(sweep(rt.alloc(), &[Pick::New])?)
+fn stops_leave_new_bytes(rt: HostRuntime) -> Result<(), Refusal> {
+    sweep(rt.alloc(), &[Pick::New])
 }
 
 #[test]
-fn stops_leave_zeros(rt: HostRuntime) -> Result<(), Fail> {
-    Ok(sweep(rt.alloc(), &[Pick::Byte(0)])?)
+fn stops_leave_zeros(rt: HostRuntime) -> Result<(), Refusal> {
+    sweep(rt.alloc(), &[Pick::Byte(0)])
 }
 
 #[test]
-fn stops_leave_open_gates(rt: HostRuntime) -> Result<(), Fail> {
-    Ok(sweep(rt.alloc(), &[Pick::Byte(165)])?)
+fn stops_leave_open_gates(rt: HostRuntime) -> Result<(), Refusal> {
+    sweep(rt.alloc(), &[Pick::Byte(165)])
 }
 
 #[test]
-fn stops_leave_old_and_new_bytes(rt: HostRuntime) -> Result<(), Fail> {
-    Ok(sweep(rt.alloc(), &[Pick::Old, Pick::New])?)
+fn stops_leave_old_and_new_bytes(rt: HostRuntime) -> Result<(), Refusal> {
+    sweep(rt.alloc(), &[Pick::Old, Pick::New])
+}
+
+// Makes the commits from this one on, up to that one, in a store of 16 journal pages on this disk. Answers whether all of them stand, and the disk.
+fn ran(alloc: Global, disk: MemDisk, from: u64, to: u64) -> Result<(bool, MemDisk), Refusal> {
+    let mut store = opened(alloc, disk)?;
+    let right = store.journal_pages() == 16
+        && stands(&store, from)
+        && run(alloc, &mut store, from, to) == Some(to)
+        && stands(&store, to);
+    Ok((right, store.close()))
+}
+
+// Whether the journal of the store on this disk is full behind so many commits, and they stand still.
+fn is_full(alloc: Global, disk: MemDisk, commits: u64) -> Result<(bool, MemDisk), Refusal> {
+    let mut store = opened(alloc, disk)?;
+    let full = make(alloc, &mut store, commits) == Err(Refusal::JournalFull);
+    Ok((full && stands(&store, commits), store.close()))
 }
 
 // Closing hands out a disk of which all is synced, and opening it gives the network and the version again.
 #[test]
-fn close_and_open(rt: HostRuntime) -> Result<(), Fail> {
+fn close_and_open(rt: HostRuntime) -> Result<(), Refusal> {
     let alloc = rt.alloc();
-    let mut store = opened(alloc, roomy(alloc, ROOM, 16)?)?;
-    assert!(rt; run(alloc, &mut store, 0, 5) == Some(5) && stands(&store, 5));
-    let mut disk = store.close();
+    let (first, mut disk) = ran(alloc, roomy_disk(alloc, ROOM, 16)?, 0, 5)?;
     let _ = disk.stop(&[Pick::Byte(9)]);
-    let store = opened(alloc, disk)?;
-    assert!(rt; stands(&store, 5) && store.journal_pages() == 16);
-    let mut store = opened(alloc, store.close())?;
-    assert!(rt; run(alloc, &mut store, 5, 16) == Some(16) && stands(&store, 16));
-    assert!(rt; make(alloc, &mut store, 16) == Err(Refusal::JournalFull));
-    assert!(rt; stands(&opened(alloc, store.close())?, 16));
+    let (second, disk) = ran(alloc, disk, 5, 16)?;
+    let (full, disk) = is_full(alloc, disk, 16)?;
+    assert!(rt; stands_on(alloc, disk, 16)?);
+    assert!(rt; first && second && full);
     Ok(())
 }

@@ -1,5 +1,5 @@
 -- From relaxed legs to least lengths, and from trips to walks.
-use Rattle.std.proofs.Common.{◌≡◌, ℕ, zero, suc, ◌+◌, ◌*◌, ◌<◌, ◌≤◌, List, [], ◌∷◌, length, filter, Contains, Option, Some, None, Bool, true, false, cond, ◌&&◌, ◌==◌, refl, sym, ap, subst, ◌∙◌, inl, inr, arith, unwrap_or, is_some, eqb, eqb-true, ne_eqb, eq-eqb, le_refl, slice_get, MatchOption, nat_le, not, get_or}
+use Rattle.std.proofs.Common.{◌≡◌, ℕ, zero, suc, ◌+◌, ◌*◌, ◌/◌, ◌<◌, ◌≤◌, List, [], ◌∷◌, length, filter, Contains, Option, Some, None, Bool, true, false, cond, ◌&&◌, ◌==◌, refl, sym, ap, subst, ◌∙◌, inl, inr, arith, unwrap_or, eqb, eqb-true, ne_eqb, eq-eqb, le_refl, slice_get, MatchOption, nat_le, not, get_or, IsSome, IsTrue, ◌↔◌}
 use Rattle.relax.specs.Values.{value_at, value_or}
 use Rattle.std.specs.Option.{option_map_or}
 use Rattle.std.specs.List.{IsDistinct, AllByRecursion}
@@ -7,8 +7,11 @@ use Rattle.std.proofs.lemmas.List.Sums.{sum_by-cons}
 use Rattle.std.proofs.lemmas.Map.Steps.{length-le_from_distinct_below}
 use Rattle.std.proofs.lemmas.Map.Views.{Contains-from_any}
 use Rattle.snapshot.specs.Groups.{Groups, legs_of, legs_in, leg_of, is_in_part, IsSnapshotOf, IsGrouped}
-use Rattle.deltastep.specs.Search.{top_of, Trip, trip_length, AreReached, IsRelaxed, IsRelaxedBut, IsBetweenBuckets}
-use Rattle.std.specs.FinMap.{empty, get-empty}
+use Rattle.deltastep.specs.Search.{top_of, Trip, trip_length, AreReached, IsRelaxedBut, IsBetweenBuckets, IsSearch, IsFinal, AreLater}
+use Rattle.std.specs.FinMap.{empty, get, get-empty}
+use Rattle.buckets.specs.Queue.{Entries}
+use Rattle.deltastep.proofs.Division.{div-le_div}
+use Rattle.std.proofs.lemmas.Bool.{cases_lt}
 use Rattle.std.specs.Ordering.{nat_cmp}
 use Rattle.roadnet.specs.Net.{Net, arc_at}
 use Rattle.roadnet.specs.Walks.{Walk, Least, NoWalk, RowOf, length_of, length_of_arc, distance_at}
@@ -20,17 +23,24 @@ use Rattle.snapshot.specs.declared.legs.Part.TheVariants.{Light, Heavy}
 use Rattle.deltastep.proofs.Lowering.{value_or-some}
 use Rattle.deltastep.proofs.Members.{Contains-head, Contains-tail, Contains-nil, Contains-map, Contains-of_map}
 
-trip_length-cons : (leg : Leg) (legs : List Leg) → trip_length (leg ∷ legs) ≡ leg.length + trip_length legs
+pub trip_length-cons : (leg : Leg) (legs : List Leg) → trip_length (leg ∷ legs) ≡ leg.length + trip_length legs
 trip_length-cons leg legs = sum_by-cons (λ (l : Leg). l.length) leg legs
 
 length_of_step : (net : Net) (k : ℕ) (ks : List ℕ) → length_of net (k ∷ ks) ≡ length_of_arc net k + length_of net ks
 length_of_step net k ks = sum_by-cons (length_of_arc net) k ks
 
--- where all legs are relaxed, each trip is at least as long as what is known of its end
-pub value-le_trip : (groups : Groups) (t : List (Option ℕ)) → ((part : Part) (u : ℕ) → IsRelaxed groups part t u) → (u v : ℕ) (legs : List Leg) → Trip groups u v legs → value_or (top_of groups) t v ≤ value_or (top_of groups) t u + trip_length legs
-value-le_trip groups t relaxed u v [] e = subst (λ w. value_or (top_of groups) t w ≤ value_or (top_of groups) t u + 0) e (omega arith)
-value-le_trip groups t relaxed u v (leg ∷ legs) (part, c, trip) =
-    omega (arith, value-le_trip groups t relaxed leg.head v legs trip, relaxed part u leg c, trip_length-cons leg legs)
+-- where all legs are relaxed, of the nodes that are not queued, and no queued node has less than v, each trip to v is at least as long as
+-- what is known of v
+pub value-le_trip : (groups : Groups) (t : List (Option ℕ)) (queue : Entries) (v : ℕ) → ((part : Part) → IsRelaxedBut groups part t queue []) → ((u : ℕ) → IsSome (get queue u) → value_or (top_of groups) t v ≤ value_or (top_of groups) t u) → (u : ℕ) (legs : List Leg) → Trip groups u v legs → value_or (top_of groups) t v ≤ value_or (top_of groups) t u + trip_length legs
+value-le_trip groups t queue v relaxed above u [] e = subst (λ w. value_or (top_of groups) t w ≤ value_or (top_of groups) t u + 0) e (omega arith)
+value-le_trip groups t queue v relaxed above u (leg ∷ legs) (part, c, trip) =
+    elim (relaxed part u) as (λ _. value_or (top_of groups) t v ≤ value_or (top_of groups) t u + trip_length (leg ∷ legs)) [
+      | inl queued ↦ omega (arith, above u queued)
+      | inr rest ↦ elim rest as (λ _. value_or (top_of groups) t v ≤ value_or (top_of groups) t u + trip_length (leg ∷ legs)) [
+        | inl owes ↦ absurd (Contains-nil u owes)
+        | inr known ↦ omega (arith, value-le_trip groups t queue v relaxed above leg.head legs trip, known leg c, trip_length-cons leg legs)
+      ]
+    ]
 
 -- ---- a trip that visits no node twice
 
@@ -109,7 +119,7 @@ module _ (groups : Groups) (grouped : IsGrouped groups) where
   trip_length-le s t (leg ∷ legs) (part, c, trip) = omega (arith, trip_length-le leg.head t legs trip, grouped.length part s leg c, grouped.greatest, trip_length-cons leg legs)
 
   -- a trip that visits no node twice is below the top
-  ShortTrip-below_top : (s t d : ℕ) → 1 ≤ s → s ≤ groups.nodes → (short : ShortTrip groups s t d) → trip_length short.legs < top_of groups
+  pub ShortTrip-below_top : (s t d : ℕ) → 1 ≤ s → s ≤ groups.nodes → (short : ShortTrip groups s t d) → trip_length short.legs < top_of groups
   unfolding top_of
   ShortTrip-below_top s t d low high short =
       let few : length (visited s short.legs) ≤ groups.nodes = apart_length groups.nodes (visited s short.legs) short.apart (visited_within s t short.legs low high short.trip) in
@@ -158,7 +168,7 @@ part_in delta arc = elim (nat_le arc.length delta) as (λ b. nat_le arc.length d
 
 module _ (net : Net) (groups : Groups) (snapshot : IsSnapshotOf net groups) (grouped : IsGrouped groups) where
   -- the arc of a leg
-  arc_of_leg : (part : Part) (u : ℕ) (leg : Leg) → 1 ≤ u → u ≤ groups.nodes → Contains (legs_of groups part u) leg → (k : ℕ) × (arc : RoadArc) × (arc_at net k ≡ Some arc) × (arc.opened ≡ true) × (arc.tail ≡ u) × (leg_of arc ≡ leg)
+  pub arc_of_leg : (part : Part) (u : ℕ) (leg : Leg) → 1 ≤ u → u ≤ groups.nodes → Contains (legs_of groups part u) leg → (k : ℕ) × (arc : RoadArc) × (arc_at net k ≡ Some arc) × (arc.opened ≡ true) × (arc.tail ≡ u) × (leg_of arc ≡ leg)
   arc_of_leg part u leg low high c =
       let c' : Contains (legs_in net.arcs groups.delta part u) leg = subst (λ ls. Contains ls leg) (snapshot.legs part u) c in
       let test : RoadArc → Bool = λ arc. arc.opened && ((arc.tail == u) && is_in_part groups.delta part arc) in
@@ -169,7 +179,7 @@ module _ (net : Net) (groups : Groups) (snapshot : IsSnapshotOf net groups) (gro
       (suc at.0, r.0, at.1, parts.0, eqb-true r.0.tail u (both_true (r.0.tail == u) (is_in_part groups.delta part r.0) parts.1).0, r.2)
 
   -- the leg of an open arc
-  leg_of_arc : (k u : ℕ) (arc : RoadArc) → 1 ≤ u → u ≤ groups.nodes → arc_at net k ≡ Some arc → arc.opened ≡ true → arc.tail ≡ u → (part : Part) × Contains (legs_of groups part u) (leg_of arc)
+  pub leg_of_arc : (k u : ℕ) (arc : RoadArc) → 1 ≤ u → u ≤ groups.nodes → arc_at net k ≡ Some arc → arc.opened ≡ true → arc.tail ≡ u → (part : Part) × Contains (legs_of groups part u) (leg_of arc)
   leg_of_arc zero u arc low high is opened tail = absurd (let absurdity : ⊥ = cc in absurdity)
   leg_of_arc (suc k) u arc low high is opened tail =
       let p = part_in groups.delta arc in
@@ -195,9 +205,9 @@ module _ (net : Net) (groups : Groups) (snapshot : IsSnapshotOf net groups) (gro
       let here : length_of_arc net k ≡ arc.length = ap (λ o. option_map_or (λ (arc : RoadArc). arc.length) o 0) is in
       (leg_of arc ∷ rest.0, (l.0, l.1, rest.1), omega (arith, rest.2, here, trip_length-cons (leg_of arc) rest.0, length_of_step net k ks))
 
-  -- what a node has in the row of a search that is over
-  pub entry_of_row : (source : ℕ) (t : List (Option ℕ)) → 1 ≤ source → source ≤ groups.nodes → AreReached groups source t → ((part : Part) (u : ℕ) → IsRelaxed groups part t u) → (v : ℕ) → MatchOption (value_at t v) (NoWalk net source v) (Least net source v)
-  entry_of_row source t low high reached relaxed v =
+  -- what a node has that no trip can better
+  pub entry_of_node : (source : ℕ) (t : List (Option ℕ)) (v : ℕ) → 1 ≤ source → source ≤ groups.nodes → AreReached groups source t → ((legs : List Leg) → Trip groups source v legs → value_or (top_of groups) t v ≤ value_or (top_of groups) t source + trip_length legs) → MatchOption (value_at t v) (NoWalk net source v) (Least net source v)
+  entry_of_node source t v low high reached known_least =
       let begins : value_or (top_of groups) t source ≡ 0 = value_or-some (top_of groups) t source 0 reached.starts in
       elim (value_at t v) as (λ o. value_at t v ≡ o → MatchOption o (NoWalk net source v) (Least net source v)) [
         | None ↦ λ none ks walk.
@@ -205,7 +215,7 @@ module _ (net : Net) (groups : Groups) (snapshot : IsSnapshotOf net groups) (gro
             let short = ShortTrip-of groups source v trip.0 trip.1 in
             let below = ShortTrip-below_top groups grouped source v (trip_length trip.0) low high short in
             let known : value_or (top_of groups) t v ≡ top_of groups = ap (λ o. unwrap_or o (top_of groups)) none in
-            absurd (omega (arith, value-le_trip groups t relaxed source v short.legs short.trip, below, known, begins))
+            absurd (omega (arith, known_least short.legs short.trip, below, known, begins))
         | Some x ↦ λ some.
             let r = reached.reached v x some in
             let walk = walk_of_trip source v r.legs low high r.trip in
@@ -214,16 +224,42 @@ module _ (net : Net) (groups : Groups) (snapshot : IsSnapshotOf net groups) (gro
               walked = (walk.0, walk.1, walk.2 ∙ r.long);
               least = λ ks walk'.
                   let trip = trip_of_walk source v ks low high walk' in
-                  omega (arith, value-le_trip groups t relaxed source v trip.0 trip.1, trip.2, known, begins);
+                  omega (arith, known_least trip.0 trip.1, trip.2, known, begins);
             }
       ] refl
 
--- where no node is queued or owed, every node's legs are relaxed
-pub IsRelaxed-all : (groups : Groups) (part : Part) (t : List (Option ℕ)) (u : ℕ) → IsRelaxedBut groups part t empty [] → IsRelaxed groups part t u
-IsRelaxed-all groups part t u but = elim (but u) as (λ _. IsRelaxed groups part t u) [
-  | inl queued ↦ absurd (let no : is_some {T = ℕ} None ≡ true = ap is_some (sym (get-empty nat_cmp u)) ∙ queued in let absurdity : ⊥ = cc in absurdity)
-  | inr rest ↦ elim rest as (λ _. IsRelaxed groups part t u) [ inl c ↦ absurd (Contains-nil u c) | inr relaxed ↦ relaxed ]
-]
+  -- between two buckets: what a node has whose value is final
+  pub entry_of_final : (source : ℕ) (t : List (Option ℕ)) (queue : Entries) (v : ℕ) → 1 ≤ source → source ≤ groups.nodes → IsBetweenBuckets groups source t queue → IsFinal groups t queue v → MatchOption (value_at t v) (NoWalk net source v) (Least net source v)
+  entry_of_final source t queue v low high between final =
+      let relaxed : (part : Part) → IsRelaxedBut groups part t queue [] = λ part. elim part as (λ p. IsRelaxedBut groups p t queue []) [ Light ↦ between.light | Heavy ↦ between.heavy ] in
+      entry_of_node source t v low high between.reached (value-le_trip groups t queue v relaxed (above t queue v between.search final) source)
+    where
+      above : (t : List (Option ℕ)) (queue : Entries) (v : ℕ) → IsSearch groups t queue 0 → IsFinal groups t queue v → (u : ℕ) → IsSome (get queue u) → value_or (top_of groups) t v ≤ value_or (top_of groups) t u
+      above t queue v search final u queued = elim (get queue u) as (λ o. get queue u ≡ o → IsSome o → value_or (top_of groups) t v ≤ value_or (top_of groups) t u) [
+        | None ↦ λ e h. absurd (let absurdity : ⊥ = cc in absurdity)
+        | Some x ↦ λ e h. omega (arith, final u x e, value_or-some (top_of groups) t u x (search.queued u x e))
+      ] refl queued
+
+-- where no node is queued, each value is final
+pub IsFinal-over : (groups : Groups) (t : List (Option ℕ)) (queue : Entries) (v : ℕ) → queue ≡ empty → IsFinal groups t queue v
+IsFinal-over groups t queue v none u x has =
+    absurd (let no : None ≡ Some x = sym (ap (λ (m : Entries). get m u) none ∙ get-empty nat_cmp u) ∙ has in let absurdity : ⊥ = cc in absurdity)
+
+-- where all that is queued is in buckets after that of a node, its value is final
+pub IsFinal-later : (groups : Groups) (t : List (Option ℕ)) (queue : Entries) (v value b : ℕ) → 1 ≤ groups.delta → value_at t v ≡ Some value → value / groups.delta ≤ b → AreLater groups.delta b queue → IsFinal groups t queue v
+IsFinal-later groups t queue v value b positive has within later u x queued =
+    elim (cases_lt x value) as (λ _. value_or (top_of groups) t v ≤ x) [
+      | inl less ↦ absurd (omega (arith, div-le_div x value groups.delta positive (omega (arith, less)), later u x queued, within))
+      | inr low ↦ omega (arith, low, value_or-some (top_of groups) t v value has)
+    ]
+
+-- .. by a test whether its value is in the bucket or an earlier one
+pub IsFinal-within : (groups : Groups) (t : List (Option ℕ)) (queue : Entries) (v width b : ℕ) (within : Bool) → IsGrouped groups → width ≡ groups.delta → MatchOption (value_at t v) (within ≡ false) (λ value. IsTrue within ↔ (value / width ≤ b)) → within ≡ true → AreLater groups.delta b queue → IsFinal groups t queue v
+IsFinal-within groups t queue v width b within grouped same test passed later =
+    elim (value_at t v) as (λ o. value_at t v ≡ o → MatchOption o (within ≡ false) (λ value. IsTrue within ↔ (value / width ≤ b)) → IsFinal groups t queue v) [
+      | None ↦ λ none no. absurd (let absurdity : ⊥ = cc in absurdity)
+      | Some value ↦ λ some here. IsFinal-later groups t queue v value b grouped.delta some (subst (λ w. value / w ≤ b) same (here.0 passed)) later
+    ] refl test
 
 unwrap_at : (row : List (Option ℕ)) (k : ℕ) → unwrap_or (slice_get row k) None ≡ get_or row k None
 unwrap_at [] k = refl
@@ -231,16 +267,15 @@ unwrap_at (o ∷ row) zero = refl
 unwrap_at (o ∷ row) (suc k) = unwrap_at row k
 
 -- a row has no entry for number 0, and tentative values have
-distance_at-value_at : (row : List (Option ℕ)) (v : ℕ) → distance_at row v ≡ value_at (None ∷ row) v
+pub distance_at-value_at : (row : List (Option ℕ)) (v : ℕ) → distance_at row v ≡ value_at (None ∷ row) v
 distance_at-value_at row zero = refl
 distance_at-value_at row (suc k) = unwrap_at row k
 
 -- a search that is over leaves the row of its source
 pub RowOf-over : (net : Net) (groups : Groups) → IsSnapshotOf net groups → IsGrouped groups → (source : ℕ) (t row : List (Option ℕ)) → 1 ≤ source → source ≤ groups.nodes → IsBetweenBuckets groups source t empty → t ≡ None ∷ row → RowOf net source row
 RowOf-over net groups snapshot grouped source t row low high over is =
-    let relaxed : (part : Part) (u : ℕ) → IsRelaxed groups part t u = λ part u. elim part as (λ p. IsRelaxed groups p t u) [ Light ↦ IsRelaxed-all groups Light t u over.light | Heavy ↦ IsRelaxed-all groups Heavy t u over.heavy ] in
     let long : suc (length row) ≡ groups.nodes + 1 = ap length (sym is) ∙ over.search.places in
     record {
       size = omega (arith, long, snapshot.nodes);
-      each = λ v node. rw (distance_at-value_at row v, ← is) (entry_of_row net groups snapshot grouped source t low high over.reached relaxed v);
+      each = λ v node. rw (distance_at-value_at row v, ← is) (entry_of_final net groups snapshot grouped source t empty v low high over (IsFinal-over groups t empty v refl));
     }

@@ -9,7 +9,7 @@ use Rattle.snapshot.specs.declared.legs.Part.{Part}
 use Rattle.buckets.specs.Queue.{Entries, TakesLeast}
 use Rattle.relax.specs.Requests.{requests_of}
 use Rattle.relax.specs.Values.{value_or}
-use Rattle.deltastep.specs.Search.{AreInBucket, AreLiveFrom, MeetsRequests, ring_buckets, top_of}
+use Rattle.deltastep.specs.Search.{AreInBucket, AreLive, AreLiveFrom, MeetsRequests, ring_buckets, top_of}
 use Rattle.deltastep.proofs.Division.{add-in_window, div-le_div}
 use Rattle.deltastep.proofs.Members.{Contains-head_of, head_of}
 use Rattle.deltastep.proofs.Queues.{get-insert_same, get-insert_other, get-outside_some, value_in_bucket}
@@ -59,6 +59,6 @@ AreLiveFrom-first groups source m q true none is u x has =
 AreLiveFrom-first groups source m q false none is u x has = absurd (let no : None ≡ Some x = sym (ap (λ (n : Entries). get n u) (is ∙ none) ∙ get-empty nat_cmp u) ∙ has in let absurdity : ⊥ = cc in absurdity)
 
 -- a taking, by what the queue tells of it
-pub AreLiveFrom-taking : (groups : Groups) (width : ℕ) (bucket : Option ℕ) (nodes : List ℕ) (old new : Entries) (b : ℕ) → width ≡ groups.delta → AreLiveFrom groups b old → MatchOption bucket (old ≡ empty) (λ least. TakesLeast width old least nodes new) → MatchOption bucket (new ≡ old) (λ _. Unit {0}) → MatchOption bucket (new ≡ empty) (λ least. AreLiveFrom groups least old)
-AreLiveFrom-taking groups width None nodes old new b is live none same = same ∙ none
-AreLiveFrom-taking groups width (Some least) nodes old new b is live takes _ = AreLiveFrom-least groups b least old nodes new (subst (λ w. TakesLeast w old least nodes new) is takes) live
+pub AreLiveFrom-taking : (groups : Groups) (width : ℕ) (bucket : Option ℕ) (nodes : List ℕ) (old new : Entries) → width ≡ groups.delta → MatchOption bucket (old ≡ empty) (λ least. TakesLeast width old least nodes new) → MatchOption bucket (new ≡ old) (λ _. Unit {0}) → MatchOption bucket (new ≡ empty) (λ least. AreLive groups old → AreLiveFrom groups least old)
+AreLiveFrom-taking groups width None nodes old new is none same = same ∙ none
+AreLiveFrom-taking groups width (Some least) nodes old new is takes _ = λ live. AreLiveFrom-least groups live.first least old nodes new (subst (λ w. TakesLeast w old least nodes new) is takes) live.live

@@ -8,7 +8,7 @@ use Rattle.snapshot.specs.declared.legs.Leg.{Leg}
 use Rattle.buckets.specs.Queue.{Entries, TakesLeast}
 use Rattle.relax.specs.Requests.{requests_of}
 use Rattle.relax.specs.Values.{value_or}
-use Rattle.deltastep.specs.Search.{top_of, AreReached, IsSearch, IsRelaxedBut, IsRelaxed, IsInBucket, AreInBucket, MeetsRequests, HasQueued, EndsPhase, EmptiesBucket, FitsFrom, ring_buckets, IsBetweenBuckets, IsBucketEmpty, requests_by, weight}
+use Rattle.deltastep.specs.Search.{top_of, AreReached, IsSearch, IsRelaxedBut, IsRelaxed, IsInBucket, AreInBucket, MeetsRequests, HasQueued, EndsPhase, EmptiesBucket, FitsFrom, ring_buckets, IsBucketEmpty, requests_by, weight}
 use Rattle.snapshot.specs.declared.legs.Part.{Part}
 use Rattle.deltastep.specs.Remembered.{remember_all}
 use Rattle.deltastep.proofs.Flags.{remember_all-of}
@@ -95,15 +95,6 @@ EmptiesBucket-relaxed groups b remembered old empty queue new queue' grouped emp
   heavy = IsRelaxedBut-met groups remembered Heavy empty queue new queue' met groups.delta b emptied.nodes emptied.heavy;
   nodes = λ u c. absurd (Contains-nil u c);
   emptied = IsBucketEmpty-heavy groups grouped remembered Heavy empty queue new queue' b met emptied.nodes refl emptied.emptied;
-}
-
--- a settled bucket leaves a search between two buckets
-pub IsBetweenBuckets-after : (groups : Groups) (source b : ℕ) (old new : List (Option ℕ)) (queue' : Entries) → EmptiesBucket groups b old new queue' [] → AreReached groups source old → IsBetweenBuckets groups source new queue'
-IsBetweenBuckets-after groups source b old new queue' emptied reached = record {
-  search = record { places = emptied.search.places; node = emptied.search.node; below_top = emptied.search.below_top; queued = emptied.search.queued; above = λ u x e. omega arith };
-  reached = emptied.reached source reached;
-  light = emptied.light;
-  heavy = emptied.heavy;
 }
 
 -- after a taking that found nothing, nothing is queued in any bucket

@@ -1,4 +1,6 @@
+pub mod Guided
 pub mod Remembered
+pub mod Repair
 pub mod Search
 pub mod Tentative
 pub mod Words

@@ -8,6 +8,8 @@
 --     IsRelaxedBut groups part tentative queue owed     so it is at each node that is neither queued nor owed
 --     AreInBucket tentative width b nodes         the nodes' values are in bucket b
 --     AreLiveFrom groups b queue        all queued values lie in ring_buckets buckets in a row, from bucket b on
+--     AreLater width b queue            all queued values lie in buckets after bucket b
+--     IsFinal groups tentative queue v  no queued value is below that of node v
 --     MeetsRequests top requests ..     the nodes that changed took the value of a request and are queued with it,
 --                                   and no request asks for less than is known now
 use Rattle.std.specs.Prelude.{◌≡◌, ℕ, ◌+◌, ◌*◌, ◌-◌, ◌/◌, ◌<◌, ◌≤◌, ◌⊎◌, ◌≢◌, List, [], ◌∷◌, ◌++◌, length, map as list_map, sum_by, unwrap_or, IsSome, Contains, Option, Some}
@@ -125,6 +127,14 @@ pub record HasQueued (tentative : List (Option ℕ)) (queue : Entries) (width b 
 -- nothing that is queued is in bucket b
 abbrev pub IsBucketEmpty : ℕ → ℕ → Entries → Type 0
 IsBucketEmpty width b queue = (u x : ℕ) → map.get queue u ≡ Some x → x / width ≢ b
+
+-- all that is queued is in buckets after bucket b
+abbrev pub AreLater : ℕ → ℕ → Entries → Type 0
+AreLater width b queue = (u x : ℕ) → map.get queue u ≡ Some x → b < x / width
+
+-- no queued value is below that of node v, so that no trip to v that is not known yet is shorter
+abbrev pub IsFinal : Groups → List (Option ℕ) → Entries → ℕ → Type 0
+IsFinal groups tentative queue v = (u x : ℕ) → map.get queue u ≡ Some x → value_or (top_of groups) tentative v ≤ x
 
 -- a phase that relaxed the light arcs of the nodes that were owed, and after which the nodes `next` were taken
 pub record EndsPhase (groups : Groups) (b : ℕ) (old : List (Option ℕ)) (queue : Entries) (new : List (Option ℕ)) (queue' : Entries) (next : List ℕ) : Type 0 where

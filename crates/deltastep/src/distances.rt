@@ -1,5 +1,6 @@
 ghost use Rattle.std.specs.Prelude.{◌≡◌};
 
+use relax::Tentative;
 use roadnet::OutOfMemory;
 use std::alloc::AllocError;
 use std::marker::Model;
@@ -24,7 +25,7 @@ impl Model for Distances {
 }
 
 impl Distances {
-    ghost use Rattle.std.specs.Prelude.{◌≡◌, map};
+    ghost use Rattle.std.specs.Prelude.{◌≡◌, ◌∷◌, None, IfOk, map};
     ghost use Rattle.roadnet.specs.Walks.{distance_at};
     ghost use Rattle.deltastep.specs.Words.{distance_of_word};
 
@@ -40,6 +41,13 @@ impl Distances {
         }
         let word = self.words[(node - 1) as usize];
         if word == NO_WALK { None } else { Some(word) }
+    }
+
+    /// The same as a search's values.
+    pub(crate) fn to_tentative(&self) -> Result<Tentative, RowError>
+        ensures { IfOk result (λ tentative. tentative ≡ None ∷ self.now) }
+    {
+        Ok(Tentative::from_words(self.words.clone()?))
     }
 
     /// The distances that these words say.

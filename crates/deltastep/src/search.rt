@@ -1,6 +1,6 @@
 //! A search by delta-stepping: bucket after bucket is settled, the least first.
 
-ghost use Rattle.std.specs.Prelude.{◌≡◌, ◌↔◌, ℕ, ◌≤◌, ◌<◌, ◌/◌, ◌*◌, ◌+◌, min, IsTrue, ◌==◌, ◌^◌, List, [], ◌∷◌, ◌++◌, Contains, Option, IfOk, OnOk, MatchBool, MatchOption, All, Some, slice_set, length, vec_len};
+ghost use Rattle.std.specs.Prelude.{◌≡◌, ◌↔◌, ℕ, ◌≤◌, ◌<◌, ◌/◌, ◌*◌, ◌+◌, min, IsTrue, ◌==◌, ◌^◌, List, [], ◌∷◌, ◌++◌, Contains, Option, IfOk, IfSome, OnOk, MatchBool, MatchOption, All, None, Some, replicate, slice_set, length, vec_len};
 ghost use Rattle.std.specs.List.{IsDistinct};
 ghost use Rattle.std.specs.Bool.{OnTrue, OnFalse};
 ghost use Rattle.std.specs.FinMap as map;
@@ -9,7 +9,7 @@ ghost use Rattle.snapshot.specs.declared.legs.Part.TheVariants.{Light, Heavy};
 ghost use Rattle.buckets.specs.Queue.{Entries, TakesLeast};
 ghost use Rattle.relax.specs.Values.{value_or};
 ghost use Rattle.relax.specs.Requests.{requests_of};
-ghost use Rattle.deltastep.specs.Search.{AreLive, AreLiveFrom, AreReached, IsBetweenBuckets, EndsPhase, EmptiesBucket, IsSearch, IsRelaxedBut, IsBucketEmpty, AreInBucket, FitsFrom, IsSuited, Suits, top_of, MeetsRequests, requests_by, weight, HasQueued};
+ghost use Rattle.deltastep.specs.Search.{AreLater, AreLive, AreLiveFrom, AreReached, IsBetweenBuckets, EndsPhase, EmptiesBucket, IsSearch, IsRelaxedBut, IsBucketEmpty, AreInBucket, FitsFrom, IsSuited, Suits, top_of, MeetsRequests, requests_by, weight, HasQueued};
 
 use crate::distances::RowError;
 use crate::remembered::Remembered;
@@ -22,7 +22,7 @@ use std::alloc::Global;
 /// One above the length of every walk that visits no node twice: a longer way is dropped.
 #[inline(always)]
 #[tactic(auto, unfolding(crate::specs::Search::top_of))]
-fn top(snapshot: &Snapshot) -> u64
+pub(crate) fn top(snapshot: &Snapshot) -> u64
     ensures value { result ≡ top_of snapshot.now }
     ensures small { result ≤ 2 ^ 56 }
     ensures grouped { IsGrouped snapshot.now }
@@ -80,17 +80,35 @@ impl<Q: BucketQueue> Search<Q> {
         ensures grouped { OnOk result (IsGrouped snapshot.now) }
         ensures suited { IfOk result (λ search. IsSuited snapshot.now (Q.width search.buckets) (Q.span search.buckets)) }
     {
-        let mut search = Search {
-            tentative: Tentative::new(alloc, snapshot.nodes())?,
-            buckets,
-        };
+        let tentative = Tentative::new(alloc, snapshot.nodes())?;
+        Search::begin(snapshot, source, tentative, buckets)
+    }
+
+    /// The same search with these values, of which no node has one.
+    pub(crate) fn begin(
+        snapshot: &Snapshot,
+        source: u32,
+        tentative: Tentative,
+        buckets: Q,
+    ) -> Result<Search<Q>, RowError>
+    where
+        Q: Drop,
+        requires node { (1 ≤ source) × (source ≤ snapshot.now.nodes) }
+        requires blank { tentative ≡ replicate (snapshot.now.nodes + 1) None }
+        requires suits { Suits snapshot.now (Q.entries buckets) (Q.accepts buckets) (Q.width buckets) (Q.span buckets) }
+        ensures state { IfOk result (λ search. IsBetweenBuckets snapshot.now source search.tentative (Q.entries search.buckets)) }
+        ensures live { IfOk result (λ search. AreLiveFrom snapshot.now 0 (Q.entries search.buckets)) }
+        ensures grouped { OnOk result (IsGrouped snapshot.now) }
+        ensures suited { IfOk result (λ search. IsSuited snapshot.now (Q.width search.buckets) (Q.span search.buckets)) }
+    {
+        let mut search = Search { tentative, buckets };
         search.lower(top(snapshot), source, 0)?;
         Ok(search)
     }
 
     /// Takes the least bucket that is not empty: gives its number, or nothing where no node is queued, and puts its nodes, ascending, into
-    /// the given list in place of what was there. All values that are queued lie in `ceil(L / delta) + 1` buckets in a row then, from the one
-    /// that is taken on, with L the greatest length of a leg.
+    /// the given list in place of what was there. Where all values that are queued lie in `ceil(L / delta) + 1` buckets in a row, with L the greatest
+    /// length of a leg, they do so from the one that is taken on. So it is in each search that knew the source alone when it began.
     ///
     /// In the network of `examples/six.gr`, from node 1 with buckets of width 5, it gives bucket 0 with node 1, then 2 with node 3, then 3 with
     /// node 6, and then nothing; `settle` of bucket 2 takes nodes 5, 2 and 4 in between.
@@ -100,10 +118,9 @@ impl<Q: BucketQueue> Search<Q> {
         _snapshot: &Snapshot,
         taken: &mut Vec<u32>,
     ) -> Result<Option<u64>, RowError>
-        requires live { AreLive _snapshot.now (Q.entries self.old.buckets) }
         requires suited { IsSuited _snapshot.now (Q.width self.old.buckets) (Q.span self.old.buckets) }
         ensures taken { IfOk result (λ bucket. MatchOption bucket (Q.entries self.old.buckets ≡ map.empty) (λ bucket. TakesLeast _snapshot.now.delta (Q.entries self.old.buckets) bucket taken.new.items (Q.entries self.new.buckets))) }
-        ensures live { IfOk result (λ bucket. MatchOption bucket (Q.entries self.new.buckets ≡ map.empty) (λ bucket. AreLiveFrom _snapshot.now bucket (Q.entries self.old.buckets))) }
+        ensures live { IfOk result (λ bucket. MatchOption bucket (Q.entries self.new.buckets ≡ map.empty) (λ bucket. AreLive _snapshot.now (Q.entries self.old.buckets) → AreLiveFrom _snapshot.now bucket (Q.entries self.old.buckets))) }
         ensures window { IfOk result (λ bucket. MatchOption bucket (Unit {0}) (λ bucket. FitsFrom (Q.accepts self.new.buckets) _snapshot.now bucket)) }
         ensures tentative { self.new.tentative ≡ self.old.tentative }
         ensures suited { IsSuited _snapshot.now (Q.width self.new.buckets) (Q.span self.new.buckets) }
@@ -120,7 +137,6 @@ impl<Q: BucketQueue> Search<Q> {
     ) -> Result<(), RowError>
         requires state { (source : ℕ) × IsBetweenBuckets snapshot.now source self.old.tentative (Q.entries self.old.buckets) }
         requires suited { IsSuited snapshot.now (Q.width self.old.buckets) (Q.span self.old.buckets) }
-        requires live { AreLive snapshot.now (Q.entries self.old.buckets) }
         ensures settled { OnOk result ((source : ℕ) → IsBetweenBuckets snapshot.now source self.old.tentative (Q.entries self.old.buckets) → IsBetweenBuckets snapshot.now source self.new.tentative map.empty) }
     {
         let mut remembered = Remembered::new(alloc, snapshot.nodes() as usize + 1)?;
@@ -138,15 +154,41 @@ impl<Q: BucketQueue> Search<Q> {
     ) -> Result<(), RowError>
         requires state { (source : ℕ) × IsBetweenBuckets snapshot.now source self.old.tentative (Q.entries self.old.buckets) }
         requires suited { IsSuited snapshot.now (Q.width self.old.buckets) (Q.span self.old.buckets) }
-        requires live { AreLive snapshot.now (Q.entries self.old.buckets) }
         requires none { remembered.old ≡ record { limit = snapshot.now.nodes + 1; nodes = [] } }
         ensures settled { OnOk result ((source : ℕ) → IsBetweenBuckets snapshot.now source self.old.tentative (Q.entries self.old.buckets) → IsBetweenBuckets snapshot.now source self.new.tentative map.empty) }
     {
         let mut taken = Vec::new(alloc);
-        'buckets: while let Some(bucket) = self.take_bucket(snapshot, &mut taken)? {
-            self.settle(alloc, snapshot, team, bucket, &mut taken, remembered)?;
-        }
+        'buckets: while let Some(_bucket) = self.settle_next(
+            alloc, snapshot, team, &mut taken, remembered,
+        )? {}
         Ok(())
+    }
+
+    /// Takes the least bucket that is not empty and settles it: gives its number, or nothing where no node is queued. All that is queued then
+    /// is in later buckets. The list is used for the nodes that are taken.
+    #[inline(always)]
+    pub(crate) fn settle_next<T: Team>(
+        &mut self,
+        alloc: Global,
+        snapshot: &Snapshot,
+        team: &T,
+        taken: &mut Vec<u32>,
+        remembered: &mut Remembered,
+    ) -> Result<Option<u64>, RowError>
+        requires state { (source : ℕ) × IsBetweenBuckets snapshot.now source self.old.tentative (Q.entries self.old.buckets) }
+        requires suited { IsSuited snapshot.now (Q.width self.old.buckets) (Q.span self.old.buckets) }
+        requires none { remembered.old ≡ record { limit = snapshot.now.nodes + 1; nodes = [] } }
+        ensures state { OnOk result ((source : ℕ) → IsBetweenBuckets snapshot.now source self.old.tentative (Q.entries self.old.buckets) → IsBetweenBuckets snapshot.now source self.new.tentative (Q.entries self.new.buckets)) }
+        ensures later { IfOk result (λ bucket. MatchOption bucket (Q.entries self.new.buckets ≡ map.empty) (λ bucket. AreLater snapshot.now.delta bucket (Q.entries self.new.buckets))) }
+        ensures falls { IfOk result (λ bucket. IfSome bucket (λ _. weight (top_of snapshot.now) self.new.tentative (Q.entries self.new.buckets) < weight (top_of snapshot.now) self.old.tentative (Q.entries self.old.buckets))) }
+        ensures suited { OnOk result (IsSuited snapshot.now (Q.width self.new.buckets) (Q.span self.new.buckets)) }
+        ensures none { OnOk result (remembered.new ≡ record { limit = snapshot.now.nodes + 1; nodes = [] }) }
+    {
+        let Some(bucket) = self.take_bucket(snapshot, taken)? else {
+            return Ok(None);
+        };
+        self.settle(alloc, snapshot, team, bucket, taken, remembered)?;
+        Ok(Some(bucket))
     }
 
     /// Settles a bucket, given the nodes that were taken from it: relaxes light legs while nodes come back into it, and then the heavy
@@ -167,13 +209,12 @@ impl<Q: BucketQueue> Search<Q> {
         requires taken { AreInBucket self.old.tentative snapshot.now.delta bucket taken.old.items }
         requires emptied { IsBucketEmpty snapshot.now.delta bucket (Q.entries self.old.buckets) }
         requires none { remembered.old ≡ record { limit = snapshot.now.nodes + 1; nodes = [] } }
-        requires live { AreLiveFrom snapshot.now bucket (Q.entries self.old.buckets) }
         requires window { FitsFrom (Q.accepts self.old.buckets) snapshot.now bucket }
         requires suited { IsSuited snapshot.now (Q.width self.old.buckets) (Q.span self.old.buckets) }
         ensures settled { OnOk result (EmptiesBucket snapshot.now bucket self.old.tentative self.new.tentative (Q.entries self.new.buckets) []) }
         ensures weight { OnOk result (weight (top_of snapshot.now) self.new.tentative (Q.entries self.new.buckets) ≤ weight (top_of snapshot.now) self.old.tentative (Q.entries self.old.buckets)) }
         ensures none { OnOk result (remembered.new ≡ record { limit = snapshot.now.nodes + 1; nodes = [] }) }
-        ensures live { OnOk result (AreLiveFrom snapshot.now bucket (Q.entries self.new.buckets)) }
+        ensures live { OnOk result (AreLiveFrom snapshot.now bucket (Q.entries self.old.buckets) → AreLiveFrom snapshot.now bucket (Q.entries self.new.buckets)) }
         ensures suited { OnOk result (IsSuited snapshot.now (Q.width self.new.buckets) (Q.span self.new.buckets)) }
     {
         if is_alone(snapshot, taken) {
@@ -210,14 +251,13 @@ impl<Q: BucketQueue> Search<Q> {
         requires nodes { AreInBucket self.old.tentative snapshot.now.delta bucket nodes.old.items }
         requires emptied { IsBucketEmpty snapshot.now.delta bucket (Q.entries self.old.buckets) }
         requires none { remembered.old ≡ record { limit = snapshot.now.nodes + 1; nodes = [] } }
-        requires live { AreLiveFrom snapshot.now bucket (Q.entries self.old.buckets) }
         requires window { FitsFrom (Q.accepts self.old.buckets) snapshot.now bucket }
         requires suited { IsSuited snapshot.now (Q.width self.old.buckets) (Q.span self.old.buckets) }
         ensures emptied { OnOk result (EmptiesBucket snapshot.now bucket self.old.tentative self.new.tentative (Q.entries self.new.buckets) remembered.new.nodes) }
         ensures weight { OnOk result (weight (top_of snapshot.now) self.new.tentative (Q.entries self.new.buckets) ≤ weight (top_of snapshot.now) self.old.tentative (Q.entries self.old.buckets)) }
         ensures limit { OnOk result (remembered.new.limit ≡ snapshot.now.nodes + 1) }
         ensures window { OnOk result (FitsFrom (Q.accepts self.new.buckets) snapshot.now bucket) }
-        ensures live { OnOk result (AreLiveFrom snapshot.now bucket (Q.entries self.new.buckets)) }
+        ensures live { OnOk result (AreLiveFrom snapshot.now bucket (Q.entries self.old.buckets) → AreLiveFrom snapshot.now bucket (Q.entries self.new.buckets)) }
         ensures suited { OnOk result (IsSuited snapshot.now (Q.width self.new.buckets) (Q.span self.new.buckets)) }
     {
         'phases: while !nodes.is_empty() {
@@ -242,7 +282,6 @@ impl<Q: BucketQueue> Search<Q> {
         requires light { IsRelaxedBut snapshot.now Light self.old.tentative (Q.entries self.old.buckets) nodes.old.items }
         requires nodes { AreInBucket self.old.tentative snapshot.now.delta bucket nodes.old.items }
         requires emptied { IsBucketEmpty snapshot.now.delta bucket (Q.entries self.old.buckets) }
-        requires live { AreLiveFrom snapshot.now bucket (Q.entries self.old.buckets) }
         requires window { FitsFrom (Q.accepts self.old.buckets) snapshot.now bucket }
         requires suited { IsSuited snapshot.now (Q.width self.old.buckets) (Q.span self.old.buckets) }
         ensures phase { OnOk result (EndsPhase snapshot.now bucket self.old.tentative (Q.entries self.old.buckets) self.new.tentative (Q.entries self.new.buckets) nodes.new.items) }
@@ -250,7 +289,7 @@ impl<Q: BucketQueue> Search<Q> {
         ensures emptied { OnOk result (IsBucketEmpty snapshot.now.delta bucket (Q.entries self.new.buckets)) }
         ensures falls { OnOk result (0 < vec_len nodes.new → weight (top_of snapshot.now) self.new.tentative (Q.entries self.new.buckets) < weight (top_of snapshot.now) self.old.tentative (Q.entries self.old.buckets)) }
         ensures window { OnOk result (FitsFrom (Q.accepts self.new.buckets) snapshot.now bucket) }
-        ensures live { OnOk result (AreLiveFrom snapshot.now bucket (Q.entries self.new.buckets)) }
+        ensures live { OnOk result (AreLiveFrom snapshot.now bucket (Q.entries self.old.buckets) → AreLiveFrom snapshot.now bucket (Q.entries self.new.buckets)) }
         ensures suited { OnOk result (IsSuited snapshot.now (Q.width self.new.buckets) (Q.span self.new.buckets)) }
     {
         if self.relax(alloc, snapshot, team, bucket, nodes, Part::Light)? {
@@ -275,7 +314,6 @@ impl<Q: BucketQueue> Search<Q> {
         requires search { IsSearch snapshot.now self.old.tentative (Q.entries self.old.buckets) bucket }
         requires nodes { AreInBucket self.old.tentative snapshot.now.delta bucket nodes.now }
         requires once { part ≡ Heavy → IsDistinct (λ a b. a == b) nodes.now }
-        requires live { AreLiveFrom snapshot.now bucket (Q.entries self.old.buckets) }
         requires window { FitsFrom (Q.accepts self.old.buckets) snapshot.now bucket }
         requires suited { IsSuited snapshot.now (Q.width self.old.buckets) (Q.span self.old.buckets) }
         ensures search { OnOk result (IsSearch snapshot.now self.new.tentative (Q.entries self.new.buckets) bucket) }
@@ -286,7 +324,7 @@ impl<Q: BucketQueue> Search<Q> {
         ensures none_came { IfOk result (λ came_back. OnFalse came_back (IsBucketEmpty snapshot.now.delta bucket (Q.entries self.old.buckets) → IsBucketEmpty snapshot.now.delta bucket (Q.entries self.new.buckets))) }
         ensures weight { OnOk result (weight (top_of snapshot.now) self.new.tentative (Q.entries self.new.buckets) ≤ weight (top_of snapshot.now) self.old.tentative (Q.entries self.old.buckets)) }
         ensures window { OnOk result (FitsFrom (Q.accepts self.new.buckets) snapshot.now bucket) }
-        ensures live { OnOk result (AreLiveFrom snapshot.now bucket (Q.entries self.new.buckets)) }
+        ensures live { OnOk result (AreLiveFrom snapshot.now bucket (Q.entries self.old.buckets) → AreLiveFrom snapshot.now bucket (Q.entries self.new.buckets)) }
         ensures suited { OnOk result (IsSuited snapshot.now (Q.width self.new.buckets) (Q.span self.new.buckets)) }
         ensures grouped { OnOk result (IsGrouped snapshot.now) }
     {

@@ -1,6 +1,6 @@
 //! Memory that one search leaves to the next.
 
-ghost use Rattle.std.specs.Prelude.{◌≡◌, ◌+◌, ◌≤◌, [], Some, IsOk, IsSome, IfOk, IfSome};
+ghost use Rattle.std.specs.Prelude.{◌≡◌, ◌+◌, ◌≤◌, [], None, Some, IsOk, IsSome, IfOk, IfSome, length, replicate};
 ghost use Rattle.std.specs.FinMap as map;
 ghost use Rattle.deltastep.specs.Search.{Suits, IsSuited, ring_buckets, most_lists};
 
@@ -8,15 +8,18 @@ use crate::distances::RowError;
 use crate::remembered::Remembered;
 use crate::stepping::suits;
 use buckets::{BucketQueue, RingBuckets};
+use relax::Tentative;
 use snapshot::Snapshot;
 use std::alloc::Global;
 
 /// The memory that a search takes beside its row, left to the next search, of the same snapshot or another: what does not suit that is made
-/// anew. It takes none before a search has left some, and then 14 to 27 bytes a node, 24 a list of the ring, and what these lists hold.
+/// anew. It takes none before a search has left some, and then 14 to 27 bytes a node, 24 a list of the ring, and what these lists hold; after a search for
+/// one distance 8 bytes a node more, and 4 for each node that any of them reached.
 #[derive(Drop)]
 pub struct Workspace {
     ring: Option<RingBuckets>,
     remembered: Option<Remembered>,
+    values: Option<Tentative>,
 }
 
 /// The queue that was left, if there is one and a search of this snapshot can begin with it.
@@ -38,17 +41,18 @@ impl Workspace {
         Workspace {
             ring: None,
             remembered: None,
+            values: None,
         }
     }
 
-    /// A ring of so many lists for a search of this snapshot: the one that was left, where it suits, else a new one.
+    /// A ring for a search of this snapshot: the one that was left, where it suits, else a new one of so many lists, which are enough.
     pub(crate) fn take_ring(
         &mut self,
         alloc: Global,
         snapshot: &Snapshot,
         size: u32,
     ) -> Result<RingBuckets, RowError>
-        requires size { size ≡ ring_buckets snapshot.now.greatest snapshot.now.delta }
+        requires size { ring_buckets snapshot.now.greatest snapshot.now.delta ≤ size }
         requires few { size ≤ most_lists }
         ensures empty { IfOk result (λ q. ⟦<RingBuckets as BucketQueue>⟧.entries q ≡ map.empty) }
         ensures first { IfOk result (λ q. ⟦<RingBuckets as BucketQueue>⟧.accepts q 0) }
@@ -78,16 +82,47 @@ impl Workspace {
         Remembered::new(alloc, limit)
     }
 
+    /// Values for so many nodes, of which no node has one: those that were left, where they are as many, else new ones, which note the nodes
+    /// that get one.
+    pub(crate) fn take_values(&mut self, alloc: Global, nodes: u32) -> Result<Tentative, RowError>
+        ensures blank { IfOk result (λ values. values ≡ replicate (nodes + 1) None) }
+    {
+        if let Some(values) = self.values.take() {
+            if values.is_blank(nodes) {
+                return Ok(values);
+            }
+        }
+        let values = Tentative::noting(alloc, nodes)?;
+        Ok(values)
+    }
+
+    /// Keeps the values of a search for the next one, once all are taken away.
+    pub(crate) fn keep_values(&mut self, values: Tentative)
+        ensures { self.new.values ≡ Some (replicate (length values) None) }
+    {
+        let mut values = values;
+        values.wipe();
+        self.values = Some(values);
+    }
+
     /// Keeps what a search took, for the next one.
     pub(crate) fn keep(&mut self, ring: RingBuckets, remembered: Remembered)
         ensures ring { ⟦<RingBuckets as BucketQueue>⟧.entries ring ≡ map.empty → IsSome self.new.ring }
         ensures remembered { self.new.remembered ≡ Some remembered }
+    {
+        self.keep_ring(ring);
+        self.remembered = Some(remembered);
+    }
+
+    /// Keeps the ring of a search, for the next one.
+    pub(crate) fn keep_ring(&mut self, ring: RingBuckets)
+        ensures ring { ⟦<RingBuckets as BucketQueue>⟧.entries ring ≡ map.empty → IsSome self.new.ring }
+        ensures remembered { self.new.remembered ≡ self.old.remembered }
     {
         let mut ring = ring;
         if ring.is_empty() {
             ring.restart();
             self.ring = Some(ring);
         }
-        self.remembered = Some(remembered);
     }
 }

@@ -1,3 +1,4 @@
 pub mod Dealt
 pub mod Looks
 pub mod Sends
+mod Shelved

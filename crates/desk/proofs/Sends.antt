@@ -20,6 +20,12 @@ use Rattle.keeper.specs.contracts.keepers.Keeper.TheInside as KeeperInside
 use Rattle.office.specs.contracts.offices.Office as Office
 use Rattle.office.specs.contracts.offices.Office.TheInside as OfficeInside
 use Rattle.desk.specs.contracts.locked.Locked as Locked
+use Rattle.desk.specs.contracts.held.Held as Held
+use Rattle.desk.specs.contracts.shelves.Shelf as Shelf
+use Rattle.desk.specs.contracts.shelves.Shelf.TheInside as ShelfInside
+use Rattle.deltastep.proofs.distances.Distances.TheSendSync as Rows
+use Rattle.deltastep.proofs.workspace.Workspace.TheSendSync as Workspaces
+use Rattle.history.proofs.fronts.Front.TheSendSync as Fronts
 use Rattle.desk.specs.contracts.shared.Shared as Shared
 use Rattle.desk.specs.contracts.handles.Handle as Handle
 
@@ -58,13 +64,27 @@ office_send N n D d t s = view_send _ _ _ _ _ (office_inside N n D d t s)
 locked_send : (O : RattleType) → IsSend O → IsSend (Locked.the_row O)
 locked_send O s = search (sendable, crosses) depth 20
 
+held_send : (O : RattleType) → IsSend O → IsSend (Held.the_row O)
+held_send O s = search (locked_send, sendable, crosses) depth 20
+
 shared_send : (O G : RattleType) → IsSend O → IsSend G → IsSend (Shared.the_row O G)
-shared_send O G s t = search (locked_send, sendable, crosses) depth 20
+shared_send O G s t = search (held_send, sendable, crosses) depth 20
 
 shared_sync : (O G : RattleType) → IsSend O → IsSync G → IsSync (Shared.the_row O G)
-shared_sync O G s y = search (locked_send, sendable, crosses) depth 20
+shared_sync O G s y = search (held_send, sendable, crosses) depth 20
 
-ruleset shared = (office_send, shared_send, shared_sync)
+ruleset shelved = (Rows.the_send, Workspaces.the_send, Fronts.the_send)
+
+shelf_inside : (N : RattleType) (n : NamingGhosts N.Denot) → IsSend N → IsSend (ShelfInside.the_row N n)
+shelf_inside N n t = search (shelved, sendable, crosses) depth 20
+
+shelf_send : (N : RattleType) (n : NamingGhosts N.Denot) → IsSend N → IsSend (Shelf.the_row N n)
+shelf_send N n t = view_send _ _ _ _ _ (shelf_inside N n t)
+
+ruleset shared = (office_send, shared_send, shared_sync, shelf_send)
 
 pub handle_sync : (N : RattleType) (n : NamingGhosts N.Denot) (D : RattleType) (d : DiskGhosts D.Denot) (G R : RattleType) → IsSend N → IsSend D → IsSend G → IsSync G → IsSync R → IsSync (Handle.the_row N D G R n d)
 handle_sync N n D d G R s t u v w = search (shared, sendable, crosses) depth 20
+
+pub handle_send : (N : RattleType) (n : NamingGhosts N.Denot) (D : RattleType) (d : DiskGhosts D.Denot) (G R : RattleType) → IsSend N → IsSend D → IsSend G → IsSync G → IsSend R → IsSend (Handle.the_row N D G R n d)
+handle_send N n D d G R s t u v w = search (shared, sendable, crosses) depth 20

@@ -2,4 +2,5 @@ pub mod Leaves
 pub mod Openings
 pub mod Readings
 pub mod Shares
+pub mod Shelves
 pub mod Turns

@@ -2,7 +2,7 @@
 use crate::attempts::{Attempt, Misses};
 use crate::gates::Gate;
 use crate::last::Unbuilt;
-use crate::locked::BuilderTurn;
+use crate::locked::{BuilderTurn, Locked};
 use crate::plans::Plan;
 use crate::shared::Shared;
 use disk::Disk;
@@ -13,21 +13,28 @@ use std::sync::{Arc, Wait};
 use std::thread::Threads;
 use std::time::Clock;
 
-impl<N: Naming, D: Disk + Drop, G: Gate + Drop + Sync> Shared<Office<N, D>, G> {
+impl<N: Naming, D: Disk> Locked<Office<N, D>> {
     /// Shows the view, or gives its task up.
-    fn show<R: Wait>(&self, rt: &R, version: u64, view: Arc<View>) -> Attempt {
-        let mut guard = self.lock(rt);
-        match guard.office.publish(rt, view) {
-            Ok(_) => {
-                drop(guard);
-                self.published.notify_all();
-                Attempt::Done
-            }
+    fn show<R: Wait>(&mut self, rt: &R, version: u64, view: Arc<View>) -> Attempt {
+        match self.office.publish(rt, view) {
+            Ok(_) => Attempt::Done,
             Err(_) => {
-                guard.office.give_up(version);
+                self.office.give_up(version);
                 Attempt::NoMemory
             }
         }
+    }
+}
+
+impl<N: Naming, D: Disk + Drop, G: Gate + Drop + Sync> Shared<Office<N, D>, G> {
+    /// Shows the view, or gives its task up.
+    fn show<R: Wait>(&self, rt: &R, version: u64, view: Arc<View>) -> Attempt {
+        let attempt = match &mut self.lock(rt).locked {
+            Some(locked) => locked.show(rt, version, view),
+            None => return Attempt::Done,
+        };
+        self.published.notify_all();
+        attempt
     }
 
     /// Builds the view of a task and shows it, or gives the task up.
@@ -36,7 +43,9 @@ impl<N: Naming, D: Disk + Drop, G: Gate + Drop + Sync> Shared<Office<N, D>, G> {
             Ok(view) => return self.show(rt, task.version, view),
             Err(unbuilt) => unbuilt,
         };
-        self.lock(rt).office.give_up(task.version);
+        if let Some(locked) = &mut self.lock(rt).locked {
+            locked.office.give_up(task.version);
+        }
         match unbuilt {
             Unbuilt::OutOfMemory => Attempt::NoMemory,
             Unbuilt::PassedOver => Attempt::Done,
@@ -48,7 +57,10 @@ impl<N: Naming, D: Disk + Drop, G: Gate + Drop + Sync> Shared<Office<N, D>, G> {
         if !self.gate.before_task(durable) {
             return Attempt::NoMemory;
         }
-        let taken = self.lock(rt).office.take_task();
+        let taken = match &mut self.lock(rt).locked {
+            Some(locked) => locked.office.take_task(),
+            None => return Attempt::Done,
+        };
         match taken {
             Ok(Some(task)) => self.carry_out(rt, plan, task),
             Ok(None) => Attempt::Done,

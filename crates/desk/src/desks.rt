@@ -17,6 +17,7 @@ use crate::handles::Handle;
 use crate::plans::Plan;
 use crate::readers::Reader;
 use crate::shared::Shared;
+use crate::shelves::Shelf;
 use crate::threads::{Started, start_threads};
 use disk::Disk;
 use history::History;
@@ -25,7 +26,7 @@ use published::Shown;
 use roadnet::{Command, Group, Refusal};
 use rows::Ran;
 use std::alloc::Global;
-use std::sync::{Arc, Wait};
+use std::sync::{Arc, Mutex, Wait};
 use std::thread::Threads;
 use std::time::Clock;
 use store::Store;
@@ -58,7 +59,8 @@ fn start_both<
 
 /// A store that is served: groups are made durable by one thread, and shown by another. Its handle has its calls for other threads.
 ///
-/// A desk that is let go without `close` halts, waits for its threads, and ends the readers' copy: its readers can't look any more.
+/// A desk that is let go without `close` halts, waits for its threads, and ends the readers' copy: its readers can't look any more, and of handles that
+/// others have each call is refused (61).
 pub struct Desk<N: Naming, D: Disk + Drop, G: Gate + Drop, R: Threads + Wait + Copy> {
     handle: Handle<N, D, G, R>,
     threads: Started,
@@ -136,9 +138,17 @@ impl<
         let Ok(shared) = Arc::new(alloc, Shared::new(office, gate)) else {
             return Err(Refusal::OutOfMemory);
         };
+        let Ok(rows) = Arc::new(alloc, Mutex::new(Shelf::new(alloc)?)) else {
+            return Err(Refusal::OutOfMemory);
+        };
         let threads = start_both(rt, &shared, plan)?;
         Ok(Desk {
-            handle: Handle { rt, alloc, shared },
+            handle: Handle {
+                rt,
+                alloc,
+                shared,
+                rows,
+            },
             threads,
             plan,
         })
@@ -213,15 +223,21 @@ impl<
         self.handle.end_writing()
     }
 
+    /// Halts the desk, and waits until both of its threads have ended: what was accepted is durable then and shown, or won't be. Who waits by a handle is
+    /// served, or refused.
+    pub fn end_showing(&self) {
+        self.handle.end_showing()
+    }
+
     /// What threads share to call the desk at once.
     pub fn handle(&self) -> &Handle<N, D, G, R> {
         &self.handle
     }
 
     /// Halts the desk, waits for its threads, and hands out what it leaves: the history, what was shown last, and the disk. Its readers can't
-    /// look any more.
+    /// look any more. Others may still have handles: from then on each call of theirs is refused (61), and nobody waits.
     ///
-    /// Refused (61) is an office that is still shared, which never comes.
+    /// Refused (61) is an office that was taken out before, which never comes.
     pub fn close(self) -> Result<Closed<D>, Refusal>
         ensures origin { IfOk result (λ closed. closed.whole.origin ≡ N.origin) }
         ensures causes { IfErr result (λ refusal. refusal ≡ closed) }

@@ -16,7 +16,10 @@ impl<N: Naming, D: Disk + Drop, G: Gate + Drop> Shared<Office<N, D>, G> {
         if !self.gate.before_flush(durable) {
             return Attempt::NoMemory;
         }
-        let flushed = self.lock(rt).office.flush();
+        let flushed = match &mut self.lock(rt).locked {
+            Some(locked) => locked.office.flush(),
+            None => return Attempt::Done,
+        };
         self.flushed.notify_all();
         match flushed {
             Ok(_) => Attempt::Done,
@@ -33,7 +36,10 @@ impl<N: Naming, D: Disk + Drop, G: Gate + Drop> Shared<Office<N, D>, G> {
         if !self.gate.before_step(version) {
             return Attempt::NoMemory;
         }
-        let part = self.lock(rt).office.checkpoint_step(PAGES_OF_STEP);
+        let part = match &mut self.lock(rt).locked {
+            Some(locked) => locked.office.checkpoint_step(PAGES_OF_STEP),
+            None => return Attempt::Done,
+        };
         match part {
             Ok(Part::Going) => {
                 *going = Some(version);

@@ -1,33 +1,57 @@
 // What the callers of a desk share.
-ghost use Rattle.std.specs.Prelude.{◌≡◌, ◌∷◌, [], IfOk, IfErr};
+ghost use Rattle.std.specs.Prelude.{◌≡◌, ◌∷◌, [], None, IfOk, IfErr, IfSome, IsOk, IsSome};
 ghost use Rattle.roadnet.specs.declared.refusals.Refusal.TheVariants.{Closed as closed};
 ghost use Rattle.machine.specs.Laws.{IsAt};
 ghost use Rattle.office.specs.Left.{KeepsDesk};
 ghost use Rattle.disk.specs.Contents.{AreAmong};
+ghost use Rattle.roadnet.specs.Net.{IsNode};
+ghost use Rattle.rows.specs.declared.queries.Query.TheVariants.{Dist};
+ghost use Rattle.rows.specs.Replies.{refusal_of, IsDistance, IsRight};
 ghost use Rattle.desk.specs.Readings.{IsNoReader, IsViewAfter};
 ghost use Rattle.desk.specs.Turns.{IsUnserved, IsUntaken, WereShown};
 
 use crate::gates::Gate;
+use crate::places::{Glance, Place};
 use crate::readers::Reader;
 use crate::shared::Shared;
+use crate::shelves::{Shelf, reply_in};
 use crate::threads::Started;
+use deltastep::Workspace;
 use disk::Disk;
 use office::{Closed, Naming, Office, Receipt, Ticket};
 use published::Shown;
-use roadnet::{Command, Group, Refusal};
+use roadnet::{Command, Group, OutOfMemory, Refusal};
+use rows::Reply;
 use std::alloc::Global;
-use std::sync::{Arc, Wait};
+use std::sync::{Arc, Mutex, Wait};
 use std::thread::Threads;
 
 /// A desk without its threads, for callers in other threads. Each call is the desk's of its name.
+///
+/// A handle may outlive its desk: once that is closed each call of it is refused (61), and none waits.
 #[derive(Drop)]
 pub struct Handle<N: Naming, D: Disk + Drop, G: Gate + Drop, R: Wait + Copy> {
     pub(crate) rt: R,
     pub(crate) alloc: Global,
     pub(crate) shared: Arc<Shared<Office<N, D>, G>>,
+    pub(crate) rows: Arc<Mutex<Shelf<N>>>,
 }
 
 impl<N: Naming, D: Disk + Drop, G: Gate + Drop, R: Wait + Copy> Handle<N, D, G, R> {
+    /// Another handle of the desk, for a thread of its own. The one error is want of memory.
+    pub fn again(&self) -> Result<Handle<N, D, G, R>, OutOfMemory> {
+        let (Ok(shared), Ok(rows)) = (Arc::try_clone(&self.shared), Arc::try_clone(&self.rows))
+        else {
+            return Err(OutOfMemory);
+        };
+        Ok(Handle {
+            rt: self.rt,
+            alloc: self.alloc,
+            shared,
+            rows,
+        })
+    }
+
     /// Accepts the group as the next number, and gives a ticket for it. It is not acknowledged yet.
     ///
     /// Refused is a desk that is halted (61), then what the keeper refuses.
@@ -86,6 +110,16 @@ impl<N: Naming, D: Disk + Drop, G: Gate + Drop, R: Wait + Copy> Handle<N, D, G, 
         Reader::new(self.alloc, reader)
     }
 
+    /// A place among the readers, for who looks now and then: it has seen no group, and holds no view. It is one of the 64 that `reader` speaks of.
+    ///
+    /// Refused is a place that is not found (60), as `reader`, and a desk that is closed (61).
+    pub fn place(&self) -> Result<Place<N>, Refusal>
+        ensures { IfErr result IsNoReader }
+    {
+        let reader = self.shared.reader(&self.rt)?;
+        Ok(Place::new(self.alloc, reader))
+    }
+
     /// No group is taken any more: the flusher makes durable what is pending, the builder shows the last view, and both end. It takes no
     /// memory.
     pub fn halt(&self) {
@@ -98,12 +132,66 @@ impl<N: Naming, D: Disk + Drop, G: Gate + Drop, R: Wait + Copy> Handle<N, D, G, 
     pub(crate) fn end_writing(&self) {
         self.shared.end_writing(&self.rt)
     }
+
+    /// As the desk's.
+    pub(crate) fn end_showing(&self) {
+        self.shared.end_showing(&self.rt)
+    }
+
+    /// What the kept row of the source tells, if it is kept; else a workspace for a search.
+    fn kept_reply(&self, glance: &Glance<N>, source: u32, target: u64) -> Result<Reply, Workspace>
+        ensures { IfOk result (λ reply. IsNode glance.now.view.network target → IsDistance glance.now.view.network source target reply) }
+    {
+        let mut rows = self.rows.lock(&self.rt);
+        match rows.find(glance, source, target) {
+            Some(reply) => Ok(reply),
+            None => Err(rows.workspace()),
+        }
+    }
+}
+
+impl<N: Naming, D: Disk + Drop, G: Gate + Drop, R: Threads + Wait + Copy> Handle<N, D, G, R> {
+    /// What a new row of the source tells. While it is made no lock is held; then it is kept for all who ask.
+    fn new_reply(
+        &self,
+        glance: &Glance<N>,
+        source: u32,
+        target: u64,
+        mut workspace: Workspace,
+    ) -> Result<Reply, OutOfMemory>
+        requires { IsNode glance.now.view.network source }
+        ensures { IfOk result (λ reply. IsNode glance.now.view.network target → IsDistance glance.now.view.network source target reply) }
+    {
+        let row = glance.row(&self.rt, self.alloc, source, &mut workspace)?;
+        let reply = reply_in(&row, target);
+        let mut rows = self.rows.lock(&self.rt);
+        rows.keep(glance, source, row);
+        rows.leave(workspace);
+        Ok(reply)
+    }
+
+    /// The reply to `Dist` in a view of this desk, by a row that is kept for all who ask, or by a new one. Of all rows that queries of all handles made
+    /// up to 64 are kept, of 8 bytes a node each, of the latest view that was asked, and the memory of up to four searches, of 14 to 27 bytes a node each.
+    ///
+    /// The one error is want of memory for a new row; a refused query takes none.
+    pub fn dist(&self, glance: &Glance<N>, source: u64, target: u64) -> Result<Reply, OutOfMemory>
+        ensures right { IfOk result (IsRight glance.now.view.network (Dist source target)) }
+        ensures refused { IsSome (refusal_of glance.now.view.network (Dist source target)) → IsOk result }
+    {
+        if !glance.are_nodes(source, target) {
+            return Ok(Reply::Refused(Refusal::NoSuchNode));
+        }
+        match self.kept_reply(glance, source as u32, target) {
+            Ok(reply) => Ok(reply),
+            Err(workspace) => self.new_reply(glance, source as u32, target, workspace),
+        }
+    }
 }
 
 impl<N: Naming, D: Disk + Drop, G: Gate + Drop, R: Threads + Wait + Copy> Handle<N, D, G, R> {
     /// Halts the desk, waits for its threads, and closes the office that they have left.
     ///
-    /// Refused (61) is an office that is still shared, which never comes.
+    /// Refused (61) is an office that was taken out before, which never comes.
     pub(crate) fn close(self, threads: Started) -> Result<Closed<D>, Refusal>
         ensures origin { IfOk result (λ closed. closed.whole.origin ≡ N.origin) }
         ensures causes { IfErr result (λ refusal. refusal ≡ closed) }
@@ -116,12 +204,13 @@ impl<N: Naming, D: Disk + Drop, G: Gate + Drop, R: Threads + Wait + Copy> Handle
             rt,
             alloc: _,
             shared,
+            rows: _,
         } = self;
         shared.halt(&rt);
         threads.join(&rt);
-        let Some(shared) = Arc::into_inner(shared) else {
-            return Err(Refusal::Closed);
-        };
-        Ok(shared.into_office().close(&rt))
+        match shared.take_office(&rt) {
+            Some(office) => Ok(office.close(&rt)),
+            None => Err(Refusal::Closed),
+        }
     }
 }

@@ -1,13 +1,13 @@
 // What the lock of a desk protects, and what its threads and callers are to do, by its numbers.
-ghost use Rattle.std.specs.Prelude.{◌≡◌, ◌≢◌, ◌≤◌, ◌<◌, ◌*◌, false, true, IfOk, IfErr, IsOk, OnOk};
+ghost use Rattle.std.specs.Prelude.{◌≡◌, ◌≢◌, ◌≤◌, ◌<◌, ◌*◌, Err, false, true, IfOk, IfErr, IsOk, OnOk};
 ghost use Rattle.roadnet.specs.declared.refusals.Refusal.TheVariants.{Closed as closed, Broken as broken};
 ghost use Rattle.machine.specs.Laws.{IsAt};
-ghost use Rattle.desk.specs.Turns.{is_checkpoint_due, flusher_turn_of, builder_turn_of, is_unsettled, is_lost, is_unseen, IsUnserved, WereShown};
+ghost use Rattle.desk.specs.Turns.{is_checkpoint_due, flusher_turn_of, builder_turn_of, is_unsettled, is_lost, is_unseen, IsUnserved, IsUntaken, WereShown};
 
 use disk::Disk;
 use office::{Naming, Office, Receipt, Ticket};
 use published::Shown;
-use roadnet::Refusal;
+use roadnet::{Group, Refusal};
 
 /// The office, and how far the desk has come to its end.
 #[derive(Drop)]
@@ -125,6 +125,20 @@ impl<N: Naming, D: Disk> Locked<Office<N, D>> {
         ensures { result ≡ is_unseen self.now.office.machine self.now.builder_ended number }
     {
         self.office.shown() < number && !self.is_lost(number) && !self.builder_ended
+    }
+
+    /// Takes a group, unless the desk is halted.
+    pub(crate) fn submit_group(&mut self, group: Group) -> Result<Ticket, Refusal>
+        ensures origin { IfOk result (λ ticket. ticket.origin ≡ N.origin) }
+        ensures group { IfOk result (λ ticket. ticket.ticket.group ≡ group) }
+        ensures halted { self.old.halted ≡ true → result ≡ Err closed }
+        ensures causes { IfErr result (IsUntaken N.origin group) }
+    {
+        if self.halted {
+            return Err(Refusal::Closed);
+        }
+        let _ = self.office.durable();
+        self.office.submit_group(group)
     }
 
     /// A receipt for the ticket, where its group is durable.

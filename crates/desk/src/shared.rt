@@ -1,13 +1,14 @@
 // What the threads of a desk and its callers share.
 ghost use Rattle.std.specs.Prelude.{◌≡◌, IfOk, IfErr};
-ghost use Rattle.roadnet.specs.declared.refusals.Refusal.TheVariants.{NoReaderPlace as no_reader_place};
 ghost use Rattle.machine.specs.Laws.{IsAt};
+ghost use Rattle.desk.specs.Readings.{IsNoReader};
 ghost use Rattle.desk.specs.Turns.{IsUnserved, IsUntaken, WereShown};
 
 use crate::attempts::{Attempt, Misses};
 use crate::gates::Gate;
+use crate::held::Held;
 use crate::last::UNKNOWN;
-use crate::locked::{BuilderTurn, FlusherTurn, Locked};
+use crate::locked::{BuilderTurn, FlusherTurn};
 use disk::Disk;
 use office::{Naming, Office, Receipt, Ticket};
 use published::{Reader, Shown};
@@ -19,7 +20,7 @@ use std::time::{Clock, Duration};
 /// The lock, and what is waited for.
 #[derive(Drop)]
 pub(crate) struct Shared<O, G> {
-    pub(crate) locked: Mutex<Locked<O>>,
+    pub(crate) held: Mutex<Held<O>>,
     /// A group was submitted, or the desk was halted: the flusher waits for it.
     pub(crate) submitted: Condvar,
     /// Groups became durable, or the flusher ended: the builder and those that settle wait for it.
@@ -35,17 +36,16 @@ pub(crate) struct Shared<O, G> {
 
 impl<N: Naming, D: Disk + Drop, G: Gate + Drop> Shared<Office<N, D>, G> {
     /// Takes the lock.
-    pub(crate) fn lock<R: Wait>(&self, rt: &R) -> MutexGuard<'_, Locked<Office<N, D>>> {
-        self.locked.lock(rt)
+    pub(crate) fn lock<R: Wait>(&self, rt: &R) -> MutexGuard<'_, Held<Office<N, D>>> {
+        self.held.lock(rt)
     }
 
     /// Waits until the flusher has something to do, and tells it.
     pub(crate) fn next_flusher_turn<R: Wait>(&self, rt: &R, has_flushed: bool) -> FlusherTurn {
         let guard = self.submitted.wait_while(
             rt,
-            self.locked.lock(rt),
-            |locked: &mut Locked<Office<N, D>>| locked.flusher_turn(has_flushed)
-                == FlusherTurn::Rest,
+            self.held.lock(rt),
+            |held: &mut Held<Office<N, D>>| held.flusher_turn(has_flushed) == FlusherTurn::Rest,
         );
         guard.flusher_turn(has_flushed)
     }
@@ -54,8 +54,8 @@ impl<N: Naming, D: Disk + Drop, G: Gate + Drop> Shared<Office<N, D>, G> {
     pub(crate) fn next_builder_turn<R: Wait>(&self, rt: &R) -> BuilderTurn {
         let guard = self.flushed.wait_while(
             rt,
-            self.locked.lock(rt),
-            |locked: &mut Locked<Office<N, D>>| locked.builder_turn() == BuilderTurn::Rest,
+            self.held.lock(rt),
+            |held: &mut Held<Office<N, D>>| held.builder_turn() == BuilderTurn::Rest,
         );
         guard.builder_turn()
     }
@@ -66,13 +66,7 @@ impl<N: Naming, D: Disk + Drop, G: Gate + Drop> Shared<Office<N, D>, G> {
         ensures group { IfOk result (λ ticket. ticket.ticket.group ≡ group) }
         ensures causes { IfErr result (IsUntaken N.origin group) }
     {
-        let mut guard = self.locked.lock(rt);
-        if guard.halted {
-            return Err(Refusal::Closed);
-        }
-        let _ = guard.office.durable();
-        let ticket = guard.office.submit_group(group)?;
-        drop(guard);
+        let ticket = self.held.lock(rt).submit_group(group)?;
         self.submitted.notify_one();
         Ok(ticket)
     }
@@ -91,8 +85,8 @@ impl<N: Naming, D: Disk + Drop, G: Gate + Drop> Shared<Office<N, D>, G> {
         let number = ticket.ticket().number;
         let mut guard = self.flushed.wait_while(
             rt,
-            self.locked.lock(rt),
-            |locked: &mut Locked<Office<N, D>>| locked.is_unsettled(number),
+            self.held.lock(rt),
+            |held: &mut Held<Office<N, D>>| held.is_unsettled(number),
         );
         guard.settle(ticket)
     }
@@ -108,18 +102,18 @@ impl<N: Naming, D: Disk + Drop, G: Gate + Drop> Shared<Office<N, D>, G> {
         let number = ticket.ticket().number;
         let guard = self.published.wait_while(
             rt,
-            self.locked.lock(rt),
-            |locked: &mut Locked<Office<N, D>>| locked.is_unseen(number),
+            self.held.lock(rt),
+            |held: &mut Held<Office<N, D>>| held.is_unseen(number),
         );
         guard.shown_since(ticket)
     }
 
     /// The flusher has ended: what is durable is the last version.
     pub(crate) fn end_flusher<R: Wait>(&self, rt: &R) {
-        let mut guard = self.locked.lock(rt);
-        self.last.store(guard.office.durable(), Ordering::SeqCst);
-        guard.flusher_ended = true;
-        drop(guard);
+        if let Some(locked) = &mut self.held.lock(rt).locked {
+            self.last.store(locked.office.durable(), Ordering::SeqCst);
+            locked.flusher_ended = true;
+        }
         self.flushed.notify_all();
         self.published.notify_all();
     }
@@ -127,9 +121,9 @@ impl<N: Naming, D: Disk + Drop, G: Gate + Drop> Shared<Office<N, D>, G> {
     /// A reader of the readers' copy.
     pub(crate) fn reader<R: Wait>(&self, rt: &R) -> Result<Reader, Refusal>
         ensures origin { IfOk result (λ reader. reader.origin ≡ N.origin) }
-        ensures causes { IfErr result (λ refusal. refusal ≡ no_reader_place) }
+        ensures causes { IfErr result IsNoReader }
     {
-        self.locked.lock(rt).office.reader()
+        self.held.lock(rt).reader()
     }
 }
 
@@ -137,7 +131,7 @@ impl<O, G> Shared<O, G> {
     /// The lock, and nothing has happened.
     pub(crate) fn new(office: O, gate: G) -> Shared<O, G> {
         Shared {
-            locked: Mutex::new(Locked::new(office)),
+            held: Mutex::new(Held::new(office)),
             submitted: Condvar::new(),
             flushed: Condvar::new(),
             published: Condvar::new(),
@@ -149,7 +143,7 @@ impl<O, G> Shared<O, G> {
 
     /// No group is taken any more.
     pub(crate) fn halt<R: Wait>(&self, rt: &R) {
-        self.locked.lock(rt).halted = true;
+        self.held.lock(rt).halt();
         self.submitted.notify_all();
         self.halting.notify_all();
     }
@@ -160,13 +154,13 @@ impl<O, G> Shared<O, G> {
         if millis == 0 {
             return;
         }
-        let guard = self.locked.lock(rt);
-        let halted = guard.halted;
+        let guard = self.held.lock(rt);
+        let halted = guard.is_halted();
         let _ = self.halting.wait_timeout_while(
             rt,
             guard,
             Duration::from_millis(millis),
-            |locked: &mut Locked<O>| locked.halted == halted,
+            |held: &mut Held<O>| held.is_halted() == halted,
         );
     }
 
@@ -175,36 +169,36 @@ impl<O, G> Shared<O, G> {
         self.halt(rt);
         let _ = self.flushed.wait_while(
             rt,
-            self.locked.lock(rt),
-            |locked: &mut Locked<O>| !locked.flusher_ended,
+            self.held.lock(rt),
+            |held: &mut Held<O>| held.is_writing(),
+        );
+    }
+
+    /// Halts, and waits until the flusher and the builder have ended.
+    pub(crate) fn end_showing<R: Wait>(&self, rt: &R) {
+        self.halt(rt);
+        let _ = self.published.wait_while(
+            rt,
+            self.held.lock(rt),
+            |held: &mut Held<O>| held.is_going(),
         );
     }
 
     /// The builder has ended.
     pub(crate) fn end_builder<R: Wait>(&self, rt: &R) {
-        self.locked.lock(rt).builder_ended = true;
+        self.held.lock(rt).end_builder();
         self.published.notify_all();
     }
-}
 
-impl<O: Drop, G: Drop> Shared<O, G> {
-    /// What the lock protects.
-    pub(crate) fn into_office(self) -> O {
-        let Shared {
-            locked,
-            submitted: _,
-            flushed: _,
-            published: _,
-            halting: _,
-            last: _,
-            gate: _,
-        } = self;
-        let Locked {
-            office,
-            halted: _,
-            flusher_ended: _,
-            builder_ended: _,
-        } = locked.into_inner();
+    /// Takes the office out of the lock; nothing where that was done before. From then on each call is refused (61), and nobody waits.
+    pub(crate) fn take_office<R: Wait>(&self, rt: &R) -> Option<O>
+    where
+        O: Drop,
+    {
+        let office = self.held.lock(rt).take();
+        self.submitted.notify_all();
+        self.flushed.notify_all();
+        self.published.notify_all();
         office
     }
 }

@@ -10,6 +10,8 @@ mod ending;
 #[cfg(test)]
 mod failing;
 #[cfg(test)]
+mod handles;
+#[cfg(test)]
 mod holding;
 #[cfg(test)]
 mod keeping;

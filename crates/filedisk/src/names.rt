@@ -9,7 +9,7 @@ const MOST_LINKS: u32 = 40;
 
 /// The name of the file to which a path leads, also where there is none yet. A link is followed to what it names, and a relative name is
 /// taken from the link's own folder. Refused are more than 40 links, and want of memory.
-pub(crate) fn resolve<R: AllocGlobal + Files>(rt: &R, path: &str) -> io::Result<PathBuf> {
+pub fn resolve<R: AllocGlobal + Files>(rt: &R, path: &str) -> io::Result<PathBuf> {
     let mut path = PathBuf::from_str(rt.alloc(), path)?;
     for _ in 0..MOST_LINKS {
         match fs::read_link(rt, path.as_path()) {
@@ -25,7 +25,7 @@ pub(crate) fn resolve<R: AllocGlobal + Files>(rt: &R, path: &str) -> io::Result<
 }
 
 /// The folder in which the file of this name stands.
-pub(crate) fn folder_of(path: Path<'_>) -> Path<'_> {
+pub fn folder_of(path: Path<'_>) -> Path<'_> {
     match path.parent() {
         Some(folder) if !folder.as_str().is_empty() => folder,
         _ => Path::new("."),

@@ -11,7 +11,7 @@ use std::os::unix::fs::FileExt;
 
 /// An open file of the system, with the calls that were made of it.
 #[derive(Drop)]
-pub(crate) struct NotedFile<F> {
+pub struct NotedFile<F> {
     file: F,
     notes: Notes,
 }
@@ -46,9 +46,11 @@ pub(crate) fn as_done<'a>(answer: &io::Result<()>) -> Answer<'a>
 }
 
 impl<F> NotedFile<F> {
+    ghost use Rattle.filedisk.specs.SystemFiles.{calls_made};
+
     /// A file of which no call has been made.
-    pub(crate) fn new(file: F) -> NotedFile<F>
-        ensures { result.notes.calls ≡ [] }
+    pub fn new(file: F) -> NotedFile<F>
+        ensures { calls_made result ≡ [] }
     {
         NotedFile {
             file,
@@ -64,6 +66,8 @@ impl<F> NotedFile<F> {
 }
 
 impl<F: OpenFile> NotedFile<F> {
+    ghost use Rattle.filedisk.specs.SystemFiles.{calls_made};
+
     /// Whether it is a file: no folder, device or pipe. It asks of no content, and isn't noted.
     pub(crate) fn is_file(&self) -> io::Result<bool> {
         let metadata = self.file.metadata()?;
@@ -97,8 +101,8 @@ impl<F: OpenFile> NotedFile<F> {
     }
 
     /// Syncs the data, and all that tells of the file.
-    pub(crate) fn sync_all(&mut self) -> io::Result<()>
-        ensures { self.new.notes.calls ≡ (SyncAll, done result) ∷ self.old.notes.calls }
+    pub fn sync_all(&mut self) -> io::Result<()>
+        ensures { calls_made self.new ≡ (SyncAll, done result) ∷ calls_made self.old }
     {
         let answer = self.file.sync_all();
         self.note(Asked::SyncAll, as_done(&answer));
@@ -106,8 +110,8 @@ impl<F: OpenFile> NotedFile<F> {
     }
 
     /// Syncs the data, and what it takes to read it again.
-    pub(crate) fn sync_data(&mut self) -> io::Result<()>
-        ensures { self.new.notes.calls ≡ (SyncData, done result) ∷ self.old.notes.calls }
+    pub fn sync_data(&mut self) -> io::Result<()>
+        ensures { calls_made self.new ≡ (SyncData, done result) ∷ calls_made self.old }
     {
         let answer = self.file.sync_data();
         self.note(Asked::SyncData, as_done(&answer));
@@ -115,8 +119,8 @@ impl<F: OpenFile> NotedFile<F> {
     }
 
     /// Syncs the folder in which the file stands.
-    pub(crate) fn sync_folder(&mut self, folder: &F) -> io::Result<()>
-        ensures { self.new.notes.calls ≡ (SyncFolder, done result) ∷ self.old.notes.calls }
+    pub fn sync_folder(&mut self, folder: &F) -> io::Result<()>
+        ensures { calls_made self.new ≡ (SyncFolder, done result) ∷ calls_made self.old }
     {
         let answer = folder.sync_all();
         self.note(Asked::SyncFolder, as_done(&answer));

@@ -1,9 +1,9 @@
 ghost use Rattle.std.specs.Prelude.{◌≡◌, IfSome};
 
-use crate::keeping::network;
+use fixtures::network;
 use history::{Front, History};
 use machine::Ticket;
-use roadnet::{Command, Group, Network};
+use roadnet::{Command, Group, Network, Refusal};
 use std::test::Fail;
 
 const CLOSE: Command = Command::Close { arc: 1 };
@@ -46,22 +46,38 @@ fn longer_of(shorter: &Front, longer: &Front) -> (u64, u64)
     (shorter.longer(longer).len(), longer.longer(shorter).len())
 }
 
+/// Whether beginnings of a history of two groups tell their lengths, and which of them begins which.
+fn are_fronts(history: &History, none: &Front, one: &Front, two: &Front) -> bool
+    requires none { none.now.origin ≡ history.now.origin }
+    requires one { one.now.origin ≡ history.now.origin }
+    requires two { two.now.origin ≡ history.now.origin }
+{
+    (none.len(), one.len(), history.len()) == (0, 1, 2)
+        && two.len() == 2
+        && two.first(1).len() == 1
+        && begin_in_turn(none, one, two)
+        && longer_of(none, two) == (2, 2)
+        && longer_of(one, two) == (2, 2)
+        && history.begins(two)
+        && history.begins(none)
+}
+
+/// The same of those of a new history; nothing where it has no room.
+fn has_fronts(network: &Network) -> Option<bool> {
+    let (history, none, one, two) = fronts_of(network)?;
+    Some(are_fronts(&history, &none, &one, &two))
+}
+
 #[test]
-fn fronts_of_a_history(rt: HostRuntime) -> Result<(), Fail> {
-    let network = network(rt.alloc(), 2, &[(1, 2, 5)]).map_err(|_| Fail::from("a network"))?;
-    let (history, none, one, two) = fronts_of(&network).ok_or("a history with room")?;
-    assert!(rt; (none.len(), one.len(), history.len()) == (0, 1, 2));
-    assert!(rt; two.len() == 2);
-    assert!(rt; begin_in_turn(&none, &one, &two));
-    assert!(rt; longer_of(&none, &two) == (2, 2) && longer_of(&one, &two) == (2, 2));
-    assert_eq!(rt; two.first(1).len(), 1);
-    assert!(rt; history.begins(&two) && history.begins(&none));
+fn fronts_of_a_history(rt: HostRuntime) -> Result<(), Refusal> {
+    let network = network(rt.alloc(), 2, &[(1, 2, 5)], &[])?;
+    assert!(rt; has_fronts(&network) == Some(true));
     Ok(())
 }
 
 #[test]
 fn a_receipt_is_confirmed(rt: HostRuntime) -> Result<(), Fail> {
-    let network = network(rt.alloc(), 2, &[(1, 2, 5)]).map_err(|_| Fail::from("a network"))?;
+    let network = network(rt.alloc(), 2, &[(1, 2, 5)], &[])?;
     let mut history = History::new(&network, 7);
     let first = history.write(&Group::one(CLOSE));
     let one = history.front(history.len());

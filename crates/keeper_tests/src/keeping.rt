@@ -3,14 +3,14 @@ ghost use Rattle.store.specs.State.{is_calm};
 ghost use Rattle.machine.specs.Calls.{IsTicketOf};
 
 use disk::{Disk, FailOnce, MemDisk, Pick, Stoppable};
+use fixtures::{parallel, six};
 use keeper::Keeper;
 use machine::{Receipt, Ticket};
 use relax::Solo;
-use roadnet::{Command, Network, Refusal, RoadArc};
+use roadnet::{Command, Network, Refusal};
 use rows::{Query, Reply, View};
 use std::alloc::Global;
 use std::sync::Arc;
-use std::test::Fail;
 use std::thread::Threads;
 use store::{Part, Store, create, open};
 
@@ -56,46 +56,10 @@ enum Told {
 }
 
 // The first call that was told something else, and what; or why there is no keeper.
-#[derive(Clone, Copy, Debug)]
+#[derive(Clone, Copy, Debug, PartialEq)]
 struct Wrong {
     at: usize,
     told: Told,
-}
-
-// A network of these arcs, without landmarks.
-pub(crate) fn network(
-    alloc: Global,
-    nodes: u32,
-    table: &[(u32, u32, u32)],
-) -> Result<Network, Refusal> {
-    let mut arcs = Vec::new(alloc);
-    for (tail, head, length) in table {
-        let arc = RoadArc {
-            tail: *tail,
-            head: *head,
-            length: *length,
-            opened: true,
-        };
-        if arcs.push(arc).is_err() {
-            return Err(Refusal::OutOfMemory);
-        }
-    }
-    Network::new(alloc, nodes, arcs, &[])
-}
-
-// The network of the worked rows: six nodes and eight arcs.
-pub(crate) fn six(alloc: Global) -> Result<Network, Refusal> {
-    let table = [
-        (1, 2, 17),
-        (1, 3, 10),
-        (2, 4, 2),
-        (3, 5, 0),
-        (4, 3, 0),
-        (4, 6, 3),
-        (5, 2, 0),
-        (5, 6, 20),
-    ];
-    network(alloc, 6, &table)
 }
 
 // A keeper of a store.
@@ -341,6 +305,35 @@ fn plays_on<R: Threads, D: Disk + Drop>(
     Ok(())
 }
 
+// The same of a keeper, and then of a new one of what a stop with this pick leaves of its disk. Told are how many commands the first had accepted,
+// and whether an armed call came.
+fn plays_and_stops<R: Threads, D: Stoppable + Drop>(
+    rt: &R,
+    alloc: Global,
+    keeper: Result<Keeper<D>, Refusal>,
+    table: &[(Call, Told)],
+    pick: Pick,
+    left: &[(Call, Told)],
+) -> Result<(usize, bool), Wrong> {
+    let keeper = played(rt, alloc, keeper, table)?;
+    let (reopened, accepted, came) = stopped(rt, alloc, keeper, pick);
+    plays_on(rt, alloc, reopened, left)?;
+    Ok((accepted, came))
+}
+
+// The keeper of a disk that was closed once the table was told, and opened again, once it was told what is left.
+fn plays_and_opens<R: Threads, D: Disk + Drop>(
+    rt: &R,
+    alloc: Global,
+    keeper: Result<Keeper<D>, Refusal>,
+    table: &[(Call, Told)],
+    left: &[(Call, Told)],
+) -> Result<Keeper<D>, Wrong> {
+    let keeper = played(rt, alloc, keeper, table)?;
+    let (_, disk) = keeper.close();
+    played(rt, alloc, reopened(rt, alloc, disk), left)
+}
+
 fn plays_on_six<R: Threads>(rt: &R, alloc: Global, table: &[(Call, Told)]) -> Result<(), Wrong> {
     plays_on(rt, alloc, keeper_of_six(rt, alloc, 64), table)
 }
@@ -460,8 +453,7 @@ fn refusals_of_commands(rt: HostRuntime) -> Result<(), Wrong> {
 
 // A keeper of two nodes, with two arcs between them and a loop.
 fn keeper_of_two<R: Threads>(rt: &R, alloc: Global) -> Result<Keeper<MemDisk>, Refusal> {
-    let network = network(alloc, 2, &[(1, 2, 5), (1, 2, 3), (1, 1, 0)])?;
-    keeper(rt, alloc, &network, 64)
+    keeper(rt, alloc, &parallel(alloc)?, 64)
 }
 
 #[test]
@@ -477,25 +469,34 @@ fn parallel_arcs_and_loops(rt: HostRuntime) -> Result<(), Wrong> {
     plays_on(&rt, alloc, keeper_of_two(&rt, alloc), &table)
 }
 
+const FULL_PAGE: [(Call, Told); 5] = [
+    (Call::Fill(254, SAME), Told::Number(254)),
+    (Call::Flush, Told::Number(253)),
+    (Call::Pending, Told::Number(1)),
+    (Call::Durable, Told::Number(253)),
+    (Call::Shown, Told::Number(0)),
+];
+
+const FULL_PAGE_LEFT: [(Call, Told); 3] = [
+    (Call::Pending, Told::Number(0)),
+    (Call::Durable, Told::Number(253)),
+    (Call::Shown, Told::Number(253)),
+];
+
 #[test]
 fn full_page_of_commands(rt: HostRuntime) -> Result<(), Wrong> {
     let alloc = rt.alloc();
-    let table = [
-        (Call::Fill(254, SAME), Told::Number(254)),
-        (Call::Flush, Told::Number(253)),
-        (Call::Pending, Told::Number(1)),
-        (Call::Durable, Told::Number(253)),
-        (Call::Shown, Told::Number(0)),
-    ];
-    let keeper = played(&rt, alloc, keeper_of_six(&rt, alloc, 64), &table)?;
-    let (reopened, accepted, _) = stopped(&rt, alloc, keeper, Pick::New);
+    let keeper = keeper_of_six(&rt, alloc, 64);
+    let (accepted, _) = plays_and_stops(
+        &rt,
+        alloc,
+        keeper,
+        &FULL_PAGE,
+        Pick::New,
+        &FULL_PAGE_LEFT,
+    )?;
     assert!(rt; accepted == 254);
-    let left = [
-        (Call::Pending, Told::Number(0)),
-        (Call::Durable, Told::Number(253)),
-        (Call::Shown, Told::Number(253)),
-    ];
-    plays_on(&rt, alloc, reopened, &left)
+    Ok(())
 }
 
 #[test]
@@ -530,80 +531,118 @@ fn refused<D: Disk>(
     }
 }
 
+// What is told behind it.
+const BROKEN: [(Call, Told); 4] = [
+    (Call::Submit(CLOSE), Told::Refused(Refusal::Broken)),
+    (Call::Flush, Told::Refused(Refusal::Broken)),
+    (Call::Step, Told::Refused(Refusal::Broken)),
+    (Call::Dist(1, 6), Told::Reply(0, Reply::Length(15))),
+];
+
+// Whether a command's flush fails at its sync, and all but queries is refused behind it.
+fn breaks<R: Threads, D: Disk>(
+    rt: &R,
+    alloc: Global,
+    keeper: &mut Keeper<D>,
+) -> Result<bool, Refusal> {
+    let told = refused(keeper, CLOSE)?;
+    let wanted = (Refusal::NotYet, Err(Refusal::Device), Some(Refusal::Broken));
+    Ok(told == wanted && plays(rt, alloc, keeper, &BROKEN).is_ok())
+}
+
+fn breaks_at_a_sync<R: Threads>(rt: &R, alloc: Global) -> Result<bool, Refusal> {
+    let mut keeper = failing(rt, alloc)?;
+    breaks(rt, alloc, &mut keeper)
+}
+
 #[test]
-fn sync_fails_once(rt: HostRuntime) -> Result<(), Fail> {
-    let alloc = rt.alloc();
-    let mut keeper = failing(&rt, alloc)?;
-    let told = refused(&mut keeper, CLOSE)?;
-    assert!(rt; told == (Refusal::NotYet, Err(Refusal::Device), Some(Refusal::Broken)));
-    let table = [
-        (Call::Submit(CLOSE), Told::Refused(Refusal::Broken)),
-        (Call::Flush, Told::Refused(Refusal::Broken)),
-        (Call::Step, Told::Refused(Refusal::Broken)),
-        (Call::Dist(1, 6), Told::Reply(0, Reply::Length(15))),
-    ];
-    plays(&rt, alloc, &mut keeper, &table)?;
+fn sync_fails_once(rt: HostRuntime) -> Result<(), Refusal> {
+    assert!(rt; breaks_at_a_sync(&rt, rt.alloc())?);
     Ok(())
+}
+
+const FAILED: [(Call, Told); 2] = [
+    (Call::Submit(CLOSE), Told::Number(1)),
+    (Call::Flush, Told::Refused(Refusal::Device)),
+];
+
+const FAILED_LEFT: [(Call, Told); 3] = [
+    (Call::Pending, Told::Number(0)),
+    (Call::Durable, Told::Number(1)),
+    (Call::Shown, Told::Number(1)),
+];
+
+const FAILED_OPENED: [(Call, Told); 1] = [(Call::Dist(1, 6), Told::Reply(1, Reply::Length(22)))];
+
+// A keeper of what a stop leaves that keeps no byte that was not synced.
+fn keeper_of_old<R: Threads>(
+    rt: &R,
+    alloc: Global,
+    keeper: Keeper<FailOnce<MemDisk>>,
+) -> Result<Keeper<MemDisk>, Refusal> {
+    let (_, disk) = keeper.close();
+    let mut disk = disk.into_inner();
+    let _ = disk.stop(&[Pick::Old]);
+    reopened(rt, alloc, disk)
 }
 
 #[test]
 fn failed_flush_is_there_when_opened(rt: HostRuntime) -> Result<(), Wrong> {
     let alloc = rt.alloc();
-    let table = [
-        (Call::Submit(CLOSE), Told::Number(1)),
-        (Call::Flush, Told::Refused(Refusal::Device)),
-    ];
-    let keeper = played(&rt, alloc, failing(&rt, alloc), &table)?;
-    let keeper = reopened(&rt, alloc, keeper.close().1);
-    let left = [
-        (Call::Pending, Told::Number(0)),
-        (Call::Durable, Told::Number(1)),
-        (Call::Shown, Told::Number(1)),
-    ];
-    let keeper = played(&rt, alloc, keeper, &left)?;
-    let mut disk = keeper.close().1.into_inner();
-    let _ = disk.stop(&[Pick::Old]);
-    let reply = [(Call::Dist(1, 6), Told::Reply(1, Reply::Length(22)))];
-    plays_on(&rt, alloc, reopened(&rt, alloc, disk), &reply)
+    let keeper = plays_and_opens(&rt, alloc, failing(&rt, alloc), &FAILED, &FAILED_LEFT)?;
+    plays_on(
+        &rt,
+        alloc,
+        keeper_of_old(&rt, alloc, keeper),
+        &FAILED_OPENED,
+    )
+}
+
+// Whether there is no receipt for a command before the flush, and one behind it.
+fn is_received<D: Disk>(keeper: &mut Keeper<D>, command: Command) -> Result<bool, Refusal> {
+    let (before, answer, behind) = received(keeper, command)?;
+    let receipt = behind?;
+    let told = (before, answer, receipt.number);
+    Ok(told == (Refusal::NotYet, Ok(1), 1) && receipt.group.commands() == [command].as_slice())
 }
 
 #[test]
-fn receipt_behind_a_flush(rt: HostRuntime) -> Result<(), Fail> {
-    let alloc = rt.alloc();
-    let (before, answer, behind) = received(&mut keeper_of_six(&rt, alloc, 64)?, CLOSE)?;
-    assert!(rt; before == Refusal::NotYet && answer == Ok(1));
-    let receipt = behind?;
-    assert!(rt; receipt.number == 1 && receipt.group.commands() == [CLOSE].as_slice());
+fn receipt_behind_a_flush(rt: HostRuntime) -> Result<(), Refusal> {
+    let mut keeper = keeper_of_six(&rt, rt.alloc(), 64)?;
+    assert!(rt; is_received(&mut keeper, CLOSE)?);
     Ok(())
 }
+
+const FREED: [(Call, Told); 12] = [
+    (Call::Step, Told::Number(0)),
+    (Call::Submit(SAME), Told::Number(1)),
+    (Call::Flush, Told::Number(1)),
+    (
+        Call::Submit(Command::Set { arc: 1, length: 2 }),
+        Told::Number(2),
+    ),
+    (Call::Flush, Told::Number(2)),
+    (Call::Unchecked, Told::Number(2)),
+    (Call::JournalPages, Told::Number(2)),
+    (Call::Submit(CLOSE), Told::Number(3)),
+    (Call::Flush, Told::Refused(Refusal::JournalFull)),
+    (Call::Step, Told::Number(2)),
+    (Call::Unchecked, Told::Number(0)),
+    (Call::Flush, Told::Number(3)),
+];
+
+const FREED_LEFT: [(Call, Told); 3] = [
+    (Call::Unchecked, Told::Number(1)),
+    (Call::JournalPages, Told::Number(2)),
+    (Call::Dist(1, 6), Told::Reply(3, Reply::Length(7))),
+];
 
 #[test]
 fn checkpoint_frees_the_journal(rt: HostRuntime) -> Result<(), Wrong> {
     let alloc = rt.alloc();
-    let table = [
-        (Call::Step, Told::Number(0)),
-        (Call::Submit(SAME), Told::Number(1)),
-        (Call::Flush, Told::Number(1)),
-        (
-            Call::Submit(Command::Set { arc: 1, length: 2 }),
-            Told::Number(2),
-        ),
-        (Call::Flush, Told::Number(2)),
-        (Call::Unchecked, Told::Number(2)),
-        (Call::JournalPages, Told::Number(2)),
-        (Call::Submit(CLOSE), Told::Number(3)),
-        (Call::Flush, Told::Refused(Refusal::JournalFull)),
-        (Call::Step, Told::Number(2)),
-        (Call::Unchecked, Told::Number(0)),
-        (Call::Flush, Told::Number(3)),
-    ];
-    let keeper = played(&rt, alloc, keeper_of_six(&rt, alloc, 2), &table)?;
-    let left = [
-        (Call::Unchecked, Told::Number(1)),
-        (Call::JournalPages, Told::Number(2)),
-        (Call::Dist(1, 6), Told::Reply(3, Reply::Length(7))),
-    ];
-    plays_on(&rt, alloc, reopened(&rt, alloc, keeper.close().1), &left)
+    let keeper = keeper_of_six(&rt, alloc, 2);
+    let _ = plays_and_opens(&rt, alloc, keeper, &FREED, &FREED_LEFT)?;
+    Ok(())
 }
 
 #[test]
@@ -643,23 +682,24 @@ fn another_view_is_refused(rt: HostRuntime) -> Result<(), Wrong> {
     plays_on_six(&rt, rt.alloc(), &table)
 }
 
-#[test]
-fn armed_flush_fails(rt: HostRuntime) -> Result<(), Fail> {
-    let alloc = rt.alloc();
-    let mut keeper = keeper_of_six(&rt, alloc, 64)?;
+// A keeper whose third write or sync is cut.
+fn armed<R: Threads>(rt: &R, alloc: Global) -> Result<Keeper<MemDisk>, Refusal> {
+    let mut keeper = keeper_of_six(rt, alloc, 64)?;
     keeper.arm(3);
-    let table = [
-        (Call::Submit(CLOSE), Told::Number(1)),
-        (Call::Flush, Told::Refused(Refusal::Device)),
-    ];
-    plays(&rt, alloc, &mut keeper, &table)?;
-    let (reopened, _, came) = stopped(&rt, alloc, keeper, Pick::Old);
+    Ok(keeper)
+}
+
+const ARMED_LEFT: [(Call, Told); 3] = [
+    (Call::Pending, Told::Number(0)),
+    (Call::Durable, Told::Number(0)),
+    (Call::Shown, Told::Number(0)),
+];
+
+#[test]
+fn armed_flush_fails(rt: HostRuntime) -> Result<(), Wrong> {
+    let alloc = rt.alloc();
+    let keeper = armed(&rt, alloc);
+    let (_, came) = plays_and_stops(&rt, alloc, keeper, &FAILED, Pick::Old, &ARMED_LEFT)?;
     assert!(rt; came);
-    let left = [
-        (Call::Pending, Told::Number(0)),
-        (Call::Durable, Told::Number(0)),
-        (Call::Shown, Told::Number(0)),
-    ];
-    plays_on(&rt, alloc, reopened, &left)?;
     Ok(())
 }

@@ -2,13 +2,13 @@ ghost use Rattle.std.specs.Prelude.{◌≡◌, ◌≤◌, true, IfOk, IfSome};
 ghost use Rattle.store.specs.State.{is_calm};
 ghost use Rattle.machine.specs.Calls.{IsTicketOf};
 
-use crate::keeping::{CLOSE, OPEN, six};
+use crate::keeping::{CLOSE, OPEN};
 use disk::{Disk, MemDisk, Pick, Stoppable};
+use fixtures::six;
 use keeper::Ledger;
 use machine::{Receipt, Ticket};
 use roadnet::{Command, Group, Refusal, RoadArc};
 use std::alloc::Global;
-use std::test::Fail;
 use store::{Part, Store, create, open};
 
 // What a ledger tells of its numbers.
@@ -107,30 +107,43 @@ pub(crate) fn are_alone(groups: &[Group], commands: &[Command]) -> bool {
     groups.len() == commands.len()
 }
 
+// Whether a command is made durable by a flush, and not before.
+fn is_settled<D: Disk>(ledger: &mut Ledger<D>, command: Command) -> Result<bool, Refusal> {
+    let (before, answer, receipt) = settled(ledger, command)?;
+    let told = (before, answer, receipt.number);
+    Ok(told == (Refusal::NotYet, Ok(1), 1) && receipt.group.commands() == [command].as_slice())
+}
+
+// The number of a command that is accepted.
+fn number_of<D: Disk>(ledger: &mut Ledger<D>, command: Command) -> Result<u64, Refusal> {
+    Ok(ledger.submit_group(Group::one(command))?.number)
+}
+
+// The numbers of a ledger of which `close 7` is durable, and a second command accepted.
+const ONE_PENDING: Numbers = Numbers {
+    opened: 0,
+    durable: 1,
+    pending: 1,
+    unchecked: 1,
+    journal_pages: 4,
+    broken: false,
+};
+
+const CLOSED: RoadArc = RoadArc {
+    tail: 5,
+    head: 2,
+    length: 0,
+    opened: false,
+};
+
 #[test]
-fn ledger_makes_commands_durable(rt: HostRuntime) -> Result<(), Fail> {
+fn ledger_makes_commands_durable(rt: HostRuntime) -> Result<(), Refusal> {
     let mut ledger = ledger_of_six(rt.alloc())?;
-    let (before, answer, receipt) = settled(&mut ledger, CLOSE)?;
-    assert_eq!(rt; (before, answer), (Refusal::NotYet, Ok(1)));
-    assert!(rt; receipt.number == 1 && receipt.group.commands() == [CLOSE].as_slice());
-    assert_eq!(rt; ledger.submit_group(Group::one(OPEN))?.number, 2);
-    let now = Numbers {
-        opened: 0,
-        durable: 1,
-        pending: 1,
-        unchecked: 1,
-        journal_pages: 4,
-        broken: false,
-    };
-    assert_eq!(rt; told_by(&ledger), now);
+    assert!(rt; is_settled(&mut ledger, CLOSE)?);
+    assert!(rt; number_of(&mut ledger, OPEN)? == 2);
+    assert_eq!(rt; told_by(&ledger), ONE_PENDING);
     assert!(rt; are_alone(ledger.groups(), &[CLOSE, OPEN]));
-    let closed = RoadArc {
-        tail: 5,
-        head: 2,
-        length: 0,
-        opened: false,
-    };
-    assert_eq!(rt; ledger.network().arc(7), Some(closed));
+    assert!(rt; ledger.network().arc(7) == Some(CLOSED));
     Ok(())
 }
 
@@ -152,13 +165,18 @@ fn checkpoint<D: Disk>(ledger: &mut Ledger<D>) -> Result<(u64, u32), Refusal> {
     Ok((version, ledger.unchecked()))
 }
 
+// What a checkpoint in parts is told, and a whole one behind another command.
+fn checkpoint_twice<D: Disk>(ledger: &mut Ledger<D>) -> Result<((Part, u32), (u64, u32)), Refusal> {
+    let _ = flush_one(ledger, CLOSE)?;
+    let parted = step(ledger)?;
+    let _ = flush_one(ledger, OPEN)?;
+    Ok((parted, checkpoint(ledger)?))
+}
+
 #[test]
-fn ledger_writes_checkpoints(rt: HostRuntime) -> Result<(), Fail> {
+fn ledger_writes_checkpoints(rt: HostRuntime) -> Result<(), Refusal> {
     let mut ledger = ledger_of_six(rt.alloc())?;
-    let _ = flush_one(&mut ledger, CLOSE)?;
-    assert!(rt; step(&mut ledger)? == (Part::Done(1), 0));
-    let _ = flush_one(&mut ledger, OPEN)?;
-    assert!(rt; checkpoint(&mut ledger)? == (2, 0));
+    assert!(rt; checkpoint_twice(&mut ledger)? == ((Part::Done(1), 0), (2, 0)));
     Ok(())
 }
 
@@ -180,23 +198,29 @@ fn told_of<D: Disk + Drop>(alloc: Global, disk: D) -> Result<Numbers, Refusal> {
     Ok(told_by(&ledger))
 }
 
+// Whether the groups of a ledger that is closed are these commands, each alone, and its disk, once it was stopped.
+fn closed_and_stopped(ledger: Ledger<MemDisk>, commands: &[Command]) -> (bool, MemDisk) {
+    let (groups, mut disk) = ledger.close();
+    let _ = disk.stop(&[Pick::Old]);
+    (are_alone(groups.as_slice(), commands), disk)
+}
+
+const ONE_DURABLE: Numbers = Numbers {
+    opened: 1,
+    durable: 1,
+    pending: 0,
+    unchecked: 1,
+    journal_pages: 4,
+    broken: false,
+};
+
 #[test]
-fn stopped_ledger_is_opened_again(rt: HostRuntime) -> Result<(), Fail> {
+fn stopped_ledger_is_opened_again(rt: HostRuntime) -> Result<(), Refusal> {
     let alloc = rt.alloc();
     let mut ledger = ledger_of_six(alloc)?;
     assert_eq!(rt; fail_second(&mut ledger)?, Err(Refusal::Device));
     assert!(rt; ledger.broken());
-    let (groups, mut disk) = ledger.close();
-    assert!(rt; are_alone(groups.as_slice(), &[CLOSE, OPEN]));
-    let _ = disk.stop(&[Pick::Old]);
-    let now = Numbers {
-        opened: 1,
-        durable: 1,
-        pending: 0,
-        unchecked: 1,
-        journal_pages: 4,
-        broken: false,
-    };
-    assert_eq!(rt; told_of(alloc, disk)?, now);
+    let (alone, disk) = closed_and_stopped(ledger, &[CLOSE, OPEN]);
+    assert!(rt; alone && told_of(alloc, disk)? == ONE_DURABLE);
     Ok(())
 }

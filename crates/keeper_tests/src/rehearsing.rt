@@ -1,7 +1,6 @@
 ghost use Rattle.std.specs.Prelude.{◌≡◌, ◌≤◌, true, IfOk};
 ghost use Rattle.store.specs.State.{is_calm};
 
-use crate::keeping::six as network_of_six;
 use crate::ledgers::are_alone;
 use disk::{Disk, MemDisk, Pick};
 use keeper::{Rehearsal, rehearse};
@@ -9,7 +8,6 @@ use machine::{Answer, Event, Replied, Writing};
 use roadnet::{Command, Group, Refusal};
 use rows::{Query, Reply};
 use std::alloc::Global;
-use std::test::Fail;
 use std::thread::Threads;
 use store::{Store, create, open};
 
@@ -19,7 +17,7 @@ fn six(alloc: Global, journal_pages: u32) -> Result<Store<MemDisk>, Refusal>
     requires few { journal_pages ≤ 65536 }
     ensures { IfOk result (λ store. is_calm store ≡ true) }
 {
-    let network = network_of_six(alloc)?;
+    let network = fixtures::six(alloc)?;
     match create(alloc, MemDisk::new(alloc), &network, journal_pages) {
         Ok(store) => Ok(store),
         Err((refusal, _)) => Err(refusal),
@@ -139,31 +137,33 @@ fn keeps<R: Threads>(
     Ok(is_told && run.history.len() as u64 == kept)
 }
 
+// The write or sync that is cut, the pick, and how many commands are kept.
+const CUT_FLUSHES: [(u64, Pick, u64); 20] = [
+    (1, Pick::Old, 0),
+    (1, Pick::New, 0),
+    (1, Pick::Byte(165), 0),
+    (1, Pick::Byte(17), 0),
+    (2, Pick::Old, 0),
+    (2, Pick::New, 0),
+    (2, Pick::Byte(165), 0),
+    (2, Pick::Byte(17), 0),
+    (3, Pick::Old, 0),
+    (3, Pick::New, 1),
+    (3, Pick::Byte(165), 1),
+    (3, Pick::Byte(17), 0),
+    (4, Pick::Old, 0),
+    (4, Pick::New, 1),
+    (4, Pick::Byte(165), 1),
+    (4, Pick::Byte(17), 0),
+    (5, Pick::Old, 1),
+    (5, Pick::New, 1),
+    (5, Pick::Byte(165), 1),
+    (5, Pick::Byte(17), 1),
+];
+
 #[test]
-fn stop_within_flush(rt: HostRuntime) -> Result<(), Fail> {
-    let table = [
-        (1, Pick::Old, 0),
-        (1, Pick::New, 0),
-        (1, Pick::Byte(165), 0),
-        (1, Pick::Byte(17), 0),
-        (2, Pick::Old, 0),
-        (2, Pick::New, 0),
-        (2, Pick::Byte(165), 0),
-        (2, Pick::Byte(17), 0),
-        (3, Pick::Old, 0),
-        (3, Pick::New, 1),
-        (3, Pick::Byte(165), 1),
-        (3, Pick::Byte(17), 0),
-        (4, Pick::Old, 0),
-        (4, Pick::New, 1),
-        (4, Pick::Byte(165), 1),
-        (4, Pick::Byte(17), 0),
-        (5, Pick::Old, 1),
-        (5, Pick::New, 1),
-        (5, Pick::Byte(165), 1),
-        (5, Pick::Byte(17), 1),
-    ];
-    for (call, pick, kept) in table {
+fn stop_within_flush(rt: HostRuntime) -> Result<(), Refusal> {
+    for (call, pick, kept) in CUT_FLUSHES {
         assert!(rt; keeps(&rt, rt.alloc(), call, pick, kept)?);
     }
     Ok(())
@@ -188,9 +188,8 @@ fn head_of_second_slot(disk: &mut MemDisk) -> Result<[u8; 4096], Refusal> {
     }
 }
 
-#[test]
-fn stop_within_checkpoint(rt: HostRuntime) -> Result<(), Fail> {
-    let alloc = rt.alloc();
+// A run in which two checkpoints are cut.
+fn cut_checkpoints<R: Threads>(rt: &R, alloc: Global) -> Result<Rehearsal<MemDisk>, Refusal> {
     let events = [
         close(7),
         Event::Flush,
@@ -199,32 +198,55 @@ fn stop_within_checkpoint(rt: HostRuntime) -> Result<(), Fail> {
         stop_within(alloc, 4, Pick::New, Writing::Checkpoint)?,
         dist(1, 6),
     ];
-    let run = rehearsed(&rt, alloc, 64, &events)?;
+    rehearsed(rt, alloc, 64, &events)
+}
+
+// Whether the run of cut checkpoints has its replies.
+fn has_replies(run: &Rehearsal<MemDisk>) -> bool {
+    let detour = answered(1, 1, 6, Reply::Length(22));
     let replies = [
         accepted(1),
         durable(1),
         opened(1),
-        answered(1, 1, 6, Reply::Length(22)),
+        detour,
         opened(1),
-        answered(1, 1, 6, Reply::Length(22)),
+        detour,
     ];
-    assert!(rt; run.replies.as_slice() == replies.as_slice());
-    assert!(rt; run.history.len() == 1);
-    // The slot that the last stop left is the second one, with its head's numbers.
+    run.replies.as_slice() == replies.as_slice() && run.history.len() == 1
+}
+
+// Whether the second slot has its head's numbers.
+fn has_second_slot(disk: &mut MemDisk) -> Result<bool, Refusal> {
+    let head = head_of_second_slot(disk)?;
+    Ok(
+        head.starts_with(&HEAD_2)
+            && head[32..4095].iter().all(|&byte| byte == 0)
+            && head[4095] == 165,
+    )
+}
+
+// The version, and how many pages are unchecked, of the store on this disk.
+fn found(alloc: Global, disk: MemDisk) -> Result<(u64, u32), Refusal> {
+    match open(alloc, disk) {
+        Ok(store) => Ok((store.version(), store.unchecked())),
+        Err((refusal, _)) => Err(refusal),
+    }
+}
+
+// The slot that the last stop left is the second one.
+#[test]
+fn stop_within_checkpoint(rt: HostRuntime) -> Result<(), Refusal> {
+    let run = cut_checkpoints(&rt, rt.alloc())?;
+    assert!(rt; has_replies(&run));
     let mut disk = run.disk;
-    let head = head_of_second_slot(&mut disk)?;
-    assert!(rt; head.starts_with(&HEAD_2) && head[32..4095].iter().all(|&byte| byte == 0));
-    assert_eq!(rt; head[4095], 165);
-    let Ok(store) = open(alloc, disk) else {
-        return Err(Refusal::Device.into());
-    };
-    assert!(rt; store.version() == 1 && store.unchecked() == 0);
+    assert!(rt; has_second_slot(&mut disk)?);
+    assert!(rt; found(rt.alloc(), disk)? == (1, 0));
     Ok(())
 }
 
 // A stop forgets the view that is kept aside, and what is pending.
 #[test]
-fn a_stop_forgets(rt: HostRuntime) -> Result<(), Fail> {
+fn a_stop_forgets(rt: HostRuntime) -> Result<(), Refusal> {
     let events = [
         close(7),
         Event::Flush,
@@ -255,7 +277,7 @@ fn a_stop_forgets(rt: HostRuntime) -> Result<(), Fail> {
 
 // A run without events hands back what it was given.
 #[test]
-fn no_events(rt: HostRuntime) -> Result<(), Fail> {
+fn no_events(rt: HostRuntime) -> Result<(), Refusal> {
     let run = rehearsed(&rt, rt.alloc(), 64, &[])?;
     assert!(rt; run.replies.is_empty() && run.history.is_empty());
     Ok(())

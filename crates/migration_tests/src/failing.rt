@@ -1,10 +1,11 @@
 // Calls of either disk that fail, and stops of the new one, at each place.
 use crate::old::{Old, drawn};
-use crate::worked::{has_bytes, is_made, opened, six_old, with_bytes};
+use crate::worked::{is_made, six_old};
 use disk::{Disk, FailOnce, FuseDisk, MemDisk, Pick, Stoppable};
 use roadnet::{Command, Refusal};
 use std::alloc::Global;
 use store::migrate;
+use store_fixtures::{has_bytes, opened, with_bytes};
 
 // A store of the worked network with two journal pages, one of them written, and then some that are drawn.
 fn old_store(alloc: Global, i: u64) -> Result<Old, Refusal> {
@@ -36,7 +37,10 @@ fn tried<O: Disk, D: Disk>(
 fn left(alloc: Global, store: &Old, disk: MemDisk) -> Result<Result<bool, Refusal>, Refusal> {
     let (network, version) = store.stands_for(alloc)?;
     let room = (store.arcs.len() as u64).wrapping_add(MORE);
-    Ok(opened(alloc, disk).map(|made| is_made(&made, &network, version, room)))
+    match opened(alloc, disk) {
+        Ok(made) => Ok(Ok(is_made(&made, &network, version, room))),
+        Err(refusal) => Ok(Err(refusal)),
+    }
 }
 
 // The refusal of a call that fails, where there are so many of them.
@@ -110,25 +114,37 @@ fn is_stopped(
     Ok(refusal == refusal_at(k.wrapping_add(1), 6) && left(alloc, store, new)? == opens)
 }
 
+// The same of the store of this number.
+fn calls_of_store(alloc: Global, i: u64) -> Result<Option<u64>, Refusal> {
+    calls_of_old(alloc, &old_store(alloc, i)?)
+}
+
 // Opening makes nine calls, and more for each page that is unchecked: of the first store two.
 #[test]
 fn failures_of_the_old_disk(rt: HostRuntime) -> Result<(), Refusal> {
-    let first = calls_of_old(rt.alloc(), &old_store(rt.alloc(), 0)?)?;
-    assert_eq!(rt; first, Some(11));
+    assert_eq!(rt; calls_of_store(rt.alloc(), 0)?, Some(11));
     for i in 1..6 {
-        let calls = calls_of_old(rt.alloc(), &old_store(rt.alloc(), i)?)?;
-        assert!(rt; calls.is_some_and(|calls| calls >= 9), "store {i}");
+        let calls = calls_of_store(rt.alloc(), i)?.unwrap_or(0);
+        assert!(rt; calls >= 9, "store {i}");
     }
     Ok(())
+}
+
+// The first of nine calls whose failure is not told so, of the store of this number.
+fn first_untold(alloc: Global, i: u64) -> Result<Option<u64>, Refusal> {
+    let store = old_store(alloc, i)?;
+    for k in 1..10 {
+        if !new_fails(alloc, &store, k)? {
+            return Ok(Some(k));
+        }
+    }
+    Ok(None)
 }
 
 #[test]
 fn failures_of_the_new_disk(rt: HostRuntime) -> Result<(), Refusal> {
     for i in 0..4 {
-        let store = old_store(rt.alloc(), i)?;
-        for k in 1..10 {
-            assert!(rt; new_fails(rt.alloc(), &store, k)?, "store {i}, call {k}");
-        }
+        assert_eq!(rt; first_untold(rt.alloc(), i)?, None, "store {i}");
     }
     Ok(())
 }
@@ -141,17 +157,22 @@ const STOPS: [(Pick, u64); 4] = [
     (Pick::Byte(17), 6),
 ];
 
+// The first of seven calls behind which a stop leaves something else, of the store of this number.
+fn first_wrong(alloc: Global, i: u64, stop: (Pick, u64)) -> Result<Option<u64>, Refusal> {
+    let store = old_store(alloc, i)?;
+    for k in 0..7 {
+        if !is_stopped(alloc, &store, k, stop)? {
+            return Ok(Some(k));
+        }
+    }
+    Ok(None)
+}
+
 #[test]
 fn stops_of_the_new_disk(rt: HostRuntime) -> Result<(), Refusal> {
     for i in 0..4 {
-        let store = old_store(rt.alloc(), i)?;
         for stop in STOPS {
-            for k in 0..7 {
-                assert!(rt;
-                    is_stopped(rt.alloc(), &store, k, stop)?,
-                    "store {i}, call {k}"
-                );
-            }
+            assert_eq!(rt; first_wrong(rt.alloc(), i, stop)?, None, "store {i}");
         }
     }
     Ok(())

@@ -4,19 +4,11 @@ ghost use Rattle.std.specs.Prelude.{◌≤◌};
 use fixtures::Draws;
 use roadnet::{Command, Network, Refusal, RoadArc};
 use std::alloc::{AllocError, Global};
+use store_fixtures::put;
 
 pub const PAGE: usize = 4096;
 
 pub const OPEN: u8 = 0xA5;
-
-// Puts bytes into a file, where it has these places.
-pub fn put(file: &mut [u8], at: usize, bytes: &[u8]) {
-    for (i, &byte) in bytes.iter().enumerate() {
-        if let Some(place) = file.get_mut(at.wrapping_add(i)) {
-            *place = byte;
-        }
-    }
-}
 
 // The place of a page's byte.
 fn place(page: usize, byte: usize) -> usize {
@@ -177,10 +169,8 @@ impl Old {
         Ok(file)
     }
 
-    // The network behind the journal, and its version.
-    pub fn stands_for(&self, alloc: Global) -> Result<(Network, u64), Refusal> {
-        let arcs = Vec::from_slice(alloc, &self.arcs)?;
-        let mut network = Network::new(alloc, self.nodes, arcs, &self.landmarks)?;
+    // Carries out the commands of the journal. Answers the version behind them.
+    fn carry_out(&self, network: &mut Network) -> Result<u64, Refusal> {
         let mut version = self.version;
         for commands in &self.pages {
             for &command in commands {
@@ -188,6 +178,14 @@ impl Old {
                 version = version.wrapping_add(1);
             }
         }
+        Ok(version)
+    }
+
+    // The network behind the journal, and its version.
+    pub fn stands_for(&self, alloc: Global) -> Result<(Network, u64), Refusal> {
+        let arcs = Vec::from_slice(alloc, &self.arcs)?;
+        let mut network = Network::new(alloc, self.nodes, arcs, &self.landmarks)?;
+        let version = self.carry_out(&mut network)?;
         Ok((network, version))
     }
 }
@@ -239,21 +237,23 @@ fn drawn_arcs(alloc: Global, draws: &mut Draws, count: u32) -> Result<Vec<RoadAr
     Ok(arcs)
 }
 
-// A store of ten nodes and so many arcs that is drawn by this seed: of one to four journal pages, in slot A or B, with the other slot open or not, and with
-// pages behind it.
-pub fn drawn(alloc: Global, seed: u64, count: u32) -> Result<Old, Refusal> {
-    let mut draws = Draws::new(seed);
-    let arcs = drawn_arcs(alloc, &mut draws, count)?;
+// About a third of ten nodes.
+fn drawn_landmarks(alloc: Global, draws: &mut Draws) -> Result<Vec<u32>, AllocError> {
     let mut landmarks = Vec::new(alloc);
     for node in 1..11 {
         if draws.draw() % 3 == 0 {
-            landmarks.push(node).map_err(AllocError::from)?;
+            landmarks.push(node)?;
         }
     }
+    Ok(landmarks)
+}
+
+// A store of these arcs and landmarks without a page in its journal: of one to four journal pages, in slot A or B, with the other slot open or not.
+fn drawn_slot(alloc: Global, draws: &mut Draws, arcs: Vec<RoadArc>, landmarks: Vec<u32>) -> Old {
     let journal_pages = draws.up_to(4);
     let next = draws.draw() % 8;
     let epoch = draws.draw() % (next + 1) + 1;
-    let mut old = Old {
+    Old {
         nodes: 10,
         journal_pages,
         is_in_b: draws.draw() % 2 == 0,
@@ -268,14 +268,28 @@ pub fn drawn(alloc: Global, seed: u64, count: u32) -> Result<Old, Refusal> {
         arcs,
         landmarks,
         pages: Vec::new(alloc),
-    };
+    }
+}
+
+// Adds pages to the journal, as many as it has at most.
+fn add_pages(alloc: Global, draws: &mut Draws, old: &mut Old) -> Result<(), Refusal> {
     let (mut network, _) = old.stands_for(alloc)?;
-    for _ in 0..draws.up_to(journal_pages) {
-        let page = drawn_page(alloc, &mut draws, &mut network)?;
+    for _ in 0..draws.up_to(old.journal_pages.max(1)) {
+        let page = drawn_page(alloc, draws, &mut network)?;
         if page.is_empty() {
             break;
         }
         old.pages.push(page).map_err(AllocError::from)?;
     }
+    Ok(())
+}
+
+// A store of ten nodes and so many arcs that is drawn by this seed, with pages behind its slot.
+pub fn drawn(alloc: Global, seed: u64, count: u32) -> Result<Old, Refusal> {
+    let mut draws = Draws::new(seed);
+    let arcs = drawn_arcs(alloc, &mut draws, count)?;
+    let landmarks = drawn_landmarks(alloc, &mut draws)?;
+    let mut old = drawn_slot(alloc, &mut draws, arcs, landmarks);
+    add_pages(alloc, &mut draws, &mut old)?;
     Ok(old)
 }

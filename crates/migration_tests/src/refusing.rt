@@ -1,11 +1,11 @@
 // What is refused, and in which order.
-use crate::old::{PAGE, put};
-use crate::worked::{has_bytes, migrated, six_file, with_bytes};
-use disk::{Disk, MemDisk};
-use fixtures::six;
+use crate::old::PAGE;
+use crate::worked::{migrated, six_file};
+use disk::{Disk, DiskError, MemDisk};
 use roadnet::Refusal;
 use std::alloc::Global;
-use store::{create, migrate};
+use store::migrate;
+use store_fixtures::{has_bytes, put, six_disk, with_bytes};
 
 // Where the first page of the journal is, which has `close 7`.
 const JOURNAL: usize = 6 * PAGE;
@@ -113,18 +113,32 @@ fn new_disk(alloc: Global, is_taken: bool) -> Result<MemDisk, Refusal> {
     }
 }
 
+// What the file of these bytes is refused for, how long the new disk is then, and whether the old one stays as it was; nothing where it isn't refused.
+fn refused(
+    alloc: Global,
+    file: &[u8],
+    is_taken: bool,
+    room: Option<u64>,
+) -> Result<Option<(Refusal, Result<u64, DiskError>, bool)>, Refusal> {
+    let mut old = with_bytes(alloc, file)?;
+    let new = new_disk(alloc, is_taken)?;
+    match migrate(alloc, &mut old, new, room) {
+        Ok(_) => Ok(None),
+        Err((refusal, mut new)) => {
+            let length = new.len();
+            Ok(Some((refusal, length, has_bytes(alloc, &mut old, file)?)))
+        }
+    }
+}
+
 // Whether this is refused so, and both disks stay as they were.
 fn is_refused(alloc: Global, (changes, is_taken, room, wanted): Row) -> Result<bool, Refusal> {
     let mut file = six_file(alloc)?;
     for &(at, byte) in changes {
         put(&mut file, at, &[byte]);
     }
-    let mut old = with_bytes(alloc, &file)?;
-    let Err((refusal, mut new)) = migrate(alloc, &mut old, new_disk(alloc, is_taken)?, room) else {
-        return Ok(false);
-    };
     let length = if is_taken { 1 } else { 0 };
-    Ok(refusal == wanted && new.len() == Ok(length) && has_bytes(alloc, &mut old, &file)?)
+    Ok(refused(alloc, &file, is_taken, room)? == Some((wanted, Ok(length), true)))
 }
 
 #[test]
@@ -135,20 +149,27 @@ fn refusals_in_their_order(rt: HostRuntime) -> Result<(), Refusal> {
     Ok(())
 }
 
+// What is told of the store on this disk with this room: the version of the one that is made, or what it is refused for.
+fn told_with(alloc: Global, old: &mut MemDisk, room: Option<u64>) -> Result<u64, Refusal> {
+    let store = migrated(alloc, old, room)?;
+    Ok(store.version())
+}
+
+// The store that is made of the worked one with the least room: its room and version, and its disk.
+fn made_in_least_room(alloc: Global) -> Result<((u32, u64), MemDisk), Refusal> {
+    let mut old = with_bytes(alloc, &six_file(alloc)?)?;
+    let store = migrated(alloc, &mut old, Some(8))?;
+    let told = (store.network().room(), store.version());
+    Ok((told, store.close()))
+}
+
 // The least room is the number of arcs. A store that was made so is none of format 1.
 #[test]
 fn least_room_and_format_2(rt: HostRuntime) -> Result<(), Refusal> {
-    let alloc = rt.alloc();
-    let mut old = with_bytes(alloc, &six_file(alloc)?)?;
-    let store = migrated(alloc, &mut old, Some(8))?;
-    assert!(rt; store.network().room() == 8 && store.version() == 1);
-    let mut new = store.close();
-    let again = migrated(alloc, &mut new, Some(7)).map(|store| store.version());
-    assert!(rt; again == Err(Refusal::WrongFormat));
-    let Ok(store) = create(alloc, MemDisk::new(alloc), &six(alloc)?, 2) else {
-        return Err(Refusal::Device);
-    };
-    let made = migrated(alloc, &mut store.close(), None).map(|store| store.version());
-    assert!(rt; made == Err(Refusal::WrongFormat));
+    let (told, mut disk) = made_in_least_room(rt.alloc())?;
+    assert!(rt; told == (8, 1));
+    assert!(rt; told_with(rt.alloc(), &mut disk, Some(7)) == Err(Refusal::WrongFormat));
+    let mut disk = six_disk(rt.alloc(), 2)?;
+    assert!(rt; told_with(rt.alloc(), &mut disk, None) == Err(Refusal::WrongFormat));
     Ok(())
 }

@@ -1,10 +1,11 @@
 // The file of the worked rows in format 1, spelled by hand, and what several tests make and look at.
-use crate::old::{OPEN, Old, PAGE, put};
+use crate::old::{OPEN, Old, PAGE};
 use disk::{Disk, MemDisk};
 use pages::Slot;
 use roadnet::{Command, Network, Refusal, RoadArc};
 use std::alloc::{AllocError, Global};
-use store::{Standing, Store, migrate, open};
+use store::{Standing, Store, migrate};
+use store_fixtures::put;
 
 // Six nodes and eight arcs with a journal of 64 pages: the bytes 0 to 23 of the header, the bytes in use of the arc page, of the word page and of the head of
 // slot A, without landmarks; and the journal page of `close 7`, at place 0.
@@ -57,34 +58,6 @@ pub fn six_old(alloc: Global, journal_pages: u32, commands: &[Command]) -> Resul
         landmarks: Vec::new(alloc),
         pages,
     })
-}
-
-// A disk with these bytes, all of them synced.
-pub fn with_bytes(alloc: Global, bytes: &[u8]) -> Result<MemDisk, Refusal> {
-    let mut disk = MemDisk::new(alloc);
-    let (Ok(()), Ok(())) = (disk.write_at(0, bytes), disk.sync()) else {
-        return Err(Refusal::Device);
-    };
-    Ok(disk)
-}
-
-// Whether the disk has just these bytes.
-pub fn has_bytes(alloc: Global, disk: &mut MemDisk, bytes: &[u8]) -> Result<bool, Refusal> {
-    let Ok(length) = disk.len() else {
-        return Err(Refusal::Device);
-    };
-    let mut found = vec![in alloc; 0; length as usize]?;
-    let Ok(()) = disk.read(0, &mut found) else {
-        return Err(Refusal::Device);
-    };
-    Ok(found.as_slice() == bytes)
-}
-
-pub fn opened<D: Disk + Drop>(alloc: Global, disk: D) -> Result<Store<D>, Refusal> {
-    match open(alloc, disk) {
-        Ok(store) => Ok(store),
-        Err((refusal, _)) => Err(refusal),
-    }
 }
 
 // The store that is made from the one on this disk.

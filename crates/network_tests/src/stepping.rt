@@ -1,7 +1,7 @@
 use fixtures::{arc, network, six, six_with};
 use roadnet::{
     Command, Group, MOST_LANDMARKS, Network, OutOfMemory, Outline, Refusal, RoadArc,
-    laws_of_batches, laws_of_refusals, laws_of_steps, laws_of_walks,
+    laws_of_batches, laws_of_refusals, laws_of_reversal, laws_of_steps, laws_of_walks,
 };
 use std::alloc::{AllocError, Global};
 use std::array::from_ref;
@@ -490,4 +490,5 @@ fn the_laws_are_called() {
     laws_of_steps();
     laws_of_refusals();
     laws_of_walks();
+    laws_of_reversal();
 }

@@ -1,12 +1,11 @@
 // A file with changed bytes, opened and looked at.
-use crate::judging::{put, with_bytes};
-use crate::worked::opened;
-use disk::Disk;
+use disk::{Disk, DiskError, MemDisk};
+use fixtures::arc;
 use pages::Slot;
 use roadnet::{Refusal, RoadArc};
 use std::alloc::{AllocError, Global};
-use std::test::Fail;
-use store::{Inspected, Standing, inspect};
+use store::{Inspected, Standing, Store, inspect};
+use store_fixtures::{opened, put, with_bytes};
 
 const PAGE: usize = 4096;
 
@@ -91,14 +90,25 @@ fn roomy_file(alloc: Global) -> Result<Vec<u8>, AllocError> {
     Ok(file)
 }
 
-// The version, the current slot with its epoch, and the number of unchecked pages, or the refusal: as opening tells it. A look at the file
-// tells the same.
-fn answer(alloc: Global, file: &[u8]) -> Result<Inspected, Refusal> {
-    let told = opened(alloc, with_bytes(alloc, file)?).map(|store| Inspected {
+// The version, the current slot with its epoch, and the number of unchecked pages, or the refusal: as opening tells it.
+fn told_by_opening(alloc: Global, file: &[u8]) -> Result<Inspected, Refusal> {
+    let store = opened(alloc, with_bytes(alloc, file)?)?;
+    Ok(Inspected {
         version: store.version(),
         standing: store.standing(),
-    });
-    if inspect(alloc, &mut with_bytes(alloc, file)?) == told {
+    })
+}
+
+// The same as a look at the file tells it.
+fn told_by_a_look(alloc: Global, file: &[u8]) -> Result<Inspected, Refusal> {
+    let mut disk = with_bytes(alloc, file)?;
+    inspect(alloc, &mut disk)
+}
+
+// The same, where both tell it so.
+fn answer(alloc: Global, file: &[u8]) -> Result<Inspected, Refusal> {
+    let told = told_by_opening(alloc, file);
+    if told_by_a_look(alloc, file) == told {
         told
     } else {
         Err(Refusal::NotYet)
@@ -283,34 +293,39 @@ const ROOMY_CHANGES: [Change; 12] = [
     },
 ];
 
+// What opening the file answers with these bytes changed.
+fn answer_changed(alloc: Global, file: &[u8], bytes: &[(usize, u8)]) -> Result<Inspected, Refusal> {
+    let mut changed = Vec::from_slice(alloc, file)?;
+    for &(at, byte) in bytes {
+        put(&mut changed, at, &[byte]);
+    }
+    answer(alloc, &changed)
+}
+
+// What is told of a store of slot A at this version with so many pages unchecked, where it isn't refused.
+fn wanted(refusal: Option<Refusal>, version: u64, unchecked: u32) -> Result<Inspected, Refusal> {
+    match refusal {
+        Some(refusal) => Err(refusal),
+        None => first(version, unchecked),
+    }
+}
+
 // The first change behind which opening the file answers otherwise, if there is one.
-fn first_other(
-    alloc: Global,
-    file: &[u8],
-    changes: &[Change],
-) -> Result<Option<usize>, AllocError> {
+fn first_other(alloc: Global, file: &[u8], changes: &[Change]) -> Option<usize> {
     for (i, change) in changes.iter().enumerate() {
-        let mut changed = Vec::from_slice(alloc, file)?;
-        for &(at, byte) in change.bytes {
-            put(&mut changed, at, &[byte]);
-        }
-        let wanted = match change.refusal {
-            Some(refusal) => Err(refusal),
-            None => first(0, 0),
-        };
-        if answer(alloc, &changed) != wanted {
-            return Ok(Some(i));
+        if answer_changed(alloc, file, change.bytes) != wanted(change.refusal, 0, 0) {
+            return Some(i);
         }
     }
-    Ok(None)
+    None
 }
 
 #[test]
-fn changed_bytes(rt: HostRuntime) -> Result<(), Fail> {
+fn changed_bytes(rt: HostRuntime) -> Result<(), Refusal> {
     let alloc = rt.alloc();
-    assert_eq!(rt; first_other(alloc, &six_file(alloc)?, &CHANGES)?, None);
+    assert_eq!(rt; first_other(alloc, &six_file(alloc)?, &CHANGES), None);
     assert_eq!(rt;
-        first_other(alloc, &roomy_file(alloc)?, &ROOMY_CHANGES)?,
+        first_other(alloc, &roomy_file(alloc)?, &ROOMY_CHANGES),
         None
     );
     Ok(())
@@ -336,66 +351,75 @@ const PAGES: [(u8, &[u8], Option<Refusal>); 5] = [
     (1, &LAY_6_1_7, Some(Refusal::Damaged { page: 6 })),
 ];
 
+// What opening the file with this page answers.
+fn answer_with_page(alloc: Global, count: u8, records: &[u8]) -> Result<Inspected, Refusal> {
+    answer(alloc, &file_with_page(alloc, count, records)?)
+}
+
 // The first of these pages of one version with which opening the file answers otherwise, if there is one.
-fn first_other_page(
-    alloc: Global,
-    pages: &[(u8, &[u8], Option<Refusal>)],
-) -> Result<Option<usize>, AllocError> {
-    for (i, &(count, records, refusal)) in pages.iter().enumerate() {
-        let wanted = match refusal {
-            Some(refusal) => Err(refusal),
-            None => first(1, 1),
-        };
-        if answer(alloc, &file_with_page(alloc, count, records)?) != wanted {
-            return Ok(Some(i));
+fn first_other_page(alloc: Global, pages: &[(u8, &[u8], Option<Refusal>)]) -> Option<usize> {
+    for at in 0..pages.len() {
+        let (count, records, refusal) = pages[at];
+        if answer_with_page(alloc, count, records) != wanted(refusal, 1, 1) {
+            return Some(at);
         }
     }
-    Ok(None)
+    None
 }
 
 #[test]
-fn files_with_a_page(rt: HostRuntime) -> Result<(), Fail> {
-    assert_eq!(rt; first_other_page(rt.alloc(), &PAGES)?, None);
-    Ok(())
+fn files_with_a_page(rt: HostRuntime) {
+    assert_eq!(rt; first_other_page(rt.alloc(), &PAGES), None);
 }
 
-// A file that is cut, and one with a page that is full.
-#[test]
-fn cut_or_with_a_full_page(rt: HostRuntime) -> Result<(), Fail> {
-    let alloc = rt.alloc();
+// What opening the file answers that is cut by a page.
+fn answer_cut(alloc: Global) -> Result<Inspected, Refusal> {
     let mut cut = six_file(alloc)?;
     cut.truncate(69 * PAGE);
-    assert!(rt; answer(alloc, &cut) == Err(Refusal::Damaged { page: 0 }));
+    answer(alloc, &cut)
+}
+
+// What opening the file answers with a page that is full.
+fn answer_full(alloc: Global) -> Result<Inspected, Refusal> {
     let mut records = Vec::new(alloc);
     for _ in 0..253 {
         records.extend_from_slice(&SET_1_1)?;
     }
-    assert!(rt; answer(alloc, &file_with_page(alloc, 253, &records)?) == first(253, 1));
-    Ok(())
+    answer_with_page(alloc, 253, &records)
+}
+
+// A file that is cut, and one with a page that is full.
+#[test]
+fn cut_or_with_a_full_page(rt: HostRuntime) {
+    assert!(rt; answer_cut(rt.alloc()) == Err(Refusal::Damaged { page: 0 }));
+    assert!(rt; answer_full(rt.alloc()) == first(253, 1));
+}
+
+// Whether the store is that of the file behind `close 7`.
+fn is_replayed<D: Disk>(store: &Store<D>) -> bool {
+    let closed = RoadArc {
+        opened: false,
+        ..arc(5, 2, 0)
+    };
+    store.journal_pages() == 64
+        && store.calm()
+        && store.network().arc(7) == Some(closed)
+        && store.network().arc(1) == Some(arc(1, 2, 17))
+        && store.network().landmarks() == [3, 6].as_slice()
+}
+
+// Whether the file is replayed so, and how long its disk is then.
+fn replayed(alloc: Global) -> Result<(bool, Result<u64, DiskError>), Refusal> {
+    let file = file_with_page(alloc, 1, &CLOSE_7)?;
+    let store = opened(alloc, with_bytes(alloc, &file)?)?;
+    let right = is_replayed(&store);
+    let mut disk = store.close();
+    Ok((right, disk.len()))
 }
 
 #[test]
-fn journal_is_replayed(rt: HostRuntime) -> Result<(), Fail> {
-    let alloc = rt.alloc();
-    let file = file_with_page(alloc, 1, &CLOSE_7)?;
-    let store = opened(alloc, with_bytes(alloc, &file)?)?;
-    assert!(rt; store.journal_pages() == 64 && store.calm());
-    let closed = RoadArc {
-        tail: 5,
-        head: 2,
-        length: 0,
-        opened: false,
-    };
-    assert!(rt; store.network().arc(7) == Some(closed));
-    assert!(rt;
-        store
-            .network()
-            .arc(1)
-            .is_some_and(|arc| arc.opened && arc.length == 17)
-    );
-    assert!(rt; store.network().landmarks() == [3, 6].as_slice());
-    let mut disk = store.close();
-    assert!(rt; disk.len() == Ok(286720));
+fn journal_is_replayed(rt: HostRuntime) -> Result<(), Refusal> {
+    assert!(rt; replayed(rt.alloc())? == (true, Ok(286720)));
     Ok(())
 }
 
@@ -411,21 +435,24 @@ fn file_with_laid(alloc: Global, count: u8) -> Result<Vec<u8>, AllocError> {
     Ok(file)
 }
 
+// Whether the store on this disk has ten arcs, as many as it has room for, the last two of them the same.
+fn has_laid(alloc: Global, disk: MemDisk) -> Result<bool, Refusal> {
+    let store = opened(alloc, disk)?;
+    let network = store.network();
+    let laid = Some(arc(6, 1, 7));
+    Ok(
+        (network.arcs().len(), network.room()) == (10, 10)
+            && network.arc(9) == laid
+            && network.arc(10) == laid,
+    )
+}
+
 // Behind nine arcs a tenth is laid, and there is no room for one more.
 #[test]
-fn laid_arcs_are_replayed(rt: HostRuntime) -> Result<(), Fail> {
+fn laid_arcs_are_replayed(rt: HostRuntime) -> Result<(), Refusal> {
     let alloc = rt.alloc();
-    let store = opened(alloc, with_bytes(alloc, &file_with_laid(alloc, 1)?)?)?;
-    let laid = RoadArc {
-        tail: 6,
-        head: 1,
-        length: 7,
-        opened: true,
-    };
-    let network = store.network();
-    assert!(rt; (network.arcs().len(), network.room()) == (10, 10));
-    assert!(rt; network.arc(9) == Some(laid) && network.arc(10) == Some(laid));
-    let beyond = file_with_laid(alloc, 2)?;
-    assert!(rt; answer(alloc, &beyond) == Err(Refusal::Damaged { page: 8 }));
+    assert!(rt; has_laid(alloc, with_bytes(alloc, &file_with_laid(alloc, 1)?)?)?);
+    let beyond = answer(alloc, &file_with_laid(alloc, 2)?);
+    assert!(rt; beyond == Err(Refusal::Damaged { page: 8 }));
     Ok(())
 }

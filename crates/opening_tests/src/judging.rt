@@ -2,12 +2,12 @@
 ghost use Rattle.std.specs.Prelude.{◌<◌};
 
 use crate::judge::{Judged, judge};
-use crate::worked::opened;
 use disk::{Disk, MemDisk};
-use fixtures::{arc, six_with};
+use fixtures::arc;
 use roadnet::{Command, Group, Network, Refusal, RoadArc};
 use std::alloc::Global;
-use store::{Store, create, open};
+use store::Store;
+use store_fixtures::{created, opened, put, six_in_room, with_bytes};
 
 const PAGE: usize = 4096;
 
@@ -20,23 +20,6 @@ const WORDS_B: [u8; 36] =
     *b"\x00\x00\x00\x11\x00\x00\x00\x0a\x00\x00\x00\x02\x00\x00\x00\x00\x00\x00\x00\x00\x00\x00\x00\x03\x80\x00\x00\x00\x00\x00\x00\x04\x00\x00\x00\x07";
 
 const ENDS_B: [u8; 8] = *b"\x00\x00\x00\x06\x00\x00\x00\x01";
-
-pub fn put(file: &mut [u8], at: usize, bytes: &[u8]) {
-    for (i, &byte) in bytes.iter().enumerate() {
-        if let Some(place) = file.get_mut(at.wrapping_add(i)) {
-            *place = byte;
-        }
-    }
-}
-
-// A disk with these bytes, all of them synced.
-pub fn with_bytes(alloc: Global, bytes: &[u8]) -> Result<MemDisk, Refusal> {
-    let mut disk = MemDisk::new(alloc);
-    let (Ok(()), Ok(())) = (disk.write_at(0, bytes), disk.sync()) else {
-        return Err(Refusal::Device);
-    };
-    Ok(disk)
-}
 
 // The first ten pages of a disk; fewer where it has fewer.
 pub fn bytes_of(alloc: Global, disk: &mut MemDisk) -> Result<Vec<u8>, Refusal> {
@@ -53,41 +36,37 @@ pub fn bytes_of(alloc: Global, disk: &mut MemDisk) -> Result<Vec<u8>, Refusal> {
 
 // The network of the worked rows, with two landmarks and room for two arcs more.
 pub fn roomy_six(alloc: Global) -> Result<Network, Refusal> {
-    match six_with(alloc, &[6, 3])?.with_room(10) {
-        Ok(network) => Ok(network),
-        Err((refusal, _)) => Err(refusal),
-    }
+    six_in_room(alloc, &[6, 3], 10)
 }
 
 // The file of a new store with two journal pages: ten pages.
 pub fn new_file(alloc: Global) -> Result<Vec<u8>, Refusal> {
-    match create(alloc, MemDisk::new(alloc), &roomy_six(alloc)?, 2) {
-        Ok(store) => bytes_of(alloc, &mut store.close()),
-        Err((refusal, _)) => Err(refusal),
-    }
+    let mut disk = created(alloc, &roomy_six(alloc)?, 2)?;
+    bytes_of(alloc, &mut disk)
 }
 
 const fn lay(tail: u64, head: u64, length: u64) -> Command {
     Command::Lay { tail, head, length }
 }
 
-// A group of two commands and one of one are committed as one page.
-fn commit_two_groups(alloc: Global, store: &mut Store<MemDisk>) -> Result<u64, Refusal> {
-    let two = [Command::Reopen { arc: 7 }, Command::Unmark { node: 3 }];
-    let two = Group::new(Vec::from_slice(alloc, &two)?)?;
-    store.commit_groups(&[two, Group::one(lay(1, 6, 14))])
-}
-
-// The same after two flushes, of four groups and of two, in which both journal pages are written.
-pub fn flushed_file(alloc: Global) -> Result<Vec<u8>, Refusal> {
-    let mut store = opened(alloc, with_bytes(alloc, &new_file(alloc)?)?)?;
+// Two flushes: of four groups, and of a group of two commands and one of one as one page.
+fn flush_twice(alloc: Global, store: &mut Store<MemDisk>) -> Result<(), Refusal> {
     store.commit(&[
         Command::Set { arc: 8, length: 4 },
         Command::Close { arc: 7 },
         Command::Mark { node: 1 },
         lay(6, 1, 7),
     ])?;
-    commit_two_groups(alloc, &mut store)?;
+    let two = [Command::Reopen { arc: 7 }, Command::Unmark { node: 3 }];
+    let two = Group::new(Vec::from_slice(alloc, &two)?)?;
+    store.commit_groups(&[two, Group::one(lay(1, 6, 14))])?;
+    Ok(())
+}
+
+// The same after two flushes, of four groups and of two, in which both journal pages are written.
+pub fn flushed_file(alloc: Global) -> Result<Vec<u8>, Refusal> {
+    let mut store = opened(alloc, with_bytes(alloc, &new_file(alloc)?)?)?;
+    flush_twice(alloc, &mut store)?;
     bytes_of(alloc, &mut store.close())
 }
 
@@ -189,8 +168,7 @@ fn agree_on_cuts(alloc: Global, file: &[u8]) -> Result<bool, Refusal> {
 fn finds(
     alloc: Global,
     file: &[u8],
-    version: u64,
-    unchecked: u64,
+    (version, unchecked): (u64, u64),
     landmarks: &[u32],
     arcs: &[RoadArc],
 ) -> Result<bool, Refusal> {
@@ -203,15 +181,20 @@ fn finds(
     )
 }
 
+// Whether it finds the arcs behind the commits of these tests, too.
+fn finds_last(alloc: Global, file: &[u8], told: (u64, u64)) -> Result<bool, Refusal> {
+    let last = [arc(5, 2, 0), arc(5, 6, 4), arc(6, 1, 7), arc(1, 6, 14)];
+    finds(alloc, file, told, &[1, 6], &last)
+}
+
 // The judge itself, on the three files: what each stands for.
 #[test]
 fn judge_is_right(rt: HostRuntime) -> Result<(), Refusal> {
     let alloc = rt.alloc();
     let first = [arc(5, 2, 0), arc(5, 6, 20)];
-    let last = [arc(5, 2, 0), arc(5, 6, 4), arc(6, 1, 7), arc(1, 6, 14)];
-    assert!(rt; finds(alloc, &new_file(alloc)?, 0, 0, &[3, 6], &first)?);
-    assert!(rt; finds(alloc, &flushed_file(alloc)?, 6, 2, &[1, 6], &last)?);
-    assert!(rt; finds(alloc, &two_slot_file(alloc)?, 6, 1, &[1, 6], &last)?);
+    assert!(rt; finds(alloc, &new_file(alloc)?, (0, 0), &[3, 6], &first)?);
+    assert!(rt; finds_last(alloc, &flushed_file(alloc)?, (6, 2))?);
+    assert!(rt; finds_last(alloc, &two_slot_file(alloc)?, (6, 1))?);
     Ok(())
 }
 

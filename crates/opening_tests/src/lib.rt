@@ -13,5 +13,3 @@ mod memory;
 mod opening;
 #[cfg(test)]
 mod standing;
-#[cfg(test)]
-mod worked;

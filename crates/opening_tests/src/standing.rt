@@ -1,12 +1,12 @@
 // How stores stand, and their files: along a store's life, and as the judge has it.
 use crate::judge::judge;
-use crate::judging::{flushed_file, new_file, two_slot_file, with_bytes};
-use crate::worked::opened;
-use disk::Disk;
+use crate::judging::{flushed_file, new_file, two_slot_file};
+use disk::{Disk, MemDisk};
 use pages::Slot;
 use roadnet::{Command, Refusal};
 use std::alloc::Global;
 use store::{Inspected, Standing, Store, inspect};
+use store_fixtures::{opened, with_bytes};
 
 const PAGE: usize = 4096;
 
@@ -66,14 +66,19 @@ fn first_other<D: Disk>(store: &mut Store<D>) -> Result<Option<u64>, Refusal> {
     Ok(None)
 }
 
+// What the store on this disk tells.
+fn told_of(alloc: Global, disk: MemDisk) -> Result<Inspected, Refusal> {
+    let store = opened(alloc, disk)?;
+    Ok(told(&store))
+}
+
 #[test]
 fn a_store_stands_along_its_life(rt: HostRuntime) -> Result<(), Refusal> {
     let alloc = rt.alloc();
     let mut store = opened(alloc, with_bytes(alloc, &new_file(alloc)?)?)?;
     assert!(rt; told(&store) == found(0, Slot::A, 1, 0));
     assert_eq!(rt; first_other(&mut store)?, None);
-    let store = opened(alloc, store.close())?;
-    assert!(rt; told(&store) == found(4, Slot::A, 3, 1));
+    assert!(rt; told_of(alloc, store.close())? == found(4, Slot::A, 3, 1));
     Ok(())
 }
 

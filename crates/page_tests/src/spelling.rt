@@ -420,33 +420,75 @@ fn changed(page: &[u8; PAGE_SIZE], at: usize, byte: u8) -> [u8; PAGE_SIZE]
     changed
 }
 
+/// A kind of page.
+#[derive(Clone, Copy)]
+enum Kind {
+    Header,
+    Arcs,
+    Words,
+    Head,
+    Journal,
+}
+
+/// Whether a page is spelled as one of this kind, of the network of six nodes.
+fn is_spelled(alloc: Global, kind: Kind, page: &[u8; PAGE_SIZE]) -> Result<bool, AllocError> {
+    match kind {
+        Kind::Header => Ok(decode_header(page).is_some()),
+        Kind::Arcs => Ok(decode_arc_page(alloc, page, 6, 8)?.is_some()),
+        Kind::Words => Ok(decode_word_page(alloc, page, 8)?.is_some()),
+        Kind::Head => Ok(decode_slot_head(alloc, page, &SIX)?.is_some()),
+        Kind::Journal => Ok(decode_journal_page(alloc, page, Format::Two)?.is_some()),
+    }
+}
+
+/// The first place of the table behind which a page is spelled still, with that byte in place of its own.
+fn first_spelled(
+    alloc: Global,
+    kind: Kind,
+    page: &[u8; PAGE_SIZE],
+    table: &[(usize, u8)],
+) -> Result<Option<usize>, AllocError> {
+    for i in 0..table.len() {
+        let (at, byte) = table[i];
+        if at >= PAGE_SIZE || is_spelled(alloc, kind, &changed(page, at, byte))? {
+            return Ok(Some(at));
+        }
+    }
+    Ok(None)
+}
+
+// the magic; the format; no node, and too many; more arcs than room; no journal page, and too many; too much room, and too little; a byte
+// that is zero
+const HEADERS: [(usize, u8); 12] = [
+    (0, 0),
+    (11, 1),
+    (11, 3),
+    (15, 0),
+    (12, 2),
+    (19, 11),
+    (23, 0),
+    (21, 1),
+    (24, 5),
+    (27, 7),
+    (28, 1),
+    (4094, 1),
+];
+
+const OLD_HEADERS: [(usize, u8); 4] = [(11, 2), (16, 4), (27, 8), (27, 10)];
+
 #[test]
-fn headers_out_of_range(rt: HostRuntime) {
+fn headers_out_of_range(rt: HostRuntime) -> Result<(), AllocError> {
     let page = page_with(&HEADER);
-    // the magic; the format; no node, and too many; more arcs than room; no journal page, and too many; too much room, and too little; a byte
-    // that is zero
-    for (at, byte) in [
-        (0, 0),
-        (11, 1),
-        (11, 3),
-        (15, 0),
-        (12, 2),
-        (19, 11),
-        (23, 0),
-        (21, 1),
-        (24, 5),
-        (27, 7),
-        (28, 1),
-        (4094, 1),
-    ] {
-        assert!(rt; at < PAGE_SIZE);
-        assert_eq!(rt; decode_header(&changed(&page, at, byte)), None, "at {at}");
-    }
+    assert_eq!(rt;
+        first_spelled(rt.alloc(), Kind::Header, &page, &HEADERS)?,
+        None
+    );
     let old = page_with(&OLD_HEADER);
-    for (at, byte) in [(11, 2), (16, 4), (27, 8), (27, 10)] {
-        assert!(rt; at < PAGE_SIZE);
-        assert_eq!(rt; decode_header(&changed(&old, at, byte)), None, "at {at}");
-    }
+    assert_eq!(rt;
+        first_spelled(rt.alloc(), Kind::Header, &old, &OLD_HEADERS)?,
+        None
+    );
+    Ok(())
 }
 
 /// The greatest sizes, and one more of each.
@@ -478,69 +520,74 @@ fn greatest_headers(rt: HostRuntime) {
     }
 }
 
+// a tail and a head of 0, and above the nodes; a place that is not in use; the last byte
+const ARC_PAGES: [(usize, u8); 6] = [(3, 0), (3, 7), (7, 0), (7, 7), (64, 1), (4095, 1)];
+
+const WORD_PAGES: [(usize, u8); 3] = [(32, 1), (4091, 1), (4095, 1)];
+
+// an epoch of 0, and above the next sequence + 1; a next sequence above the version; a version above 2^48; landmarks: a number of
+// 65,538, and of 1; arcs: fewer than at first, and more than the room; landmarks: 0, equal, above the nodes; a byte that is zero
+const HEADS: [(usize, u8); 13] = [
+    (7, 0),
+    (7, 2),
+    (23, 1),
+    (9, 2),
+    (25, 1),
+    (27, 1),
+    (31, 7),
+    (31, 11),
+    (35, 0),
+    (35, 6),
+    (39, 7),
+    (40, 1),
+    (4094, 1),
+];
+
 #[test]
-fn slot_pages_out_of_range(rt: HostRuntime) -> Result<(), Fail> {
+fn slot_pages_out_of_range(rt: HostRuntime) -> Result<(), AllocError> {
     let page = page_with(&ARCS);
-    // a tail and a head of 0, and above the nodes; a place that is not in use; the last byte
-    for (at, byte) in [(3, 0), (3, 7), (7, 0), (7, 7), (64, 1), (4095, 1)] {
-        assert!(rt; at < PAGE_SIZE);
-        let found = decode_arc_page(rt.alloc(), &changed(&page, at, byte), 6, 8)?;
-        assert!(rt; found.is_none(), "at {at}");
-    }
+    assert_eq!(rt;
+        first_spelled(rt.alloc(), Kind::Arcs, &page, &ARC_PAGES)?,
+        None
+    );
     let page = page_with(&WORDS);
-    for at in [32, 4091, 4095] {
-        let found = decode_word_page(rt.alloc(), &changed(&page, at, 1), 8)?;
-        assert!(rt; found.is_none(), "at {at}");
-    }
+    assert_eq!(rt;
+        first_spelled(rt.alloc(), Kind::Words, &page, &WORD_PAGES)?,
+        None
+    );
     let page = page_with(&HEAD_WITH_LANDMARKS);
-    // an epoch of 0, and above the next sequence + 1; a next sequence above the version; a version above 2^48; landmarks: a number of
-    // 65,538, and of 1; arcs: fewer than at first, and more than the room; landmarks: 0, equal, above the nodes; a byte that is zero
-    for (at, byte) in [
-        (7, 0),
-        (7, 2),
-        (23, 1),
-        (9, 2),
-        (25, 1),
-        (27, 1),
-        (31, 7),
-        (31, 11),
-        (35, 0),
-        (35, 6),
-        (39, 7),
-        (40, 1),
-        (4094, 1),
-    ] {
-        assert!(rt; at < PAGE_SIZE);
-        let found = decode_slot_head(rt.alloc(), &changed(&page, at, byte), &SIX)?;
-        assert!(rt; found.is_none(), "at {at}");
-    }
+    assert_eq!(rt; first_spelled(rt.alloc(), Kind::Head, &page, &HEADS)?, None);
     Ok(())
 }
 
+// a count of 0, of 2 and of 254; kinds 0 and 7; a group that goes on; a length of a closing; bytes that are zero
+const JOURNAL_PAGES: [(usize, u8); 11] = [
+    (17, 0),
+    (17, 2),
+    (17, 254),
+    (32, 0),
+    (32, 7),
+    (43, 1),
+    (18, 1),
+    (33, 1),
+    (44, 1),
+    (48, 1),
+    (4094, 1),
+];
+
 #[test]
-fn journal_pages_out_of_range(rt: HostRuntime) -> Result<(), Fail> {
+fn journal_pages_out_of_range(rt: HostRuntime) -> Result<(), AllocError> {
     let mut page = page_with(&ONE_COMMAND);
     page[32..48].copy_from_slice(&CLOSE_7);
-    // a count of 0, of 2 and of 254; kinds 0 and 7; a group that goes on; a length of a closing; bytes that are zero
-    for (at, byte) in [
-        (17, 0),
-        (17, 2),
-        (17, 254),
-        (32, 0),
-        (32, 7),
-        (43, 1),
-        (18, 1),
-        (33, 1),
-        (44, 1),
-        (48, 1),
-        (4094, 1),
-    ] {
-        assert!(rt; at < PAGE_SIZE);
-        let found = decode_journal_page(rt.alloc(), &changed(&page, at, byte), Format::Two)?;
-        assert!(rt; found.is_none(), "at {at}");
-    }
+    assert_eq!(rt;
+        first_spelled(rt.alloc(), Kind::Journal, &page, &JOURNAL_PAGES)?,
+        None
+    );
     // no command
-    let empty = changed(&page_with(&ONE_COMMAND), 17, 0);
-    assert!(rt; decode_journal_page(rt.alloc(), &empty, Format::Two)?.is_none());
+    let page = page_with(&ONE_COMMAND);
+    assert_eq!(rt;
+        first_spelled(rt.alloc(), Kind::Journal, &page, &[(17, 0)])?,
+        None
+    );
     Ok(())
 }

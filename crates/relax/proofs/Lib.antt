@@ -1,2 +1,3 @@
 pub mod Chunked
+pub mod Noting
 pub mod Words

@@ -1,5 +1,5 @@
 -- Tentative values kept as words.
-use Rattle.std.proofs.Common.{◌≡◌, ◌∙◌, ℕ, zero, suc, ◌+◌, ◌-◌, ◌<◌, ◌≤◌, List, ◌∷◌, Option, Some, None, set, replicate, map, refl, ap, arith, add-one}
+use Rattle.std.proofs.Common.{◌≡◌, ◌∙◌, ℕ, zero, suc, ◌+◌, ◌-◌, ◌<◌, ◌≤◌, List, ◌∷◌, Option, Some, None, set, replicate, map, length, refl, ap, arith, add-one}
 use Rattle.std.proofs.lemmas.Bool.{ne_eqb}
 use Rattle.std.proofs.lemmas.List.{map-set}
 use Rattle.relax.specs.Values.{value_of_word}
@@ -20,3 +20,12 @@ set_of_words words zero value values is h small = absurd (omega arith)
 set_of_words words (suc i) value values is h small =
     let e : suc i - 1 ≡ i = omega arith in
     rw (e, ← is) (ap (λ (l : List (Option ℕ)). None ∷ l) (map-set value_of_word words i value ∙ ap (λ (o : Option ℕ). set (map value_of_word words) i o) (value_of_word_some value small)))
+
+pub cleared_words : (words : List ℕ) (node : ℕ) (values : List (Option ℕ)) → None ∷ map value_of_word words ≡ values → 1 ≤ node → None ∷ map value_of_word (set words (node - 1) 18446744073709551615) ≡ set values node None
+cleared_words words zero values is h = absurd (omega arith)
+cleared_words words (suc i) values is h =
+    let e : suc i - 1 ≡ i = omega arith in
+    rw (e, ← is) (ap (λ (l : List (Option ℕ)). None ∷ l) (map-set value_of_word words i 18446744073709551615))
+
+pub length_of_words : (words : List ℕ) (values : List (Option ℕ)) → None ∷ map value_of_word words ≡ values → length (None ∷ map value_of_word words) ≡ length values
+length_of_words words values is = ap (λ (l : List (Option ℕ)). length l) is

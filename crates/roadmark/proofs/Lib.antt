@@ -1,1 +1,2 @@
+mod PipeNames
 mod WordsRead

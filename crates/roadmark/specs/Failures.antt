@@ -1,5 +1,5 @@
 -- What the program says of failures.
-use Rattle.std.specs.Prelude.{◌≡◌, ◌⊎◌, ℕ, Bool, true, false, List, ◌==◌, if◌then◌else◌, Result, MatchResult, ⊤}
+use Rattle.std.specs.Prelude.{◌≡◌, ◌⊎◌, ◌+◌, ℕ, Bool, true, false, List, Some, slice_get, ◌==◌, if◌then◌else◌, Result, MatchResult, ⊤}
 use lib.Chars.{codes}
 use Rattle.roadnet.specs.declared.refusals.Refusal.{Refusal}
 use Rattle.roadnet.specs.declared.refusals.Refusal.TheVariants.{Device, OutOfMemory, Write}
@@ -7,6 +7,8 @@ use Rattle.store.specs.Opening.{MayRefuseToOpen, StandsForSome}
 use Rattle.dimacs.specs.declared.fault.Code.TheVariants.{Read}
 use Rattle.printing.specs.declared.failed.Failed.{Failed}
 use Rattle.printing.specs.declared.failed.Failed.TheVariants.{Text, Code}
+use Rattle.roadmark.specs.declared.pipes.PipePair.{PipePair}
+use Rattle.roadmark.specs.Pipes.{named, AreTold}
 use Rattle.roadmark.specs.declared.words.Job.{Job}
 use Rattle.roadmark.specs.declared.words.Job.TheVariants.{Joint, Once, Batch, Rehearse, Create, Apply, Ask, Check, Serve, Migrate}
 
@@ -20,6 +22,11 @@ abbrev pub is_of_second : Failed → Bool
 is_of_second (Text which fault) = which == 1
 is_of_second (Code refusal) = false
 
+-- the name of the pipe of which a failure is, 3 and on, or that of the store
+abbrev pub pipe_name : List ℕ → List PipePair → Failed → List ℕ
+pipe_name store pairs (Text which fault) = named store pairs which
+pipe_name store pairs (Code refusal) = store
+
 -- by what name a fault line calls the text of a failure
 abbrev pub text_name : Job → Failed → List ℕ
 text_name (Joint delta) failed = if is_of_first failed then codes "net" else codes "script"
@@ -31,12 +38,17 @@ text_name (Create store network landmarks journal_pages room) failed =
 text_name (Apply store commands delta) failed = if is_of_first failed then commands.now else store.now
 text_name (Ask store pairs delta) failed = if is_of_first failed then pairs.now else store.now
 text_name (Check store) failed = store.now
-text_name (Serve store delta workers) failed = store.now
+text_name (Serve store pipes delta workers) failed = pipe_name store.now pipes.items failed
 text_name (Migrate old new room) failed = if is_of_first failed then old.now else new.now
 
 -- what is told of a file that can't be opened
 abbrev pub unopened : ℕ → Failed
 unopened which = Text which (record { line = 0; code = Read })
+
+-- the failure is that of the first name which was told to be none of a pipe
+abbrev pub IsOfNoPipe : (List ℕ → Bool → Type 0) → List (List ℕ) → Failed → Type 0
+IsOfNoPipe Tells names failed =
+    (place : ℕ) × ((name : List ℕ) × (slice_get names place ≡ Some name) × Tells name false × AreTold Tells names place × (failed ≡ unopened (place + 3)))
 
 -- a text's file is not read: it can't be opened, or memory ran out
 abbrev pub IsUnopened : ℕ → Failed → Type 0

@@ -1,15 +1,19 @@
 -- What the program's words ask for.
-use Rattle.std.specs.Prelude.{◌≡◌, ◌⊎◌, ◌≤◌, ◌<◌, ◌^◌, ℕ, List, [], Option, None, Some, ⊤}
+use Rattle.std.specs.Prelude.{◌≡◌, ◌⊎◌, ◌≤◌, ◌<◌, ◌^◌, ℕ, List, [], Option, None, Some, Result, Ok, Err, option_map, unwrap_or, ⊤}
 use Rattle.std.specs.Option.{ForSome}
 use Rattle.std.specs.String.{string_bytes}
 use Rattle.std.specs.Str.Parse.{IsNumeral, digits_value, without_leading_plus}
 use lib.Chars.{codes}
 use Rattle.clap.specs.declared.parser.matches.Found.{Found}
-use Rattle.clap.specs.Words.{first_value, one_text}
+use Rattle.clap.specs.Words.{first_value, matched_of, one_text, raw_values}
 use Rattle.rows.specs.Kept.{IsWidth}
 use Rattle.roadmark.specs.declared.words.Job.{Job}
 use Rattle.roadmark.specs.declared.words.Job.TheVariants.{Joint, Once, Batch, Rehearse, Create, Apply, Ask, Check, Serve, Migrate}
 use Rattle.roadmark.specs.declared.words.Usage.{Usage}
+use Rattle.roadmark.specs.declared.pipes.PipePair.{PipePair}
+use Rattle.roadmark.specs.declared.pipes.Misfit.{Misfit}
+use Rattle.roadmark.specs.declared.pipes.Misfit.TheVariants.{MissingWord}
+use Rattle.roadmark.specs.Pipes.{names_of, AreMisfit}
 
 -- the width of the search's buckets that they give, if any
 abbrev pub delta_of : Job → Option ℕ
@@ -21,7 +25,7 @@ delta_of (Create store network landmarks journal_pages room) = None
 delta_of (Apply store commands delta) = delta
 delta_of (Ask store pairs delta) = delta
 delta_of (Check store) = None
-delta_of (Serve store delta workers) = delta
+delta_of (Serve store pipes delta workers) = delta
 delta_of (Migrate old new room) = None
 
 -- the width of the searches of a job's rows, where it makes some and one is given: `create`, `apply`, `check` and `migrate` compute none
@@ -34,7 +38,7 @@ searched_width (Create store network landmarks journal_pages room) = None
 searched_width (Apply store commands delta) = None
 searched_width (Ask store pairs delta) = delta
 searched_width (Check store) = None
-searched_width (Serve store delta workers) = delta
+searched_width (Serve store pipes delta workers) = delta
 searched_width (Migrate old new room) = None
 
 -- the pages of the store's journal, where it makes a store
@@ -47,7 +51,7 @@ journal_of (Create store network landmarks journal_pages room) = Some journal_pa
 journal_of (Apply store commands delta) = None
 journal_of (Ask store pairs delta) = None
 journal_of (Check store) = None
-journal_of (Serve store delta workers) = None
+journal_of (Serve store pipes delta workers) = None
 journal_of (Migrate old new room) = None
 
 -- the row workers of its desk, where it has one
@@ -60,8 +64,21 @@ workers_of (Create store network landmarks journal_pages room) = None
 workers_of (Apply store commands delta) = None
 workers_of (Ask store pairs delta) = None
 workers_of (Check store) = None
-workers_of (Serve store delta workers) = Some workers
+workers_of (Serve store pipes delta workers) = Some workers
 workers_of (Migrate old new room) = None
+
+-- the pairs of pipes by which clients may come, where there are some
+abbrev pub pipes_of : Job → List PipePair
+pipes_of (Joint delta) = []
+pipes_of (Once network source target delta) = []
+pipes_of (Batch network pairs delta) = []
+pipes_of (Rehearse network script journal_pages room delta) = []
+pipes_of (Create store network landmarks journal_pages room) = []
+pipes_of (Apply store commands delta) = []
+pipes_of (Ask store pairs delta) = []
+pipes_of (Check store) = []
+pipes_of (Serve store pipes delta workers) = pipes.items
+pipes_of (Migrate old new room) = []
 
 -- a number of journal pages
 abbrev pub IsJournal : ℕ → Type 0
@@ -85,7 +102,7 @@ subcommand_of (Create store network landmarks journal_pages room) = Some (codes 
 subcommand_of (Apply store commands delta) = Some (codes "apply")
 subcommand_of (Ask store pairs delta) = Some (codes "ask")
 subcommand_of (Check store) = Some (codes "check")
-subcommand_of (Serve store delta workers) = Some (codes "serve")
+subcommand_of (Serve store pipes delta workers) = Some (codes "serve")
 subcommand_of (Migrate old new room) = Some (codes "migrate")
 
 -- this word is a numeral of this number
@@ -165,12 +182,18 @@ abbrev pub GivesWorkers : Found → ℕ → Type 0
 GivesWorkers found workers =
     Gives found (codes "workers") IsWorkers (Some workers) ⊎ ((workers ≡ 4) × Gives found (codes "workers") IsWorkers None)
 
--- the words of `serve` give this job, or a word is missing
-abbrev pub GivesServe : Found → Option Job → Type 0
-GivesServe found None = first_value found (codes "STORE") ≡ None
-GivesServe found (Some (Serve store delta workers)) =
-    (first_value found (codes "STORE") ≡ Some store.now) × Gives found (codes "delta") IsWidth delta × GivesWorkers found workers
-GivesServe found (Some job) = ⊥
+-- all words that stand under a name
+abbrev pub all_values : Found → List ℕ → List (List ℕ)
+all_values found name = unwrap_or (option_map raw_values (matched_of found name)) []
+
+-- the words of `serve` give this job; or a word is missing, or the names of pipes are none of pairs
+abbrev pub GivesServe : Found → Result Job Misfit → Type 0
+GivesServe found (Ok (Serve store pipes delta workers)) =
+    (first_value found (codes "STORE") ≡ Some store.now) × (names_of pipes.items ≡ all_values found (codes "PIPES"))
+    × Gives found (codes "delta") IsWidth delta × GivesWorkers found workers
+GivesServe found (Ok job) = ⊥
+GivesServe found (Err why) =
+    ((why ≡ MissingWord) × (first_value found (codes "STORE") ≡ None)) ⊎ AreMisfit (all_values found (codes "PIPES")) why
 
 -- the words of `migrate` give this job, or a word is missing
 abbrev pub GivesMigrate : Found → Option Job → Type 0

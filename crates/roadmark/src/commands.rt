@@ -7,6 +7,8 @@ pub const NETWORK: &str = "GR";
 
 pub const PAIRS: &str = "P2P";
 
+pub const PIPES: &str = "PIPES";
+
 pub const SCRIPT: &str = "SCRIPT";
 
 pub const STORE: &str = "STORE";
@@ -88,7 +90,9 @@ const ABOUT_CHECK: &str =
     "Looks at the store in the file STORE, which stays as it is, and tells how it stands: `v V`, its version; `slot A E` or `slot B E`, the slot that holds its last checkpoint, and that slot's epoch, which rises by one with each checkpoint; `journal U`, how many pages of the journal stand behind that checkpoint. The file is judged first, as each opening judges it: where a page that counts is damaged, the fault line names its number, and the status is 1.";
 
 const ABOUT_SERVE: &str =
-    "Serves the store in the file STORE to one client, on standard input and output: it reads a line, carries it out, prints its answer, and then reads the next, until the line `quit` or the end of the input.
+    "Serves the store in the file STORE, on standard input and output: it reads a line, carries it out, prints its answer, and then reads the next, until the line `quit` or the end of the input.
+
+Beside that it serves one client after the other at each pair of named pipes, IN and OUT, all pairs at once: the client writes its lines into IN and reads its answers from OUT. There `quit` ends that client's session alone, and a last line without its end is not carried out. The end of standard input ends the server.
 
 `set K W`, `close K`, `reopen K`, `mark X`, `unmark X` and `lay T H W` change the network: `ok N`, once the command is version N of the store for good, or `no CODE`. The lines `begin` and `end` enclose commands of which all are carried out or none: `end` is answered for all of them. `dist S T`, `from X T` and `lower S T` ask: the line `v V`, V the version that is shown, and the answer line, or `no CODE`. `wait` waits until the last command or group that was accepted is shown: `v V`, from which on answers are of that version or a later one. Empty lines and those that begin with # have no answer; another line has `no 1` or `no 5`.";
 
@@ -152,6 +156,17 @@ fn required_word<'w>(alloc: Global, name: &'w str, help: &'w str) -> Arg<'w> {
         .required(true)
         .action(ArgAction::Set)
         .help(help)
+}
+
+/// Names of pipes, two for each client, as many as are given.
+fn pipes_words<'w>(alloc: Global) -> Arg<'w> {
+    Arg::new(alloc, PIPES)
+        .num_args(0..)
+        .value_name("IN OUT")
+        .action(ArgAction::Append)
+        .help(
+            "Named pipes, two for each client that may be there at once, at most 60 pairs: the client writes its lines into IN and reads the answers from OUT",
+        )
 }
 
 /// A node's number that has to stand at its place.
@@ -238,6 +253,7 @@ fn serve_command<'w>(alloc: Global) -> Result<Command<'w>, AllocError> {
         .long_about(ABOUT_SERVE)
         .after_help("Example: printf 'close 7\\nwait\\ndist 1 6\\n' | roadmark serve six.store")
         .arg(required_word(alloc, STORE, STORE_HELP))?
+        .arg(pipes_words(alloc))?
         .arg(workers_option(alloc))?
         .arg(delta_option(alloc))
 }

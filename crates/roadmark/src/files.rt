@@ -20,6 +20,9 @@ const BUFFER: usize = 1 << 16;
 /// By what number a failure names the store's file; the texts are 0 and 1.
 const STORE: u8 = 2;
 
+/// By what number a failure names the first pipe of a session; those behind it are 4 and on.
+pub const FIRST_PIPE: u8 = 3;
+
 /// A reader of larger pieces.
 pub fn buffered<F: Read + Drop>(alloc: Global, reader: F) -> Result<BufReader<F>, Failed>
     ensures same { IfOk result (λ buffered. reader_inner buffered ≡ reader) }
@@ -63,7 +66,7 @@ pub fn standard_output<R: AllocGlobal + Clock + Print>(
 }
 
 /// What is told of a file that can't be opened: fault 10 of line 0.
-fn unopened(which: u8) -> Failed
+pub fn unopened(which: u8) -> Failed
     ensures { result ≡ unopened which }
 {
     let fault = Fault {

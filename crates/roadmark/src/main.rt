@@ -13,21 +13,27 @@ ghost use Rattle.std.specs.Prelude.{◌≡◌, ◌≢◌, ◌≤◌, Some, is_ok
 ghost use Rattle.std.specs.Option.{ForSome};
 ghost use Rattle.std.specs.IoError.{error_kind};
 ghost use Rattle.rows.specs.Kept.{IsWidth};
-ghost use Rattle.roadmark.specs.Failures.{text_name};
-ghost use Rattle.roadmark.specs.Words.{IsJournal, IsWorkers, delta_of, journal_of, workers_of, searched_width};
+ghost use Rattle.roadmark.specs.Failures.{text_name, pipe_name};
+ghost use Rattle.roadmark.specs.Pipes.{AreFit};
+ghost use Rattle.roadmark.specs.Words.{IsJournal, IsWorkers, delta_of, journal_of, pipes_of, workers_of, searched_width};
 ghost use Rattle.printing.specs.Widths.{told_width, told_workers};
 
 mod commands;
+mod doors;
 mod files;
 mod jobs;
 mod patient;
+mod pipes;
 mod serve_jobs;
 mod store_jobs;
 mod streams;
 mod words;
 
 pub use filedisk::FileDisk;
+use files::FIRST_PIPE;
 use jobs::{run_batch, run_joint, run_once, run_rehearse};
+use pipes::pipe_at;
+pub use pipes::{Misfit, PipePair};
 pub use printing::{Done, Failed, fault_line, status};
 pub use querytexts::{batch_text, once_text};
 pub use rehearsals::{joint_text, rehearse_text};
@@ -51,6 +57,8 @@ pub use words::{Job, MISUSE, Usage, read_words};
 #[cfg(test)]
 mod check_tests;
 #[cfg(test)]
+mod client_tests;
+#[cfg(test)]
 mod migrate_tests;
 #[cfg(test)]
 mod program_tests;
@@ -66,11 +74,14 @@ mod tests;
 /// Does a job, with searches of the job's width. `threads` is the runtime of a desk's threads.
 fn run<
     R: AllocGlobal + Clock + Files<File = File> + Input + Print + Threads,
-    T: Threads + Wait + Clock + Eprint + Copy + Send + Sync + 'static,
+    T: Threads + Wait + Clock + Eprint + Files<File = File> + Copy + Send + Sync + 'static,
 >(rt: &R, threads: T, job: &Job<'_>) -> Result<Done, Failed>
+where
+    T::Dir: Send + 'static,
     requires width { ForSome (delta_of job.now) IsWidth }
     requires journal { ForSome (journal_of job.now) IsJournal }
     requires workers { ForSome (workers_of job.now) IsWorkers }
+    requires pipes { AreFit (pipes_of job.now) }
     ensures width { IfOk result (λ done. told_width done ≡ searched_width job.now) }
     ensures workers { ForSome (workers_of job.now) (λ workers. IfOk result (λ done. told_workers done ≡ Some workers)) }
 {
@@ -114,10 +125,23 @@ fn run<
         Job::Check { store } => run_check(rt, store),
         Job::Serve {
             store,
+            ref pipes,
             delta,
             workers,
-        } => run_serve(rt, threads, store, delta, workers),
+        } => run_serve(rt, threads, store, pipes.as_slice(), delta, workers),
         Job::Migrate { old, new, room } => run_migrate(rt, old, new, room),
+    }
+}
+
+/// By what name a fault line of `serve` calls the text of a failure: 3 and on are its pipes.
+fn pipe_name<'w>(store: &'w str, pipes: &[PipePair<'w>], failed: &Failed) -> &'w str
+    ensures { result.now ≡ pipe_name store.now pipes.now failed.now }
+{
+    match failed {
+        Failed::Text { which, fault: _ } if *which >= FIRST_PIPE => {
+            pipe_at(pipes, usize::from(*which - FIRST_PIPE)).unwrap_or(store)
+        }
+        Failed::Text { .. } | Failed::Code(_) => store,
     }
 }
 
@@ -156,7 +180,12 @@ fn text_name<'w>(job: &Job<'w>, failed: &Failed) -> &'w str
             ..
         } => { if is_first { commands } else { store } }
         Job::Ask { store, pairs, .. } => { if is_first { pairs } else { store } }
-        Job::Check { store } | Job::Serve { store, .. } => store,
+        Job::Check { store } => store,
+        Job::Serve {
+            store,
+            ref pipes,
+            ..
+        } => pipe_name(store, pipes.as_slice(), failed),
         Job::Migrate { old, new, .. } => { if is_first { old } else { new } }
     }
 }
@@ -212,8 +241,10 @@ fn without_words<R: Eprint>(rt: &R, error: &io::Error) -> u8
 /// Does what the program's words ask for, and gives the exit status. The standard streams are lent for it, so they are held until it is done.
 fn do_words<
     R: AllocGlobal + Clock + Env + Eprint + Files<File = File> + Input + Print + Threads,
-    T: Threads + Wait + Clock + Eprint + Copy + Send + Sync + 'static,
+    T: Threads + Wait + Clock + Eprint + Files<File = File> + Copy + Send + Sync + 'static,
 >(rt: &R, threads: T, _held: &Streams) -> u8
+where
+    T::Dir: Send + 'static,
     ensures { result ≤ 2 }
 {
     let words = match env::args(rt) {
@@ -239,8 +270,10 @@ fn do_words<
 /// where the words are not ones that it takes. `threads` is the runtime of a desk's threads.
 fn program<
     R: AllocGlobal + Clock + Env + Eprint + Files<File = File> + Input + Print + Threads,
-    T: Threads + Wait + Clock + Eprint + Copy + Send + Sync + 'static,
+    T: Threads + Wait + Clock + Eprint + Files<File = File> + Copy + Send + Sync + 'static,
 >(rt: &R, threads: T) -> u8
+where
+    T::Dir: Send + 'static,
     ensures { result ≤ 2 }
 {
     match hold_streams(rt) {

@@ -60,7 +60,10 @@ fn ends<
         + Send
         + Sync
         + 'static,
->(rt: &'a R, folder: &str, words: &'a str, input: &'a str, told: (u8, &str, &str)) {
+>(rt: &'a R, folder: &str, words: &'a str, input: &'a str, told: (u8, &str, &str))
+where
+    R::Dir: Send + 'static,
+{
     let Ok(mut shell) = Shell::new(rt, folder, words) else {
         return assert!(rt; false);
     };
@@ -84,7 +87,10 @@ pub fn is_done<
         + Send
         + Sync
         + 'static,
->(rt: &'a R, folder: &str, words: &'a str, out: &str) {
+>(rt: &'a R, folder: &str, words: &'a str, out: &str)
+where
+    R::Dir: Send + 'static,
+{
     ends(rt, folder, words, "", (0, out, ""));
 }
 
@@ -102,7 +108,10 @@ pub fn is_refused<
         + Send
         + Sync
         + 'static,
->(rt: &'a R, folder: &str, words: &'a str, err: &str) {
+>(rt: &'a R, folder: &str, words: &'a str, err: &str)
+where
+    R::Dir: Send + 'static,
+{
     ends(rt, folder, words, "", (1, "", err));
 }
 
@@ -253,7 +262,10 @@ fn is_cut<
         + Send
         + Sync
         + 'static,
->(rt: &R, folder: &str, words: &str) {
+>(rt: &R, folder: &str, words: &str)
+where
+    R::Dir: Send + 'static,
+{
     let Ok(mut shell) = Shell::new(rt, folder, words) else {
         return assert!(rt; false);
     };

@@ -1,5 +1,6 @@
 //! A session's file: how long it is locked. And what the session tells of a builder that ended.
 
+use crate::doors::{FileNames, doors_of, see_pipes};
 use crate::program_tests::{is_done, new_folder};
 use crate::serve_jobs::{Teller, serve_disk};
 use crate::shell::{Shell, is_kept};
@@ -9,6 +10,7 @@ use filedisk::{FileDisk, SystemFile, open_file};
 use printing::CountedWriter;
 use std::fs::File;
 use std::io::ErrorKind;
+use std::rt::Files;
 use std::sync::atomic::{AtomicU64, Ordering};
 use std::sync::{Arc, Wait};
 use std::test::Fail;
@@ -79,15 +81,28 @@ impl<R: Clock> Gate for Watch<R> {
 }
 
 /// A session of one command over this disk, whose lock it is to let go: whether it was done.
-fn serve_one<R: AllocGlobal + Threads + Wait + Clock + Copy + Send + Sync + 'static>(
-    rt: R,
-    disk: FileDisk<SystemFile>,
-    gate: Watch<R>,
-) -> Result<bool, Fail> {
+fn serve_one<
+    R: AllocGlobal
+        + Files<File = File>
+        + Threads
+        + Wait
+        + Clock
+        + Eprint
+        + Copy
+        + Send
+        + Sync
+        + 'static,
+>(rt: R, disk: FileDisk<SystemFile>, gate: Watch<R>) -> Result<bool, Fail>
+where
+    R::Dir: Send + 'static,
+{
     let lock = disk.lock()?;
     let setup = Setup {
         delta: None,
         workers: 1,
+    };
+    let Ok(no_pipes) = see_pipes(&FileNames { rt: &rt }, &[]) else {
+        return Ok(false);
     };
     let mut input = b"set 8 5\n".as_slice();
     let mut output = Vec::new(rt.alloc());
@@ -100,6 +115,7 @@ fn serve_one<R: AllocGlobal + Threads + Wait + Clock + Copy + Send + Sync + 'sta
         gate,
         setup,
         Some(lock),
+        doors_of(rt, rt.alloc(), no_pipes)?,
         &mut reader,
         &mut writer,
     );

@@ -1,5 +1,6 @@
 //! The program's words: which job they ask for, which are refused, and what help tells.
-use crate::{Job, Usage, read_words};
+use crate::{Job, PipePair, Usage, read_words};
+use std::alloc::{AllocError, Global};
 use std::process::Abort;
 use std::test::Fail;
 
@@ -23,7 +24,7 @@ fn usage_of<R: Abort + AllocGlobal>(rt: &R, words: &str) -> Result<Usage, Fail> 
 }
 
 /// Words with the job for which they ask.
-const JOBS: [(&str, Job<'static>); 19] = [
+const JOBS: [(&str, Job<'static>); 17] = [
     (
         "roadmark once a.gr 1 18446744073709551615",
         Job::Once {
@@ -145,22 +146,28 @@ const JOBS: [(&str, Job<'static>); 19] = [
         },
     ),
     ("roadmark check s", Job::Check { store: "s" }),
-    (
-        "roadmark serve s",
-        Job::Serve {
-            store: "s",
-            delta: None,
-            workers: 4,
-        },
-    ),
+];
+
+/// Words of `serve`: the store, the names of its pipes with blanks between them, the width and the row workers for which they ask.
+const SERVED: [(&str, &str, &str, Option<u32>, u32); 6] = [
+    ("roadmark serve s", "s", "", None, 4),
     (
         "roadmark serve s --workers=64 --delta 9",
-        Job::Serve {
-            store: "s",
-            delta: Some(9),
-            workers: 64,
-        },
+        "s",
+        "",
+        Some(9),
+        64,
     ),
+    ("roadmark serve s a b", "s", "a b", None, 4),
+    ("roadmark serve s a b c d", "s", "a b c d", None, 4),
+    (
+        "roadmark serve --delta 9 s b a --workers 1 c d",
+        "s",
+        "b a c d",
+        Some(9),
+        1,
+    ),
+    ("roadmark serve -- s --a b", "s", "--a b", None, 4),
 ];
 
 #[test]
@@ -171,12 +178,97 @@ fn each_word_is_its_job(rt: HostRuntime) -> Result<(), Fail> {
     Ok(())
 }
 
+/// The names of these pairs, in their order, are these, which have blanks between them.
+fn have_names(pipes: &[PipePair<'_>], names: &str) -> bool {
+    let mut names = names.split_whitespace();
+    for pair in pipes {
+        if names.next() != Some(pair.input) || names.next() != Some(pair.output) {
+            return false;
+        }
+    }
+    names.next().is_none()
+}
+
+/// These words, with blanks between them, ask for this session.
+fn ask_to_serve<R: Abort + AllocGlobal>(
+    rt: &R,
+    row: (&str, &str, &str, Option<u32>, u32),
+) -> Result<(), Fail> {
+    let list: Vec<&str> = row.0.split_whitespace().collect(rt.alloc())?;
+    match read_words(rt.alloc(), &list) {
+        Ok(
+            Job::Serve {
+                store,
+                pipes,
+                delta,
+                workers,
+            },
+        ) => {
+            let is_named = store == row.1 && have_names(pipes.as_slice(), row.2);
+            assert!(rt; is_named && delta == row.3 && workers == row.4, "{}", row.0);
+        }
+        Ok(job) => assert!(rt; false, "{}: {job:?}", row.0),
+        Err(usage) => assert!(rt; false, "{}: {}", row.0, usage.text),
+    }
+    Ok(())
+}
+
+/// Each pair has its two names in their order. Refused are bodies that lose a pair, swap its names, or take one pair alone.
+#[test]
+fn pairs_of_pipes(rt: HostRuntime) -> Result<(), Fail> {
+    for row in SERVED {
+        ask_to_serve(&rt, row)?;
+    }
+    Ok(())
+}
+
+/// Words of `serve` with so many pipes, each of another name, and then these.
+fn with_pipes(alloc: Global, count: u64, more: &str) -> Result<String, AllocError> {
+    let mut words = String::from_str(alloc, "roadmark serve s")?;
+    for number in 0..count {
+        let name = format!(in alloc; " p{number}")?;
+        words.push_str(name.as_str())?;
+    }
+    words.push_str(more)?;
+    Ok(words)
+}
+
+/// Sixty pairs are taken, and no more; nor an odd number of names, nor one that stands twice, wherever that is. Refused are bodies that take them.
+#[test]
+fn misuses_of_pipes(rt: HostRuntime) -> Result<(), Fail> {
+    let most = with_pipes(rt.alloc(), 120, "")?;
+    let list: Vec<&str> = most.as_str().split_whitespace().collect(rt.alloc())?;
+    assert!(rt; read_words(rt.alloc(), &list).is_ok());
+    let table = [
+        (1, "", "named alone"),
+        (119, "", "named alone"),
+        (121, "", "named alone"),
+        (122, "", "more than 120"),
+        (0, " a a", "named twice"),
+        (118, " a p0", "named twice"),
+        (118, " p117 a", "named twice"),
+        (2, " a b c a", "named twice"),
+    ];
+    for (count, more, told) in table {
+        let words = with_pipes(rt.alloc(), count, more)?;
+        let usage = usage_of(&rt, words.as_str())?;
+        assert!(rt;
+            usage.status == 2 && usage.text.as_str().starts_with("error: "),
+            "{words}"
+        );
+        assert!(rt; usage.text.as_str().contains(told), "{words}");
+    }
+    Ok(())
+}
+
 /// Refused are bodies that give a word an option that is another's.
 #[test]
 fn misuses_of_words(rt: HostRuntime) -> Result<(), Fail> {
     let table = [
         "roadmark serve",
         "roadmark serve s t",
+        "roadmark serve s t u v",
+        "roadmark serve s t t",
         "roadmark serve s --workers 0",
         "roadmark serve s --workers 65",
         "roadmark twice",
@@ -264,7 +356,7 @@ fn help_of_words(rt: HostRuntime) -> Result<(), Fail> {
     let ask = "pairs|<STORE>|<P2P>|--delta <D>|Example: roadmark ask";
     let check = "<STORE>|journal U|Example: roadmark check";
     let migrate = "<OLD>|<NEW>|--room <R>|Example: roadmark migrate";
-    let serve = "standard input|<STORE>|--workers <W>|--delta <D>|Example: printf";
+    let serve = "standard input|<STORE>|[IN OUT]|--workers <W>|--delta <D>|Example: printf";
     let table = [
         ("roadmark --help", words),
         ("roadmark once --help", once),

@@ -1,23 +1,26 @@
 //! The program's words.
-ghost use Rattle.std.specs.Prelude.{◌≡◌, ◌≢◌, ℕ, ◌≤◌, None, IsSome, IfOk, IfErr, IfSome};
+ghost use Rattle.std.specs.Prelude.{◌≡◌, ◌≢◌, ℕ, ◌≤◌, [], None, IsSome, IsOk, IfOk, IfErr, IfSome};
 ghost use Rattle.std.specs.Option.{ForSome};
+ghost use Rattle.std.specs.Result.{ForOk};
 ghost use lib.Chars.{codes};
 ghost use Rattle.clap.specs.Words.{found_of, kind_of, subcommand_name_of};
 ghost use Rattle.rows.specs.Kept.{IsWidth};
-ghost use Rattle.roadmark.specs.Words.{delta_of, journal_of, workers_of, subcommand_of, HasFitNumbers, Gives, GivesOnce, GivesBatch, GivesRehearse, GivesCreate, GivesApply, GivesAsk, GivesCheck, GivesServe, GivesMigrate, GivesJoint, GivesJournal, GivesWorkers, IsJournal, IsWorkers, IsLong, IsUsage};
+ghost use Rattle.roadmark.specs.Pipes.{names_of, AreFit, AreMisfit};
+ghost use Rattle.roadmark.specs.Words.{delta_of, journal_of, workers_of, pipes_of, all_values, subcommand_of, HasFitNumbers, Gives, GivesOnce, GivesBatch, GivesRehearse, GivesCreate, GivesApply, GivesAsk, GivesCheck, GivesServe, GivesMigrate, GivesJoint, GivesJournal, GivesWorkers, IsJournal, IsWorkers, IsLong, IsUsage};
 
 use crate::commands::{
     APPLY, ASK, BATCH, CHECK, COMMANDS, CREATE, DELTA, JOURNAL, LANDMARKS, MIGRATE,
-    MOST_JOURNAL_PAGES, MOST_WIDTH, MOST_WORKERS, NETWORK, NEW, OLD, ONCE, PAIRS, REHEARSE, ROOM,
-    SCRIPT, SERVE, SOURCE, STORE, TARGET, WORKERS, program,
+    MOST_JOURNAL_PAGES, MOST_WIDTH, MOST_WORKERS, NETWORK, NEW, OLD, ONCE, PAIRS, PIPES, REHEARSE,
+    ROOM, SCRIPT, SERVE, SOURCE, STORE, TARGET, WORKERS, program,
 };
+use crate::pipes::{Misfit, PipePair, pairs_of};
 use clap::error::ErrorKind;
 use clap::{ArgMatches, Error};
 use std::alloc::Global;
 use std::convert::AsStr;
 
 /// What the program is asked to do. A name of a file is as it was written.
-#[derive(Clone, Copy, Debug, PartialEq, Eq)]
+#[derive(Debug, Drop, PartialEq, Eq)]
 pub enum Job<'w> {
     /// The joint form on standard input.
     Joint {
@@ -68,9 +71,10 @@ pub enum Job<'w> {
     Check {
         store: &'w str,
     },
-    /// A session over a store, on standard input and output.
+    /// A session over a store, on standard input and output, and one with each client that comes by a pair of pipes.
     Serve {
         store: &'w str,
+        pipes: Vec<PipePair<'w>>,
         delta: Option<u32>,
         workers: u32,
     },
@@ -125,6 +129,24 @@ fn out_of_memory(alloc: Global) -> Usage
     Usage {
         status: 1,
         text: String::new(alloc),
+    }
+}
+
+/// What a refusal of words that were matched shows: a misuse, but where memory ran out.
+fn usage_for(alloc: Global, misfit: Misfit) -> Usage
+    ensures usage { IsUsage result }
+    ensures memory { misfit ≡ Misfit.OutOfMemory → result.status ≡ 1 }
+    ensures misuse { misfit ≢ Misfit.OutOfMemory → 1 ≤ result.status }
+{
+    if let Misfit::OutOfMemory = misfit {
+        return out_of_memory(alloc);
+    }
+    match format!(in alloc; "error: {misfit}\n\nFor more information, try '--help'.\n") {
+        Ok(text) => Usage {
+            status: MISUSE,
+            text,
+        },
+        Err(_) => out_of_memory(alloc),
     }
 }
 
@@ -261,16 +283,35 @@ fn check_in<'w>(matches: &ArgMatches<'w>) -> Option<Job<'w>>
     Some(Job::Check { store })
 }
 
-fn serve_in<'w>(matches: &ArgMatches<'w>) -> Option<Job<'w>>
-    ensures numbers { ForSome result HasFitNumbers }
+/// The pairs that the names of pipes make; none where there are no names.
+fn pipes_in<'w>(alloc: Global, matches: &ArgMatches<'w>) -> Result<Vec<PipePair<'w>>, Misfit>
+    ensures pairs { IfOk result (λ pairs. names_of pairs.items ≡ all_values (found_of matches.now) (codes "PIPES")) }
+    ensures fit { IfOk result (λ pairs. AreFit pairs.items) }
+    ensures refused { IfErr result (AreMisfit (all_values (found_of matches.now) (codes "PIPES"))) }
+{
+    match matches.get_strs(PIPES) {
+        Some(names) => pairs_of(alloc, names),
+        None => Ok(Vec::new(alloc)),
+    }
+}
+
+fn serve_in<'w>(alloc: Global, matches: &ArgMatches<'w>) -> Result<Job<'w>, Misfit>
+    ensures numbers { ForOk result HasFitNumbers }
+    ensures pipes { IfOk result (λ job. AreFit (pipes_of job)) }
     ensures given { GivesServe (found_of matches.now) result }
 {
-    let store = matches.get_str(STORE)?;
-    Some(Job::Serve {
-        store,
-        delta: width_in(matches),
-        workers: workers_in(matches),
-    })
+    let Some(store) = matches.get_str(STORE) else {
+        return Err(Misfit::MissingWord);
+    };
+    match pipes_in(alloc, matches) {
+        Ok(pipes) => Ok(Job::Serve {
+            store,
+            pipes,
+            delta: width_in(matches),
+            workers: workers_in(matches),
+        }),
+        Err(misfit) => Err(misfit),
+    }
 }
 
 fn migrate_in<'w>(matches: &ArgMatches<'w>) -> Option<Job<'w>>
@@ -286,9 +327,10 @@ fn migrate_in<'w>(matches: &ArgMatches<'w>) -> Option<Job<'w>>
     })
 }
 
-/// The job that was matched.
-fn job_in<'w>(matches: &ArgMatches<'w>) -> Option<Job<'w>>
+/// The job that was matched, where it has no pipes.
+fn plain_job_in<'w>(matches: &ArgMatches<'w>) -> Option<Job<'w>>
     ensures numbers { ForSome result HasFitNumbers }
+    ensures pipes { IfSome result (λ job. pipes_of job ≡ []) }
     ensures kind { IfSome result (λ job. subcommand_name_of matches.now ≡ subcommand_of job) }
     ensures joint { IfSome result (GivesJoint (found_of matches.now)) }
     ensures given { subcommand_name_of matches.now ≡ None → IsSome result }
@@ -304,10 +346,23 @@ fn job_in<'w>(matches: &ArgMatches<'w>) -> Option<Job<'w>>
         Some((APPLY, inner)) => apply_in(inner),
         Some((ASK, inner)) => ask_in(inner),
         Some((CHECK, inner)) => check_in(inner),
-        Some((SERVE, inner)) => serve_in(inner),
         Some((MIGRATE, inner)) => migrate_in(inner),
         Some(_) => None,
     }
+}
+
+/// The job that was matched.
+fn job_in<'w>(alloc: Global, matches: &ArgMatches<'w>) -> Result<Job<'w>, Misfit>
+    ensures numbers { ForOk result HasFitNumbers }
+    ensures pipes { IfOk result (λ job. AreFit (pipes_of job)) }
+    ensures kind { IfOk result (λ job. subcommand_name_of matches.now ≡ subcommand_of job) }
+    ensures joint { IfOk result (GivesJoint (found_of matches.now)) }
+    ensures given { subcommand_name_of matches.now ≡ None → IsOk result }
+{
+    if let Some((SERVE, inner)) = matches.subcommand() {
+        return serve_in(alloc, inner);
+    }
+    plain_job_in(matches).ok_or(Misfit::MissingWord)
 }
 
 /// Reads the program's words, the first of which is its own name.
@@ -315,6 +370,7 @@ pub fn read_words<'w, S: AsStr>(alloc: Global, words: &'w [S]) -> Result<Job<'w>
     ensures width { IfOk result (λ job. ForSome (delta_of job) IsWidth) }
     ensures journal { IfOk result (λ job. ForSome (journal_of job) IsJournal) }
     ensures workers { IfOk result (λ job. ForSome (workers_of job) IsWorkers) }
+    ensures pipes { IfOk result (λ job. AreFit (pipes_of job)) }
     ensures usage { IfErr result IsUsage }
 {
     let matched = match program(alloc) {
@@ -322,12 +378,9 @@ pub fn read_words<'w, S: AsStr>(alloc: Global, words: &'w [S]) -> Result<Job<'w>
         Err(error) => Err(Error::from(error)),
     };
     match matched {
-        Ok(matches) => match job_in(&matches) {
-            Some(job) => Ok(job),
-            None => Err(Usage {
-                status: MISUSE,
-                text: String::new(alloc),
-            }),
+        Ok(matches) => match job_in(alloc, &matches) {
+            Ok(job) => Ok(job),
+            Err(misfit) => Err(usage_for(alloc, misfit)),
         },
         Err(error) => Err(usage_of(alloc, &error)),
     }

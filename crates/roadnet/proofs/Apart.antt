@@ -24,10 +24,10 @@ head_is : (net : Net) (k : ℕ) (arc : RoadArc) → arc_at net k ≡ Some arc �
 unfolding head_of
 head_is net k arc is = ap (λ o. option_map_or (λ (a : RoadArc). a.head) o 0) is
 
-length_is : (net : Net) (k : ℕ) (arc : RoadArc) → arc_at net k ≡ Some arc → length_of_arc net k ≡ arc.length
+pub length_is : (net : Net) (k : ℕ) (arc : RoadArc) → arc_at net k ≡ Some arc → length_of_arc net k ≡ arc.length
 length_is net k arc is = ap (λ o. option_map_or (λ (a : RoadArc). a.length) o 0) is
 
-length_of-cons : (net : Net) (k : ℕ) (walk : List ℕ) → length_of net (k ∷ walk) ≡ length_of_arc net k + length_of net walk
+pub length_of-cons : (net : Net) (k : ℕ) (walk : List ℕ) → length_of net (k ∷ walk) ≡ length_of_arc net k + length_of net walk
 length_of-cons net k walk = sum_by-cons (length_of_arc net) k walk
 
 -- the nodes that a walk from s visits

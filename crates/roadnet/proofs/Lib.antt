@@ -1,4 +1,5 @@
 pub mod Apart
+pub mod EndsKept
 pub mod Examples
 pub mod Flagged
 pub mod Flaws
@@ -10,5 +11,6 @@ pub mod Lowest
 pub mod Members
 pub mod Outlined
 pub mod Probed
+pub mod Reversed
 pub mod Stepped
 pub mod TakenBack

@@ -1,6 +1,7 @@
 pub mod Batches
 pub mod Causes
 pub mod Changes
+pub mod Ends
 pub mod Flags
 pub mod Groups
 pub mod Held
@@ -11,6 +12,7 @@ pub mod Net
 pub mod Numbers
 pub mod Outlines
 pub mod Probes
+pub mod Reversal
 pub mod Step
 pub mod Undoing
 pub mod WalkLaws

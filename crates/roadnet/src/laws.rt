@@ -1,5 +1,6 @@
 ghost use Rattle.roadnet.specs.Batches.{FirstRefusalIsOfTheFirst, AfterIsChanged, AfterAllIsChanged, GroupsAreTheirCommands, RefusedAsTheirCommands, AdmittedFits, AllAdmittedFit};
 ghost use Rattle.roadnet.specs.Changes.{StepChanges, AdmittedSteps, RefusalIsLowest, FlawIsLowest, GroupsJoin, GroupAdmitted, GroupGivesNetwork, GroupOfOne, AfterBoth, AfterIsNetwork};
+ghost use Rattle.roadnet.specs.Ends.{EndsStay, EndsWereTheSame};
 ghost use Rattle.roadnet.specs.WalkLaws.{WalksJoin, LeastIsOne, LeastOrNoWalk, LeastIsBounded, DifferenceIsBelow, NoWalkOnward};
 
 /// What holds of steps, whatever the network and the commands.
@@ -12,6 +13,8 @@ pub fn laws_of_steps()
     ensures group_of_one { GroupOfOne }
     ensures one_after_another { AfterBoth }
     ensures networks { AfterIsNetwork }
+    ensures ends { EndsStay }
+    ensures same_ends { EndsWereTheSame }
 {}
 
 /// What holds of commands that are carried out one after another, whatever the network.

@@ -13,6 +13,7 @@ mod networks;
 mod outlines;
 mod probes;
 mod refusals;
+mod reversal;
 mod undoing;
 
 pub use arcs::RoadArc;
@@ -23,3 +24,4 @@ pub use laws::{laws_of_batches, laws_of_refusals, laws_of_steps, laws_of_walks};
 pub use networks::{LONGEST_ARC, MOST_ARCS, MOST_LANDMARKS, MOST_NODES, Network};
 pub use outlines::Outline;
 pub use refusals::{OutOfMemory, Refusal};
+pub use reversal::laws_of_reversal;

@@ -28,10 +28,10 @@ pub const MOST_LANDMARKS: usize = 1000;
 /// It takes 16 bytes an arc and 4 a landmark.
 #[derive(Debug, Drop)]
 pub struct Network {
-    nodes: u32,
+    pub(crate) nodes: u32,
     pub(crate) arcs: Vec<RoadArc>,
     pub(crate) landmarks: Vec<u32>,
-    room: u32,
+    pub(crate) room: u32,
 }
 
 impl Model for Network {

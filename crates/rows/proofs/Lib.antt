@@ -4,4 +4,5 @@ pub mod BoundLaws
 pub mod Bounded
 pub mod CacheRows
 pub mod LandmarkRows
+pub mod Potentials
 pub mod ReplyLaws

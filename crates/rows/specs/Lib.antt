@@ -1,4 +1,5 @@
 pub mod Bounds
+pub mod Guides
 pub mod BoundLaws
 pub mod Replies
 pub mod ReplyLaws

@@ -11,7 +11,7 @@ use std::alloc::Global;
 
 /// What a landmark's row tells of the walks from one node to another: nothing where it shows that there is none, else by how much the
 /// landmark's way to the target is longer than its way to the source, or 0.
-fn told_by(row: &Distances, source: u64, target: u64) -> Option<u64>
+pub(crate) fn told_by(row: &Distances, source: u64, target: u64) -> Option<u64>
     ensures { result ≡ told_by row.now source target }
 {
     let Some(to_source) = row.get(source) else {

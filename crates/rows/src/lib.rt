@@ -4,6 +4,7 @@
 mod answers;
 mod bounds;
 mod caches;
+mod guides;
 mod landmark_rows;
 mod laws;
 mod pinned;
@@ -14,6 +15,7 @@ mod views;
 
 pub use answers::answer_plain;
 pub use caches::{DEFAULT_ROWS, RowCache};
+pub use guides::{Landmarks, laws_of_potentials};
 pub use landmark_rows::Row;
 pub use laws::{laws_of_bounds, laws_of_replies};
 pub use pinned::Pinned;

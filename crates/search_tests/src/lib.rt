@@ -4,8 +4,12 @@
 #[cfg(test)]
 mod relaxing;
 #[cfg(test)]
+mod repairing;
+#[cfg(test)]
 mod searching;
 #[cfg(test)]
 mod suiting;
+#[cfg(test)]
+mod targets;
 #[cfg(test)]
 mod worked;

@@ -34,7 +34,7 @@ fn row_again(
 }
 
 /// Whether two rows agree on the first so many nodes.
-fn agree(one: &Distances, other: &Distances, nodes: u32) -> bool {
+pub fn agree(one: &Distances, other: &Distances, nodes: u32) -> bool {
     let mut same = true;
     for node in 1..u64::from(nodes) + 1 {
         same = same && one.get(node) == other.get(node);

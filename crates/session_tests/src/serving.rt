@@ -7,7 +7,7 @@ use dimacs::Counted;
 use disk::{Disk, FailOnce, MemDisk};
 use printing::{CountedWriter, Failed};
 use roadnet::{Network, Refusal, RoadArc};
-use sessions::serve;
+use sessions::{Answering, LastLine, Terms, serve};
 use std::alloc::Global;
 use std::io::{self, BufRead, BufReader, ErrorKind, Read, Write};
 use std::marker::Brand;
@@ -112,7 +112,12 @@ pub(crate) fn session_over<
     }
     let mut reader = Counted::new(input);
     let mut writer = CountedWriter::new(output);
-    let (outcome, session) = serve(&rt, alloc, &desk, &mut reader, &mut writer);
+    let answering = Answering::new();
+    let terms = Terms {
+        last_line: LastLine::Taken,
+        answering: &answering,
+    };
+    let (outcome, session) = serve(&rt, alloc, desk.handle(), terms, &mut reader, &mut writer);
     let (failed_reads, failed_writes) = (reader.failed_calls(), writer.failed_writes());
     let closed = desk.close()?;
     Ok(Ended {

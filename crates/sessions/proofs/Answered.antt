@@ -1,4 +1,4 @@
--- What a session knows by its reader, and what it tells.
+-- What a session knows, and what it tells.
 use Rattle.std.proofs.Common.{◌≡◌, ◌∙◌, ◌⊎◌, inl, inr, ℕ, ◌+◌, ◌≤◌, List, [], ◌∷◌, All, Option, None, Some, length, get_or, refl, sym, subst, arith}
 use Rattle.std.proofs.KnownBytes.{Appends-nil}
 use Rattle.std.proofs.lemmas.List.{append-nil}
@@ -32,15 +32,15 @@ use Rattle.sessions.specs.Drafts.{Drafted, IsWhole, fault_of}
 use Rattle.sessions.specs.Told.{AnswersAfter, HaveReceipts, HasMore, HasShown, ShowsLast, Settles, Replies, IsUnshown, claim_of, known_to, told_durable}
 use Rattle.sessions.specs.Turns.{Tells, Standing, IsEndAnswer, IsSessionAt, IsKept, fault_number, version_or_refusal}
 
--- the answer of a reader that looked at a view and is lent for queries of it
-pub answered : (origin : Origin) (groups : List Group) (lent looked : Reading) (query asked : Query) (version : ℕ) (reply : Reply) → groups ≡ lent.known.groups → lent ≡ looked → IsViewAfter origin looked.known.groups looked.view
-    → version ≡ lent.view.version → query ≡ asked → IsRight lent.view.network asked reply → AnswersAfter origin groups query (record { version = version; reply = reply })
-answered origin groups lent looked query asked version reply same_final same view is_version is_query right =
-    let seen : IsViewAfter origin lent.known.groups lent.view = subst (λ (r : Reading). IsViewAfter origin r.known.groups r.view) (sym same) view in
-    rw (same_final, is_query) (record { network = lent.view.network; network_is = seen.network; version = is_version ∙ seen.version; right = right })
+-- the answer by what was seen of the view
+pub answered : (origin : Origin) (known : Beginning) (glance : Reading) (query asked : Query) (version : ℕ) (reply : Reply) → glance.known ≡ known → IsViewAfter origin glance.known.groups glance.view
+    → version ≡ glance.view.version → query ≡ asked → IsRight glance.view.network asked reply → AnswersAfter origin known.groups query (record { version = version; reply = reply })
+answered origin known glance query asked version reply same view is_version is_query right =
+    let seen : IsViewAfter origin known.groups glance.view = subst (λ (b : Beginning). IsViewAfter origin b.groups glance.view) same view in
+    rw is_query (record { network = glance.view.network; network_is = seen.network; version = is_version ∙ seen.version; right = right })
 
 -- who knew nothing
-pub nothing_known : (old : Option Reading) (now : List Group) → old ≡ None → IsPrefix (known_to old) now
+pub nothing_known : (old : Option Beginning) (now : List Group) → old ≡ None → IsPrefix (known_to old) now
 nothing_known old now none = rw none (now, refl)
 
 pub shown_origin : (origin : Origin) (last : Option Accepted) (shown : Beginning) → HasShown origin last (Some shown) → shown.origin ≡ origin
@@ -96,19 +96,19 @@ told_receipt origin receipt had has group number of_origin is_number is_group mo
     subst (λ (o : Origin). HasMore o had has (record { number = number; group = group } ∷ [])) of_origin (subst (λ (t : Ticket). HasMore receipt.origin had has (t ∷ [])) same more)
 
 -- what the session has is in the closed history, and what it has seen was shown
-pub kept_in : (origin : Origin) (whole shown : Beginning) (reader : Option Reading) (receipts : Option Beginning) (last : Standing) → whole.origin ≡ origin
-    → IfSome receipts (λ front. IsPrefix front.groups whole.groups × (front.acknowledged ≤ whole.acknowledged)) → IsPrefix (known_to reader) shown.groups
-    → IsSessionAt origin reader receipts last → IsKept whole shown last
-kept_in origin whole shown reader None last same held seen is = record {
+pub kept_in : (origin : Origin) (whole shown : Beginning) (place receipts : Option Beginning) (last : Standing) → whole.origin ≡ origin
+    → IfSome receipts (λ front. IsPrefix front.groups whole.groups × (front.acknowledged ≤ whole.acknowledged)) → IsPrefix (known_to place) shown.groups
+    → IsSessionAt origin place receipts last → IsKept whole shown last
+kept_in origin whole shown place None last same held seen is = record {
   durable = λ kept keeps. rw is.durable (All-nil (IsAt whole.origin.version kept));
-  known = λ kept keeps. rw is.known (prefix_trans (known_to reader) shown.groups kept seen keeps.shown_too);
+  known = λ kept keeps. rw is.known (prefix_trans (known_to place) shown.groups kept seen keeps.shown_too);
 }
-kept_in origin whole shown reader (Some front) last same held seen is = record {
+kept_in origin whole shown place (Some front) last same held seen is = record {
   durable = λ kept keeps k d lt.
       let ticket = get_or last.durable k d in
       let there = acknowledged_more front whole ticket (same ∙ sym is.durable.0) held.0 held.1 (is.durable.1 k d lt) in
       at_less whole.origin.version kept whole.groups ticket keeps.begins (let all = keeps.acknowledged in let told = there.acknowledged in omega (arith, all, told)) there.at;
-  known = λ kept keeps. rw is.known (prefix_trans (known_to reader) shown.groups kept seen keeps.shown_too);
+  known = λ kept keeps. rw is.known (prefix_trans (known_to place) shown.groups kept seen keeps.shown_too);
 }
 
 -- ---- what a line is told

@@ -1,5 +1,5 @@
 -- A line that is read byte by byte.
-use Rattle.std.proofs.Common.{◌≡◌, ◌≢◌, ◌∙◌, ℕ, ◌<◌, Bool, true, false, List, [], ◌∷◌, ◌++◌, All, Option, None, Some, Ok, Err, length, refl, sym, ap, arith, inl, inr, append_assoc}
+use Rattle.std.proofs.Common.{◌≡◌, ◌≢◌, ◌∙◌, ◌⊎◌, ℕ, ◌<◌, Bool, true, false, List, [], ◌∷◌, ◌++◌, All, Option, None, Some, Ok, Err, length, refl, sym, ap, subst, arith, inl, inr, append_assoc}
 use Rattle.std.specs.Prelude.{⊤, IfSome}
 use Rattle.std.specs.Io.BufRead.{strip_last}
 use Rattle.std.specs.Io.KnownBytes.{Consumes, IsAtEnd, Keeps}
@@ -9,8 +9,10 @@ use Rattle.dimacs.specs.declared.fault.Code.{Code}
 use Rattle.dimacs.specs.Lines.{fields}
 use Rattle.sessions.specs.declared.lines.Line.{Line}
 use Rattle.sessions.specs.declared.lines.LineSoFar.{LineSoFar}
+use Rattle.sessions.specs.declared.reading.LastLine.{LastLine}
+use Rattle.sessions.specs.declared.reading.LastLine.TheVariants.{Taken, Dropped}
 use Rattle.sessions.specs.Judging.{IsSoFar}
-use Rattle.sessions.specs.Reads.{ReadsOne, ReadsLine}
+use Rattle.sessions.specs.Reads.{HasNoLine, ReadsOne, ReadsLine}
 use Rattle.sessions.specs.SessionLines.{IsLine}
 
 -- these bytes of the first line were taken
@@ -50,11 +52,11 @@ far_more (Some text) left rest old new is_empty b far other with_byte took = rec
   read = consumes_more text left rest far.front b far.read took;
 }
 
-ended_by_feed : (text : List ℕ) (left rest : Option (List ℕ)) (front : List ℕ) (line : Line) → Consumes (Some text) left front → All (λ b. b ≢ 10) front → Consumes left rest (10 ∷ [])
-    → IsLine (fields (strip_last 13 front)) line → ReadsOne text rest line
-ended_by_feed text None rest front line p in_line q is = absurd p
-ended_by_feed text (Some xs) None front line p in_line q is = absurd q
-ended_by_feed text (Some xs) (Some ys) front line p in_line q is = record {
+ended_by_feed : (last_line : LastLine) (text : List ℕ) (left rest : Option (List ℕ)) (front : List ℕ) (line : Line) → Consumes (Some text) left front → All (λ b. b ≢ 10) front → Consumes left rest (10 ∷ [])
+    → IsLine (fields (strip_last 13 front)) line → ReadsOne last_line text rest line
+ended_by_feed last_line text None rest front line p in_line q is = absurd p
+ended_by_feed last_line text (Some xs) None front line p in_line q is = absurd q
+ended_by_feed last_line text (Some xs) (Some ys) front line p in_line q is = record {
   bytes = front;
   rest = ys;
   first = record { in_line = in_line; whole = inl (p ∙ ap (λ (l : List ℕ). front ++ l) q) };
@@ -62,46 +64,54 @@ ended_by_feed text (Some xs) (Some ys) front line p in_line q is = record {
   is = is;
 }
 
-pub far_fed : (known left rest : Option (List ℕ)) (old : LineSoFar) (is_empty : Bool) (b : ℕ) (line : Line) → FarRead known left old is_empty → b ≡ 10 → Consumes left rest (b ∷ [])
-    → ((front : List ℕ) → IsSoFar front old → IsLine (fields (strip_last 13 front)) line) → IfSome known (λ text. ReadsLine text rest (Ok (Some line)))
-far_fed None left rest old is_empty b line far feed took reads = tt
-far_fed (Some text) left rest old is_empty b line far feed took reads =
-    ended_by_feed text left rest far.front line far.read far.in_line (rw feed at took) (reads far.front far.so_far)
+pub far_fed : (last_line : LastLine) (known left rest : Option (List ℕ)) (old : LineSoFar) (is_empty : Bool) (b : ℕ) (line : Line) → FarRead known left old is_empty → b ≡ 10 → Consumes left rest (b ∷ [])
+    → ((front : List ℕ) → IsSoFar front old → IsLine (fields (strip_last 13 front)) line) → IfSome known (λ text. ReadsLine last_line text rest (Ok (Some line)))
+far_fed last_line None left rest old is_empty b line far feed took reads = tt
+far_fed last_line (Some text) left rest old is_empty b line far feed took reads =
+    ended_by_feed last_line text left rest far.front line far.read far.in_line (rw feed at took) (reads far.front far.so_far)
 
-ended_by_text : (text : List ℕ) (left rest : Option (List ℕ)) (front : List ℕ) (line : Line) → Consumes (Some text) left front → All (λ b. b ≢ 10) front → 0 < length front → IsAtEnd left → Keeps left rest
-    → IsLine (fields (strip_last 13 front)) line → ReadsOne text rest line
-ended_by_text text None rest front line p in_line some none kept is = absurd p
-ended_by_text text (Some xs) None front line p in_line some none kept is = absurd kept
-ended_by_text text (Some xs) (Some ys) front line p in_line some none kept is = record {
+ended_by_text : (last_line : LastLine) (text : List ℕ) (left rest : Option (List ℕ)) (front : List ℕ) (line : Line) → Consumes (Some text) left front → All (λ b. b ≢ 10) front → 0 < length front → last_line ≡ Taken → IsAtEnd left → Keeps left rest
+    → IsLine (fields (strip_last 13 front)) line → ReadsOne last_line text rest line
+ended_by_text last_line text None rest front line p in_line some taken none kept is = absurd p
+ended_by_text last_line text (Some xs) None front line p in_line some taken none kept is = absurd kept
+ended_by_text last_line text (Some xs) (Some ys) front line p in_line some taken none kept is = record {
   bytes = front;
   rest = ys;
-  first = record { in_line = in_line; whole = inr (p ∙ ap (λ (l : List ℕ). front ++ l) none ∙ append-nil front, kept ∙ none, some) };
+  first = record { in_line = in_line; whole = inr (taken, p ∙ ap (λ (l : List ℕ). front ++ l) none ∙ append-nil front, kept ∙ none, some) };
   left_is = refl;
   is = is;
 }
 
-pub far_ended : (known left rest : Option (List ℕ)) (old : LineSoFar) (is_empty : Bool) (line : Line) → FarRead known left old is_empty → is_empty ≡ false → IsAtEnd left × Keeps left rest
-    → ((front : List ℕ) → IsSoFar front old → IsLine (fields (strip_last 13 front)) line) → IfSome known (λ text. ReadsLine text rest (Ok (Some line)))
-far_ended None left rest old is_empty line far some ends reads = tt
-far_ended (Some text) left rest old is_empty line far some ends reads =
-    ended_by_text text left rest far.front line far.read far.in_line (far.some some) ends.0 ends.1 (reads far.front far.so_far)
+pub far_ended : (last_line : LastLine) (known left rest : Option (List ℕ)) (old : LineSoFar) (is_empty : Bool) (line : Line) → FarRead known left old is_empty → is_empty ≡ false → last_line ≡ Taken → IsAtEnd left × Keeps left rest
+    → ((front : List ℕ) → IsSoFar front old → IsLine (fields (strip_last 13 front)) line) → IfSome known (λ text. ReadsLine last_line text rest (Ok (Some line)))
+far_ended last_line None left rest old is_empty line far some taken ends reads = tt
+far_ended last_line (Some text) left rest old is_empty line far some taken ends reads =
+    ended_by_text last_line text left rest far.front line far.read far.in_line (far.some some) taken ends.0 ends.1 (reads far.front far.so_far)
 
-no_text : (text : List ℕ) (left rest : Option (List ℕ)) (front : List ℕ) → Consumes (Some text) left front → front ≡ [] → IsAtEnd left → Keeps left rest → (text ≡ []) × (rest ≡ Some [])
-no_text text None rest front p e none kept = absurd p
-no_text text (Some xs) None front p e none kept = absurd kept
-no_text text (Some xs) (Some ys) front p e none kept = (p ∙ ap (λ (l : List ℕ). l ++ xs) e ∙ none, ap Some (kept ∙ none))
+-- the rest of the text has no line: nothing was taken of it, or a line without its end, which is dropped
+no_line : (last_line : LastLine) (text front : List ℕ) (is_empty : Bool) → text ≡ front → All (λ b. b ≢ 10) front → (is_empty ≡ true → front ≡ []) → (is_empty ≡ true) ⊎ (last_line ≡ Dropped) → HasNoLine last_line text
+no_line Taken text front is_empty is in_line empty (inl none) = is ∙ empty none
+no_line Taken text front is_empty is in_line empty (inr dropped) = absurd (let absurdity : ⊥ = cc in absurdity)
+no_line Dropped text front is_empty is in_line empty none = subst (λ (l : List ℕ). All (λ b. b ≢ 10) l) (sym is) in_line
 
-pub far_none : (known left rest : Option (List ℕ)) (old : LineSoFar) (is_empty : Bool) → FarRead known left old is_empty → is_empty ≡ true → IsAtEnd left × Keeps left rest
-    → IfSome known (λ text. ReadsLine text rest (Ok None))
-far_none None left rest old is_empty far none ends = tt
-far_none (Some text) left rest old is_empty far none ends = no_text text left rest far.front far.read (far.empty none) ends.0 ends.1
+no_text : (last_line : LastLine) (text : List ℕ) (left rest : Option (List ℕ)) (front : List ℕ) (is_empty : Bool) → Consumes (Some text) left front → All (λ b. b ≢ 10) front → (is_empty ≡ true → front ≡ [])
+    → (is_empty ≡ true) ⊎ (last_line ≡ Dropped) → IsAtEnd left → Keeps left rest → HasNoLine last_line text × (rest ≡ Some [])
+no_text last_line text None rest front is_empty p in_line empty why none kept = absurd p
+no_text last_line text (Some xs) None front is_empty p in_line empty why none kept = absurd kept
+no_text last_line text (Some xs) (Some ys) front is_empty p in_line empty why none kept =
+    (no_line last_line text front is_empty (p ∙ ap (λ (l : List ℕ). front ++ l) none ∙ append-nil front) in_line empty why, ap Some (kept ∙ none))
+
+pub far_none : (last_line : LastLine) (known left rest : Option (List ℕ)) (old : LineSoFar) (is_empty : Bool) → FarRead known left old is_empty → (is_empty ≡ true) ⊎ (last_line ≡ Dropped) → IsAtEnd left × Keeps left rest
+    → IfSome known (λ text. ReadsLine last_line text rest (Ok None))
+far_none last_line None left rest old is_empty far why ends = tt
+far_none last_line (Some text) left rest old is_empty far why ends = no_text last_line text left rest far.front is_empty far.read far.in_line far.empty why ends.0 ends.1
 
 consumes_kept : (text : List ℕ) (left rest : Option (List ℕ)) (front : List ℕ) → Consumes (Some text) left front → Keeps left rest → Consumes (Some text) rest front
 consumes_kept text None rest front p kept = absurd p
 consumes_kept text (Some xs) None front p kept = absurd kept
 consumes_kept text (Some xs) (Some ys) front p kept = p ∙ ap (λ (l : List ℕ). front ++ l) (sym kept)
 
-pub far_failed : (known left rest : Option (List ℕ)) (old : LineSoFar) (is_empty : Bool) (code : Code) → FarRead known left old is_empty → Keeps left rest
-    → IfSome known (λ text. ReadsLine text rest (Err code))
-far_failed None left rest old is_empty code far kept = tt
-far_failed (Some text) left rest old is_empty code far kept = record { front = far.front; in_line = far.in_line; read = consumes_kept text left rest far.front far.read kept }
+pub far_failed : (last_line : LastLine) (known left rest : Option (List ℕ)) (old : LineSoFar) (is_empty : Bool) (code : Code) → FarRead known left old is_empty → Keeps left rest
+    → IfSome known (λ text. ReadsLine last_line text rest (Err code))
+far_failed last_line None left rest old is_empty code far kept = tt
+far_failed last_line (Some text) left rest old is_empty code far kept = record { front = far.front; in_line = far.in_line; read = consumes_kept text left rest far.front far.read kept }

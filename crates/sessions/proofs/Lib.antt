@@ -5,4 +5,5 @@ mod Staged
 mod Drafting
 mod Answered
 mod Bytewise
-mod Served
+mod Going
+pub mod Lasting

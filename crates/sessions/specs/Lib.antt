@@ -7,3 +7,5 @@ pub mod Reads
 pub mod Drafts
 pub mod Told
 pub mod Turns
+pub mod Clients
+pub mod Past

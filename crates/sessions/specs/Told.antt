@@ -14,7 +14,7 @@ use Rattle.machine.specs.declared.events.Replied.TheVariants.{Durable, Answered,
 use Rattle.machine.specs.Laws.{IsAt}
 use Rattle.history.specs.Claims.{Claimed, IsAcknowledgedIn}
 use Rattle.history.specs.Origins.{Origin, Beginning}
-use Rattle.desk.specs.Readings.{Reading, IsNoReader}
+use Rattle.desk.specs.Readings.{IsNoReader}
 use Rattle.desk.specs.Turns.{IsUnserved, IsUntaken}
 use Rattle.dimacs.specs.Counts.{one_more_failed}
 use Rattle.printing.specs.declared.failed.Failed.{Failed}
@@ -76,10 +76,10 @@ Replies origin groups query (Answered asked answer) = (asked ≡ query) × Answe
 Replies origin groups query (Refused refusal) = IsNoReader refusal
 Replies origin groups query other = ⊥
 
--- the groups that a session's reader has seen or was told of, if it has one
-abbrev pub known_to : Option Reading → List Group
+-- the groups that a session has seen or was told of at its place among the readers, if it has one
+abbrev pub known_to : Option Beginning → List Group
 known_to None = []
-known_to (Some reading) = reading.known.groups
+known_to (Some known) = known.groups
 
 -- what is shown of this desk has the last accepted group at its number, where there is one
 abbrev pub HasShown : Origin → Option Accepted → Option Beginning → Type 0

@@ -14,13 +14,13 @@ use Rattle.machine.specs.declared.calls.Ticket.{Ticket}
 use Rattle.machine.specs.Laws.{IsAt}
 use Rattle.history.specs.Origins.{Origin, Beginning}
 use Rattle.office.specs.Left.{KeepsSeen}
-use Rattle.desk.specs.Readings.{Reading}
 use Rattle.printing.specs.declared.failed.Failed.{Failed}
 use Rattle.printing.specs.declared.failed.Failed.TheVariants.{Code as of_code}
 use Rattle.printing.specs.Printed.{version_line, refusal_line}
 use Rattle.printing.specs.Replied.{printed_reply}
 use Rattle.sessions.specs.declared.answers.Accepted.{Accepted}
 use Rattle.sessions.specs.declared.lines.Line.{Line}
+use Rattle.sessions.specs.declared.reading.LastLine.{LastLine}
 use Rattle.sessions.specs.declared.lines.Line.TheVariants.{Ignored, Command as a_command, Query, Wait, Quit, Begin, End, Refused}
 use Rattle.sessions.specs.Drafts.{Drafted, fault_of, next_draft}
 use Rattle.sessions.specs.Reads.{ReadsOne, FailsInLine, ReadsLine}
@@ -84,10 +84,10 @@ is_quit Quit = true
 is_quit other = false
 
 -- the next line, which is not `quit`, is read and answered
-pub record IsTurn (origin : Origin) (old new : Standing) : Type 0 where
+pub record IsTurn (last_line : LastLine) (origin : Origin) (old new : Standing) : Type 0 where
   pub line : Line
   pub goes_on : is_quit line ≡ false
-  pub read : ReadsOne old.left (Some new.left) line
+  pub read : ReadsOne last_line old.left (Some new.left) line
   pub answer : List ℕ
   pub receipts : List Ticket
   pub answers : IsAnswer origin old.draft line old.last new.last new.known answer receipts
@@ -97,23 +97,23 @@ pub record IsTurn (origin : Origin) (old new : Standing) : Type 0 where
   pub begins : IsPrefix old.known new.known
 
 -- one line after the other
-abbrev pub AreTurns : Origin → Standing → List Standing → Standing → Type 0
-AreTurns origin first [] last = last ≡ first
-AreTurns origin first (next ∷ others) last = IsTurn origin first next × AreTurns origin next others last
+abbrev pub AreTurns : LastLine → Origin → Standing → List Standing → Standing → Type 0
+AreTurns last_line origin first [] last = last ≡ first
+AreTurns last_line origin first (next ∷ others) last = IsTurn last_line origin first next × AreTurns last_line origin next others last
 
 -- a session over this text that has just begun
 abbrev pub beginning : List ℕ → Standing
 beginning text = record { left = text; told = []; durable = []; known = []; last = None; draft = None }
 
 -- the lines of the text up to here were answered in their order, and the writer has the answers and no more
-pub record HasServed (origin : Origin) (text : List ℕ) (old new : Option (List ℕ)) (last : Standing) : Type 0 where
+pub record HasServed (last_line : LastLine) (origin : Origin) (text : List ℕ) (old new : Option (List ℕ)) (last : Standing) : Type 0 where
   pub turns : List Standing
-  pub are : AreTurns origin (beginning text) turns last
+  pub are : AreTurns last_line origin (beginning text) turns last
   pub written : Appends old new last.told
 
 -- the session has all that it told to be durable, and has seen or was told of these groups
-pub record IsSessionAt (origin : Origin) (reader : Option Reading) (receipts : Option Beginning) (last : Standing) : Type 0 where
-  pub known : last.known ≡ known_to reader
+pub record IsSessionAt (origin : Origin) (place receipts : Option Beginning) (last : Standing) : Type 0 where
+  pub known : last.known ≡ known_to place
   pub durable : HaveReceipts origin receipts last.durable
 
 -- Whatever a stop leaves of the closed desk: each group that the session told to be durable has its number in it, and it begins with all
@@ -122,10 +122,10 @@ pub record IsKept (history shown : Beginning) (last : Standing) : Type 0 where
   pub durable : (kept : List Group) → KeepsSeen history shown kept → All (IsAt history.origin.version kept) last.durable
   pub known : (kept : List Group) → KeepsSeen history shown kept → IsPrefix last.known kept
 
--- Behind these lines comes the line `quit` or the end of the text; or the reader fails in a line, which is not carried out; and this holds of the session
--- as far as it came. Where the writer fails nothing is said.
-abbrev pub Serves : {X : Type 0} → Origin → List ℕ → Option (List ℕ) → Option (List ℕ) → Option (List ℕ) → (Standing → Type 0) → Result X Failed → Type 0
-Serves origin text left old new Holds (Ok x) =
-    (last : Standing) × HasServed origin text old new last × Holds last × (ReadsLine last.left left (Ok None) ⊎ ReadsLine last.left left (Ok (Some Quit)))
-Serves origin text left old new Holds (Err (of_code Read)) = (last : Standing) × HasServed origin text old new last × Holds last × FailsInLine last.left left
-Serves origin text left old new Holds (Err other) = ⊤
+-- Behind these lines comes the line `quit` or the end of the text, which may follow a line without its end that is dropped; or the reader fails in a line,
+-- which is not carried out; and this holds of the session as far as it came. Where the writer fails nothing is said.
+abbrev pub Serves : {X : Type 0} → LastLine → Origin → List ℕ → Option (List ℕ) → Option (List ℕ) → Option (List ℕ) → (Standing → Type 0) → Result X Failed → Type 0
+Serves last_line origin text left old new Holds (Ok x) =
+    (last : Standing) × HasServed last_line origin text old new last × Holds last × (ReadsLine last_line last.left left (Ok None) ⊎ ReadsLine last_line last.left left (Ok (Some Quit)))
+Serves last_line origin text left old new Holds (Err (of_code Read)) = (last : Standing) × HasServed last_line origin text old new last × Holds last × FailsInLine last.left left
+Serves last_line origin text left old new Holds (Err other) = ⊤

@@ -3,6 +3,7 @@ ghost use Rattle.std.specs.Prelude.{◌≡◌, ◌<◌, ◌≤◌, ◌+◌, ◌�
 ghost use Rattle.std.specs.Option.{ForSome};
 ghost use mathlib.Core.List.{IsPrefix};
 ghost use Rattle.published.specs.Showing.{IsUnseen};
+ghost use Rattle.rows.specs.Replies.{IsRight};
 ghost use Rattle.desk.specs.Readings.{IsNoReader};
 ghost use Rattle.desk.specs.Turns.{IsUnserved};
 ghost use Rattle.printing.specs.Counting.{failed_writes, writer_of, IsSameWriter, CountsFailure};
@@ -14,18 +15,21 @@ ghost use Rattle.sessions.specs.Turns.{Tells, Standing, IsSessionAt, IsKept};
 use crate::drafts::{Draft, NoGroup};
 use crate::lines::{Line, is_end};
 use crate::telling::{tell_fault, tell_reply, tell_version};
-use desk::{Closed, Desk, Gate, Naming, Reader, Receipt, Shown, Ticket};
+use desk::{Closed, Gate, Glance, Handle, Naming, Place, Receipt, Shown, Ticket};
 use dimacs::Code;
 use disk::Disk;
 use history::{Front, Whole};
 use machine::{Answer, Replied};
 use printing::{CountedWriter, Failed};
 use roadnet::{Group, Refusal};
-use rows::Query;
+use rows::{Query, Reply};
 use std::alloc::Global;
 use std::io::Write;
 use std::sync::Wait;
 use std::thread::Threads;
+
+/// How often a place among the readers is asked for before it is told that there is none.
+const TRIES: usize = 8;
 
 /// A group that was accepted, settled or not.
 #[derive(Drop)]
@@ -46,12 +50,12 @@ impl Accepted {
     }
 }
 
-/// What a session has of its desk: a reader, once a place for it was found; the last of its groups that was accepted; and, once a group was
+/// What a session has of its desk: a place among its readers, once one was found, by which it holds no view; the last of its groups that was accepted; and, once a group was
 /// told to be durable, a beginning of the desk's history in which each of these is acknowledged. And the group that its lines are in, if they
 /// are in one.
 #[derive(Drop)]
 pub struct Session<N: Naming> {
-    reader: Option<Reader<N>>,
+    place: Option<Place<N>>,
     last: Option<Accepted>,
     receipts: Option<Front>,
     draft: Option<Draft>,
@@ -71,56 +75,80 @@ fn with_receipt(had: &Option<Front>, receipt: &Receipt) -> Front
     }
 }
 
-/// The reply to a query, from the view that is shown now, with its version. Refused is a view that the reader can't look at (11, 61), and want
-/// of memory for a new row (11).
-fn answer_by<N: Naming, R: Threads>(
-    rt: &R,
-    alloc: Global,
-    reader: &mut Reader<N>,
+/// The reply to a query in the view that was seen. Refused is want of memory for a new row (11).
+fn reply_by<N: Naming, D: Disk + Drop, G: Gate + Drop, R: Threads + Wait + Copy>(
+    desk: &Handle<N, D, G, R>,
+    glance: &Glance<N>,
+    query: Query,
+) -> Result<Reply, Refusal>
+    ensures right { IfOk result (IsRight glance.now.view.network query) }
+    ensures causes { IfErr result IsUnseen }
+{
+    match query {
+        Query::Dist { source, target } => match desk.dist(glance, source, target) {
+            Ok(reply) => Ok(reply),
+            Err(_) => Err(Refusal::OutOfMemory),
+        },
+        Query::From { landmark, target } => Ok(glance.from_landmark(landmark, target)),
+        Query::Lower { source, target } => Ok(glance.lower(source, target)),
+    }
+}
+
+/// The reply to a query, from the view that is shown now, with its version. Refused is a view that can't be looked at (11, 61), and want of memory for a
+/// new row (11). Once it is there the view is held no more.
+fn answer_by<N: Naming, D: Disk + Drop, G: Gate + Drop, R: Threads + Wait + Copy>(
+    desk: &Handle<N, D, G, R>,
+    place: &mut Place<N>,
     query: Query,
 ) -> Result<Answer, Refusal>
-    ensures right { IfOk result (AnswersAfter N.origin reader.new.known.groups query) }
+    ensures right { IfOk result (AnswersAfter N.origin place.new.groups query) }
     ensures causes { IfErr result IsUnseen }
-    ensures begins { IsPrefix reader.old.known.groups reader.new.known.groups }
+    ensures begins { IsPrefix place.old.groups place.new.groups }
 {
-    reader.look()?;
-    let mut pinned = reader.pinned();
-    let version = pinned.version();
-    let reply = match query {
-        Query::Dist { source, target } => match pinned.dist(rt, alloc, source, target) {
-            Ok(reply) => reply,
-            Err(_) => return Err(Refusal::OutOfMemory),
-        },
-        Query::From { landmark, target } => pinned.from_landmark(landmark, target),
-        Query::Lower { source, target } => pinned.lower(source, target),
-    };
+    let glance = place.look()?;
+    let version = glance.version();
+    let reply = reply_by(desk, &glance, query)?;
     Ok(Answer { version, reply })
 }
 
-/// The version of the view that is shown now. Refused is a view that the reader can't look at (11, 61).
-fn version_by<N: Naming>(reader: &mut Reader<N>) -> Result<u64, Refusal>
-    ensures version { IfOk result (λ version. version ≡ N.origin.version + length reader.new.known.groups) }
+/// The version of the view that is shown now. Refused is a view that can't be looked at (11, 61).
+fn version_by<N: Naming>(place: &mut Place<N>) -> Result<u64, Refusal>
+    ensures version { IfOk result (λ version. version ≡ N.origin.version + length place.new.groups) }
     ensures causes { IfErr result IsUnseen }
-    ensures begins { IsPrefix reader.old.known.groups reader.new.known.groups }
+    ensures begins { IsPrefix place.old.groups place.new.groups }
 {
-    reader.look()?;
-    Ok(reader.pinned().version())
+    Ok(place.look()?.version())
 }
 
-/// The same for a reader that takes in first what it is told of.
-fn version_since<N: Naming>(reader: &mut Reader<N>, shown: &Shown) -> Result<u64, Refusal>
+/// The same for a place that takes in first what it is told of.
+fn version_since<N: Naming>(place: &mut Place<N>, shown: &Shown) -> Result<u64, Refusal>
     requires { shown.now.origin ≡ N.origin }
-    ensures version { IfOk result (λ version. version ≡ N.origin.version + length reader.new.known.groups) }
+    ensures version { IfOk result (λ version. version ≡ N.origin.version + length place.new.groups) }
     ensures causes { IfErr result IsUnseen }
-    ensures begins { IsPrefix reader.old.known.groups reader.new.known.groups }
-    ensures learned { IsPrefix shown.now.groups reader.new.known.groups }
+    ensures begins { IsPrefix place.old.groups place.new.groups }
+    ensures learned { IsPrefix shown.now.groups place.new.groups }
 {
-    reader.learn(shown);
-    version_by(reader)
+    place.learn(shown);
+    version_by(place)
+}
+
+/// A place among the readers of the desk. Where none is found (60), as may happen while readers come and go, it is asked for again a few times.
+fn find_place<N: Naming, D: Disk + Drop, G: Gate + Drop, R: Wait + Copy>(
+    desk: &Handle<N, D, G, R>,
+) -> Result<Place<N>, Refusal>
+    ensures { IfErr result IsNoReader }
+{
+    for _ in 1..TRIES {
+        match desk.place() {
+            Err(Refusal::NoReaderPlace) => (),
+            found => return found,
+        }
+    }
+    desk.place()
 }
 
 /// A closed history has what a beginning of it has, if there is one.
-fn compare(receipts: &Option<Front>, whole: &Whole)
+pub(crate) fn compare(receipts: &Option<Front>, whole: &Whole)
     requires { ForSome receipts.now (λ front. front.origin ≡ whole.now.origin) }
     ensures { IfSome receipts.now (λ front. IsPrefix front.groups whole.now.groups × (front.acknowledged ≤ whole.now.acknowledged)) }
 {
@@ -130,57 +158,56 @@ fn compare(receipts: &Option<Front>, whole: &Whole)
     }
 }
 
-impl<N: Naming + Send + Sync + 'static> Session<N> {
+impl<N: Naming> Session<N> {
     /// No group was accepted yet, and nothing was seen.
     pub(crate) fn new() -> Session<N>
-        ensures reader { result.reader ≡ None }
+        ensures place { result.place ≡ None }
         ensures last { result.last ≡ None }
         ensures receipts { result.receipts ≡ None }
         ensures draft { result.draft ≡ None }
     {
         Session {
-            reader: None,
+            place: None,
             last: None,
             receipts: None,
             draft: None,
         }
     }
 
-    /// Finds a place for the session's reader, where it has none. Refused is what `Desk::reader` refuses.
-    fn find_reader<
-        D: Disk + Drop + Send + 'static,
-        G: Gate + Drop + Send + Sync + 'static,
-        R: Threads + Wait + Copy + Send + Sync + 'static,
-    >(&mut self, desk: &Desk<N, D, G, R>) -> Result<(), Refusal>
+    /// Finds a place among the readers, where the session has none. Refused is what `Handle::place` refuses, several times in a row.
+    fn take_place<D: Disk + Drop, G: Gate + Drop, R: Threads + Wait + Copy>(
+        &mut self,
+        desk: &Handle<N, D, G, R>,
+    ) -> Result<(), Refusal>
         ensures causes { IfErr result IsNoReader }
-        // A reader that the session has stays.
-        ensures held { IsSome self.old.reader → IsOk result }
-        ensures found { OnOk result (IsSome self.new.reader) }
-        ensures begins { IsPrefix (known_to self.old.reader) (known_to self.new.reader) }
+        // A place that the session has stays.
+        ensures held { IsSome self.old.place → IsOk result }
+        ensures found { OnOk result (IsSome self.new.place) }
+        ensures begins { IsPrefix (known_to self.old.place) (known_to self.new.place) }
         ensures last { self.new.last ≡ self.old.last }
         ensures receipts { self.new.receipts ≡ self.old.receipts }
         ensures draft { self.new.draft ≡ self.old.draft }
     {
-        match &self.reader {
+        match &self.place {
             Some(_) => Ok(()),
             None => {
-                self.reader = Some(desk.reader()?);
+                self.place = Some(find_place(desk)?);
                 Ok(())
             }
         }
     }
 
     /// Submits the group and settles it. Its number is then that of a receipt, or it is told for what it was refused.
-    fn settle<
-        D: Disk + Drop + Send + 'static,
-        G: Gate + Drop + Send + Sync + 'static,
-        R: Threads + Wait + Copy + Send + Sync + 'static,
-    >(&mut self, desk: &Desk<N, D, G, R>, group: Group) -> Result<u64, Refusal>
+    fn settle<D: Disk + Drop, G: Gate + Drop, R: Threads + Wait + Copy>(
+        &mut self,
+        desk: &Handle<N, D, G, R>,
+        group: Group,
+    ) -> Result<u64, Refusal>
         ensures receipt { IfOk result (λ number. HasReceipt N.origin self.new.last number group) }
         ensures receipts { IfOk result (λ number. HasMore N.origin self.old.receipts self.new.receipts (told_durable group (Durable number))) }
         ensures refused { IfErr result (IsRefusedFor N.origin self.old.last self.new.last group) }
         ensures same { IfErr result (λ _. self.new.receipts ≡ self.old.receipts) }
-        ensures reader { self.new.reader ≡ self.old.reader }
+        ensures place { self.new.place ≡ self.old.place }
         ensures draft { self.new.draft ≡ self.old.draft }
     {
         let ticket = desk.submit_group(group)?;
@@ -199,14 +226,14 @@ impl<N: Naming + Send + Sync + 'static> Session<N> {
     }
 
     /// The reply to a group: `ok N`, where the session then has a receipt of the desk for it with that number, or what it was refused for.
-    fn carry_out<
-        D: Disk + Drop + Send + 'static,
-        G: Gate + Drop + Send + Sync + 'static,
-        R: Threads + Wait + Copy + Send + Sync + 'static,
-    >(&mut self, desk: &Desk<N, D, G, R>, group: Group) -> Replied
+    fn carry_out<D: Disk + Drop, G: Gate + Drop, R: Threads + Wait + Copy>(
+        &mut self,
+        desk: &Handle<N, D, G, R>,
+        group: Group,
+    ) -> Replied
         ensures settled { Settles N.origin self.old.last self.new.last group result }
         ensures receipts { HasMore N.origin self.old.receipts self.new.receipts (told_durable group result) }
-        ensures reader { self.new.reader ≡ self.old.reader }
+        ensures place { self.new.place ≡ self.old.place }
         ensures draft { self.new.draft ≡ self.old.draft }
     {
         match self.settle(desk, group) {
@@ -217,35 +244,34 @@ impl<N: Naming + Send + Sync + 'static> Session<N> {
 
     /// The reply to a query, from a pin of this moment: it is right in the network of the version that it names, which comes after groups that
     /// begin with all that the session has seen and learned. Or what the pin, its reader or its row was refused for.
-    fn ask<
-        D: Disk + Drop + Send + 'static,
-        G: Gate + Drop + Send + Sync + 'static,
-        R: Threads + Wait + Copy + Send + Sync + 'static,
-    >(&mut self, rt: &R, alloc: Global, desk: &Desk<N, D, G, R>, query: Query) -> Replied
-        ensures right { Replies N.origin (known_to self.new.reader) query result }
-        ensures begins { IsPrefix (known_to self.old.reader) (known_to self.new.reader) }
+    fn ask<D: Disk + Drop, G: Gate + Drop, R: Threads + Wait + Copy>(
+        &mut self,
+        desk: &Handle<N, D, G, R>,
+        query: Query,
+    ) -> Replied
+        ensures right { Replies N.origin (known_to self.new.place) query result }
+        ensures begins { IsPrefix (known_to self.old.place) (known_to self.new.place) }
         ensures last { self.new.last ≡ self.old.last }
         ensures receipts { self.new.receipts ≡ self.old.receipts }
         ensures draft { self.new.draft ≡ self.old.draft }
     {
-        if let Err(refusal) = self.find_reader(desk) {
+        if let Err(refusal) = self.take_place(desk) {
             return Replied::Refused { refusal };
         }
-        let Some(reader) = &mut self.reader else {
+        let Some(place) = &mut self.place else {
             unreachable!();
         };
-        match answer_by(rt, alloc, reader, query) {
+        match answer_by(desk, place, query) {
             Ok(answer) => Replied::Answered { query, answer },
             Err(refusal) => Replied::Refused { refusal },
         }
     }
 
     /// What was shown when the session's last accepted group was; nothing where it has none.
-    fn shown<
-        D: Disk + Drop + Send + 'static,
-        G: Gate + Drop + Send + Sync + 'static,
-        R: Threads + Wait + Copy + Send + Sync + 'static,
-    >(&self, desk: &Desk<N, D, G, R>) -> Result<Option<Shown>, Refusal>
+    fn shown<D: Disk + Drop, G: Gate + Drop, R: Threads + Wait + Copy>(
+        &self,
+        desk: &Handle<N, D, G, R>,
+    ) -> Result<Option<Shown>, Refusal>
         ensures shown { IfOk result (λ shown. HasShown N.origin self.now.last shown) }
         ensures causes { IfErr result IsUnserved }
     {
@@ -257,44 +283,38 @@ impl<N: Naming + Send + Sync + 'static> Session<N> {
 
     /// Waits until the session's last accepted group is shown, if there is one, and learns it. The version is that of a new pin, after
     /// groups among which that group has its number.
-    fn wait<
-        D: Disk + Drop + Send + 'static,
-        G: Gate + Drop + Send + Sync + 'static,
-        R: Threads + Wait + Copy + Send + Sync + 'static,
-    >(&mut self, desk: &Desk<N, D, G, R>) -> Result<u64, Refusal>
-        ensures shown { IfOk result (ShowsLast N.origin self.new.last (known_to self.new.reader)) }
+    fn wait<D: Disk + Drop, G: Gate + Drop, R: Threads + Wait + Copy>(
+        &mut self,
+        desk: &Handle<N, D, G, R>,
+    ) -> Result<u64, Refusal>
+        ensures shown { IfOk result (ShowsLast N.origin self.new.last (known_to self.new.place)) }
         ensures causes { IfErr result IsUnshown }
-        ensures begins { IsPrefix (known_to self.old.reader) (known_to self.new.reader) }
+        ensures begins { IsPrefix (known_to self.old.place) (known_to self.new.place) }
         ensures last { self.new.last ≡ self.old.last }
         ensures receipts { self.new.receipts ≡ self.old.receipts }
         ensures draft { self.new.draft ≡ self.old.draft }
     {
         let shown = self.shown(desk)?;
-        self.find_reader(desk)?;
-        let Some(reader) = &mut self.reader else {
+        self.take_place(desk)?;
+        let Some(place) = &mut self.place else {
             unreachable!();
         };
         match shown {
-            None => version_by(reader),
-            Some(shown) => version_since(reader, &shown),
+            None => version_by(place),
+            Some(shown) => version_since(place, &shown),
         }
     }
 
     /// Writes the answer to the end of a group, and sends it out: the code of the first line that has a fault, else what the group comes to.
-    fn answer_end<
-        D: Disk + Drop + Send + 'static,
-        G: Gate + Drop + Send + Sync + 'static,
-        R: Threads + Wait + Copy + Send + Sync + 'static,
-        W: Write,
-    >(
+    fn answer_end<D: Disk + Drop, G: Gate + Drop, R: Threads + Wait + Copy, W: Write>(
         &mut self,
-        desk: &Desk<N, D, G, R>,
+        desk: &Handle<N, D, G, R>,
         draft: Draft,
         out: &mut CountedWriter<'_, W>,
     ) -> Result<(), Failed>
-        ensures told { (drafted : Drafted) → IsDraft drafted draft → OnOk result (Tells N.origin (Some drafted) Line.End self.old.last self.new.last (known_to self.new.reader) self.old.receipts self.new.receipts (W.contents (writer_of out.old)) (W.contents (writer_of out.new))) }
+        ensures told { (drafted : Drafted) → IsDraft drafted draft → OnOk result (Tells N.origin (Some drafted) Line.End self.old.last self.new.last (known_to self.new.place) self.old.receipts self.new.receipts (W.contents (writer_of out.old)) (W.contents (writer_of out.new))) }
         ensures draft { self.new.draft ≡ self.old.draft }
-        ensures begins { IsPrefix (known_to self.old.reader) (known_to self.new.reader) }
+        ensures begins { IsPrefix (known_to self.old.place) (known_to self.new.place) }
         ensures refused { IfErr result (λ failed. failed ≡ Failed.Code Refusal.Write) }
         ensures counts { CountsFailure (failed_writes out.old) (failed_writes out.new) result }
         ensures same { IsSameWriter out.old out.new }
@@ -310,23 +330,17 @@ impl<N: Naming + Send + Sync + 'static> Session<N> {
     }
 
     /// Writes the answer to a line that stands in no group, if it has one, and sends it out.
-    fn answer_alone<
-        D: Disk + Drop + Send + 'static,
-        G: Gate + Drop + Send + Sync + 'static,
-        R: Threads + Wait + Copy + Send + Sync + 'static,
-        W: Write,
-    >(
+    fn answer_alone<D: Disk + Drop, G: Gate + Drop, R: Threads + Wait + Copy, W: Write>(
         &mut self,
-        rt: &R,
         alloc: Global,
-        desk: &Desk<N, D, G, R>,
+        desk: &Handle<N, D, G, R>,
         line: Line,
         out: &mut CountedWriter<'_, W>,
     ) -> Result<(), Failed>
         requires { self.old.draft ≡ None }
-        ensures told { OnOk result (Tells N.origin None line self.old.last self.new.last (known_to self.new.reader) self.old.receipts self.new.receipts (W.contents (writer_of out.old)) (W.contents (writer_of out.new))) }
+        ensures told { OnOk result (Tells N.origin None line self.old.last self.new.last (known_to self.new.place) self.old.receipts self.new.receipts (W.contents (writer_of out.old)) (W.contents (writer_of out.new))) }
         ensures draft { HasDraft (next_draft None line) self.new.draft }
-        ensures begins { IsPrefix (known_to self.old.reader) (known_to self.new.reader) }
+        ensures begins { IsPrefix (known_to self.old.place) (known_to self.new.place) }
         ensures refused { IfErr result (λ failed. failed ≡ Failed.Code Refusal.Write) }
         ensures counts { CountsFailure (failed_writes out.old) (failed_writes out.new) result }
         ensures same { IsSameWriter out.old out.new }
@@ -342,35 +356,29 @@ impl<N: Naming + Send + Sync + 'static> Session<N> {
             Line::Command(command) => {
                 tell_reply(out, &self.carry_out(desk, Group::one(command)))
             }
-            Line::Query(query) => tell_reply(out, &self.ask(rt, alloc, desk, query)),
+            Line::Query(query) => tell_reply(out, &self.ask(desk, query)),
             Line::Wait => tell_version(out, self.wait(desk)),
             Line::Refused(code) => tell_fault(out, code),
         }
     }
 
     /// Writes the answer to a line, if it has one, and sends it out: a line within a group has none but at its end. The one error is a failed write.
-    pub(crate) fn answer<
-        D: Disk + Drop + Send + 'static,
-        G: Gate + Drop + Send + Sync + 'static,
-        R: Threads + Wait + Copy + Send + Sync + 'static,
-        W: Write,
-    >(
+    pub(crate) fn answer<D: Disk + Drop, G: Gate + Drop, R: Threads + Wait + Copy, W: Write>(
         &mut self,
-        rt: &R,
         alloc: Global,
-        desk: &Desk<N, D, G, R>,
+        desk: &Handle<N, D, G, R>,
         line: Line,
         out: &mut CountedWriter<'_, W>,
     ) -> Result<(), Failed>
-        ensures told { (draft : Option Drafted) → HasDraft draft self.old.draft → OnOk result (Tells N.origin draft line self.old.last self.new.last (known_to self.new.reader) self.old.receipts self.new.receipts (W.contents (writer_of out.old)) (W.contents (writer_of out.new))) }
+        ensures told { (draft : Option Drafted) → HasDraft draft self.old.draft → OnOk result (Tells N.origin draft line self.old.last self.new.last (known_to self.new.place) self.old.receipts self.new.receipts (W.contents (writer_of out.old)) (W.contents (writer_of out.new))) }
         ensures draft { (draft : Option Drafted) → HasDraft draft self.old.draft → HasDraft (next_draft draft line) self.new.draft }
-        ensures begins { IsPrefix (known_to self.old.reader) (known_to self.new.reader) }
+        ensures begins { IsPrefix (known_to self.old.place) (known_to self.new.place) }
         ensures refused { IfErr result (λ failed. failed ≡ Failed.Code Refusal.Write) }
         ensures counts { CountsFailure (failed_writes out.old) (failed_writes out.new) result }
         ensures same { IsSameWriter out.old out.new }
     {
         let Some(draft) = self.draft.take() else {
-            return self.answer_alone(rt, alloc, desk, line, out);
+            return self.answer_alone(alloc, desk, line, out);
         };
         if is_end(line) {
             return self.answer_end(desk, draft, out);
@@ -379,18 +387,38 @@ impl<N: Naming + Send + Sync + 'static> Session<N> {
         Ok(())
     }
 
+    /// The beginning of the history that has its receipts, and the one that it has seen or was told of. Its place among the readers is given back.
+    pub(crate) fn into_fronts(self) -> (Option<Front>, Option<Front>)
+        ensures receipts { result.0 ≡ self.receipts }
+        ensures receipts_of_desk { ForSome result.0 (λ front. front.origin ≡ N.origin) }
+        ensures seen { result.1 ≡ self.place }
+        ensures seen_of_desk { ForSome result.1 (λ front. front.origin ≡ N.origin) }
+    {
+        let Session {
+            place,
+            last: _,
+            receipts,
+            draft: _,
+        } = self;
+        let seen = match &place {
+            Some(place) => Some(place.known().again()),
+            None => None,
+        };
+        (receipts, seen)
+    }
+
     /// Compares what the session has with its desk, which is closed. Whatever a stop leaves of that: each group that the session told to be durable
     /// has its number in it, and it begins with all that the session has seen or was told of. It takes no memory.
     ///
     /// The answer is false only where the desk showed fewer groups than the session has seen, which never comes.
     pub fn is_kept<D: Disk>(&self, closed: &Closed<D>) -> bool
         requires { closed.now.whole.origin ≡ N.origin }
-        ensures kept { result ≡ true → (last : Standing) → IsSessionAt N.origin self.now.reader self.now.receipts last → IsKept closed.now.whole closed.now.shown last }
-        ensures fewer { result ≡ false → length closed.now.shown.groups < length (known_to self.now.reader) }
+        ensures kept { result ≡ true → (last : Standing) → IsSessionAt N.origin self.now.place self.now.receipts last → IsKept closed.now.whole closed.now.shown last }
+        ensures fewer { result ≡ false → length closed.now.shown.groups < length (known_to self.now.place) }
     {
         compare(&self.receipts, &closed.whole);
-        match &self.reader {
-            Some(reader) => closed.has_shown(reader.known()),
+        match &self.place {
+            Some(place) => closed.has_shown(place.known()),
             None => true,
         }
     }

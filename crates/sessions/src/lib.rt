@@ -1,15 +1,24 @@
-//! A session: the lines of a client are read one after the other, carried out by a desk, and answered.
+//! Sessions: the lines of a client are read one after the other, carried out by a desk, and answered; with many clients at once.
 #![tactic(auto)]
 
+mod answering;
 mod answers;
+mod clients;
+mod doors;
 mod drafts;
 mod fields;
 mod letters;
 mod lines;
+mod past;
 mod reading;
 mod serving;
 mod telling;
 mod words;
 
+pub use answering::Answering;
 pub use answers::Session;
-pub use serving::serve;
+pub use clients::{Client, Served, are_kept, serve_all};
+pub use doors::{Door, Visits, serve_door};
+pub use past::Past;
+pub use reading::LastLine;
+pub use serving::{Terms, serve};

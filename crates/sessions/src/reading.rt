@@ -8,12 +8,22 @@ use dimacs::{Code, Counted};
 use std::io::BufRead;
 use std::sync::Wait;
 
+/// What becomes of a last line that no line feed ends.
+#[derive(Clone, Copy, Debug, PartialEq, Eq)]
+pub enum LastLine {
+    /// It is carried out as any other: who wrote the text wrote the whole of it, as to standard input.
+    Taken,
+    /// It is not carried out: who sends by a pipe may be cut off in it, and `set 1 900` then reads `set 1 9`.
+    Dropped,
+}
+
 /// What the next line asks for; none where there is no more line. The one error is a failed call of the reader. No memory is taken.
 pub(crate) fn next_line<R: Wait, I: BufRead>(
     rt: &R,
     reader: &mut Counted<'_, I>,
+    last_line: LastLine,
 ) -> Result<Option<Line>, Code>
-    ensures line { IfSome (I.remaining (reader_of reader.old)) (λ text. ReadsLine text (I.remaining (reader_of reader.new)) result) }
+    ensures line { IfSome (I.remaining (reader_of reader.old)) (λ text. ReadsLine last_line text (I.remaining (reader_of reader.new)) result) }
     ensures refused { IfErr result (λ code. code ≡ Code.Read) }
     ensures counts { CountsCall (failed_calls reader.old) (failed_calls reader.new) result }
     ensures same { IsSameReader reader.old reader.new }
@@ -23,7 +33,7 @@ pub(crate) fn next_line<R: Wait, I: BufRead>(
     for _ in rt.forever() {
         match reader.next_byte()? {
             None => {
-                if is_empty {
+                if is_empty || last_line == LastLine::Dropped {
                     return Ok(None);
                 }
                 return Ok(Some(line.line()));

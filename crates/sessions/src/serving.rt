@@ -6,10 +6,11 @@ ghost use Rattle.printing.specs.Failing.{CountsWrites};
 ghost use Rattle.sessions.specs.Told.{CountsRead, IsOfStream};
 ghost use Rattle.sessions.specs.Turns.{Serves, IsSessionAt};
 
+use crate::answering::Answering;
 use crate::answers::Session;
 use crate::lines::is_quit;
-use crate::reading::next_line;
-use desk::{Desk, Gate, Naming};
+use crate::reading::{LastLine, next_line};
+use desk::{Gate, Handle, Naming};
 use dimacs::Counted;
 use disk::Disk;
 use printing::{CountedWriter, Failed};
@@ -19,6 +20,15 @@ use std::io::{BufRead, Write};
 use std::sync::Wait;
 use std::thread::Threads;
 
+/// How a session is held.
+#[derive(Clone, Copy)]
+pub struct Terms<'a> {
+    /// What becomes of a last line that no line feed ends.
+    pub last_line: LastLine,
+    /// Where the session is counted while it is within an answer.
+    pub answering: &'a Answering,
+}
+
 /// Carries out the lines of a client in their order by the desk, each answered, and the answer sent out, before the next line is read. It ends at
 /// the line `quit` and at the end of the input; the desk goes on.
 ///
@@ -26,27 +36,31 @@ use std::thread::Threads;
 /// answer line, from a pin of that moment, or `no CODE`), `wait` (`v V` once the session's last accepted group is shown, or `no CODE`) and
 /// `quit`. The lines `begin` and `end` enclose the commands of a group: nothing is answered before its end, which answers for the whole, `ok N` once it
 /// is durable, or the code of its first line that has a fault, or `no CODE`. A group that `quit` or the end of the input cuts off is dropped. Lines with no field and comments, which begin with `#`, have no answer; any other line has `no 1` or `no 5`. No line is too long:
-/// a line takes no memory; a group takes 32 bytes a command.
+/// a line takes no memory; a group takes 32 bytes a command. A last line that no line feed ends is a line, or is dropped, as the terms say: what is
+/// carried out are whole lines alone then.
+///
+/// Between two lines the session holds no view of the desk and keeps no row: rows are kept by the desk for all sessions.
 ///
 /// What the session has of its desk is handed out: by that `Session::is_kept` says of the closed desk what the session's answers were promises of.
 ///
 /// The errors are a failed call of the reader (10) and of the writer (12), and no others: what the desk refuses is an answer, also where it
-/// has no place for the session's reader (`no 60`, at each query until there is one).
+/// has no place for the session among its readers (`no 60`, at each query until there is one).
 pub fn serve<
-    N: Naming + Send + Sync + 'static,
-    D: Disk + Drop + Send + 'static,
-    G: Gate + Drop + Send + Sync + 'static,
-    R: Threads + Wait + Copy + Send + Sync + 'static,
+    N: Naming,
+    D: Disk + Drop,
+    G: Gate + Drop,
+    R: Threads + Wait + Copy,
     I: BufRead,
     W: Write,
 >(
     rt: &R,
     alloc: Global,
-    desk: &Desk<N, D, G, R>,
+    desk: &Handle<N, D, G, R>,
+    terms: Terms<'_>,
     reader: &mut Counted<'_, I>,
     writer: &mut CountedWriter<'_, W>,
 ) -> (Result<(), Failed>, Session<N>)
-    ensures answered { IfSome (I.remaining (reader_of reader.old)) (λ text. Serves N.origin text (I.remaining (reader_of reader.new)) (W.contents (writer_of writer.old)) (W.contents (writer_of writer.new)) (IsSessionAt N.origin result.1.reader result.1.receipts) result.0) }
+    ensures answered { IfSome (I.remaining (reader_of reader.old)) (λ text. Serves terms.entry.last_line N.origin text (I.remaining (reader_of reader.new)) (W.contents (writer_of writer.old)) (W.contents (writer_of writer.new)) (IsSessionAt N.origin result.1.place result.1.receipts) result.0) }
     ensures reads { CountsRead (failed_calls reader.old) (failed_calls reader.new) result.0 }
     ensures writes { CountsWrites (failed_writes writer.old) (failed_writes writer.new) result.0 }
     ensures causes { IfErr result.0 IsOfStream }
@@ -55,7 +69,7 @@ pub fn serve<
 {
     let mut session = Session::new();
     for _ in rt.forever() {
-        let line = match next_line(rt, reader) {
+        let line = match next_line(rt, reader, terms.last_line) {
             Ok(None) => return (Ok(()), session),
             Ok(Some(line)) => line,
             Err(_) => return (Err(Failed::Code(Refusal::Read)), session),
@@ -63,7 +77,10 @@ pub fn serve<
         if is_quit(line) {
             return (Ok(()), session);
         }
-        if let Err(failed) = session.answer(rt, alloc, desk, line, writer) {
+        let is_counted = terms.answering.begin();
+        let told = session.answer(alloc, desk, line, writer);
+        terms.answering.end(is_counted);
+        if let Err(failed) = told {
             return (Err(failed), session);
         }
     }

@@ -1,153 +1,165 @@
+use crate::faults::{Row, failed_behind, fault_of};
 use dimacs::{Code, Counted, Fault, parse_gr, read_gr, read_gr_before_run, read_gr_counted};
+use fixtures::{FailingReader, SIX, arc};
 use roadnet::Network;
 use std::alloc::{AllocError, Global};
-use std::io;
-use std::io::{BufReader, ErrorKind, Read};
-use std::process::Abort;
+use std::io::{BufRead, BufReader, ErrorKind, Read};
 use std::test::Fail;
-
-const SIX: &[u8] =
-    b"c S6\np sp 6 8\na 1 2 17\na 1 3 10\na 2 4 2\na 3 5 0\na 4 3 0\na 4 6 3\na 5 2 0\na 5 6 20\n";
 
 const SIX_OTHERWISE: &[u8] =
     b"c S6\r\np\tsp 6\t8\r\na\t1\t2 17\r\n\ta 1 3 010\r\nc\r\na 2 4 2 \r\n\r\na 3 5 0\r\na 4 3 -0\r\nc\xff\xff\r\na 4 6 3\r\na 5 2 0\r\na 5 6 20";
 
-const ARCS: [(u32, u32, u32); 8] = [
-    (1, 2, 17),
-    (1, 3, 10),
-    (2, 4, 2),
-    (3, 5, 0),
-    (4, 3, 0),
-    (4, 6, 3),
-    (5, 2, 0),
-    (5, 6, 20),
-];
+/// Whether it is the network of the worked rows, without landmarks.
+fn is_six(network: &Network) -> bool {
+    let arcs = [
+        arc(1, 2, 17),
+        arc(1, 3, 10),
+        arc(2, 4, 2),
+        arc(3, 5, 0),
+        arc(4, 3, 0),
+        arc(4, 6, 3),
+        arc(5, 2, 0),
+        arc(5, 6, 20),
+    ];
+    network.nodes() == 6 && network.landmarks().is_empty() && network.arcs() == arcs.as_slice()
+}
 
-fn is_six(rt: &impl Abort, network: &Network) {
-    assert_eq!(rt; network.nodes(), 6);
-    assert!(rt; network.landmarks().is_empty());
-    assert_eq!(rt; network.arcs().len(), 8);
-    for (arc, (tail, head, length)) in network.arcs().iter().zip(ARCS.iter()) {
-        assert_eq!(rt; arc.tail, *tail);
-        assert_eq!(rt; arc.head, *head);
-        assert_eq!(rt; arc.length, *length);
-        assert!(rt; arc.opened);
+/// Whether it is that network that was read.
+fn has_six(read: Result<Network, Fault>) -> bool {
+    match read {
+        Ok(network) => is_six(&network),
+        Err(_) => false,
     }
 }
 
-fn refuses(rt: &impl Abort, alloc: Global, text: &[u8], line: u64, code: Code) {
-    match parse_gr(alloc, text) {
-        Ok(_) => panic!(rt; "no fault"),
-        Err(fault) => assert_eq!(rt; fault, Fault { line, code }),
-    }
+/// The network of a text that is read in parts of this size.
+fn read_in_parts(alloc: Global, capacity: usize, text: &[u8]) -> Result<Network, Fault> {
+    let Ok(mut reader) = BufReader::with_capacity(alloc, capacity, text) else {
+        return Err(Fault {
+            line: 0,
+            code: Code::OutOfMemory,
+        });
+    };
+    read_gr(alloc, &mut reader)
+}
+
+/// The network of a text that a reader has as a whole.
+fn read_whole(alloc: Global, text: &[u8]) -> Result<Network, Fault> {
     let mut rest = text;
-    match read_gr(alloc, &mut rest) {
-        Ok(_) => panic!(rt; "no fault"),
-        Err(fault) => assert_eq!(rt; fault, Fault { line, code }),
+    read_gr(alloc, &mut rest)
+}
+
+/// Whether a text has this fault, in memory and by a reader.
+fn is_refused(alloc: Global, (text, line, code): Row) -> bool {
+    let fault = Some(Fault { line, code });
+    fault_of(parse_gr(alloc, text)) == fault && fault_of(read_whole(alloc, text)) == fault
+}
+
+/// The first text of the table that has another fault, if there is one.
+fn first_not_refused(alloc: Global, table: &[Row]) -> Option<usize> {
+    for at in 0..table.len() {
+        if !is_refused(alloc, table[at]) {
+            return Some(at);
+        }
     }
+    None
+}
+
+/// How many nodes and arcs the network of a text has.
+fn sizes(alloc: Global, text: &[u8]) -> Result<(u32, usize), Fault> {
+    let network = parse_gr(alloc, text)?;
+    Ok((network.nodes(), network.arcs().len()))
 }
 
 #[test]
-fn spelling_of_lines(rt: HostRuntime) -> Result<(), Fail> {
-    is_six(&rt, &parse_gr(rt.alloc(), SIX)?);
-    is_six(&rt, &parse_gr(rt.alloc(), SIX_OTHERWISE)?);
+fn spelling_of_lines(rt: HostRuntime) {
+    let alloc = rt.alloc();
+    assert!(rt; has_six(parse_gr(alloc, SIX)) && has_six(parse_gr(alloc, SIX_OTHERWISE)));
     for capacity in 1..20 {
-        let mut reader = BufReader::with_capacity(rt.alloc(), capacity, SIX_OTHERWISE)?;
-        is_six(&rt, &read_gr(rt.alloc(), &mut reader)?);
+        assert!(rt;
+            has_six(read_in_parts(alloc, capacity, SIX_OTHERWISE)),
+            "{capacity}"
+        );
     }
-    let network = parse_gr(rt.alloc(), b"p sp 1 0")?;
-    assert_eq!(rt; network.nodes(), 1);
-    assert!(rt; network.arcs().is_empty());
-    Ok(())
+    assert!(rt; sizes(alloc, b"p sp 1 0") == Ok((1, 0)));
 }
+
+const FAULTS: [Row; 16] = [
+    (b"a 1 2 3", 1, Code::NoProblemLine),
+    (b"c S6\np sp 6 8\na 1 2 -5\n", 3, Code::LengthRange),
+    (b"", 0, Code::NoProblemLine),
+    (b"\n\nc\n", 3, Code::NoProblemLine),
+    (b"p sp 33554433 0", 1, Code::TooLarge),
+    (b"p max 6 8", 1, Code::WrongKind),
+    (b"p sp", 1, Code::BadLine),
+    (b"p", 1, Code::WrongKind),
+    (b"c S6\np sp 6 8\na 1 2 5.0\n", 3, Code::BadLine),
+    (b"p sp 2 1\np max 2 1\n", 2, Code::SecondProblemLine),
+    (b"p sp 2 1\np sp 2\n", 2, Code::BadLine),
+    (b"p sp 2 1\na 0 1 1\n", 2, Code::NodeRange),
+    (b"p sp 2 1\na 1 2 2147483648\n", 2, Code::LengthRange),
+    (b"p sp 2 1\na 1 2 --1\n", 2, Code::BadLine),
+    (b"p sp 2 1\na 1\r2 3\n", 2, Code::BadLine),
+    (b"p sp 2 1\na 1 2 3\r\r\n", 2, Code::BadLine),
+];
 
 #[test]
 fn faults_of_texts(rt: HostRuntime) {
-    let alloc = rt.alloc();
-    refuses(&rt, alloc, &SIX[..72], 9, Code::LineCount);
-    refuses(&rt, alloc, b"a 1 2 3", 1, Code::NoProblemLine);
-    refuses(
-        &rt,
-        alloc,
-        b"c S6\np sp 6 8\na 1 2 -5\n",
-        3,
-        Code::LengthRange,
-    );
-    refuses(&rt, alloc, b"", 0, Code::NoProblemLine);
-    refuses(&rt, alloc, b"\n\nc\n", 3, Code::NoProblemLine);
-    refuses(&rt, alloc, b"p sp 33554433 0", 1, Code::TooLarge);
-    refuses(&rt, alloc, b"p max 6 8", 1, Code::WrongKind);
-    refuses(&rt, alloc, b"p sp", 1, Code::BadLine);
-    refuses(&rt, alloc, b"p", 1, Code::WrongKind);
-    refuses(&rt, alloc, b"c S6\np sp 6 8\na 1 2 5.0\n", 3, Code::BadLine);
-    refuses(
-        &rt,
-        alloc,
-        b"p sp 2 1\np max 2 1\n",
-        2,
-        Code::SecondProblemLine,
-    );
-    refuses(&rt, alloc, b"p sp 2 1\np sp 2\n", 2, Code::BadLine);
-    refuses(&rt, alloc, b"p sp 2 1\na 0 1 1\n", 2, Code::NodeRange);
-    refuses(
-        &rt,
-        alloc,
-        b"p sp 2 1\na 1 2 2147483648\n",
-        2,
-        Code::LengthRange,
-    );
-    refuses(&rt, alloc, b"p sp 2 1\na 1 2 --1\n", 2, Code::BadLine);
-    refuses(&rt, alloc, b"p sp 2 1\na 1\r2 3\n", 2, Code::BadLine);
-    refuses(&rt, alloc, b"p sp 2 1\na 1 2 3\r\r\n", 2, Code::BadLine);
+    assert!(rt; is_refused(rt.alloc(), (&SIX[..72], 9, Code::LineCount)));
+    assert_eq!(rt; first_not_refused(rt.alloc(), &FAULTS), None);
 }
+
+const SIZES: [Row; 7] = [
+    (b"p sp 9223372036854775807 1", 1, Code::TooLarge),
+    (b"p sp 9223372036854775808 1", 1, Code::NumberRange),
+    (b"p sp 2 -9223372036854775808", 1, Code::NumberRange),
+    (b"p sp 2 1\na 1 2 9223372036854775807", 2, Code::LengthRange),
+    (b"p sp 2 1\na 1 2 9223372036854775808", 2, Code::NumberRange),
+    (
+        b"p sp 2 1\na 1 2 18446744073709551617",
+        2,
+        Code::NumberRange,
+    ),
+    (
+        b"p sp 2 1\na 1 2 9999999999999999999999999999999999999999999999999999999999999999999999999999999999999999999999999999\n",
+        2,
+        Code::NumberRange,
+    ),
+];
 
 #[test]
 fn greatest_sizes(rt: HostRuntime) {
-    let table: [(&[u8], u64, Code); 7] = [
-        (b"p sp 9223372036854775807 1", 1, Code::TooLarge),
-        (b"p sp 9223372036854775808 1", 1, Code::NumberRange),
-        (b"p sp 2 -9223372036854775808", 1, Code::NumberRange),
-        (b"p sp 2 1\na 1 2 9223372036854775807", 2, Code::LengthRange),
-        (b"p sp 2 1\na 1 2 9223372036854775808", 2, Code::NumberRange),
-        (
-            b"p sp 2 1\na 1 2 18446744073709551617",
-            2,
-            Code::NumberRange,
-        ),
-        (
-            b"p sp 2 1\na 1 2 9999999999999999999999999999999999999999999999999999999999999999999999999999999999999999999999999999\n",
-            2,
-            Code::NumberRange,
-        ),
-    ];
-    for (text, line, code) in table {
-        refuses(&rt, rt.alloc(), text, line, code);
-    }
+    assert_eq!(rt; first_not_refused(rt.alloc(), &SIZES), None);
+}
+
+const ZEROS: &[u8] =
+    b"p sp 2 1\na 1 2 0000000000000000000000000000000000000000000000000000000000000000000000000000000000000000002147483647\n";
+
+/// Whether the network of a text has this arc alone.
+fn has_arc(alloc: Global, text: &[u8], length: u32) -> Result<bool, Fault> {
+    let network = parse_gr(alloc, text)?;
+    Ok(network.arcs() == [arc(1, 2, length)].as_slice())
 }
 
 #[test]
-fn leading_zeros(rt: HostRuntime) -> Result<(), Fail> {
-    let zeros: &[u8] =
-        b"p sp 2 1\na 1 2 0000000000000000000000000000000000000000000000000000000000000000000000000000000000000000002147483647\n";
-    let network = parse_gr(rt.alloc(), zeros)?;
-    assert_eq!(rt; network.arcs().len(), 1);
-    for arc in network.arcs() {
-        assert_eq!(rt; arc.length, 2147483647);
-    }
-    Ok(())
+fn leading_zeros(rt: HostRuntime) {
+    assert!(rt; has_arc(rt.alloc(), ZEROS, 2147483647) == Ok(true));
 }
+
+const MALICIOUS: [Row; 8] = [
+    (b"p sp 1 0\na 1 1 1", 2, Code::LineCount),
+    (b"p sp 0 0", 1, Code::NumberRange),
+    (b"p sp 3 67108865", 1, Code::TooLarge),
+    (b"p sp 2 1\na 1 2", 2, Code::BadLine),
+    (b"p sp 2 1\na 3 2 -1", 2, Code::NodeRange),
+    (b"\xff", 1, Code::BadLine),
+    (b"c\xff\n", 1, Code::NoProblemLine),
+    (b"p sp 2 67108864\n", 1, Code::LineCount),
+];
 
 #[test]
 fn malicious_texts(rt: HostRuntime) {
-    let alloc = rt.alloc();
-    refuses(&rt, alloc, b"p sp 1 0\na 1 1 1", 2, Code::LineCount);
-    refuses(&rt, alloc, b"p sp 0 0", 1, Code::NumberRange);
-    refuses(&rt, alloc, b"p sp 3 67108865", 1, Code::TooLarge);
-    refuses(&rt, alloc, b"p sp 2 1\na 1 2", 2, Code::BadLine);
-    refuses(&rt, alloc, b"p sp 2 1\na 3 2 -1", 2, Code::NodeRange);
-    refuses(&rt, alloc, b"\xff", 1, Code::BadLine);
-    refuses(&rt, alloc, b"c\xff\n", 1, Code::NoProblemLine);
-    refuses(&rt, alloc, b"p sp 2 67108864\n", 1, Code::LineCount);
+    assert_eq!(rt; first_not_refused(rt.alloc(), &MALICIOUS), None);
 }
 
 fn number_of(code: Code) -> u8 {
@@ -309,157 +321,144 @@ fn slow_judge(alloc: Global, text: &[u8]) -> Result<(u64, u8), AllocError> {
     }
 }
 
-fn agrees(rt: &impl Abort, alloc: Global, text: &[u8]) -> Result<(), Fail> {
-    let (line, code) = slow_judge(alloc, text)?;
-    match parse_gr(alloc, text) {
-        Ok(_) => assert_eq!(rt; code, 0),
-        Err(fault) => {
-            assert_eq!(rt; fault.line, line);
-            assert_eq!(rt; number_of(fault.code), code);
-        }
+/// The line and the number of the fault that was read, or zeros.
+fn told(read: Result<Network, Fault>) -> (u64, u8) {
+    match read {
+        Ok(_) => (0, 0),
+        Err(fault) => (fault.line, number_of(fault.code)),
     }
-    let mut reader = BufReader::with_capacity(alloc, 7, text)?;
-    match read_gr(alloc, &mut reader) {
-        Ok(_) => assert_eq!(rt; code, 0),
-        Err(fault) => {
-            assert_eq!(rt; fault.line, line);
-            assert_eq!(rt; number_of(fault.code), code);
-        }
+}
+
+fn agrees(alloc: Global, text: &[u8]) -> Result<bool, AllocError> {
+    let wanted = slow_judge(alloc, text)?;
+    Ok(told(parse_gr(alloc, text)) == wanted && told(read_in_parts(alloc, 7, text)) == wanted)
+}
+
+/// Whether they agree on the text of the worked network with this byte in place of one of its own.
+fn agrees_where_changed(alloc: Global, at: usize, byte: u8) -> Result<bool, AllocError> {
+    let mut text = Vec::from_slice(alloc, SIX)?;
+    if let Some(place) = text.get_mut(at) {
+        *place = byte;
     }
-    Ok(())
+    agrees(alloc, &text)
 }
 
 #[test]
 fn fronts_and_changed_bytes(rt: HostRuntime) -> Result<(), Fail> {
     for n in 0..SIX.len() {
-        agrees(&rt, rt.alloc(), &SIX[..n])?;
-    }
-    for i in 0..SIX.len() {
+        assert!(rt; agrees(rt.alloc(), &SIX[..n])?, "{n}");
         for byte in [0, 10, 45, 255] {
-            let mut text = Vec::from_slice(rt.alloc(), SIX)?;
-            if i < text.len() {
-                text[i] = byte;
-            }
-            agrees(&rt, rt.alloc(), &text)?;
+            assert!(rt; agrees_where_changed(rt.alloc(), n, byte)?, "{byte} at {n}");
         }
     }
     Ok(())
 }
 
-/// A reader whose n-th read fails, or is interrupted.
-#[derive(Drop)]
-struct Failing<'a> {
-    bytes: &'a [u8],
-    reads: u64,
-    kind: ErrorKind,
+/// What is read of the worked network in parts of four bytes where a read fails so: the network or the fault, and how many calls failed.
+fn read_failing(alloc: Global, reads: u32, kind: ErrorKind) -> (Result<bool, Fault>, u64) {
+    let failing = FailingReader {
+        bytes: SIX,
+        reads,
+        kind,
+    };
+    let Ok(mut reader) = BufReader::with_capacity(alloc, 4, failing) else {
+        return (Ok(false), 0);
+    };
+    let mut counted = Counted::new(&mut reader);
+    let read = read_gr_counted(alloc, &mut counted);
+    let failed = counted.failed_calls();
+    match read {
+        Ok(network) => (Ok(is_six(&network)), failed),
+        Err(fault) => (Err(fault), failed),
+    }
 }
 
-impl Read for Failing<'_> {
-    fn read(&mut self, buf: &mut [u8]) -> io::Result<usize> {
-        self.reads = self.reads.wrapping_sub(1);
-        if self.reads == 0 {
-            return Err(io::Error::from(self.kind));
-        }
-        self.bytes.read(buf)
-    }
+/// Whether a read of this number that fails is told, in its line, and one that is interrupted is made again. The text has more than 20 reads.
+fn is_told(alloc: Global, reads: u32) -> bool {
+    let (read, failed) = read_failing(alloc, reads, ErrorKind::BrokenPipe);
+    let told = match read {
+        Ok(is_six) => is_six && reads > 20 && failed == 0,
+        Err(fault) => Some(fault) == failed_behind(SIX, reads) && failed == 1,
+    };
+    let (again, _) = read_failing(alloc, reads, ErrorKind::Interrupted);
+    told && again == Ok(true)
 }
 
 #[test]
-fn reader_fails_at_a_read(rt: HostRuntime) -> Result<(), Fail> {
+fn reader_fails_at_a_read(rt: HostRuntime) {
     for reads in 1..40 {
-        let failing = Failing {
-            bytes: SIX,
-            reads,
-            kind: ErrorKind::BrokenPipe,
-        };
-        let mut reader = BufReader::with_capacity(rt.alloc(), 4, failing)?;
-        let mut counted = Counted::new(&mut reader);
-        match read_gr_counted(rt.alloc(), &mut counted) {
-            Ok(network) => {
-                is_six(&rt, &network);
-                assert!(rt; reads > 20);
-                assert_eq!(rt; counted.failed_calls(), 0);
-            }
-            Err(fault) => {
-                assert_eq!(rt; fault.code, Code::Read);
-                assert_eq!(rt; counted.failed_calls(), 1);
-                let mut feeds = 1u64;
-                for byte in SIX
-                    .iter()
-                    .take((reads as usize).wrapping_sub(1).wrapping_mul(4))
-                {
-                    if *byte == b'\n' {
-                        feeds = feeds.wrapping_add(1);
-                    }
-                }
-                assert_eq!(rt; fault.line, feeds);
-            }
-        }
-        let interrupted = Failing {
-            bytes: SIX,
-            reads,
-            kind: ErrorKind::Interrupted,
-        };
-        let mut reader = BufReader::with_capacity(rt.alloc(), 4, interrupted)?;
-        is_six(&rt, &read_gr(rt.alloc(), &mut reader)?);
+        assert!(rt; is_told(rt.alloc(), reads), "{reads}");
     }
-    Ok(())
+}
+
+/// How many arcs were read, and whether a line `run` ended it.
+fn read_before_run<R: BufRead>(alloc: Global, reader: &mut R) -> Result<(usize, bool), Fault> {
+    let mut counted = Counted::new(reader);
+    let (network, at_run) = read_gr_before_run(alloc, &mut counted)?;
+    Ok((network.arcs().len(), at_run))
+}
+
+const BEFORE_RUN: &[u8] = b"p sp 2 1\na 1 2 3\n run \r\ndist 1 2\n";
+
+/// Whether the reading in parts of this size ends behind the line `run`.
+fn stops_behind_run(alloc: Global, capacity: usize) -> Result<bool, Fail> {
+    let mut reader = BufReader::with_capacity(alloc, capacity, BEFORE_RUN)?;
+    let told = read_before_run(alloc, &mut reader);
+    let mut rest = Vec::new(alloc);
+    reader.read_to_end(&mut rest)?;
+    Ok(told == Ok((1, true)) && rest.as_slice() == b"dist 1 2\n".as_slice())
 }
 
 #[test]
 fn stops_at_run(rt: HostRuntime) -> Result<(), Fail> {
-    let text: &[u8] = b"p sp 2 1\na 1 2 3\n run \r\ndist 1 2\n";
     for capacity in 1..40 {
-        let mut reader = BufReader::with_capacity(rt.alloc(), capacity, text)?;
-        let mut counted = Counted::new(&mut reader);
-        let (network, at_run) = read_gr_before_run(rt.alloc(), &mut counted)?;
-        assert!(rt; at_run);
-        assert_eq!(rt; network.arcs().len(), 1);
-        let mut rest = Vec::new(rt.alloc());
-        reader.read_to_end(&mut rest)?;
-        assert!(rt; rest.as_slice() == b"dist 1 2\n".as_slice());
+        assert!(rt; stops_behind_run(rt.alloc(), capacity)?, "{capacity}");
     }
     let mut whole = SIX;
-    let mut counted = Counted::new(&mut whole);
-    let (network, at_run) = read_gr_before_run(rt.alloc(), &mut counted)?;
-    assert!(rt; !at_run);
-    is_six(&rt, &network);
+    assert!(rt; read_before_run(rt.alloc(), &mut whole) == Ok((8, false)));
     let mut alone: &[u8] = b"run";
-    let mut counted = Counted::new(&mut alone);
-    match read_gr_before_run(rt.alloc(), &mut counted) {
-        Ok(_) => panic!(&rt; "no fault"),
-        Err(fault) => assert_eq!(&rt;
-            fault,
-            Fault {
-                line: 0,
-                code: Code::NoProblemLine
-            }
-        ),
-    }
+    let fault = Fault {
+        line: 0,
+        code: Code::NoProblemLine,
+    };
+    assert!(rt; read_before_run(rt.alloc(), &mut alone) == Err(fault));
     Ok(())
 }
 
-#[test]
-fn long_comment_is_passed_over(rt: HostRuntime) -> Result<(), Fail> {
-    let mut text = Vec::from_slice(rt.alloc(), b"p sp 1 0\n \tc")?;
+/// A text whose second line is a long comment, and whose third is none.
+fn long_comment(alloc: Global) -> Result<Vec<u8>, AllocError> {
+    let mut text = Vec::from_slice(alloc, b"p sp 1 0\n \tc")?;
     for _ in 0..100_000 {
         text.push(b'x')?;
     }
     text.extend_from_slice(b"\nq")?;
-    let bytes: &[u8] = &text;
-    let mut reader = BufReader::with_capacity(rt.alloc(), 16, bytes)?;
-    match read_gr(rt.alloc(), &mut reader) {
-        Ok(_) => panic!(&rt; "no fault"),
-        Err(fault) => assert_eq!(&rt;
-            fault,
-            Fault {
-                line: 3,
-                code: Code::BadLine
-            }
-        ),
-    }
+    Ok(text)
+}
+
+#[test]
+fn long_comment_is_passed_over(rt: HostRuntime) -> Result<(), Fail> {
+    let text = long_comment(rt.alloc())?;
+    let fault = Fault {
+        line: 3,
+        code: Code::BadLine,
+    };
+    assert!(rt; fault_of(read_in_parts(rt.alloc(), 16, &text)) == Some(fault));
     Ok(())
 }
+
+const PRINTED: [(Code, &str); 11] = [
+    (Code::BadLine, "1 BadLine"),
+    (Code::NoProblemLine, "2 NoProblemLine"),
+    (Code::SecondProblemLine, "3 SecondProblemLine"),
+    (Code::WrongKind, "4 WrongKind"),
+    (Code::NumberRange, "5 NumberRange"),
+    (Code::NodeRange, "6 NodeRange"),
+    (Code::LengthRange, "7 LengthRange"),
+    (Code::LineCount, "8 LineCount"),
+    (Code::TooLarge, "9 TooLarge"),
+    (Code::Read, "10 Read"),
+    (Code::OutOfMemory, "11 OutOfMemory"),
+];
 
 #[test]
 fn printed_faults(rt: HostRuntime) -> Result<(), Fail> {
@@ -468,42 +467,25 @@ fn printed_faults(rt: HostRuntime) -> Result<(), Fail> {
         code: Code::LineCount,
     };
     assert!(rt; format!(in rt.alloc(); "{fault}")?.as_str() == "line 9: 8 LineCount");
-    let all = [
-        Code::BadLine,
-        Code::NoProblemLine,
-        Code::SecondProblemLine,
-        Code::WrongKind,
-        Code::NumberRange,
-        Code::NodeRange,
-        Code::LengthRange,
-        Code::LineCount,
-        Code::TooLarge,
-        Code::Read,
-        Code::OutOfMemory,
-    ];
-    let mut printed = String::new(rt.alloc());
-    for code in all {
-        printed.push_str(&format!(in rt.alloc(); "{code}/")?)?;
+    for (code, text) in PRINTED {
+        assert!(rt;
+            format!(in rt.alloc(); "{code}")?.as_str() == text,
+            "{text}"
+        );
     }
-    assert!(rt;
-        printed.as_str()
-            == "1 BadLine/2 NoProblemLine/3 SecondProblemLine/4 WrongKind/5 NumberRange/6 NodeRange/7 LengthRange/8 LineCount/9 TooLarge/10 Read/11 OutOfMemory/"
-    );
     Ok(())
 }
 
-/// The right network, or want of memory.
-fn is_six_or_starved(rt: &impl Abort, read: Result<Network, Fault>) {
+/// Whether it is the right network, or want of memory.
+fn has_six_or_is_starved(read: Result<Network, Fault>) -> bool {
     match read {
-        Ok(network) => is_six(rt, &network),
-        Err(fault) => assert_eq!(rt; fault.code, Code::OutOfMemory),
+        Ok(network) => is_six(&network),
+        Err(fault) => fault.code == Code::OutOfMemory,
     }
 }
 
 #[test]
 fn allocations_fail_in_turn(rt: HostRuntime) {
-    is_six_or_starved(&rt, parse_gr(rt.alloc(), SIX_OTHERWISE));
-    if let Ok(mut reader) = BufReader::with_capacity(rt.alloc(), 5, SIX_OTHERWISE) {
-        is_six_or_starved(&rt, read_gr(rt.alloc(), &mut reader));
-    }
+    assert!(rt; has_six_or_is_starved(parse_gr(rt.alloc(), SIX_OTHERWISE)));
+    assert!(rt; has_six_or_is_starved(read_in_parts(rt.alloc(), 5, SIX_OTHERWISE)));
 }

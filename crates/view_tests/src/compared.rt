@@ -1,38 +1,32 @@
 ghost use Rattle.rows.specs.Cached.{HasRowsOf};
 
+use crate::answering::{Kind, query};
+use fixtures::Draws;
 use relax::Solo;
 use roadnet::{Network, OutOfMemory, Refusal, RoadArc};
 use rows::{Query, RowCache, View, answer_plain};
 use std::alloc::{AllocError, Global};
 use std::thread::Threads;
 
-/// A number drawn by a linear rule, which the next draw follows.
-fn next(state: &mut u64) -> u64 {
-    *state = state
-        .wrapping_mul(6364136223846793005)
-        .wrapping_add(1442695040888963407);
-    *state >> 33
+/// An arc from one of seven nodes to one of the first six, of length 0 to 9; one in five is closed.
+fn drawn_arc(draws: &mut Draws) -> RoadArc {
+    RoadArc {
+        tail: draws.up_to(7),
+        head: draws.up_to(6),
+        length: (draws.draw() % 10) as u32,
+        opened: !draws.draw().is_multiple_of(5),
+    }
 }
 
 /// A network of seven nodes, whose 14 arcs and up to three landmarks are drawn by the seed: with lengths 0 to 9, closed and parallel
 /// arcs and loops. No arc ends at node 7.
 fn drawn(alloc: Global, seed: u64) -> Result<Network, Refusal> {
-    let mut state = seed;
+    let mut draws = Draws::new(seed);
     let mut arcs = Vec::new(alloc);
     for _ in 0..14 {
-        arcs.push(RoadArc {
-            tail: (next(&mut state) % 7 + 1) as u32,
-            head: (next(&mut state) % 6 + 1) as u32,
-            length: (next(&mut state) % 10) as u32,
-            opened: !next(&mut state).is_multiple_of(5),
-        })
-        .map_err(AllocError::from)?;
+        arcs.push(drawn_arc(&mut draws)).map_err(AllocError::from)?;
     }
-    let landmarks = [
-        (next(&mut state) % 7 + 1) as u32,
-        (next(&mut state) % 7 + 1) as u32,
-        (next(&mut state) % 7 + 1) as u32,
-    ];
+    let landmarks = [draws.up_to(7), draws.up_to(7), draws.up_to(7)];
     let count = (seed % 4) as usize;
     Network::new(alloc, 7, arcs, &landmarks[..count])
 }
@@ -41,14 +35,12 @@ fn drawn(alloc: Global, seed: u64) -> Result<Network, Refusal> {
 fn query_at(place: u64) -> Query {
     let source = place / 27 % 9;
     let target = place / 3 % 9;
-    match place % 3 {
-        0 => Query::Dist { source, target },
-        1 => Query::From {
-            landmark: source,
-            target,
-        },
-        _ => Query::Lower { source, target },
-    }
+    let kind = match place % 3 {
+        0 => Kind::Dist,
+        1 => Kind::From,
+        _ => Kind::Lower,
+    };
+    query(kind, source, target)
 }
 
 /// Whether the view gives the slow reply to a query.
@@ -85,14 +77,18 @@ fn differs_at<R: Threads>(
     Ok(None)
 }
 
+/// The same of the network of this seed, by a view of it and a cache of three rows.
+fn differs_on<R: Threads>(rt: &R, alloc: Global, seed: u64) -> Result<Option<u64>, Refusal> {
+    let network = drawn(alloc, seed)?;
+    let view = View::build(alloc, seed, network, None, &Solo)?;
+    let mut cache = RowCache::new(alloc, 3);
+    Ok(differs_at(rt, alloc, &view, &mut cache)?)
+}
+
 #[test]
 fn replies_of_200_drawn_networks(rt: HostRuntime) -> Result<(), Refusal> {
     for seed in 0..200 {
-        let network = drawn(rt.alloc(), seed)?;
-        let view = View::build(rt.alloc(), seed, network, None, &Solo)?;
-        let mut cache = RowCache::new(rt.alloc(), 3);
-        let at = differs_at(&rt, rt.alloc(), &view, &mut cache)?;
-        assert!(rt; at.is_none(), "network {seed}: {at:?}");
+        assert_eq!(rt; differs_on(&rt, rt.alloc(), seed)?, None, "network {seed}");
     }
     Ok(())
 }

@@ -6,6 +6,8 @@ mod answering;
 #[cfg(test)]
 mod compared;
 #[cfg(test)]
-mod shared;
+mod guiding;
+#[cfg(test)]
+mod renewing;
 #[cfg(test)]
 mod viewing;

@@ -1,61 +1,93 @@
-ghost use Rattle.std.specs.Prelude.{◌≡◌, ◌≢◌, ◌≤◌, []};
+ghost use Rattle.std.specs.Prelude.{◌≡◌, ◌≢◌, ◌≤◌, [], IfOk};
 ghost use Rattle.rows.specs.Cached.{HasRowsOf, KeepsOthers, rows_of};
 
-use crate::shared::six_with;
+use crate::answering::{Kind, query};
+use fixtures::{arc, six, six_with};
 use relax::Solo;
-use roadnet::{Command, Network, OutOfMemory, Refusal};
-use rows::{Query, Reply, Row, RowCache, Searches, View, answer_plain};
+use roadnet::{Command, Network, OutOfMemory, Refusal, RoadArc};
+use rows::{Reply, Row, RowCache, Searches, View, answer_plain};
 use std::alloc::Global;
 use std::thread::Threads;
 
+/// A view of the network of the worked rows with these landmarks.
+fn view_of_six(alloc: Global, version: u64, landmarks: &[u32]) -> Result<View, Refusal> {
+    let network = six_with(alloc, landmarks)?;
+    Ok(View::build(alloc, version, network, None, &Solo)?)
+}
+
+/// The same without landmarks, where the seventh arc is closed.
+fn view_of_closed(alloc: Global, version: u64) -> Result<View, Refusal>
+    ensures { IfOk result (λ view. view.version ≡ version) }
+{
+    let mut network = six(alloc)?;
+    network.apply(Command::Close { arc: 7 })?;
+    Ok(View::build(alloc, version, network, None, &Solo)?)
+}
+
+/// A landmark, a target, and the reply.
+const ROWS: [(u64, u64, Reply); 8] = [
+    (3, 4, Reply::Length(2)),
+    (3, 1, Reply::NoWalk),
+    (6, 6, Reply::Length(0)),
+    (6, 4, Reply::NoWalk),
+    (1, 4, Reply::Refused(Refusal::NotALandmark)),
+    (1, 7, Reply::Refused(Refusal::NoSuchNode)),
+    (7, 1, Reply::Refused(Refusal::NoSuchNode)),
+    (u64::MAX, 0, Reply::Refused(Refusal::NoSuchNode)),
+];
+
+/// The first row that a view answers otherwise, and the version that it tells.
+fn first_other_row(alloc: Global, view: &View) -> (Option<usize>, u64) {
+    let mut cache = RowCache::new(alloc, 16);
+    let pinned = view.pinned(&mut cache);
+    for at in 0..ROWS.len() {
+        let (landmark, target, want) = ROWS[at];
+        if pinned.from_landmark(landmark, target) != want {
+            return (Some(at), pinned.version());
+        }
+    }
+    (None, pinned.version())
+}
+
 #[test]
 fn bounds_and_rows(rt: HostRuntime) -> Result<(), Refusal> {
-    let network = six_with(rt.alloc(), &[6, 3])?;
-    let view = View::build(rt.alloc(), 1, network, None, &Solo)?;
-    assert!(rt; view.rows().len() == 2);
-    let mut cache = RowCache::new(rt.alloc(), 16);
-    assert!(rt; cache.capacity() == 16);
-    let pinned = view.pinned(&mut cache);
-    assert!(rt; pinned.version() == 1);
-    let table = [
-        (3, 4, Reply::Length(2)),
-        (3, 1, Reply::NoWalk),
-        (6, 6, Reply::Length(0)),
-        (6, 4, Reply::NoWalk),
-        (1, 4, Reply::Refused(Refusal::NotALandmark)),
-        (1, 7, Reply::Refused(Refusal::NoSuchNode)),
-        (7, 1, Reply::Refused(Refusal::NoSuchNode)),
-        (u64::MAX, 0, Reply::Refused(Refusal::NoSuchNode)),
-    ];
-    for (landmark, target, want) in table {
-        let reply = pinned.from_landmark(landmark, target);
-        assert!(rt; reply == want, "{landmark} to {target}");
-    }
+    let view = view_of_six(rt.alloc(), 1, &[6, 3])?;
+    assert_eq!(rt; first_other_row(rt.alloc(), &view), (None, 1));
+    assert_eq!(rt; view.rows().len(), 2);
     Ok(())
+}
+
+/// Two nodes, and the bound between them.
+const BOUNDS: [(u64, u64, Reply); 5] = [
+    (1, 6, Reply::AtLeast(15)),
+    (5, 2, Reply::AtLeast(0)),
+    (4, 1, Reply::NoWalk),
+    (5, 6, Reply::AtLeast(5)),
+    (1, 7, Reply::Refused(Refusal::NoSuchNode)),
+];
+
+/// The bound by a view's landmarks.
+fn bound(alloc: Global, view: &View, source: u64, target: u64) -> Reply {
+    let mut cache = RowCache::new(alloc, 16);
+    view.pinned(&mut cache).lower(source, target)
+}
+
+/// The first bound that a view, or the slow answer, tells otherwise.
+fn first_other_bound(alloc: Global, view: &View) -> Result<Option<usize>, OutOfMemory> {
+    for at in 0..BOUNDS.len() {
+        let (source, target, want) = BOUNDS[at];
+        let slow = answer_plain(alloc, view.network(), &query(Kind::Lower, source, target))?;
+        if bound(alloc, view, source, target) != want || slow != want {
+            return Ok(Some(at));
+        }
+    }
+    Ok(None)
 }
 
 #[test]
 fn bounds_by_landmarks(rt: HostRuntime) -> Result<(), Refusal> {
-    let network = six_with(rt.alloc(), &[1, 3])?;
-    let view = View::build(rt.alloc(), 2, network, None, &Solo)?;
-    let mut cache = RowCache::new(rt.alloc(), 16);
-    let pinned = view.pinned(&mut cache);
-    let table = [
-        (1, 6, Reply::AtLeast(15)),
-        (5, 2, Reply::AtLeast(0)),
-        (4, 1, Reply::NoWalk),
-        (5, 6, Reply::AtLeast(5)),
-        (1, 7, Reply::Refused(Refusal::NoSuchNode)),
-    ];
-    for (source, target, want) in table {
-        let reply = pinned.lower(source, target);
-        assert!(rt; reply == want, "{source} to {target}");
-        let query = Query::Lower { source, target };
-        assert!(rt;
-            answer_plain(rt.alloc(), view.network(), &query)? == want,
-            "{source} to {target}"
-        );
-    }
+    let view = view_of_six(rt.alloc(), 2, &[1, 3])?;
+    assert_eq!(rt; first_other_bound(rt.alloc(), &view)?, None);
     Ok(())
 }
 
@@ -93,44 +125,59 @@ fn ask_in_turn<R: Threads>(
     Ok((before, after, again))
 }
 
+/// The same by a new cache, and how many rows it keeps then.
+fn ask_two_versions<R: Threads>(
+    rt: &R,
+    alloc: Global,
+    first: &View,
+    second: &View,
+) -> Result<((Reply, Reply, Reply), usize), OutOfMemory>
+    requires { first.now.version ≢ second.now.version }
+{
+    let mut cache = RowCache::new(alloc, 16);
+    let told = ask_in_turn(rt, alloc, first, second, &mut cache)?;
+    Ok((told, cache.len()))
+}
+
+/// The replies by the network of the worked rows, by that with its seventh arc closed, and by the first again, and how many rows are kept.
+fn ask_before_and_after<R: Threads>(
+    rt: &R,
+    alloc: Global,
+) -> Result<((Reply, Reply, Reply), usize), Refusal> {
+    let before = View::build(alloc, 0, six(alloc)?, Some(1), &Solo)?;
+    let after = view_of_closed(alloc, 1)?;
+    Ok(ask_two_versions(rt, alloc, &before, &after)?)
+}
+
+/// The row of node 1 is kept for each of the two versions.
 #[test]
 fn closed_arc_lengthens(rt: HostRuntime) -> Result<(), Refusal> {
-    let mut network = six_with(rt.alloc(), &[])?;
-    let before = View::build(rt.alloc(), 0, network.copy()?, Some(1), &Solo)?;
-    network.apply(Command::Close { arc: 7 })?;
-    let after = View::build(rt.alloc(), 1, network, None, &Solo)?;
-    assert!(rt; !after.network().arcs()[6].opened);
-    let mut cache = RowCache::new(rt.alloc(), 16);
-    let (first, second, again) = ask_in_turn(&rt, rt.alloc(), &before, &after, &mut cache)?;
-    assert!(rt; first == Reply::Length(15) && again == first);
-    assert!(rt; second == Reply::Length(22));
-    // The row of node 1 is kept for each of the two versions.
-    assert!(rt; cache.len() == 2);
+    let open = Reply::Length(15);
+    let told = ask_before_and_after(&rt, rt.alloc())?;
+    assert!(rt; told == ((open, Reply::Length(22), open), 2));
+    let closed = RoadArc {
+        opened: false,
+        ..arc(5, 2, 0)
+    };
+    assert!(rt; view_of_closed(rt.alloc(), 1)?.network().arc(7) == Some(closed));
     Ok(())
+}
+
+/// The answers of one pinned view to a query of each kind.
+fn answer_each<R: Threads>(rt: &R, alloc: Global, view: &View) -> Result<[Reply; 3], OutOfMemory> {
+    let mut cache = RowCache::new(alloc, 1);
+    let mut pinned = view.pinned(&mut cache);
+    let length = pinned.answer(rt, alloc, &query(Kind::Dist, 1, 6))?;
+    let row = pinned.answer(rt, alloc, &query(Kind::From, 1, 4))?;
+    let least = pinned.answer(rt, alloc, &query(Kind::Lower, 1, 4))?;
+    Ok([length, row, least])
 }
 
 #[test]
 fn answers_of_a_pinned_view(rt: HostRuntime) -> Result<(), Refusal> {
-    let mut network = six_with(rt.alloc(), &[])?;
-    network.apply(Command::Close { arc: 7 })?;
-    let view = View::build(rt.alloc(), 1, network, None, &Solo)?;
-    let mut cache = RowCache::new(rt.alloc(), 1);
-    let mut pinned = view.pinned(&mut cache);
-    let query = Query::Dist {
-        source: 1,
-        target: 6,
-    };
-    assert!(rt; pinned.answer(&rt, rt.alloc(), &query)? == Reply::Length(22));
-    let query = Query::From {
-        landmark: 1,
-        target: 4,
-    };
-    assert!(rt; pinned.answer(&rt, rt.alloc(), &query)? == Reply::Refused(Refusal::NotALandmark));
-    let query = Query::Lower {
-        source: 1,
-        target: 4,
-    };
-    assert!(rt; pinned.answer(&rt, rt.alloc(), &query)? == Reply::AtLeast(0));
+    let told = answer_each(&rt, rt.alloc(), &view_of_closed(rt.alloc(), 1)?)?;
+    let refused = Reply::Refused(Refusal::NotALandmark);
+    assert!(rt; told == [Reply::Length(22), refused, Reply::AtLeast(0)]);
     Ok(())
 }
 
@@ -150,22 +197,31 @@ fn kept_of_three<R: Threads>(
     Ok(cache.len())
 }
 
+/// How many rows a cache of one row has, new, behind an answer, and cleared, and the answer.
+fn cleared<R: Threads>(
+    rt: &R,
+    alloc: Global,
+    view: &View,
+) -> Result<(Reply, [usize; 3]), OutOfMemory> {
+    let mut cache = RowCache::new(alloc, 1);
+    let before = cache.len();
+    let reply = ask(rt, alloc, view, &mut cache, 1, 6)?;
+    let behind = cache.len();
+    cache.clear();
+    Ok((reply, [before, behind, cache.len()]))
+}
+
 #[test]
 fn rows_give_way(rt: HostRuntime) -> Result<(), Refusal> {
-    let network = six_with(rt.alloc(), &[])?;
-    let view = View::build(rt.alloc(), 0, network, None, &Solo)?;
+    let view = view_of_six(rt.alloc(), 0, &[])?;
     for (capacity, kept) in [(1, 1), (2, 2), (3, 3), (16, 3)] {
         assert!(rt;
             kept_of_three(&rt, rt.alloc(), &view, capacity)? == kept,
             "{capacity}"
         );
     }
-    let mut cache = RowCache::new(rt.alloc(), 1);
-    assert!(rt; cache.len() == 0);
-    let reply = ask(&rt, rt.alloc(), &view, &mut cache, 1, 6)?;
-    assert!(rt; reply == Reply::Length(15) && cache.len() == 1);
-    cache.clear();
-    assert!(rt; cache.len() == 0);
+    assert!(rt; cleared(&rt, rt.alloc(), &view)? == (Reply::Length(15), [0, 1, 0]));
+    assert_eq!(rt; RowCache::new(rt.alloc(), 16).capacity(), 16);
     Ok(())
 }
 
@@ -187,61 +243,77 @@ fn search_in_turn<R: Threads>(
 
 #[test]
 fn searches_of_alternating_sources(rt: HostRuntime) -> Result<(), Refusal> {
-    let network = six_with(rt.alloc(), &[])?;
-    let want = (Reply::Length(15), Reply::NoWalk, Reply::Length(12));
-    assert!(rt; search_in_turn(&rt, rt.alloc(), &network, 1)? == want);
-    assert!(rt; search_in_turn(&rt, rt.alloc(), &network, 16)? == want);
-    assert!(rt; search_in_turn(&rt, rt.alloc(), &network, 64)? == want);
-    Ok(())
-}
-
-/// The replies to pairs, and to the same pairs once more, by a cache of this size.
-fn two_batches<R: Threads>(
-    rt: &R,
-    alloc: Global,
-    view: &View,
-    capacity: u32,
-    pairs: &[(u64, u64)],
-) -> Result<(Vec<Reply>, Vec<Reply>), OutOfMemory>
-    requires { (1 ≤ capacity) × (capacity ≤ 64) }
-{
-    let mut cache = RowCache::new(alloc, capacity);
-    let mut pinned = view.pinned(&mut cache);
-    let first = pinned.batch(rt, alloc, pairs)?;
-    let again = pinned.batch(rt, alloc, pairs)?;
-    Ok((first, again))
-}
-
-#[test]
-fn batch_of_pairs(rt: HostRuntime) -> Result<(), Refusal> {
-    let network = six_with(rt.alloc(), &[])?;
-    let view = View::build(rt.alloc(), 0, network, None, &Solo)?;
-    let pairs = [(1, 6), (6, 1), (4, 4), (1, 7), (1, 6), (0, 1)];
-    let want = [
-        Reply::Length(15),
-        Reply::NoWalk,
-        Reply::Length(0),
-        Reply::Refused(Refusal::NoSuchNode),
-        Reply::Length(15),
-        Reply::Refused(Refusal::NoSuchNode),
-    ];
-    for (capacity, name) in [(1, "1"), (16, "16"), (64, "64")] {
-        let (first, again) = two_batches(&rt, rt.alloc(), &view, capacity, &pairs)?;
-        assert!(rt; first.as_slice() == want.as_slice(), "{name}");
-        assert!(rt; again.as_slice() == want.as_slice(), "{name}");
+    let network = six(rt.alloc())?;
+    for capacity in [1, 16, 64] {
+        assert!(rt;
+            search_in_turn(&rt, rt.alloc(), &network, capacity)?
+                == (Reply::Length(15), Reply::NoWalk, Reply::Length(12)),
+            "{capacity}"
+        );
     }
     Ok(())
 }
 
+const PAIRS: [(u64, u64); 6] = [(1, 6), (6, 1), (4, 4), (1, 7), (1, 6), (0, 1)];
+
+const REPLIES: [Reply; 6] = [
+    Reply::Length(15),
+    Reply::NoWalk,
+    Reply::Length(0),
+    Reply::Refused(Refusal::NoSuchNode),
+    Reply::Length(15),
+    Reply::Refused(Refusal::NoSuchNode),
+];
+
+/// Whether pairs get their replies, and the same once more, by a cache of this size.
+fn are_answered_twice<R: Threads>(
+    rt: &R,
+    alloc: Global,
+    view: &View,
+    capacity: u32,
+) -> Result<bool, OutOfMemory>
+    requires { (1 ≤ capacity) × (capacity ≤ 64) }
+{
+    let mut cache = RowCache::new(alloc, capacity);
+    let mut pinned = view.pinned(&mut cache);
+    let first = pinned.batch(rt, alloc, &PAIRS)?;
+    let again = pinned.batch(rt, alloc, &PAIRS)?;
+    Ok(first.as_slice() == REPLIES.as_slice() && again.as_slice() == REPLIES.as_slice())
+}
+
+#[test]
+fn batch_of_pairs(rt: HostRuntime) -> Result<(), Refusal> {
+    let view = view_of_six(rt.alloc(), 0, &[])?;
+    for capacity in [1, 16, 64] {
+        assert!(rt;
+            are_answered_twice(&rt, rt.alloc(), &view, capacity)?,
+            "{capacity}"
+        );
+    }
+    Ok(())
+}
+
+/// Whether the row of a landmark tells its version and node, and its distances.
+fn is_row(row: &Row, version: u64, landmark: u32, distances: &[(u64, Option<u64>)]) -> bool {
+    let mut same = row.version == version && row.landmark == landmark;
+    for &(node, distance) in distances {
+        same = same && row.distances.get(node) == distance;
+    }
+    same
+}
+
+/// The row of node 3 by the groups of a view.
+fn row_of_three(alloc: Global, view: &View) -> Result<Option<Row>, OutOfMemory> {
+    if !view.snapshot().has_node(3) {
+        return Ok(None);
+    }
+    Ok(Some(Row::build(alloc, 4, view.snapshot(), 3, &Solo)?))
+}
+
 #[test]
 fn row_of_a_node(rt: HostRuntime) -> Result<(), Refusal> {
-    let network = six_with(rt.alloc(), &[])?;
-    let view = View::build(rt.alloc(), 0, network, None, &Solo)?;
-    assert!(rt; view.snapshot().has_node(3));
-    let row = Row::build(rt.alloc(), 4, view.snapshot(), 3, &Solo)?;
-    assert!(rt; row.version == 4 && row.landmark == 3);
-    assert!(rt; row.distances.get(4) == Some(2));
-    assert!(rt; row.distances.get(1).is_none());
+    let row = row_of_three(rt.alloc(), &view_of_six(rt.alloc(), 0, &[])?)?;
+    assert!(rt; row.is_some_and(|row| is_row(&row, 4, 3, &[(4, Some(2)), (1, None)])));
     Ok(())
 }
 
@@ -260,32 +332,42 @@ fn ask_and_count<R: Threads>(
     (reply, cache.len())
 }
 
+/// The same of nodes 1, 2 and 1 again, and a bound.
+fn ask_three<R: Threads>(
+    rt: &R,
+    alloc: Global,
+    view: &View,
+) -> ([(Option<Reply>, usize); 3], Reply) {
+    let mut cache = RowCache::new(alloc, 16);
+    let told = [
+        ask_and_count(rt, alloc, view, &mut cache, 1),
+        ask_and_count(rt, alloc, view, &mut cache, 2),
+        ask_and_count(rt, alloc, view, &mut cache, 1),
+    ];
+    (told, view.pinned(&mut cache).lower(5, 6))
+}
+
+const ONE: Option<Reply> = Some(Reply::Length(15));
+
+const TWO: Option<Reply> = Some(Reply::Length(5));
+
+/// What is told where memory is wanting nowhere, or for one row.
+const WANTED: [[(Option<Reply>, usize); 3]; 5] = [
+    [(ONE, 1), (TWO, 2), (ONE, 2)],
+    [(ONE, 1), (TWO, 1), (ONE, 1)],
+    [(ONE, 1), (None, 1), (ONE, 1)],
+    [(ONE, 0), (TWO, 1), (ONE, 2)],
+    [(None, 0), (TWO, 1), (ONE, 2)],
+];
+
 /// Where memory is wanting for a row that is answered, and what the cache keeps stays. A row that is kept answers without memory, and so do
 /// bounds. To be run with each allocation failing in turn.
 #[test]
 fn allocations_fail_in_turn(rt: HostRuntime) {
-    let Ok(network) = six_with(rt.alloc(), &[3]) else {
+    let Ok(view) = view_of_six(rt.alloc(), 1, &[3]) else {
         return;
     };
-    let Ok(view) = View::build(rt.alloc(), 1, network, None, &Solo) else {
-        return;
-    };
-    let mut cache = RowCache::new(rt.alloc(), 16);
-    let told = [
-        ask_and_count(&rt, rt.alloc(), &view, &mut cache, 1),
-        ask_and_count(&rt, rt.alloc(), &view, &mut cache, 2),
-        ask_and_count(&rt, rt.alloc(), &view, &mut cache, 1),
-    ];
-    let one = Some(Reply::Length(15));
-    let two = Some(Reply::Length(5));
-    let wanted = [
-        [(one, 1), (two, 2), (one, 2)],
-        [(one, 1), (two, 1), (one, 1)],
-        [(one, 1), (None, 1), (one, 1)],
-        [(one, 0), (two, 1), (one, 2)],
-        [(None, 0), (two, 1), (one, 2)],
-    ];
-    assert!(rt; wanted.contains(&told), "{told:?}");
-    let pinned = view.pinned(&mut cache);
-    assert!(rt; pinned.lower(5, 6) == Reply::AtLeast(5));
+    let (told, least) = ask_three(&rt, rt.alloc(), &view);
+    assert!(rt; WANTED.contains(&told), "{told:?}");
+    assert!(rt; least == Reply::AtLeast(5));
 }

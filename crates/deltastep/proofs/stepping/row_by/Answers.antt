@@ -6,6 +6,3 @@ pub returns : goal.returns
 returns g c = record {
   row = λ net snapshot. RowOf-over net c.args.snapshot.now snapshot c.in_ok-search.ensures.grouped c.args.source c.settle_all.new.self.tentative c.from_words.result c.requires.node.0 c.requires.node.1 (c.in_ok-settle_all.ensures.settled c.args.source c.in_ok-search.ensures.state) (c.into_words.ensures.words ∙ ap (λ (l : List (Option ℕ)). None ∷ l) (sym c.from_words.ensures));
 }
-
-pub settle_all-requires-clause-live : goal.settle_all-requires-clause-live
-settle_all-requires-clause-live g c = record { first = 0; live = c.in_ok-search.ensures.live }

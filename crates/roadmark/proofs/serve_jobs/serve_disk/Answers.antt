@@ -7,6 +7,7 @@ use Rattle.store.specs.State.{CameTidy, StandsAt, IsTidy}
 use Rattle.history.specs.Origins.{Origin}
 use Rattle.dimacs.specs.Counts.{reader_of}
 use Rattle.printing.specs.Counting.{writer_of}
+use Rattle.sessions.specs.declared.reading.LastLine.TheVariants.{Taken}
 use Rattle.sessions.specs.Turns.{Serves, IsKept}
 use Rattle.roadmark.proofs.serve_jobs.serve_disk.Goals as goal
 
@@ -39,7 +40,7 @@ returns-clause-answered g c =
     (λ origin ended.
     IfSome (g.I.Read.remaining (reader_of c.args.reader.now))
     (λ text.
-    Serves origin text (g.I.Read.remaining (reader_of c.serve_store.new.reader)) (g.W.Write.contents (writer_of c.args.writer.now)) (g.W.Write.contents (writer_of c.serve_store.new.writer))
+    Serves Taken origin text (g.I.Read.remaining (reader_of c.serve_store.new.reader)) (g.W.Write.contents (writer_of c.args.writer.now)) (g.W.Write.contents (writer_of c.serve_store.new.writer))
     (IsKept ended.closed.whole ended.closed.shown) ended.outcome))
     c.serve_store.ensures.answered
     c.serve_store.ensures.origin

@@ -16,7 +16,7 @@ invariant-phases g l =
       remembered : AreInBucket l.self.tentative l.snapshot.delta l.bucket l.remembered.nodes;
       emptied : IsBucketEmpty l.snapshot.delta l.bucket (queue.entries l.self.buckets);
       limit : l.remembered.limit ≡ l.snapshot.nodes + 1;
-      live : AreLiveFrom l.snapshot l.bucket (queue.entries l.self.buckets);
+      live : AreLiveFrom l.snapshot l.bucket (queue.entries l.fn.self.buckets) → AreLiveFrom l.snapshot l.bucket (queue.entries l.self.buckets);
       window : FitsFrom (queue.accepts l.self.buckets) l.snapshot l.bucket;
       suited : IsSuited l.snapshot (queue.width l.self.buckets) (queue.span l.self.buckets);
       weighs : weight (top_of l.snapshot) l.self.tentative (queue.entries l.self.buckets) ≤ weight (top_of l.snapshot) l.fn.self.tentative (queue.entries l.fn.self.buckets);

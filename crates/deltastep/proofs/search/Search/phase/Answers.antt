@@ -42,4 +42,4 @@ pub returns-in_ok-take_least_into-clause-emptied : goal.returns-in_ok-take_least
 returns-in_ok-take_least_into-clause-emptied g c = IsBucketEmpty-taken c.args.snapshot.now.delta c.args.bucket (g.Q.BucketQueue.entries c.relax.new.self.buckets) c.take_least_into.new.nodes.items (g.Q.BucketQueue.entries c.take_least_into.new.self) (takes g c).1
 
 pub returns-in_ok-take_least_into-clause-live : goal.returns-in_ok-take_least_into-clause-live
-returns-in_ok-take_least_into-clause-live g c = AreLiveFrom-taken c.args.snapshot.now c.args.bucket c.args.bucket (g.Q.BucketQueue.entries c.relax.new.self.buckets) c.take_least_into.new.nodes.items (g.Q.BucketQueue.entries c.take_least_into.new.self) (takes g c).1 c.in_ok-relax.ensures.live
+returns-in_ok-take_least_into-clause-live g c begun = AreLiveFrom-taken c.args.snapshot.now c.args.bucket c.args.bucket (g.Q.BucketQueue.entries c.relax.new.self.buckets) c.take_least_into.new.nodes.items (g.Q.BucketQueue.entries c.take_least_into.new.self) (takes g c).1 (c.in_ok-relax.ensures.live begun)

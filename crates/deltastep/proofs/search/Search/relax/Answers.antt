@@ -21,4 +21,4 @@ pub returns-clause-stays : goal.returns-clause-stays
 returns-clause-stays g c = AreInBucket-stays c.args.snapshot.now c.args.nodes.now c.args.part _ _ _ _ (met g (goal.at.returns-clause-stays g c).In_ok-came_back) c.args.bucket c.top-top.ensures.grouped.delta c.requires.nodes
 
 pub returns-clause-live : goal.returns-clause-live
-returns-clause-live g c = AreLiveFrom-lowered c.args.snapshot.now c.args.nodes.now c.args.part _ _ _ _ (met g (goal.at.returns-clause-live g c).In_ok-came_back) c.args.bucket c.top-top.ensures.grouped c.requires.nodes c.requires.live
+returns-clause-live g c begun = AreLiveFrom-lowered c.args.snapshot.now c.args.nodes.now c.args.part _ _ _ _ (met g (goal.at.returns-clause-live g c).In_ok-came_back) c.args.bucket c.top-top.ensures.grouped c.requires.nodes begun

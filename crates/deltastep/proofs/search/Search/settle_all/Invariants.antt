@@ -1,5 +1,5 @@
 use Rattle.std.proofs.Common.{◌≡◌, ℕ, ◌+◌, []}
-use Rattle.deltastep.specs.Search.{AreLive, IsBetweenBuckets, IsSuited, top_of, weight}
+use Rattle.deltastep.specs.Search.{IsBetweenBuckets, IsSuited, top_of, weight}
 use Rattle.deltastep.proofs.search.Search.settle_all.Given as goal
 
 abbrev pub invariant-buckets : goal.invariant-buckets
@@ -7,7 +7,6 @@ invariant-buckets g l =
     let queue = g.Q.BucketQueue in
     record {
       settled : (source : ℕ) → IsBetweenBuckets l.snapshot source l.fn.self.tentative (queue.entries l.fn.self.buckets) → IsBetweenBuckets l.snapshot source l.self.tentative (queue.entries l.self.buckets);
-      live : AreLive l.snapshot (queue.entries l.self.buckets);
       none : l.remembered ≡ record { limit = l.snapshot.nodes + 1; nodes = [] };
       suited : IsSuited l.snapshot (queue.width l.self.buckets) (queue.span l.self.buckets);
     }

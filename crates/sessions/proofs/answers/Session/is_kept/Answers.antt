@@ -6,19 +6,19 @@ use Rattle.sessions.proofs.answers.Session.is_kept.Goals as goal
 
 pub returns-in-Some-clause-kept : goal.returns-in-Some-clause-kept
 returns-in-Some-clause-kept g c shown last is =
-    let seen : IsPrefix c.in-Some.reader.known.groups c.args.closed.now.shown.groups =
-    subst (λ (b : Beginning). IsPrefix b.groups c.args.closed.now.shown.groups) c.known.ensures.groups (rw shown at c.has_shown.ensures) in
-    kept_in g.N.Naming.origin c.args.closed.now.whole c.args.closed.now.shown c.args.self.now.reader c.args.self.now.receipts last c.requires c.compare.ensures (rw c.in-Some.is seen) is
+    let seen : IsPrefix c.in-Some.place.groups c.args.closed.now.shown.groups =
+    subst (λ (b : Beginning). IsPrefix b.groups c.args.closed.now.shown.groups) c.known.ensures.known (rw shown at c.has_shown.ensures) in
+    kept_in g.N.Naming.origin c.args.closed.now.whole c.args.closed.now.shown c.args.self.now.place c.args.self.now.receipts last c.requires c.compare.ensures (rw c.in-Some.is seen) is
 
 pub returns-in-Some-clause-fewer : goal.returns-in-Some-clause-fewer
 returns-in-Some-clause-fewer g c shown =
-    let fewer : length c.args.closed.now.shown.groups < length c.in-Some.reader.known.groups =
-    subst (λ (b : Beginning). length c.args.closed.now.shown.groups < length b.groups) c.known.ensures.groups (rw shown at c.has_shown.ensures) in
+    let fewer : length c.args.closed.now.shown.groups < length c.in-Some.place.groups =
+    subst (λ (b : Beginning). length c.args.closed.now.shown.groups < length b.groups) c.known.ensures.known (rw shown at c.has_shown.ensures) in
     rw c.in-Some.is fewer
 
 pub returns-in-None-clause-kept : goal.returns-in-None-clause-kept
 returns-in-None-clause-kept g c truth last is =
-    kept_in g.N.Naming.origin c.args.closed.now.whole c.args.closed.now.shown c.args.self.now.reader c.args.self.now.receipts last c.requires c.compare.ensures
+    kept_in g.N.Naming.origin c.args.closed.now.whole c.args.closed.now.shown c.args.self.now.place c.args.self.now.receipts last c.requires c.compare.ensures
     (rw c.in-None.is (c.args.closed.now.shown.groups, refl)) is
 
 pub returns-in-None-clause-fewer : goal.returns-in-None-clause-fewer

@@ -1,0 +1,318 @@
+//! The distance to one target, by a search that lower bounds of the ways to it lead there.
+
+ghost use Rattle.std.specs.Prelude.{◌≡◌, ◌+◌, ◌*◌, ◌/◌, ◌≤◌, ◌<◌, ◌^◌, ◌↔◌, ℕ, List, Contains, None, false, length, replicate, IfOk, IfSome, IsTrue, OnOk, MatchOption};
+ghost use Rattle.relax.specs.Values.{value_at, value_or};
+ghost use Rattle.roadnet.specs.Net.{Net};
+ghost use Rattle.roadnet.specs.Walks.{Least, NoWalk};
+ghost use Rattle.snapshot.specs.Groups.{Groups, IsGrouped, IsSnapshotOf};
+ghost use Rattle.snapshot.specs.declared.legs.Leg.{Leg};
+ghost use Rattle.snapshot.specs.declared.legs.Part.{Part};
+ghost use Rattle.deltastep.specs.Search.{AreReached, IsSuited, Suits, Trip, trip_length};
+ghost use Rattle.deltastep.specs.Guided.{ConsistentIsLowerBound, GoesOn, IsBest, IsDone, IsGuided, IsKey, IsLowerBound, IsLoweredTo};
+
+use crate::distances::RowError;
+use crate::search::{Search, top};
+use crate::stepping::ring_size;
+use crate::target::drain;
+use crate::workspace::Workspace;
+use buckets::{BucketQueue, OrderedBuckets};
+use relax::Tentative;
+use snapshot::{Part, Snapshot};
+use std::alloc::Global;
+
+/// Lower bounds of what is left of the ways to a target.
+pub trait Guide {
+    /// The node where the ways end.
+    ghost target: { Self → ℕ };
+
+    /// The snapshots whose ways it bounds.
+    ghost knows: { Self → Groups → Type 0 };
+
+    /// A number that is at most the length of each way from the node to the target. The greater it is the fewer nodes a search settles,
+    /// and where it is consistent none twice; what the search finds is the same whatever it is.
+    fn bound(&self, node: u32) -> u64
+        ensures below { (groups : Groups) → knows self.now groups → IsGrouped groups → 1 ≤ node → node ≤ groups.nodes → IsLowerBound groups (target self.now) node result };
+}
+
+/// What is known of guides, as a contract with no body to run: a consistent potential that is 0 at the target bounds each way from below.
+pub fn laws_of_guides()
+    ensures consistent { ConsistentIsLowerBound }
+{}
+
+/// The key of a node of this value: with the guide's bound, but from `start` to `end`.
+#[inline(always)]
+fn key_of<G: Guide>(guide: &G, node: u32, value: u64, start: u64, end: u64) -> u64
+    requires window { start ≤ end }
+    ensures from { start ≤ result }
+    ensures to { result ≤ end }
+    ensures below { (groups : Groups) → G.knows guide.now groups → IsGrouped groups → 1 ≤ node → node ≤ groups.nodes → (legs : List Leg) → Trip groups node (G.target guide.now) legs → start ≤ value + trip_length legs → result ≤ value + trip_length legs }
+{
+    let wanted = value.saturating_add(guide.bound(node));
+    wanted.min(end).max(start)
+}
+
+/// The start of the last bucket of as many in a row as the window says, or the greatest number where it is above that.
+#[inline(always)]
+fn end_of(bucket: u64, window: u64, delta: u64) -> u64
+    requires positive { (1 ≤ delta) × (1 ≤ window) }
+    requires small { bucket * delta < 2 ^ 64 }
+    ensures from { bucket * delta ≤ result }
+    ensures to { result / delta < bucket + window }
+{
+    bucket.saturating_add(window - 1).saturating_mul(delta)
+}
+
+impl<Q: BucketQueue> Search<Q> {
+    /// Lowers a node's value to the given one, if that is below `top` and the value so far, and queues the node by a key from `start` to
+    /// `end`, which it gives.
+    #[inline(always)]
+    fn lower_to<G: Guide>(
+        &mut self,
+        top: u64,
+        node: u32,
+        value: u64,
+        start: u64,
+        end: u64,
+        guide: &G,
+    ) -> Result<Option<u64>, RowError>
+        requires node { (1 ≤ node) × (node < length self.old.tentative) }
+        requires window { start ≤ end }
+        requires fits { (v : ℕ) → start ≤ v → v ≤ end → Q.accepts self.old.buckets v }
+        requires small { top ≤ 2 ^ 56 }
+        ensures lowered { IfOk result (λ key. MatchOption key (value_or top self.old.tentative node ≤ value) (λ _. value < value_or top self.old.tentative node)) }
+        ensures changed { IfOk result (λ key. MatchOption key ((self.new.tentative ≡ self.old.tentative) × (Q.entries self.new.buckets ≡ Q.entries self.old.buckets)) (λ key. IsLoweredTo self.old.tentative (Q.entries self.old.buckets) self.new.tentative (Q.entries self.new.buckets) node value key)) }
+        ensures to { IfOk result (λ key. IfSome key (λ key. key ≤ end)) }
+        ensures below { IfOk result (λ key. IfSome key (λ key. (groups : Groups) → G.knows guide.now groups → IsGrouped groups → 1 ≤ node → node ≤ groups.nodes → (legs : List Leg) → Trip groups node (G.target guide.now) legs → start ≤ value + trip_length legs → key ≤ value + trip_length legs)) }
+        ensures accepts { (v : ℕ) → Q.accepts self.old.buckets v → Q.accepts self.new.buckets v }
+        ensures width { Q.width self.new.buckets ≡ Q.width self.old.buckets }
+        ensures span { Q.span self.new.buckets ≡ Q.span self.old.buckets }
+    {
+        let lowers = match self.tentative.get(node) {
+            Some(old) => value < old,
+            None => value < top,
+        };
+        if !lowers {
+            return Ok(None);
+        }
+        let key = key_of(guide, node, value, start, end);
+        self.buckets.put(node, key)?;
+        self.tentative.set(node, value);
+        Ok(Some(key))
+    }
+
+    /// Relaxes the legs of a part of a node.
+    #[inline(always)]
+    fn relax_part<G: Guide>(
+        &mut self,
+        snapshot: &Snapshot,
+        node: u32,
+        part: Part,
+        start: u64,
+        end: u64,
+        guide: &G,
+    ) -> Result<(), RowError>
+        requires knows { G.knows guide.now snapshot.now }
+        requires state { (source : ℕ) × IsGuided snapshot.now source (G.target guide.now) self.old.tentative (Q.entries self.old.buckets) }
+        requires key { IsKey snapshot.now (G.target guide.now) self.old.tentative node start }
+        requires window { start ≤ end }
+        requires fits { (v : ℕ) → start ≤ v → v ≤ end → Q.accepts self.old.buckets v }
+        ensures goes_on { OnOk result (GoesOn snapshot.now (G.target guide.now) start self.old.tentative (Q.entries self.old.buckets) self.new.tentative (Q.entries self.new.buckets)) }
+        ensures done { OnOk result (IsDone snapshot.now part self.new.tentative (Q.entries self.new.buckets) node) }
+        ensures accepts { OnOk result ((v : ℕ) → Q.accepts self.old.buckets v → Q.accepts self.new.buckets v) }
+        ensures width { OnOk result (Q.width self.new.buckets ≡ Q.width self.old.buckets) }
+        ensures span { OnOk result (Q.span self.new.buckets ≡ Q.span self.old.buckets) }
+    {
+        let top = top(snapshot);
+        let value = self.tentative.get(node).unwrap_or(0);
+        for leg in snapshot.legs(node, part) {
+            let through = value + u64::from(leg.length);
+            self.lower_to(top, leg.head, through, start, end, guide)?;
+        }
+        Ok(())
+    }
+
+    /// Relaxes all legs of a node.
+    #[inline(always)]
+    fn relax_node<G: Guide>(
+        &mut self,
+        snapshot: &Snapshot,
+        node: u32,
+        start: u64,
+        end: u64,
+        guide: &G,
+    ) -> Result<(), RowError>
+        requires knows { G.knows guide.now snapshot.now }
+        requires state { (source : ℕ) × IsGuided snapshot.now source (G.target guide.now) self.old.tentative (Q.entries self.old.buckets) }
+        requires key { IsKey snapshot.now (G.target guide.now) self.old.tentative node start }
+        requires window { start ≤ end }
+        requires fits { (v : ℕ) → start ≤ v → v ≤ end → Q.accepts self.old.buckets v }
+        ensures goes_on { OnOk result (GoesOn snapshot.now (G.target guide.now) start self.old.tentative (Q.entries self.old.buckets) self.new.tentative (Q.entries self.new.buckets)) }
+        ensures done { OnOk result ((part : Part) → IsDone snapshot.now part self.new.tentative (Q.entries self.new.buckets) node) }
+        ensures accepts { OnOk result ((v : ℕ) → Q.accepts self.old.buckets v → Q.accepts self.new.buckets v) }
+        ensures width { OnOk result (Q.width self.new.buckets ≡ Q.width self.old.buckets) }
+        ensures span { OnOk result (Q.span self.new.buckets ≡ Q.span self.old.buckets) }
+    {
+        self.relax_part(snapshot, node, Part::Light, start, end, guide)?;
+        self.relax_part(snapshot, node, Part::Heavy, start, end, guide)?;
+        Ok(())
+    }
+
+    /// Relaxes all legs of nodes that were taken from a bucket, whose start is given.
+    #[inline(always)]
+    fn relax_all<G: Guide>(
+        &mut self,
+        snapshot: &Snapshot,
+        nodes: &[u32],
+        start: u64,
+        end: u64,
+        guide: &G,
+    ) -> Result<(), RowError>
+        requires knows { G.knows guide.now snapshot.now }
+        requires state { (source : ℕ) × IsGuided snapshot.now source (G.target guide.now) self.old.tentative (Q.entries self.old.buckets) }
+        requires keys { (u : ℕ) → Contains nodes.now u → IsKey snapshot.now (G.target guide.now) self.old.tentative u start }
+        requires window { start ≤ end }
+        requires fits { (v : ℕ) → start ≤ v → v ≤ end → Q.accepts self.old.buckets v }
+        ensures goes_on { OnOk result (GoesOn snapshot.now (G.target guide.now) start self.old.tentative (Q.entries self.old.buckets) self.new.tentative (Q.entries self.new.buckets)) }
+        ensures done { OnOk result ((part : Part) (u : ℕ) → Contains nodes.now u → IsDone snapshot.now part self.new.tentative (Q.entries self.new.buckets) u) }
+        ensures width { OnOk result (Q.width self.new.buckets ≡ Q.width self.old.buckets) }
+        ensures span { OnOk result (Q.span self.new.buckets ≡ Q.span self.old.buckets) }
+    {
+        for &node in nodes {
+            self.relax_node(snapshot, node, start, end, guide)?;
+        }
+        Ok(())
+    }
+
+    /// Whether a node has a value, and that is at most the given one.
+    #[inline(always)]
+    fn is_at_most(&self, node: u32, most: u64) -> bool
+        requires node { (1 ≤ node) × (node < length self.now.tentative) }
+        ensures { MatchOption (value_at self.now.tentative node) (result ≡ false) (λ value. IsTrue result ↔ (value ≤ most)) }
+    {
+        match self.tentative.get(node) {
+            Some(value) => value <= most,
+            None => false,
+        }
+    }
+
+    /// Settles bucket after bucket of keys until the guide's target has its least value: until that is at most the start of the least bucket,
+    /// or no node is queued any more.
+    fn settle_guided<G: Guide>(
+        &mut self,
+        alloc: Global,
+        snapshot: &Snapshot,
+        target: u32,
+        guide: &G,
+    ) -> Result<(), RowError>
+        requires target { (1 ≤ target) × (target ≤ snapshot.now.nodes) }
+        requires leads { G.target guide.now ≡ target }
+        requires knows { G.knows guide.now snapshot.now }
+        requires state { (source : ℕ) × IsGuided snapshot.now source (G.target guide.now) self.old.tentative (Q.entries self.old.buckets) }
+        requires done { (part : Part) (u : ℕ) → IsDone snapshot.now part self.old.tentative (Q.entries self.old.buckets) u }
+        requires suited { IsSuited snapshot.now (Q.width self.old.buckets) (Q.span self.old.buckets) }
+        ensures places { OnOk result (length self.new.tentative ≡ snapshot.now.nodes + 1) }
+        ensures reached { OnOk result ((source : ℕ) → IsGuided snapshot.now source (G.target guide.now) self.old.tentative (Q.entries self.old.buckets) → AreReached snapshot.now source self.new.tentative) }
+        ensures best { OnOk result (IsBest snapshot.now self.new.tentative (G.target guide.now)) }
+    {
+        let delta = u64::from(snapshot.delta());
+        let window = self.buckets.window();
+        let mut taken = Vec::new(alloc);
+        'buckets: while let Some(bucket) = self.buckets.take_least_into(&mut taken)? {
+            let start = bucket * delta;
+            if self.is_at_most(target, start) {
+                return Ok(());
+            }
+            let end = end_of(bucket, window, delta);
+            self.relax_all(snapshot, &taken, start, end, guide)?;
+        }
+        Ok(())
+    }
+}
+
+/// The distance from `source` to `target` with the given guide, values of no node and queue, and the values and the queue as the search leaves them.
+#[inline(always)]
+fn guided_by<Q: BucketQueue + Drop, G: Guide>(
+    alloc: Global,
+    snapshot: &Snapshot,
+    source: u32,
+    target: u32,
+    guide: &G,
+    values: Tentative,
+    buckets: Q,
+) -> Result<(Option<u64>, Tentative, Q), RowError>
+    requires blank { values ≡ replicate (snapshot.now.nodes + 1) None }
+    requires source { (1 ≤ source) × (source ≤ snapshot.now.nodes) }
+    requires target { (1 ≤ target) × (target ≤ snapshot.now.nodes) }
+    requires leads { G.target guide.now ≡ target }
+    requires knows { G.knows guide.now snapshot.now }
+    requires suits { Suits snapshot.now (Q.entries buckets) (Q.accepts buckets) (Q.width buckets) (Q.span buckets) }
+    ensures distance { IfOk result (λ found. (net : Net) → IsSnapshotOf net snapshot.now → MatchOption found.0 (NoWalk net source target) (Least net source target)) }
+{
+    let mut search = Search::begin(snapshot, source, values, buckets)?;
+    search.settle_guided(alloc, snapshot, target, guide)?;
+    let Search { tentative, buckets } = search;
+    Ok((tentative.get(target), tentative, buckets))
+}
+
+/// The distance from `source` to `target`, as `distance_to` gives it, by a search that the guide leads to the target: nodes are settled in
+/// the order of their values with the guide's bounds. Its one error is want of memory.
+///
+/// Led by bounds that are 0 it settles what that search does. Of the network of `examples/six.gr`, from 1 to 4 it gives 12 by any guide, and
+/// from 6 to 1 nothing.
+pub fn distance_guided<G: Guide>(
+    alloc: Global,
+    snapshot: &Snapshot,
+    source: u32,
+    target: u32,
+    guide: &G,
+) -> Result<Option<u64>, RowError>
+    requires source { (1 ≤ source) × (source ≤ snapshot.now.nodes) }
+    requires target { (1 ≤ target) × (target ≤ snapshot.now.nodes) }
+    requires leads { G.target guide.now ≡ target }
+    requires knows { G.knows guide.now snapshot.now }
+    ensures distance { IfOk result (λ distance. (net : Net) → IsSnapshotOf net snapshot.now → MatchOption distance (NoWalk net source target) (Least net source target)) }
+{
+    distance_guided_in(
+        alloc,
+        snapshot,
+        source,
+        target,
+        guide,
+        &mut Workspace::new(),
+    )
+}
+
+/// The same distance, whatever the workspace holds, which the search uses as `distance_to_in` does.
+pub fn distance_guided_in<G: Guide>(
+    alloc: Global,
+    snapshot: &Snapshot,
+    source: u32,
+    target: u32,
+    guide: &G,
+    workspace: &mut Workspace,
+) -> Result<Option<u64>, RowError>
+    requires source { (1 ≤ source) × (source ≤ snapshot.now.nodes) }
+    requires target { (1 ≤ target) × (target ≤ snapshot.now.nodes) }
+    requires leads { G.target guide.now ≡ target }
+    requires knows { G.knows guide.now snapshot.now }
+    ensures distance { IfOk result (λ distance. (net : Net) → IsSnapshotOf net snapshot.now → MatchOption distance (NoWalk net source target) (Least net source target)) }
+{
+    let values = workspace.take_values(alloc, snapshot.nodes())?;
+    let Some(size) = ring_size(snapshot) else {
+        let buckets = OrderedBuckets::new(alloc, snapshot.delta());
+        let (distance, values, _buckets) = guided_by(
+            alloc, snapshot, source, target, guide, values, buckets,
+        )?;
+        workspace.keep_values(values);
+        return Ok(distance);
+    };
+    let ring = workspace.take_ring(alloc, snapshot, size)?;
+    let (distance, values, mut ring) = guided_by(
+        alloc, snapshot, source, target, guide, values, ring,
+    )?;
+    workspace.keep_values(values);
+    if drain(alloc, &mut ring).is_ok() {
+        workspace.keep_ring(ring);
+    }
+    Ok(distance)
+}

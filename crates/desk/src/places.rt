@@ -1,0 +1,182 @@
+ghost use Rattle.std.specs.Prelude.{◌≡◌, ◌⊎◌, OnErr, IfOk, IfErr};
+ghost use mathlib.Core.List.{IsPrefix};
+ghost use Rattle.roadnet.specs.Net.{IsNetwork, IsNode};
+ghost use Rattle.roadnet.specs.Walks.{RowOf};
+ghost use Rattle.rows.specs.declared.queries.Query.TheVariants.{From, Lower};
+ghost use Rattle.rows.specs.Replies.{are_nodes, IsRight};
+ghost use Rattle.published.specs.Showing.{IsUnseen};
+ghost use Rattle.desk.specs.Readings.{IsViewAfter};
+
+use deltastep::{Distances, RowError, Workspace, row_in};
+use history::Front;
+use office::Naming;
+use published::Shown;
+use relax::{CHUNK, Crew};
+use roadnet::{OutOfMemory, Refusal};
+use rows::{Reply, RowCache, View};
+use std::alloc::Global;
+use std::marker::{Model, PhantomData};
+use std::sync::Arc;
+use std::thread::Threads;
+
+/// A place among the readers of a desk, for who looks now and then: between two looks it holds no view back, and keeps no row. Contracts see it as
+/// the beginning of the desk's history that it has seen or was told of. It takes no lock and waits for nobody.
+#[derive(Drop)]
+pub struct Place<N: Naming> {
+    alloc: Global,
+    reader: published::Reader,
+    of: PhantomData<N>,
+}
+
+impl<N: Naming> Model for Place<N> {
+    ghost use Rattle.std.specs.Prelude.{◌≡◌};
+    ghost use Rattle.history.specs.Origins.{Beginning};
+
+    ghost Value = { Beginning };
+
+    ghost view = { λ p. p.reader };
+
+    ghost invariant = { λ p. p.reader.origin ≡ N.origin };
+}
+
+impl<N: Naming> Place<N> {
+    /// A place that has seen as much as this reader.
+    pub(crate) fn new(alloc: Global, reader: published::Reader) -> Place<N>
+        requires { reader.origin ≡ N.origin }
+        ensures { result ≡ reader }
+    {
+        Place {
+            alloc,
+            reader,
+            of: PhantomData,
+        }
+    }
+
+    /// The beginning of the desk's history that it has seen or was told of.
+    pub fn known(&self) -> &Front
+        ensures known { result.now ≡ self.now }
+        ensures origin { result.now.origin ≡ N.origin }
+    {
+        self.reader.known()
+    }
+
+    /// Looks at the view that is shown. The groups after which it stands begin with all that was seen and told here, and they are seen then.
+    ///
+    /// Refused is a share of the view for which there is no room (11), and a desk that is closed (61). Then nothing has changed.
+    pub fn look(&mut self) -> Result<Glance<N>, Refusal>
+        ensures seen { IfOk result (λ glance. glance.known ≡ self.new) }
+        ensures begins { IsPrefix self.old.groups self.new.groups }
+        ensures refused { OnErr result (self.new ≡ self.old) }
+        ensures causes { IfErr result IsUnseen }
+    {
+        let view = self.reader.look()?;
+        Ok(Glance {
+            alloc: self.alloc,
+            view,
+            groups: self.reader.known().again(),
+            of: PhantomData,
+        })
+    }
+
+    /// Takes in what was shown: it knows the longer of both lists of groups then, which the other begins.
+    pub fn learn(&mut self, shown: &Shown)
+        requires { shown.now.origin ≡ N.origin }
+        ensures one { (self.new ≡ self.old) ⊎ (self.new ≡ shown.now) }
+        ensures this { IsPrefix self.old.groups self.new.groups }
+        ensures that { IsPrefix shown.now.groups self.new.groups }
+    {
+        self.reader.learn(shown);
+    }
+}
+
+/// What is seen at one moment: the view that is shown, with the groups after which it stands. It holds the view as long as it is there.
+#[derive(Drop)]
+pub struct Glance<N: Naming> {
+    alloc: Global,
+    view: Arc<View>,
+    groups: Front,
+    of: PhantomData<N>,
+}
+
+impl<N: Naming> Model for Glance<N> {
+    ghost use Rattle.std.specs.Prelude.{◌≡◌};
+    ghost use Rattle.desk.specs.Readings.{Reading, IsViewAfter};
+
+    ghost Value = { Reading };
+
+    ghost view = { λ g. record { known = g.groups; view = g.view.value } };
+
+    ghost invariant = { λ g. (g.groups.origin ≡ N.origin) × IsViewAfter N.origin g.groups.groups g.view.value };
+}
+
+impl<N: Naming> Glance<N> {
+    /// The groups after which the view stands.
+    pub(crate) fn groups(&self) -> &Front
+        ensures known { result.now ≡ self.now.known }
+        ensures origin { result.now.origin ≡ N.origin }
+        ensures view { IsViewAfter N.origin result.now.groups self.now.view }
+    {
+        &self.groups
+    }
+
+    /// The version of the view. It takes no memory.
+    pub fn version(&self) -> u64
+        ensures version { result ≡ self.now.view.version }
+        ensures view { IsViewAfter N.origin self.now.known.groups self.now.view }
+    {
+        self.view.version()
+    }
+
+    /// The width of the buckets of its searches. It takes no memory.
+    pub fn width(&self) -> u32
+        ensures { result ≡ self.now.view.delta }
+    {
+        self.view.width()
+    }
+
+    /// The reply to `From`, by the landmark's row. It takes no memory.
+    pub fn from_landmark(&self, landmark: u64, target: u64) -> Reply
+        ensures { IsRight self.now.view.network (From landmark target) result }
+    {
+        let mut none = RowCache::new(self.alloc, 1);
+        let pinned = self.view.pinned(&mut none);
+        pinned.from_landmark(landmark, target)
+    }
+
+    /// The reply to `Lower`, by the rows of all landmarks. It takes no memory.
+    pub fn lower(&self, source: u64, target: u64) -> Reply
+        ensures { IsRight self.now.view.network (Lower source target) result }
+    {
+        let mut none = RowCache::new(self.alloc, 1);
+        let pinned = self.view.pinned(&mut none);
+        pinned.lower(source, target)
+    }
+
+    /// Whether both are nodes of the view's network.
+    pub(crate) fn are_nodes(&self, source: u64, target: u64) -> bool
+        ensures nodes { result ≡ are_nodes self.now.view.network source target }
+        ensures network { IsNetwork self.now.view.network }
+    {
+        let network = self.view.network();
+        network.has_node(source) && network.has_node(target)
+    }
+
+    /// A new row of the view, of 8 bytes a node. The search takes up what an earlier one left in the workspace, and leaves its own memory there. The one
+    /// error is want of memory.
+    pub(crate) fn row<R: Threads>(
+        &self,
+        rt: &R,
+        alloc: Global,
+        source: u32,
+        workspace: &mut Workspace,
+    ) -> Result<Distances, OutOfMemory>
+        requires { IsNode self.now.view.network source }
+        ensures { IfOk result (RowOf self.now.view.network source) }
+    {
+        let crew = Crew::new(rt, CHUNK);
+        match row_in(alloc, self.view.snapshot(), source, &crew, workspace) {
+            Ok(distances) => Ok(distances),
+            Err(RowError::OutOfMemory) => Err(OutOfMemory),
+        }
+    }
+}

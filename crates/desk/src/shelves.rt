@@ -1,0 +1,177 @@
+// The rows that are kept for all who ask a desk.
+ghost use Rattle.std.specs.Prelude.{◌≡◌, ◌<◌, ℕ, [], length, true, None, IfOk, IfSome};
+ghost use Rattle.roadnet.specs.Net.{Net, IsNode};
+ghost use Rattle.roadnet.specs.Walks.{RowOf};
+ghost use Rattle.rows.specs.Replies.{IsDistance};
+ghost use Rattle.desk.specs.Readings.{IsViewAfter};
+ghost use Rattle.desk.specs.Shelves.{most_rows, is_latest, IsOfShelf, IsAfter, IsRowAt, HasRow};
+
+use crate::places::Glance;
+use deltastep::{Distances, Workspace};
+use history::Front;
+use office::Naming;
+use roadnet::OutOfMemory;
+use rows::Reply;
+use std::alloc::Global;
+use std::marker::{Model, PhantomData};
+
+/// How many rows are kept.
+const MOST_ROWS: usize = 64;
+
+/// How many searches' workspaces are kept.
+const MOST_WORKSPACES: usize = 4;
+
+/// A row with its source.
+#[derive(Drop)]
+pub(crate) struct KeptRow {
+    source: u32,
+    distances: Distances,
+}
+
+/// What a row tells of the walks from its source to a node.
+pub(crate) fn reply_in(row: &Distances, target: u64) -> Reply
+    ensures { (net : Net) (source : ℕ) → IsNode net target → RowOf net source row.now → IsDistance net source target result }
+{
+    match row.get(target) {
+        Some(length) => Reply::Length(length),
+        None => Reply::NoWalk,
+    }
+}
+
+/// Where the row of this source stands, if it is among these.
+fn place_of(rows: &[KeptRow], source: u32) -> Option<usize>
+    ensures { IfSome result (λ place. IsRowAt source rows.now place) }
+{
+    for place in 0..rows.len() {
+        if rows[place].source == source {
+            return Some(place);
+        }
+    }
+    None
+}
+
+/// Rows that queries made, all of one view: up to 64, of 8 bytes a node, for all who ask. Where it is full, the row that was not used for the
+/// longest time gives way. It has rows of the latest view alone that somebody asked. Beside them it keeps what up to four searches left.
+///
+/// Contracts see it as the groups after which the view of the rows stands, and the rows.
+#[derive(Drop)]
+pub(crate) struct Shelf<N: Naming> {
+    /// The groups after which the view of the rows stands.
+    groups: Option<Front>,
+    /// The one that was used last stands last.
+    rows: Vec<KeptRow>,
+    workspaces: Vec<Workspace>,
+    of: PhantomData<N>,
+}
+
+impl<N: Naming> Model for Shelf<N> {
+    ghost use Rattle.std.specs.Prelude.{◌≤◌};
+    ghost use Rattle.std.specs.Vec.{vec_capacity, vec_len};
+    ghost use Rattle.desk.specs.Shelves.{most_rows, IsShelfOf, Shelved};
+
+    ghost Value = { Shelved };
+
+    ghost view = { λ s. record { groups = s.groups; rows = s.rows.items } };
+
+    ghost invariant = { λ s. IsShelfOf N.origin s.groups s.rows.items × (most_rows ≤ vec_capacity s.rows) × (vec_len s.rows ≤ most_rows) };
+}
+
+impl<N: Naming> Shelf<N> {
+    /// No row is kept yet. The one error is want of memory, of which it takes some kilobytes.
+    pub(crate) fn new(alloc: Global) -> Result<Shelf<N>, OutOfMemory>
+        ensures { IfOk result (λ shelf. (shelf.groups ≡ None) × (shelf.rows ≡ [])) }
+    {
+        let (Ok(rows), Ok(workspaces)) = (
+            Vec::with_capacity(alloc, MOST_ROWS),
+            Vec::with_capacity(alloc, MOST_WORKSPACES),
+        ) else {
+            return Err(OutOfMemory);
+        };
+        Ok(Shelf {
+            groups: None,
+            rows,
+            workspaces,
+            of: PhantomData,
+        })
+    }
+
+    /// Makes it a shelf of this view, unless it has rows of a later one, and tells whether it is. Rows of an earlier view are dropped.
+    fn turn_to(&mut self, glance: &Glance<N>) -> bool
+        ensures latest { result ≡ is_latest self.old.groups glance.now.known.groups }
+        ensures after { result ≡ true → IsAfter self.new.groups glance.now.known.groups }
+        ensures view { IsViewAfter N.origin glance.now.known.groups glance.now.view }
+    {
+        let groups = glance.groups();
+        if let Some(front) = &self.groups {
+            if groups.begins(front) {
+                return front.len() == groups.len();
+            }
+        }
+        self.rows.clear();
+        self.groups = Some(groups.again());
+        true
+    }
+
+    /// What the kept row of this source tells of the walks to a node, if it is kept: it then counts as the one that was used last.
+    pub(crate) fn find(&mut self, glance: &Glance<N>, source: u32, target: u64) -> Option<Reply>
+        ensures { IfSome result (λ reply. IsNode glance.now.view.network target → IsDistance glance.now.view.network source target reply) }
+    {
+        if !self.turn_to(glance) {
+            return None;
+        }
+        let place = place_of(&self.rows, source)?;
+        let kept = self.rows.remove(place);
+        let reply = reply_in(&kept.distances, target);
+        self.rows.push_reserved(kept);
+        Some(reply)
+    }
+
+    /// Has a place for one more row: where it is full, the first one gives way.
+    fn make_room(&mut self)
+        ensures groups { self.new.groups ≡ self.old.groups }
+        ensures few { length self.new.rows < most_rows }
+    {
+        if self.rows.len() < MOST_ROWS {
+            return;
+        }
+        let _unused = self.rows.remove(0);
+    }
+
+    /// Puts a row of the shelf's view last.
+    fn put(&mut self, kept: KeptRow)
+        requires { IsOfShelf N.origin self.old.groups kept }
+        ensures { HasRow kept.source self.new.rows }
+    {
+        self.make_room();
+        self.rows.push_reserved(kept);
+    }
+
+    /// Keeps a row of this view, unless it has rows of a later one, or a row of the source already.
+    pub(crate) fn keep(&mut self, glance: &Glance<N>, source: u32, distances: Distances)
+        requires { RowOf glance.now.view.network source distances }
+        ensures { is_latest self.old.groups glance.now.known.groups ≡ true → HasRow source self.new.rows }
+    {
+        if !self.turn_to(glance) {
+            return;
+        }
+        match place_of(&self.rows, source) {
+            Some(_) => (),
+            None => self.put(KeptRow { source, distances }),
+        }
+    }
+
+    /// What a search left, if one did.
+    pub(crate) fn workspace(&mut self) -> Workspace {
+        match self.workspaces.pop() {
+            Some(workspace) => workspace,
+            None => Workspace::new(),
+        }
+    }
+
+    /// Keeps what a search left, where four searches left no more.
+    pub(crate) fn leave(&mut self, workspace: Workspace) {
+        if self.workspaces.len() < MOST_WORKSPACES {
+            let _ = self.workspaces.push(workspace);
+        }
+    }
+}

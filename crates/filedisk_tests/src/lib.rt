@@ -1,0 +1,15 @@
+//! Tests of disks in files by their public calls.
+#![tactic(auto)]
+
+#[cfg(test)]
+mod fakes;
+#[cfg(test)]
+mod memory_files;
+#[cfg(test)]
+mod opening;
+#[cfg(test)]
+mod paths;
+#[cfg(test)]
+mod real_files;
+#[cfg(test)]
+mod syncing;

@@ -1,0 +1,34 @@
+-- The potential of landmarks: what their rows tell of the ways from each node to a target.
+use Rattle.std.specs.Prelude.{◌≡◌, ℕ, List, Option, max, fold, map, unwrap_or, All}
+use Rattle.roadnet.specs.Net.{Net, IsNode}
+use Rattle.roadnet.specs.Walks.{RowOf}
+use Rattle.snapshot.specs.Groups.{Groups, IsSnapshotOf, IsGrouped}
+use Rattle.deltastep.specs.Guided.{IsConsistent}
+use Rattle.rows.specs.Bounds.{told_by}
+use Rattle.rows.specs.declared.landmark_rows.Row.{Row}
+
+-- by how much the landmark's way to the target is longer than its way to u, or 0 where it is not, or where it leads to one of them alone
+abbrev pub potential_by : List (Option ℕ) → ℕ → ℕ → ℕ
+potential_by row target u = unwrap_or (told_by row u target) 0
+
+-- the greatest of these, or 0 where there is no row
+abbrev pub potential_of : List Row → ℕ → ℕ → ℕ
+potential_of rows target u = fold max 0 (map (λ row. potential_by row.distances target u) rows)
+
+-- each is the row of its landmark
+abbrev pub AreRowsOf : Net → List Row → Type 0
+AreRowsOf net rows = All (λ row. RowOf net row.landmark row.distances) rows
+
+-- these rows are of a network of which the snapshot is one, and the target is a node of it
+pub record AreOfSnapshot (rows : List Row) (target : ℕ) (groups : Groups) : Type 0 where
+  pub network : Net
+  pub snapshot : IsSnapshotOf network groups
+  pub each : AreRowsOf network rows
+  pub node : IsNode network target
+
+-- The potential of landmarks is consistent, and 0 at the target.
+abbrev pub PotentialIsConsistent : Type 0
+PotentialIsConsistent = (rows : List Row) (target : ℕ) (groups : Groups) → AreOfSnapshot rows target groups → IsGrouped groups → IsConsistent groups (potential_of rows target)
+
+abbrev pub PotentialAtTarget : Type 0
+PotentialAtTarget = (rows : List Row) (target : ℕ) → potential_of rows target target ≡ 0

@@ -1,0 +1,149 @@
+//! Rows repaired after changes, beside plain ones.
+
+use crate::searching::agree;
+use crate::worked::plain_of;
+use deltastep::{Workspace, back_of, changed_nodes, row, row_after, row_after_near};
+use fixtures::{Draws, arc, network};
+use relax::Solo;
+use roadnet::{Command, Network, Refusal};
+use snapshot::Snapshot;
+use std::alloc::{AllocError, Global};
+
+/// So many nodes has a network whose rows are repaired: an eighth of them may lose their distance before a row is made anew.
+const NODES: u32 = 240;
+
+/// Whether the row of a node in a network after changes, made out of its row before them, is the plain one: by a pass over all legs, and by way of
+/// the arcs that lead to what was lost.
+fn is_repaired(
+    alloc: Global,
+    before: &Network,
+    after: &Network,
+    source: u32,
+    delta: u32,
+    workspace: &mut Workspace,
+) -> Result<bool, Refusal> {
+    if delta == 0 || delta > 2147483647 {
+        return Err(Refusal::NumberRange);
+    }
+    let older = Snapshot::build(alloc, before, delta)?;
+    let newer = Snapshot::build(alloc, after, delta)?;
+    if older.nodes() != newer.nodes() || !newer.has_node(source) {
+        return Err(Refusal::NoSuchNode);
+    }
+    let Ok(old) = row(alloc, &older, source, &Solo) else {
+        return Err(Refusal::OutOfMemory);
+    };
+    let Ok(changed) = changed_nodes(alloc, &older, &newer) else {
+        return Err(Refusal::OutOfMemory);
+    };
+    let Ok(back) = back_of(alloc, after) else {
+        return Err(Refusal::OutOfMemory);
+    };
+    let Ok(passed) = row_after(alloc, &newer, source, &older, &old, &changed, &Solo) else {
+        return Err(Refusal::OutOfMemory);
+    };
+    let Ok(near) = row_after_near(
+        alloc, &newer, source, &older, &old, &changed, &back, &Solo, workspace,
+    ) else {
+        return Err(Refusal::OutOfMemory);
+    };
+    let plain = plain_of(alloc, after, source)?;
+    Ok(agree(&passed, &plain, NODES) && agree(&near, &plain, NODES))
+}
+
+/// Nodes in a row, each with an arc to the next one, and as many arcs that are drawn: of lengths 0 to 9, some of them closed, parallel or loops. No
+/// walk leads to node 1. There is room for more arcs.
+fn long_drawn(alloc: Global, draws: &mut Draws) -> Result<Network, Refusal> {
+    let mut arcs = Vec::new(alloc);
+    for node in 2..NODES {
+        arcs.push(arc(node, node + 1, draws.up_to(9)))
+            .map_err(AllocError::from)?;
+        let mut drawn = arc(draws.up_to(NODES), draws.up_to(NODES - 1) + 1, 0);
+        drawn.length = draws.up_to(10) - 1;
+        drawn.opened = draws.up_to(5) > 1;
+        arcs.push(drawn).map_err(AllocError::from)?;
+    }
+    let network = Network::new(alloc, NODES, arcs, &[])?;
+    match network.with_room(600) {
+        Ok(network) => Ok(network),
+        Err((refusal, _)) => Err(refusal),
+    }
+}
+
+/// A change that is drawn: an arc of so many gets another length, now and then the greatest, or is closed, or open again; or a new one is laid.
+fn change(draws: &mut Draws, arcs: u64) -> Command {
+    let arc = draws.draw() % arcs.max(1) + 1;
+    let length = draws.draw() % 10;
+    match draws.up_to(6) {
+        1 | 2 => Command::Set { arc, length },
+        3 => Command::Set {
+            arc,
+            length: 2147483647,
+        },
+        4 => Command::Close { arc },
+        5 => Command::Reopen { arc },
+        _ => Command::Lay {
+            tail: u64::from(draws.up_to(NODES)),
+            head: u64::from(draws.up_to(NODES)),
+            length,
+        },
+    }
+}
+
+/// Carries out so many changes that are drawn, but for those that are refused.
+fn change_some(network: &mut Network, draws: &mut Draws, count: u64) -> Result<(), Refusal> {
+    for _ in 0..count {
+        let command = change(draws, network.arcs().len() as u64);
+        if network.admit(&command).is_ok() {
+            network.apply(command)?;
+        }
+    }
+    Ok(())
+}
+
+/// Whether the rows of three nodes stay plain after some changes of a drawn network and some more.
+fn stay_plain(alloc: Global, seed: u64) -> Result<bool, Refusal> {
+    let mut draws = Draws::new(seed);
+    let mut workspace = Workspace::new();
+    let mut network = long_drawn(alloc, &mut draws)?;
+    let mut same = true;
+    for (count, source, delta) in [(1, 2, 1), (2, 2, 4), (5, 120, 4), (40, 1, 2147483647)] {
+        let before = network.copy()?;
+        change_some(&mut network, &mut draws, count)?;
+        same = same && is_repaired(alloc, &before, &network, source, delta, &mut workspace)?;
+    }
+    Ok(same)
+}
+
+#[test]
+fn repaired_rows_are_plain(rt: HostRuntime) -> Result<(), Refusal> {
+    for seed in 0..24 {
+        assert!(rt; stay_plain(rt.alloc(), seed)?, "{seed}");
+    }
+    Ok(())
+}
+
+/// Three nodes in a round of zeros, to which arc 1 leads, lose their walk when it is closed, and get another one by an arc that is laid.
+#[test]
+fn a_round_of_zeros_keeps_nothing(rt: HostRuntime) -> Result<(), Refusal> {
+    let alloc = rt.alloc();
+    let table = [(1, 2, 5), (2, 3, 0), (3, 4, 0), (4, 2, 0), (1, 5, 9)];
+    let mut workspace = Workspace::new();
+    let Ok(mut now) = network(alloc, NODES, &table, &[])?.with_room(6) else {
+        return Err(Refusal::NoRoom);
+    };
+    let lay = Command::Lay {
+        tail: 5,
+        head: 3,
+        length: 1,
+    };
+    for command in [Command::Close { arc: 1 }, lay, Command::Reopen { arc: 1 }] {
+        let before = now.copy()?;
+        now.apply(command)?;
+        assert!(rt;
+            is_repaired(alloc, &before, &now, 1, 4, &mut workspace)?,
+            "{command:?}"
+        );
+    }
+    Ok(())
+}

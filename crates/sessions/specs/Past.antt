@@ -1,0 +1,16 @@
+-- What is left of sessions that have ended.
+use Rattle.std.specs.Prelude.{List, All, Option}
+use mathlib.Core.List.{IsPrefix}
+use Rattle.machine.specs.declared.calls.Ticket.{Ticket}
+use Rattle.history.specs.Origins.{Origin, Beginning}
+use Rattle.sessions.specs.Told.{HaveReceipts, known_to}
+use Rattle.sessions.specs.Turns.{Standing}
+
+-- the one has the receipts and the groups that the other has
+abbrev pub HoldsMore : Origin → Option Beginning → Option Beginning → Type 0
+HoldsMore origin less more =
+    ((tickets : List Ticket) → HaveReceipts origin less tickets → HaveReceipts origin more tickets) × IsPrefix (known_to less) (known_to more)
+
+-- each of these sessions told to be durable what has a receipt here, and has seen no group that isn't here
+abbrev pub AreLeft : Origin → Option Beginning → Option Beginning → List Standing → Type 0
+AreLeft origin receipts seen sessions = All (λ last. HaveReceipts origin receipts last.durable × IsPrefix last.known (known_to seen)) sessions

@@ -1,0 +1,33 @@
+use disk::{Disk, MemDisk};
+use roadnet::Refusal;
+use std::alloc::Global;
+
+/// Puts bytes into a file, where it has these places.
+pub fn put(file: &mut [u8], at: usize, bytes: &[u8]) {
+    for (i, &byte) in bytes.iter().enumerate() {
+        if let Some(place) = file.get_mut(at.wrapping_add(i)) {
+            *place = byte;
+        }
+    }
+}
+
+/// A disk with these bytes, all of them synced.
+pub fn with_bytes(alloc: Global, bytes: &[u8]) -> Result<MemDisk, Refusal> {
+    let mut disk = MemDisk::new(alloc);
+    let (Ok(()), Ok(())) = (disk.write_at(0, bytes), disk.sync()) else {
+        return Err(Refusal::Device);
+    };
+    Ok(disk)
+}
+
+/// Whether the disk has just these bytes.
+pub fn has_bytes(alloc: Global, disk: &mut MemDisk, bytes: &[u8]) -> Result<bool, Refusal> {
+    let Ok(length) = disk.len() else {
+        return Err(Refusal::Device);
+    };
+    let mut found = vec![in alloc; 0; length as usize]?;
+    let Ok(()) = disk.read(0, &mut found) else {
+        return Err(Refusal::Device);
+    };
+    Ok(found.as_slice() == bytes)
+}

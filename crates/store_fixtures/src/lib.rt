@@ -4,10 +4,10 @@
 
 mod bytes;
 mod fixed_disk;
-mod pages;
+mod page_rows;
 mod stores;
 
 pub use bytes::{has_bytes, put, with_bytes};
 pub use fixed_disk::FixedDisk;
-pub use pages::{PageRow, first_other_page};
+pub use page_rows::{PageRow, first_other_page};
 pub use stores::{created, opened, roomy_disk, six_disk, six_in_room};

@@ -1,0 +1,72 @@
+-- What the program says of failures.
+use Rattle.std.specs.Prelude.{◌≡◌, ◌⊎◌, ◌+◌, ℕ, Bool, true, false, List, Some, slice_get, ◌==◌, if◌then◌else◌, Result, MatchResult, ⊤}
+use lib.Chars.{codes}
+use Rattle.roadnet.specs.declared.refusals.Refusal.{Refusal}
+use Rattle.roadnet.specs.declared.refusals.Refusal.TheVariants.{Device, OutOfMemory, Write}
+use Rattle.store.specs.Opening.{MayRefuseToOpen, StandsForSome}
+use Rattle.dimacs.specs.declared.fault.Code.TheVariants.{Read}
+use Rattle.printing.specs.declared.failed.Failed.{Failed}
+use Rattle.printing.specs.declared.failed.Failed.TheVariants.{Text, Code}
+use Rattle.program.specs.declared.pipes.PipePair.{PipePair}
+use Rattle.program.specs.Pipes.{named, AreTold}
+use Rattle.program.specs.declared.words.Job.{Job}
+use Rattle.program.specs.declared.words.Job.TheVariants.{Joint, Once, Batch, Rehearse, Create, Apply, Ask, Check, Serve, Migrate}
+
+-- the failure is one of the call's first text
+abbrev pub is_of_first : Failed → Bool
+is_of_first (Text which fault) = which == 0
+is_of_first (Code refusal) = false
+
+-- the failure is one of the call's second text
+abbrev pub is_of_second : Failed → Bool
+is_of_second (Text which fault) = which == 1
+is_of_second (Code refusal) = false
+
+-- the name of the pipe of which a failure is, 3 and on, or that of the store
+abbrev pub pipe_name : List ℕ → List PipePair → Failed → List ℕ
+pipe_name store pairs (Text which fault) = named store pairs which
+pipe_name store pairs (Code refusal) = store
+
+-- by what name a fault line calls the text of a failure
+abbrev pub text_name : Job → Failed → List ℕ
+text_name (Joint delta) failed = if is_of_first failed then codes "net" else codes "script"
+text_name (Once network source target delta) failed = network.now
+text_name (Batch network pairs delta) failed = if is_of_first failed then network.now else pairs.now
+text_name (Rehearse network script journal_pages room delta) failed = if is_of_first failed then network.now else script.now
+text_name (Create store network landmarks journal_pages room) failed =
+    if is_of_first failed then network.now else if is_of_second failed then landmarks.now else store.now
+text_name (Apply store commands delta) failed = if is_of_first failed then commands.now else store.now
+text_name (Ask store pairs delta) failed = if is_of_first failed then pairs.now else store.now
+text_name (Check store) failed = store.now
+text_name (Serve store pipes delta workers) failed = pipe_name store.now pipes.items failed
+text_name (Migrate old new room) failed = if is_of_first failed then old.now else new.now
+
+-- what is told of a file that can't be opened
+abbrev pub unopened : ℕ → Failed
+unopened which = Text which (record { line = 0; code = Read })
+
+-- the failure is that of the first name which was told to be none of a pipe
+abbrev pub IsOfNoPipe : (List ℕ → Bool → Type 0) → List (List ℕ) → Failed → Type 0
+IsOfNoPipe Tells names failed =
+    (place : ℕ) × ((name : List ℕ) × (slice_get names place ≡ Some name) × Tells name false × AreTold Tells names place × (failed ≡ unopened (place + 3)))
+
+-- a text's file is not read: it can't be opened, or memory ran out
+abbrev pub IsUnopened : ℕ → Failed → Type 0
+IsUnopened which failed = (failed ≡ unopened which) ⊎ (failed ≡ Code OutOfMemory)
+
+-- the second text's file is not read, or the first text has a fault
+abbrev pub IsFaultOrUnopened : Failed → Type 0
+IsFaultOrUnopened failed = (is_of_first failed ≡ true) ⊎ IsUnopened 1 failed
+
+-- what is told of a store in this file, and of a text that is not read: that failure where the store opens, else a refusal of the store
+abbrev pub IsToldAfterOpening : List ℕ → Failed → Failed → Type 0
+IsToldAfterOpening file failed told =
+    (StandsForSome file × (told ≡ failed)) ⊎ ((refusal : Refusal) × (told ≡ Code refusal) × MayRefuseToOpen file refusal)
+
+-- there is no file for a new store: it can't be opened, its name can't be made durable, or memory ran out
+abbrev pub IsFileUnmade : Failed → Type 0
+IsFileUnmade failed = (failed ≡ unopened 2) ⊎ ((failed ≡ Code Device) ⊎ (failed ≡ Code OutOfMemory))
+
+-- the new store is there, whether or not this could be told
+abbrev pub IsStoreMade : {T : Type 0} → Result T Failed → Type 0
+IsStoreMade outcome = MatchResult outcome (λ _. ⊤) (λ failed. failed ≡ Code Write)

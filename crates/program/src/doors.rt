@@ -1,0 +1,250 @@
+//! The doors of a server: pairs of named pipes, by each of which clients come one after the other.
+ghost use Rattle.std.specs.Prelude.{◌≡◌, ◌≤◌, ℕ, Bool, List, length, vec_len, IfOk, IfErr, OnOk, ⊤};
+ghost use Rattle.program.specs.Failures.{IsOfNoPipe};
+ghost use Rattle.program.specs.Pipes.{names_of, AreTold};
+
+use crate::files::{FIRST_PIPE, unopened};
+use crate::pipes::{PipePair, pipe_at};
+use printing::Failed;
+use roadnet::Refusal;
+use sessions::Door;
+use std::alloc::{AllocError, Global};
+use std::fs::{self, File, OpenOptions};
+use std::io::{self, BufReader, BufWriter, ErrorKind, Write};
+use std::os::unix::fs::FileTypeExt;
+use std::rt::Files;
+use std::sync::{Arc, Mutex, Wait};
+use std::time::{Clock, Duration};
+use std::{fmt, thread};
+
+/// The bytes of a client that are read or written at once.
+const BUFFER: usize = 1 << 13;
+
+/// For how many milliseconds a door is let be that finds no memory for a client.
+const REST: u64 = 100;
+
+/// Doors, and whether clients may come in by them: not before each has its thread.
+#[derive(Drop)]
+pub struct Doors<C> {
+    pub doors: Vec<C>,
+    pub are_open: Arc<Mutex<bool>>,
+}
+
+/// The pipe into which a client's answers go. It knows whether the client has closed its end.
+#[derive(Drop)]
+pub struct AnswerPipe {
+    file: File,
+    has_reader: bool,
+}
+
+impl Write for AnswerPipe {
+    fn write(&mut self, buf: &[u8]) -> io::Result<usize> {
+        let answer = self.file.write(buf);
+        if let Err(error) = &answer {
+            if error.kind() == ErrorKind::BrokenPipe {
+                self.has_reader = false;
+            }
+        }
+        answer
+    }
+
+    fn flush(&mut self) -> io::Result<()> {
+        self.file.flush()
+    }
+}
+
+/// The name of a pipe in a line that tells of it: what is no printable text in it is told escaped, as in a fault line.
+#[derive(Clone, Copy)]
+struct ToldPipe<'a> {
+    name: &'a str,
+}
+
+impl fmt::Display for ToldPipe<'_> {
+    fn fmt<W: fmt::Write>(&self, f: &mut fmt::Formatter<W>) -> fmt::Result {
+        for letter in self.name.chars() {
+            match letter {
+                '\\' | '\'' | '"' => write!(f, "{letter}")?,
+                _ => write!(f, "{}", letter.escape_debug())?,
+            }
+        }
+        Ok(())
+    }
+}
+
+/// Tells on standard error why a session by a pipe ended, or why no more come by it: `roadmark: NAME: CODE Name`.
+fn tell<R: Eprint>(rt: &R, name: &str, refusal: Refusal) {
+    let name = ToldPipe { name };
+    let _ = eprintln!(rt; "roadmark: {name}: {refusal}");
+}
+
+/// A pair of named pipes: the client writes its lines into the one and reads its answers from the other.
+#[derive(Drop)]
+pub struct PipeDoor<T> {
+    rt: T,
+    alloc: Global,
+    input: String,
+    output: String,
+    are_open: Arc<Mutex<bool>>,
+}
+
+/// A client that has come.
+type Client = (BufReader<File>, BufWriter<AnswerPipe>);
+
+impl<T: Files<File = File>> PipeDoor<T> {
+    /// Opens the pipe that is read, and then the one that is written. It waits until a client has opened both. Why it could not is told with the pipe of which it is.
+    fn open(&self) -> Result<Client, (&str, io::Error)> {
+        let input = match fs::open(&self.rt, self.input.as_str()) {
+            Ok(input) => input,
+            Err(error) => return Err((self.input.as_str(), error)),
+        };
+        let opened = OpenOptions::new()
+            .write(true)
+            .open(&self.rt, self.output.as_str());
+        let output = match opened {
+            Ok(output) => output,
+            Err(error) => return Err((self.output.as_str(), error)),
+        };
+        let pipe = AnswerPipe {
+            file: output,
+            has_reader: true,
+        };
+        match (
+            BufReader::with_capacity(self.alloc, BUFFER, input),
+            BufWriter::with_capacity(self.alloc, BUFFER, pipe),
+        ) {
+            (Ok(reader), Ok(writer)) => Ok((reader, writer)),
+            (Err(error), _) | (_, Err(error)) => Err((self.input.as_str(), error)),
+        }
+    }
+}
+
+impl<T: Files<File = File> + Eprint + Clock + Wait> Door<BufReader<File>, BufWriter<AnswerPipe>>
+    for PipeDoor<T> {
+    /// The next client. Where a pipe can't be opened any more this is told, and no more come; where memory is wanting the client finds its pipes closed.
+    fn next(&mut self) -> Option<Client> {
+        if !*self.are_open.lock(&self.rt) {
+            return None;
+        }
+        for _ in 0..u64::MAX {
+            match self.open() {
+                Ok(client) => return Some(client),
+                Err((name, error)) if error.kind() == ErrorKind::OutOfMemory => {
+                    tell(&self.rt, name, Refusal::OutOfMemory);
+                    thread::sleep(&self.rt, Duration::from_millis(REST));
+                }
+                Err((name, _)) => {
+                    tell(&self.rt, name, Refusal::Read);
+                    return None;
+                }
+            }
+        }
+        None
+    }
+
+    /// Closes both pipes, the one that is read first: so who sees the other one closed finds no line of this client in it. That a read or a write failed is told, but
+    /// not where the client left before its last answer.
+    fn ended(
+        &mut self,
+        reader: BufReader<File>,
+        writer: BufWriter<AnswerPipe>,
+        outcome: Result<(), Failed>,
+    ) {
+        let has_reader = writer.get_ref().has_reader;
+        drop(reader);
+        drop(writer);
+        match outcome {
+            Err(Failed::Code(Refusal::Write)) if has_reader => {
+                tell(&self.rt, self.output.as_str(), Refusal::Write);
+            }
+            Err(Failed::Code(Refusal::Read)) => {
+                tell(&self.rt, self.input.as_str(), Refusal::Read);
+            }
+            Ok(()) | Err(_) => {}
+        }
+    }
+}
+
+/// What tells whether a name is one of a named pipe.
+pub trait TellsPipes {
+    /// What it may tell of a name.
+    ghost tells: { Self → List ℕ → Bool → Type 0 };
+
+    fn is_pipe(&self, name: &str) -> bool
+        ensures { Self.tells self.now name.now result };
+}
+
+/// The files of a runtime, of whose names it may tell anything.
+#[derive(Clone, Copy)]
+pub struct FileNames<'a, R> {
+    pub rt: &'a R,
+}
+
+impl<R: Files> TellsPipes for FileNames<'_, R> {
+    ghost tells = { λ files name is. ⊤ };
+
+    fn is_pipe(&self, name: &str) -> bool {
+        match fs::metadata(self.rt, name) {
+            Ok(metadata) => metadata.file_type().is_fifo(),
+            Err(_) => false,
+        }
+    }
+}
+
+/// Pairs of which each name was told to be one of a named pipe.
+#[derive(Clone, Copy)]
+pub struct SeenPipes<'a, 'w> {
+    pairs: &'a [PipePair<'w>],
+}
+
+/// Sees to it that each name is that of a named pipe. The first that is not is told as a file that can't be opened (10 of line 0), by its number: 3 for the first
+/// pipe, 4 for the next one.
+pub fn see_pipes<'a, 'w, P: TellsPipes>(
+    told: &P,
+    pipes: &'a [PipePair<'w>],
+) -> Result<SeenPipes<'a, 'w>, Failed>
+    requires { length pipes.now ≤ 60 }
+    ensures pairs { IfOk result (λ seen. seen.pairs.now ≡ pipes.now) }
+    ensures told { OnOk result (AreTold (P.tells told.now) (names_of pipes.now) (length (names_of pipes.now))) }
+    ensures refused { IfErr result (IsOfNoPipe (P.tells told.now) (names_of pipes.now)) }
+{
+    for number in 0..2 * pipes.len() {
+        if let Some(name) = pipe_at(pipes, number) {
+            if !told.is_pipe(name) {
+                return Err(unopened(FIRST_PIPE + number as u8));
+            }
+        }
+    }
+    Ok(SeenPipes { pairs: pipes })
+}
+
+/// The door of a pair.
+fn door_of<T: Copy + Drop>(
+    rt: T,
+    alloc: Global,
+    pair: &PipePair<'_>,
+    are_open: &Arc<Mutex<bool>>,
+) -> Result<PipeDoor<T>, AllocError> {
+    Ok(PipeDoor {
+        rt,
+        alloc,
+        input: String::from_str(alloc, pair.input)?,
+        output: String::from_str(alloc, pair.output)?,
+        are_open: Arc::try_clone(are_open)?,
+    })
+}
+
+/// The doors of these pairs, which are closed yet.
+pub fn doors_of<T: Copy + Drop>(
+    rt: T,
+    alloc: Global,
+    pipes: SeenPipes<'_, '_>,
+) -> Result<Doors<PipeDoor<T>>, AllocError>
+    ensures { IfOk result (λ doors. vec_len doors.doors ≡ length pipes.entry.pairs.now) }
+{
+    let are_open = Arc::new(alloc, Mutex::new(false))?;
+    let mut doors = Vec::new(alloc);
+    for pair in pipes.pairs {
+        doors.push(door_of(rt, alloc, pair, &are_open)?)?;
+    }
+    Ok(Doors { doors, are_open })
+}

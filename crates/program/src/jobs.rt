@@ -1,0 +1,102 @@
+//! The jobs of the program on texts, answered on standard output.
+ghost use Rattle.std.specs.Prelude.{◌≡◌, IfOk};
+ghost use Rattle.std.specs.Option.{ForSome};
+ghost use Rattle.rows.specs.Kept.{IsWidth};
+ghost use Rattle.program.specs.Words.{IsJournal};
+ghost use Rattle.printing.specs.Widths.{told_width};
+
+use crate::files::{open_text, open_texts, standard_input, standard_output};
+use dimacs::Counted;
+use printing::{CountedWriter, Done, Failed};
+use querytexts::{batch_counted, once_counted};
+use rehearsals::{joint_text, rehearse_counted};
+use std::rt::Files;
+use std::thread::Threads;
+use std::time::Clock;
+
+/// The joint form on standard input.
+pub fn run_joint<R: AllocGlobal + Clock + Input + Print + Threads>(
+    rt: &R,
+    delta: Option<u32>,
+) -> Result<Done, Failed>
+    requires { ForSome delta IsWidth }
+    ensures { IfOk result (λ done. told_width done ≡ delta) }
+{
+    let mut reader = standard_input(rt)?;
+    let mut writer = standard_output(rt)?;
+    joint_text(rt, rt.alloc(), &mut reader, delta, &mut writer)
+}
+
+/// One distance in the network of a file.
+pub fn run_once<R: AllocGlobal + Clock + Files + Print + Threads>(
+    rt: &R,
+    network: &str,
+    source: u64,
+    target: u64,
+    delta: Option<u32>,
+) -> Result<Done, Failed>
+    requires { ForSome delta IsWidth }
+    ensures { IfOk result (λ done. told_width done ≡ delta) }
+{
+    let mut reader = open_text(rt, 0, network)?;
+    let mut writer = standard_output(rt)?;
+    let mut reader = Counted::new(&mut reader);
+    let mut writer = CountedWriter::new(&mut writer);
+    once_counted(
+        rt,
+        rt.alloc(),
+        &mut reader,
+        source,
+        target,
+        delta,
+        &mut writer,
+    )
+}
+
+/// The pairs of a file in the network of another.
+pub fn run_batch<R: AllocGlobal + Clock + Files + Print + Threads>(
+    rt: &R,
+    network: &str,
+    pairs: &str,
+    delta: Option<u32>,
+) -> Result<Done, Failed>
+    requires { ForSome delta IsWidth }
+    ensures { IfOk result (λ done. told_width done ≡ delta) }
+{
+    let (mut gr, mut p2p) = open_texts(rt, network, pairs)?;
+    let mut writer = standard_output(rt)?;
+    let mut gr = Counted::new(&mut gr);
+    let mut p2p = Counted::new(&mut p2p);
+    let mut writer = CountedWriter::new(&mut writer);
+    batch_counted(rt, rt.alloc(), &mut gr, &mut p2p, delta, &mut writer)
+}
+
+/// The script of a file, on a store in memory for the network of another, with room for so many arcs.
+pub fn run_rehearse<R: AllocGlobal + Clock + Files + Print + Threads>(
+    rt: &R,
+    network: &str,
+    script: &str,
+    journal_pages: u32,
+    room: Option<u64>,
+    delta: Option<u32>,
+) -> Result<Done, Failed>
+    requires journal { IsJournal journal_pages }
+    requires width { ForSome delta IsWidth }
+    ensures width { IfOk result (λ done. told_width done ≡ delta) }
+{
+    let (mut gr, mut script) = open_texts(rt, network, script)?;
+    let mut writer = standard_output(rt)?;
+    let mut gr = Counted::new(&mut gr);
+    let mut script = Counted::new(&mut script);
+    let mut writer = CountedWriter::new(&mut writer);
+    rehearse_counted(
+        rt,
+        rt.alloc(),
+        &mut gr,
+        &mut script,
+        journal_pages,
+        room,
+        delta,
+        &mut writer,
+    )
+}

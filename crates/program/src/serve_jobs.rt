@@ -1,0 +1,302 @@
+//! The sessions of the program: one on standard input and output, and one with each client that comes by a door.
+ghost use Rattle.std.specs.Prelude.{◌≡◌, ◌⊎◌, ◌↔◌, true, Some, IfOk, IfErr, IfSome};
+ghost use Rattle.std.specs.Option.{ForSome};
+ghost use Rattle.roadnet.specs.declared.refusals.Refusal.TheVariants.{Closed as closed};
+ghost use Rattle.rows.specs.Kept.{IsWidth};
+ghost use Rattle.dimacs.specs.Counts.{failed_calls, reader_of};
+ghost use Rattle.printing.specs.Counting.{failed_writes, writer_of};
+ghost use Rattle.printing.specs.Failing.{CountsWrites};
+ghost use Rattle.printing.specs.Widths.{told_width, told_workers};
+ghost use Rattle.disk.specs.Contents.{AreAmong};
+ghost use Rattle.store.specs.State.{CameTidy, StandsAt, is_calm};
+ghost use Rattle.office.specs.Left.{KeepsDesk};
+ghost use Rattle.desk.specs.Openings.{IsNewDesk, IsUnstarted};
+ghost use Rattle.storetexts.specs.Asked.{IsUnopened};
+ghost use Rattle.sessions.specs.declared.reading.LastLine.TheVariants.{Taken};
+ghost use Rattle.sessions.specs.Told.{CountsRead};
+ghost use Rattle.sessions.specs.Turns.{Serves, IsKept};
+ghost use Rattle.program.specs.Pipes.{AreFit};
+ghost use Rattle.program.specs.Words.{IsWorkers};
+
+use crate::doors::{Doors, FileNames, doors_of, see_pipes};
+use crate::files::{open_store, standard_input, standard_output};
+use crate::pipes::PipePair;
+use desk::{Closed, Desk, Gate, Handle, History, Naming, Setup};
+use dimacs::Counted;
+use disk::Disk;
+use filedisk::FileLock;
+use printing::{CountedWriter, Done, Failed};
+use roadnet::Refusal;
+use sessions::{Door, LastLine, Terms, Visits, serve, serve_door};
+use std::alloc::Global;
+use std::fs::File;
+use std::io::{BufRead, Write};
+use std::marker::Brand;
+use std::rt::Files;
+use std::sync::{Arc, Wait};
+use std::thread::Threads;
+use std::time::Clock;
+use store::{Store, open};
+
+/// The gate of a session's desk. It holds nothing up, and tells on standard error of a builder that ended.
+#[derive(Drop)]
+pub struct Teller<T: Eprint + Copy> {
+    pub rt: T,
+}
+
+impl<T: Eprint + Copy> Gate for Teller<T> {
+    fn before_row(&self, _worker: u32, _landmark: u32) {}
+
+    fn before_flush(&self, _durable: u64) -> bool {
+        true
+    }
+
+    fn before_task(&self, _durable: u64) -> bool {
+        true
+    }
+
+    fn before_step(&self, _version: u64) -> bool {
+        true
+    }
+
+    fn builder_gave_up(&self) {
+        let rt = &self.rt;
+        let _ = eprintln!(rt;
+            "roadmark: 61 Closed: no memory for views three times in a row, queries stay at the version that is shown"
+        );
+    }
+}
+
+/// What a session leaves.
+#[derive(Drop)]
+pub struct Ended<D: Disk> {
+    /// What it came to.
+    pub outcome: Result<(), Failed>,
+    /// What is left of its desk.
+    pub closed: Closed<D>,
+    /// How the desk built its views.
+    pub done: Done,
+}
+
+/// For how many milliseconds a server that ends lets sessions at doors send the answers that they are within.
+const LAST_ANSWERS: u64 = 1000;
+
+/// Starts a thread for each door, and opens them once all have one. Refused is want of memory (11) and of threads (63); the doors stay closed then.
+fn start_doors<
+    N: Naming + Send + Sync + 'static,
+    D: Disk + Drop + Send + 'static,
+    G: Gate + Drop + Send + Sync + 'static,
+    T: Threads + Wait + Copy + Send + Sync + 'static,
+    A: BufRead + Send + 'static,
+    B: Write + Send + 'static,
+    C: Door<A, B> + Drop + Send + 'static,
+>(
+    threads: T,
+    alloc: Global,
+    desk: &Handle<N, D, G, T>,
+    doors: Doors<C>,
+) -> Result<Arc<Visits<N>>, Refusal>
+    ensures causes { IfErr result IsUnstarted }
+{
+    let Ok(visits) = Arc::new(alloc, Visits::new()) else {
+        return Err(Refusal::OutOfMemory);
+    };
+    let Doors { doors, are_open } = doors;
+    let mut are_open = are_open.lock(&threads);
+    for door in doors {
+        let (Ok(desk), Ok(visits)) = (desk.again(), Arc::try_clone(&visits)) else {
+            return Err(Refusal::OutOfMemory);
+        };
+        serve_door(threads, alloc, desk, door, visits)?;
+    }
+    *are_open = true;
+    Ok(visits)
+}
+
+/// A session over an opened store, and those with clients that come by doors: what it came to, and what is left of its desk, which is closed after it however it
+/// ended. Once nothing more is written the file's lock is let go: the desk's last view is built behind that. Sessions at doors that are within an answer
+/// then have a second to send it; those that go on are told 61 from then on, and are cut off where the program ends.
+///
+/// Refused is what no desk is started for: want of memory (11) and of threads (63). A desk that can't be closed, or showed less than the session, or one at a door that
+/// has ended, has seen (61), doesn't come.
+fn serve_store<
+    N: Naming + Send + Sync + 'static,
+    D: Disk + Drop + Send + 'static,
+    G: Gate + Drop + Send + Sync + 'static,
+    T: Threads + Wait + Clock + Copy + Send + Sync + 'static,
+    A: BufRead + Send + 'static,
+    B: Write + Send + 'static,
+    C: Door<A, B> + Drop + Send + 'static,
+    I: BufRead,
+    W: Write,
+>(
+    threads: T,
+    alloc: Global,
+    history: History,
+    store: Store<D>,
+    gate: G,
+    setup: Setup,
+    lock: Option<FileLock>,
+    doors: Doors<C>,
+    reader: &mut Counted<'_, I>,
+    writer: &mut CountedWriter<'_, W>,
+) -> Result<Ended<D>, Refusal>
+    requires calm { is_calm store ≡ true }
+    requires width { ForSome setup.delta IsWidth }
+    requires workers { IsWorkers setup.workers }
+    requires new { IsNewDesk N.origin history store }
+    requires came_tidy { N.came_tidy ↔ CameTidy D.honest D.content store.given }
+    // The lines were answered in their order. Whatever a stop leaves of the closed desk: each command that was told to be durable has its number in it,
+    // and it begins with all commands after which a query was answered.
+    ensures answered { IfOk result (λ ended. IfSome (I.remaining (reader_of reader.old)) (λ text. Serves Taken N.origin text (I.remaining (reader_of reader.new)) (W.contents (writer_of writer.old)) (W.contents (writer_of writer.new)) (IsKept ended.closed.whole ended.closed.shown) ended.outcome)) }
+    // The desk's views were built by the setup.
+    ensures width { IfOk result (λ ended. told_width ended.done ≡ setup.delta) }
+    ensures workers { IfOk result (λ ended. told_workers ended.done ≡ Some setup.workers) }
+    ensures reads { IfOk result (λ ended. CountsRead (failed_calls reader.old) (failed_calls reader.new) ended.outcome) }
+    ensures writes { IfOk result (λ ended. CountsWrites (failed_writes writer.old) (failed_writes writer.new) ended.outcome) }
+    ensures origin { IfOk result (λ ended. ended.closed.whole.origin ≡ N.origin) }
+    // Where the store came tidy, the disk keeps the disk model, and what a stop may leave of it stands for the network after a beginning of the history, with all that was
+    // acknowledged or shown.
+    ensures honest { CameTidy D.honest D.content store.given → IfOk result (λ ended. D.honest ended.closed.disk) }
+    ensures left { CameTidy D.honest D.content store.given → IfOk result (λ ended. AreAmong (D.left ended.closed.disk) (KeepsDesk ended.closed.whole ended.closed.shown ended.closed.journal_pages)) }
+    ensures causes { IfErr result (λ refusal. IsUnstarted refusal ⊎ (refusal ≡ closed)) }
+{
+    let desk: Desk<N, D, G, T> = Desk::start(threads, alloc, history, store, gate, setup)?;
+    let visits = start_doors(threads, alloc, desk.handle(), doors)?;
+    let terms = Terms {
+        last_line: LastLine::Taken,
+        answering: visits.answering(),
+    };
+    let (outcome, session) = serve(&threads, alloc, desk.handle(), terms, reader, writer);
+    let done = Done::by(&desk);
+    desk.end_writing();
+    if let Some(mut lock) = lock {
+        let _ = lock.let_go();
+    }
+    desk.end_showing();
+    let _ = visits.answering().let_finish(&threads, LAST_ANSWERS);
+    let closed = desk.close()?;
+    if !session.is_kept(&closed) || !visits.are_kept(&threads, &closed) {
+        return Err(Refusal::Closed);
+    }
+    Ok(Ended {
+        outcome,
+        closed,
+        done,
+    })
+}
+
+/// A session over the store of a disk, and those with clients that come by doors: what it came to, and what is left of its desk, which is closed after it however it
+/// ended.
+///
+/// Refused is a store that can't be opened (11, 40 to 43), then what no desk is started for.
+pub fn serve_disk<
+    D: Disk + Drop + Send + 'static,
+    G: Gate + Drop + Send + Sync + 'static,
+    T: Threads + Wait + Clock + Copy + Send + Sync + 'static,
+    A: BufRead + Send + 'static,
+    B: Write + Send + 'static,
+    C: Door<A, B> + Drop + Send + 'static,
+    I: BufRead,
+    W: Write,
+>(
+    threads: T,
+    alloc: Global,
+    disk: D,
+    gate: G,
+    setup: Setup,
+    lock: Option<FileLock>,
+    doors: Doors<C>,
+    reader: &mut Counted<'_, I>,
+    writer: &mut CountedWriter<'_, W>,
+) -> Result<Ended<D>, Refusal>
+    requires width { ForSome setup.delta IsWidth }
+    requires workers { IsWorkers setup.workers }
+    // The desk's views were built by the setup.
+    ensures width { IfOk result (λ ended. told_width ended.done ≡ setup.delta) }
+    ensures workers { IfOk result (λ ended. told_workers ended.done ≡ Some setup.workers) }
+    ensures reads { IfOk result (λ ended. CountsRead (failed_calls reader.old) (failed_calls reader.new) ended.outcome) }
+    ensures writes { IfOk result (λ ended. CountsWrites (failed_writes writer.old) (failed_writes writer.new) ended.outcome) }
+    // The lines were answered in their order, and what they were told is kept: each command that was told to be durable has its number in whatever a stop
+    // leaves of the closed desk, which begins with all commands after which a query was answered.
+    ensures answered { IfOk result (λ ended. IfSome (I.remaining (reader_of reader.old)) (λ text. Serves Taken ended.closed.whole.origin text (I.remaining (reader_of reader.new)) (W.contents (writer_of writer.old)) (W.contents (writer_of writer.new)) (IsKept ended.closed.whole ended.closed.shown) ended.outcome)) }
+    // The history is of the network and version that the disk's content stood for.
+    ensures opened { D.honest disk → IfOk result (λ ended. StandsAt (D.content disk) ended.closed.whole.origin.base ended.closed.whole.origin.version) }
+    // Where that content was tidy, the closed disk keeps the disk model, and what a stop may leave of it stands for the network after a beginning of the history, with all
+    // that was acknowledged or shown.
+    ensures honest { CameTidy D.honest D.content disk → IfOk result (λ ended. D.honest ended.closed.disk) }
+    ensures left { CameTidy D.honest D.content disk → IfOk result (λ ended. AreAmong (D.left ended.closed.disk) (KeepsDesk ended.closed.whole ended.closed.shown ended.closed.journal_pages)) }
+    ensures refused { IfErr result (λ refusal. IsUnopened (D.honest disk) (D.content disk) refusal ⊎ (IsUnstarted refusal ⊎ (refusal ≡ closed))) }
+{
+    let store = match open(alloc, disk) {
+        Ok(store) => store,
+        Err((refusal, _)) => return Err(refusal),
+    };
+    let history = History::new(store.network(), store.version());
+    serve_store::<Brand, _, _, _, _, _, _, _, _>(
+        threads, alloc, history, store, gate, setup, lock, doors, reader, writer,
+    )
+}
+
+/// A session over the store of a file, which nobody else has while it may be written, and one with each client that comes by a pair of pipes.
+///
+/// A name that is none of a pipe is told (10 of line 0) before anything is served.
+pub fn run_serve<
+    R: AllocGlobal + Clock + Files<File = File> + Input + Print,
+    T: Threads + Wait + Clock + Eprint + Files<File = File> + Copy + Send + Sync + 'static,
+>(
+    rt: &R,
+    threads: T,
+    store: &str,
+    pipes: &[PipePair<'_>],
+    delta: Option<u32>,
+    workers: u32,
+) -> Result<Done, Failed>
+where
+    T::Dir: Send + 'static,
+    requires width { ForSome delta IsWidth }
+    requires workers { IsWorkers workers }
+    requires pipes { AreFit pipes.now }
+    ensures width { IfOk result (λ done. told_width done ≡ delta) }
+    ensures workers { IfOk result (λ done. told_workers done ≡ Some workers) }
+{
+    let disk = open_store(rt, store)?;
+    let pipes = see_pipes(&FileNames { rt }, pipes)?;
+    let Ok(doors) = doors_of(threads, rt.alloc(), pipes) else {
+        return Err(Failed::Code(Refusal::OutOfMemory));
+    };
+    let lock = disk.lock().ok();
+    let mut reader = standard_input(rt)?;
+    let mut writer = standard_output(rt)?;
+    let mut reader = Counted::new(&mut reader);
+    let mut writer = CountedWriter::new(&mut writer);
+    let gate = Teller { rt: threads };
+    let setup = Setup { delta, workers };
+    match serve_disk(
+        threads,
+        rt.alloc(),
+        disk,
+        gate,
+        setup,
+        lock,
+        doors,
+        &mut reader,
+        &mut writer,
+    ) {
+        Ok(
+            Ended {
+                outcome: Ok(()),
+                closed: _,
+                done,
+            },
+        ) => Ok(done),
+        Ok(
+            Ended {
+                outcome: Err(failed),
+                closed: _,
+                done: _,
+            },
+        ) => Err(failed),
+        Err(refusal) => Err(Failed::Code(refusal)),
+    }
+}

@@ -1,0 +1,387 @@
+//! The program's words.
+ghost use Rattle.std.specs.Prelude.{◌≡◌, ◌≢◌, ℕ, ◌≤◌, [], None, IsSome, IsOk, IfOk, IfErr, IfSome};
+ghost use Rattle.std.specs.Option.{ForSome};
+ghost use Rattle.std.specs.Result.{ForOk};
+ghost use lib.Chars.{codes};
+ghost use Rattle.clap.specs.Words.{found_of, kind_of, subcommand_name_of};
+ghost use Rattle.rows.specs.Kept.{IsWidth};
+ghost use Rattle.program.specs.Pipes.{names_of, AreFit, AreMisfit};
+ghost use Rattle.program.specs.Words.{delta_of, journal_of, workers_of, pipes_of, all_values, subcommand_of, HasFitNumbers, Gives, GivesOnce, GivesBatch, GivesRehearse, GivesCreate, GivesApply, GivesAsk, GivesCheck, GivesServe, GivesMigrate, GivesJoint, GivesJournal, GivesWorkers, IsJournal, IsWorkers, IsLong, IsUsage};
+
+use crate::commands::{
+    APPLY, ASK, BATCH, CHECK, COMMANDS, CREATE, DELTA, JOURNAL, LANDMARKS, MIGRATE,
+    MOST_JOURNAL_PAGES, MOST_WIDTH, MOST_WORKERS, NETWORK, NEW, OLD, ONCE, PAIRS, PIPES, REHEARSE,
+    ROOM, SCRIPT, SERVE, SOURCE, STORE, TARGET, WORKERS, program,
+};
+use crate::pipes::{Misfit, PipePair, pairs_of};
+use clap::error::ErrorKind;
+use clap::{ArgMatches, Error};
+use std::alloc::Global;
+use std::convert::AsStr;
+
+/// What the program is asked to do. A name of a file is as it was written.
+#[derive(Debug, Drop, PartialEq, Eq)]
+pub enum Job<'w> {
+    /// The joint form on standard input.
+    Joint {
+        delta: Option<u32>,
+    },
+    /// One distance in the network of a file.
+    Once {
+        network: &'w str,
+        source: u64,
+        target: u64,
+        delta: Option<u32>,
+    },
+    /// The pairs of one file, in the network of another.
+    Batch {
+        network: &'w str,
+        pairs: &'w str,
+        delta: Option<u32>,
+    },
+    /// The script of one file, on a store in memory for the network of another.
+    Rehearse {
+        network: &'w str,
+        script: &'w str,
+        journal_pages: u32,
+        room: Option<u64>,
+        delta: Option<u32>,
+    },
+    /// A new store, for the network of one file with the landmarks of another.
+    Create {
+        store: &'w str,
+        network: &'w str,
+        landmarks: &'w str,
+        journal_pages: u32,
+        room: Option<u64>,
+    },
+    /// The commands of a file, on a store.
+    Apply {
+        store: &'w str,
+        commands: &'w str,
+        delta: Option<u32>,
+    },
+    /// The pairs of a file, in the network of a store.
+    Ask {
+        store: &'w str,
+        pairs: &'w str,
+        delta: Option<u32>,
+    },
+    /// How a store stands.
+    Check {
+        store: &'w str,
+    },
+    /// A session over a store, on standard input and output, and one with each client that comes by a pair of pipes.
+    Serve {
+        store: &'w str,
+        pipes: Vec<PipePair<'w>>,
+        delta: Option<u32>,
+        workers: u32,
+    },
+    /// A new store, of the store of another file.
+    Migrate {
+        old: &'w str,
+        new: &'w str,
+        room: Option<u64>,
+    },
+}
+
+/// Why the words are no job: help was asked for (status 0), they were not understood (2), or memory ran out (1, without a text).
+#[derive(Debug, Drop)]
+pub struct Usage {
+    pub status: u8,
+    pub text: String,
+}
+
+/// The journal pages of a store where none are given.
+const DEFAULT_JOURNAL: u32 = 64;
+
+/// The row workers of a desk where none are given.
+const DEFAULT_WORKERS: u32 = 4;
+
+/// The status of a command line that was not understood.
+pub const MISUSE: u8 = 2;
+
+/// What a refusal of the words shows.
+fn usage_of(alloc: Global, error: &Error) -> Usage
+    ensures usage { IsUsage result }
+    ensures memory { kind_of error.now ≡ ErrorKind.OutOfMemory → result.status ≡ 1 }
+    ensures help { kind_of error.now ≡ ErrorKind.DisplayHelp → result.status ≤ 1 }
+    ensures version { kind_of error.now ≡ ErrorKind.DisplayVersion → result.status ≤ 1 }
+    ensures misuse { kind_of error.now ≢ ErrorKind.DisplayHelp → kind_of error.now ≢ ErrorKind.DisplayVersion → 1 ≤ result.status }
+{
+    if let ErrorKind::OutOfMemory = error.kind() {
+        return out_of_memory(alloc);
+    }
+    match format!(in alloc; "{error}") {
+        Ok(text) => Usage {
+            status: if error.use_stderr() { MISUSE } else { 0 },
+            text,
+        },
+        Err(_) => out_of_memory(alloc),
+    }
+}
+
+fn out_of_memory(alloc: Global) -> Usage
+    ensures usage { IsUsage result }
+    ensures status { result.status ≡ 1 }
+{
+    Usage {
+        status: 1,
+        text: String::new(alloc),
+    }
+}
+
+/// What a refusal of words that were matched shows: a misuse, but where memory ran out.
+fn usage_for(alloc: Global, misfit: Misfit) -> Usage
+    ensures usage { IsUsage result }
+    ensures memory { misfit ≡ Misfit.OutOfMemory → result.status ≡ 1 }
+    ensures misuse { misfit ≢ Misfit.OutOfMemory → 1 ≤ result.status }
+{
+    if let Misfit::OutOfMemory = misfit {
+        return out_of_memory(alloc);
+    }
+    match format!(in alloc; "error: {misfit}\n\nFor more information, try '--help'.\n") {
+        Ok(text) => Usage {
+            status: MISUSE,
+            text,
+        },
+        Err(_) => out_of_memory(alloc),
+    }
+}
+
+/// The width that these words give, if any; within its range, as the option's parser has it.
+fn width_in(matches: &ArgMatches<'_>) -> Option<u32>
+    ensures width { ForSome result IsWidth }
+    ensures given { Gives (found_of matches.now) (codes "delta") IsWidth result }
+{
+    match matches.get_one::<u32>(DELTA) {
+        Some(width) if 1 <= width && width <= MOST_WIDTH => Some(width),
+        _ => None,
+    }
+}
+
+/// The journal pages that these words give, or 64; within their range, as the option's parser has it.
+fn journal_in(matches: &ArgMatches<'_>) -> u32
+    ensures journal { IsJournal result }
+    ensures given { GivesJournal (found_of matches.now) result }
+{
+    match matches.get_one::<u32>(JOURNAL) {
+        Some(pages) if 1 <= pages && pages <= MOST_JOURNAL_PAGES => pages,
+        _ => DEFAULT_JOURNAL,
+    }
+}
+
+/// The row workers that these words give, or 4; within their range, as the option's parser has it.
+fn workers_in(matches: &ArgMatches<'_>) -> u32
+    ensures workers { IsWorkers result }
+    ensures given { GivesWorkers (found_of matches.now) result }
+{
+    match matches.get_one::<u32>(WORKERS) {
+        Some(workers) if 1 <= workers && workers <= MOST_WORKERS => workers,
+        _ => DEFAULT_WORKERS,
+    }
+}
+
+/// The number that the word of this name gives, of 64 bits.
+fn number_in(matches: &ArgMatches<'_>, name: &str) -> Option<u64>
+    ensures { Gives (found_of matches.now) name.now IsLong result }
+{
+    matches.get_one::<u64>(name)
+}
+
+fn once_in<'w>(matches: &ArgMatches<'w>) -> Option<Job<'w>>
+    ensures numbers { ForSome result HasFitNumbers }
+    ensures given { GivesOnce (found_of matches.now) result }
+{
+    let network = matches.get_str(NETWORK)?;
+    let source = number_in(matches, SOURCE)?;
+    let target = number_in(matches, TARGET)?;
+    Some(Job::Once {
+        network,
+        source,
+        target,
+        delta: width_in(matches),
+    })
+}
+
+fn batch_in<'w>(matches: &ArgMatches<'w>) -> Option<Job<'w>>
+    ensures numbers { ForSome result HasFitNumbers }
+    ensures given { GivesBatch (found_of matches.now) result }
+{
+    let network = matches.get_str(NETWORK)?;
+    let pairs = matches.get_str(PAIRS)?;
+    Some(Job::Batch {
+        network,
+        pairs,
+        delta: width_in(matches),
+    })
+}
+
+fn rehearse_in<'w>(matches: &ArgMatches<'w>) -> Option<Job<'w>>
+    ensures numbers { ForSome result HasFitNumbers }
+    ensures given { GivesRehearse (found_of matches.now) result }
+{
+    let network = matches.get_str(NETWORK)?;
+    let script = matches.get_str(SCRIPT)?;
+    Some(Job::Rehearse {
+        network,
+        script,
+        journal_pages: journal_in(matches),
+        room: number_in(matches, ROOM),
+        delta: width_in(matches),
+    })
+}
+
+fn create_in<'w>(matches: &ArgMatches<'w>) -> Option<Job<'w>>
+    ensures numbers { ForSome result HasFitNumbers }
+    ensures given { GivesCreate (found_of matches.now) result }
+{
+    let store = matches.get_str(STORE)?;
+    let network = matches.get_str(NETWORK)?;
+    let landmarks = matches.get_str(LANDMARKS)?;
+    Some(Job::Create {
+        store,
+        network,
+        landmarks,
+        journal_pages: journal_in(matches),
+        room: number_in(matches, ROOM),
+    })
+}
+
+fn apply_in<'w>(matches: &ArgMatches<'w>) -> Option<Job<'w>>
+    ensures numbers { ForSome result HasFitNumbers }
+    ensures given { GivesApply (found_of matches.now) result }
+{
+    let store = matches.get_str(STORE)?;
+    let commands = matches.get_str(COMMANDS)?;
+    Some(Job::Apply {
+        store,
+        commands,
+        delta: width_in(matches),
+    })
+}
+
+fn ask_in<'w>(matches: &ArgMatches<'w>) -> Option<Job<'w>>
+    ensures numbers { ForSome result HasFitNumbers }
+    ensures given { GivesAsk (found_of matches.now) result }
+{
+    let store = matches.get_str(STORE)?;
+    let pairs = matches.get_str(PAIRS)?;
+    Some(Job::Ask {
+        store,
+        pairs,
+        delta: width_in(matches),
+    })
+}
+
+fn check_in<'w>(matches: &ArgMatches<'w>) -> Option<Job<'w>>
+    ensures numbers { ForSome result HasFitNumbers }
+    ensures given { GivesCheck (found_of matches.now) result }
+{
+    let store = matches.get_str(STORE)?;
+    Some(Job::Check { store })
+}
+
+/// The pairs that the names of pipes make; none where there are no names.
+fn pipes_in<'w>(alloc: Global, matches: &ArgMatches<'w>) -> Result<Vec<PipePair<'w>>, Misfit>
+    ensures pairs { IfOk result (λ pairs. names_of pairs.items ≡ all_values (found_of matches.now) (codes "PIPES")) }
+    ensures fit { IfOk result (λ pairs. AreFit pairs.items) }
+    ensures refused { IfErr result (AreMisfit (all_values (found_of matches.now) (codes "PIPES"))) }
+{
+    match matches.get_strs(PIPES) {
+        Some(names) => pairs_of(alloc, names),
+        None => Ok(Vec::new(alloc)),
+    }
+}
+
+fn serve_in<'w>(alloc: Global, matches: &ArgMatches<'w>) -> Result<Job<'w>, Misfit>
+    ensures numbers { ForOk result HasFitNumbers }
+    ensures pipes { IfOk result (λ job. AreFit (pipes_of job)) }
+    ensures given { GivesServe (found_of matches.now) result }
+{
+    let Some(store) = matches.get_str(STORE) else {
+        return Err(Misfit::MissingWord);
+    };
+    match pipes_in(alloc, matches) {
+        Ok(pipes) => Ok(Job::Serve {
+            store,
+            pipes,
+            delta: width_in(matches),
+            workers: workers_in(matches),
+        }),
+        Err(misfit) => Err(misfit),
+    }
+}
+
+fn migrate_in<'w>(matches: &ArgMatches<'w>) -> Option<Job<'w>>
+    ensures numbers { ForSome result HasFitNumbers }
+    ensures given { GivesMigrate (found_of matches.now) result }
+{
+    let old = matches.get_str(OLD)?;
+    let new = matches.get_str(NEW)?;
+    Some(Job::Migrate {
+        old,
+        new,
+        room: number_in(matches, ROOM),
+    })
+}
+
+/// The job that was matched, where it has no pipes.
+fn plain_job_in<'w>(matches: &ArgMatches<'w>) -> Option<Job<'w>>
+    ensures numbers { ForSome result HasFitNumbers }
+    ensures pipes { IfSome result (λ job. pipes_of job ≡ []) }
+    ensures kind { IfSome result (λ job. subcommand_name_of matches.now ≡ subcommand_of job) }
+    ensures joint { IfSome result (GivesJoint (found_of matches.now)) }
+    ensures given { subcommand_name_of matches.now ≡ None → IsSome result }
+{
+    match matches.subcommand() {
+        None => Some(Job::Joint {
+            delta: width_in(matches),
+        }),
+        Some((ONCE, inner)) => once_in(inner),
+        Some((BATCH, inner)) => batch_in(inner),
+        Some((REHEARSE, inner)) => rehearse_in(inner),
+        Some((CREATE, inner)) => create_in(inner),
+        Some((APPLY, inner)) => apply_in(inner),
+        Some((ASK, inner)) => ask_in(inner),
+        Some((CHECK, inner)) => check_in(inner),
+        Some((MIGRATE, inner)) => migrate_in(inner),
+        Some(_) => None,
+    }
+}
+
+/// The job that was matched.
+fn job_in<'w>(alloc: Global, matches: &ArgMatches<'w>) -> Result<Job<'w>, Misfit>
+    ensures numbers { ForOk result HasFitNumbers }
+    ensures pipes { IfOk result (λ job. AreFit (pipes_of job)) }
+    ensures kind { IfOk result (λ job. subcommand_name_of matches.now ≡ subcommand_of job) }
+    ensures joint { IfOk result (GivesJoint (found_of matches.now)) }
+    ensures given { subcommand_name_of matches.now ≡ None → IsOk result }
+{
+    if let Some((SERVE, inner)) = matches.subcommand() {
+        return serve_in(alloc, inner);
+    }
+    plain_job_in(matches).ok_or(Misfit::MissingWord)
+}
+
+/// Reads the program's words, the first of which is its own name.
+pub fn read_words<'w, S: AsStr>(alloc: Global, words: &'w [S]) -> Result<Job<'w>, Usage>
+    ensures width { IfOk result (λ job. ForSome (delta_of job) IsWidth) }
+    ensures journal { IfOk result (λ job. ForSome (journal_of job) IsJournal) }
+    ensures workers { IfOk result (λ job. ForSome (workers_of job) IsWorkers) }
+    ensures pipes { IfOk result (λ job. AreFit (pipes_of job)) }
+    ensures usage { IfErr result IsUsage }
+{
+    let matched = match program(alloc) {
+        Ok(command) => command.try_get_matches_from(words),
+        Err(error) => Err(Error::from(error)),
+    };
+    match matched {
+        Ok(matches) => match job_in(alloc, &matches) {
+            Ok(job) => Ok(job),
+            Err(misfit) => Err(usage_for(alloc, misfit)),
+        },
+        Err(error) => Err(usage_of(alloc, &error)),
+    }
+}

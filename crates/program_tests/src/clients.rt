@@ -1,0 +1,224 @@
+//! Clients at pairs of pipes, beside a session on standard input.
+use crate::runs::{is_done, is_refused, new_folder};
+use desk::Setup;
+use dimacs::Counted;
+use filedisk::{FileDisk, SystemFile, open_file};
+use printing::CountedWriter;
+use program::{FileNames, PipePair, Teller, doors_of, see_pipes, serve_disk};
+use std::alloc::{AllocError, Global};
+use std::fs::File;
+use std::io::{self, BufReader, ErrorKind, PipeReader, PipeWriter, Read, Write};
+use std::os::fd::AsRawFd;
+use std::rt::Files;
+use std::sync::Wait;
+use std::test::Fail;
+use std::thread::Threads;
+use std::time::Clock;
+use std::{fs, process};
+
+/// A client's side of a pair of pipes, both ends of each of which are open.
+#[derive(Drop)]
+struct Side {
+    lines: PipeReader,
+    answers: PipeReader,
+    more: PipeWriter,
+}
+
+/// The name of a pipe by this end of it.
+fn name_of(alloc: Global, end: &PipeReader) -> Result<String, AllocError> {
+    format!(in alloc; "/proc/self/fd/{}", end.as_raw_fd())
+}
+
+/// A client that has written these lines and has closed its end behind them.
+fn client<R: Files>(rt: &R, text: &[u8]) -> Result<Side, Fail> {
+    let (lines, mut put) = io::pipe(rt)?;
+    let (answers, more) = io::pipe(rt)?;
+    put.write_all(text)?;
+    Ok(Side {
+        lines,
+        answers,
+        more,
+    })
+}
+
+/// The lines of a standard input, which come once two clients were answered.
+#[derive(Drop)]
+struct Behind<'a> {
+    alloc: Global,
+    first: PipeReader,
+    second: PipeReader,
+    want: [&'a [u8]; 2],
+    are_told: bool,
+    lines: &'a [u8],
+}
+
+/// What comes out of a pipe first is this.
+fn tells(alloc: Global, pipe: &mut PipeReader, want: &[u8]) -> io::Result<bool> {
+    let mut got = vec![in alloc; 0u8; want.len()]?;
+    pipe.read_exact(got.as_mut_slice())?;
+    Ok(got.as_slice() == want)
+}
+
+impl Read for Behind<'_> {
+    fn read(&mut self, buf: &mut [u8]) -> io::Result<usize> {
+        if !self.are_told {
+            self.are_told = true;
+            let [first, second] = self.want;
+            let is_first = tells(self.alloc, &mut self.first, first)?;
+            let is_second = tells(self.alloc, &mut self.second, second)?;
+            if !is_first || !is_second {
+                return Err(io::Error::from(ErrorKind::InvalidData));
+            }
+        }
+        self.lines.read(buf)
+    }
+}
+
+/// The sessions of two clients at these pipes, and then the lines of a standard input: what that session came to, and what it was answered.
+fn serve_two<
+    R: AllocGlobal
+        + Files<File = File>
+        + Threads
+        + Wait
+        + Clock
+        + Eprint
+        + Copy
+        + Send
+        + Sync
+        + 'static,
+>(
+    rt: R,
+    disk: FileDisk<SystemFile>,
+    pipes: &[PipePair<'_>],
+    behind: Behind<'_>,
+    answers: &[u8],
+) -> Result<bool, Fail>
+where
+    R::Dir: Send + 'static,
+{
+    let setup = Setup {
+        delta: None,
+        workers: 1,
+    };
+    let mut reader = BufReader::new(rt.alloc(), behind)?;
+    let mut output = Vec::new(rt.alloc());
+    let mut reader = Counted::new(&mut reader);
+    let mut writer = CountedWriter::new(&mut output);
+    let Ok(pipes) = see_pipes(&FileNames { rt: &rt }, pipes) else {
+        return Ok(false);
+    };
+    let doors = doors_of(rt, rt.alloc(), pipes)?;
+    let gate = Teller { rt };
+    let served = serve_disk(
+        rt,
+        rt.alloc(),
+        disk,
+        gate,
+        setup,
+        None,
+        doors,
+        &mut reader,
+        &mut writer,
+    );
+    let told = match served {
+        Ok(ended) => ended.outcome == Ok(()),
+        Err(_) => false,
+    };
+    Ok(told && output.as_slice() == answers)
+}
+
+/// Two clients are served at their pipes beside the session on standard input, by one desk: what one changes the others see. A line that is cut off at a pipe, also one that would end a group,
+/// is not carried out. Refused is a body that serves no door, one pair alone, or takes such a line.
+#[test]
+fn clients_at_pipes(rt: HostRuntime) -> Result<(), Fail> {
+    let id = process::id(rt.process());
+    let name = format!(in rt.alloc(); "roadmark-clients-{id}")?;
+    let folder = new_folder(&rt, name.as_str())?;
+    is_done(
+        &rt,
+        folder.as_str(),
+        "create new.store six.gr six.ss",
+        "ok 0\n",
+    );
+    let path = format!(in rt.alloc(); "{}/new.store", folder.as_str())?;
+    let one = client(&rt, b"close 7\nwait\ndist 1 6\nset 1 9")?;
+    let two = client(&rt, b"hello\nclose 9\nbegin\nset 3 1\nend")?;
+    let in_one = name_of(rt.alloc(), &one.lines)?;
+    let out_one = name_of(rt.alloc(), &one.answers)?;
+    let in_two = name_of(rt.alloc(), &two.lines)?;
+    let out_two = name_of(rt.alloc(), &two.answers)?;
+    let pipes = [
+        PipePair {
+            input: in_one.as_str(),
+            output: out_one.as_str(),
+        },
+        PipePair {
+            input: in_two.as_str(),
+            output: out_two.as_str(),
+        },
+    ];
+    let behind = Behind {
+        alloc: rt.alloc(),
+        first: one.answers,
+        second: two.answers,
+        want: [b"ok 1\nv 1\nv 1\nd 1 6 22\n", b"no 1\nno 20\n"],
+        are_told: false,
+        lines: b"dist 1 6\nset 8 4",
+    };
+    let Ok(disk) = open_file(&rt, path.as_str()) else {
+        return Err(Fail::from(io::Error::from(ErrorKind::Other)));
+    };
+    assert!(rt; serve_two(rt, disk, &pipes, behind, b"v 1\nd 1 6 22\nok 2\n")?);
+    is_done(
+        &rt,
+        folder.as_str(),
+        "check new.store",
+        "v 2\nslot A 1\njournal 2\n",
+    );
+    fs::remove_dir_all(&rt, folder.as_str())?;
+    Ok(())
+}
+
+/// A name that is none of a pipe is told, the first such one, and nothing is served: not even that the store is none is told behind it. Refused is a body that takes files, folders or nothing
+/// for pipes, that looks at one pipe of a pair alone, or that tells another name.
+#[test]
+fn names_of_no_pipes(rt: HostRuntime) -> Result<(), Fail> {
+    let id = process::id(rt.process());
+    let name = format!(in rt.alloc(); "roadmark-no-pipes-{id}")?;
+    let folder = new_folder(&rt, name.as_str())?;
+    is_done(
+        &rt,
+        folder.as_str(),
+        "create new.store six.gr six.ss",
+        "ok 0\n",
+    );
+    let side = client(&rt, b"")?;
+    let pipe = name_of(rt.alloc(), &side.lines)?;
+    let other = name_of(rt.alloc(), &side.answers)?;
+    let pipe = pipe.as_str();
+    let other = other.as_str();
+    let table = [
+        ("six.gr", "six.ss", "six.gr"),
+        (pipe, "six.ss", "six.ss"),
+        ("none", pipe, "none"),
+        (pipe, ".", "."),
+        ("/dev/null", pipe, "/dev/null"),
+        (pipe, "new.store", "new.store"),
+    ];
+    for (input, output, named) in table {
+        let words = format!(in rt.alloc(); "serve new.store {input} {output}")?;
+        let told = format!(in rt.alloc(); "roadmark: {named}: line 0: 10 Read\n")?;
+        is_refused(&rt, folder.as_str(), words.as_str(), told.as_str());
+    }
+    let words = format!(in rt.alloc(); "serve new.store {pipe} {other} none six.gr")?;
+    let told = "roadmark: none: line 0: 10 Read\n";
+    is_refused(&rt, folder.as_str(), words.as_str(), told);
+    is_done(
+        &rt,
+        folder.as_str(),
+        "check new.store",
+        "v 0\nslot A 1\njournal 0\n",
+    );
+    fs::remove_dir_all(&rt, folder.as_str())?;
+    Ok(())
+}

@@ -1,0 +1,19 @@
+//! Tests of the program by what its library gives to `main`: words, runs on files, sessions with many clients.
+#![tactic(auto)]
+
+#[cfg(test)]
+mod checking;
+#[cfg(test)]
+mod clients;
+#[cfg(test)]
+mod migrating;
+#[cfg(test)]
+mod runs;
+#[cfg(test)]
+mod serving;
+#[cfg(test)]
+mod shell;
+#[cfg(test)]
+mod stores;
+#[cfg(test)]
+mod words;

@@ -1,0 +1,181 @@
+//! A session's file: how long it is locked. And what the session tells of a builder that ended.
+
+use crate::runs::{is_done, new_folder};
+use crate::shell::{Shell, is_kept};
+use desk::{Gate, Setup};
+use dimacs::Counted;
+use filedisk::{FileDisk, SystemFile, open_file};
+use printing::CountedWriter;
+use program::{FileNames, Teller, doors_of, see_pipes, serve_disk};
+use std::fs::File;
+use std::io::ErrorKind;
+use std::rt::Files;
+use std::sync::atomic::{AtomicU64, Ordering};
+use std::sync::{Arc, Wait};
+use std::test::Fail;
+use std::thread::{self, Threads};
+use std::time::{Clock, Duration};
+use std::{fs, io, process};
+
+/// What is seen of a file that a session has locked.
+#[derive(Drop)]
+struct Seen {
+    /// How many steps of checkpoints were made.
+    steps: AtomicU64,
+    /// Before how many of them another could lock the file.
+    early: AtomicU64,
+    /// Before how many rows of a view another could lock the file.
+    rows: AtomicU64,
+}
+
+/// A gate that waits before each step of a checkpoint, for a while, and before each row of a view, for longer, whether another can lock the file.
+#[derive(Drop)]
+struct Watch<R> {
+    rt: R,
+    other: File,
+    seen: Arc<Seen>,
+}
+
+/// How many milliseconds a step waits.
+const STEP: u64 = 300;
+
+/// How many milliseconds a row waits.
+const ROW: u64 = 5000;
+
+impl<R: Clock> Watch<R> {
+    /// Whether another can lock the file within so many milliseconds.
+    fn comes_free(&self, most: u64) -> bool {
+        for _ in 0..most {
+            if self.other.try_lock().is_ok() {
+                return self.other.unlock().is_ok();
+            }
+            thread::sleep(&self.rt, Duration::from_millis(1));
+        }
+        false
+    }
+}
+
+impl<R: Clock> Gate for Watch<R> {
+    fn before_row(&self, _worker: u32, _landmark: u32) {
+        if self.comes_free(ROW) {
+            self.seen.rows.fetch_add(1, Ordering::SeqCst);
+        }
+    }
+
+    fn before_flush(&self, _durable: u64) -> bool {
+        true
+    }
+
+    fn before_task(&self, _durable: u64) -> bool {
+        true
+    }
+
+    fn before_step(&self, _version: u64) -> bool {
+        if self.comes_free(STEP) {
+            self.seen.early.fetch_add(1, Ordering::SeqCst);
+        }
+        self.seen.steps.fetch_add(1, Ordering::SeqCst);
+        true
+    }
+}
+
+/// A session of one command over this disk, whose lock it is to let go: whether it was done.
+fn serve_one<
+    R: AllocGlobal
+        + Files<File = File>
+        + Threads
+        + Wait
+        + Clock
+        + Eprint
+        + Copy
+        + Send
+        + Sync
+        + 'static,
+>(rt: R, disk: FileDisk<SystemFile>, gate: Watch<R>) -> Result<bool, Fail>
+where
+    R::Dir: Send + 'static,
+{
+    let lock = disk.lock()?;
+    let setup = Setup {
+        delta: None,
+        workers: 1,
+    };
+    let Ok(no_pipes) = see_pipes(&FileNames { rt: &rt }, &[]) else {
+        return Ok(false);
+    };
+    let mut input = b"set 8 5\n".as_slice();
+    let mut output = Vec::new(rt.alloc());
+    let mut reader = Counted::new(&mut input);
+    let mut writer = CountedWriter::new(&mut output);
+    let served = serve_disk(
+        rt,
+        rt.alloc(),
+        disk,
+        gate,
+        setup,
+        Some(lock),
+        doors_of(rt, rt.alloc(), no_pipes)?,
+        &mut reader,
+        &mut writer,
+    );
+    let told = match served {
+        Ok(ended) => ended.outcome == Ok(()),
+        Err(_) => false,
+    };
+    Ok(told && output.as_slice() == b"ok 1\n".as_slice())
+}
+
+/// A session's file is locked until nothing more is written, and the lock is let go before the last view is built. The journal has one page, so a
+/// checkpoint follows the flush: while the session ends its step is held up, and then the two rows of the view. Refused is a body that never lets
+/// the lock go, one that does so behind the desk's close, and one that does so before all is written.
+#[test]
+fn the_lock_of_a_session(rt: HostRuntime) -> Result<(), Fail> {
+    let id = process::id(rt.process());
+    let name = format!(in rt.alloc(); "roadmark-lock-{id}")?;
+    let folder = new_folder(&rt, name.as_str())?;
+    let create = "create --journal 1 new.store six.gr six.ss";
+    is_done(&rt, folder.as_str(), create, "ok 0\n");
+    let path = format!(in rt.alloc(); "{}/new.store", folder.as_str())?;
+    let seen = Arc::new(
+        rt.alloc(),
+        Seen {
+            steps: AtomicU64::new(0),
+            early: AtomicU64::new(0),
+            rows: AtomicU64::new(0),
+        },
+    )?;
+    let gate = Watch {
+        rt,
+        other: File::open(&rt, path.as_str())?,
+        seen: Arc::try_clone(&seen)?,
+    };
+    let Ok(disk) = open_file(&rt, path.as_str()) else {
+        return Err(Fail::from(io::Error::from(ErrorKind::Other)));
+    };
+    assert!(rt; serve_one(rt, disk, gate)?);
+    assert!(rt; seen.steps.load(Ordering::SeqCst) > 0);
+    assert_eq!(rt; seen.early.load(Ordering::SeqCst), 0);
+    assert_eq!(rt; seen.rows.load(Ordering::SeqCst), 2);
+    fs::remove_dir_all(&rt, folder.as_str())?;
+    Ok(())
+}
+
+/// A builder that ended is told on standard error, in one line, and nothing is held up. Refused is a body that tells nothing, and one that
+/// tells anything else.
+#[test]
+fn a_builder_that_gave_up(rt: HostRuntime) -> Result<(), Fail> {
+    let shell = Shell::new(&rt, "/", "")?;
+    let teller = Teller { rt: &shell };
+    assert!(rt; teller.before_flush(1) && teller.before_task(1) && teller.before_step(1));
+    teller.before_row(1, 1);
+    assert!(rt; is_kept(&shell.err, ""));
+    teller.builder_gave_up();
+    assert!(rt;
+        is_kept(
+            &shell.err,
+            "roadmark: 61 Closed: no memory for views three times in a row, queries stay at the version that is shown\n"
+        )
+    );
+    assert!(rt; is_kept(&shell.out, ""));
+    Ok(())
+}

@@ -10,7 +10,7 @@ use pages::{
     decode_journal_page, decode_slot_head, decode_word_page, encode_arc_page, encode_header,
     encode_journal_page, encode_slot_head, encode_word_page, gate_of, words_on_page,
 };
-use roadnet::{Command, Group, RoadArc};
+use roadnet::{Command, Group, OutOfMemory, RoadArc};
 use std::alloc::{AllocError, Global};
 use std::process::Abort;
 use std::test::*;
@@ -431,7 +431,7 @@ enum Kind {
 }
 
 /// Whether a page is spelled as one of this kind, of the network of six nodes.
-fn is_spelled(alloc: Global, kind: Kind, page: &[u8; PAGE_SIZE]) -> Result<bool, AllocError> {
+fn is_spelled(alloc: Global, kind: Kind, page: &[u8; PAGE_SIZE]) -> Result<bool, OutOfMemory> {
     match kind {
         Kind::Header => Ok(decode_header(page).is_some()),
         Kind::Arcs => Ok(decode_arc_page(alloc, page, 6, 8)?.is_some()),
@@ -447,7 +447,7 @@ fn first_spelled(
     kind: Kind,
     page: &[u8; PAGE_SIZE],
     table: &[(usize, u8)],
-) -> Result<Option<usize>, AllocError> {
+) -> Result<Option<usize>, OutOfMemory> {
     for i in 0..table.len() {
         let (at, byte) = table[i];
         if at >= PAGE_SIZE || is_spelled(alloc, kind, &changed(page, at, byte))? {
@@ -477,7 +477,7 @@ const HEADERS: [(usize, u8); 12] = [
 const OLD_HEADERS: [(usize, u8); 4] = [(11, 2), (16, 4), (27, 8), (27, 10)];
 
 #[test]
-fn headers_out_of_range(rt: HostRuntime) -> Result<(), AllocError> {
+fn headers_out_of_range(rt: HostRuntime) -> Result<(), OutOfMemory> {
     let page = page_with(&HEADER);
     assert_eq!(rt;
         first_spelled(rt.alloc(), Kind::Header, &page, &HEADERS)?,
@@ -544,7 +544,7 @@ const HEADS: [(usize, u8); 13] = [
 ];
 
 #[test]
-fn slot_pages_out_of_range(rt: HostRuntime) -> Result<(), AllocError> {
+fn slot_pages_out_of_range(rt: HostRuntime) -> Result<(), OutOfMemory> {
     let page = page_with(&ARCS);
     assert_eq!(rt;
         first_spelled(rt.alloc(), Kind::Arcs, &page, &ARC_PAGES)?,
@@ -576,7 +576,7 @@ const JOURNAL_PAGES: [(usize, u8); 11] = [
 ];
 
 #[test]
-fn journal_pages_out_of_range(rt: HostRuntime) -> Result<(), AllocError> {
+fn journal_pages_out_of_range(rt: HostRuntime) -> Result<(), OutOfMemory> {
     let mut page = page_with(&ONE_COMMAND);
     page[32..48].copy_from_slice(&CLOSE_7);
     assert_eq!(rt;

@@ -46,6 +46,7 @@ format=$(format_of)
 kit=$(kit_of)
 short=$(sed -n 's/^rattle-kit-\([A-Za-z0-9]*\).*/\1/p' <<< "$kit")
 [ -n "$version" ] && [ -n "$short" ] || fail "no version of the program ($version) or of the kit ($kit)"
+[ "$("$program" --version)" = "roadmark $version (format $format, $kit)" ] || fail "--version tells another format than $format, or another kit than $kit"
 grep -q "roadmark $version" <(head -n 3 "$top/docs/roadmark.1") || fail "the man page is of another version than $version"
 full=$version+format$format.kit$short
 architecture=$(dpkg --print-architecture)
@@ -121,7 +122,7 @@ if [ "$tries" = yes ]; then
   mkdir -p "$root"/var/lib/dpkg/info "$root"/var/lib/dpkg/updates "$root"/var/log
   : > "$root/var/lib/dpkg/status"
   dpkg --root="$root" --force-depends --force-not-root --log=/dev/null --install "$package" > "$work/said" 2>&1 || { cat "$work/said" >&2; fail "it was not installed"; }
-  [ "$("$root/usr/bin/roadmark" --version)" = "roadmark $version" ] || fail "the installed program is another one"
+  [ "$("$root/usr/bin/roadmark" --version)" = "$("$program" --version)" ] || fail "the installed program is another one"
   (cd "$root/$doc" && "./roadmark" create "$work/try.store" examples/six.gr examples/six.ss && ./examples/client.sh "$work/try.store") > "$work/said" || fail "an example fails"
   dpkg-query --admindir="$root/var/lib/dpkg" --show --showformat '${Package} ${Version}, store format ${Store-Format}, ${Rattle-Kit}\n' roadmark
   dpkg --root="$root" --force-depends --force-not-root --log=/dev/null --purge roadmark > "$work/said" 2>&1 || { cat "$work/said" >&2; fail "it was not removed"; }

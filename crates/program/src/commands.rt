@@ -268,10 +268,13 @@ fn migrate_command<'w>(alloc: Global) -> Result<Command<'w>, AllocError> {
         .arg(room_option(alloc))
 }
 
+/// The version of the program, of the format that it writes, and of the kit by which it was proved and built.
+const VERSION: &str = "0.2.0 (format 2, rattle-kit-13f logic dac8208d650f15bf)";
+
 /// The program's words.
 pub fn program<'w>(alloc: Global) -> Result<Command<'w>, AllocError> {
     Command::new(alloc, "roadmark")
-        .version("0.1.0")
+        .version(VERSION)
         .about("Exact least distances in a road network")
         .long_about(ABOUT)
         .after_help("Example: roadmark < examples/six.txt")

@@ -131,7 +131,10 @@ fn words_on_texts(rt: HostRuntime) -> Result<(), Fail> {
         ("batch --delta=2147483647 six.gr six.p2p", pairs),
         ("rehearse six.gr six.script", rehearsed),
         ("rehearse six.gr six.script --journal 2 --delta=1", full),
-        ("--version", "roadmark 0.1.0\n"),
+        (
+            "--version",
+            "roadmark 0.2.0 (format 2, rattle-kit-13f logic dac8208d650f15bf)\n",
+        ),
     ];
     for (words, out) in table {
         is_done(&rt, folder.as_str(), words, out);

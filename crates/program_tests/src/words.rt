@@ -369,7 +369,10 @@ fn help_of_words(rt: HostRuntime) -> Result<(), Fail> {
         ("roadmark serve --help", serve),
         ("roadmark migrate --help", migrate),
         ("roadmark once -h", "<GR>|Example"),
-        ("roadmark --version", "roadmark 0.1.0"),
+        (
+            "roadmark --version",
+            "roadmark 0.2.0 (format 2, rattle-kit-13f logic dac8208d650f15bf)",
+        ),
     ];
     for (words, parts) in table {
         has_help(&rt, words, parts)?;

@@ -3,7 +3,7 @@ use Rattle.std.specs.Prelude.{◌≡◌, ◌-◌, ◌%◌, ◌<◌, ◌≤◌, �
 use Rattle.std.specs.Borrow.{Bor}
 use Rattle.program.specs.declared.pipes.PipePair.{PipePair}
 use Rattle.program.specs.declared.pipes.Misfit.{Misfit}
-use Rattle.program.specs.declared.pipes.Misfit.TheVariants.{MissingWord, LonePipe, TooManyPipes, SamePipe, OutOfMemory}
+use Rattle.program.specs.declared.pipes.Misfit.TheVariants.{MissingWord, LonePipe, TooManyPipes, SamePipe, SameInput, OutOfMemory}
 
 -- the words of a list of them
 abbrev pub texts : List (Bor (List ℕ)) → List (List ℕ)
@@ -36,6 +36,7 @@ AreMisfit names MissingWord = ⊥
 AreMisfit names LonePipe = length names % 2 ≡ 1
 AreMisfit names TooManyPipes = 120 < length names
 AreMisfit names SamePipe = HasSame names
+AreMisfit names SameInput = ⊥
 AreMisfit names OutOfMemory = 0 < length names
 
 -- the name of the pipe of this number, counted from 0 through the pairs, or that of the store

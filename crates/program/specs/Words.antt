@@ -207,6 +207,17 @@ abbrev pub GivesJoint : Found → Job → Type 0
 GivesJoint found (Joint delta) = Gives found (codes "delta") IsWidth delta
 GivesJoint found job = ⊤
 
+-- what is written in place of a text's file for the standard input
+abbrev pub IsInput : List ℕ → Type 0
+IsInput name = name ≡ codes "-"
+
+-- both texts of a job that has two are the standard input
+abbrev pub NamesInputTwice : Job → Type 0
+NamesInputTwice (Batch network pairs delta) = IsInput network.now × IsInput pairs.now
+NamesInputTwice (Rehearse network script journal_pages room delta) = IsInput network.now × IsInput script.now
+NamesInputTwice (Create store network landmarks journal_pages room) = IsInput network.now × IsInput landmarks.now
+NamesInputTwice job = ⊥
+
 -- help, want of memory, which has no text, or a misuse
 pub record IsUsage (usage : Usage) : Type 0 where
   pub known : usage.status ≤ 2

@@ -99,9 +99,9 @@ Beside that it serves one client after the other at each pair of named pipes, IN
 const ABOUT_MIGRATE: &str =
     "Makes a store in the file NEW, which is absent or empty, of the store in the file OLD, which an earlier program made and which stays as it is: it holds the same network at the same version. It prints `ok V`, V the version, once the store is there for good.";
 
-const GR_HELP: &str = "File of the network, a .gr text";
+const GR_HELP: &str = "File of the network, a .gr text, or - for standard input";
 
-const P2P_HELP: &str = "File of the pairs, a .p2p text";
+const P2P_HELP: &str = "File of the pairs, a .p2p text, or - for standard input";
 
 const STORE_HELP: &str = "File of the store";
 
@@ -201,7 +201,7 @@ fn rehearse_command<'w>(alloc: Global) -> Result<Command<'w>, AllocError> {
         .long_about(ABOUT_REHEARSE)
         .after_help("Example: roadmark rehearse examples/six.gr examples/six.script")
         .arg(required_word(alloc, NETWORK, GR_HELP))?
-        .arg(required_word(alloc, SCRIPT, "File of the script"))?
+        .arg(required_word(alloc, SCRIPT, "File of the script, or - for standard input"))?
         .arg(journal_option(alloc))?
         .arg(room_option(alloc))?
         .arg(delta_option(alloc))
@@ -214,7 +214,11 @@ fn create_command<'w>(alloc: Global) -> Result<Command<'w>, AllocError> {
         .after_help("Example: roadmark create six.store examples/six.gr examples/six.ss")
         .arg(required_word(alloc, STORE, "File of the store, absent or empty"))?
         .arg(required_word(alloc, NETWORK, GR_HELP))?
-        .arg(required_word(alloc, LANDMARKS, "File of the landmarks, a .ss text"))?
+        .arg(required_word(
+            alloc,
+            LANDMARKS,
+            "File of the landmarks, a .ss text, or - for standard input",
+        ))?
         .arg(journal_option(alloc))?
         .arg(room_option(alloc))
 }
@@ -225,7 +229,11 @@ fn apply_command<'w>(alloc: Global) -> Result<Command<'w>, AllocError> {
         .long_about(ABOUT_APPLY)
         .after_help("Example: roadmark apply six.store examples/six.commands")
         .arg(required_word(alloc, STORE, STORE_HELP))?
-        .arg(required_word(alloc, COMMANDS, "File of the commands"))?
+        .arg(required_word(
+            alloc,
+            COMMANDS,
+            "File of the commands, or - for standard input",
+        ))?
         .arg(delta_option(alloc).help(UNUSED_DELTA))
 }
 

@@ -4,6 +4,7 @@ ghost use Rattle.std.specs.Io.Buffered.{reader_inner, reader_buffer, writer_inne
 ghost use Rattle.program.specs.Failures.{unopened, IsUnopened, IsFaultOrUnopened, IsFileUnmade};
 
 use crate::patient::Patient;
+use crate::words::is_input;
 use dimacs::{Code, Fault, read_gr};
 use filedisk::{FileDisk, NewFile, OpenError, SystemFile, create_file, open_file, open_to_read};
 use printing::Failed;
@@ -76,26 +77,50 @@ pub fn unopened(which: u8) -> Failed
     Failed::Text { which, fault }
 }
 
-/// The file of a call's text `which`. One that can't be opened is fault 10 of line 0.
-pub fn open_text<R: AllocGlobal + Files>(
-    rt: &R,
+/// Where a text comes from.
+#[derive(Drop)]
+pub enum Source<'a, R, F, S> {
+    /// A file.
+    File(F),
+    /// The standard input, which is waited for.
+    Input(Patient<'a, R, S>),
+}
+
+impl<R: Clock, F: Read, S: Read> Read for Source<'_, R, F, S> {
+    fn read(&mut self, buf: &mut [u8]) -> io::Result<usize> {
+        match self {
+            Source::File(file) => file.read(buf),
+            Source::Input(input) => input.read(buf),
+        }
+    }
+}
+
+/// A reader of a text's file, or of the standard input.
+pub type TextReader<'a, R> = BufReader<Source<'a, R, <R as Files>::File, <R as Input>::Reader>>;
+
+/// The file of a call's text `which`, or the standard input where `-` is written in its place. A file that can't be opened is fault 10 of line 0.
+pub fn open_text<'a, R: AllocGlobal + Clock + Files + Input>(
+    rt: &'a R,
     which: u8,
     name: &str,
-) -> Result<BufReader<R::File>, Failed>
+) -> Result<TextReader<'a, R>, Failed>
     ensures { IfErr result (IsUnopened which) }
 {
+    if is_input(name) {
+        return buffered(rt.alloc(), Source::Input(Patient::new(rt, rt.reader())));
+    }
     match fs::open(rt, name) {
-        Ok(file) => buffered(rt.alloc(), file),
+        Ok(file) => buffered(rt.alloc(), Source::File(file)),
         Err(_) => Err(unopened(which)),
     }
 }
 
 /// The files of a network and of the text that follows it. Where the second can't be opened, a fault of the network is still told first.
-pub fn open_texts<R: AllocGlobal + Files>(
-    rt: &R,
+pub fn open_texts<'a, R: AllocGlobal + Clock + Files + Input>(
+    rt: &'a R,
     network: &str,
     second: &str,
-) -> Result<(BufReader<R::File>, BufReader<R::File>), Failed>
+) -> Result<(TextReader<'a, R>, TextReader<'a, R>), Failed>
     ensures { IfErr result IsFaultOrUnopened }
 {
     let mut gr = open_text(rt, 0, network)?;

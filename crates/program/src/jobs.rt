@@ -28,7 +28,7 @@ pub fn run_joint<R: AllocGlobal + Clock + Input + Print + Threads>(
 }
 
 /// One distance in the network of a file.
-pub fn run_once<R: AllocGlobal + Clock + Files + Print + Threads>(
+pub fn run_once<R: AllocGlobal + Clock + Files + Input + Print + Threads>(
     rt: &R,
     network: &str,
     source: u64,
@@ -54,7 +54,7 @@ pub fn run_once<R: AllocGlobal + Clock + Files + Print + Threads>(
 }
 
 /// The pairs of a file in the network of another.
-pub fn run_batch<R: AllocGlobal + Clock + Files + Print + Threads>(
+pub fn run_batch<R: AllocGlobal + Clock + Files + Input + Print + Threads>(
     rt: &R,
     network: &str,
     pairs: &str,
@@ -72,7 +72,7 @@ pub fn run_batch<R: AllocGlobal + Clock + Files + Print + Threads>(
 }
 
 /// The script of a file, on a store in memory for the network of another, with room for so many arcs.
-pub fn run_rehearse<R: AllocGlobal + Clock + Files + Print + Threads>(
+pub fn run_rehearse<R: AllocGlobal + Clock + Files + Input + Print + Threads>(
     rt: &R,
     network: &str,
     script: &str,

@@ -28,6 +28,9 @@ pub enum Misfit {
     /// A name stands twice among them.
     #[error("a pipe is named twice")]
     SamePipe,
+    /// Two texts are to be read from standard input.
+    #[error("standard input is named for two texts: of one of them a file is needed")]
+    SameInput,
     /// There is no memory for the list of pairs.
     #[error("out of memory")]
     OutOfMemory,

@@ -38,7 +38,7 @@ fn is_store_made(outcome: &Result<(), Failed>) -> bool
 
 /// A new store in a file, for the network of another with the landmarks of a third, with room for so many arcs. Both texts are read whole
 /// before the store's file is opened or made. A file that was made and holds no store in the end is removed, while it is still locked.
-pub fn run_create<R: AllocGlobal + Clock + Files<File = File> + Print>(
+pub fn run_create<R: AllocGlobal + Clock + Files<File = File> + Input + Print>(
     rt: &R,
     store: &str,
     network: &str,
@@ -102,7 +102,7 @@ fn after_opening<D: Disk + Drop>(alloc: Global, disk: D, failed: Failed) -> Fail
 
 /// The groups of commands of a file, on the store of another. A fault of the store is told before one of the commands. No row is computed, so no
 /// width is asked for.
-pub fn run_apply<R: AllocGlobal + Clock + Files<File = File> + Print>(
+pub fn run_apply<R: AllocGlobal + Clock + Files<File = File> + Input + Print>(
     rt: &R,
     store: &str,
     commands: &str,
@@ -124,7 +124,7 @@ pub fn run_apply<R: AllocGlobal + Clock + Files<File = File> + Print>(
 
 /// The pairs of a file in the network of a store, which is read alone and stays as it is. A fault of the store is told before one of the
 /// pairs.
-pub fn run_ask<R: AllocGlobal + Clock + Files<File = File> + Print + Threads>(
+pub fn run_ask<R: AllocGlobal + Clock + Files<File = File> + Input + Print + Threads>(
     rt: &R,
     store: &str,
     pairs: &str,

@@ -1,12 +1,13 @@
 //! The program's words.
 ghost use Rattle.std.specs.Prelude.{◌≡◌, ◌≢◌, ℕ, ◌≤◌, [], None, IsSome, IsOk, IfOk, IfErr, IfSome};
+ghost use Rattle.std.specs.Bool.{Decides};
 ghost use Rattle.std.specs.Option.{ForSome};
 ghost use Rattle.std.specs.Result.{ForOk};
 ghost use lib.Chars.{codes};
 ghost use Rattle.clap.specs.Words.{found_of, kind_of, subcommand_name_of};
 ghost use Rattle.rows.specs.Kept.{IsWidth};
 ghost use Rattle.program.specs.Pipes.{names_of, AreFit, AreMisfit};
-ghost use Rattle.program.specs.Words.{delta_of, journal_of, workers_of, pipes_of, all_values, subcommand_of, HasFitNumbers, Gives, GivesOnce, GivesBatch, GivesRehearse, GivesCreate, GivesApply, GivesAsk, GivesCheck, GivesServe, GivesMigrate, GivesJoint, GivesJournal, GivesWorkers, IsJournal, IsWorkers, IsLong, IsUsage};
+ghost use Rattle.program.specs.Words.{delta_of, journal_of, workers_of, pipes_of, all_values, subcommand_of, HasFitNumbers, Gives, GivesOnce, GivesBatch, GivesRehearse, GivesCreate, GivesApply, GivesAsk, GivesCheck, GivesServe, GivesMigrate, GivesJoint, GivesJournal, GivesWorkers, IsJournal, IsWorkers, IsLong, IsUsage, IsInput, NamesInputTwice};
 
 use crate::commands::{
     APPLY, ASK, BATCH, CHECK, COMMANDS, CREATE, DELTA, JOURNAL, LANDMARKS, MIGRATE,
@@ -351,18 +352,63 @@ fn plain_job_in<'w>(matches: &ArgMatches<'w>) -> Option<Job<'w>>
     }
 }
 
+/// What is written in place of a text's file for the standard input.
+const INPUT: &str = "-";
+
+/// Whether a text is the standard input.
+pub fn is_input(name: &str) -> bool
+    ensures { Decides result (IsInput name.now) }
+{
+    name == INPUT
+}
+
+/// Whether a job names the standard input for both its texts.
+fn names_input_twice(job: &Job<'_>) -> bool
+    ensures { Decides result (NamesInputTwice job.now) }
+{
+    match *job {
+        Job::Batch {
+            network,
+            pairs: second,
+            ..
+        }
+        | Job::Rehearse {
+            network,
+            script: second,
+            ..
+        }
+        | Job::Create {
+            network,
+            landmarks: second,
+            ..
+        } => is_input(network) && is_input(second),
+        Job::Joint { .. }
+        | Job::Once { .. }
+        | Job::Apply { .. }
+        | Job::Ask { .. }
+        | Job::Check { .. }
+        | Job::Serve { .. }
+        | Job::Migrate { .. } => false,
+    }
+}
+
 /// The job that was matched.
 fn job_in<'w>(alloc: Global, matches: &ArgMatches<'w>) -> Result<Job<'w>, Misfit>
     ensures numbers { ForOk result HasFitNumbers }
     ensures pipes { IfOk result (λ job. AreFit (pipes_of job)) }
     ensures kind { IfOk result (λ job. subcommand_name_of matches.now ≡ subcommand_of job) }
     ensures joint { IfOk result (GivesJoint (found_of matches.now)) }
+    ensures once { IfOk result (λ job. ¬ NamesInputTwice job) }
     ensures given { subcommand_name_of matches.now ≡ None → IsOk result }
 {
     if let Some((SERVE, inner)) = matches.subcommand() {
         return serve_in(alloc, inner);
     }
-    plain_job_in(matches).ok_or(Misfit::MissingWord)
+    match plain_job_in(matches) {
+        None => Err(Misfit::MissingWord),
+        Some(job) if names_input_twice(&job) => Err(Misfit::SameInput),
+        Some(job) => Ok(job),
+    }
 }
 
 /// Reads the program's words, the first of which is its own name.
@@ -371,6 +417,7 @@ pub fn read_words<'w, S: AsStr>(alloc: Global, words: &'w [S]) -> Result<Job<'w>
     ensures journal { IfOk result (λ job. ForSome (journal_of job) IsJournal) }
     ensures workers { IfOk result (λ job. ForSome (workers_of job) IsWorkers) }
     ensures pipes { IfOk result (λ job. AreFit (pipes_of job)) }
+    ensures once { IfOk result (λ job. ¬ NamesInputTwice job) }
     ensures usage { IfErr result IsUsage }
 {
     let matched = match program(alloc) {

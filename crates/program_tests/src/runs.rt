@@ -146,6 +146,54 @@ fn words_on_texts(rt: HostRuntime) -> Result<(), Fail> {
     Ok(())
 }
 
+/// In place of a text's file `-` stands for standard input, also in a fault line; a file of that name is `./-`.
+#[test]
+fn texts_on_standard_input(rt: HostRuntime) -> Result<(), Fail> {
+    let id = process::id(rt.process());
+    let name = format!(in rt.alloc(); "roadmark-inputs-{id}")?;
+    let folder = new_folder(&rt, name.as_str())?;
+    let answers = "v 0\nd 1 6 15\nx 6 1\n";
+    let faulty = "roadmark: -: line 1: 1 BadLine\n";
+    let table = [
+        ("once - 1 6", SIX, (0, "v 0\nd 1 6 15\n", "")),
+        ("batch - six.p2p", SIX, (0, answers, "")),
+        (
+            "batch six.gr -",
+            "p aux sp p2p 2\nq 1 6\nq 6 1\n",
+            (0, answers, ""),
+        ),
+        (
+            "rehearse six.gr -",
+            "set 1 1\nflush\n",
+            (0, "t 1\nok 1\n", ""),
+        ),
+        (
+            "create six.store six.gr -",
+            "p aux sp ss 2\ns 6\ns 3\n",
+            (0, "ok 0\n", ""),
+        ),
+        ("apply six.store -", "close 7\n", (0, "ok 1\n", "")),
+        (
+            "ask six.store -",
+            "p aux sp p2p 1\nq 1 6\n",
+            (0, "v 1\nd 1 6 22\n", ""),
+        ),
+        ("once - 1 6", "x\n", (1, "", faulty)),
+        ("batch six.gr -", "x\n", (1, "", faulty)),
+        ("apply six.store -", "x\n", (1, "", faulty)),
+        (
+            "once ./- 1 6",
+            SIX,
+            (1, "", "roadmark: ./-: line 0: 10 Read\n"),
+        ),
+    ];
+    for (words, input, told) in table {
+        ends(&rt, folder.as_str(), words, input, told);
+    }
+    fs::remove_dir_all(&rt, folder.as_str())?;
+    Ok(())
+}
+
 #[test]
 fn words_on_stores(rt: HostRuntime) -> Result<(), Fail> {
     let id = process::id(rt.process());

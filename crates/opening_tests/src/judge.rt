@@ -420,15 +420,15 @@ fn unmark(landmarks: &mut Vec<u32>, name: u32) -> bool {
 }
 
 // The fifth to the eighth step: all behind the header.
-fn judge_pages(file: &[u8], plan: &Plan, judged: &mut Judged) -> Result<(), Refusal> {
-    judge_arcs(file, plan, &mut judged.arcs)?;
-    let head = current_head(file, plan)?;
-    let next = judge_head(page_of(file, head), head, plan, judged)?;
-    judge_words(file, plan, head + 1, &mut judged.arcs)?;
+fn judge_pages(file: &[u8], plan: Plan, judged: &mut Judged) -> Result<(), Refusal> {
+    judge_arcs(file, &plan, &mut judged.arcs)?;
+    let head = current_head(file, &plan)?;
+    let next = judge_head(page_of(file, head), head, &plan, judged)?;
+    judge_words(file, &plan, head + 1, &mut judged.arcs)?;
     let ends = head + 1 + u64::from(plan.word_pages);
-    judge_ends(file, plan, ends, &mut judged.arcs)?;
-    judged.unchecked = count_standing(file, plan, next);
-    judge_journal(file, plan, next, judged)
+    judge_ends(file, &plan, ends, &mut judged.arcs)?;
+    judged.unchecked = count_standing(file, &plan, next);
+    judge_journal(file, &plan, next, judged)
 }
 
 // What opening a file of these bytes is to answer.
@@ -442,6 +442,6 @@ pub fn judge(alloc: Global, file: &[u8]) -> Result<Judged, Refusal> {
         version: 0,
         unchecked: 0,
     };
-    judge_pages(file, &plan, &mut judged)?;
+    judge_pages(file, plan, &mut judged)?;
     Ok(judged)
 }

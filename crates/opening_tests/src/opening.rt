@@ -12,10 +12,12 @@ const PAGE: usize = 4096;
 // What a store is refused with whose creation fails at its k-th call, and the disk.
 fn failed_at(alloc: Global, k: u64) -> Result<(Refusal, MemDisk), Refusal> {
     let network = roomy_six(alloc)?;
-    match create(alloc, FailOnce::new(MemDisk::new(alloc), k), &network, 2) {
-        Ok(_) => Err(Refusal::Broken),
-        Err((refusal, disk)) => Ok((refusal, disk.into_inner())),
-    }
+    let disk = FailOnce::new(MemDisk::new(alloc), k);
+    let (refusal, disk) = match create(alloc, disk, &network, 2) {
+        Ok(store) => (Refusal::Broken, store.close()),
+        Err(refused) => refused,
+    };
+    Ok((refusal, disk.into_inner()))
 }
 
 // Whether the bytes of this disk open as they are judged.

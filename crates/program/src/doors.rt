@@ -90,19 +90,41 @@ pub struct PipeDoor<T> {
 /// A client that has come.
 type Client = (BufReader<File>, BufWriter<AnswerPipe>);
 
+/// A pipe of a pair.
+#[derive(Clone, Copy)]
+enum Side {
+    Input,
+    Output,
+}
+
+/// Why a client could not come in: which pipe could not be opened (10), or for which no memory was there (11).
+#[derive(Clone, Copy)]
+struct Unopened {
+    side: Side,
+    refusal: Refusal,
+}
+
+/// What is told of a pipe that could not be opened.
+fn refusal_of(error: &io::Error) -> Refusal {
+    match error.kind() {
+        ErrorKind::OutOfMemory => Refusal::OutOfMemory,
+        _ => Refusal::Read,
+    }
+}
+
 impl<T: Files<File = File>> PipeDoor<T> {
-    /// Opens the pipe that is read, and then the one that is written. It waits until a client has opened both. Why it could not is told with the pipe of which it is.
-    fn open(&self) -> Result<Client, (&str, io::Error)> {
+    /// Opens the pipe that is read, and then the one that is written. It waits until a client has opened both.
+    fn open(&self) -> Result<Client, Unopened> {
         let input = match fs::open(&self.rt, self.input.as_str()) {
             Ok(input) => input,
-            Err(error) => return Err((self.input.as_str(), error)),
+            Err(error) => return Err(unopened_by(Side::Input, &error)),
         };
         let opened = OpenOptions::new()
             .write(true)
             .open(&self.rt, self.output.as_str());
         let output = match opened {
             Ok(output) => output,
-            Err(error) => return Err((self.output.as_str(), error)),
+            Err(error) => return Err(unopened_by(Side::Output, &error)),
         };
         let pipe = AnswerPipe {
             file: output,
@@ -113,7 +135,41 @@ impl<T: Files<File = File>> PipeDoor<T> {
             BufWriter::with_capacity(self.alloc, BUFFER, pipe),
         ) {
             (Ok(reader), Ok(writer)) => Ok((reader, writer)),
-            (Err(error), _) | (_, Err(error)) => Err((self.input.as_str(), error)),
+            (Err(_), _) | (_, Err(_)) => Err(Unopened {
+                side: Side::Input,
+                refusal: Refusal::OutOfMemory,
+            }),
+        }
+    }
+}
+
+/// That a pipe could not be opened, with what is told of it.
+fn unopened_by(side: Side, error: &io::Error) -> Unopened {
+    Unopened {
+        side,
+        refusal: refusal_of(error),
+    }
+}
+
+impl<T: Eprint + Clock + Wait> PipeDoor<T> {
+    /// Whether clients may come in.
+    fn is_open(&self) -> bool {
+        *self.are_open.lock(&self.rt)
+    }
+
+    /// Tells why no client could come in, and whether the next one may: behind a rest, where memory was wanting.
+    fn goes_on(&self, unopened: Unopened) -> bool {
+        let name = match unopened.side {
+            Side::Input => self.input.as_str(),
+            Side::Output => self.output.as_str(),
+        };
+        tell(&self.rt, name, unopened.refusal);
+        match unopened.refusal {
+            Refusal::OutOfMemory => {
+                thread::sleep(&self.rt, Duration::from_millis(REST));
+                true
+            }
+            _ => false,
         }
     }
 }
@@ -122,19 +178,16 @@ impl<T: Files<File = File> + Eprint + Clock + Wait> Door<BufReader<File>, BufWri
     for PipeDoor<T> {
     /// The next client. Where a pipe can't be opened any more this is told, and no more come; where memory is wanting the client finds its pipes closed.
     fn next(&mut self) -> Option<Client> {
-        if !*self.are_open.lock(&self.rt) {
+        if !self.is_open() {
             return None;
         }
         for _ in 0..u64::MAX {
             match self.open() {
                 Ok(client) => return Some(client),
-                Err((name, error)) if error.kind() == ErrorKind::OutOfMemory => {
-                    tell(&self.rt, name, Refusal::OutOfMemory);
-                    thread::sleep(&self.rt, Duration::from_millis(REST));
-                }
-                Err((name, _)) => {
-                    tell(&self.rt, name, Refusal::Read);
-                    return None;
+                Err(unopened) => {
+                    if !self.goes_on(unopened) {
+                        return None;
+                    }
                 }
             }
         }

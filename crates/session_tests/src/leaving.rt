@@ -39,7 +39,7 @@ fn clients_cut_off_in_a_line(rt: HostRuntime) -> Result<(), Fail> {
     for (text, last_line, want) in CUT {
         let texts = vec![in alloc; Vec::from_slice(alloc, text)?]?;
         let (answers, closed) = at_once(rt, alloc, &texts, last_line)?;
-        let told = answers[0].as_slice();
+        let told = answers.first().ok_or("one client is answered")?.as_slice();
         assert!(rt; told == want, "{text:?}");
         assert!(rt; closed.history.len() as u64 == settled_in(told), "{text:?}");
     }

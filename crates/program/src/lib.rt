@@ -52,6 +52,16 @@ pub use storetexts::{apply_text, ask_text, check_text, create_text, migrate_text
 use streams::{Streams, hold_streams};
 pub use words::{Job, MISUSE, Usage, read_words};
 
+/// The pairs of pipes by which clients of a server may come; of another job none.
+fn pipes_of<'a, 'w>(job: &'a Job<'w>) -> &'a [PipePair<'w>]
+    ensures { result.now ≡ pipes_of job.now }
+{
+    match job {
+        Job::Serve { pipes, .. } => pipes.as_slice(),
+        _ => &[],
+    }
+}
+
 /// Does a job, with searches of the job's width. `threads` is the runtime of a desk's threads.
 fn run<
     R: AllocGlobal + Clock + Files<File = File> + Input + Print + Threads,
@@ -66,6 +76,7 @@ where
     ensures width { IfOk result (λ done. told_width done ≡ searched_width job.now) }
     ensures workers { ForSome (workers_of job.now) (λ workers. IfOk result (λ done. told_workers done ≡ Some workers)) }
 {
+    let pipes = pipes_of(job);
     match *job {
         Job::Joint { delta } => run_joint(rt, delta),
         Job::Once {
@@ -106,10 +117,10 @@ where
         Job::Check { store } => run_check(rt, store),
         Job::Serve {
             store,
-            ref pipes,
             delta,
             workers,
-        } => run_serve(rt, threads, store, pipes.as_slice(), delta, workers),
+            ..
+        } => run_serve(rt, threads, store, pipes, delta, workers),
         Job::Migrate { old, new, room } => run_migrate(rt, old, new, room),
     }
 }

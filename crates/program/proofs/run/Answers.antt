@@ -1,7 +1,7 @@
 -- The journal pages and row workers of a job are those of its words.
-use Rattle.std.proofs.Common.{ap, subst}
+use Rattle.std.proofs.Common.{ap, subst, sym}
 use Rattle.program.specs.Pipes.{AreFit}
-use Rattle.program.specs.Words.{journal_of, pipes_of, workers_of}
+use Rattle.program.specs.Words.{journal_of, workers_of}
 use Rattle.program.proofs.run.Goals as goal
 
 pub run_rehearse-requires-clause-journal : goal.run_rehearse-requires-clause-journal
@@ -14,4 +14,4 @@ pub run_serve-requires-clause-workers : goal.run_serve-requires-clause-workers
 run_serve-requires-clause-workers g c κs outlives = c.requires.workers c.in-Serve.workers (ap workers_of c.in-Serve.is)
 
 pub run_serve-requires-clause-pipes : goal.run_serve-requires-clause-pipes
-run_serve-requires-clause-pipes g c κs outlives = subst AreFit (ap pipes_of c.in-Serve.is) c.requires.pipes
+run_serve-requires-clause-pipes g c κs outlives = subst AreFit (sym c.pipes_of-pipes.ensures) c.requires.pipes

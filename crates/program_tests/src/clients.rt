@@ -96,6 +96,9 @@ fn serve_two<
 where
     R::Dir: Send + 'static,
 {
+    if pipes.len() > 60 {
+        return Ok(false);
+    }
     let setup = Setup {
         delta: None,
         workers: 1,

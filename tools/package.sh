@@ -79,11 +79,16 @@ for unit in "$top"/examples/*.service "$top"/examples/*.socket "$top"/examples/*
   units+=("$tree/usr/lib/systemd/system/$(basename "$unit")")
 done
 if [ "${#units[@]}" -gt 0 ]; then
-  sed -i 's#/usr/local/bin/roadmark#/usr/bin/roadmark#; s#the built program in /usr/local/bin#the program#; s#enable --now \./#enable --now #' "${units[@]}"
+  put 755 "$top/examples/attach.sh" "$top/examples/pairs.sh" usr/lib/roadmark
+  sed -i 's#/usr/local/bin/roadmark#/usr/bin/roadmark#; s#/usr/local/bin/\([a-z]*\.sh\)#/usr/lib/roadmark/\1#g; s#, the built program and the scripts attach.sh and pairs.sh of this folder in /usr/local/bin,##; s#, with the three units in /etc/systemd/system##' "${units[@]}"
   mkdir -p "$tree/usr/lib/sysusers.d"
   echo 'u roadmark - "roadmark" /var/lib/roadmark' > "$tree/usr/lib/sysusers.d/roadmark.conf"
   if command -v systemd-analyze > /dev/null; then
-    systemd-analyze verify --man=no "${units[@]}" || fail "a unit is refused"
+    # as they are where the scripts stand now
+    mkdir "$work/units"
+    cp "${units[@]}" "$work/units"
+    sed -i "s#/usr/lib/roadmark/#$tree/usr/lib/roadmark/#g" "$work"/units/*
+    systemd-analyze verify --man=no "$work"/units/* || fail "a unit is refused"
     echo "package: ${#units[@]} units verified"
   else
     echo "package: no systemd-analyze here, the units are not verified"

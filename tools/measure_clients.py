@@ -1,6 +1,6 @@
 #!/usr/bin/env python3
 """Measures one server with many clients: queries and changes a second by 1, 4 and 16 clients as multiples of one, changes beside SQLite's write-ahead log with as many
-connections, and how long a `from` takes beside a client that searches.
+connections, how long a `from` takes beside a client that searches, and what sixty silent clients take of memory that asked at versions of their own.
 
     tools/measure_clients.py [PROGRAM] [SECONDS]
 
@@ -142,6 +142,31 @@ def measure(way, place, seconds, sqlite):
     late = [times[len(times) * 99 // 100] for answers in (alone, beside) for kind, _, times in answers if kind == "from"]
     print(f"{way}: the slowest in a hundred of `from` beside a search: {late[1] / late[0]:.2f} of alone", flush=True)
 
+def peak_of(pid):
+    return next(int(line.split()[1]) * 1024 for line in open(f"/proc/{pid}/status") if line.startswith("VmHWM"))
+
+def peak(program, store, names, count, arenas):
+    """The greatest memory of a server whose clients, so many in turn, each change the network, wait, ask, and stay silent: sixty rounds together."""
+    server = subprocess.Popen([program, "serve", store, *names], stdin=subprocess.PIPE, stdout=subprocess.DEVNULL, env={**os.environ, **arenas})
+    clients = [Connection(pair) for pair in list(zip(names[::2], names[1::2]))[:count]]
+    for round in range(60):
+        client = clients[round % count]
+        client.ask(b"set %d %d\n" % (1 + round, 100 + round))
+        os.write(client.input, b"wait\n")
+        client.line()
+        client.ask(b"dist %d %d\n" % (1 + 1009 * round, NODES - round))
+    most = peak_of(server.pid)
+    server.stdin.write(b"quit\n")
+    server.stdin.close()
+    server.wait(60)
+    return most
+
+def memory(program, folder, store):
+    names = subprocess.run([TOP / "examples/pairs.sh", folder / "sixty", "60"], check=True, capture_output=True, text=True).stdout.split()
+    for said, arenas in (("as it is", {}), ("with MALLOC_ARENA_MAX=2", {"MALLOC_ARENA_MAX": "2"})):
+        one, sixty = (peak(program, store, names, count, arenas) for count in (1, 60))
+        print(f"memory, {said}: sixty silent clients take {(sixty - one) / NODES:.0f} bytes a node more than one that asked as much, {sixty / one:.2f} of it", flush=True)
+
 def main():
     words = sys.argv[1:]
     program = pathlib.Path(words[0] if words else TOP / "crates/roadmark/out/roadmark").resolve()
@@ -152,6 +177,7 @@ def main():
         store = folder / "grid.store"
         subprocess.run([program, "create", store, folder / "grid.gr", folder / "grid.ss", "--journal", "65536"], check=True, stdout=subprocess.DEVNULL)
         names = subprocess.run([TOP / "examples/pairs.sh", folder / "pipes", "16"], check=True, capture_output=True, text=True).stdout.split()
+        memory(program, folder, store)
         sqlite = sqlite_rates(folder, seconds)
         server = subprocess.Popen([program, "serve", store, *names], stdin=subprocess.PIPE, stdout=subprocess.PIPE)
         server.stdin.write(b"wait\n")

@@ -1,5 +1,5 @@
 -- A line of a command text that is read from left to right has the lowest code that applies to it, or is the command that it says.
-use Rattle.std.proofs.Common.{◌≡◌, ◌∙◌, ℕ, Bool, true, false, ◌||◌, cond, List, [], ◌∷◌, ◌++◌, None, Some, Result, Ok, Err, length, ltb, refl, sym, ap, subst, inl, inr, arith}
+use Rattle.std.proofs.Common.{◌≡◌, ◌∙◌, ℕ, Bool, true, false, ◌||◌, cond, List, [], ◌∷◌, None, Some, Result, Ok, Err, length, ltb, refl, sym, ap, subst, inl, inr, arith}
 use Rattle.std.specs.List.{find}
 use Rattle.std.proofs.lemmas.Bool.{or_parts, eqb-true, lt-ltb}
 use lib.Chars.{codes}
@@ -26,7 +26,7 @@ use Rattle.dimacs.proofs.Problems.{two_cases}
 no_command : (b : ℕ) (bs : List ℕ) (others : Row) → b ≡ 35 → command_of ((b ∷ bs) ∷ others) ≡ None
 no_command b bs others e = rw e refl
 
-ignored_command : (row : Row) → (is_empty row || is_remark 35 row) ≡ true → command_of row ≡ None
+pub ignored_command : (row : Row) → (is_empty row || is_remark 35 row) ≡ true → command_of row ≡ None
 ignored_command [] e = refl
 ignored_command ([] ∷ others) e = absurd (let absurdity : ⊥ = cc in absurdity)
 ignored_command ((b ∷ bs) ∷ others) e =

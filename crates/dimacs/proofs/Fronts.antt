@@ -92,7 +92,7 @@ onto_first-append : (x : ℕ) (parts more : List (List ℕ)) → 0 < length part
 onto_first-append x [] more some = absurd (omega arith)
 onto_first-append x (part ∷ parts) more some = refl
 
-split_at_yes : (p : ℕ → Bool) (xs : List ℕ) (b : ℕ) (ys : List ℕ) → p b ≡ true → slice_split p (xs ++ b ∷ ys) ≡ slice_split p xs ++ slice_split p ys
+pub split_at_yes : (p : ℕ → Bool) (xs : List ℕ) (b : ℕ) (ys : List ℕ) → p b ≡ true → slice_split p (xs ++ b ∷ ys) ≡ slice_split p xs ++ slice_split p ys
 split_at_yes p [] b ys hit = slice_split-cons_yes p b ys hit
 split_at_yes p (x ∷ xs) b ys hit =
     elim (cases_Bool (p x)) [
@@ -104,7 +104,7 @@ split_at_yes p (x ∷ xs) b ys hit =
     ]
 
 -- a blank ends a field, whatever stands before it
-fields_at_blank : (line : List ℕ) (b : ℕ) (ys : List ℕ) → is_blank b ≡ true → fields (line ++ b ∷ ys) ≡ fields line ++ fields ys
+pub fields_at_blank : (line : List ℕ) (b : ℕ) (ys : List ℕ) → is_blank b ≡ true → fields (line ++ b ∷ ys) ≡ fields line ++ fields ys
 fields_at_blank line b ys blank = ap (filter is_not_empty) (split_at_yes is_blank line b ys blank) ∙ filter-append is_not_empty (slice_split is_blank line) (slice_split is_blank ys)
 
 -- The carriage return at the end.
@@ -113,7 +113,7 @@ cond_cons : (b : Bool) (x : ℕ) (l m : List ℕ) → cond b (x ∷ l) (x ∷ m)
 cond_cons true x l m = refl
 cond_cons false x l m = refl
 
-strip_cons : (x y : ℕ) (ys : List ℕ) → strip_last 13 (x ∷ y ∷ ys) ≡ x ∷ strip_last 13 (y ∷ ys)
+pub strip_cons : (x y : ℕ) (ys : List ℕ) → strip_last 13 (x ∷ y ∷ ys) ≡ x ∷ strip_last 13 (y ∷ ys)
 strip_cons x y ys =
     let a : length (x ∷ y ∷ ys) - 1 ≡ suc (length ys) = omega arith in
     let b : length (y ∷ ys) - 1 ≡ length ys = omega arith in
@@ -127,7 +127,7 @@ strip_behind : (x : ℕ) (ys : List ℕ) → 0 < length ys → strip_last 13 (x 
 strip_behind x [] some = absurd (omega arith)
 strip_behind x (y ∷ ys) some = strip_cons x y ys
 
-strip_more : (xs ys : List ℕ) → 0 < length ys → strip_last 13 (xs ++ ys) ≡ xs ++ strip_last 13 ys
+pub strip_more : (xs ys : List ℕ) → 0 < length ys → strip_last 13 (xs ++ ys) ≡ xs ++ strip_last 13 ys
 strip_more [] ys some = refl
 strip_more (x ∷ xs) ys some = strip_behind x (xs ++ ys) (omega (arith, length-append xs ys)) ∙ ap (λ (l : List ℕ). x ∷ l) (strip_more xs ys some)
 

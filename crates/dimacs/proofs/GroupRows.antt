@@ -1,5 +1,5 @@
 -- Lines that are taken into groups: what is taken after each.
-use Rattle.std.proofs.Common.{◌≡◌, ◌∙◌, ℕ, ◌≤◌, Bool, true, false, true≢false, ◌||◌, eqb, ltb, List, [], ◌∷◌, ◌++◌, Option, None, Some, Ok, Err, length, refl, sym, ap, subst, arith}
+use Rattle.std.proofs.Common.{◌≡◌, ◌∙◌, ◌≤◌, Bool, true, false, true≢false, ◌||◌, ltb, List, [], ◌∷◌, ◌++◌, Option, None, Some, Ok, Err, length, refl, sym, ap, arith}
 use Rattle.std.specs.Prelude.{is_some, option_map, unwrap_or}
 use Rattle.std.proofs.lemmas.Bool.{eqb-true, lt-ltb}
 use lib.Chars.{codes}

@@ -5,6 +5,11 @@ mod DigitLemmas
 pub mod Items
 pub mod Problems
 pub mod Others
+pub mod Alikes
+pub mod AlikeNumbers
+mod AlikeTexts
+pub mod AlikeGroups
+mod ShortEnds
 mod Remarks
 mod Fronts
 pub mod Beyond

@@ -9,9 +9,11 @@ use Rattle.std.proofs.lemmas.List.Splits.{slice_split-cons_yes, slice_split-cons
 use Rattle.dimacs.specs.Lines.{is_blank, is_not_empty, fields}
 use Rattle.dimacs.specs.Faults.{Row, is_remark}
 use Rattle.dimacs.specs.Joint.{is_run}
-use Rattle.dimacs.specs.Progress.{StandsFor, IsCommentFront}
+use Rattle.dimacs.specs.Alike.{SaySame}
+use Rattle.dimacs.specs.Progress.{SameLines, StandsFor, IsCommentFront}
 use Rattle.dimacs.specs.Overflow.{EndsInBlank, IsBlankFront}
 use Rattle.dimacs.proofs.Pieces.{fields_blank}
+use Rattle.dimacs.proofs.Alikes.{remark_same_row, same_is, same_row, same_then}
 use Rattle.dimacs.proofs.Fronts.{blanks_left_out}
 
 -- the first byte that is not blank is the mark
@@ -119,21 +121,21 @@ remark_same mark front more some = remark_begins mark (front ++ more) ∙ begins
 -- What is kept.
 
 pub nothing_kept : (mark : ℕ) (kept : List ℕ) → kept ≡ [] → StandsFor mark [] kept
-nothing_kept mark kept none = rw none (inl (record { some = λ e. e; begun = λ e. e; goes_on = λ more. refl }))
+nothing_kept mark kept none = rw none (inl (record { some = λ e. e; begun = λ e. e; goes_on = λ more. same_row (fields (strip_last 13 more)) }))
 
 -- the line that a piece ends, of which nothing is kept, or something that is no comment's mark
-pub row_of_piece : (mark : ℕ) (front kept piece : List ℕ) → StandsFor mark front kept → kept ≡ [] → fields (strip_last 13 (front ++ piece)) ≡ fields (strip_last 13 piece)
-row_of_piece mark front kept piece (inl same) none = same.goes_on piece ∙ ap (λ (l : List ℕ). fields (strip_last 13 (l ++ piece))) none
+pub row_of_piece : (mark : ℕ) (front kept piece : List ℕ) → StandsFor mark front kept → kept ≡ [] → SaySame (fields (strip_last 13 (front ++ piece))) (fields (strip_last 13 piece))
+row_of_piece mark front kept piece (inl same) none = (let goes = same.goes_on piece in rw none at goes)
 row_of_piece mark front kept piece (inr both) none = absurd (let clash : mark ∷ [] ≡ [] = sym both.1 ∙ none in cc)
 
-pub row_of_kept : (mark : ℕ) (front kept piece : List ℕ) → StandsFor mark front kept → (kept ≡ mark ∷ [] → ⊥) → fields (strip_last 13 (front ++ piece)) ≡ fields (strip_last 13 (kept ++ piece))
+pub row_of_kept : (mark : ℕ) (front kept piece : List ℕ) → StandsFor mark front kept → (kept ≡ mark ∷ [] → ⊥) → SaySame (fields (strip_last 13 (front ++ piece))) (fields (strip_last 13 (kept ++ piece)))
 row_of_kept mark front kept piece (inl same) other = same.goes_on piece
 row_of_kept mark front kept piece (inr both) other = absurd (other both.1)
 
 -- of a comment only its mark is kept
 pub front_of_mark : (mark : ℕ) (front kept : List ℕ) → eqb 13 mark ≡ false → is_blank mark ≡ false → StandsFor mark front kept → kept ≡ mark ∷ [] → IsCommentFront mark front
 front_of_mark mark front kept no_return no_blank (inl same) is =
-    λ more. ap (is_remark mark) (same.goes_on more ∙ ap (λ (l : List ℕ). fields (strip_last 13 (l ++ more))) is) ∙ remark_goes_on mark (mark ∷ []) more no_return (mark_remark mark no_blank)
+    λ more. remark_same_row mark _ _ (same.goes_on more) ∙ ap (λ (l : List ℕ). is_remark mark (fields (strip_last 13 (l ++ more)))) is ∙ remark_goes_on mark (mark ∷ []) more no_return (mark_remark mark no_blank)
 front_of_mark mark front kept no_return no_blank (inr both) is = both.0
 
 comment_more : (mark : ℕ) (front piece : List ℕ) → IsCommentFront mark front → IsCommentFront mark (front ++ piece)
@@ -148,11 +150,11 @@ nothing_more mark front kept piece none stands = rw (none, append-nil front) sta
 -- a piece that begins a comment
 pub mark_of_piece : (mark : ℕ) (front kept piece new : List ℕ) → eqb 13 mark ≡ false → StandsFor mark front kept → kept ≡ [] → is_remark mark (fields piece) ≡ true → new ≡ mark ∷ [] → StandsFor mark (front ++ piece) new
 mark_of_piece mark front kept piece new no_return stands none is made =
-    inr (λ more. ap (λ (l : List ℕ). is_remark mark (fields (strip_last 13 l))) (append_assoc front piece more) ∙ ap (is_remark mark) (row_of_piece mark front kept (piece ++ more) stands none) ∙ remark_goes_on mark piece more no_return is, made)
+    inr (λ more. ap (λ (l : List ℕ). is_remark mark (fields (strip_last 13 l))) (append_assoc front piece more) ∙ remark_same_row mark _ _ (row_of_piece mark front kept (piece ++ more) stands none) ∙ remark_goes_on mark piece more no_return is, made)
 
 -- what is kept turns out to be a comment
 pub mark_of_kept : (mark : ℕ) (front kept new : List ℕ) → eqb 13 mark ≡ false → StandsFor mark front kept → is_remark mark (fields kept) ≡ true → new ≡ mark ∷ [] → StandsFor mark front new
-mark_of_kept mark front kept new no_return (inl same) is made = inr (λ more. ap (is_remark mark) (same.goes_on more) ∙ remark_goes_on mark kept more no_return is, made)
+mark_of_kept mark front kept new no_return (inl same) is made = inr (λ more. remark_same_row mark _ _ (same.goes_on more) ∙ remark_goes_on mark kept more no_return is, made)
 mark_of_kept mark front kept new no_return (inr both) is made = inr (both.0, made)
 
 grows : (a b n : ℕ) → (0 < a → 0 < b) → 0 < a + n → 0 < b + n
@@ -166,9 +168,7 @@ more_kept mark front kept piece new (inl same) other made =
     inl (record {
       some = λ e. rw (made, length-append kept piece) (grows (length front) (length kept) (length piece) same.some (rw (length-append front piece) at e));
       begun = λ e. rw (length-append front piece) (grows (length kept) (length front) (length piece) same.begun (rw (made, length-append kept piece) at e));
-      goes_on = λ more.
-          ap (λ (l : List ℕ). fields (strip_last 13 l)) (append_assoc front piece more) ∙ same.goes_on (piece ++ more)
-          ∙ ap (λ (l : List ℕ). fields (strip_last 13 l)) (sym (append_assoc kept piece more)) ∙ ap (λ (l : List ℕ). fields (strip_last 13 (l ++ more))) (sym made);
+      goes_on = λ more. rw (made, append_assoc front piece more, append_assoc kept piece more) (same.goes_on (piece ++ more));
     })
 
 -- and blanks behind a blank are left out
@@ -180,10 +180,22 @@ blanks_not_kept mark front kept piece rest new (inl same) other ends (blanks, is
       some = λ e. rw (made, length-append kept rest) (omega (arith, some));
       begun = λ e. rw (length-append front piece) (omega (arith, same.begun some));
       goes_on = λ more.
-          ap (λ (l : List ℕ). fields (strip_last 13 l)) (append_assoc front piece more) ∙ same.goes_on (piece ++ more)
-          ∙ ap (λ (l : List ℕ). fields (strip_last 13 (kept ++ (l ++ more)))) is ∙ ap (λ (l : List ℕ). fields (strip_last 13 (kept ++ l))) (append_assoc blanks rest more)
+          let goes : SaySame (fields (strip_last 13 ((front ++ piece) ++ more))) (fields (strip_last 13 (kept ++ (piece ++ more)))) = rw (append_assoc front piece more) (same.goes_on (piece ++ more)) in
+          let left_out : fields (strip_last 13 (kept ++ (piece ++ more))) ≡ fields (strip_last 13 (new ++ more))
+          = ap (λ (l : List ℕ). fields (strip_last 13 (kept ++ (l ++ more)))) is ∙ ap (λ (l : List ℕ). fields (strip_last 13 (kept ++ l))) (append_assoc blanks rest more)
           ∙ blanks_left_out kept blanks (rest ++ more) ends all
-          ∙ ap (λ (l : List ℕ). fields (strip_last 13 l)) (sym (append_assoc kept rest more)) ∙ ap (λ (l : List ℕ). fields (strip_last 13 (l ++ more))) (sym made);
+          ∙ ap (λ (l : List ℕ). fields (strip_last 13 l)) (sym (append_assoc kept rest more)) ∙ ap (λ (l : List ℕ). fields (strip_last 13 (l ++ more))) (sym made) in
+          same_then _ _ _ goes (same_is _ _ left_out);
+    })
+
+-- digits of a numeral are left out
+pub digits_not_kept : (mark : ℕ) (front kept new : List ℕ) → StandsFor mark front kept → is_remark mark (fields kept) ≡ false → is_blank mark ≡ false → SameLines kept new → StandsFor mark front new
+digits_not_kept mark front kept new (inr both) other no_blank next = absurd (let clash : is_remark mark (fields kept) ≡ true = rw both.1 (mark_remark mark no_blank) in cc)
+digits_not_kept mark front kept new (inl same) other no_blank next =
+    inl (record {
+      some = λ e. next.some (same.some e);
+      begun = λ e. same.begun (next.begun e);
+      goes_on = λ more. same_then _ _ _ (same.goes_on more) (next.goes_on more);
     })
 
 -- The same of a call that may find no memory.

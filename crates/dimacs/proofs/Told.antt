@@ -9,6 +9,8 @@ use Rattle.dimacs.specs.Joint.{is_run}
 use Rattle.dimacs.specs.Taking.{Takes, ByMemory}
 use Rattle.dimacs.specs.Progress.{StandsFor}
 use Rattle.dimacs.specs.Overflow.{overflows, OverflowsBehind, Overflowing, IsFaultOfFront}
+use Rattle.dimacs.specs.Alike.{SaySame}
+use Rattle.dimacs.proofs.Alikes.{run_same_row}
 use Rattle.dimacs.proofs.Items.{by_memory_of}
 use Rattle.dimacs.proofs.Fronts.{strip_front, stripped_front}
 use Rattle.dimacs.proofs.Remarks.{remark_same, remark_grows, mark_remark}
@@ -17,7 +19,7 @@ use Rattle.dimacs.proofs.Beyond.{beyond_no_run}
 module _ {S : Type 0} (judge : Judge) (has_taken : List Row → S → Type 0) (mark : ℕ) (code_of : List Row → Row → Code)
     (law : (earlier : List Row) (before : Row) (field : List ℕ) (after : Row) → overflows before field ≡ true → is_remark mark (before ++ field ∷ after) ≡ false
     → judge earlier (before ++ field ∷ after) ≡ Some (code_of earlier before))
-    (no_blank : is_blank mark ≡ false) where
+    (no_blank : is_blank mark ≡ false) (judged : (earlier : List Row) (one other : Row) → SaySame one other → judge earlier one ≡ judge earlier other) where
   -- the code of a row that overflows behind these fields
   code_behind : (earlier : List Row) (before row : Row) → OverflowsBehind before row → is_remark mark row ≡ false → judge earlier row ≡ Some (code_of earlier before)
   code_behind earlier before row (field, after, is, over) other = rw is (law earlier before field after over (rw is at other))
@@ -43,21 +45,21 @@ module _ {S : Type 0} (judge : Judge) (has_taken : List Row → S → Type 0) (m
   -- the code with which the front is refused as a line is that of each line that begins with it
   pub front_told : (earlier : List Row) (front kept : List ℕ) (code : Code) → StandsFor mark front kept → is_remark mark (fields kept) ≡ false → Overflowing (strip_last 13 kept)
       → judge earlier (fields (strip_last 13 kept)) ≡ Some code → IsFaultOfFront judge earlier front code
-  front_told earlier front kept code (inr both) other over judged = absurd (let clash : is_remark mark (fields kept) ≡ true = rw both.1 (mark_remark mark no_blank) in cc)
-  front_told earlier front kept code (inl same) other over judged = λ more.
+  front_told earlier front kept code (inr both) other over told = absurd (let clash : is_remark mark (fields kept) ≡ true = rw both.1 (mark_remark mark no_blank) in cc)
+  front_told earlier front kept code (inl same) other over told = λ more.
       let rest = strip_front kept more in
       let here = over.1 rest.0 in
-      let whole : fields (strip_last 13 (front ++ more)) ≡ fields (strip_last 13 kept ++ rest.0) = same.goes_on more ∙ ap fields rest.1 in
+      let whole : SaySame (fields (strip_last 13 (front ++ more))) (fields (strip_last 13 kept ++ rest.0)) = (let goes = same.goes_on more in rw rest.1 at goes) in
       let plain : is_remark mark (fields (strip_last 13 kept)) ≡ false = not_remark kept other in
       let some : 0 < length (fields (strip_last 13 kept)) = some_behind over.0 _ (front_behind kept over) in
       let goes : is_remark mark (fields (strip_last 13 kept ++ rest.0)) ≡ false = remark_same mark (strip_last 13 kept) rest.0 some ∙ plain in
-      let code_is : ◌≡◌ {A = Option Code} (Some (code_of earlier over.0)) (Some code) = sym (code_behind earlier over.0 _ (front_behind kept over) plain) ∙ judged in
-      (rw whole (code_behind earlier over.0 _ here goes ∙ code_is), rw whole (run_behind over.0 _ here))
+      let code_is : ◌≡◌ {A = Option Code} (Some (code_of earlier over.0)) (Some code) = sym (code_behind earlier over.0 _ (front_behind kept over) plain) ∙ told in
+      (judged earlier _ _ whole ∙ code_behind earlier over.0 _ here goes ∙ code_is, run_same_row _ _ whole ∙ run_behind over.0 _ here)
 
   -- the same of what taking the front as a line answers
   pub told_early : (earlier : List Row) (front kept : List ℕ) (code : Code) → StandsFor mark front kept → is_remark mark (fields kept) ≡ false → Overflowing (strip_last 13 kept)
       → ByMemory code (judge earlier (fields (strip_last 13 kept)) ≡ Some code) (judge earlier (fields (strip_last 13 kept)) ≡ None) → ByMemory code (IsFaultOfFront judge earlier front code) ⊤
-  told_early earlier front kept code stands other over refused = by_memory_of code refused (λ judged. front_told earlier front kept code stands other over judged) (λ none. tt)
+  told_early earlier front kept code stands other over refused = by_memory_of code refused (λ told. front_told earlier front kept code stands other over told) (λ none. tt)
 
   -- it is never taken
   pub never_taken : (P : Type 0) (earlier : List Row) (kept : List ℕ) (new : S) → is_remark mark (fields kept) ≡ false → Overflowing (strip_last 13 kept)

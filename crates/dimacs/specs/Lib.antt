@@ -11,6 +11,8 @@ pub mod Reading
 pub mod Content
 pub mod Joint
 pub mod Overflow
+pub mod Alike
+pub mod NumeralEnds
 pub mod Taking
 pub mod Ends
 pub mod Counts

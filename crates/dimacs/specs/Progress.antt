@@ -13,6 +13,7 @@ use Rattle.dimacs.specs.Lines.{is_line_feed, rows, fields}
 use Rattle.dimacs.specs.Faults.{Row, Judge, is_remark, problem_of, announced, items_of, first_fault, end_code}
 use Rattle.dimacs.specs.Content.{arc_of, network_of}
 use Rattle.dimacs.specs.Joint.{is_run, has_run}
+use Rattle.dimacs.specs.Alike.{SaySame}
 use Rattle.dimacs.specs.Taking.{ByMemory}
 use Rattle.roadnet.specs.Net.{Net}
 
@@ -37,19 +38,19 @@ abbrev pub AtEnd : List Row → Bool → Result (Net × Bool) Fault → Type 0
 AtEnd lines at_run (Ok found) = (end_code gr lines ≡ None) × (found.0 ≡ network_of lines) × (found.1 ≡ at_run)
 AtEnd lines at_run (Err fault) = ByMemory fault.code (end_code gr lines ≡ Some fault.code) ⊥ × (fault.line ≡ length lines)
 
--- lines that begin with a front have the fields of those that begin with what is kept of it, and something is kept of a line that has begun
-pub record SameFields (front kept : List ℕ) : Type 0 where
+-- lines that begin with a front say the same as those that begin with what is kept of it, and something is kept of a line that has begun
+pub record SameLines (front kept : List ℕ) : Type 0 where
   pub some : 0 < length front → 0 < length kept
   pub begun : 0 < length kept → 0 < length front
-  pub goes_on : (more : List ℕ) → fields (strip_last 13 (front ++ more)) ≡ fields (strip_last 13 (kept ++ more))
+  pub goes_on : (more : List ℕ) → SaySame (fields (strip_last 13 (front ++ more))) (fields (strip_last 13 (kept ++ more)))
 
 -- each line that begins with this front is a comment
 abbrev pub IsCommentFront : ℕ → List ℕ → Type 0
 IsCommentFront mark front = (more : List ℕ) → is_remark mark (fields (strip_last 13 (front ++ more))) ≡ true
 
--- what is kept of the front of a line: as much as says its fields, or of a comment only its mark
+-- what is kept of the front of a line: as much as says the same, or of a comment only its mark
 abbrev pub StandsFor : ℕ → List ℕ → List ℕ → Type 0
-StandsFor mark front kept = SameFields front kept ⊎ (IsCommentFront mark front × (kept ≡ mark ∷ []))
+StandsFor mark front kept = SameLines front kept ⊎ (IsCommentFront mark front × (kept ≡ mark ∷ []))
 
 -- a line is taken, or it is the line `run` at which to stop, or it has a fault, or memory ran out
 abbrev pub TakesOrRuns : {S : Type 0} → Judge → (List Row → S → Type 0) → Bool → List Row → Row → S → Result Bool Code → Type 0

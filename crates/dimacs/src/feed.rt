@@ -1,10 +1,11 @@
 //! The lines of a text, taken from its bytes piece by piece.
-ghost use Rattle.std.specs.Prelude.{◌≡◌, ◌≢◌, ◌+◌, ◌-◌, ◌^◌, ◌<◌, ◌≤◌, ◌++◌, ◌∷◌, ℕ, List, length, IfOk, IfErr, IfSome, OnOk, OnErr, Some, [], true, ⊤};
+ghost use Rattle.std.specs.Prelude.{◌≡◌, ◌≢◌, ◌+◌, ◌-◌, ◌*◌, ◌^◌, ◌<◌, ◌≤◌, ◌⊎◌, ◌++◌, ◌∷◌, ℕ, List, length, IfOk, IfErr, IfSome, OnOk, OnErr, Some, [], true, ⊤};
 ghost use Rattle.std.specs.Io.BufRead.{strip_last};
 ghost use Rattle.dimacs.specs.Lines.{fields, rows};
 ghost use Rattle.dimacs.specs.Faults.{Row};
 ghost use Rattle.dimacs.specs.Progress.{StandsFor, Within, Feeds, TakesOrRuns};
 ghost use Rattle.dimacs.specs.Overflow.{IsFaultOfFront};
+ghost use Rattle.dimacs.specs.NumeralEnds.{HasShortEnd};
 ghost use Rattle.dimacs.specs.Taking.{ByMemory};
 ghost use Rattle.dimacs.specs.Ends.{HasTakenSome, ParsesLines, ReadsLines};
 ghost use Rattle.dimacs.specs.Counts.{CountsFailures, IsSameReader, failed_calls, reader_of};
@@ -63,6 +64,7 @@ impl<T: TakeLines> Feed<T> {
             self.kept.clear();
             return Ok(false);
         }
+        self.taker.same_is_taken();
         self.kept.take_whole(&mut self.taker, self.until_run, piece)
     }
 
@@ -103,8 +105,8 @@ impl<T: TakeLines> Feed<T> {
         self.kept.append(&[T::COMMENT])
     }
 
-    /// Looks at what is kept, once it is twice as much as at the last look: of a comment its mark is kept, and the fault of a line
-    /// that overflows is told.
+    /// Looks at what is kept, once it is twice as much as at the last look: of a comment its mark is kept, the fault of a line
+    /// that overflows is told, and of a long numeral at the end as many digits are kept as tell its size.
     fn look(&mut self) -> Result<(), Code>
         ensures kept { OnOk result ((front : List ℕ) → StandsFor T.COMMENT front self.old.kept.bytes.items
             → StandsFor T.COMMENT front self.new.kept.bytes.items) }
@@ -112,6 +114,7 @@ impl<T: TakeLines> Feed<T> {
             → StandsFor T.COMMENT front self.old.kept.bytes.items
             → IfErr result (λ code. ByMemory code (IsFaultOfFront T.judge earlier front code) ⊤) }
         ensures reads_nothing { IfErr result (λ code. code ≢ Code.Read) }
+        ensures short { OnOk result ((length self.new.kept.bytes.items < 2 * self.new.kept.judged) ⊎ HasShortEnd self.new.kept.bytes.items) }
         ensures taker { OnOk result (self.new.taker ≡ self.old.taker) }
         ensures lines { self.new.lines ≡ self.old.lines }
         ensures until { self.new.until_run ≡ self.old.until_run }
@@ -125,9 +128,11 @@ impl<T: TakeLines> Feed<T> {
         }
         let front = without_carriage_return(self.kept.seen());
         if !overflows(front) {
+            self.kept.shorten();
             return Ok(());
         }
         self.taker.overflow_decides();
+        self.taker.same_is_taken();
         match self.taker.take_line(front) {
             // a line that overflows has a fault
             Ok(()) => Err(Code::BadLine),

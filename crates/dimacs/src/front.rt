@@ -3,28 +3,34 @@ ghost use Rattle.std.specs.Prelude.{◌≡◌, ◌+◌, ◌*◌, ◌<◌, ◌≤
 
 use crate::fault::Code;
 use crate::line::{ends_in_blank, without_carriage_return};
+use crate::numeral_end::{digits_at_end, zeros_in_front};
 use crate::taking::{TakeLines, take_or_run};
 use std::alloc::Global;
 
+/// More digits than a size of 64 bits has.
+const MOST_DIGITS: usize = 21;
+
 /// What is kept of the front of a line. All of it is looked at when it is twice as much as at the last look, and once more where the line
-/// ends, when it is dropped: so its bytes are looked at three times at most, taken together.
+/// ends, when it is dropped: so its bytes are looked at three times at most, taken together, with those that a look left out.
 #[derive(Drop)]
 pub(crate) struct Front {
     bytes: Vec<u8>,
     /// How many bytes were kept at the last look.
     judged: usize,
-    /// How many bytes all looks saw.
+    /// How many bytes all looks saw, but for two looks at each byte that was left out.
     looked: usize,
     ghost within: { judged ≤ length bytes.items },
     ghost linear: { looked ≤ 2 * judged },
 }
 
 impl Front {
-    ghost use Rattle.std.specs.Prelude.{◌≢◌, List};
+    ghost use Rattle.std.specs.Prelude.{◌≢◌, ℕ, List};
     ghost use Rattle.std.specs.Io.BufRead.{strip_last};
     ghost use Rattle.dimacs.specs.Lines.{fields};
     ghost use Rattle.dimacs.specs.Faults.{Row};
     ghost use Rattle.dimacs.specs.Overflow.{EndsInBlank};
+    ghost use Rattle.dimacs.specs.Alike.{SaySame};
+    ghost use Rattle.dimacs.specs.NumeralEnds.{HasShortEnd};
     ghost use Rattle.dimacs.specs.Progress.{TakesOrRuns};
 
     /// Nothing is kept.
@@ -101,6 +107,32 @@ impl Front {
         self.judged = length;
         self.looked += length;
         true
+    }
+
+    /// Leaves digits out of a long numeral at the end, behind another field: zeros in front, and what follows 21 digits. It is part of a
+    /// look, and two looks at each byte that it leaves out are struck off.
+    pub(crate) fn shorten(&mut self)
+        requires { self.old.judged ≡ length self.old.bytes.items }
+        ensures same { (more : List ℕ) → SaySame (fields (strip_last 13 (self.old.bytes.items ++ more))) (fields (strip_last 13 (self.new.bytes.items ++ more))) }
+        ensures some { (0 < length self.old.bytes.items → 0 < length self.new.bytes.items) × (0 < length self.new.bytes.items → 0 < length self.old.bytes.items) }
+        ensures short { HasShortEnd self.new.bytes.items }
+        ensures looked { self.old.looked + 2 * length self.new.bytes.items ≤ self.new.looked + 2 * length self.old.bytes.items }
+    {
+        let Some(start) = digits_at_end(self.seen()) else {
+            return;
+        };
+        let count = self.bytes.len() - start;
+        if count <= MOST_DIGITS {
+            return;
+        }
+        let more = count - MOST_DIGITS;
+        let (_, digits) = self.seen().split_at(start);
+        let zeros = zeros_in_front(digits).min(more);
+        self.bytes
+            .copy_within(start + zeros..start + zeros + MOST_DIGITS, start);
+        self.bytes.truncate(start + MOST_DIGITS);
+        self.judged = self.judged.saturating_sub(more);
+        self.looked = self.looked.saturating_sub(2 * more);
     }
 
     /// All that is kept, which counts as looked at.

@@ -112,6 +112,8 @@ impl TakeLines for GrLines {
 
     fn overflow_decides(&self) {}
 
+    fn same_is_taken(&self) {}
+
     ghost run_is_no_comment = { refl };
 
     ghost return_is_no_comment = { refl };

@@ -65,6 +65,8 @@ impl NodeItem for u32 {
 
     ghost letter_is_no_problem = { refl };
 
+    ghost says_by_sizes = { λ one other same. same 0 };
+
     ghost word_is_short = { refl };
 
     ghost numbers_are_few = { refl };

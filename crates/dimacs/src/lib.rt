@@ -13,6 +13,7 @@ mod laws;
 mod line;
 mod listed;
 mod numeral;
+mod numeral_end;
 mod open_group;
 mod pairs;
 mod problem;

@@ -11,7 +11,7 @@ ghost use Rattle.dimacs.specs.Overflow.{GoesOn, has_other_byte, is_beyond, Overf
 
 use memchr::memchr;
 
-fn is_blank(byte: u8) -> bool
+pub(crate) fn is_blank(byte: u8) -> bool
     ensures { result ≡ is_blank byte }
 {
     byte == b' ' || byte == b'\t'
@@ -66,7 +66,7 @@ fn is_decimal(byte: u8) -> bool
     char::from(byte).is_digit(10)
 }
 
-fn are_decimal(digits: &[u8]) -> bool
+pub(crate) fn are_decimal(digits: &[u8]) -> bool
     ensures { result ≡ list_all is_decimal digits.now }
 {
     digits.iter().all(|byte| is_decimal(*byte))

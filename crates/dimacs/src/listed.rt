@@ -6,6 +6,7 @@ ghost use lib.Chars.{codes};
 ghost use Rattle.dimacs.specs.Lines.{fields};
 ghost use Rattle.dimacs.specs.Format.{Quantity};
 ghost use Rattle.dimacs.specs.Faults.{Row, code_of};
+ghost use Rattle.dimacs.specs.Content.{size_at};
 ghost use Rattle.dimacs.specs.Taking.{Takes};
 ghost use Rattle.dimacs.specs.Listed.{kind_words, listed, text_of_items, ReadsItem, HasItems};
 ghost use Rattle.dimacs.specs.ListedReading.{count_after, count_of_numeral};
@@ -65,6 +66,9 @@ pub(crate) trait NodeItem: Copy {
     ghost letter_is_no_mark: { (LETTER == 99) ≡ false };
 
     ghost letter_is_no_problem: { (LETTER == 112) ≡ false };
+
+    // the sizes of the numbers tell the item
+    ghost says_by_sizes: { (one other : Row) → ((k : ℕ) → size_at one k ≡ size_at other k) → says one ≡ says other };
 
     // the word is no longer than the words of texts, and the numbers are few
     ghost word_is_short: { nat_lt 16 (length word) ≡ false };
@@ -205,6 +209,8 @@ impl<I: NodeItem, K: NodeCount> TakeLines for NodeLines<I, K> {
     fn pass_comment(&mut self) {}
 
     fn overflow_decides(&self) {}
+
+    fn same_is_taken(&self) {}
 
     ghost run_is_no_comment = { refl };
 

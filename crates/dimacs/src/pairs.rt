@@ -79,6 +79,8 @@ impl NodeItem for Pair {
 
     ghost letter_is_no_problem = { refl };
 
+    ghost says_by_sizes = { λ one other same. λ i. record { source = same 0 i; target = same 1 i } };
+
     ghost word_is_short = { refl };
 
     ghost numbers_are_few = { refl };

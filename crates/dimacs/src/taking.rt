@@ -4,6 +4,7 @@ ghost use Rattle.dimacs.specs.Lines.{fields, is_blank};
 ghost use Rattle.dimacs.specs.Faults.{Row, Judge, is_remark};
 ghost use Rattle.dimacs.specs.Taking.{Takes};
 ghost use Rattle.dimacs.specs.Overflow.{overflows};
+ghost use Rattle.dimacs.specs.Alike.{SaySame};
 ghost use Rattle.dimacs.specs.Progress.{TakesOrRuns};
 ghost use Rattle.dimacs.specs.declared.fault.Code.{Code};
 
@@ -44,6 +45,12 @@ pub trait TakeLines: Drop {
         ensures { (earlier : List Row) (before : Row) (field : List ℕ) (after : Row) → overflows before field ≡ true
             → is_remark COMMENT (before ++ field ∷ after) ≡ false
             → judge earlier (before ++ field ∷ after) ≡ Some (code_of_overflow earlier before) };
+
+    /// A law, without code: lines that say the same have the same fault, and what was given one of them was given the other, if it has none.
+    fn same_is_taken(&self)
+        ensures judged { (earlier : List Row) (one other : Row) → SaySame one other → judge earlier one ≡ judge earlier other }
+        ensures taken { (earlier : List Row) (one other : Row) (value : Self) → SaySame one other → judge earlier one ≡ None
+            → has_taken (earlier ++ other ∷ []) value → has_taken (earlier ++ one ∷ []) value };
 
     // no comment is the line `run`, nor begins with a carriage return or a blank
     ghost run_is_no_comment: { (114 == COMMENT) ≡ false };

@@ -73,7 +73,7 @@ fn told(
     })
 }
 
-const ROWS: [(Kind, &[u8], &[u8], u64, Code); 24] = [
+const ROWS: [(Kind, &[u8], &[u8], u64, Code); 25] = [
     (Kind::Network, b"", ZERO_BYTES, 1, Code::BadLine),
     (Kind::Network, b"", LETTERS, 1, Code::BadLine),
     (Kind::Network, b" ", DIGITS, 1, Code::BadLine),
@@ -129,6 +129,7 @@ const ROWS: [(Kind, &[u8], &[u8], u64, Code); 24] = [
         1,
         Code::BadLine,
     ),
+    (Kind::Script, b"dist 1 6\nstep ", DIGITS, 2, Code::Read),
 ];
 
 /// A fault that is certain is told before 1,200 bytes of the line are read, through buffers of one byte and of 64. Refused is a body that judges a

@@ -4,3 +4,4 @@ pub mod ScriptPicks
 pub mod ScriptSteps
 pub mod ScriptStops
 pub mod ScriptBeyond
+pub mod ScriptAlike

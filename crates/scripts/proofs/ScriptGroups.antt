@@ -1,5 +1,5 @@
 -- Lines of a script that are taken, within groups and outside of them, and what is taken after each.
-use Rattle.std.proofs.Common.{◌≡◌, ◌∙◌, ℕ, Bool, true, false, true≢false, ◌||◌, cond, List, [], ◌∷◌, ◌++◌, Option, None, Some, Result, Ok, Err, length, ◌≤◌, map, refl, sym, ap, subst, append_assoc}
+use Rattle.std.proofs.Common.{◌≡◌, ◌∙◌, Bool, true, false, true≢false, ◌||◌, List, [], ◌∷◌, ◌++◌, Option, None, Some, Ok, Err, map, refl, sym, ap, append_assoc}
 use Rattle.std.specs.Prelude.{is_some, option_map}
 use Rattle.std.specs.List.{cons_option}
 use Rattle.std.proofs.lemmas.List.{append-nil, map-append}
@@ -9,7 +9,7 @@ use Rattle.roadnet.specs.Groups.{IsGroup}
 use Rattle.dimacs.specs.declared.fault.Code.{Code}
 use Rattle.dimacs.specs.declared.fault.Code.TheVariants.{BadLine}
 use Rattle.dimacs.specs.Commands.{commands, command_code}
-use Rattle.dimacs.specs.Commanded.{begins, command_of, ends, group_code, grouping_of}
+use Rattle.dimacs.specs.Commanded.{begins, command_of, ends, group_code}
 use Rattle.dimacs.specs.CommandReading.{ReadsLine as ReadsCommand}
 use Rattle.dimacs.specs.Faults.{Row, is_empty, is_remark}
 use Rattle.dimacs.specs.OpenGroups.{is_full_group, IsUnended, IsNotAdded}
@@ -26,7 +26,7 @@ use Rattle.scripts.specs.ScriptReading.{HasEvents, ReadsLine}
 use Rattle.scripts.proofs.ScriptLines.{ignored_row}
 
 -- ---- one line more
-behind_more : (before earlier : List Row) (row : Row) → lines_behind before (earlier ++ row ∷ []) ≡ lines_behind before earlier ++ event_at (before ++ earlier) row
+pub behind_more : (before earlier : List Row) (row : Row) → lines_behind before (earlier ++ row ∷ []) ≡ lines_behind before earlier ++ event_at (before ++ earlier) row
 behind_more before [] row = append-nil (event_at before row) ∙ ap (λ (b : List Row). event_at b row) (sym (append-nil before))
 behind_more before (r ∷ rs) row =
     ap (λ (l : List ScriptLine). event_at before r ++ l) (behind_more (before ++ r ∷ []) rs row)

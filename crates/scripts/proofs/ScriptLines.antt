@@ -1,5 +1,5 @@
 -- A line of a script that is read from left to right has the lowest code that applies to it, or is the event that it says.
-use Rattle.std.proofs.Common.{◌≡◌, ◌∙◌, ℕ, Bool, true, false, ◌||◌, cond, eqb, List, [], ◌∷◌, ◌++◌, None, Some, Result, Ok, Err, length, ltb, map, refl, sym, ap, subst, arith}
+use Rattle.std.proofs.Common.{◌≡◌, ◌∙◌, ℕ, true, false, ◌||◌, cond, eqb, List, [], ◌∷◌, None, Some, Result, Ok, Err, length, ltb, refl, sym, ap, subst, arith}
 use Rattle.std.proofs.lemmas.Bool.{eqb-true, lt-ltb, ne_eqb}
 use lib.Chars.{codes}
 use Rattle.dimacs.specs.declared.fault.Code.{Code}
@@ -37,7 +37,7 @@ empty_code earlier = refl
 no_event : (b : ℕ) (bs : List ℕ) (others : Row) → b ≡ 35 → line_of ((b ∷ bs) ∷ others) ≡ None
 no_event b bs others e = rw e refl
 
-ignored : (earlier : List Row) (row : Row) → (is_empty row || is_remark 35 row) ≡ true → (event_code earlier row ≡ None) × (line_of row ≡ None)
+pub ignored : (earlier : List Row) (row : Row) → (is_empty row || is_remark 35 row) ≡ true → (event_code earlier row ≡ None) × (line_of row ≡ None)
 ignored earlier [] e = (empty_code earlier, refl)
 ignored earlier ([] ∷ others) e = absurd (let absurdity : ⊥ = cc in absurdity)
 ignored earlier ((b ∷ bs) ∷ others) e =

@@ -246,6 +246,8 @@ impl TakeLines for EventLines {
 
     fn overflow_decides(&self) {}
 
+    fn same_is_taken(&self) {}
+
     ghost run_is_no_comment = { refl };
 
     ghost return_is_no_comment = { refl };

@@ -6,4 +6,6 @@ mod faults;
 #[cfg(test)]
 mod networks;
 #[cfg(test)]
+mod numerals;
+#[cfg(test)]
 mod others;

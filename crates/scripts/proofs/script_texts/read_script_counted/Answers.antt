@@ -1,4 +1,3 @@
-use Rattle.std.proofs.Common.{map}
 use Rattle.std.proofs.lemmas.Result.{err_from_is_err_and}
 use Rattle.dimacs.specs.Counts.{reader_of}
 use Rattle.dimacs.proofs.TextEnds.{read_ended, read_told}

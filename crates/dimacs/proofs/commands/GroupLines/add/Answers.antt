@@ -1,4 +1,4 @@
-use Rattle.std.proofs.Common.{◌≡◌, ◌∙◌, refl, sym}
+use Rattle.std.proofs.Common.{◌∙◌, refl, sym}
 use Rattle.dimacs.proofs.GroupCodes.{command_outside, not_added, shut_of}
 use Rattle.dimacs.proofs.GroupRows.{opened_is, takes_added, takes_outside}
 use Rattle.dimacs.proofs.commands.GroupLines.add.Goals as goal

@@ -2,6 +2,7 @@ use Rattle.std.proofs.Common.{◌≡◌, ◌++◌, ◌∷◌, [], true, rules}
 use Rattle.std.specs.Io.BufRead.{strip_last}
 use Rattle.dimacs.specs.Lines.{fields}
 use Rattle.dimacs.specs.Faults.{is_remark}
+use Rattle.dimacs.proofs.Alikes.{answered_same}
 use Rattle.dimacs.proofs.Remarks.{front_of_mark, remark_is_no_run, row_of_kept}
 use Rattle.dimacs.proofs.feed.Feed.take_whole.Goals as goal
 
@@ -17,4 +18,5 @@ pub returns-clause-taken : goal.returns-clause-taken
 returns-clause-taken g c earlier front taken stands =
     let mark = g.T.TakeLines.COMMENT in
     let other : c.args.self.now.kept.bytes.items ≡ mark ∷ [] → ⊥ = λ is. absurd (let yes = c.is_comment.ensures.no is in search rules) in
-    rw (row_of_kept mark front c.args.self.now.kept.bytes.items c.args.piece.now stands other) (c.take_whole.ensures.taken earlier taken)
+    answered_same g.T.TakeLines.judge g.T.TakeLines.has_taken c.same_is_taken.ensures.judged c.same_is_taken.ensures.taken c.args.self.now.until_run earlier _ _ _ c.take_whole.result
+    (row_of_kept mark front c.args.self.now.kept.bytes.items c.args.piece.now stands other) (c.take_whole.ensures.taken earlier taken)

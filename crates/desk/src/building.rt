@@ -37,10 +37,36 @@ impl<N: Naming, D: Disk + Drop, G: Gate + Drop + Sync> Shared<Office<N, D>, G> {
         attempt
     }
 
-    /// Builds the view of a task and shows it, or gives the task up.
-    fn carry_out<R: Threads + Wait + Sync>(&self, rt: &R, plan: &Plan, task: Task) -> Attempt {
-        let unbuilt = match plan.build(rt, &self.gate, &self.last, &task) {
-            Ok(view) => return self.show(rt, task.version, view),
+    /// Shows the view and keeps it, or gives its task up.
+    fn show_and_keep<R: Wait>(
+        &self,
+        rt: &R,
+        version: u64,
+        view: Arc<View>,
+        kept: &mut Option<Arc<View>>,
+    ) -> Attempt {
+        let shared = Arc::try_clone(&view);
+        let attempt = self.show(rt, version, view);
+        if attempt == Attempt::Done {
+            *kept = shared.ok();
+        }
+        attempt
+    }
+
+    /// Builds the view of a task, out of the view that is kept, and shows it, or gives the task up. A view that is shown is kept for the next.
+    fn carry_out<R: Threads + Wait + Sync>(
+        &self,
+        rt: &R,
+        plan: &Plan,
+        task: Task,
+        kept: &mut Option<Arc<View>>,
+    ) -> Attempt {
+        let built = match kept {
+            Some(old) => plan.build(rt, &self.gate, &self.last, &task, Some(old)),
+            None => plan.build(rt, &self.gate, &self.last, &task, None),
+        };
+        let unbuilt = match built {
+            Ok(view) => return self.show_and_keep(rt, task.version, view, kept),
             Err(unbuilt) => unbuilt,
         };
         if let Some(locked) = &mut self.lock(rt).locked {
@@ -53,7 +79,13 @@ impl<N: Naming, D: Disk + Drop, G: Gate + Drop + Sync> Shared<Office<N, D>, G> {
     }
 
     /// Takes a task, unless the gate holds it up, and carries it out.
-    fn build<R: Threads + Wait + Sync>(&self, rt: &R, plan: &Plan, durable: u64) -> Attempt {
+    fn build<R: Threads + Wait + Sync>(
+        &self,
+        rt: &R,
+        plan: &Plan,
+        durable: u64,
+        kept: &mut Option<Arc<View>>,
+    ) -> Attempt {
         if !self.gate.before_task(durable) {
             return Attempt::NoMemory;
         }
@@ -62,26 +94,27 @@ impl<N: Naming, D: Disk + Drop, G: Gate + Drop + Sync> Shared<Office<N, D>, G> {
             None => return Attempt::Done,
         };
         match taken {
-            Ok(Some(task)) => self.carry_out(rt, plan, task),
+            Ok(Some(task)) => self.carry_out(rt, plan, task, kept),
             Ok(None) => Attempt::Done,
             Err(_) => Attempt::NoMemory,
         }
     }
 }
 
-/// What the builder does until it ends.
+/// What the builder does until it ends. It begins with the first view, where that could be shared with it, and keeps the view that it showed last.
 pub(crate) fn build_views<
     N: Naming,
     D: Disk + Drop,
     G: Gate + Drop + Sync,
     R: Threads + Wait + Clock + Sync,
->(rt: &R, shared: &Shared<Office<N, D>, G>, plan: &Plan) {
+>(rt: &R, shared: &Shared<Office<N, D>, G>, plan: &Plan, first: Option<Arc<View>>) {
+    let mut kept = first;
     let mut misses = Misses::none();
     for _ in rt.forever() {
         let attempt = match shared.next_builder_turn(rt) {
             BuilderTurn::End => break,
             BuilderTurn::Rest => Attempt::Done,
-            BuilderTurn::Build { durable } => shared.build(rt, plan, durable),
+            BuilderTurn::Build { durable } => shared.build(rt, plan, durable, &mut kept),
         };
         if !misses.goes_on(attempt) {
             shared.gate.builder_gave_up();

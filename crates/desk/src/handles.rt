@@ -26,7 +26,8 @@ use std::alloc::Global;
 use std::sync::{Arc, Mutex, Wait};
 use std::thread::Threads;
 
-/// A desk without its threads, for callers in other threads. Each call is the desk's of its name.
+/// A desk without its threads, for callers in other threads. Each call is the desk's of its name, but `again`, `place` and `dist`, which a handle alone
+/// has.
 ///
 /// A handle may outlive its desk: once that is closed each call of it is refused (61), and none waits.
 #[derive(Drop)]

@@ -16,6 +16,7 @@ mod pins;
 mod places;
 mod plans;
 mod readers;
+mod repairs;
 mod row_workers;
 mod shared;
 mod shelves;

@@ -6,6 +6,7 @@ ghost use Rattle.snapshot.specs.Groups.{default_width};
 
 use crate::gates::{Gate, NoGate};
 use crate::last::{UNKNOWN, Unbuilt};
+use crate::repairs::Before;
 use crate::row_workers::{RowJob, landmark_rows};
 use disk::Disk;
 use keeper::Task;
@@ -32,8 +33,8 @@ pub(crate) struct Plan {
 }
 
 impl Plan {
-    /// A view of this network at this version: the rows of its landmarks are made by the row workers. It is given up where the version is
-    /// passed over meanwhile.
+    /// A view of this network at this version: the rows of its landmarks are made by the row workers, out of those of an older view where one is
+    /// given. It is given up where the version is passed over meanwhile.
     fn view_of<G: Gate + Sync, R: Threads + Sync>(
         &self,
         rt: &R,
@@ -41,6 +42,7 @@ impl Plan {
         last: &AtomicU64,
         version: u64,
         network: &Network,
+        old: Option<&View>,
     ) -> Result<Arc<View>, Unbuilt>
         ensures version { IfOk result (λ view. view.value.version ≡ version) }
         ensures network { IfOk result (λ view. view.value.network ≡ network.now) }
@@ -52,6 +54,7 @@ impl Plan {
             None => default_delta(&network),
         };
         let snapshot = Snapshot::build(self.alloc, &network, width)?;
+        let before = Before::of(self.alloc, old, &snapshot);
         let rows = landmark_rows(
             rt,
             &RowJob {
@@ -61,6 +64,7 @@ impl Plan {
                 version,
                 network: &network,
                 snapshot: &snapshot,
+                before: before.as_ref(),
                 workers: self.workers,
             },
         )?;
@@ -70,19 +74,20 @@ impl Plan {
         }
     }
 
-    /// The view of a task, as `view_of`.
+    /// The view of a task, out of an older view where one is given, as `view_of`.
     pub(crate) fn build<G: Gate + Sync, R: Threads + Sync>(
         &self,
         rt: &R,
         gate: &G,
         last: &AtomicU64,
         task: &Task,
+        old: Option<&View>,
     ) -> Result<Arc<View>, Unbuilt>
         ensures version { IfOk result (λ view. view.value.version ≡ task.now.version) }
         ensures network { IfOk result (λ view. view.value.network ≡ task.now.network.value) }
         ensures width { IfOk result (λ view. view.value.delta ≡ unwrap_or self.now.delta (default_width task.now.network.value)) }
     {
-        self.view_of(rt, gate, last, task.version, &task.network)
+        self.view_of(rt, gate, last, task.version, &task.network, old)
     }
 
     /// The view of what a store has, made without a call of a gate. The one error is want of memory.
@@ -96,7 +101,7 @@ impl Plan {
         ensures width { IfOk result (λ view. view.value.delta ≡ unwrap_or self.now.delta (default_width store.now.network)) }
     {
         let last = AtomicU64::new(UNKNOWN);
-        match self.view_of(rt, &NoGate, &last, store.version(), store.network()) {
+        match self.view_of(rt, &NoGate, &last, store.version(), store.network(), None) {
             Ok(view) => Ok(view),
             Err(_) => Err(OutOfMemory),
         }

@@ -1,14 +1,19 @@
 // The rows of a network's landmarks, made by several threads at once.
 ghost use Rattle.std.specs.Prelude.{◌≡◌, ◌≤◌, ◌<◌, IfOk, Ok, map, drop, length, slice_index};
+ghost use Rattle.std.specs.Option.{ForSome};
+ghost use Rattle.roadnet.specs.Net.{Net};
+ghost use Rattle.roadnet.specs.Walks.{RowOf};
 ghost use Rattle.snapshot.specs.Groups.{IsSnapshotOf};
 ghost use Rattle.rows.specs.Views.{AreLandmarkRows, IsRowAt};
 ghost use Rattle.desk.specs.Leaves.{landmark_of};
+ghost use Rattle.desk.specs.Repairs.{IsBefore};
 ghost use Rattle.desk.specs.Shares.{share_of, AreRowsOf, AreDealt};
 
 use crate::gates::Gate;
 use crate::last::{Unbuilt, is_passed};
 use crate::leaves::Leave;
-use deltastep::{RowError, Workspace, row_in};
+use crate::repairs::Before;
+use deltastep::{Distances, RowError, Workspace, row_after_in, row_in};
 use relax::{CHUNK, Crew, Team};
 use roadnet::Network;
 use rows::Row;
@@ -27,12 +32,44 @@ pub(crate) struct RowJob<'a, G> {
     pub(crate) version: u64,
     pub(crate) network: &'a Network,
     pub(crate) snapshot: &'a Snapshot,
+    /// An older view, out of whose rows those of its landmarks are made.
+    pub(crate) before: Option<&'a Before<'a>>,
     pub(crate) workers: u32,
 }
 
 impl<G> RowJob<'_, G> {
-    /// The row of the landmark for which the gate gave leave. The search takes up what an earlier one left in the workspace, and leaves its
-    /// own memory there.
+    /// The least distances from a landmark: out of its row in the older view where that has one, else by a search of their own. They use the
+    /// workspace as `row_in` does.
+    fn distances_of<T: Team>(
+        &self,
+        landmark: u32,
+        team: &T,
+        workspace: &mut Workspace,
+    ) -> Result<Distances, RowError>
+        requires before { ForSome self.now.before (λ before. IsBefore self.now.snapshot.now before.now) }
+        requires node { (1 ≤ landmark) × (landmark ≤ self.now.snapshot.now.nodes) }
+        ensures { IfOk result (λ row. (net : Net) → IsSnapshotOf net self.now.snapshot.now → RowOf net landmark row) }
+    {
+        let Some(before) = self.before else {
+            return row_in(self.alloc, self.snapshot, landmark, team, workspace);
+        };
+        let Some(row) = before.view.find_row(landmark) else {
+            return row_in(self.alloc, self.snapshot, landmark, team, workspace);
+        };
+        row_after_in(
+            self.alloc,
+            self.snapshot,
+            landmark,
+            before.snapshot,
+            &row.distances,
+            &before.changed,
+            team,
+            workspace,
+        )
+    }
+
+    /// The row of the landmark for which the gate gave leave. It takes up what an earlier one left in the workspace, and leaves its own memory
+    /// there.
     fn row_of<T: Team>(
         &self,
         leave: Leave,
@@ -40,12 +77,13 @@ impl<G> RowJob<'_, G> {
         workspace: &mut Workspace,
     ) -> Result<Row, Unbuilt>
         requires snapshot { IsSnapshotOf self.now.network.now self.now.snapshot.now }
+        requires before { ForSome self.now.before (λ before. IsBefore self.now.snapshot.now before.now) }
         requires node { (1 ≤ landmark_of leave) × (landmark_of leave ≤ self.now.snapshot.now.nodes) }
         ensures landmark { IfOk result (λ row. row.landmark ≡ landmark_of leave) }
         ensures right { IfOk result (IsRowAt self.now.version self.now.network.now) }
     {
         let landmark = leave.landmark();
-        match row_in(self.alloc, self.snapshot, landmark, team, workspace) {
+        match self.distances_of(landmark, team, workspace) {
             Ok(distances) => Ok(Row {
                 landmark,
                 version: self.version,
@@ -61,6 +99,7 @@ impl<G: Gate> RowJob<'_, G> {
     /// that place and each `workers`-th behind it. Before each row it is asked whether the version is passed over by now.
     fn rows_of<R: Threads>(&self, rt: &R, worker: u32) -> Result<VecDeque<Row>, Unbuilt>
         requires snapshot { IsSnapshotOf self.now.network.now self.now.snapshot.now }
+        requires before { ForSome self.now.before (λ before. IsBefore self.now.snapshot.now before.now) }
         requires worker { worker < self.now.workers }
         requires few { self.now.workers ≤ 64 }
         ensures { IfOk result (λ rows. AreRowsOf self.now.version self.now.network.now (share_of self.now.workers worker self.now.network.now.landmarks) rows.items) }
@@ -94,6 +133,7 @@ pub(crate) fn landmark_rows<G: Gate + Sync, R: Threads + Sync>(
     job: &RowJob<'_, G>,
 ) -> Result<Vec<Row>, Unbuilt>
     requires snapshot { IsSnapshotOf job.now.network.now job.now.snapshot.now }
+    requires before { ForSome job.now.before (λ before. IsBefore job.now.snapshot.now before.now) }
     requires some { 1 ≤ job.now.workers }
     requires few { job.now.workers ≤ 64 }
     ensures { IfOk result (λ rows. AreLandmarkRows job.now.version job.now.network.now rows.items) }
@@ -105,6 +145,7 @@ pub(crate) fn landmark_rows<G: Gate + Sync, R: Threads + Sync>(
         workers,
         &|worker: usize| -> Result<VecDeque<Row>, Unbuilt>
             requires snapshot { IsSnapshotOf job.now.network.now job.now.snapshot.now }
+            requires before { ForSome job.now.before (λ before. IsBefore job.now.snapshot.now before.now) }
             requires worker { worker < job.now.workers }
             requires few { job.now.workers ≤ 64 }
             ensures { IfOk result (λ rows. AreRowsOf job.entry.now.version job.entry.now.network.now (share_of job.entry.now.workers worker job.entry.now.network.now.landmarks) rows.items) }

@@ -87,10 +87,10 @@ fn handles_outlive_the_desk(rt: HostRuntime) -> Result<(), Fail> {
 }
 
 /// How many nodes the chain has: more than rows are kept.
-const NODES: u32 = 70;
+pub(crate) const NODES: u32 = 70;
 
-/// A new store of a chain: an arc of length 1 leads from each node to the next.
-fn store_of_chain(alloc: Global) -> Result<Store<MemDisk>, Refusal>
+/// A new store of a chain with these landmarks: an arc of length 1 leads from each node to the next, and there is room for one more.
+pub(crate) fn store_of_chain(alloc: Global, landmarks: &[u32]) -> Result<Store<MemDisk>, Refusal>
     ensures calm { IfOk result (λ store. is_calm store ≡ true) }
 {
     let mut table = Vec::new(alloc);
@@ -99,7 +99,9 @@ fn store_of_chain(alloc: Global) -> Result<Store<MemDisk>, Refusal>
             return Err(Refusal::OutOfMemory);
         }
     }
-    let network = network(alloc, NODES, &table, &[])?;
+    let Ok(network) = network(alloc, NODES, &table, landmarks)?.with_room(u64::from(NODES)) else {
+        return Err(Refusal::TooLarge);
+    };
     match create(alloc, MemDisk::new(alloc), &network, 64) {
         Ok(store) => Ok(store),
         Err((refusal, _)) => Err(refusal),
@@ -166,7 +168,7 @@ fn ask_by_handles<
 #[test]
 fn rows_of_all_handles(rt: HostRuntime) -> Result<(), Fail> {
     let alloc = rt.alloc();
-    let store = store_of_chain(alloc)?;
+    let store = store_of_chain(alloc, &[])?;
     let history = History::new(store.network(), store.version());
     let right = ask_by_handles::<Brand, _, _>(rt, alloc, history, store)?;
     assert!(rt; right == [true; 4], "{right:?}");

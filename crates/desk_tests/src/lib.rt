@@ -18,4 +18,6 @@ mod keeping;
 #[cfg(test)]
 mod limits;
 #[cfg(test)]
+mod renewing;
+#[cfg(test)]
 mod rests;

@@ -242,8 +242,8 @@ impl<N: Naming> Session<N> {
         }
     }
 
-    /// The reply to a query, from a pin of this moment: it is right in the network of the version that it names, which comes after groups that
-    /// begin with all that the session has seen and learned. Or what the pin, its reader or its row was refused for.
+    /// The reply to a query, from a glance of this moment: it is right in the network of the version that it names, which comes after groups that
+    /// begin with all that the session has seen and learned. Or what the glance, its place or its row was refused for.
     fn ask<D: Disk + Drop, G: Gate + Drop, R: Threads + Wait + Copy>(
         &mut self,
         desk: &Handle<N, D, G, R>,
@@ -281,7 +281,7 @@ impl<N: Naming> Session<N> {
         }
     }
 
-    /// Waits until the session's last accepted group is shown, if there is one, and learns it. The version is that of a new pin, after
+    /// Waits until the session's last accepted group is shown, if there is one, and learns it. The version is that of a new glance, after
     /// groups among which that group has its number.
     fn wait<D: Disk + Drop, G: Gate + Drop, R: Threads + Wait + Copy>(
         &mut self,

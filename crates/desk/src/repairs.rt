@@ -1,0 +1,44 @@
+// What the rows of a view are made out of: those of an older view.
+ghost use Rattle.std.specs.Prelude.{IfSome};
+ghost use Rattle.desk.specs.Repairs.{IsBefore};
+
+use deltastep::changed_nodes;
+use rows::View;
+use snapshot::Snapshot;
+use std::alloc::Global;
+
+/// An older view, of a network with as many nodes as that of another snapshot has.
+#[derive(Drop)]
+pub(crate) struct Before<'a> {
+    pub(crate) view: &'a View,
+    /// The groups of the older view.
+    pub(crate) snapshot: &'a Snapshot,
+    /// The nodes of which some leg is not the same in the other snapshot.
+    pub(crate) changed: Vec<u32>,
+}
+
+impl Before<'_> {
+    /// The older view, beside what this snapshot has changed of it. It is nothing where none is given, where its network has other nodes, and
+    /// where no memory is had for the list of those that changed.
+    pub(crate) fn of<'a>(
+        alloc: Global,
+        old: Option<&'a View>,
+        snapshot: &Snapshot,
+    ) -> Option<Before<'a>>
+        ensures { IfSome result (IsBefore snapshot.now) }
+    {
+        let view = old?;
+        let before = view.snapshot();
+        if before.nodes() != snapshot.nodes() {
+            return None;
+        }
+        let Ok(changed) = changed_nodes(alloc, before, snapshot) else {
+            return None;
+        };
+        Some(Before {
+            view,
+            snapshot: before,
+            changed,
+        })
+    }
+}

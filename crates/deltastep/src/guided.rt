@@ -28,8 +28,9 @@ pub trait Guide {
     /// The snapshots whose ways it bounds.
     ghost knows: { Self → Groups → Type 0 };
 
-    /// A number that is at most the length of each way from the node to the target. The greater it is the fewer nodes a search settles,
-    /// and where it is consistent none twice; what the search finds is the same whatever it is.
+    /// A number that is at most the length of each way from the node to the target. What a search finds is the same whatever it is. Where it
+    /// is consistent no node comes back into a bucket that was left; a node may come back into its own, as in each search by buckets. A
+    /// greater one settles fewer nodes as a rule, not always.
     fn bound(&self, node: u32) -> u64
         ensures below { (groups : Groups) → knows self.now groups → IsGrouped groups → 1 ≤ node → node ≤ groups.nodes → IsLowerBound groups (target self.now) node result };
 }
@@ -257,7 +258,7 @@ fn guided_by<Q: BucketQueue + Drop, G: Guide>(
 /// The distance from `source` to `target`, as `distance_to` gives it, by a search that the guide leads to the target: nodes are settled in
 /// the order of their values with the guide's bounds. Its one error is want of memory.
 ///
-/// Led by bounds that are 0 it settles what that search does. Of the network of `examples/six.gr`, from 1 to 4 it gives 12 by any guide, and
+/// Led by bounds that are 0 it settles what that search does, or a bucket less. Of the network of `examples/six.gr`, from 1 to 4 it gives 12 by any guide, and
 /// from 6 to 1 nothing.
 pub fn distance_guided<G: Guide>(
     alloc: Global,

@@ -150,7 +150,8 @@ pub fn distance_to<T: Team>(
 }
 
 /// The same distance, whatever the workspace holds. The search takes what an earlier one left there and leaves its own, the values wiped: so
-/// where it stops after a few nodes, it takes time and memory for these alone. After an `Err` it leaves nothing.
+/// where it stops after a few nodes, it takes time and memory for these alone; only where the ring would be too long, which then is no ring,
+/// a flag a node is made anew. After an `Err` it leaves nothing.
 pub fn distance_to_in<T: Team>(
     alloc: Global,
     snapshot: &Snapshot,

@@ -1,7 +1,8 @@
 #!/usr/bin/env python3
 """Clients of one server, over a local socket behind which examples/attach.sh stands: four connections that ask at once, and a fifth that changes the network meanwhile.
+It needs five pairs of pipes: a connection that finds none free waits, and after ten seconds without an answer the script gives up. In the end it opens the arc again.
 
-    examples/clients.py SOCKET
+    examples/clients.py SOCKET        (docs/PROGRAM.md, "Many clients", has the server and the socket)
 """
 import concurrent.futures
 import queue
@@ -11,11 +12,14 @@ import sys
 class Refused(Exception):
     """An answer `no CODE`."""
 
+PATIENCE = 10
+
 class Connection:
     """A session with the server. One line is told, and its whole answer read, before the next one."""
 
     def __init__(self, path):
         self.socket = socket.socket(socket.AF_UNIX)
+        self.socket.settimeout(PATIENCE)
         self.socket.connect(path)
         self.lines = self.socket.makefile("rw", newline="\n")
 
@@ -67,17 +71,32 @@ class Clients:
         while not self.free.empty():
             self.free.get().close()
 
-path = sys.argv[1]
-clients = Clients(path, 4)
-pairs = [(source, target) for source in range(1, 7) for target in range(1, 7)]
-with concurrent.futures.ThreadPoolExecutor(8) as callers:
-    before = list(callers.map(clients.distance, pairs))
-    writer = Connection(path)
-    number = writer.change("close 7")
-    print("close 7: durable as version", number)
-    print("shown: version", writer.wait())
-    after = list(callers.map(clients.distance, pairs))
-print("from 1 to 6 (version, length):", before[pairs.index((1, 6))], "and then", after[pairs.index((1, 6))])
-print(sum(length is not None for _, length in after), "of", len(pairs), "pairs have a walk;", "all in version", number, "now:", all(version == number for version, _ in after))
-writer.close()
-clients.close()
+def run(path):
+    """Asks for all pairs of nodes before and after arc 7 is closed, and opens it again."""
+    clients = Clients(path, 4)
+    pairs = [(source, target) for source in range(1, 7) for target in range(1, 7)]
+    with concurrent.futures.ThreadPoolExecutor(8) as callers:
+        before = list(callers.map(clients.distance, pairs))
+        writer = Connection(path)
+        # A query first: where no pair is free, no change has been sent when the script gives up.
+        writer.distance(1, 6)
+        number = writer.change("close 7")
+        print("close 7: durable as version", number)
+        print("shown: version", writer.wait())
+        after = list(callers.map(clients.distance, pairs))
+    print("from 1 to 6 (version, length):", before[pairs.index((1, 6))], "and then", after[pairs.index((1, 6))])
+    print(sum(length is not None for _, length in after), "of", len(pairs), "pairs have a walk;", "all in version", number, "now:", all(version == number for version, _ in after))
+    print("reopen 7: durable as version", writer.change("reopen 7"))
+    writer.close()
+    clients.close()
+
+if len(sys.argv) != 2:
+    sys.exit("usage: examples/clients.py SOCKET")
+try:
+    run(sys.argv[1])
+except TimeoutError:
+    sys.exit(f"clients: no answer within {PATIENCE} seconds: are there five pairs, and all of them free?")
+except Refused as refused:
+    sys.exit(f"clients: refused, code {refused}: is arc 7 open, and the network that of examples/six.gr?")
+except (EOFError, OSError) as fault:
+    sys.exit(f"clients: {fault}")

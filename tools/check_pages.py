@@ -1,6 +1,7 @@
 #!/usr/bin/env python3
 """Checks README.md and docs/*.md: that each relative link leads to a file and a heading, that each path of the repository that they name is there,
-that no cell of docs/PROMISES.md is longer than 300 characters, and that README.md and docs/DECISIONS.md are no longer than they are meant to be.
+that no cell of docs/PROMISES.md is longer than 300 characters, that README.md and docs/DECISIONS.md are no longer than they are meant to be, and that each number of edits
+that a page tells is that of the files crates/*/must-fail/*.edit.
 
     tools/check_pages.py
 """
@@ -15,6 +16,8 @@ LINK = re.compile(r"\]\(([^)\s]+)\)")
 NAMED = re.compile(r"(?<![\w/`.-])(?:docs|tools|examples)/[\w.-]*\w|`((?:crates|docs|tools|examples)/[\w./-]+)`")
 # Not there before the program is built, or made by a tour.
 MADE = ("crates/roadmark/out", "crates/NAME")
+# A number of edits, as pages tell it.
+EDITS = re.compile(r"(?<![\w.,])(\d+) edits\b")
 MOST_WORDS = {"README.md": 1500, "DECISIONS.md": 6000}
 LONGEST_CELL = 300
 
@@ -62,12 +65,20 @@ def wrong_sizes(page, text):
         yield f"{len(text.split())} words, and {most} are meant"
 
 
+def wrong_counts(text, edits):
+    """Each number of edits that the page tells and that is another."""
+    for told in EDITS.findall(text):
+        if int(told) != edits:
+            yield f"{told} edits, and there are {edits}"
+
+
+edits = len(list(TOP.glob("crates/*/must-fail/*.edit")))
 wrong = links = 0
 for page in PAGES:
     text = page.read_text()
     links += len(LINK.findall(text))
-    for what in (*wrong_links(page, text), *wrong_names(text), *wrong_sizes(page, text)):
+    for what in (*wrong_links(page, text), *wrong_names(text), *wrong_sizes(page, text), *wrong_counts(text, edits)):
         print(f"{page.relative_to(TOP)}: {what}")
         wrong += 1
-print(f"{len(PAGES)} pages, {links} links, {wrong} wrong")
+print(f"{len(PAGES)} pages, {links} links, {edits} edits, {wrong} wrong")
 sys.exit(wrong > 0)

@@ -4,6 +4,7 @@
 # A pair is leased by a lock of FOLDER/N.lock, which every process here holds, and given back once the server has closed its end. Whatever was killed before, no client gets
 # an answer that is another's: each lease begins with a session of no line, and what that one is told, as the rest of one before, is thrown away.
 set -eu
+[ $# = 1 ] || { echo "usage: examples/attach.sh FOLDER" >&2; exit 2; }
 trap '' PIPE
 
 # The first in the queue looks for a free pair; the others wait for their turn.

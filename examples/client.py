@@ -47,6 +47,9 @@ class Session:
         self.server.stdin.close()
         return self.server.wait()
 
+if len(sys.argv) != 2:
+    print("usage: examples/client.py STORE", file=sys.stderr)
+    sys.exit(2)
 session = Session(sys.argv[1])
 print("from 1 to 6 (version, length):", session.distance(1, 6))
 for line in ("close 7", "close 7"):

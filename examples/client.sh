@@ -2,6 +2,7 @@
 # A client of `roadmark serve`: closes an arc, waits until that is shown, asks, and reads refusals.
 #   examples/client.sh STORE        (made by: ./roadmark create six.store examples/six.gr examples/six.ss)
 set -eu
+[ $# = 1 ] || { echo "usage: examples/client.sh STORE" >&2; exit 2; }
 top=$(cd "$(dirname "$0")/.." && pwd)
 store=$1
 

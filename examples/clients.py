@@ -91,7 +91,8 @@ def run(path):
     clients.close()
 
 if len(sys.argv) != 2:
-    sys.exit("usage: examples/clients.py SOCKET")
+    print("usage: examples/clients.py SOCKET", file=sys.stderr)
+    sys.exit(2)
 try:
     run(sys.argv[1])
 except TimeoutError:

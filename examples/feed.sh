@@ -2,6 +2,7 @@
 # Turns a feed of changes on standard input into `set` lines of a session. A line of the feed is FROM,TO,SECONDS; lengths are tenths of a second.
 #   examples/feed.sh GR STORE < feed.csv        (GR is the text of which STORE was made)
 set -eu
+[ $# = 2 ] || { echo "usage: examples/feed.sh GR STORE < feed.csv" >&2; exit 2; }
 top=$(cd "$(dirname "$0")/.." && pwd)
 
 # The numbers of the arcs between two nodes: their places among the lines `a` of the text.

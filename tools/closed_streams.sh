@@ -27,6 +27,10 @@ for stream in 0 1 2; do
   [ "$stream" = 1 ] && printed=1
   tries ask "$printed" "$stream" ask six.store six.p2p
   tries check "$printed" "$stream" check six.store
+  tries show "$printed" "$stream" show six.store 7
+  mkdir texts
+  tries export "$printed" "$stream" export six.store texts
+  rm -r texts
   tries serve "$printed" "$stream" serve six.store
   tries once "$printed" "$stream" once six.gr 1 6
   tries batch "$printed" "$stream" batch six.gr six.p2p

@@ -20,7 +20,7 @@ ends() {
 }
 
 # 0: all is done, help was asked for, or commands and queries were refused
-for words in 'once six.gr 1 6' 'once six.gr 1 9' 'batch six.gr six.p2p' 'rehearse six.gr six.script' 'ask six.store six.p2p' 'check six.store' --help 'help serve' --version; do
+for words in 'once six.gr 1 6' 'once six.gr 1 9' 'batch six.gr six.p2p' 'rehearse six.gr six.script' 'ask six.store six.p2p' 'check six.store' 'show six.store 7' 'show six.store 4 6' --help 'help serve' --version; do
   ends 0 '' $words > out
 done
 ends 0 '' < six.txt > out
@@ -30,6 +30,8 @@ ends 0 '' serve other.store > out < <(printf 'close 7\nclose 7\nhello\n')
 ends 0 '' create new.store six.gr six.ss > out
 cp "$top/examples/old.store" .
 ends 0 '' migrate old.store moved.store --room 10 > out
+mkdir texts
+ends 0 '' export six.store texts > out
 # 1: a fault of a text, a file, a store, the output, the input of a session
 printf 'p sp 2 1\na 1 2 -5\n' > bad.gr
 head -c 4000 six.store > short.store
@@ -42,6 +44,9 @@ ends 1 'roadmark: 41 WrongFormat' ask old.store six.p2p > out
 ends 1 'roadmark: 41 WrongFormat' migrate six.store none.store > out
 ends 1 'roadmark: 9 TooLarge' create none.store six.gr six.ss --room 7 > out
 ends 1 'roadmark: 40 NotAStore' check short.store > out
+ends 1 'roadmark: 40 NotAStore' show short.store 7 > out
+ends 1 'roadmark: 46 NotEmpty' export six.store texts > out
+ends 1 'roadmark: none: line 0: 10 Read' export six.store none > out
 ends 1 'roadmark: 12 Write' once six.gr 1 6 > /dev/full
 ends 1 'roadmark: 12 Write' --help > /dev/full
 ends 1 'roadmark: 12 Write' serve six.store > /dev/full < <(printf 'dist 1 6\n')

@@ -1,6 +1,5 @@
 -- The entries of a row that is kept as words.
-use Rattle.std.proofs.Common.{◌≡◌, ◌≢◌, ◌∙◌, ℕ, zero, suc, ◌-◌, ◌<◌, ◌≤◌, List, Some, None, length, get_or, map, refl, ap, sym, arith}
-use Rattle.std.proofs.lemmas.List.{get_or_read}
+use Rattle.std.proofs.Common.{◌≡◌, ◌≢◌, ◌∙◌, ℕ, zero, suc, ◌+◌, ◌-◌, ◌<◌, ◌≤◌, ◌==◌, if◌then◌else◌, List, [], ◌∷◌, ◌++◌, Option, Some, None, length, get_or, take, map, refl, ap, ap₂, sym, arith}
 use Rattle.std.proofs.lemmas.Option.{slice_get-get_or, slice_get-map}
 use Rattle.roadnet.specs.Walks.{distance_at}
 use Rattle.deltastep.specs.Words.{no_walk, distance_of_word}
@@ -22,12 +21,28 @@ distance_at_words words (suc i) from to =
     let e : suc i - 1 ≡ i = omega arith in
     rw e (distance_at_suc words i to)
 
-pub entry_none : (words : List ℕ) (t word : ℕ) → 1 ≤ t → t ≤ length words → word ≡ get_or words (t - 1) word → word ≡ no_walk → None ≡ distance_at (map distance_of_word words) t
-entry_none words t word from to is e =
-    let read : word ≡ word_at words t = get_or_read words (t - 1) word (omega arith) is 0 in
-    sym (distance_at_words words t from to ∙ distance_of_none (word_at words t) (sym read ∙ e))
+-- what the words of a row say of a node, whichever word stands for "no walk leads there"
+module _ (none : ℕ) where
+  abbrev said : ℕ → Option ℕ
+  said word = if word == none then None else Some word
 
-pub entry_some : (words : List ℕ) (t word : ℕ) → 1 ≤ t → t ≤ length words → word ≡ get_or words (t - 1) word → word ≢ no_walk → Some word ≡ distance_at (map distance_of_word words) t
-entry_some words t word from to is ne =
-    let read : word ≡ word_at words t = get_or_read words (t - 1) word (omega arith) is 0 in
-    sym (distance_at_words words t from to ∙ distance_of_some (word_at words t) (λ e. ne (read ∙ e)) ∙ ap (λ w. Some w) (sym read))
+  said_at_suc : (words : List ℕ) (i : ℕ) → i < length words → distance_at (map said words) (suc i) ≡ said (get_or words i 0)
+  said_at_suc words i lt = rw (slice_get-map said words i, slice_get-get_or words i 0 lt) refl
+
+  said_at : (words : List ℕ) (t : ℕ) → 1 ≤ t → t ≤ length words → distance_at (map said words) t ≡ said (get_or words (t - 1) 0)
+  said_at words zero from to = absurd (omega arith)
+  said_at words (suc i) from to =
+      let e : suc i - 1 ≡ i = omega arith in
+      rw e (said_at_suc words i to)
+
+  said_none : (word : ℕ) → word ≡ none → said word ≡ None
+  said_none word e = rw (test_eq word none e) refl
+
+  said_some : (word : ℕ) → word ≢ none → said word ≡ Some word
+  said_some word e = rw (test_ne word none e) refl
+
+  pub entry_none : (words : List ℕ) (t : ℕ) → 1 ≤ t → t ≤ length words → get_or words (t - 1) 0 ≡ none → None ≡ distance_at (map said words) t
+  entry_none words t from to e = sym (said_at words t from to ∙ said_none (get_or words (t - 1) 0) e)
+
+  pub entry_some : (words : List ℕ) (t : ℕ) → 1 ≤ t → t ≤ length words → get_or words (t - 1) 0 ≢ none → Some (get_or words (t - 1) 0) ≡ distance_at (map said words) t
+  entry_some words t from to ne = sym (said_at words t from to ∙ said_some (get_or words (t - 1) 0) ne)

@@ -1,5 +1,6 @@
 ghost use Rattle.std.specs.Prelude.{◌≡◌};
 
+use crate::words::Words;
 use relax::Tentative;
 use roadnet::OutOfMemory;
 use std::alloc::AllocError;
@@ -9,19 +10,20 @@ use thiserror::Error;
 /// The word that stands for "no walk leads there": above each least length.
 pub const NO_WALK: u64 = u64::MAX;
 
-/// The row of one node: the least length of a walk to each node, or that no walk leads there. It takes 8 bytes a node.
+/// The row of one node: the least length of a walk to each node, or that no walk leads there. It takes 4 bytes a node where each least length is below
+/// 2^32 - 1, else 8.
 #[derive(Debug, Drop)]
 pub struct Distances {
-    words: Vec<u64>,
+    words: Words,
 }
 
 impl Model for Distances {
-    ghost use Rattle.std.specs.Prelude.{List, Option, ℕ, map};
-    ghost use Rattle.deltastep.specs.Words.{distance_of_word};
+    ghost use Rattle.std.specs.Prelude.{List, Option, ℕ};
+    ghost use Rattle.deltastep.specs.Words.{distances_of};
 
     ghost Value = { List (Option ℕ) };
 
-    ghost view = { λ a. map distance_of_word a.words.items };
+    ghost view = { λ a. distances_of a.words };
 }
 
 impl Distances {
@@ -36,25 +38,23 @@ impl Distances {
     pub fn get(&self, node: u64) -> Option<u64>
         ensures { result ≡ distance_at self.now node }
     {
-        if node == 0 || node > self.words.len() as u64 {
-            return None;
-        }
-        let word = self.words[(node - 1) as usize];
-        if word == NO_WALK { None } else { Some(word) }
+        self.words.get(node)
     }
 
     /// The same as a search's values.
     pub(crate) fn to_tentative(&self) -> Result<Tentative, RowError>
         ensures { IfOk result (λ tentative. tentative ≡ None ∷ self.now) }
     {
-        Ok(Tentative::from_words(self.words.clone()?))
+        Ok(Tentative::from_words(self.words.to_long()?))
     }
 
-    /// The distances that these words say.
+    /// The distances that these words say. It takes 4 bytes a node, and gives 8 back, where they fit and memory is there.
     pub(crate) fn from_words(words: Vec<u64>) -> Distances
         ensures { result ≡ map distance_of_word words.items }
     {
-        Distances { words }
+        Distances {
+            words: Words::new(words),
+        }
     }
 }
 

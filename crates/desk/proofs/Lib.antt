@@ -1,3 +1,4 @@
+mod Reached
 pub mod Dealt
 pub mod Looks
 pub mod Sends

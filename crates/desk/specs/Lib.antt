@@ -4,4 +4,5 @@ pub mod Readings
 pub mod Repairs
 pub mod Shares
 pub mod Shelves
+pub mod States
 pub mod Turns

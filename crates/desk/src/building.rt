@@ -1,4 +1,6 @@
 // The builder: the thread that builds the views of what is durable, and shows them.
+ghost use Rattle.std.specs.Prelude.{◌≡◌};
+
 use crate::attempts::{Attempt, Misses};
 use crate::gates::Gate;
 use crate::last::Unbuilt;
@@ -6,71 +8,66 @@ use crate::locked::{BuilderTurn, Locked};
 use crate::plans::Plan;
 use crate::shared::Shared;
 use disk::Disk;
-use keeper::Task;
-use office::{Naming, Office};
-use rows::View;
-use std::sync::{Arc, Wait};
+use office::{Built, Naming, Office, Work};
+use std::sync::Wait;
 use std::thread::Threads;
 use std::time::Clock;
 
 impl<N: Naming, D: Disk> Locked<Office<N, D>> {
-    /// Shows the view, or gives its task up.
-    fn show<R: Wait>(&mut self, rt: &R, version: u64, view: Arc<View>) -> Attempt {
-        match self.office.publish(rt, view) {
-            Ok(_) => Attempt::Done,
-            Err(_) => {
+    /// Shows what was built, or gives its task up and hands it back.
+    fn show<R: Wait>(&mut self, rt: &R, version: u64, built: Built) -> Option<Built>
+        requires { built.shown.origin ≡ N.origin }
+    {
+        match self.office.show(rt, built) {
+            Ok(_) => None,
+            Err((_, built)) => {
                 self.office.give_up(version);
-                Attempt::NoMemory
+                Some(built)
             }
         }
     }
 }
 
 impl<N: Naming, D: Disk + Drop, G: Gate + Drop + Sync> Shared<Office<N, D>, G> {
-    /// Shows the view, or gives its task up.
-    fn show<R: Wait>(&self, rt: &R, version: u64, view: Arc<View>) -> Attempt {
-        let attempt = match &mut self.lock(rt).locked {
-            Some(locked) => locked.show(rt, version, view),
+    /// Shows what was built, or gives its task up. What wasn't shown is let go behind the lock.
+    fn show<R: Wait>(&self, rt: &R, version: u64, built: Built) -> Attempt
+        requires { built.shown.origin ≡ N.origin }
+    {
+        let unshown = match &mut self.lock(rt).locked {
+            Some(locked) => locked.show(rt, version, built),
             None => return Attempt::Done,
         };
         self.published.notify_all();
-        attempt
-    }
-
-    /// Shows the view and keeps it, or gives its task up.
-    fn show_and_keep<R: Wait>(
-        &self,
-        rt: &R,
-        version: u64,
-        view: Arc<View>,
-        kept: &mut Option<Arc<View>>,
-    ) -> Attempt {
-        let shared = Arc::try_clone(&view);
-        let attempt = self.show(rt, version, view);
-        if attempt == Attempt::Done {
-            *kept = shared.ok();
+        match unshown {
+            Some(_) => Attempt::NoMemory,
+            None => Attempt::Done,
         }
-        attempt
     }
 
-    /// Builds the view of a task, out of the view that is kept, and shows it, or gives the task up. A view that is shown is kept for the next.
+    /// Builds the view of a work and shows it, or gives its task up. A work whose view is shown is kept until the next one's is: it has the view
+    /// before, which readers may take up to then, and so that view is let go by nobody under the lock.
     fn carry_out<R: Threads + Wait + Sync>(
         &self,
         rt: &R,
         plan: &Plan,
-        task: Task,
-        kept: &mut Option<Arc<View>>,
-    ) -> Attempt {
-        let built = match kept {
-            Some(old) => plan.build(rt, &self.gate, &self.last, &task, Some(old)),
-            None => plan.build(rt, &self.gate, &self.last, &task, None),
-        };
-        let unbuilt = match built {
-            Ok(view) => return self.show_and_keep(rt, task.version, view, kept),
+        work: Work,
+        kept: &mut Option<Work>,
+    ) -> Attempt
+        requires { work.origin ≡ N.origin }
+    {
+        let version = work.version();
+        let unbuilt = match plan.build(rt, &self.gate, &self.last, &work) {
+            Ok(view) => {
+                let attempt = self.show(rt, version, work.built(view));
+                if attempt == Attempt::Done {
+                    *kept = Some(work);
+                }
+                return attempt;
+            }
             Err(unbuilt) => unbuilt,
         };
         if let Some(locked) = &mut self.lock(rt).locked {
-            locked.office.give_up(task.version);
+            locked.office.give_up(version);
         }
         match unbuilt {
             Unbuilt::OutOfMemory => Attempt::NoMemory,
@@ -78,37 +75,37 @@ impl<N: Naming, D: Disk + Drop, G: Gate + Drop + Sync> Shared<Office<N, D>, G> {
         }
     }
 
-    /// Takes a task, unless the gate holds it up, and carries it out.
+    /// Takes a work, unless the gate holds it up, and carries it out.
     fn build<R: Threads + Wait + Sync>(
         &self,
         rt: &R,
         plan: &Plan,
         durable: u64,
-        kept: &mut Option<Arc<View>>,
+        kept: &mut Option<Work>,
     ) -> Attempt {
         if !self.gate.before_task(durable) {
             return Attempt::NoMemory;
         }
         let taken = match &mut self.lock(rt).locked {
-            Some(locked) => locked.office.take_task(),
+            Some(locked) => locked.office.take_work(),
             None => return Attempt::Done,
         };
         match taken {
-            Ok(Some(task)) => self.carry_out(rt, plan, task, kept),
+            Ok(Some(work)) => self.carry_out(rt, plan, work, kept),
             Ok(None) => Attempt::Done,
             Err(_) => Attempt::NoMemory,
         }
     }
 }
 
-/// What the builder does until it ends. It begins with the first view, where that could be shared with it, and keeps the view that it showed last.
+/// What the builder does until it ends.
 pub(crate) fn build_views<
     N: Naming,
     D: Disk + Drop,
     G: Gate + Drop + Sync,
     R: Threads + Wait + Clock + Sync,
->(rt: &R, shared: &Shared<Office<N, D>, G>, plan: &Plan, first: Option<Arc<View>>) {
-    let mut kept = first;
+>(rt: &R, shared: &Shared<Office<N, D>, G>, plan: &Plan) {
+    let mut kept = None;
     let mut misses = Misses::none();
     for _ in rt.forever() {
         let attempt = match shared.next_builder_turn(rt) {

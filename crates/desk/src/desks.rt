@@ -24,7 +24,7 @@ use history::History;
 use office::{Closed, Naming, Office, Receipt, Ticket};
 use published::Shown;
 use roadnet::{Command, Group, Refusal};
-use rows::{Ran, View};
+use rows::Ran;
 use std::alloc::Global;
 use std::sync::{Arc, Mutex, Wait};
 use std::thread::Threads;
@@ -40,25 +40,20 @@ pub struct Setup {
     pub workers: u32,
 }
 
-/// Starts the flusher and the builder of a desk; the builder has the first view. Where the system gives no thread (63), none runs.
+/// Starts the flusher and the builder of a desk. Where the system gives no thread (63), none runs.
 fn start_both<
     N: Naming + Send + Sync + 'static,
     D: Disk + Drop + Send + 'static,
     G: Gate + Drop + Send + Sync + 'static,
     R: Threads + Wait + Clock + Copy + Send + Sync + 'static,
->(
-    rt: R,
-    shared: &Arc<Shared<Office<N, D>, G>>,
-    plan: Plan,
-    first: Option<Arc<View>>,
-) -> Result<Started, Refusal>
+>(rt: R, shared: &Arc<Shared<Office<N, D>, G>>, plan: Plan) -> Result<Started, Refusal>
     ensures causes { IfErr result IsUnstarted }
 {
     start_threads(
         rt,
         shared,
         |rt: R, shared: Arc<Shared<Office<N, D>, G>>| flush_pending(&rt, &shared),
-        move |rt: R, shared: Arc<Shared<Office<N, D>, G>>| build_views(&rt, &shared, &plan, first),
+        move |rt: R, shared: Arc<Shared<Office<N, D>, G>>| build_views(&rt, &shared, &plan),
     )
 }
 
@@ -137,7 +132,6 @@ impl<
         let Ok(view) = plan.first(&rt, &store) else {
             return Err(Refusal::OutOfMemory);
         };
-        let first = Arc::try_clone(&view).ok();
         let Ok(office) = Office::new(&rt, alloc, history, store, view) else {
             return Err(Refusal::OutOfMemory);
         };
@@ -147,7 +141,7 @@ impl<
         let Ok(rows) = Arc::new(alloc, Mutex::new(Shelf::new(alloc)?)) else {
             return Err(Refusal::OutOfMemory);
         };
-        let threads = start_both(rt, &shared, plan, first)?;
+        let threads = start_both(rt, &shared, plan)?;
         Ok(Desk {
             handle: Handle {
                 rt,

@@ -14,7 +14,7 @@ use crate::gates::Gate;
 use crate::places::{Glance, Place};
 use crate::readers::Reader;
 use crate::shared::Shared;
-use crate::shelves::{Shelf, reply_in};
+use crate::shelves::{Missed, Shelf, reply_in};
 use crate::threads::Started;
 use deltastep::Workspace;
 use disk::Disk;
@@ -139,14 +139,14 @@ impl<N: Naming, D: Disk + Drop, G: Gate + Drop, R: Wait + Copy> Handle<N, D, G, 
         self.shared.end_showing(&self.rt)
     }
 
-    /// What the kept row of the source tells, if it is kept; else a workspace for a search.
-    fn kept_reply(&self, glance: &Glance<N>, source: u32, target: u64) -> Result<Reply, Workspace>
+    /// What the kept row of the source tells, if it is kept; else what a search gets.
+    fn kept_reply(&self, glance: &Glance<N>, source: u32, target: u64) -> Result<Reply, Missed>
         ensures { IfOk result (λ reply. IsNode glance.now.view.network target → IsDistance glance.now.view.network source target reply) }
     {
         let mut rows = self.rows.lock(&self.rt);
         match rows.find(glance, source, target) {
             Some(reply) => Ok(reply),
-            None => Err(rows.workspace()),
+            None => Err(rows.missed(glance.version(), source)),
         }
     }
 }
@@ -171,10 +171,49 @@ impl<N: Naming, D: Disk + Drop, G: Gate + Drop, R: Threads + Wait + Copy> Handle
         Ok(reply)
     }
 
-    /// The reply to `Dist` in a view of this desk, by a row that is kept for all who ask, or by a new one. Of all rows that queries of all handles made
-    /// up to 64 are kept, of 8 bytes a node each, of the latest view that was asked, and the memory of up to four searches, of 14 to 27 bytes a node each.
+    /// What a search tells that ends at the target, led by the rows of the view's landmarks. While it is made no lock is held; it keeps no row.
+    fn stopped_reply(
+        &self,
+        glance: &Glance<N>,
+        source: u32,
+        target: u32,
+        mut workspace: Workspace,
+    ) -> Result<Reply, OutOfMemory>
+        requires source { IsNode glance.now.view.network source }
+        requires target { IsNode glance.now.view.network target }
+        ensures { IfOk result (IsDistance glance.now.view.network source target) }
+    {
+        let reply = glance.distance(&self.rt, self.alloc, source, target, &mut workspace)?;
+        let mut rows = self.rows.lock(&self.rt);
+        rows.leave(workspace);
+        Ok(reply)
+    }
+
+    /// What a search tells: a whole row where the source was asked before, else one that ends at the target.
+    fn searched_reply(
+        &self,
+        glance: &Glance<N>,
+        source: u32,
+        target: u32,
+        missed: Missed,
+    ) -> Result<Reply, OutOfMemory>
+        requires source { IsNode glance.now.view.network source }
+        requires target { IsNode glance.now.view.network target }
+        ensures { IfOk result (IsDistance glance.now.view.network source target) }
+    {
+        let Missed { workspace, again } = missed;
+        if again {
+            return self.new_reply(glance, source, u64::from(target), workspace);
+        }
+        self.stopped_reply(glance, source, target, workspace)
+    }
+
+    /// The reply to `Dist` in a view of this desk: by a row that is kept for all who ask; where none is kept of the source, by a search that ends at the
+    /// target, led by the rows of the landmarks; and where the source was asked before in this view, by a new row. Of all rows that queries of all handles
+    /// made up to 64 are kept, of 4 or 8 bytes a node each, of the latest view that was asked, and the memory of up to four searches, of 14 to 39 bytes a node
+    /// each.
     ///
-    /// The one error is want of memory for a new row; a refused query takes none.
+    /// The one error is want of memory for a search; a refused query takes none.
     pub fn dist(&self, glance: &Glance<N>, source: u64, target: u64) -> Result<Reply, OutOfMemory>
         ensures right { IfOk result (IsRight glance.now.view.network (Dist source target)) }
         ensures refused { IsSome (refusal_of glance.now.view.network (Dist source target)) → IsOk result }
@@ -184,7 +223,7 @@ impl<N: Naming, D: Disk + Drop, G: Gate + Drop, R: Threads + Wait + Copy> Handle
         }
         match self.kept_reply(glance, source as u32, target) {
             Ok(reply) => Ok(reply),
-            Err(workspace) => self.new_reply(glance, source as u32, target, workspace),
+            Err(missed) => self.searched_reply(glance, source as u32, target as u32, missed),
         }
     }
 }

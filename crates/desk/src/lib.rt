@@ -3,6 +3,7 @@
 #![tactic(auto)]
 
 mod attempts;
+mod awaited;
 mod building;
 mod desks;
 mod flushing;
@@ -21,6 +22,7 @@ mod row_workers;
 mod shared;
 mod shelves;
 mod sights;
+mod states;
 mod threads;
 
 pub use desks::{Desk, Setup};
@@ -32,3 +34,4 @@ pub use pins::Pinned;
 pub use places::{Glance, Place};
 pub use published::Shown;
 pub use readers::Reader;
+pub use states::{DeskState, Working};

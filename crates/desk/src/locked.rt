@@ -114,7 +114,7 @@ impl<N: Naming, D: Disk> Locked<Office<N, D>> {
     }
 
     /// Whether this number is not durable and won't be.
-    fn is_lost(&self, number: u64) -> bool
+    pub(crate) fn is_lost(&self, number: u64) -> bool
         ensures { result ≡ is_lost self.now.office.machine number }
     {
         self.office.durable() < number && self.office.broken()

@@ -3,7 +3,7 @@ ghost use mathlib.Core.List.{IsPrefix};
 ghost use Rattle.roadnet.specs.Net.{IsNetwork, IsNode};
 ghost use Rattle.roadnet.specs.Walks.{RowOf};
 ghost use Rattle.rows.specs.declared.queries.Query.TheVariants.{From, Lower};
-ghost use Rattle.rows.specs.Replies.{are_nodes, IsRight};
+ghost use Rattle.rows.specs.Replies.{are_nodes, IsDistance, IsRight};
 ghost use Rattle.published.specs.Showing.{IsUnseen};
 ghost use Rattle.desk.specs.Readings.{IsViewAfter};
 
@@ -12,7 +12,7 @@ use history::Front;
 use office::Naming;
 use published::Shown;
 use relax::{CHUNK, Crew};
-use roadnet::{OutOfMemory, Refusal};
+use roadnet::{Network, OutOfMemory, Refusal};
 use rows::{Reply, RowCache, View};
 use std::alloc::Global;
 use std::marker::{Model, PhantomData};
@@ -134,6 +134,13 @@ impl<N: Naming> Glance<N> {
         self.view.width()
     }
 
+    /// The network of the view. It takes no memory.
+    pub fn network(&self) -> &Network
+        ensures { result.now ≡ self.now.view.network }
+    {
+        self.view.network()
+    }
+
     /// The reply to `From`, by the landmark's row. It takes no memory.
     pub fn from_landmark(&self, landmark: u64, target: u64) -> Reply
         ensures { IsRight self.now.view.network (From landmark target) result }
@@ -161,7 +168,7 @@ impl<N: Naming> Glance<N> {
         network.has_node(source) && network.has_node(target)
     }
 
-    /// A new row of the view, of 8 bytes a node. The search takes up what an earlier one left in the workspace, and leaves its own memory there. The one
+    /// A new row of the view, of 4 or 8 bytes a node. The search takes up what an earlier one left in the workspace, and leaves its own memory there. The one
     /// error is want of memory.
     pub(crate) fn row<R: Threads>(
         &self,
@@ -176,6 +183,31 @@ impl<N: Naming> Glance<N> {
         let crew = Crew::new(rt, CHUNK);
         match row_in(alloc, self.view.snapshot(), source, &crew, workspace) {
             Ok(distances) => Ok(distances),
+            Err(RowError::OutOfMemory) => Err(OutOfMemory),
+        }
+    }
+
+    /// The reply to `Dist` of two nodes, by a search that ends at the target, led by the rows of the landmarks, where there are some. The search takes up
+    /// what an earlier one left in the workspace, and leaves its own memory there. The one error is want of memory.
+    pub(crate) fn distance<R: Threads>(
+        &self,
+        rt: &R,
+        alloc: Global,
+        source: u32,
+        target: u32,
+        workspace: &mut Workspace,
+    ) -> Result<Reply, OutOfMemory>
+        requires source { IsNode self.now.view.network source }
+        requires target { IsNode self.now.view.network target }
+        ensures { IfOk result (IsDistance self.now.view.network source target) }
+    {
+        let crew = Crew::new(rt, CHUNK);
+        match self
+            .view
+            .distance_in(alloc, source, target, &crew, workspace)
+        {
+            Ok(Some(length)) => Ok(Reply::Length(length)),
+            Ok(None) => Ok(Reply::NoWalk),
             Err(RowError::OutOfMemory) => Err(OutOfMemory),
         }
     }

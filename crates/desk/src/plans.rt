@@ -9,7 +9,7 @@ use crate::last::{UNKNOWN, Unbuilt};
 use crate::repairs::Before;
 use crate::row_workers::{RowJob, landmark_rows};
 use disk::Disk;
-use keeper::Task;
+use office::Work;
 use roadnet::{Network, OutOfMemory};
 use rows::View;
 use snapshot::{Snapshot, default_delta};
@@ -41,14 +41,13 @@ impl Plan {
         gate: &G,
         last: &AtomicU64,
         version: u64,
-        network: &Network,
+        network: Network,
         old: Option<&View>,
     ) -> Result<Arc<View>, Unbuilt>
         ensures version { IfOk result (λ view. view.value.version ≡ version) }
-        ensures network { IfOk result (λ view. view.value.network ≡ network.now) }
-        ensures width { IfOk result (λ view. view.value.delta ≡ unwrap_or self.now.delta (default_width network.now)) }
+        ensures network { IfOk result (λ view. view.value.network ≡ network) }
+        ensures width { IfOk result (λ view. view.value.delta ≡ unwrap_or self.now.delta (default_width network)) }
     {
-        let network = network.copy()?;
         let width = match self.delta {
             Some(width) => width,
             None => default_delta(&network),
@@ -74,20 +73,20 @@ impl Plan {
         }
     }
 
-    /// The view of a task, out of an older view where one is given, as `view_of`.
+    /// The view of a work, out of the view that was shown as it was taken. Its network is made here, out of that view's.
     pub(crate) fn build<G: Gate + Sync, R: Threads + Sync>(
         &self,
         rt: &R,
         gate: &G,
         last: &AtomicU64,
-        task: &Task,
-        old: Option<&View>,
+        work: &Work,
     ) -> Result<Arc<View>, Unbuilt>
-        ensures version { IfOk result (λ view. view.value.version ≡ task.now.version) }
-        ensures network { IfOk result (λ view. view.value.network ≡ task.now.network.value) }
-        ensures width { IfOk result (λ view. view.value.delta ≡ unwrap_or self.now.delta (default_width task.now.network.value)) }
+        ensures version { IfOk result (λ view. view.value.version ≡ work.now.version) }
+        ensures network { IfOk result (λ view. view.value.network ≡ work.now.network) }
+        ensures width { IfOk result (λ view. view.value.delta ≡ unwrap_or self.now.delta (default_width work.now.network)) }
     {
-        self.view_of(rt, gate, last, task.version, &task.network, old)
+        let network = work.network()?;
+        self.view_of(rt, gate, last, work.version(), network, Some(work.shown()))
     }
 
     /// The view of what a store has, made without a call of a gate. The one error is want of memory.
@@ -101,7 +100,8 @@ impl Plan {
         ensures width { IfOk result (λ view. view.value.delta ≡ unwrap_or self.now.delta (default_width store.now.network)) }
     {
         let last = AtomicU64::new(UNKNOWN);
-        match self.view_of(rt, &NoGate, &last, store.version(), store.network(), None) {
+        let network = store.network().copy()?;
+        match self.view_of(rt, &NoGate, &last, store.version(), network, None) {
             Ok(view) => Ok(view),
             Err(_) => Err(OutOfMemory),
         }

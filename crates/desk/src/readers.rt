@@ -18,7 +18,7 @@ use std::marker::{Model, PhantomData};
 use std::thread::Threads;
 
 /// A reader of the views that a desk shows. It takes no lock and waits for nobody. Contracts see it as the groups that it has seen or was
-/// told of, with the view that it looked at last. It keeps up to 16 rows of that view, of 8 bytes a node.
+/// told of, with the view that it looked at last. It keeps up to 16 rows of that view, of 4 or 8 bytes a node.
 #[derive(Drop)]
 pub struct Reader<N: Naming> {
     reader: published::Reader,

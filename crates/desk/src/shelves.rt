@@ -21,11 +21,23 @@ const MOST_ROWS: usize = 64;
 /// How many searches' workspaces are kept.
 const MOST_WORKSPACES: usize = 4;
 
+/// How many sources are remembered that were asked and have no row.
+const MOST_ASKED: usize = 64;
+
 /// A row with its source.
 #[derive(Drop)]
 pub(crate) struct KeptRow {
     source: u32,
     distances: Distances,
+}
+
+/// What a query gets whose source has no row that is kept.
+#[derive(Drop)]
+pub(crate) struct Missed {
+    /// The memory of a search.
+    pub(crate) workspace: Workspace,
+    /// Whether the source was asked before in the same view: then its row is worth the search.
+    pub(crate) again: bool,
 }
 
 /// What a row tells of the walks from its source to a node.
@@ -50,8 +62,21 @@ fn place_of(rows: &[KeptRow], source: u32) -> Option<usize>
     None
 }
 
-/// Rows that queries made, all of one view: up to 64, of 8 bytes a node, for all who ask. Where it is full, the row that was not used for the
-/// longest time gives way. It has rows of the latest view alone that somebody asked. Beside them it keeps what up to four searches left.
+/// Where this version and source stand, if they are among these.
+fn position_of(asked: &[(u64, u32)], version: u64, source: u32) -> Option<usize>
+    ensures { IfSome result (λ place. place < length asked.now) }
+{
+    for place in 0..asked.len() {
+        if asked[place] == (version, source) {
+            return Some(place);
+        }
+    }
+    None
+}
+
+/// Rows that queries made, all of one view: up to 64, of 4 or 8 bytes a node, for all who ask. Where it is full, the row that was not used for the
+/// longest time gives way. It has rows of the latest view alone that somebody asked. Beside them it keeps what up to four searches left, and up to 64
+/// sources that were asked once.
 ///
 /// Contracts see it as the groups after which the view of the rows stands, and the rows.
 #[derive(Drop)]
@@ -61,6 +86,8 @@ pub(crate) struct Shelf<N: Naming> {
     /// The one that was used last stands last.
     rows: Vec<KeptRow>,
     workspaces: Vec<Workspace>,
+    /// Versions and sources that were asked, and had no row: the last ones.
+    asked: Vec<(u64, u32)>,
     of: PhantomData<N>,
 }
 
@@ -81,9 +108,10 @@ impl<N: Naming> Shelf<N> {
     pub(crate) fn new(alloc: Global) -> Result<Shelf<N>, OutOfMemory>
         ensures { IfOk result (λ shelf. (shelf.groups ≡ None) × (shelf.rows ≡ [])) }
     {
-        let (Ok(rows), Ok(workspaces)) = (
+        let (Ok(rows), Ok(workspaces), Ok(asked)) = (
             Vec::with_capacity(alloc, MOST_ROWS),
             Vec::with_capacity(alloc, MOST_WORKSPACES),
+            Vec::with_capacity(alloc, MOST_ASKED),
         ) else {
             return Err(OutOfMemory);
         };
@@ -91,6 +119,7 @@ impl<N: Naming> Shelf<N> {
             groups: None,
             rows,
             workspaces,
+            asked,
             of: PhantomData,
         })
     }
@@ -160,11 +189,31 @@ impl<N: Naming> Shelf<N> {
         }
     }
 
-    /// What a search left, if one did.
-    pub(crate) fn workspace(&mut self) -> Workspace {
+    /// Whether this source is remembered of this version: it then is no more, and else it is from now on. Where 64 are, the first of them gives way.
+    fn is_asked_again(&mut self, version: u64, source: u32) -> bool
+        ensures groups { self.new.groups ≡ self.old.groups }
+        ensures rows { self.new.rows ≡ self.old.rows }
+    {
+        if let Some(place) = position_of(&self.asked, version, source) {
+            let _again = self.asked.remove(place);
+            return true;
+        }
+        if self.asked.len() == MOST_ASKED {
+            let _first = self.asked.remove(0);
+        }
+        let _ = self.asked.push((version, source));
+        false
+    }
+
+    /// What a search for this source in a view of this version gets, of which no row is kept: what an earlier search left, if one did.
+    pub(crate) fn missed(&mut self, version: u64, source: u32) -> Missed {
+        let again = self.is_asked_again(version, source);
         match self.workspaces.pop() {
-            Some(workspace) => workspace,
-            None => Workspace::new(),
+            Some(workspace) => Missed { workspace, again },
+            None => Missed {
+                workspace: Workspace::new(),
+                again,
+            },
         }
     }
 

@@ -11,7 +11,7 @@ use std::marker::Model;
 use std::sync::Arc;
 use std::thread::Threads;
 
-/// A view with rows that were made for it: up to 16, of 8 bytes a node.
+/// A view with rows that were made for it: up to 16, of 4 or 8 bytes a node.
 #[derive(Drop)]
 pub(crate) struct Sight {
     alloc: Global,

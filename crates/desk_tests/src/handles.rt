@@ -6,7 +6,7 @@ ghost use Rattle.desk.specs.Openings.{IsNewDesk};
 use crate::desks::{CLOSE, network, refusal_of, setup, store_of_six};
 use desk::{Desk, Glance, Handle, History, Naming, NoGate, Place, Ticket};
 use disk::{Disk, MemDisk};
-use roadnet::{Command, Refusal};
+use roadnet::{Command, OutOfMemory, Refusal};
 use rows::Reply;
 use std::alloc::Global;
 use std::marker::Brand;
@@ -108,6 +108,19 @@ pub(crate) fn store_of_chain(alloc: Global, landmarks: &[u32]) -> Result<Store<M
     }
 }
 
+/// The replies to the same query, asked three times: by a search that ends at the target, by a row that is new, and by the row that is kept.
+fn ask_thrice<N: Naming, D: Disk + Drop, R: Threads + Wait + Copy>(
+    handle: &Handle<N, D, NoGate, R>,
+    glance: &Glance<N>,
+    source: u64,
+    target: u64,
+) -> Result<[Reply; 3], OutOfMemory> {
+    let first = handle.dist(glance, source, target)?;
+    let second = handle.dist(glance, source, target)?;
+    let third = handle.dist(glance, source, target)?;
+    Ok([first, second, third])
+}
+
 /// Whether the distance to the last node is right from each node, where the arc from node 7 has this length.
 fn all_right<N: Naming, D: Disk + Drop, R: Threads + Wait + Copy>(
     handle: &Handle<N, D, NoGate, R>,
@@ -119,10 +132,8 @@ fn all_right<N: Naming, D: Disk + Drop, R: Threads + Wait + Copy>(
     for source in 1..NODES {
         let arcs = u64::from(NODES - source);
         let right = if source <= 7 { arcs + length - 1 } else { arcs };
-        let Ok(reply) = handle.dist(glance, u64::from(source), u64::from(NODES)) else {
-            return Err(Refusal::OutOfMemory);
-        };
-        if reply != Reply::Length(right) {
+        let replies = ask_thrice(handle, glance, u64::from(source), u64::from(NODES))?;
+        if replies != [Reply::Length(right); 3] {
             return Ok(false);
         }
     }

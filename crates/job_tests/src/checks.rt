@@ -6,7 +6,7 @@ use std::alloc::Global;
 use storetexts::{apply_text, check_counted, check_text};
 
 /// The store on a disk behind these commands.
-fn applied(alloc: Global, disk: MemDisk, commands: &[u8]) -> Result<MemDisk, Refusal> {
+pub fn applied(alloc: Global, disk: MemDisk, commands: &[u8]) -> Result<MemDisk, Refusal> {
     let mut out = Vec::new(alloc);
     match apply_text(alloc, disk, commands, &mut out) {
         (Ok(()), disk) => Ok(disk),

@@ -8,6 +8,8 @@ mod failing;
 #[cfg(test)]
 mod growths;
 #[cfg(test)]
+mod looks;
+#[cfg(test)]
 mod outcomes;
 #[cfg(test)]
 mod queries;

@@ -15,10 +15,10 @@ use storetexts::{
 };
 
 /// The network of the worked rows.
-const SIX: &[u8] =
+pub const SIX: &[u8] =
     b"c S6\np sp 6 8\na 1 2 17\na 1 3 10\na 2 4 2\na 3 5 0\na 4 3 0\na 4 6 3\na 5 2 0\na 5 6 20\n";
 
-const LANDMARKS: &[u8] = b"p aux sp ss 3\ns 6\ns 3\ns 6\n";
+pub const LANDMARKS: &[u8] = b"p aux sp ss 3\ns 6\ns 3\ns 6\n";
 
 const PAIR: &[u8] = b"p aux sp p2p 1\nq 1 6\n";
 

@@ -24,10 +24,10 @@ takes_row net (From l t) refused landmark lower = landmark l t refl
 takes_row net (Lower s t) refused landmark lower = lower s t refl
 
 -- an answer from a view of the shown version and network
-pub asked : (m : Machine) (shown : Net) (task : Option (ℕ × Net)) (query : Query) (version : ℕ) (network : Net) (result : Result Answer OutOfMemory) → IsViewed m shown task → version ≡ m.shown → network ≡ shown
+pub asked : (m : Machine) (shown : Net) (tracked : ℕ × Net) (query : Query) (version : ℕ) (network : Net) (result : Result Answer OutOfMemory) → IsViewed m shown tracked → version ≡ m.shown → network ≡ shown
     → IfOk result (λ answer. answer.version ≡ version) → IfOk result (λ answer. IsRight network query answer.reply)
     → (IsSome (refusal_of network query) → IsOk result) → ((l t : ℕ) → query ≡ From l t → IsOk result) → ((s t : ℕ) → query ≡ Lower s t → IsOk result)
     → Asks m query (or_out_of_memory result) m
-asked m shown task query version network (Ok answer) k v n told right refused landmark lower = (told ∙ v, (shown, k.shown_is, subst (λ (x : Net). IsRight x query answer.reply) n right), refl)
-asked m shown task query version network (Err e) k v n told right refused landmark lower =
+asked m shown tracked query version network (Ok answer) k v n told right refused landmark lower = (told ∙ v, (shown, k.shown_is, subst (λ (x : Net). IsRight x query answer.reply) n right), refl)
+asked m shown tracked query version network (Err e) k v n told right refused landmark lower =
     (refl, (shown, k.shown_is, subst (TakesRow query) n (takes_row network query (λ some. let never = refused some in cc) (λ l t is. let never = landmark l t is in cc) (λ s t is. let never = lower s t is in cc))), refl)

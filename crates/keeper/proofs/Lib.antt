@@ -1,5 +1,6 @@
 pub mod Accepted
 pub mod Answering
+pub mod Caught
 pub mod Cut
 pub mod Failing
 pub mod Flushed

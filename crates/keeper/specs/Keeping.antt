@@ -1,5 +1,5 @@
 -- What a keeper is to its callers, and what its disk holds.
-use Rattle.std.specs.Prelude.{◌≡◌, ℕ, Bool, false, List, Option, Some, IfSome, option_map, if◌then◌else◌}
+use Rattle.std.specs.Prelude.{◌≡◌, ◌≤◌, ℕ, Bool, false, List, Option, Some, IfSome, option_map, if◌then◌else◌}
 use Rattle.roadnet.specs.declared.groups.Group.{Group}
 use Rattle.roadnet.specs.Batches.{changed_by_all}
 use Rattle.roadnet.specs.Net.{Net}
@@ -52,12 +52,18 @@ pub record LedgerState (D : Type 0) : Type 0 where
 abbrev pub with_views : Machine → ℕ → Option ℕ → Machine
 with_views m shown task = record m { shown = shown; task = task }
 
--- The networks of the view and of the task are those of the machine's versions.
-pub record IsViewed (m : Machine) (shown : Net) (task : Option (ℕ × Net)) : Type 0 where
+-- the network at a version that is durable
+pub record IsNetworkAt (m : Machine) (version : ℕ) (net : Net) : Type 0 where
+  pub from : m.base_version ≤ version
+  pub to : version ≤ m.durable
+  pub network_is : network_at m version ≡ Some net
+
+-- The network of the view is that of the version that is shown. The keeper's own is that of a durable version: the task's, where one is out.
+pub record IsViewed (m : Machine) (shown : Net) (tracked : ℕ × Net) : Type 0 where
   pub state : IsState m
   pub shown_is : network_at m m.shown ≡ Some shown
-  pub task_is : m.task ≡ option_map (λ t. t.0) task
-  pub task_network : IfSome task (λ t. network_at m t.0 ≡ Some t.1)
+  pub tracked_is : IsNetworkAt m tracked.0 tracked.1
+  pub task_is : IfSome m.task (λ v. v ≡ tracked.0)
 
 -- the machine, the disk, how the shown view searches, and the disk as it was when the keeper's store was made or opened
 pub record Keeping (D : Type 0) : Type 0 where

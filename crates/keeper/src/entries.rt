@@ -1,6 +1,6 @@
 // What a ledger tells of itself: numbers of its machine, its groups and network, and receipts. None of these takes memory.
-ghost use Rattle.std.specs.Prelude.{◌≡◌, Some};
-ghost use Rattle.machine.specs.Machine.{IsState, network_at, pending};
+ghost use Rattle.std.specs.Prelude.{◌≡◌, ◌≤◌, ◌++◌, Some};
+ghost use Rattle.machine.specs.Machine.{IsState, groups_to, network_at, pending};
 ghost use Rattle.machine.specs.Calls.{IsTicketOf, receipt_for};
 ghost use Rattle.store.specs.State.{CameTidy};
 ghost use Rattle.keeper.specs.Keeping.{Holds};
@@ -34,6 +34,18 @@ impl<D: Disk> Ledger<D> {
         ensures { network_at self.now.machine self.now.machine.durable ≡ Some result.now }
     {
         self.store.network()
+    }
+
+    /// The groups behind this version, up to the durable one.
+    pub(crate) fn durable_since(&self, version: u64) -> &[Group]
+        requires from { self.now.machine.base_version ≤ version }
+        requires to { version ≤ self.now.machine.durable }
+        ensures groups { groups_to self.now.machine self.now.machine.durable ≡ groups_to self.now.machine version ++ result.now }
+        ensures state { IsState self.now.machine }
+    {
+        let first = (version - self.opened) as usize;
+        let end = (self.store.version() - self.opened) as usize;
+        &self.history[first..end]
     }
 
     /// Whether a write failed: nothing is written before the store is opened again.

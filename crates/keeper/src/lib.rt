@@ -19,10 +19,12 @@ mod shown;
 mod starting;
 mod submitting;
 mod tasks;
+mod tracked;
 mod writing;
 
 pub use keepers::Keeper;
 pub use ledgers::Ledger;
 pub use machine::{Answer, Event, Receipt, Replied, Ticket, Writing};
 pub use rehearsing::{Rehearsal, rehearse};
-pub use tasks::Task;
+pub use tasks::{GroupTask, Task};
+pub use tracked::carry_out_in_turn;

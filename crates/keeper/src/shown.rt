@@ -11,7 +11,7 @@ use std::marker::Model;
 use std::sync::Arc;
 use std::thread::Threads;
 
-/// The view that answers are given from, with rows that they made: up to 16, of 8 bytes a node.
+/// The view that answers are given from, with rows that they made: up to 16, of 4 or 8 bytes a node.
 #[derive(Drop)]
 pub(crate) struct Shown {
     view: Arc<View>,

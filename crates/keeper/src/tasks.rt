@@ -1,14 +1,18 @@
 // Views that are wanted: tasks handed out and given up, and the views of them shown.
-ghost use Rattle.std.specs.Prelude.{◌≡◌, None, Ok, IfOk, IfErr, OnOk, OnErr, MatchResult, option_map};
+ghost use Rattle.std.specs.Prelude.{◌≡◌, None, Some, Ok, IfSome, IfOk, IfErr, OnOk, OnErr, MatchResult, option_map};
+ghost use Rattle.std.proofs.Props.{props};
+ghost use Rattle.roadnet.specs.Step.{after};
 ghost use Rattle.keeper.specs.Parts.{or_out_of_memory, refusal_alone, result_map};
 ghost use Rattle.machine.specs.Calls.{TakesTask, without_task, IsTask, RefusesView, Publishes};
 
 use crate::keepers::Keeper;
 use crate::same::is_same;
+use crate::tracked::{Tracked, copies};
 use disk::Disk;
-use roadnet::{Network, OutOfMemory, Refusal};
+use roadnet::{Group, Network, OutOfMemory, Refusal};
 use rows::View;
 use std::alloc::Global;
+use std::snapshot::Snapshot;
 use std::sync::Arc;
 
 /// A version whose view is wanted, with its network.
@@ -16,27 +20,33 @@ use std::sync::Arc;
 pub struct Task {
     /// The version.
     pub version: u64,
-    /// The network at it. The keeper shares it, and compares the view with it.
+    /// The network at it.
     pub network: Arc<Network>,
 }
 
-/// A task that two may hold, with one copy of the network.
-fn shared_task(alloc: Global, version: u64, network: &Network) -> Result<(Task, Task), OutOfMemory>
-    ensures versions { IfOk result (λ tasks. (tasks.0.version ≡ version) × (tasks.1.version ≡ version)) }
-    ensures networks { IfOk result (λ tasks. (tasks.0.network.value ≡ network.now) × (tasks.1.network.value ≡ network.now)) }
+/// A version whose view is wanted, by the groups that lead to it from a view. Contracts see its network; when it runs there is none.
+#[derive(Drop)]
+pub struct GroupTask {
+    /// The version.
+    pub version: u64,
+    /// The view that is shown as the task is taken.
+    pub view: Arc<View>,
+    /// The groups from its version to the task's.
+    pub groups: Vec<Group>,
+    /// The network at the task's version.
+    pub network: Snapshot<Network>,
+    ghost leads: { after view.value.network groups.items ≡ Some network.value } by { Prim.hlevel props },
+}
+
+/// The task of a tracked network, with a copy of it.
+fn task_of(alloc: Global, tracked: &Tracked) -> Result<Task, OutOfMemory>
+    ensures { IfOk result (λ task. (task.version ≡ tracked.now.version) × (task.network.value ≡ tracked.now.network)) }
 {
-    let Ok(network) = Arc::new(alloc, network.copy()?) else {
+    let Ok(network) = Arc::new(alloc, tracked.network.copy()?) else {
         return Err(OutOfMemory);
     };
-    let Ok(shared) = Arc::try_clone(&network) else {
-        return Err(OutOfMemory);
-    };
-    let one = Task { version, network };
-    let other = Task {
-        version,
-        network: shared,
-    };
-    Ok((one, other))
+    let version = tracked.version;
+    Ok(Task { version, network })
 }
 
 impl<D: Disk> Keeper<D> {
@@ -56,9 +66,50 @@ impl<D: Disk> Keeper<D> {
         if self.task.is_some() || self.shown.version() == self.ledger.durable() {
             return Ok(None);
         }
-        let (kept, given) = shared_task(self.alloc, self.ledger.durable(), self.ledger.network())?;
-        self.task = Some(kept);
-        Ok(Some(given))
+        self.tracked.catch_up(&self.ledger)?;
+        let task = task_of(self.alloc, &self.tracked)?;
+        self.task = Some(task.version);
+        Ok(Some(task))
+    }
+
+    /// A task, as `take_task` takes it, by the groups that lead to its network from that of the view that is shown. No network is copied, and
+    /// nothing goes over its arcs: it takes a copy of each group from the shown version to the durable one.
+    ///
+    /// The one error is want of memory, and then nothing has changed.
+    ///
+    /// Behind flushes of `Close { arc: 7 }` and of `Set { arc: 8, length: 4 }` it is the task of version 2 with these two groups, where version 0 is
+    /// shown.
+    pub fn take_groups(&mut self) -> Result<Option<GroupTask>, OutOfMemory>
+        ensures step { TakesTask self.old.machine (or_out_of_memory (result_map (option_map (λ t. (t.version, t.network.value))) result)) self.new.machine }
+        ensures shown { IfOk result (λ task. IfSome task (λ t. t.view.value.version ≡ self.old.machine.shown)) }
+        ensures disk { self.new.disk ≡ self.old.disk }
+        ensures given { self.new.given ≡ self.old.given }
+        ensures width { self.new.width ≡ self.old.width }
+    {
+        if self.task.is_some() || self.shown.version() == self.ledger.durable() {
+            return Ok(None);
+        }
+        self.tracked.catch_up(&self.ledger)?;
+        let Ok(view) = Arc::try_clone(self.shown.view()) else {
+            return Err(OutOfMemory);
+        };
+        let groups = copies(self.alloc, self.ledger.durable_since(view.version()))?;
+        let version = self.tracked.version;
+        let network = Snapshot::of(&self.tracked.network);
+        self.task = Some(version);
+        Ok(Some(GroupTask {
+            version,
+            view,
+            groups,
+            network,
+        }))
+    }
+
+    /// The version of the task that is out.
+    pub fn task(&self) -> Option<u64>
+        ensures { result ≡ self.now.machine.task }
+    {
+        self.task
     }
 
     /// The task of this version, if it is out, is out no more. It takes no memory.
@@ -68,8 +119,8 @@ impl<D: Disk> Keeper<D> {
         ensures given { self.new.given ≡ self.old.given }
         ensures width { self.new.width ≡ self.old.width }
     {
-        if let Some(task) = &self.task
-            && task.version == version
+        if let Some(task) = self.task
+            && task == version
         {
             self.task = None;
         }
@@ -80,10 +131,10 @@ impl<D: Disk> Keeper<D> {
     pub fn may_publish(&self, view: &View) -> Result<(), Refusal>
         ensures { MatchResult result (λ _. IsTask self.now.machine view.now.version view.now.network) (RefusesView self.now.machine view.now.version view.now.network) }
     {
-        let Some(task) = &self.task else {
+        let Some(task) = self.task else {
             return Err(Refusal::NoTask);
         };
-        if task.version != view.version() || !is_same(&task.network, view.network()) {
+        if task != view.version() || !is_same(&self.tracked.network, view.network()) {
             return Err(Refusal::OtherNetwork);
         }
         Ok(())
@@ -109,7 +160,8 @@ impl<D: Disk> Keeper<D> {
         Ok(self.publish_admitted(view))
     }
 
-    /// Shows the view that `may_publish` has admitted, as `publish` does, and compares nothing again. It takes no memory and can't fail.
+    /// Shows the view of the task, as `publish` does, where that is known without a look at its arcs: `may_publish` has admitted it, or what
+    /// built it tells. It takes no memory and can't fail.
     pub fn publish_admitted(&mut self, view: Arc<View>) -> u64
         requires { IsTask self.old.machine view.value.version view.value.network }
         ensures step { Publishes self.old.machine view.value.version view.value.network (Ok result) self.new.machine }

@@ -4,7 +4,7 @@ ghost use Rattle.machine.specs.Calls.{IsTicketOf};
 
 use disk::{Disk, FailOnce, MemDisk, Pick, Stoppable};
 use fixtures::{parallel, six};
-use keeper::Keeper;
+use keeper::{Keeper, carry_out_in_turn};
 use machine::{Receipt, Ticket};
 use relax::Solo;
 use roadnet::{Command, Network, Refusal};
@@ -17,6 +17,8 @@ use store::{Part, Store, create, open};
 pub(crate) const CLOSE: Command = Command::Close { arc: 7 };
 
 pub(crate) const OPEN: Command = Command::Reopen { arc: 7 };
+
+const SHORTER: Command = Command::Set { arc: 8, length: 4 };
 
 // It leaves the network as it is.
 const SAME: Command = Command::Set { arc: 1, length: 17 };
@@ -34,6 +36,8 @@ enum Call {
     GiveUp(u64),
     // A task is taken, and the view of it shown.
     Show,
+    // The same of a task by its groups, which are carried out on the network of the view that is shown.
+    ShowByGroups,
     // A view of this version and of the network of the worked rows is offered, with the seventh arc closed or not.
     Offer(u64, bool),
     Dist(u64, u64),
@@ -208,6 +212,23 @@ fn show<D: Disk>(alloc: Global, keeper: &mut Keeper<D>) -> Told {
     }
 }
 
+fn show_by_groups<D: Disk>(alloc: Global, keeper: &mut Keeper<D>) -> Told {
+    let Ok(Some(task)) = keeper.take_groups() else {
+        return Told::Nothing;
+    };
+    let Ok(mut network) = task.view.network().copy() else {
+        return Told::Refused(Refusal::OutOfMemory);
+    };
+    let count = carry_out_in_turn(&mut network, &task.groups);
+    if count < task.groups.len() || keeper.task() != Some(task.version) {
+        return Told::Nothing;
+    }
+    match view(alloc, task.version, network) {
+        Ok(view) => publish(keeper, view),
+        Err(refusal) => Told::Refused(refusal),
+    }
+}
+
 fn offer<D: Disk>(alloc: Global, keeper: &mut Keeper<D>, version: u64, closed: bool) -> Told {
     let Ok(mut network) = six(alloc) else {
         return Told::Refused(Refusal::OutOfMemory);
@@ -246,6 +267,7 @@ fn reply_to<R: Threads, D: Disk>(
             Told::Nothing
         }
         Call::Show => show(alloc, keeper),
+        Call::ShowByGroups => show_by_groups(alloc, keeper),
         Call::Offer(version, closed) => offer(alloc, keeper, version, closed),
         Call::Dist(source, target) => ask(rt, keeper, Query::Dist { source, target }),
         Call::Lower(source, target) => ask(rt, keeper, Query::Lower { source, target }),
@@ -656,6 +678,26 @@ fn bounds_of_landmarks(rt: HostRuntime) -> Result<(), Wrong> {
         (Call::Lower(1, 6), Told::Reply(2, Reply::AtLeast(15))),
         (Call::Lower(5, 2), Told::Reply(2, Reply::AtLeast(0))),
         (Call::Lower(4, 1), Told::Reply(2, Reply::NoWalk)),
+    ];
+    plays_on_six(&rt, rt.alloc(), &table)
+}
+
+#[test]
+fn tasks_by_their_groups(rt: HostRuntime) -> Result<(), Wrong> {
+    let table = [
+        (Call::ShowByGroups, Told::Nothing),
+        (Call::Submit(CLOSE), Told::Number(1)),
+        (Call::Flush, Told::Number(1)),
+        (Call::Submit(SHORTER), Told::Number(2)),
+        (Call::Flush, Told::Number(2)),
+        (Call::Dist(1, 6), Told::Reply(0, Reply::Length(15))),
+        (Call::ShowByGroups, Told::Number(2)),
+        (Call::Dist(1, 6), Told::Reply(2, Reply::Length(14))),
+        (Call::ShowByGroups, Told::Nothing),
+        (Call::Submit(OPEN), Told::Number(3)),
+        (Call::Flush, Told::Number(3)),
+        (Call::ShowByGroups, Told::Number(3)),
+        (Call::Dist(1, 6), Told::Reply(3, Reply::Length(14))),
     ];
     plays_on_six(&rt, rt.alloc(), &table)
 }

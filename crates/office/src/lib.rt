@@ -10,8 +10,10 @@ mod offices;
 mod publishing;
 mod settling;
 mod submitting;
+mod works;
 
 pub use closed::Closed;
 pub use history::{Claim as Ticket, Settled as Receipt};
 pub use naming::Naming;
 pub use offices::Office;
+pub use works::{Built, Work};

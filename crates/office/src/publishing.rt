@@ -1,5 +1,5 @@
 // Tasks, and their views shown.
-ghost use Rattle.std.specs.Prelude.{◌≡◌, ◌≢◌, Ok, IfOk, IfErr, OnOk, OnErr, option_map, []};
+ghost use Rattle.std.specs.Prelude.{◌≡◌, ◌≢◌, Ok, IfSome, IfOk, IfErr, OnOk, OnErr, MatchResult, option_map, []};
 ghost use Rattle.roadnet.specs.declared.refusals.Refusal.TheVariants.{NoReaderPlace as no_reader_place, OutOfMemory as out_of_memory};
 ghost use Rattle.machine.specs.Machine.{groups_to};
 ghost use Rattle.keeper.specs.Parts.{or_out_of_memory, result_map};
@@ -7,6 +7,7 @@ ghost use Rattle.machine.specs.Calls.{TakesTask, without_task, IsTask, RefusesVi
 
 use crate::naming::Naming;
 use crate::offices::Office;
+use crate::works::{Built, Work};
 use disk::Disk;
 use keeper::Task;
 use published::{Published, Reader, Shown};
@@ -26,6 +27,26 @@ impl<N: Naming, D: Disk> Office<N, D> {
         ensures width { self.new.width ≡ self.old.width }
     {
         self.keeper.take_task()
+    }
+
+    /// A task, as `take_task` takes it, to be carried out outside the lock: it is the groups that lead from the shown version to the durable one.
+    /// No network is copied, and nothing goes over its arcs.
+    ///
+    /// The one error is want of memory, and then nothing has changed.
+    pub fn take_work(&mut self) -> Result<Option<Work>, OutOfMemory>
+        ensures step { TakesTask self.old.machine (or_out_of_memory (result_map (option_map (λ w. (w.version, w.network))) result)) self.new.machine }
+        ensures origin { IfOk result (λ work. IfSome work (λ w. w.origin ≡ N.origin)) }
+        ensures before { IfOk result (λ work. IfSome work (λ w. w.before.version ≡ self.old.machine.shown)) }
+        ensures disk { self.new.disk ≡ self.old.disk }
+        ensures given { self.new.given ≡ self.old.given }
+        ensures width { self.new.width ≡ self.old.width }
+    {
+        let opened = self.keeper.opened();
+        let Some(task) = self.keeper.take_groups()? else {
+            return Ok(None);
+        };
+        let groups = self.history.front(task.version - opened);
+        Ok(Some(Work { task, groups }))
     }
 
     /// The task of this version, if it is out, is out no more. It takes no memory.
@@ -56,6 +77,69 @@ impl<N: Naming, D: Disk> Office<N, D> {
         if let Err(refusal) = self.keeper.may_publish(&view) {
             return Err((refusal, view));
         }
+        self.show_admitted(rt, view)
+    }
+
+    /// For what `show` of what was built would be refused, memory apart: 51 where no task is out, 52 where the task's version is another. It
+    /// takes no memory.
+    fn may_show(&self, built: &Built) -> Result<(), Refusal>
+        requires { built.now.shown.origin ≡ N.origin }
+        ensures { MatchResult result (λ _. IsTask self.now.machine built.now.view.version built.now.view.network) (RefusesView self.now.machine built.now.view.version built.now.view.network) }
+    {
+        let _ = self.keeper.opened();
+        let Some(task) = self.keeper.task() else {
+            return Err(Refusal::NoTask);
+        };
+        if task != built.view.version() {
+            return Err(Refusal::OtherNetwork);
+        }
+        let _known = self.history.begins(&built.groups);
+        Ok(())
+    }
+
+    /// Shows what was built for the task that is out, as `publish` shows its view, without a look at the view's arcs: that its network is the
+    /// one at its version is a fact of the type.
+    ///
+    /// Refused is what the keeper refuses (51, 52), and then want of memory in the readers' copy (11). What was built is handed back and nothing
+    /// has changed.
+    ///
+    /// With the task of version 1 out, what was built of it is shown; what was built of an earlier task is `OtherNetwork`.
+    pub fn show<R: Wait>(&mut self, rt: &R, built: Built) -> Result<u64, (Refusal, Built)>
+        requires { built.shown.origin ≡ N.origin }
+        ensures step { IfOk result (λ shown. Publishes self.old.machine built.view.version built.view.network (Ok shown) self.new.machine) }
+        ensures refused { IfErr result (λ refused. refused.0 ≢ out_of_memory → RefusesView self.old.machine built.view.version built.view.network refused.0) }
+        ensures order { IfErr result (λ refused. refused.0 ≡ out_of_memory → IsTask self.old.machine built.view.version built.view.network) }
+        ensures handed_back { IfErr result (λ refused. refused.1 ≡ built) }
+        ensures same { OnErr result (self.new ≡ self.old) }
+        ensures disk { self.new.disk ≡ self.old.disk }
+        ensures given { self.new.given ≡ self.old.given }
+        ensures width { OnOk result (self.new.width ≡ built.view.delta) }
+    {
+        if let Err(refusal) = self.may_show(&built) {
+            return Err((refusal, built));
+        }
+        let Built { view, groups } = built;
+        match self.show_admitted(rt, view) {
+            Ok(shown) => Ok(shown),
+            Err((refusal, view)) => Err((refusal, Built { view, groups })),
+        }
+    }
+
+    /// Shows the view of the task. Refused is want of memory in the readers' copy alone.
+    fn show_admitted<R: Wait>(
+        &mut self,
+        rt: &R,
+        view: Arc<View>,
+    ) -> Result<u64, (Refusal, Arc<View>)>
+        requires { IsTask self.old.machine view.value.version view.value.network }
+        ensures step { IfOk result (λ shown. Publishes self.old.machine view.value.version view.value.network (Ok shown) self.new.machine) }
+        ensures memory { IfErr result (λ refused. refused.0 ≡ out_of_memory) }
+        ensures handed_back { IfErr result (λ refused. refused.1 ≡ view) }
+        ensures same { OnErr result (self.new ≡ self.old) }
+        ensures disk { self.new.disk ≡ self.old.disk }
+        ensures given { self.new.given ≡ self.old.given }
+        ensures width { OnOk result (self.new.width ≡ view.value.delta) }
+    {
         let Ok(shared) = Arc::try_clone(&view) else {
             return Err((Refusal::OutOfMemory, view));
         };

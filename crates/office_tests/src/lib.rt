@@ -9,3 +9,5 @@ mod networks;
 mod offices;
 #[cfg(test)]
 mod publishing;
+#[cfg(test)]
+mod works;

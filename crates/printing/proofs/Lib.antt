@@ -1,2 +1,10 @@
 pub mod ReplyLines
 pub mod ReadTexts
+pub mod Looked
+pub mod PrintedRows
+pub mod PrintedNumerals
+pub mod PrintedNetwork
+pub mod PrintedLandmarks
+pub mod PrintedClosings
+pub mod ExportedTexts
+pub mod Restored

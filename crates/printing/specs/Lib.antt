@@ -3,3 +3,5 @@ pub mod Printed
 pub mod Replied
 pub mod Failing
 pub mod Widths
+pub mod Looks
+pub mod Exports

@@ -3,13 +3,17 @@
 #![tactic(auto)]
 
 mod done;
+mod exports;
 mod failed;
+mod looks;
 mod printed;
 mod replied;
 mod writer;
 
 pub use done::Done;
+pub use exports::{Exported, Origin, laws_of_exports, put_exported};
 pub use failed::{Failed, FaultLine, fault_line, of_text, status};
+pub use looks::{Look, put_look, put_look_answer};
 pub use printed::{put_answer, put_lines, put_number, put_numbered, put_refusal, put_version};
 pub use replied::{put_replies, put_reply};
 pub use writer::CountedWriter;

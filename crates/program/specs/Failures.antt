@@ -2,7 +2,7 @@
 use Rattle.std.specs.Prelude.{◌≡◌, ◌⊎◌, ◌+◌, ℕ, Bool, true, false, List, Some, slice_get, ◌==◌, if◌then◌else◌, Result, MatchResult, ⊤}
 use lib.Chars.{codes}
 use Rattle.roadnet.specs.declared.refusals.Refusal.{Refusal}
-use Rattle.roadnet.specs.declared.refusals.Refusal.TheVariants.{Device, OutOfMemory, Write}
+use Rattle.roadnet.specs.declared.refusals.Refusal.TheVariants.{Device, NotEmpty, OutOfMemory, Write}
 use Rattle.store.specs.Opening.{MayRefuseToOpen, StandsForSome}
 use Rattle.dimacs.specs.declared.fault.Code.TheVariants.{Read}
 use Rattle.printing.specs.declared.failed.Failed.{Failed}
@@ -10,7 +10,7 @@ use Rattle.printing.specs.declared.failed.Failed.TheVariants.{Text, Code}
 use Rattle.program.specs.declared.pipes.PipePair.{PipePair}
 use Rattle.program.specs.Pipes.{named, AreTold}
 use Rattle.program.specs.declared.words.Job.{Job}
-use Rattle.program.specs.declared.words.Job.TheVariants.{Joint, Once, Batch, Rehearse, Create, Apply, Ask, Check, Serve, Migrate}
+use Rattle.program.specs.declared.words.Job.TheVariants.{Joint, Once, Batch, Rehearse, Create, Apply, Ask, Check, Serve, Migrate, Show, Export}
 
 -- the failure is one of the call's first text
 abbrev pub is_of_first : Failed → Bool
@@ -40,6 +40,8 @@ text_name (Ask store pairs delta) failed = if is_of_first failed then pairs.now 
 text_name (Check store) failed = store.now
 text_name (Serve store pipes delta workers) failed = pipe_name store.now pipes.items failed
 text_name (Migrate old new room) failed = if is_of_first failed then old.now else new.now
+text_name (Show store look) failed = store.now
+text_name (Export store folder) failed = if is_of_second failed then folder.now else store.now
 
 -- what is told of a file that can't be opened
 abbrev pub unopened : ℕ → Failed
@@ -66,6 +68,10 @@ IsToldAfterOpening file failed told =
 -- there is no file for a new store: it can't be opened, its name can't be made durable, or memory ran out
 abbrev pub IsFileUnmade : Failed → Type 0
 IsFileUnmade failed = (failed ≡ unopened 2) ⊎ ((failed ≡ Code Device) ⊎ (failed ≡ Code OutOfMemory))
+
+-- there is no new file for a text: one of its name is there, it can't be made in the folder, or memory ran out
+abbrev pub IsTextUnmade : Failed → Type 0
+IsTextUnmade failed = (failed ≡ Code NotEmpty) ⊎ IsUnopened 1 failed
 
 -- the new store is there, whether or not this could be told
 abbrev pub IsStoreMade : {T : Type 0} → Result T Failed → Type 0

@@ -8,7 +8,9 @@ use Rattle.clap.specs.declared.parser.matches.Found.{Found}
 use Rattle.clap.specs.Words.{first_value, matched_of, one_text, raw_values}
 use Rattle.rows.specs.Kept.{IsWidth}
 use Rattle.program.specs.declared.words.Job.{Job}
-use Rattle.program.specs.declared.words.Job.TheVariants.{Joint, Once, Batch, Rehearse, Create, Apply, Ask, Check, Serve, Migrate}
+use Rattle.program.specs.declared.words.Job.TheVariants.{Joint, Once, Batch, Rehearse, Create, Apply, Ask, Check, Serve, Migrate, Show, Export}
+use Rattle.printing.specs.declared.looks.Look.{Look}
+use Rattle.printing.specs.declared.looks.Look.TheVariants.{Arc, Between}
 use Rattle.program.specs.declared.words.Usage.{Usage}
 use Rattle.program.specs.declared.pipes.PipePair.{PipePair}
 use Rattle.program.specs.declared.pipes.Misfit.{Misfit}
@@ -27,8 +29,10 @@ delta_of (Ask store pairs delta) = delta
 delta_of (Check store) = None
 delta_of (Serve store pipes delta workers) = delta
 delta_of (Migrate old new room) = None
+delta_of (Show store look) = None
+delta_of (Export store folder) = None
 
--- the width of the searches of a job's rows, where it makes some and one is given: `create`, `apply`, `check` and `migrate` compute none
+-- the width of the searches of a job's rows, where it makes some and one is given: `create`, `apply`, `check`, `migrate`, `show` and `export` compute none
 abbrev pub searched_width : Job → Option ℕ
 searched_width (Joint delta) = delta
 searched_width (Once network source target delta) = delta
@@ -40,6 +44,8 @@ searched_width (Ask store pairs delta) = delta
 searched_width (Check store) = None
 searched_width (Serve store pipes delta workers) = delta
 searched_width (Migrate old new room) = None
+searched_width (Show store look) = None
+searched_width (Export store folder) = None
 
 -- the pages of the store's journal, where it makes a store
 abbrev pub journal_of : Job → Option ℕ
@@ -53,6 +59,8 @@ journal_of (Ask store pairs delta) = None
 journal_of (Check store) = None
 journal_of (Serve store pipes delta workers) = None
 journal_of (Migrate old new room) = None
+journal_of (Show store look) = None
+journal_of (Export store folder) = None
 
 -- the row workers of its desk, where it has one
 abbrev pub workers_of : Job → Option ℕ
@@ -66,6 +74,8 @@ workers_of (Ask store pairs delta) = None
 workers_of (Check store) = None
 workers_of (Serve store pipes delta workers) = Some workers
 workers_of (Migrate old new room) = None
+workers_of (Show store look) = None
+workers_of (Export store folder) = None
 
 -- the pairs of pipes by which clients may come, where there are some
 abbrev pub pipes_of : Job → List PipePair
@@ -79,6 +89,8 @@ pipes_of (Ask store pairs delta) = []
 pipes_of (Check store) = []
 pipes_of (Serve store pipes delta workers) = pipes.items
 pipes_of (Migrate old new room) = []
+pipes_of (Show store look) = []
+pipes_of (Export store folder) = []
 
 -- a number of journal pages
 abbrev pub IsJournal : ℕ → Type 0
@@ -104,6 +116,8 @@ subcommand_of (Ask store pairs delta) = Some (codes "ask")
 subcommand_of (Check store) = Some (codes "check")
 subcommand_of (Serve store pipes delta workers) = Some (codes "serve")
 subcommand_of (Migrate old new room) = Some (codes "migrate")
+subcommand_of (Show store look) = Some (codes "show")
+subcommand_of (Export store folder) = Some (codes "export")
 
 -- this word is a numeral of this number
 abbrev pub IsWordOf : List ℕ → ℕ → Type 0
@@ -201,6 +215,24 @@ GivesMigrate found None = (first_value found (codes "OLD") ≡ None) ⊎ (first_
 GivesMigrate found (Some (Migrate old new room)) =
     (first_value found (codes "OLD") ≡ Some old.now) × (first_value found (codes "NEW") ≡ Some new.now) × Gives found (codes "room") IsLong room
 GivesMigrate found (Some job) = ⊥
+
+-- the numbers give what is asked for: one an arc, two all arcs from one node to another; or the first is missing
+abbrev pub GivesLook : Found → Option Look → Type 0
+GivesLook found None = Gives found (codes "K") IsLong None
+GivesLook found (Some (Arc number)) = Gives found (codes "K") IsLong (Some number) × Gives found (codes "H") IsLong None
+GivesLook found (Some (Between tail head)) = Gives found (codes "K") IsLong (Some tail) × Gives found (codes "H") IsLong (Some head)
+
+-- the words of `show` give this job, or a word is missing
+abbrev pub GivesShow : Found → Option Job → Type 0
+GivesShow found None = (first_value found (codes "STORE") ≡ None) ⊎ GivesLook found None
+GivesShow found (Some (Show store look)) = (first_value found (codes "STORE") ≡ Some store.now) × GivesLook found (Some look)
+GivesShow found (Some job) = ⊥
+
+-- the words of `export` give this job, or a word is missing
+abbrev pub GivesExport : Found → Option Job → Type 0
+GivesExport found None = (first_value found (codes "STORE") ≡ None) ⊎ (first_value found (codes "FOLDER") ≡ None)
+GivesExport found (Some (Export store folder)) = (first_value found (codes "STORE") ≡ Some store.now) × (first_value found (codes "FOLDER") ≡ Some folder.now)
+GivesExport found (Some job) = ⊥
 
 -- the words give the width of a joint form
 abbrev pub GivesJoint : Found → Job → Type 0

@@ -21,6 +21,12 @@ pub const LANDMARKS: &str = "SS";
 
 pub const COMMANDS: &str = "COMMANDS";
 
+pub const FOLDER: &str = "FOLDER";
+
+pub const NUMBER: &str = "K";
+
+pub const HEAD: &str = "H";
+
 pub const SOURCE: &str = "S";
 
 pub const TARGET: &str = "T";
@@ -61,6 +67,10 @@ pub const SERVE: &str = "serve";
 
 pub const MIGRATE: &str = "migrate";
 
+pub const SHOW: &str = "show";
+
+pub const EXPORT: &str = "export";
+
 const ABOUT: &str =
     "Exact least distances in a road network, which may be kept in a store: a file that survives a power cut.
 
@@ -94,10 +104,16 @@ const ABOUT_SERVE: &str =
 
 Beside that it serves one client after the other at each pair of named pipes, IN and OUT, all pairs at once: the client writes its lines into IN and reads its answers from OUT. There `quit` ends that client's session alone, and a last line without its end is not carried out. The end of standard input ends the server.
 
-`set K W`, `close K`, `reopen K`, `mark X`, `unmark X` and `lay T H W` change the network: `ok N`, once the command is version N of the store for good, or `no CODE`. The lines `begin` and `end` enclose commands of which all are carried out or none: `end` is answered for all of them. `dist S T`, `from X T` and `lower S T` ask: the line `v V`, V the version that is shown, and the answer line, or `no CODE`. `wait` waits until the last command or group that was accepted is shown: `v V`, from which on answers are of that version or a later one. Empty lines and those that begin with # have no answer; another line has `no 1` or `no 5`.";
+`set K W`, `close K`, `reopen K`, `mark X`, `unmark X` and `lay T H W` change the network: `ok N`, once the command is version N of the store for good, or `no CODE`. The lines `begin` and `end` enclose commands of which all are carried out or none: `end` is answered for all of them. `dist S T`, `from X T` and `lower S T` ask: the line `v V`, V the version that is shown, and the answer line, or `no CODE`. `arc K` and `arcs T H` tell an arc and the arcs from one node to another, `landmarks` and `closed` all of these, in the version V that is shown: the line `v V`, then theirs. `wait` waits until the last command or group that was accepted is shown: `v V`, from which on answers are of that version or a later one; `until N` until version N is. `state` tells how the server stands. Empty lines and those that begin with # have no answer; another line has `no 1` or `no 5`.";
 
 const ABOUT_MIGRATE: &str =
     "Makes a store in the file NEW, which is absent or empty, of the store in the file OLD, which an earlier program made and which stays as it is: it holds the same network at the same version. It prints `ok V`, V the version, once the store is there for good.";
+
+const ABOUT_SHOW: &str =
+    "Tells of the arcs in the network of the store in the file STORE, which stays as it is: the line `v V`, V the store's version, then of one number K the arc K, `a K T H W open` or `a K T H W closed`, which leads from node T to node H and is W long, or `no 20` where there is no such arc; of two numbers T and H the line `arcs T H K1 K2 ..`, the numbers of all arcs from node T to node H, ascending, closed ones too, or `no 24` where one of the two is no node.";
+
+const ABOUT_EXPORT: &str =
+    "Writes the network of the store in the file STORE, which stays as it is, into three new files of the folder FOLDER, which is there: `network.gr`, all arcs in the order of their numbers; `landmarks.ss`; and `closed.commands`, which closes the closed arcs. It prints `ok V`, V the store's version, once all three are there for good. `create` with the first two, with the store's room, and then `apply` with the third make a store of the same network. The first line of each tells the version, the room and the pages of the journal. Where one of the three is there already nothing is written.";
 
 const GR_HELP: &str = "File of the network, a .gr text, or - for standard input";
 
@@ -276,6 +292,39 @@ fn migrate_command<'w>(alloc: Global) -> Result<Command<'w>, AllocError> {
         .arg(room_option(alloc))
 }
 
+fn show_command<'w>(alloc: Global) -> Result<Command<'w>, AllocError> {
+    Command::new(alloc, SHOW)
+        .about("Tells of an arc, or of all arcs from one node to another, in a store's network")
+        .long_about(ABOUT_SHOW)
+        .after_help("Example: roadmark show six.store 7")
+        .arg(required_word(alloc, STORE, STORE_HELP))?
+        .arg(required_node(
+            alloc,
+            NUMBER,
+            "Number of the arc; before H the node where the arcs begin",
+        )
+        .value_name("K|T"))?
+        .arg(
+            Arg::new(alloc, HEAD)
+                .action(ArgAction::Set)
+                .value_parser(value_parser!(u64))
+                .help("Node where the arcs end"),
+        )
+}
+
+fn export_command<'w>(alloc: Global) -> Result<Command<'w>, AllocError> {
+    Command::new(alloc, EXPORT)
+        .about("Writes a store's network out as texts")
+        .long_about(ABOUT_EXPORT)
+        .after_help("Example: roadmark export six.store .")
+        .arg(required_word(alloc, STORE, STORE_HELP))?
+        .arg(required_word(
+            alloc,
+            FOLDER,
+            "Folder in which the texts are made: network.gr, landmarks.ss and closed.commands",
+        ))
+}
+
 /// The version of the program, of the format that it writes, and of the kit by which it was proved and built.
 const VERSION: &str = "0.2.0 (format 2, rattle-kit-13f logic dac8208d650f15bf)";
 
@@ -296,5 +345,7 @@ pub fn program<'w>(alloc: Global) -> Result<Command<'w>, AllocError> {
         .subcommand(ask_command(alloc)?)?
         .subcommand(check_command(alloc)?)?
         .subcommand(serve_command(alloc)?)?
-        .subcommand(migrate_command(alloc)?)
+        .subcommand(migrate_command(alloc)?)?
+        .subcommand(show_command(alloc)?)?
+        .subcommand(export_command(alloc)?)
 }

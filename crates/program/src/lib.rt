@@ -17,6 +17,7 @@ ghost use Rattle.printing.specs.Widths.{told_width, told_workers};
 
 mod commands;
 mod doors;
+mod exports;
 mod files;
 mod jobs;
 mod patient;
@@ -32,7 +33,7 @@ use files::FIRST_PIPE;
 use jobs::{run_batch, run_joint, run_once, run_rehearse};
 use pipes::pipe_at;
 pub use pipes::{Misfit, PipePair};
-pub use printing::{Done, Failed, fault_line, status};
+pub use printing::{Done, Failed, Look, fault_line, status};
 pub use querytexts::{batch_text, once_text};
 pub use rehearsals::{joint_text, rehearse_text};
 use roadnet::Refusal;
@@ -47,8 +48,10 @@ use std::rt::{Env, Files};
 use std::sync::Wait;
 use std::thread::Threads;
 use std::time::Clock;
-use store_jobs::{run_apply, run_ask, run_check, run_create, run_migrate};
-pub use storetexts::{apply_text, ask_text, check_text, create_text, migrate_text};
+use store_jobs::{run_apply, run_ask, run_check, run_create, run_export, run_migrate, run_show};
+pub use storetexts::{
+    apply_text, ask_text, check_text, create_text, export_text, migrate_text, show_text,
+};
 use streams::{Streams, hold_streams};
 pub use words::{Job, MISUSE, Usage, read_words};
 
@@ -122,6 +125,8 @@ where
             ..
         } => run_serve(rt, threads, store, pipes, delta, workers),
         Job::Migrate { old, new, room } => run_migrate(rt, old, new, room),
+        Job::Show { store, look } => run_show(rt, store, look),
+        Job::Export { store, folder } => run_export(rt, store, folder),
     }
 }
 
@@ -179,6 +184,8 @@ fn text_name<'w>(job: &Job<'w>, failed: &Failed) -> &'w str
             ..
         } => pipe_name(store, pipes.as_slice(), failed),
         Job::Migrate { old, new, .. } => { if is_first { old } else { new } }
+        Job::Show { store, .. } => store,
+        Job::Export { store, folder } => { if is_second { folder } else { store } }
     }
 }
 

@@ -7,6 +7,7 @@ ghost use Rattle.program.specs.Failures.{IsStoreMade, IsToldAfterOpening};
 ghost use Rattle.program.specs.Words.{IsJournal};
 ghost use Rattle.printing.specs.Widths.{told_width};
 
+use crate::exports::{TextFiles, open_folder};
 use crate::files::{
     create_store_file, open_old_store, open_store, open_store_to_read, open_text, open_texts,
     standard_output,
@@ -14,16 +15,19 @@ use crate::files::{
 use dimacs::Counted;
 use disk::Disk;
 use filedisk::NewFile;
-use printing::{CountedWriter, Done, Failed};
+use machine::Replied;
+use printing::{CountedWriter, Done, Failed, Look, put_reply};
 use roadnet::Refusal;
 use std::alloc::Global;
 use std::fs::File;
+use std::io::Write;
 use std::rt::Files;
 use std::thread::Threads;
 use std::time::Clock;
-use store::open;
+use store::{Store, open};
 use storetexts::{
     apply_counted, ask_counted, check_counted, create_store, migrate_counted, read_planned,
+    show_counted,
 };
 
 /// Whether a store that was to be made is there: all was done, or only its line could not be told.
@@ -157,5 +161,64 @@ pub fn run_check<R: AllocGlobal + Clock + Files<File = File> + Print>(
     let mut writer = CountedWriter::new(&mut writer);
     let (outcome, _disk) = check_counted(rt.alloc(), disk, &mut writer);
     outcome?;
+    Ok(Done::without_search())
+}
+
+/// A look at the arcs of a store's network. The file is read alone and stays as it is.
+pub fn run_show<R: AllocGlobal + Clock + Files<File = File> + Print>(
+    rt: &R,
+    store: &str,
+    look: Look,
+) -> Result<Done, Failed>
+    ensures { IfOk result (λ done. told_width done ≡ None) }
+{
+    let disk = open_store_to_read(rt, store)?;
+    let mut writer = standard_output(rt)?;
+    let mut writer = CountedWriter::new(&mut writer);
+    let (outcome, _disk) = show_counted(rt.alloc(), disk, look, &mut writer);
+    outcome?;
+    Ok(Done::without_search())
+}
+
+/// Writes the network of a store out as three texts in a folder that is there. Where one of the texts is there already nothing is made (46). Each text is
+/// synced, and then the folder; where one of these fails (43) those that were made are removed.
+fn write_out<R: AllocGlobal + Files<File = File>, D: Disk>(
+    rt: &R,
+    store: &Store<D>,
+    folder: &str,
+) -> Result<(), Failed> {
+    let place = open_folder(rt, folder)?;
+    let texts = TextFiles::make(rt, folder)?;
+    let filled = texts.fill(rt.alloc(), store, &place);
+    if filled.is_err() {
+        texts.remove(rt);
+    }
+    filled
+}
+
+/// Writes `ok V` and sends it out.
+fn tell_version<W: Write>(out: &mut CountedWriter<'_, W>, version: u64) -> Result<(), Failed> {
+    put_reply(out, &Replied::Durable { version })?;
+    out.flush()
+}
+
+/// The network of a store, written out as three texts in a folder. The store's file is read alone and stays as it is. Where all is done, and only its
+/// line could not be told (12), the texts stay.
+pub fn run_export<R: AllocGlobal + Clock + Files<File = File> + Print>(
+    rt: &R,
+    store: &str,
+    folder: &str,
+) -> Result<Done, Failed>
+    ensures { IfOk result (λ done. told_width done ≡ None) }
+{
+    let disk = open_store_to_read(rt, store)?;
+    let store = match open(rt.alloc(), disk) {
+        Ok(store) => store,
+        Err((refusal, _)) => return Err(Failed::Code(refusal)),
+    };
+    let mut writer = standard_output(rt)?;
+    let mut writer = CountedWriter::new(&mut writer);
+    write_out(rt, &store, folder)?;
+    tell_version(&mut writer, store.version())?;
     Ok(Done::without_search())
 }

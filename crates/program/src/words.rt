@@ -7,16 +7,17 @@ ghost use lib.Chars.{codes};
 ghost use Rattle.clap.specs.Words.{found_of, kind_of, subcommand_name_of};
 ghost use Rattle.rows.specs.Kept.{IsWidth};
 ghost use Rattle.program.specs.Pipes.{names_of, AreFit, AreMisfit};
-ghost use Rattle.program.specs.Words.{delta_of, journal_of, workers_of, pipes_of, all_values, subcommand_of, HasFitNumbers, Gives, GivesOnce, GivesBatch, GivesRehearse, GivesCreate, GivesApply, GivesAsk, GivesCheck, GivesServe, GivesMigrate, GivesJoint, GivesJournal, GivesWorkers, IsJournal, IsWorkers, IsLong, IsUsage, IsInput, NamesInputTwice};
+ghost use Rattle.program.specs.Words.{delta_of, journal_of, workers_of, pipes_of, all_values, subcommand_of, HasFitNumbers, Gives, GivesOnce, GivesBatch, GivesRehearse, GivesCreate, GivesApply, GivesAsk, GivesCheck, GivesServe, GivesMigrate, GivesLook, GivesShow, GivesExport, GivesJoint, GivesJournal, GivesWorkers, IsJournal, IsWorkers, IsLong, IsUsage, IsInput, NamesInputTwice};
 
 use crate::commands::{
-    APPLY, ASK, BATCH, CHECK, COMMANDS, CREATE, DELTA, JOURNAL, LANDMARKS, MIGRATE,
-    MOST_JOURNAL_PAGES, MOST_WIDTH, MOST_WORKERS, NETWORK, NEW, OLD, ONCE, PAIRS, PIPES, REHEARSE,
-    ROOM, SCRIPT, SERVE, SOURCE, STORE, TARGET, WORKERS, program,
+    APPLY, ASK, BATCH, CHECK, COMMANDS, CREATE, DELTA, EXPORT, FOLDER, HEAD, JOURNAL, LANDMARKS,
+    MIGRATE, MOST_JOURNAL_PAGES, MOST_WIDTH, MOST_WORKERS, NETWORK, NEW, NUMBER, OLD, ONCE, PAIRS,
+    PIPES, REHEARSE, ROOM, SCRIPT, SERVE, SHOW, SOURCE, STORE, TARGET, WORKERS, program,
 };
 use crate::pipes::{Misfit, PipePair, pairs_of};
 use clap::error::ErrorKind;
 use clap::{ArgMatches, Error};
+use printing::Look;
 use std::alloc::Global;
 use std::convert::AsStr;
 
@@ -84,6 +85,16 @@ pub enum Job<'w> {
         old: &'w str,
         new: &'w str,
         room: Option<u64>,
+    },
+    /// A look at the arcs of a store's network.
+    Show {
+        store: &'w str,
+        look: Look,
+    },
+    /// The network of a store, written out as texts in a folder.
+    Export {
+        store: &'w str,
+        folder: &'w str,
     },
 }
 
@@ -328,6 +339,35 @@ fn migrate_in<'w>(matches: &ArgMatches<'w>) -> Option<Job<'w>>
     })
 }
 
+/// What the numbers ask for: the arc of one, or all arcs from the one node to the other.
+fn look_in(matches: &ArgMatches<'_>) -> Option<Look>
+    ensures { GivesLook (found_of matches.now) result }
+{
+    let number = number_in(matches, NUMBER)?;
+    match number_in(matches, HEAD) {
+        Some(head) => Some(Look::Between { tail: number, head }),
+        None => Some(Look::Arc { number }),
+    }
+}
+
+fn show_in<'w>(matches: &ArgMatches<'w>) -> Option<Job<'w>>
+    ensures numbers { ForSome result HasFitNumbers }
+    ensures given { GivesShow (found_of matches.now) result }
+{
+    let store = matches.get_str(STORE)?;
+    let look = look_in(matches)?;
+    Some(Job::Show { store, look })
+}
+
+fn export_in<'w>(matches: &ArgMatches<'w>) -> Option<Job<'w>>
+    ensures numbers { ForSome result HasFitNumbers }
+    ensures given { GivesExport (found_of matches.now) result }
+{
+    let store = matches.get_str(STORE)?;
+    let folder = matches.get_str(FOLDER)?;
+    Some(Job::Export { store, folder })
+}
+
 /// The job that was matched, where it has no pipes.
 fn plain_job_in<'w>(matches: &ArgMatches<'w>) -> Option<Job<'w>>
     ensures numbers { ForSome result HasFitNumbers }
@@ -348,6 +388,8 @@ fn plain_job_in<'w>(matches: &ArgMatches<'w>) -> Option<Job<'w>>
         Some((ASK, inner)) => ask_in(inner),
         Some((CHECK, inner)) => check_in(inner),
         Some((MIGRATE, inner)) => migrate_in(inner),
+        Some((SHOW, inner)) => show_in(inner),
+        Some((EXPORT, inner)) => export_in(inner),
         Some(_) => None,
     }
 }
@@ -388,7 +430,9 @@ fn names_input_twice(job: &Job<'_>) -> bool
         | Job::Ask { .. }
         | Job::Check { .. }
         | Job::Serve { .. }
-        | Job::Migrate { .. } => false,
+        | Job::Migrate { .. }
+        | Job::Show { .. }
+        | Job::Export { .. } => false,
     }
 }
 

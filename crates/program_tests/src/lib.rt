@@ -6,6 +6,8 @@ mod checking;
 #[cfg(test)]
 mod clients;
 #[cfg(test)]
+mod exporting;
+#[cfg(test)]
 mod migrating;
 #[cfg(test)]
 mod runs;

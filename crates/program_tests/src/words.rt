@@ -1,5 +1,5 @@
 //! The program's words: which job they ask for, which are refused, and what help tells.
-use program::{Job, PipePair, Usage, read_words};
+use program::{Job, Look, PipePair, Usage, read_words};
 use std::alloc::{AllocError, Global};
 use std::process::Abort;
 use std::test::Fail;
@@ -24,7 +24,7 @@ fn usage_of<R: Abort + AllocGlobal>(rt: &R, words: &str) -> Result<Usage, Fail> 
 }
 
 /// Words with the job for which they ask.
-const JOBS: [(&str, Job<'static>); 17] = [
+const JOBS: [(&str, Job<'static>); 20] = [
     (
         "roadmark once a.gr 1 18446744073709551615",
         Job::Once {
@@ -146,6 +146,27 @@ const JOBS: [(&str, Job<'static>); 17] = [
         },
     ),
     ("roadmark check s", Job::Check { store: "s" }),
+    (
+        "roadmark show s 18446744073709551615",
+        Job::Show {
+            store: "s",
+            look: Look::Arc { number: u64::MAX },
+        },
+    ),
+    (
+        "roadmark show s 4 6",
+        Job::Show {
+            store: "s",
+            look: Look::Between { tail: 4, head: 6 },
+        },
+    ),
+    (
+        "roadmark export s d",
+        Job::Export {
+            store: "s",
+            folder: "d",
+        },
+    ),
 ];
 
 /// Words of `serve`: the store, the names of its pipes with blanks between them, the width and the row workers for which they ask.
@@ -325,6 +346,13 @@ fn misuses_of_words(rt: HostRuntime) -> Result<(), Fail> {
         "roadmark apply s d --workers 2",
         "roadmark ask s b.p2p --workers 2",
         "roadmark check s --workers 2",
+        "roadmark show s",
+        "roadmark show s one",
+        "roadmark show s 1 2 3",
+        "roadmark show s 1 --delta 3",
+        "roadmark export s",
+        "roadmark export s d e",
+        "roadmark export s d --room 3",
     ];
     for words in table {
         let usage = usage_of(&rt, words)?;
@@ -348,7 +376,7 @@ fn has_help<R: Abort + AllocGlobal>(rt: &R, words: &str, parts: &str) -> Result<
 #[test]
 fn help_of_words(rt: HostRuntime) -> Result<(), Fail> {
     let words =
-        "once|batch|rehearse|create|apply|ask|check|serve|migrate|--delta <D>|Example: roadmark <";
+        "once|batch|rehearse|create|apply|ask|check|serve|migrate|show|export|--delta <D>|Example: roadmark <";
     let once = "least length|<GR>|<S>|<T>|--delta <D>|Example: roadmark once";
     let batch = "pairs|<GR>|<P2P>|--delta <D>|Example: roadmark batch";
     let rehearse =
@@ -359,6 +387,8 @@ fn help_of_words(rt: HostRuntime) -> Result<(), Fail> {
     let ask = "pairs|<STORE>|<P2P>|--delta <D>|Example: roadmark ask";
     let check = "<STORE>|journal U|Example: roadmark check";
     let migrate = "<OLD>|<NEW>|--room <R>|Example: roadmark migrate";
+    let show = "<STORE>|<K|T>|[H]|Example: roadmark show";
+    let export = "<STORE>|<FOLDER>|closed.commands|Example: roadmark export";
     let serve = "standard input|<STORE>|[IN OUT]|--workers <W>|--delta <D>|Example: printf";
     let table = [
         ("roadmark --help", words),
@@ -371,6 +401,8 @@ fn help_of_words(rt: HostRuntime) -> Result<(), Fail> {
         ("roadmark check --help", check),
         ("roadmark serve --help", serve),
         ("roadmark migrate --help", migrate),
+        ("roadmark show --help", show),
+        ("roadmark help export", export),
         ("roadmark once -h", "<GR>|Example"),
         (
             "roadmark --version",

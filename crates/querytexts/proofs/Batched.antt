@@ -12,12 +12,6 @@ use Rattle.rows.specs.Replies.{IsRight}
 use Rattle.printing.specs.Printed.{answer_line}
 use Rattle.querytexts.specs.Batch.{query_of, AreRight, answer_lines}
 
-pub right_more : (net : Net) (pairs : List Pair) (i : ℕ) (d : Pair) (replies : List Reply) (reply : Reply) → i < length pairs
-    → AreRight net (take i pairs) replies → IsRight net (query_of (get_or pairs i d)) reply → AreRight net (take (i + 1) pairs) (replies ++ reply ∷ [])
-right_more net pairs i d replies reply lt before here =
-    subst (λ (ps : List Pair). AreRight net ps (replies ++ reply ∷ [])) (sym (take_more pairs i d lt))
-    (all_zipped_more (λ (p : Pair) (r : Reply). IsRight net (query_of p) r) (take i pairs) replies (get_or pairs i d) reply before here)
-
 push_line : (pairs : List Pair) (replies : List Reply) (pair : Pair) (reply : Reply) → length replies ≡ length pairs
     → answer_lines (pairs ++ pair ∷ []) (replies ++ reply ∷ []) ≡ answer_lines pairs replies ++ answer_line (query_of pair) reply
 push_line [] [] pair reply same = append-nil (answer_line (query_of pair) reply)

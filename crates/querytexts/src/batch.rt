@@ -15,7 +15,7 @@ ghost use Rattle.querytexts.specs.Batch.{AreRight, query_of, answer_lines, Answe
 use dimacs::{Counted, Pair, parse_gr, parse_p2p, read_gr_counted, read_p2p_counted};
 use printing::{CountedWriter, Done, Failed, of_text, put_answer, put_version};
 use roadnet::{Network, OutOfMemory, Refusal};
-use rows::{DEFAULT_ROWS, Query, Reply, Searches};
+use rows::{DEFAULT_ROWS, Ends, Query, Reply, Searches};
 use std::alloc::Global;
 use std::io::{BufRead, Write};
 use std::thread::Threads;
@@ -34,30 +34,26 @@ fn query_of(pair: Pair) -> Query
     }
 }
 
-/// A right reply to a pair, or none where no memory is there for the row of its source.
-fn reply_to<T: Threads>(
-    rt: &T,
-    alloc: Global,
-    network: &Network,
-    searches: &mut Searches,
-    pair: Pair,
-) -> Result<Reply, OutOfMemory>
-    requires { AreOf network.now searches.old }
-    ensures right { IfOk result (IsRight network.now (query_of pair)) }
-    ensures kept { AreOf network.now searches.new }
-    ensures width { given_width searches.new ≡ given_width searches.old }
-{
-    searches.dist(
-        rt,
-        alloc,
-        network,
-        u64::from(pair.source),
-        u64::from(pair.target),
-    )
+/// The ends of a text's pairs.
+struct OfText;
+
+impl Ends for OfText {
+    type Pair = Pair;
+
+    ghost source = { λ pair. pair.source };
+
+    ghost target = { λ pair. pair.target };
+
+    fn source(&self, pair: &Pair) -> u64 {
+        u64::from(pair.source)
+    }
+
+    fn target(&self, pair: &Pair) -> u64 {
+        u64::from(pair.target)
+    }
 }
 
-/// A right reply to each pair, in their order, or none at all, by searches of one network and their width. They keep rows: a source whose
-/// row is kept is not searched again.
+/// A right reply to each pair, in their order, or none at all, by searches of one network and their width.
 fn reply_to_all<T: Threads>(
     rt: &T,
     alloc: Global,
@@ -70,20 +66,10 @@ fn reply_to_all<T: Threads>(
     ensures refused { IfErr result (λ failed. failed ≡ Failed.Code Refusal.OutOfMemory) }
     ensures width { given_width searches.new ≡ given_width searches.old }
 {
-    let mut replies = match Vec::with_capacity(alloc, pairs.len()) {
-        Ok(replies) => replies,
-        Err(_) => return Err(Failed::Code(Refusal::OutOfMemory)),
-    };
-    for pair in pairs {
-        let reply = match reply_to(rt, alloc, network, searches, *pair) {
-            Ok(reply) => reply,
-            Err(_) => return Err(Failed::Code(Refusal::OutOfMemory)),
-        };
-        if replies.push(reply).is_err() {
-            return Err(Failed::Code(Refusal::OutOfMemory));
-        }
+    match searches.batch(rt, alloc, network, &OfText, pairs) {
+        Ok(replies) => Ok(replies),
+        Err(OutOfMemory) => Err(Failed::Code(Refusal::OutOfMemory)),
     }
-    Ok(replies)
 }
 
 /// Writes one line a pair.
@@ -133,9 +119,9 @@ pub fn answer_by<T: Threads, W: Write>(
 /// Writes the network's version and a right answer to each pair, in their order, and sends them out; or nothing, where no memory is
 /// there for all replies (11). A failed write is 12, and then an unknown part was written.
 ///
-/// `delta` is the width of a search's buckets, 1 to 2147483647; without one it is the network's default. The rows of the last 16 sources
-/// are kept, 8 bytes a node and row: so where few sources alternate, each is searched once. The rows are made by a crew of the runtime's
-/// threads.
+/// `delta` is the width of a search's buckets, 1 to 2147483647; without one it is the network's default. Whatever the order of the pairs, each source is
+/// searched once, or, where these are fewer, each target over the arcs turned round. Up to four of these searches are made side by side, and 16 rows
+/// are held at once, of 4 or 8 bytes a node; a pair takes 20 bytes.
 pub fn answer_pairs<T: Threads, W: Write>(
     rt: &T,
     alloc: Global,
@@ -162,8 +148,8 @@ pub fn answer_pairs<T: Threads, W: Write>(
 /// decides. Nodes of the pairs are judged by the network's number of nodes.
 ///
 /// `delta` is the width of a search's buckets, 1 to 2147483647: every width gives the same answers; without one it is
-/// the network's default. The rows of the last 16 sources are kept, 8 bytes a node and row. Where no memory is there for all replies the
-/// call is refused with 11 and nothing is written. A failed read is fault 10 of the text and line being read, and a failed write is 12: both
+/// the network's default. Each source is searched once, or each target, where these are fewer, as `answer_pairs` does it. Where no memory is there for all
+/// replies the call is refused with 11 and nothing is written. A failed read is fault 10 of the text and line being read, and a failed write is 12: both
 /// are told only where the count of that reader's or the writer's failed calls rose. After an `Err` readers and writer are not used again.
 pub fn batch_counted<T: Threads, R: BufRead, Q: BufRead, W: Write>(
     rt: &T,

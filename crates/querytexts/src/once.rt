@@ -20,7 +20,7 @@ use std::thread::Threads;
 
 const NETWORK: u8 = 0;
 
-/// How many rows are kept for one query.
+/// How many rows are kept at most: one query keeps none.
 const ROWS: u32 = 1;
 
 /// Writes the lines of a right reply to `dist s t`, at version 0, and sends them out; or nothing, where no memory is there for the reply.
@@ -48,7 +48,7 @@ fn answer_one<T: Threads, W: Write>(
         target: t,
     };
     let mut searches = Searches::new(alloc, delta, ROWS);
-    let reply = match searches.dist(rt, alloc, network, s, t) {
+    let reply = match searches.distance(rt, alloc, network, s, t) {
         Ok(reply) => reply,
         Err(_) => return Err(Failed::Code(Refusal::OutOfMemory)),
     };
@@ -61,7 +61,7 @@ fn answer_one<T: Threads, W: Write>(
 /// before anything is written.
 ///
 /// `delta` is the width of a search's buckets, 1 to 2147483647: every width gives the same answer; without one it is the
-/// network's default. The row is made by a crew of the runtime's threads.
+/// network's default. The search ends at the target, and is made by a crew of the runtime's threads.
 /// Where no memory is there for the reply the call is refused with 11 and nothing is written. A failed read is fault 10 of the line
 /// being read, and a failed write is 12: both are told only where the count of the reader's or writer's failed calls rose. After an
 /// `Err` reader and writer are not used again.

@@ -4,5 +4,8 @@ pub mod BoundLaws
 pub mod Bounded
 pub mod CacheRows
 pub mod LandmarkRows
+pub mod Parts
+pub mod Placing
 pub mod Potentials
 pub mod ReplyLaws
+pub mod Turned

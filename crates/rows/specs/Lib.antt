@@ -5,5 +5,6 @@ pub mod Replies
 pub mod ReplyLaws
 pub mod Cached
 pub mod Kept
+pub mod Batches
 pub mod Views
 pub mod Pins

@@ -1,13 +1,19 @@
-ghost use Rattle.std.specs.Prelude.{◌≡◌, ℕ, IfOk, IsOk, IsSome};
+ghost use Rattle.std.specs.Prelude.{◌≡◌, ℕ, None, IfOk, IsOk, IsSome, OnErr};
 ghost use Rattle.roadnet.specs.Net.{Net, IsNetwork, IsNode};
 ghost use Rattle.roadnet.specs.Walks.{RowOf};
+ghost use Rattle.snapshot.specs.Groups.{IsSnapshotOf};
+ghost use Rattle.rows.specs.Cached.{KeepsOthers, HasRowsOf, HasUsed, capacity_of, row_kept, rows_of};
 ghost use Rattle.rows.specs.Replies.{IsDistance, IsRight, refusal_of};
+ghost use Rattle.rows.specs.declared.queries.Query.TheVariants.{Dist};
 
 use crate::bounds::plain_bound;
+use crate::caches::RowCache;
 use crate::queries::{Query, Reply};
 use deltastep::{Distances, RowError, plain_row};
 use roadnet::{Network, OutOfMemory, Refusal};
+use snapshot::Snapshot;
 use std::alloc::Global;
+use std::thread::Threads;
 
 /// For what a query is refused, if it is: the lowest refusal that applies.
 pub(crate) fn refusal_of(network: &Network, query: &Query) -> Option<Refusal>
@@ -34,6 +40,36 @@ pub(crate) fn distance_in(row: &Distances, target: u64) -> Reply
         Some(length) => Reply::Length(length),
         None => Reply::NoWalk,
     }
+}
+
+/// The reply to `Dist` in a network whose open arcs are grouped, by a row of the cache or a new one.
+pub(crate) fn reply_by<R: Threads>(
+    rt: &R,
+    alloc: Global,
+    version: u64,
+    network: &Network,
+    snapshot: &Snapshot,
+    cache: &mut RowCache,
+    source: u64,
+    target: u64,
+) -> Result<Reply, OutOfMemory>
+    requires groups { IsSnapshotOf network.now snapshot.now }
+    requires rows { HasRowsOf version network.now cache.old }
+    ensures right { IfOk result (IsRight network.now (Dist source target)) }
+    ensures refused { IsSome (refusal_of network.now (Dist source target)) → IsOk result }
+    ensures kept { HasRowsOf version network.now cache.new }
+    ensures others { KeepsOthers version cache.old cache.new }
+    ensures held { IsSome (row_kept version source cache.old) → IsOk result }
+    ensures used { refusal_of network.now (Dist source target) ≡ None → HasUsed version source cache.old cache.new }
+    ensures unused { IsSome (refusal_of network.now (Dist source target)) → rows_of cache.new ≡ rows_of cache.old }
+    ensures cut { OnErr result (rows_of cache.new ≡ rows_of cache.old) }
+    ensures capacity { capacity_of cache.new ≡ capacity_of cache.old }
+{
+    let query = Query::Dist { source, target };
+    if let Some(refusal) = refusal_of(network, &query) {
+        return Ok(Reply::Refused(refusal));
+    }
+    cache.distance(rt, alloc, version, snapshot, source as u32, target)
 }
 
 /// The least length of a walk between two nodes, by a row that is made for it alone.

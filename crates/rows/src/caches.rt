@@ -13,11 +13,11 @@ use std::alloc::Global;
 use std::num::NonZeroUsize;
 use std::thread::Threads;
 
-/// How many rows a cache keeps by default: 16, of 8 bytes a node each. 1 to 64 are allowed.
+/// How many rows a cache keeps by default: 16, of 4 or 8 bytes a node each. 1 to 64 are allowed.
 pub const DEFAULT_ROWS: u32 = 16;
 
 /// Rows that queries made, by version and source, up to a number of them: where it is full, the row that was not used for the longest
-/// time gives way. It takes 8 bytes a node for each row. What a search takes beside its row is kept for the next one.
+/// time gives way. It takes 4 or 8 bytes a node for each row. What a search takes beside its row is kept for the next one.
 #[derive(Drop)]
 pub struct RowCache {
     alloc: Global,
@@ -28,8 +28,9 @@ pub struct RowCache {
 }
 
 impl RowCache {
-    ghost use Rattle.std.specs.Prelude.{◌≡◌, ◌≤◌, ◌⊎◌, [], None, length, IsSome, IfSome, IsOk, IfOk, OnErr, MatchOption};
+    ghost use Rattle.std.specs.Prelude.{◌≡◌, ◌≤◌, ◌⊎◌, [], None, length, All, IsSome, IfSome, IsOk, IfOk, OnErr, MatchOption};
     ghost use Rattle.roadnet.specs.Net.{Net, IsNode};
+    ghost use Rattle.roadnet.specs.Walks.{RowOf};
     ghost use Rattle.snapshot.specs.Groups.{IsSnapshotOf};
     ghost use Rattle.rows.specs.Replies.{IsDistance};
     ghost use Rattle.rows.specs.Cached.{capacity_of, rows_of, HasRowsOf, HasNoNewRow, HasOneNewRow, HasUsed, KeepsOthers, row_kept, rows_used, rows_put};
@@ -93,6 +94,25 @@ impl RowCache {
         Some(distance_in(row, target))
     }
 
+    /// Whether the row of this version and source is kept.
+    pub(crate) fn has(&self, version: u64, source: u32) -> bool {
+        match &self.rows {
+            Some(rows) => rows.contains(&(version, source)),
+            None => false,
+        }
+    }
+
+    /// Whether the row of this version and source is kept: it then counts as used.
+    pub(crate) fn promote(&mut self, version: u64, source: u32) -> bool
+        ensures rows { HasNoNewRow self.old self.new }
+        ensures capacity { capacity_of self.new ≡ capacity_of self.old }
+    {
+        match &mut self.rows {
+            Some(rows) => rows.promote(&(version, source)),
+            None => false,
+        }
+    }
+
     /// Makes the map, where it is not made yet and memory is there for it.
     fn make_map(&mut self)
         ensures rows { rows_of self.new ≡ rows_of self.old }
@@ -117,6 +137,17 @@ impl RowCache {
             return;
         };
         let _ = rows.put((version, source), distances);
+    }
+
+    /// Keeps rows of nodes, each beside its node, as far as memory is there for them: the first counts as used last.
+    pub(crate) fn keep_all(&mut self, version: u64, mut rows: Vec<(u32, Distances)>)
+        ensures kept { (net : Net) → All (λ made. RowOf net made.0 made.1) rows.items → HasRowsOf version net self.old → HasRowsOf version net self.new }
+        ensures others { KeepsOthers version self.old self.new }
+        ensures capacity { capacity_of self.new ≡ capacity_of self.old }
+    {
+        while let Some((source, distances)) = rows.pop() {
+            self.keep(version, source, distances);
+        }
     }
 
     /// The least length of a walk from one node to another, in each network of which the groups are: by the row of this version and

@@ -10,7 +10,7 @@ use roadnet::OutOfMemory;
 use snapshot::Snapshot;
 use std::alloc::Global;
 
-/// The least distances from a landmark, in the network of a version. It takes 8 bytes a node.
+/// The least distances from a landmark, in the network of a version. It takes 4 or 8 bytes a node.
 #[derive(Drop)]
 pub struct Row {
     /// The node where the walks begin.

@@ -2,19 +2,24 @@
 #![tactic(auto)]
 
 mod answers;
+mod batches;
 mod bounds;
 mod caches;
+mod ends;
 mod guides;
 mod landmark_rows;
 mod laws;
 mod pinned;
+mod places;
 mod queries;
 mod ran;
 mod searches;
+mod side_by_side;
 mod views;
 
 pub use answers::answer_plain;
 pub use caches::{DEFAULT_ROWS, RowCache};
+pub use ends::Ends;
 pub use guides::{Landmarks, laws_of_potentials};
 pub use landmark_rows::Row;
 pub use laws::{laws_of_bounds, laws_of_replies};

@@ -5,9 +5,11 @@ ghost use Rattle.rows.specs.Views.{AreRight};
 ghost use Rattle.rows.specs.Pins.{viewed, cached, HasOwnRows, HasAnswered, IsSamePin};
 ghost use Rattle.rows.specs.declared.queries.Query.TheVariants.{Dist, From, Lower};
 
-use crate::answers::{distance_in, refusal_of};
+use crate::answers::{distance_in, refusal_of, reply_by};
+use crate::batches::replies_to;
 use crate::bounds::bound_by;
 use crate::caches::RowCache;
+use crate::ends::Numbers;
 use crate::queries::{Query, Reply};
 use crate::views::View;
 use roadnet::OutOfMemory;
@@ -19,62 +21,6 @@ use std::thread::Threads;
 pub struct Pinned<'a> {
     view: &'a View,
     cache: &'a mut RowCache,
-}
-
-/// The reply to `Dist`, by a row of the cache or a new one.
-fn dist_by<R: Threads>(
-    rt: &R,
-    alloc: Global,
-    view: &View,
-    cache: &mut RowCache,
-    source: u64,
-    target: u64,
-) -> Result<Reply, OutOfMemory>
-    requires { HasRowsOf view.now.version view.now.network cache.old }
-    ensures right { IfOk result (IsRight view.now.network (Dist source target)) }
-    ensures refused { IsSome (refusal_of view.now.network (Dist source target)) → IsOk result }
-    ensures kept { HasRowsOf view.now.version view.now.network cache.new }
-    ensures others { KeepsOthers view.now.version cache.old cache.new }
-    ensures held { IsSome (row_kept view.now.version source cache.old) → IsOk result }
-    ensures used { refusal_of view.now.network (Dist source target) ≡ None → HasUsed view.now.version source cache.old cache.new }
-    ensures unused { IsSome (refusal_of view.now.network (Dist source target)) → rows_of cache.new ≡ rows_of cache.old }
-    ensures cut { OnErr result (rows_of cache.new ≡ rows_of cache.old) }
-    ensures capacity { capacity_of cache.new ≡ capacity_of cache.old }
-{
-    let query = Query::Dist { source, target };
-    if let Some(refusal) = refusal_of(view.network(), &query) {
-        return Ok(Reply::Refused(refusal));
-    }
-    let version = view.version();
-    cache.distance(rt, alloc, version, view.snapshot(), source as u32, target)
-}
-
-/// The replies to `Dist` for pairs, in their order.
-fn batch_by<R: Threads>(
-    rt: &R,
-    alloc: Global,
-    view: &View,
-    cache: &mut RowCache,
-    pairs: &[(u64, u64)],
-) -> Result<Vec<Reply>, OutOfMemory>
-    requires { HasRowsOf view.now.version view.now.network cache.old }
-    ensures right { IfOk result (λ replies. AreRight view.now.network pairs.now replies.items) }
-    ensures empty { pairs.now ≡ [] → IsOk result }
-    ensures kept { HasRowsOf view.now.version view.now.network cache.new }
-    ensures others { KeepsOthers view.now.version cache.old cache.new }
-    ensures capacity { capacity_of cache.new ≡ capacity_of cache.old }
-{
-    let mut replies = match Vec::with_capacity(alloc, pairs.len()) {
-        Ok(replies) => replies,
-        Err(_) => return Err(OutOfMemory),
-    };
-    for pair in pairs {
-        let reply = dist_by(rt, alloc, view, cache, pair.0, pair.1)?;
-        if replies.push(reply).is_err() {
-            return Err(OutOfMemory);
-        }
-    }
-    Ok(replies)
 }
 
 impl<'a> Pinned<'a> {
@@ -156,11 +102,23 @@ impl<'a> Pinned<'a> {
         ensures capacity { capacity_of (cached self.new) ≡ capacity_of (cached self.old) }
         ensures same { IsSamePin self.old self.new }
     {
-        dist_by(rt, alloc, self.view, self.cache, source, target)
+        let view = self.view;
+        let (version, network) = (view.version(), view.network());
+        reply_by(
+            rt,
+            alloc,
+            version,
+            network,
+            view.snapshot(),
+            self.cache,
+            source,
+            target,
+        )
     }
 
-    /// The replies to `Dist` for pairs of a source and a target, in their order, each as `dist` gives it. The one error is want of
-    /// memory, for 16 bytes a pair and a row; rows that were made by then may be kept.
+    /// The replies to `Dist` for pairs of a source and a target, in their order, each as `dist` gives it. Whatever the order, each source whose row is not
+    /// kept is searched once, or, where these are fewer, each target over the arcs turned round; up to four searches are made side by side. The one error
+    /// is want of memory, for 20 bytes a pair, a flag a node and a row; rows of sources that were made by then may be kept.
     ///
     /// In the network of `examples/six.gr`, the pairs (1, 6) and (6, 1) give `Length(15)` and `NoWalk`.
     pub fn batch<R: Threads>(
@@ -177,7 +135,18 @@ impl<'a> Pinned<'a> {
         ensures capacity { capacity_of (cached self.new) ≡ capacity_of (cached self.old) }
         ensures same { IsSamePin self.old self.new }
     {
-        batch_by(rt, alloc, self.view, self.cache, pairs)
+        let view = self.view;
+        let (version, network) = (view.version(), view.network());
+        replies_to(
+            rt,
+            alloc,
+            version,
+            network,
+            view.snapshot(),
+            self.cache,
+            &Numbers,
+            pairs,
+        )
     }
 
     /// The reply to a query. The one error is want of memory for the row of `Dist`, and then what the cache keeps stays as it was; a refused

@@ -24,7 +24,7 @@ use std::marker::Model;
 
 /// A network at a version, made ready for queries: its open arcs are grouped, and there is a row for each of its landmarks.
 ///
-/// Beside the network it takes 8 bytes an open arc, and 8 a node for the groups and for each landmark.
+/// Beside the network it takes 8 bytes an open arc, 8 a node for the groups, and 4 or 8 a node for each landmark.
 #[derive(Drop)]
 pub struct View {
     version: u64,

@@ -8,6 +8,8 @@ mod doors;
 #[cfg(test)]
 mod leaving;
 #[cfg(test)]
+mod looking;
+#[cfg(test)]
 mod many;
 #[cfg(test)]
 mod memory;

@@ -1,7 +1,7 @@
 -- What a session knows, and what it tells.
-use Rattle.std.proofs.Common.{◌≡◌, ◌∙◌, ◌⊎◌, inl, inr, ℕ, ◌+◌, ◌≤◌, List, [], ◌∷◌, All, Option, None, Some, length, get_or, refl, sym, subst, arith}
+use Rattle.std.proofs.Common.{◌≡◌, ◌∙◌, ◌⊎◌, inl, inr, ℕ, ◌+◌, ◌≤◌, List, [], ◌∷◌, ◌++◌, All, Option, None, Some, length, get_or, refl, sym, ap, subst, arith}
 use Rattle.std.proofs.KnownBytes.{Appends-nil}
-use Rattle.std.proofs.lemmas.List.{append-nil}
+use Rattle.std.proofs.lemmas.List.{append-nil, length-append}
 use Rattle.std.proofs.lemmas.List.Elements.{All-push, All-nil}
 use Rattle.std.specs.Prelude.{Result, Ok, Err, IfOk, IfErr, IfSome, OnOk}
 use Rattle.std.specs.Io.KnownBytes.{Appends}
@@ -17,19 +17,26 @@ use Rattle.history.specs.Claims.{Claimed, IsAcknowledgedIn}
 use Rattle.history.proofs.Beginnings.{at_more, at_less, acknowledged_more, prefix_trans}
 use Rattle.machine.specs.declared.calls.Ticket.{Ticket}
 use Rattle.machine.specs.Laws.{IsAt}
-use Rattle.desk.specs.Readings.{Reading, IsViewAfter}
+use Rattle.desk.specs.Readings.{Reading, IsViewAfter, IsNoReader}
+use Rattle.desk.specs.declared.states.DeskState.{DeskState}
+use Rattle.desk.specs.States.{StoodSo}
+use Rattle.rows.specs.Views.{Viewed}
+use Rattle.roadnet.specs.Numbers.{number_of}
 use Rattle.dimacs.specs.declared.fault.Code.{Code}
 use Rattle.machine.specs.declared.events.Replied.{Replied}
 use Rattle.machine.specs.declared.events.Replied.TheVariants.{Durable, Refused as told_refused}
-use Rattle.roadnet.specs.declared.refusals.Refusal.TheVariants.{OutOfMemory}
+use Rattle.roadnet.specs.declared.refusals.Refusal.TheVariants.{OutOfMemory, Closed}
 use Rattle.dimacs.specs.declared.fault.Code.TheVariants.{BadLine}
-use Rattle.printing.specs.Printed.{refusal_line}
+use Rattle.printing.specs.Printed.{refusal_line, version_line}
 use Rattle.printing.specs.Replied.{printed_reply}
 use Rattle.sessions.specs.declared.answers.Accepted.{Accepted}
 use Rattle.sessions.specs.declared.lines.Line.{Line}
-use Rattle.sessions.specs.declared.lines.Line.TheVariants.{Ignored, Command as a_command, Query as a_query, Wait, Quit, Begin, End, Refused as a_fault}
+use Rattle.sessions.specs.declared.lines.Line.TheVariants.{Ignored, Command as a_command, Query as a_query, Look as a_look, Wait, Until, State, Quit, Begin, End, Refused as a_fault}
+use Rattle.sessions.specs.declared.looks.Look.{Look}
+use Rattle.sessions.specs.Looks.{look_lines}
+use Rattle.sessions.specs.Stated.{state_or_refusal}
 use Rattle.sessions.specs.Drafts.{Drafted, IsWhole, fault_of}
-use Rattle.sessions.specs.Told.{AnswersAfter, HaveReceipts, HasMore, HasShown, ShowsLast, Settles, Replies, IsUnshown, claim_of, known_to, told_durable}
+use Rattle.sessions.specs.Told.{AnswersAfter, LooksAfter, IsReached, HaveReceipts, HasMore, HasShown, ShowsLast, Settles, Replies, IsUnshown, claim_of, known_to, told_durable}
 use Rattle.sessions.specs.Turns.{Tells, Standing, IsEndAnswer, IsSessionAt, IsKept, fault_number, version_or_refusal}
 
 -- the answer by what was seen of the view
@@ -141,6 +148,53 @@ pub told_query : {X E : Type 0} (origin : Origin) (query : Query) (before last :
 told_query origin query before last known had has old new (Ok x) reply replies same kept appends =
     record { told = printed_reply reply; durable = []; is_answer = (reply, replies, refl, refl, same); kept = nothing_more origin had has kept; written = appends }
 told_query origin query before last known had has old new (Err e) reply replies same kept appends = tt
+
+-- the lines of what was seen of the view
+pub looked : (origin : Origin) (groups : List Group) (view : Viewed) (look : Look) (told : List ℕ) → IsViewAfter origin groups view → told ≡ version_line view.version ++ look_lines view.network look
+    → LooksAfter origin groups look told
+looked origin groups view look told is told_is =
+    record { network = view.network; network_is = is.network; told_is = told_is ∙ ap (λ (v : ℕ). version_line v ++ look_lines view.network look) is.version }
+
+pub told_look : {X E : Type 0} (origin : Origin) (look : Look) (before last : Option Accepted) (known groups : List Group) (view : Viewed) (had has : Option Beginning) (old new : Option (List ℕ)) (result : Result X E)
+    → groups ≡ known → IsViewAfter origin groups view → last ≡ before → has ≡ had → OnOk result (Appends old new (version_line view.version ++ look_lines view.network look))
+    → OnOk result (Tells origin None (a_look look) before last known had has old new)
+told_look origin look before last known groups view had has old new (Ok x) seen is same kept appends = record {
+  told = version_line view.version ++ look_lines view.network look;
+  durable = [];
+  is_answer = (inl (looked origin known view look _ (subst (λ (gs : List Group). IsViewAfter origin gs view) seen is) refl), refl, same);
+  kept = nothing_more origin had has kept;
+  written = appends;
+}
+told_look origin look before last known groups view had has old new (Err e) seen is same kept appends = tt
+
+pub told_unseen : {X E : Type 0} (origin : Origin) (look : Look) (before last : Option Accepted) (known : List Group) (had has : Option Beginning) (old new : Option (List ℕ)) (result : Result X E) (refusal : Refusal)
+    → IsNoReader refusal → last ≡ before → has ≡ had → OnOk result (Appends old new (refusal_line (number_of refusal))) → OnOk result (Tells origin None (a_look look) before last known had has old new)
+told_unseen origin look before last known had has old new (Ok x) refusal cause same kept appends =
+    record { told = refusal_line (number_of refusal); durable = []; is_answer = (inr (refusal, cause, refl), refl, same); kept = nothing_more origin had has kept; written = appends }
+told_unseen origin look before last known had has old new (Err e) refusal cause same kept appends = tt
+
+prefix_length : (shown groups : List Group) → IsPrefix shown groups → length shown ≤ length groups
+prefix_length shown groups begins = omega (arith, ap length begins.1, length-append shown begins.0)
+
+-- the version that was waited for is among those that were shown
+pub reached : (origin : Origin) (number : ℕ) (shown groups : List Group) (result : Result ℕ Refusal) → number ≤ origin.version + length shown → IsPrefix shown groups
+    → IfOk result (λ version. version ≡ origin.version + length groups) → IfOk result (IsReached origin number groups)
+reached origin number shown groups (Ok version) there begins is = (let longer = prefix_length shown groups begins in omega (arith, there, longer, is), is)
+reached origin number shown groups (Err refusal) there begins is = tt
+
+pub told_until : {X E : Type 0} (origin : Origin) (number : ℕ) (before last : Option Accepted) (known : List Group) (had has : Option Beginning) (old new : Option (List ℕ)) (result : Result X E) (shown : Result ℕ Refusal)
+    → IfOk shown (IsReached origin number known) → IfErr shown IsUnshown → last ≡ before → has ≡ had → OnOk result (Appends old new (version_or_refusal shown))
+    → OnOk result (Tells origin None (Until number) before last known had has old new)
+told_until origin number before last known had has old new (Ok x) shown reaches causes same kept appends =
+    record { told = version_or_refusal shown; durable = []; is_answer = (shown, reaches, causes, refl, refl, same); kept = nothing_more origin had has kept; written = appends }
+told_until origin number before last known had has old new (Err e) shown reaches causes same kept appends = tt
+
+pub told_state : {X E : Type 0} (origin : Origin) (before last : Option Accepted) (known : List Group) (had has : Option Beginning) (old new : Option (List ℕ)) (result : Result X E) (stood : Result DeskState Refusal)
+    → IfOk stood (StoodSo origin) → IfErr stood (λ refusal. refusal ≡ Closed) → last ≡ before → has ≡ had → OnOk result (Appends old new (state_or_refusal stood))
+    → OnOk result (Tells origin None State before last known had has old new)
+told_state origin before last known had has old new (Ok x) stood stands causes same kept appends =
+    record { told = state_or_refusal stood; durable = []; is_answer = (stood, stands, causes, refl, refl, same); kept = nothing_more origin had has kept; written = appends }
+told_state origin before last known had has old new (Err e) stood stands causes same kept appends = tt
 
 pub told_wait : {X E : Type 0} (origin : Origin) (before last : Option Accepted) (known : List Group) (had has : Option Beginning) (old new : Option (List ℕ)) (result : Result X E) (shown : Result ℕ Refusal)
     → IfOk shown (ShowsLast origin last known) → IfErr shown IsUnshown → last ≡ before → has ≡ had → OnOk result (Appends old new (version_or_refusal shown))

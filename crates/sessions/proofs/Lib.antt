@@ -5,5 +5,6 @@ mod Staged
 mod Drafting
 mod Answered
 mod Bytewise
+mod Listed
 mod Going
 pub mod Lasting

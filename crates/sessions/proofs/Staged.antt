@@ -61,15 +61,15 @@ more_letters front b old new plain are is = record {
 }
 
 -- more letters than a word has
-pub too_long : (front : List ℕ) (b : ℕ) (letters : Letters) → is_blank b ≡ false → length (letters_of letters) ≡ 6 → IsStage front (Beginning letters) → IsStage (front ++ b ∷ []) Unknown
-too_long front b letters plain six is more =
+pub too_long : (front : List ℕ) (b : ℕ) (letters : Letters) → is_blank b ≡ false → length (letters_of letters) ≡ 9 → IsStage front (Beginning letters) → IsStage (front ++ b ∷ []) Unknown
+too_long front b letters plain nine is more =
     let w = is.others ++ b ∷ [] in
     let one : IsOneField (is.first ∷ w) = subst IsOneField (ap (λ (l : List ℕ). l ++ b ∷ []) is.letters_are) (one_more (letters_of letters) b is.no_blank plain) in
     let found = first_field is.first w more one in
     let row : fields ((front ++ b ∷ []) ++ more) ≡ (is.first ∷ (w ++ found.tail)) ∷ found.others =
     rw (append_assoc front (b ∷ []) more) (is.goes_on (b ∷ more) ∙ ap (λ (l : List ℕ). fields (l ++ b ∷ more)) is.letters_are ∙ ap (λ (l : List ℕ). fields (is.first ∷ l)) (sym (append_assoc is.others (b ∷ []) more)) ∙ found.row) in
-    let count : length (is.first ∷ is.others) ≡ 6 = sym (ap length is.letters_are) ∙ six in
-    let long : 6 < length (is.first ∷ (w ++ found.tail)) = omega (arith, count, length-append w found.tail, length-append is.others (b ∷ [])) in
+    let count : length (is.first ∷ is.others) ≡ 9 = sym (ap length is.letters_are) ∙ nine in
+    let long : 9 < length (is.first ∷ (w ++ found.tail)) = omega (arith, count, length-append w found.tail, length-append is.others (b ∷ [])) in
     ap session_code row ∙ unknown_row is.first (w ++ found.tail) found.others is.no_remark (long_field (is.first ∷ (w ++ found.tail)) long)
 
 some_letters : (letters : List ℕ) (first : ℕ) (others : List ℕ) → letters ≡ first ∷ others → as_row letters ≡ letters ∷ []
@@ -168,9 +168,9 @@ whole_line front word numbers ended field line ends reads is =
     ap fields (sym (append-nil front)) ∙ is.goes_on [] ∙ ap (λ (l : Row). spelling word ∷ (is.whole ++ l)) (ended_by_line is.last is.no_blank) in
     rw row (reads (is.whole ++ as_row is.last) (ends is.whole is.last is.numbers_are is.field_is))
 
--- six bytes are six letters
-pub six_letters : (letters : Letters) → letters.count ≡ 6 → length letters.bytes ≡ 6 → length (letters_of letters) ≡ 6
-six_letters letters six whole = omega (arith, six, whole, length-take letters.count letters.bytes)
+-- nine bytes are nine letters
+pub nine_letters : (letters : Letters) → letters.count ≡ 9 → length letters.bytes ≡ 9 → length (letters_of letters) ≡ 9
+nine_letters letters nine whole = omega (arith, nine, whole, length-take letters.count letters.bytes)
 
 -- ---- carriage returns
 pub settled_return : (front : List ℕ) (line : LineSoFar) (new : Stage) → IsSoFar front line → line.after_return ≡ true

@@ -7,9 +7,7 @@ use lib.Chars.{codes}
 use Rattle.roadnet.specs.declared.commands.Command.TheVariants.{Lay as lay_arc}
 use Rattle.dimacs.specs.declared.fault.Code.TheVariants.{BadLine, NumberRange}
 use Rattle.dimacs.specs.declared.numeral.Numeral.{Numeral}
-use Rattle.dimacs.specs.declared.words.OneNumber.{OneNumber}
 use Rattle.dimacs.specs.declared.words.OneNumber.TheVariants.{Close, Reopen, Mark, Unmark}
-use Rattle.dimacs.specs.declared.words.TwoNumbers.{TwoNumbers}
 use Rattle.dimacs.specs.declared.words.TwoNumbers.TheVariants.{Set, Dist, From, Lower}
 use Rattle.dimacs.specs.Commands.{form, form_of, is_refused, command_code}
 use Rattle.dimacs.specs.Content.{size_at}
@@ -19,7 +17,11 @@ use Rattle.dimacs.proofs.CommandRows.{kept_refused, kept_number}
 use Rattle.dimacs.proofs.Items.{known, or-false}
 use Rattle.dimacs.proofs.Spelled.{unformed}
 use Rattle.sessions.specs.declared.words.Bare.{Bare}
-use Rattle.sessions.specs.declared.words.Bare.TheVariants.{Wait, Quit, Begin, End}
+use Rattle.sessions.specs.declared.words.Bare.TheVariants.{Wait, Quit, Begin, End, Landmarks, Closed, State}
+use Rattle.sessions.specs.declared.words.One.{One as OneWord}
+use Rattle.sessions.specs.declared.words.One.TheVariants.{Common as one_common, Arc, Until}
+use Rattle.sessions.specs.declared.words.Two.{Two as TwoWord}
+use Rattle.sessions.specs.declared.words.Two.TheVariants.{Common as two_common, Arcs}
 use Rattle.sessions.specs.declared.words.Word.TheVariants.{WithNone, WithOne, WithTwo, Lay}
 use Rattle.sessions.specs.declared.lines.Line.{Line}
 use Rattle.sessions.specs.declared.lines.Line.TheVariants.{Command as a_command, Refused}
@@ -43,21 +45,27 @@ unknown_row first w others plain none =
 other_bytes : (field word : List ℕ) → length word < length field → bytes_eq field word ≡ false
 other_bytes field word longer = false_from_ne_true (bytes_eq field word) (λ e. let same : field ≡ word = (bytes_eq-Decides field word).0 e in absurd (omega (arith, ap length same, longer)))
 
-pub long_field : (field : List ℕ) → 6 < length field → word_from field ≡ None
+pub long_field : (field : List ℕ) → 9 < length field → word_from field ≡ None
 long_field field long =
     rw (
       other_bytes field (codes "close") (omega (arith, long)),
       other_bytes field (codes "reopen") (omega (arith, long)),
       other_bytes field (codes "mark") (omega (arith, long)),
       other_bytes field (codes "unmark") (omega (arith, long)),
+      other_bytes field (codes "arc") (omega (arith, long)),
+      other_bytes field (codes "until") (omega (arith, long)),
       other_bytes field (codes "set") (omega (arith, long)),
       other_bytes field (codes "dist") (omega (arith, long)),
       other_bytes field (codes "from") (omega (arith, long)),
       other_bytes field (codes "lower") (omega (arith, long)),
+      other_bytes field (codes "arcs") (omega (arith, long)),
       other_bytes field (codes "wait") (omega (arith, long)),
       other_bytes field (codes "quit") (omega (arith, long)),
       other_bytes field (codes "begin") (omega (arith, long)),
       other_bytes field (codes "end") (omega (arith, long)),
+      other_bytes field (codes "landmarks") (omega (arith, long)),
+      other_bytes field (codes "closed") (omega (arith, long)),
+      other_bytes field (codes "state") (omega (arith, long)),
       other_bytes field (codes "lay") (omega (arith, long)),
     ) refl
 
@@ -71,18 +79,24 @@ bare_form Wait = record { plain = λ numbers. refl; formed = λ numbers. refl }
 bare_form Quit = record { plain = λ numbers. refl; formed = λ numbers. refl }
 bare_form Begin = record { plain = λ numbers. refl; formed = λ numbers. refl }
 bare_form End = record { plain = λ numbers. refl; formed = λ numbers. refl }
+bare_form Landmarks = record { plain = λ numbers. refl; formed = λ numbers. refl }
+bare_form Closed = record { plain = λ numbers. refl; formed = λ numbers. refl }
+bare_form State = record { plain = λ numbers. refl; formed = λ numbers. refl }
 
-one_form : (word : OneNumber) → IsForm (spelling (WithOne word)) 1
-one_form Close = record { plain = λ numbers. refl; formed = λ numbers. refl }
-one_form Reopen = record { plain = λ numbers. refl; formed = λ numbers. refl }
-one_form Mark = record { plain = λ numbers. refl; formed = λ numbers. refl }
-one_form Unmark = record { plain = λ numbers. refl; formed = λ numbers. refl }
+one_form : (word : OneWord) → IsForm (spelling (WithOne word)) 1
+one_form (one_common Close) = record { plain = λ numbers. refl; formed = λ numbers. refl }
+one_form (one_common Reopen) = record { plain = λ numbers. refl; formed = λ numbers. refl }
+one_form (one_common Mark) = record { plain = λ numbers. refl; formed = λ numbers. refl }
+one_form (one_common Unmark) = record { plain = λ numbers. refl; formed = λ numbers. refl }
+one_form Arc = record { plain = λ numbers. refl; formed = λ numbers. refl }
+one_form Until = record { plain = λ numbers. refl; formed = λ numbers. refl }
 
-two_form : (word : TwoNumbers) → IsForm (spelling (WithTwo word)) 2
-two_form Set = record { plain = λ numbers. refl; formed = λ numbers. refl }
-two_form Dist = record { plain = λ numbers. refl; formed = λ numbers. refl }
-two_form From = record { plain = λ numbers. refl; formed = λ numbers. refl }
-two_form Lower = record { plain = λ numbers. refl; formed = λ numbers. refl }
+two_form : (word : TwoWord) → IsForm (spelling (WithTwo word)) 2
+two_form (two_common Set) = record { plain = λ numbers. refl; formed = λ numbers. refl }
+two_form (two_common Dist) = record { plain = λ numbers. refl; formed = λ numbers. refl }
+two_form (two_common From) = record { plain = λ numbers. refl; formed = λ numbers. refl }
+two_form (two_common Lower) = record { plain = λ numbers. refl; formed = λ numbers. refl }
+two_form Arcs = record { plain = λ numbers. refl; formed = λ numbers. refl }
 
 lay_form : IsForm (spelling Lay) 3
 lay_form = record { plain = λ numbers. refl; formed = λ numbers. refl }
@@ -92,18 +106,24 @@ bare_made Wait numbers = refl
 bare_made Quit numbers = refl
 bare_made Begin numbers = refl
 bare_made End numbers = refl
+bare_made Landmarks numbers = refl
+bare_made Closed numbers = refl
+bare_made State numbers = refl
 
-one_made : (word : OneNumber) (numbers : Row) → line_of (spelling (WithOne word) ∷ numbers) ≡ Some (one_line word (size_at numbers 0))
-one_made Close numbers = refl
-one_made Reopen numbers = refl
-one_made Mark numbers = refl
-one_made Unmark numbers = refl
+one_made : (word : OneWord) (numbers : Row) → line_of (spelling (WithOne word) ∷ numbers) ≡ Some (one_line word (size_at numbers 0))
+one_made (one_common Close) numbers = refl
+one_made (one_common Reopen) numbers = refl
+one_made (one_common Mark) numbers = refl
+one_made (one_common Unmark) numbers = refl
+one_made Arc numbers = refl
+one_made Until numbers = refl
 
-two_made : (word : TwoNumbers) (numbers : Row) → line_of (spelling (WithTwo word) ∷ numbers) ≡ Some (two_line word (size_at numbers 0) (size_at numbers 1))
-two_made Set numbers = refl
-two_made Dist numbers = refl
-two_made From numbers = refl
-two_made Lower numbers = refl
+two_made : (word : TwoWord) (numbers : Row) → line_of (spelling (WithTwo word) ∷ numbers) ≡ Some (two_line word (size_at numbers 0) (size_at numbers 1))
+two_made (two_common Set) numbers = refl
+two_made (two_common Dist) numbers = refl
+two_made (two_common From) numbers = refl
+two_made (two_common Lower) numbers = refl
+two_made Arcs numbers = refl
 
 lay_made : (numbers : Row) → line_of (spelling Lay ∷ numbers) ≡ Some (a_command (lay_arc (size_at numbers 0) (size_at numbers 1) (size_at numbers 2)))
 lay_made numbers = refl
@@ -146,10 +166,10 @@ count_of TooMany = 4
 bad_bare : (word : Bare) (row : Row) → length row ≢ 0 → session_code (spelling (WithNone word) ∷ row) ≡ Some BadLine
 bad_bare word row other = malformed (spelling (WithNone word)) 0 row (bare_form word) (other_count 0 row other)
 
-bad_one : (word : OneNumber) (row : Row) → length row ≢ 1 → session_code (spelling (WithOne word) ∷ row) ≡ Some BadLine
+bad_one : (word : OneWord) (row : Row) → length row ≢ 1 → session_code (spelling (WithOne word) ∷ row) ≡ Some BadLine
 bad_one word row other = malformed (spelling (WithOne word)) 1 row (one_form word) (other_count 1 row other)
 
-bad_two : (word : TwoNumbers) (row : Row) → length row ≢ 2 → session_code (spelling (WithTwo word) ∷ row) ≡ Some BadLine
+bad_two : (word : TwoWord) (row : Row) → length row ≢ 2 → session_code (spelling (WithTwo word) ∷ row) ≡ Some BadLine
 bad_two word row other = malformed (spelling (WithTwo word)) 2 row (two_form word) (other_count 2 row other)
 
 bad_lay : (row : Row) → length row ≢ 3 → session_code (spelling Lay ∷ row) ≡ Some BadLine
@@ -160,18 +180,24 @@ bare_asks Wait row asks = asks
 bare_asks Quit row asks = asks
 bare_asks Begin row asks = asks
 bare_asks End row asks = asks
+bare_asks Landmarks row asks = asks
+bare_asks Closed row asks = asks
+bare_asks State row asks = asks
 
-one_asks : (word : OneNumber) (n : ℕ) (row : Row) → AsksFor row (one_line word n) → IsLine row (one_line word n)
-one_asks Close n row asks = asks
-one_asks Reopen n row asks = asks
-one_asks Mark n row asks = asks
-one_asks Unmark n row asks = asks
+one_asks : (word : OneWord) (n : ℕ) (row : Row) → AsksFor row (one_line word n) → IsLine row (one_line word n)
+one_asks (one_common Close) n row asks = asks
+one_asks (one_common Reopen) n row asks = asks
+one_asks (one_common Mark) n row asks = asks
+one_asks (one_common Unmark) n row asks = asks
+one_asks Arc n row asks = asks
+one_asks Until n row asks = asks
 
-two_asks : (word : TwoNumbers) (n m : ℕ) (row : Row) → AsksFor row (two_line word n m) → IsLine row (two_line word n m)
-two_asks Set n m row asks = asks
-two_asks Dist n m row asks = asks
-two_asks From n m row asks = asks
-two_asks Lower n m row asks = asks
+two_asks : (word : TwoWord) (n m : ℕ) (row : Row) → AsksFor row (two_line word n m) → IsLine row (two_line word n m)
+two_asks (two_common Set) n m row asks = asks
+two_asks (two_common Dist) n m row asks = asks
+two_asks (two_common From) n m row asks = asks
+two_asks (two_common Lower) n m row asks = asks
+two_asks Arcs n m row asks = asks
 
 -- a word that stands alone
 pub bare_reads : (word : Bare) (row : Row) → IsNumbers row Nothing → IsLine (spelling (WithNone word) ∷ row) (bare_line word)
@@ -205,7 +231,7 @@ no_numeral field e =
     ]
 
 -- a word with one number
-one_is : (word : OneNumber) (u : List ℕ) (a : Numeral) → numeral u ≡ Some a → is_refused a ≡ false → IsLine (spelling (WithOne word) ∷ u ∷ []) (one_line word (kept a).size)
+one_is : (word : OneWord) (u : List ℕ) (a : Numeral) → numeral u ≡ Some a → is_refused a ≡ false → IsLine (spelling (WithOne word) ∷ u ∷ []) (one_line word (kept a).size)
 one_is word u a e plain =
     let size : size_at (u ∷ []) 0 ≡ (kept a).size = rw e (sym (ap (λ (n : Numeral). n.size) (kept_number a plain))) in
     one_asks word (kept a).size (spelling (WithOne word) ∷ u ∷ []) (
@@ -213,19 +239,19 @@ one_is word u a e plain =
       one_made word (u ∷ []) ∙ ap (λ (x : ℕ). Some (one_line word x)) size,
     )
 
-pub one_reads : (word : OneNumber) (row : Row) (n : Numeral) → IsNumbers row (One (Some n)) → is_refused n ≡ false → IsLine (spelling (WithOne word) ∷ row) (one_line word n.size)
+pub one_reads : (word : OneWord) (row : Row) (n : Numeral) → IsNumbers row (One (Some n)) → is_refused n ≡ false → IsLine (spelling (WithOne word) ∷ row) (one_line word n.size)
 one_reads word row n are plain =
     let k = kept_as are.field n are.number in
     let still : is_refused k.a ≡ false = sym (kept_refused k.a) ∙ sym (ap is_refused k.kept_as) ∙ plain in
     rw (are.row_is, k.kept_as) (one_is word are.field k.a k.is still)
 
-pub one_range : (word : OneNumber) (row : Row) (n : Numeral) → IsNumbers row (One (Some n)) → is_refused n ≡ true → IsLine (spelling (WithOne word) ∷ row) (Refused NumberRange)
+pub one_range : (word : OneWord) (row : Row) (n : Numeral) → IsNumbers row (One (Some n)) → is_refused n ≡ true → IsLine (spelling (WithOne word) ∷ row) (Refused NumberRange)
 one_range word row n are bad =
     let k = kept_as are.field n are.number in
     let still : is_refused k.a ≡ true = sym (kept_refused k.a) ∙ sym (ap is_refused k.kept_as) ∙ bad in
     rw are.row_is (code_of_one (spelling (WithOne word)) are.field k.a (one_form word) k.is ∙ rw still refl)
 
-pub one_fault : (word : OneNumber) (row : Row) (numbers : Numbers) → IsNumbers row numbers → has_one numbers ≡ false → IsLine (spelling (WithOne word) ∷ row) (Refused BadLine)
+pub one_fault : (word : OneWord) (row : Row) (numbers : Numbers) → IsNumbers row numbers → has_one numbers ≡ false → IsLine (spelling (WithOne word) ∷ row) (Refused BadLine)
 one_fault word row Nothing are none = bad_one word row (λ e. absurd (omega (arith, e, ap length are)))
 one_fault word row (One None) are none =
     let no : numeral are.field ≡ None = no_numeral are.field are.number in
@@ -237,7 +263,7 @@ one_fault word row (Three a b c) are none = bad_one word row (λ e. absurd (omeg
 one_fault word row TooMany are none = bad_one word row (λ e. absurd (omega (arith, e, are)))
 
 -- a word with two numbers
-two_is : (word : TwoNumbers) (u v : List ℕ) (a b : Numeral) → numeral u ≡ Some a → numeral v ≡ Some b → (is_refused a || is_refused b) ≡ false
+two_is : (word : TwoWord) (u v : List ℕ) (a b : Numeral) → numeral u ≡ Some a → numeral v ≡ Some b → (is_refused a || is_refused b) ≡ false
     → IsLine (spelling (WithTwo word) ∷ u ∷ v ∷ []) (two_line word (kept a).size (kept b).size)
 two_is word u v a b d e plain =
     let parts = or_parts _ _ plain in
@@ -252,24 +278,24 @@ both_refused : (a b : Numeral) (n m : Numeral) → n ≡ kept a → m ≡ kept b
 both_refused a b n m p q =
     ap (λ (x : Bool). x || is_refused b) (sym (kept_refused a) ∙ sym (ap is_refused p)) ∙ ap (λ (y : Bool). is_refused n || y) (sym (kept_refused b) ∙ sym (ap is_refused q))
 
-pub two_reads : (word : TwoNumbers) (row : Row) (n m : Numeral) → IsNumbers row (Two (Some n) (Some m)) → (is_refused n || is_refused m) ≡ false
+pub two_reads : (word : TwoWord) (row : Row) (n m : Numeral) → IsNumbers row (Two (Some n) (Some m)) → (is_refused n || is_refused m) ≡ false
     → IsLine (spelling (WithTwo word) ∷ row) (two_line word n.size m.size)
 two_reads word row n m are plain =
     let j = kept_as are.first n are.first_number in
     let k = kept_as are.second m are.second_number in
     rw (are.row_is, j.kept_as, k.kept_as) (two_is word are.first are.second j.a k.a j.is k.is (both_refused j.a k.a n m j.kept_as k.kept_as ∙ plain))
 
-pub two_range : (word : TwoNumbers) (row : Row) (n m : Numeral) → IsNumbers row (Two (Some n) (Some m)) → (is_refused n || is_refused m) ≡ true
+pub two_range : (word : TwoWord) (row : Row) (n m : Numeral) → IsNumbers row (Two (Some n) (Some m)) → (is_refused n || is_refused m) ≡ true
     → IsLine (spelling (WithTwo word) ∷ row) (Refused NumberRange)
 two_range word row n m are bad =
     let j = kept_as are.first n are.first_number in
     let k = kept_as are.second m are.second_number in
     rw are.row_is (code_of_two (spelling (WithTwo word)) are.first are.second j.a k.a (two_form word) j.is k.is ∙ rw (both_refused j.a k.a n m j.kept_as k.kept_as ∙ bad) refl)
 
-bad_pair : (word : TwoNumbers) (row : Row) (a b : Option Numeral) → AreTwo row a b → is_malformed 2 row ≡ true → session_code (spelling (WithTwo word) ∷ row) ≡ Some BadLine
+bad_pair : (word : TwoWord) (row : Row) (a b : Option Numeral) → AreTwo row a b → is_malformed 2 row ≡ true → session_code (spelling (WithTwo word) ∷ row) ≡ Some BadLine
 bad_pair word row a b are bad = malformed (spelling (WithTwo word)) 2 row (two_form word) bad
 
-pub two_fault : (word : TwoNumbers) (row : Row) (numbers : Numbers) → IsNumbers row numbers → has_two numbers ≡ false → IsLine (spelling (WithTwo word) ∷ row) (Refused BadLine)
+pub two_fault : (word : TwoWord) (row : Row) (numbers : Numbers) → IsNumbers row numbers → has_two numbers ≡ false → IsLine (spelling (WithTwo word) ∷ row) (Refused BadLine)
 two_fault word row Nothing are none = bad_two word row (λ e. absurd (omega (arith, e, ap length are)))
 two_fault word row (One a) are none = bad_two word row (λ e. absurd (omega (arith, e, ap length are.row_is)))
 two_fault word row (Two None b) are none =

@@ -2,9 +2,11 @@ pub mod Spelled
 pub mod Words
 pub mod Fields
 pub mod SessionLines
+pub mod Looks
 pub mod Judging
 pub mod Reads
 pub mod Drafts
+pub mod Stated
 pub mod Told
 pub mod Turns
 pub mod Clients

@@ -1,4 +1,5 @@
--- The lines of a session: those of command texts, the queries of scripts, `wait` and `quit`, and `begin` and `end` about a group.
+-- The lines of a session: those of command texts, the queries of scripts, those that look at the network or at the desk, `wait`, `until` and `quit`, and
+-- `begin` and `end` about a group.
 use Rattle.std.specs.Prelude.{◌≡◌, ℕ, ◌||◌, true, List, [], ◌∷◌, ◌++◌, Option, None, Some, if◌then◌else◌}
 use Rattle.std.specs.Option.{option_map}
 use Rattle.std.specs.Str.{bytes_eq}
@@ -10,11 +11,12 @@ use Rattle.dimacs.specs.Content.{size_at}
 use Rattle.dimacs.specs.Faults.{Row, is_empty, is_remark}
 use Rattle.rows.specs.declared.queries.Query.TheVariants.{Dist, From, Lower}
 use Rattle.sessions.specs.declared.lines.Line.{Line}
-use Rattle.sessions.specs.declared.lines.Line.TheVariants.{Ignored, Command, Query, Wait, Quit, Begin, End, Refused}
+use Rattle.sessions.specs.declared.lines.Line.TheVariants.{Ignored, Command, Query, Look, Wait, Until, State, Quit, Begin, End, Refused}
+use Rattle.sessions.specs.declared.looks.Look.TheVariants.{Arc, Arcs, Landmarks, Closed}
 
 -- the words of a session, with how many numbers follow them
 abbrev pub forms : List Form
-forms = commands ++ form (codes "dist") 2 ∷ form (codes "from") 2 ∷ form (codes "lower") 2 ∷ form (codes "wait") 0 ∷ form (codes "quit") 0 ∷ form (codes "begin") 0 ∷ form (codes "end") 0 ∷ []
+forms = commands ++ form (codes "dist") 2 ∷ form (codes "from") 2 ∷ form (codes "lower") 2 ∷ form (codes "arc") 1 ∷ form (codes "arcs") 2 ∷ form (codes "landmarks") 0 ∷ form (codes "closed") 0 ∷ form (codes "wait") 0 ∷ form (codes "until") 1 ∷ form (codes "state") 0 ∷ form (codes "quit") 0 ∷ form (codes "begin") 0 ∷ form (codes "end") 0 ∷ []
 
 -- the code of a line, by the table of command texts with these words
 abbrev pub session_code : Row → Option Code
@@ -25,11 +27,17 @@ abbrev pub line_from : List ℕ → Row → Option Line
 line_from word others = if bytes_eq word (codes "dist") then Some (Query (Dist (size_at others 0) (size_at others 1)))
     else (if bytes_eq word (codes "from") then Some (Query (From (size_at others 0) (size_at others 1)))
     else (if bytes_eq word (codes "lower") then Some (Query (Lower (size_at others 0) (size_at others 1)))
+    else (if bytes_eq word (codes "arc") then Some (Look (Arc (size_at others 0)))
+    else (if bytes_eq word (codes "arcs") then Some (Look (Arcs (size_at others 0) (size_at others 1)))
+    else (if bytes_eq word (codes "landmarks") then Some (Look Landmarks)
+    else (if bytes_eq word (codes "closed") then Some (Look Closed)
     else (if bytes_eq word (codes "wait") then Some Wait
+    else (if bytes_eq word (codes "until") then Some (Until (size_at others 0))
+    else (if bytes_eq word (codes "state") then Some State
     else (if bytes_eq word (codes "quit") then Some Quit
     else (if bytes_eq word (codes "begin") then Some Begin
     else (if bytes_eq word (codes "end") then Some End
-    else option_map Command (command_from word others)))))))
+    else option_map Command (command_from word others)))))))))))))
 
 abbrev pub line_of : Row → Option Line
 line_of [] = None
@@ -45,7 +53,10 @@ IsLine row Ignored = (is_empty row || is_remark 35 row) ≡ true
 IsLine row (Refused code) = session_code row ≡ Some code
 IsLine row (Command command) = AsksFor row (Command command)
 IsLine row (Query query) = AsksFor row (Query query)
+IsLine row (Look look) = AsksFor row (Look look)
 IsLine row Wait = AsksFor row Wait
+IsLine row (Until number) = AsksFor row (Until number)
+IsLine row State = AsksFor row State
 IsLine row Quit = AsksFor row Quit
 IsLine row Begin = AsksFor row Begin
 IsLine row End = AsksFor row End

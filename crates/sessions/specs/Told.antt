@@ -1,9 +1,10 @@
 -- What a session is told by its desk, and what it tells.
-use Rattle.std.specs.Prelude.{◌≡◌, ◌⊎◌, ℕ, ◌+◌, List, [], ◌∷◌, ◌++◌, length, All, Option, None, Some, Result, Ok, Err, ⊤}
+use Rattle.std.specs.Prelude.{◌≡◌, ◌⊎◌, ℕ, ◌+◌, ◌≤◌, List, [], ◌∷◌, ◌++◌, length, All, Option, None, Some, Result, Ok, Err, ⊤}
 use Rattle.roadnet.specs.declared.groups.Group.{Group}
 use Rattle.roadnet.specs.declared.refusals.Refusal.{Refusal}
 use Rattle.roadnet.specs.declared.refusals.Refusal.TheVariants.{Read, Write}
 use Rattle.roadnet.specs.Net.{Net}
+use Rattle.roadnet.specs.Numbers.{number_of}
 use Rattle.roadnet.specs.Step.{after}
 use Rattle.rows.specs.declared.queries.Query.{Query}
 use Rattle.rows.specs.Replies.{IsRight}
@@ -19,8 +20,11 @@ use Rattle.desk.specs.Turns.{IsUnserved, IsUntaken}
 use Rattle.dimacs.specs.Counts.{one_more_failed}
 use Rattle.printing.specs.declared.failed.Failed.{Failed}
 use Rattle.printing.specs.declared.failed.Failed.TheVariants.{Code}
+use Rattle.printing.specs.Printed.{version_line, refusal_line}
 use Rattle.sessions.specs.declared.answers.Accepted.{Accepted}
 use Rattle.sessions.specs.declared.answers.Accepted.TheVariants.{Settled, Unsettled}
+use Rattle.sessions.specs.declared.looks.Look.{Look}
+use Rattle.sessions.specs.Looks.{look_lines}
 
 -- the ticket of an accepted group, with its desk
 abbrev pub claim_of : Accepted → Claimed
@@ -76,6 +80,16 @@ Replies origin groups query (Answered asked answer) = (asked ≡ query) × Answe
 Replies origin groups query (Refused refusal) = IsNoReader refusal
 Replies origin groups query other = ⊥
 
+-- what a look is told: what the desk's network after these groups has, behind the version after them
+pub record LooksAfter (origin : Origin) (groups : List Group) (look : Look) (told : List ℕ) : Type 0 where
+  pub network : Net
+  pub network_is : after origin.base groups ≡ Some network
+  pub told_is : told ≡ version_line (origin.version + length groups) ++ look_lines network look
+
+-- or that there is no view to look at (60, 11, 61)
+abbrev pub IsLooked : Origin → List Group → Look → List ℕ → Type 0
+IsLooked origin groups look told = LooksAfter origin groups look told ⊎ ((refusal : Refusal) × IsNoReader refusal × (told ≡ refusal_line (number_of refusal)))
+
 -- the groups that a session has seen or was told of at its place among the readers, if it has one
 abbrev pub known_to : Option Beginning → List Group
 known_to None = []
@@ -93,6 +107,10 @@ abbrev pub ShowsLast : Origin → Option Accepted → List Group → ℕ → Typ
 ShowsLast origin None groups version = version ≡ origin.version + length groups
 ShowsLast origin (Some accepted) groups version =
     IsAt origin.version groups (claim_of accepted).ticket × (version ≡ origin.version + length groups)
+
+-- the version that is waited for, or a later one, is that after these groups
+abbrev pub IsReached : Origin → ℕ → List Group → ℕ → Type 0
+IsReached origin number groups version = (number ≤ version) × (version ≡ origin.version + length groups)
 
 -- why a session that waits is shown nothing: its group will not be settled (45, 61), or there is no view to look at (60, 11, 61)
 abbrev pub IsUnshown : Refusal → Type 0

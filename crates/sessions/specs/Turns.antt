@@ -6,7 +6,7 @@ use Rattle.dimacs.specs.declared.fault.Code.{Code}
 use Rattle.dimacs.specs.declared.fault.Code.TheVariants.{BadLine, NumberRange, GroupSize}
 use Rattle.roadnet.specs.declared.groups.Group.{Group}
 use Rattle.roadnet.specs.declared.refusals.Refusal.{Refusal}
-use Rattle.roadnet.specs.declared.refusals.Refusal.TheVariants.{Read, OutOfMemory}
+use Rattle.roadnet.specs.declared.refusals.Refusal.TheVariants.{Read, OutOfMemory, Closed}
 use Rattle.roadnet.specs.Numbers.{number_of}
 use Rattle.machine.specs.declared.events.Replied.{Replied}
 use Rattle.machine.specs.declared.events.Replied.TheVariants.{Refused as told_refused}
@@ -14,6 +14,8 @@ use Rattle.machine.specs.declared.calls.Ticket.{Ticket}
 use Rattle.machine.specs.Laws.{IsAt}
 use Rattle.history.specs.Origins.{Origin, Beginning}
 use Rattle.office.specs.Left.{KeepsSeen}
+use Rattle.desk.specs.declared.states.DeskState.{DeskState}
+use Rattle.desk.specs.States.{StoodSo}
 use Rattle.printing.specs.declared.failed.Failed.{Failed}
 use Rattle.printing.specs.declared.failed.Failed.TheVariants.{Code as of_code}
 use Rattle.printing.specs.Printed.{version_line, refusal_line}
@@ -21,10 +23,11 @@ use Rattle.printing.specs.Replied.{printed_reply}
 use Rattle.sessions.specs.declared.answers.Accepted.{Accepted}
 use Rattle.sessions.specs.declared.lines.Line.{Line}
 use Rattle.sessions.specs.declared.reading.LastLine.{LastLine}
-use Rattle.sessions.specs.declared.lines.Line.TheVariants.{Ignored, Command as a_command, Query, Wait, Quit, Begin, End, Refused}
+use Rattle.sessions.specs.declared.lines.Line.TheVariants.{Ignored, Command as a_command, Query, Look as a_look, Wait, Until, State, Quit, Begin, End, Refused}
 use Rattle.sessions.specs.Drafts.{Drafted, fault_of, next_draft}
 use Rattle.sessions.specs.Reads.{ReadsOne, FailsInLine, ReadsLine}
-use Rattle.sessions.specs.Told.{HaveReceipts, HasMore, Settles, Replies, ShowsLast, IsUnshown, known_to, told_durable}
+use Rattle.sessions.specs.Stated.{state_or_refusal}
+use Rattle.sessions.specs.Told.{HaveReceipts, HasMore, Settles, Replies, IsLooked, IsReached, ShowsLast, IsUnshown, known_to, told_durable}
 
 -- the number by which the fault of a line or of a group is told
 abbrev pub fault_number : Code → ℕ
@@ -52,6 +55,11 @@ IsAnswer origin None (Query query) before last known told durable =
     (reply : Replied) × Replies origin known query reply × (told ≡ printed_reply reply) × (durable ≡ []) × (last ≡ before)
 IsAnswer origin None Wait before last known told durable =
     (shown : Result ℕ Refusal) × IfOk shown (ShowsLast origin last known) × IfErr shown IsUnshown × (told ≡ version_or_refusal shown) × (durable ≡ []) × (last ≡ before)
+IsAnswer origin None (a_look look) before last known told durable = IsLooked origin known look told × (durable ≡ []) × (last ≡ before)
+IsAnswer origin None (Until number) before last known told durable =
+    (shown : Result ℕ Refusal) × IfOk shown (IsReached origin number known) × IfErr shown IsUnshown × (told ≡ version_or_refusal shown) × (durable ≡ []) × (last ≡ before)
+IsAnswer origin None State before last known told durable =
+    (stood : Result DeskState Refusal) × IfOk stood (StoodSo origin) × IfErr stood (λ refusal. refusal ≡ Closed) × (told ≡ state_or_refusal stood) × (durable ≡ []) × (last ≡ before)
 IsAnswer origin None (Refused code) before last known told durable = (told ≡ refusal_line (fault_number code)) × (durable ≡ []) × (last ≡ before)
 IsAnswer origin None End before last known told durable = (told ≡ refusal_line (fault_number BadLine)) × (durable ≡ []) × (last ≡ before)
 IsAnswer origin None Ignored before last known told durable = (told ≡ []) × (durable ≡ []) × (last ≡ before)

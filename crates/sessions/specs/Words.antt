@@ -1,13 +1,16 @@
 -- What the words of a session ask for.
 use Rattle.std.specs.Prelude.{ℕ}
 use Rattle.sessions.specs.declared.lines.Line.{Line}
-use Rattle.sessions.specs.declared.lines.Line.TheVariants.{Command as a_command, Query as a_query, Wait as a_wait, Quit as a_quit, Begin as a_begin, End as an_end}
+use Rattle.sessions.specs.declared.lines.Line.TheVariants.{Command as a_command, Query as a_query, Look as a_look, Wait as a_wait, Until as an_until, State as a_state, Quit as a_quit, Begin as a_begin, End as an_end}
+use Rattle.sessions.specs.declared.looks.Look.TheVariants.{Arc as arc_of, Arcs as arcs_of, Landmarks as landmarks_of, Closed as closed_of}
 use Rattle.roadnet.specs.declared.commands.Command.TheVariants.{Set as set_arc}
 use Rattle.rows.specs.declared.queries.Query.TheVariants.{Dist as distance, From as distance_from, Lower as lower_bound}
 use Rattle.sessions.specs.declared.words.Bare.{Bare}
-use Rattle.sessions.specs.declared.words.Bare.TheVariants.{Wait, Quit, Begin, End}
-use Rattle.dimacs.specs.declared.words.OneNumber.{OneNumber}
-use Rattle.dimacs.specs.declared.words.TwoNumbers.{TwoNumbers}
+use Rattle.sessions.specs.declared.words.Bare.TheVariants.{Wait, Quit, Begin, End, Landmarks, Closed, State}
+use Rattle.sessions.specs.declared.words.One.{One}
+use Rattle.sessions.specs.declared.words.One.TheVariants.{Common as one_common, Arc, Until}
+use Rattle.sessions.specs.declared.words.Two.{Two}
+use Rattle.sessions.specs.declared.words.Two.TheVariants.{Common as two_common, Arcs}
 use Rattle.dimacs.specs.declared.words.TwoNumbers.TheVariants.{Set, Dist, From, Lower}
 use Rattle.dimacs.specs.Spelling.{one_command}
 
@@ -17,12 +20,18 @@ bare_line Wait = a_wait
 bare_line Quit = a_quit
 bare_line Begin = a_begin
 bare_line End = an_end
+bare_line Landmarks = a_look landmarks_of
+bare_line Closed = a_look closed_of
+bare_line State = a_state
 
-abbrev pub one_line : OneNumber → ℕ → Line
-one_line word n = a_command (one_command word n)
+abbrev pub one_line : One → ℕ → Line
+one_line (one_common word) n = a_command (one_command word n)
+one_line Arc n = a_look (arc_of n)
+one_line Until n = an_until n
 
-abbrev pub two_line : TwoNumbers → ℕ → ℕ → Line
-two_line Set n m = a_command (set_arc n m)
-two_line Dist n m = a_query (distance n m)
-two_line From n m = a_query (distance_from n m)
-two_line Lower n m = a_query (lower_bound n m)
+abbrev pub two_line : Two → ℕ → ℕ → Line
+two_line (two_common Set) n m = a_command (set_arc n m)
+two_line (two_common Dist) n m = a_query (distance n m)
+two_line (two_common From) n m = a_query (distance_from n m)
+two_line (two_common Lower) n m = a_query (lower_bound n m)
+two_line Arcs n m = a_look (arcs_of n m)

@@ -4,17 +4,18 @@ ghost use Rattle.std.specs.Option.{ForSome};
 ghost use mathlib.Core.List.{IsPrefix};
 ghost use Rattle.published.specs.Showing.{IsUnseen};
 ghost use Rattle.rows.specs.Replies.{IsRight};
-ghost use Rattle.desk.specs.Readings.{IsNoReader};
+ghost use Rattle.desk.specs.Readings.{IsNoReader, IsViewAfter};
 ghost use Rattle.desk.specs.Turns.{IsUnserved};
 ghost use Rattle.printing.specs.Counting.{failed_writes, writer_of, IsSameWriter, CountsFailure};
 ghost use Rattle.machine.specs.declared.events.Replied.TheVariants.{Durable};
-ghost use Rattle.sessions.specs.Told.{claim_of, told_durable, HasMore, HasReceipt, HasShown, AnswersAfter, known_to, IsRefusedFor, IsUnshown, Settles, Replies, ShowsLast};
+ghost use Rattle.sessions.specs.Told.{claim_of, told_durable, HasMore, HasReceipt, HasShown, AnswersAfter, known_to, IsReached, IsRefusedFor, IsUnshown, Settles, Replies, ShowsLast};
 ghost use Rattle.sessions.specs.Drafts.{Drafted, HasDraft, IsDraft, next_draft};
 ghost use Rattle.sessions.specs.Turns.{Tells, Standing, IsSessionAt, IsKept};
 
 use crate::drafts::{Draft, NoGroup};
 use crate::lines::{Line, is_end};
-use crate::telling::{tell_fault, tell_reply, tell_version};
+use crate::looks::Look;
+use crate::telling::{tell_fault, tell_look, tell_refusal, tell_reply, tell_state, tell_version};
 use desk::{Closed, Gate, Glance, Handle, Naming, Place, Receipt, Shown, Ticket};
 use dimacs::Code;
 use disk::Disk;
@@ -267,6 +268,49 @@ impl<N: Naming> Session<N> {
         }
     }
 
+    /// What is shown at this moment, at the session's place among the readers: the groups after which it stands begin with all that the session has seen
+    /// and learned. Refused is a place or a view that is not found.
+    fn see<D: Disk + Drop, G: Gate + Drop, R: Threads + Wait + Copy>(
+        &mut self,
+        desk: &Handle<N, D, G, R>,
+    ) -> Result<Glance<N>, Refusal>
+        ensures seen { IfOk result (λ glance. glance.known.groups ≡ known_to self.new.place) }
+        ensures view { IfOk result (λ glance. IsViewAfter N.origin glance.known.groups glance.view) }
+        ensures causes { IfErr result IsNoReader }
+        ensures begins { IsPrefix (known_to self.old.place) (known_to self.new.place) }
+        ensures last { self.new.last ≡ self.old.last }
+        ensures receipts { self.new.receipts ≡ self.old.receipts }
+        ensures draft { self.new.draft ≡ self.old.draft }
+    {
+        self.take_place(desk)?;
+        let Some(place) = &mut self.place else {
+            unreachable!();
+        };
+        let glance = place.look()?;
+        let _ = glance.version();
+        Ok(glance)
+    }
+
+    /// Writes what the network that is shown has of what is asked for, and sends it out.
+    fn look<D: Disk + Drop, G: Gate + Drop, R: Threads + Wait + Copy, W: Write>(
+        &mut self,
+        desk: &Handle<N, D, G, R>,
+        look: Look,
+        out: &mut CountedWriter<'_, W>,
+    ) -> Result<(), Failed>
+        ensures told { OnOk result (Tells N.origin None (Line.Look look) self.old.last self.new.last (known_to self.new.place) self.old.receipts self.new.receipts (W.contents (writer_of out.old)) (W.contents (writer_of out.new))) }
+        ensures draft { self.new.draft ≡ self.old.draft }
+        ensures begins { IsPrefix (known_to self.old.place) (known_to self.new.place) }
+        ensures refused { IfErr result (λ failed. failed ≡ Failed.Code Refusal.Write) }
+        ensures counts { CountsFailure (failed_writes out.old) (failed_writes out.new) result }
+        ensures same { IsSameWriter out.old out.new }
+    {
+        match self.see(desk) {
+            Ok(glance) => tell_look(out, &glance, look),
+            Err(refusal) => tell_refusal(out, refusal),
+        }
+    }
+
     /// What was shown when the session's last accepted group was; nothing where it has none.
     fn shown<D: Disk + Drop, G: Gate + Drop, R: Threads + Wait + Copy>(
         &self,
@@ -303,6 +347,27 @@ impl<N: Naming> Session<N> {
             None => version_by(place),
             Some(shown) => version_since(place, &shown),
         }
+    }
+
+    /// Waits until this version or a later one is shown, and learns it. The version is that of a new glance.
+    fn wait_until<D: Disk + Drop, G: Gate + Drop, R: Threads + Wait + Copy>(
+        &mut self,
+        desk: &Handle<N, D, G, R>,
+        number: u64,
+    ) -> Result<u64, Refusal>
+        ensures reached { IfOk result (IsReached N.origin number (known_to self.new.place)) }
+        ensures causes { IfErr result IsUnshown }
+        ensures begins { IsPrefix (known_to self.old.place) (known_to self.new.place) }
+        ensures last { self.new.last ≡ self.old.last }
+        ensures receipts { self.new.receipts ≡ self.old.receipts }
+        ensures draft { self.new.draft ≡ self.old.draft }
+    {
+        let shown = desk.wait_version(number)?;
+        self.take_place(desk)?;
+        let Some(place) = &mut self.place else {
+            unreachable!();
+        };
+        version_since(place, &shown)
     }
 
     /// Writes the answer to the end of a group, and sends it out: the code of the first line that has a fault, else what the group comes to.
@@ -357,7 +422,10 @@ impl<N: Naming> Session<N> {
                 tell_reply(out, &self.carry_out(desk, Group::one(command)))
             }
             Line::Query(query) => tell_reply(out, &self.ask(desk, query)),
+            Line::Look(look) => self.look(desk, look, out),
             Line::Wait => tell_version(out, self.wait(desk)),
+            Line::Until(number) => tell_version(out, self.wait_until(desk, number)),
+            Line::State => tell_state(out, desk.state()),
             Line::Refused(code) => tell_fault(out, code),
         }
     }

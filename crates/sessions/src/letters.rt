@@ -5,14 +5,14 @@ ghost use Rattle.sessions.specs.Spelled.{word_from};
 use crate::words::{Word, word_of};
 
 /// The most bytes that a word has.
-const LONGEST_WORD: usize = 6;
+const LONGEST_WORD: usize = 9;
 
 /// The bytes of a line's first field, as many as a word may have.
 #[derive(Clone, Copy)]
 pub(crate) struct Letters {
     bytes: [u8; LONGEST_WORD],
     count: usize,
-    ghost few: { count ≤ 6 },
+    ghost few: { count ≤ 9 },
 }
 
 impl Letters {
@@ -27,7 +27,7 @@ impl Letters {
 
     /// One letter more, where a word has so many.
     pub(crate) fn with(self, byte: u8) -> Option<Letters>
-        ensures { MatchOption result (self.count ≡ 6) (λ more. take more.count more.bytes ≡ take self.count self.bytes ++ byte ∷ []) }
+        ensures { MatchOption result (self.count ≡ 9) (λ more. take more.count more.bytes ≡ take self.count self.bytes ++ byte ∷ []) }
     {
         if self.count == LONGEST_WORD {
             return None;

@@ -9,9 +9,11 @@ mod drafts;
 mod fields;
 mod letters;
 mod lines;
+mod looks;
 mod past;
 mod reading;
 mod serving;
+mod stating;
 mod telling;
 mod words;
 

@@ -14,8 +14,9 @@ ghost use Rattle.sessions.specs.Turns.{is_quit};
 
 use crate::fields::{Field, Numbers, one_of, three_of, two_of};
 use crate::letters::Letters;
-use crate::words::{Bare, Word};
-use dimacs::{Code, Numeral, OneNumber, TwoNumbers};
+use crate::looks::Look;
+use crate::words::{Bare, One, Two, Word};
+use dimacs::{Code, Numeral, TwoNumbers};
 use roadnet::Command;
 use rows::Query;
 
@@ -26,8 +27,14 @@ pub(crate) enum Line {
     Ignored,
     Command(Command),
     Query(Query),
+    /// What the network has.
+    Look(Look),
     /// The session's last accepted command is to be shown.
     Wait,
+    /// This version is to be shown.
+    Until(u64),
+    /// How the desk stands.
+    State,
     Quit,
     /// A group begins.
     Begin,
@@ -85,36 +92,47 @@ fn bare_line(word: Bare) -> Line
         Bare::Quit => Line::Quit,
         Bare::Begin => Line::Begin,
         Bare::End => Line::End,
+        Bare::Landmarks => Line::Look(Look::Landmarks),
+        Bare::Closed => Line::Look(Look::Closed),
+        Bare::State => Line::State,
     }
 }
 
 /// What a word with a number asks for.
-fn one_line(word: OneNumber, number: u64) -> Line
+fn one_line(word: One, number: u64) -> Line
     ensures { result ≡ one_line word number }
 {
-    Line::Command(word.command(number))
+    match word {
+        One::Common(word) => Line::Command(word.command(number)),
+        One::Arc => Line::Look(Look::Arc { arc: number }),
+        One::Until => Line::Until(number),
+    }
 }
 
 /// What a word with two numbers asks for.
-fn two_line(word: TwoNumbers, first: u64, second: u64) -> Line
+fn two_line(word: Two, first: u64, second: u64) -> Line
     ensures { result ≡ two_line word first second }
 {
     match word {
-        TwoNumbers::Set => Line::Command(Command::Set {
+        Two::Common(TwoNumbers::Set) => Line::Command(Command::Set {
             arc: first,
             length: second,
         }),
-        TwoNumbers::Dist => Line::Query(Query::Dist {
+        Two::Common(TwoNumbers::Dist) => Line::Query(Query::Dist {
             source: first,
             target: second,
         }),
-        TwoNumbers::From => Line::Query(Query::From {
+        Two::Common(TwoNumbers::From) => Line::Query(Query::From {
             landmark: first,
             target: second,
         }),
-        TwoNumbers::Lower => Line::Query(Query::Lower {
+        Two::Common(TwoNumbers::Lower) => Line::Query(Query::Lower {
             source: first,
             target: second,
+        }),
+        Two::Arcs => Line::Look(Look::Arcs {
+            tail: first,
+            head: second,
         }),
     }
 }
@@ -133,7 +151,7 @@ fn read_bare(word: Bare, numbers: Numbers) -> Line
 }
 
 /// What a word asks for that has one number behind it.
-fn read_one(word: OneNumber, numbers: Numbers) -> Line
+fn read_one(word: One, numbers: Numbers) -> Line
     ensures { (row : Row) → IsNumbers row numbers → IsLine (spelling (Word.WithOne word) ∷ row) result }
 {
     let Some(number) = one_of(numbers) else {
@@ -146,7 +164,7 @@ fn read_one(word: OneNumber, numbers: Numbers) -> Line
 }
 
 /// What a word asks for that has two numbers behind it.
-fn read_two(word: TwoNumbers, numbers: Numbers) -> Line
+fn read_two(word: Two, numbers: Numbers) -> Line
     ensures { (row : Row) → IsNumbers row numbers → IsLine (spelling (Word.WithTwo word) ∷ row) result }
 {
     let Some((first, second)) = two_of(numbers) else {

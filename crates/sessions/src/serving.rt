@@ -33,8 +33,9 @@ pub struct Terms<'a> {
 /// the line `quit` and at the end of the input; the desk goes on.
 ///
 /// The lines are the six commands (`ok N` once the command is durable, or `no CODE`), `dist S T`, `from X T` and `lower S T` (`v V` and an
-/// answer line, from a glance of that moment, or `no CODE`), `wait` (`v V` once the session's last accepted group is shown, or `no CODE`) and
-/// `quit`. The lines `begin` and `end` enclose the commands of a group: nothing is answered before its end, which answers for the whole, `ok N` once it
+/// answer line, from a glance of that moment, or `no CODE`), `arc K`, `arcs T H`, `landmarks` and `closed` (`v V` and lines of the network that is
+/// shown, from a glance too, which is held until they are written), `wait` (`v V` once the session's last accepted group is shown, or `no CODE`),
+/// `until N` (`v V` once version N is shown), `state` (how the desk stands, in a line) and `quit`. The lines `begin` and `end` enclose the commands of a group: nothing is answered before its end, which answers for the whole, `ok N` once it
 /// is durable, or the code of its first line that has a fault, or `no CODE`. A group that `quit` or the end of the input cuts off is dropped. Lines with no field and comments, which begin with `#`, have no answer; any other line has `no 1` or `no 5`. No line is too long:
 /// a line takes no memory; a group takes 32 bytes a command. A last line that no line feed ends is a line, or is dropped, as the terms say: what is
 /// carried out are whole lines alone then.

@@ -1,11 +1,17 @@
 //! The answers of a session, written and sent out.
-ghost use Rattle.std.specs.Prelude.{◌≡◌, IfErr, OnOk};
+ghost use Rattle.std.specs.Prelude.{◌≡◌, ◌++◌, IfErr, OnOk};
 ghost use Rattle.std.specs.Io.KnownBytes.{Appends};
 ghost use Rattle.printing.specs.Counting.{failed_writes, writer_of, IsSameWriter, CountsFailure};
-ghost use Rattle.printing.specs.Printed.{refusal_line};
+ghost use Rattle.printing.specs.Printed.{refusal_line, version_line};
 ghost use Rattle.printing.specs.Replied.{printed_reply};
+ghost use Rattle.roadnet.specs.Numbers.{number_of};
+ghost use Rattle.sessions.specs.Looks.{look_lines};
+ghost use Rattle.sessions.specs.Stated.{state_or_refusal};
 ghost use Rattle.sessions.specs.Turns.{fault_number, version_or_refusal};
 
+use crate::looks::{Look, put_look};
+use crate::stating::put_state;
+use desk::{DeskState, Glance, Naming};
 use dimacs::Code;
 use machine::Replied;
 use printing::{CountedWriter, Failed, put_refusal, put_reply, put_version};
@@ -64,6 +70,50 @@ pub(crate) fn tell_version<W: Write>(
     ensures same { IsSameWriter out.old out.new }
 {
     put_shown(out, shown)?;
+    out.flush()
+}
+
+/// What is seen at a glance of what is asked for, behind the version, sent out. The view is held until then.
+pub(crate) fn tell_look<N: Naming, W: Write>(
+    out: &mut CountedWriter<'_, W>,
+    glance: &Glance<N>,
+    look: Look,
+) -> Result<(), Failed>
+    ensures ok { OnOk result (Appends (W.contents (writer_of out.old)) (W.contents (writer_of out.new)) (version_line glance.now.view.version ++ look_lines glance.now.view.network look)) }
+    ensures refused { IfErr result (λ failed. failed ≡ Failed.Code Refusal.Write) }
+    ensures counts { CountsFailure (failed_writes out.old) (failed_writes out.new) result }
+    ensures same { IsSameWriter out.old out.new }
+{
+    put_version(out, glance.version())?;
+    put_look(out, glance.network(), look)?;
+    out.flush()
+}
+
+/// `no CODE`, sent out.
+pub(crate) fn tell_refusal<W: Write>(
+    out: &mut CountedWriter<'_, W>,
+    refusal: Refusal,
+) -> Result<(), Failed>
+    ensures ok { OnOk result (Appends (W.contents (writer_of out.old)) (W.contents (writer_of out.new)) (refusal_line (number_of refusal))) }
+    ensures refused { IfErr result (λ failed. failed ≡ Failed.Code Refusal.Write) }
+    ensures counts { CountsFailure (failed_writes out.old) (failed_writes out.new) result }
+    ensures same { IsSameWriter out.old out.new }
+{
+    put_refusal(out, refusal.number())?;
+    out.flush()
+}
+
+/// How the desk stands, or `no CODE`, sent out.
+pub(crate) fn tell_state<W: Write>(
+    out: &mut CountedWriter<'_, W>,
+    stood: Result<DeskState, Refusal>,
+) -> Result<(), Failed>
+    ensures ok { OnOk result (Appends (W.contents (writer_of out.old)) (W.contents (writer_of out.new)) (state_or_refusal stood)) }
+    ensures refused { IfErr result (λ failed. failed ≡ Failed.Code Refusal.Write) }
+    ensures counts { CountsFailure (failed_writes out.old) (failed_writes out.new) result }
+    ensures same { IsSameWriter out.old out.new }
+{
+    put_state(out, stood)?;
     out.flush()
 }
 

@@ -1,6 +1,7 @@
 //! The words with which the lines of a session begin.
 ghost use Rattle.std.specs.Prelude.{◌≡◌};
-ghost use Rattle.sessions.specs.Spelled.{word_from};
+ghost use Rattle.dimacs.specs.Spelling.{spelled_word};
+ghost use Rattle.sessions.specs.Spelled.{bare_spelling, bare_words, one_spelling, one_words, two_spelling, two_words, word_from};
 
 use dimacs::{OneNumber, TwoNumbers, word_of_one, word_of_two};
 
@@ -11,39 +12,107 @@ pub(crate) enum Bare {
     Quit,
     Begin,
     End,
+    Landmarks,
+    Closed,
+    State,
+}
+
+/// A word with one number behind it.
+#[derive(Clone, Copy)]
+pub(crate) enum One {
+    /// That of a command.
+    Common(OneNumber),
+    Arc,
+    Until,
+}
+
+/// A word with two numbers behind it.
+#[derive(Clone, Copy)]
+pub(crate) enum Two {
+    /// That of a command or of a query.
+    Common(TwoNumbers),
+    Arcs,
 }
 
 /// A word by what stands behind it.
 #[derive(Clone, Copy)]
 pub(crate) enum Word {
     WithNone(Bare),
-    WithOne(OneNumber),
-    WithTwo(TwoNumbers),
+    WithOne(One),
+    WithTwo(Two),
     /// `lay`, with three numbers behind it.
     Lay,
+}
+
+/// The word with one number that a field spells.
+fn one_of_session(field: &[u8]) -> Option<One>
+    ensures { result ≡ spelled_word one_spelling one_words field.now }
+{
+    if let Some(word) = word_of_one(field) {
+        return Some(One::Common(word));
+    }
+    if field == b"arc".as_slice() {
+        return Some(One::Arc);
+    }
+    if field == b"until".as_slice() {
+        return Some(One::Until);
+    }
+    None
+}
+
+/// The word with two numbers that a field spells.
+fn two_of_session(field: &[u8]) -> Option<Two>
+    ensures { result ≡ spelled_word two_spelling two_words field.now }
+{
+    if let Some(word) = word_of_two(field) {
+        return Some(Two::Common(word));
+    }
+    if field == b"arcs".as_slice() {
+        return Some(Two::Arcs);
+    }
+    None
+}
+
+/// The word alone that a field spells.
+fn bare_of_session(field: &[u8]) -> Option<Bare>
+    ensures { result ≡ spelled_word bare_spelling bare_words field.now }
+{
+    if field == b"wait".as_slice() {
+        return Some(Bare::Wait);
+    }
+    if field == b"quit".as_slice() {
+        return Some(Bare::Quit);
+    }
+    if field == b"begin".as_slice() {
+        return Some(Bare::Begin);
+    }
+    if field == b"end".as_slice() {
+        return Some(Bare::End);
+    }
+    if field == b"landmarks".as_slice() {
+        return Some(Bare::Landmarks);
+    }
+    if field == b"closed".as_slice() {
+        return Some(Bare::Closed);
+    }
+    if field == b"state".as_slice() {
+        return Some(Bare::State);
+    }
+    None
 }
 
 /// The word that a field spells.
 pub(crate) fn word_of(field: &[u8]) -> Option<Word>
     ensures { result ≡ word_from field.now }
 {
-    if let Some(word) = word_of_one(field) {
+    if let Some(word) = one_of_session(field) {
         return Some(Word::WithOne(word));
     }
-    if let Some(word) = word_of_two(field) {
+    if let Some(word) = two_of_session(field) {
         return Some(Word::WithTwo(word));
     }
-    if field == b"wait".as_slice() {
-        return Some(Word::WithNone(Bare::Wait));
-    }
-    if field == b"quit".as_slice() {
-        return Some(Word::WithNone(Bare::Quit));
-    }
-    if field == b"begin".as_slice() {
-        return Some(Word::WithNone(Bare::Begin));
-    }
-    if field == b"end".as_slice() {
-        return Some(Word::WithNone(Bare::End));
+    if let Some(word) = bare_of_session(field) {
+        return Some(Word::WithNone(word));
     }
     if field == b"lay".as_slice() {
         return Some(Word::Lay);

@@ -16,3 +16,5 @@ pub mod Checked
 pub mod Moved
 pub mod Read
 pub mod Fitting
+pub mod Shown
+pub mod Exported

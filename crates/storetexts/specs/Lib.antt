@@ -6,3 +6,5 @@ pub mod Applied
 pub mod Applying
 pub mod Checked
 pub mod Moved
+pub mod Shown
+pub mod Exported

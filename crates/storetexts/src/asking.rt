@@ -67,7 +67,7 @@ fn ask_opened<T: Threads, D: Disk, W: Write>(
 /// After an `Err` reader and writer are not used again.
 ///
 /// `delta` is the width of a search's buckets, 1 to 2147483647: every width gives the same answers; without one it is the network's
-/// default. The rows of the last 16 sources are kept, 8 bytes a node and row, and a crew of the runtime's threads makes them.
+/// default. Each source is searched once, or each target, where these are fewer, as `answer_pairs` does it.
 pub fn ask_counted<T: Threads, D: Disk, R: BufRead, W: Write>(
     rt: &T,
     alloc: Global,

@@ -1,17 +1,21 @@
 //! Texts that run on a store: made from a network and its landmarks, changed by commands, asked for pairs. A store that is only
-//! looked at. And one that is made of a store of the format before.
+//! looked at, or written out as texts. And one that is made of a store of the format before.
 #![tactic(auto)]
 
 mod applying;
 mod asking;
 mod checking;
 mod creating;
+mod exporting;
 mod moving;
 mod outcomes;
+mod showing;
 
 pub use applying::{apply_counted, apply_text};
 pub use asking::{ask_counted, ask_text};
 pub use checking::{check_counted, check_text};
 pub use creating::{create_counted, create_store, create_text, read_planned};
+pub use exporting::{export_counted, export_text, laws_of_exports};
 pub use moving::{migrate_counted, migrate_text};
 pub use outcomes::Outcome;
+pub use showing::{show_counted, show_text};

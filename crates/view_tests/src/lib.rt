@@ -4,6 +4,8 @@
 #[cfg(test)]
 mod answering;
 #[cfg(test)]
+mod batching;
+#[cfg(test)]
 mod compared;
 #[cfg(test)]
 mod guiding;

@@ -191,7 +191,7 @@ fn kept_of_three<R: Threads>(
     requires { (1 ≤ capacity) × (capacity ≤ 64) }
 {
     let mut cache = RowCache::new(alloc, capacity);
-    let pairs = [(1, 6), (2, 6), (3, 4), (1, 6), (2, 6), (3, 4)];
+    let pairs = [(1, 6), (2, 5), (3, 4), (1, 6), (2, 5), (3, 4)];
     let mut pinned = view.pinned(&mut cache);
     pinned.batch(rt, alloc, &pairs)?;
     Ok(cache.len())

@@ -23,3 +23,12 @@ returns-in-Begin c draft is = rw c.in-Begin.is (c.faulty-in-Begin.ensures draft 
 
 pub returns-in-End : goal.returns-in-End
 returns-in-End c draft is = rw c.in-End.is (c.faulty-in-End.ensures draft is)
+
+pub returns-in-Look : goal.returns-in-Look
+returns-in-Look c draft is = rw c.in-Look.is (c.faulty-in-Look.ensures draft is)
+
+pub returns-in-Until : goal.returns-in-Until
+returns-in-Until c draft is = rw c.in-Until.is (c.faulty-in-Until.ensures draft is)
+
+pub returns-in-State : goal.returns-in-State
+returns-in-State c draft is = rw c.in-State.is (c.faulty-in-State.ensures draft is)

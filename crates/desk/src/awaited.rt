@@ -1,0 +1,91 @@
+// Who waits until a version is shown, whoever's groups lead to it.
+ghost use Rattle.std.specs.Prelude.{◌≡◌, ◌≢◌, ◌≤◌, ◌<◌, ◌+◌, Err, None, length, true, false, IfOk, IfErr, IsOk};
+ghost use Rattle.std.specs.Option.{ForSome};
+ghost use Rattle.roadnet.specs.declared.refusals.Refusal.TheVariants.{Closed as closed, Broken as broken};
+ghost use Rattle.desk.specs.Turns.{is_lost, IsUnserved, WereShown};
+
+use crate::gates::Gate;
+use crate::handles::Handle;
+use crate::held::Held;
+use crate::locked::Locked;
+use crate::shared::Shared;
+use disk::Disk;
+use office::{Naming, Office};
+use published::Shown;
+use roadnet::Refusal;
+use std::sync::Wait;
+
+impl<N: Naming, D: Disk> Locked<Office<N, D>> {
+    /// What is shown, where that is this version or a later one.
+    ///
+    /// Refused is a version that isn't: with 45 where the store is broken and the version is not durable, else with 61.
+    #[tactic(auto, using(crate::proofs::Reached::reached_by))]
+    pub(crate) fn shown_at(&self, version: u64) -> Result<Shown, Refusal>
+        ensures origin { IfOk result (λ shown. shown.origin ≡ N.origin) }
+        ensures there { IfOk result (λ shown. version ≤ N.origin.version + length shown.groups) }
+        ensures state { IfOk result (λ shown. WereShown N.origin shown.groups) }
+        ensures served { version ≤ self.now.office.machine.shown → IsOk result }
+        ensures refused { IfErr result (λ _. self.now.office.machine.shown < version) }
+        ensures lost { IfErr result (λ refusal. refusal ≢ closed → (refusal ≡ broken) × (is_lost self.now.office.machine version ≡ true)) }
+        ensures ended { IfErr result (λ refusal. refusal ≡ closed → is_lost self.now.office.machine version ≡ false) }
+        ensures causes { IfErr result IsUnserved }
+    {
+        let _ = self.office.durable();
+        if version <= self.office.shown() {
+            return Ok(self.office.tell());
+        }
+        if self.is_lost(version) {
+            return Err(Refusal::Broken);
+        }
+        Err(Refusal::Closed)
+    }
+}
+
+impl<N: Naming, D: Disk> Held<Office<N, D>> {
+    /// What is shown, where that is this version or a later one.
+    pub(crate) fn shown_at(&self, version: u64) -> Result<Shown, Refusal>
+        ensures origin { IfOk result (λ shown. shown.origin ≡ N.origin) }
+        ensures there { IfOk result (λ shown. version ≤ N.origin.version + length shown.groups) }
+        ensures state { IfOk result (λ shown. WereShown N.origin shown.groups) }
+        ensures served { ForSome self.now.locked (λ locked. version ≤ locked.office.machine.shown → IsOk result) }
+        ensures causes { IfErr result IsUnserved }
+        ensures taken { self.now.locked ≡ None → result ≡ Err closed }
+    {
+        match &self.locked {
+            Some(locked) => locked.shown_at(version),
+            None => Err(Refusal::Closed),
+        }
+    }
+}
+
+impl<N: Naming, D: Disk + Drop, G: Gate + Drop> Shared<Office<N, D>, G> {
+    /// Waits until this version or a later one is shown, or none will be.
+    pub(crate) fn wait_version<R: Wait>(&self, rt: &R, version: u64) -> Result<Shown, Refusal>
+        ensures origin { IfOk result (λ shown. shown.origin ≡ N.origin) }
+        ensures there { IfOk result (λ shown. version ≤ N.origin.version + length shown.groups) }
+        ensures state { IfOk result (λ shown. WereShown N.origin shown.groups) }
+        ensures causes { IfErr result IsUnserved }
+    {
+        let guard = self.published.wait_while(
+            rt,
+            self.held.lock(rt),
+            |held: &mut Held<Office<N, D>>| held.is_unseen(version),
+        );
+        guard.shown_at(version)
+    }
+}
+
+impl<N: Naming, D: Disk + Drop, G: Gate + Drop, R: Wait + Copy> Handle<N, D, G, R> {
+    /// Waits until this version or a later one is shown, and tells the groups after which what is shown stands. A version that no group leads to yet may be
+    /// waited for too.
+    ///
+    /// Refused is a store that broke before the version was durable (45), and a desk whose builder ended before that (61).
+    pub fn wait_version(&self, version: u64) -> Result<Shown, Refusal>
+        ensures origin { IfOk result (λ shown. shown.origin ≡ N.origin) }
+        ensures there { IfOk result (λ shown. version ≤ N.origin.version + length shown.groups) }
+        ensures state { IfOk result (λ shown. WereShown N.origin shown.groups) }
+        ensures causes { IfErr result IsUnserved }
+    {
+        self.shared.wait_version(&self.rt, version)
+    }
+}

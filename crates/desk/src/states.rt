@@ -1,0 +1,101 @@
+//! How a desk stands at one moment.
+ghost use Rattle.std.specs.Prelude.{◌≡◌, Err, None, IfOk, IfErr};
+ghost use Rattle.std.specs.Option.{ForSome};
+ghost use Rattle.roadnet.specs.declared.refusals.Refusal.TheVariants.{Closed as closed};
+ghost use Rattle.desk.specs.States.{StoodSo, flusher_of, working_of};
+
+use crate::gates::Gate;
+use crate::handles::Handle;
+use crate::held::Held;
+use crate::locked::Locked;
+use disk::Disk;
+use office::{Naming, Office};
+use roadnet::Refusal;
+use std::sync::Wait;
+
+/// Whether a thread of a desk goes on.
+#[derive(Clone, Copy, Debug, PartialEq, Eq)]
+pub enum Working {
+    On,
+    /// It has ended: the desk was halted, or it found no memory.
+    Ended,
+    /// A write failed: nothing is written before the store is opened again. Of the flusher alone.
+    Broken,
+}
+
+/// How a desk stands, all of one moment.
+#[derive(Clone, Copy, Debug, PartialEq, Eq)]
+pub struct DeskState {
+    /// The version that readers see.
+    pub shown: u64,
+    /// The last durable version.
+    pub durable: u64,
+    /// How many commands the groups have that are accepted and not durable: at most 4,096.
+    pub pending: u64,
+    /// How many pages of the journal no checkpoint has made needless.
+    pub unchecked: u64,
+    /// How many pages the journal has.
+    pub pages: u64,
+    pub flusher: Working,
+    pub builder: Working,
+}
+
+/// Whether a thread goes on or has ended.
+fn working_of(ended: bool) -> Working
+    ensures { result ≡ working_of ended }
+{
+    if ended { Working::Ended } else { Working::On }
+}
+
+impl<N: Naming, D: Disk> Locked<Office<N, D>> {
+    /// How the flusher stands.
+    fn flusher_state(&self) -> Working
+        ensures { result ≡ flusher_of self.now.office.machine self.now.flusher_ended }
+    {
+        if self.office.broken() {
+            return Working::Broken;
+        }
+        working_of(self.flusher_ended)
+    }
+
+    /// How the desk stands.
+    fn state(&self) -> DeskState
+        ensures { StoodSo N.origin result }
+    {
+        DeskState {
+            shown: self.office.shown(),
+            durable: self.office.durable(),
+            pending: self.office.pending(),
+            unchecked: u64::from(self.office.unchecked()),
+            pages: u64::from(self.office.journal_pages()),
+            flusher: self.flusher_state(),
+            builder: working_of(self.builder_ended),
+        }
+    }
+}
+
+impl<N: Naming, D: Disk> Held<Office<N, D>> {
+    /// How the desk stands. Refused (61) is an office that was taken out.
+    fn state(&self) -> Result<DeskState, Refusal>
+        ensures stood { IfOk result (StoodSo N.origin) }
+        ensures causes { IfErr result (λ refusal. refusal ≡ closed) }
+        ensures taken { self.now.locked ≡ None → result ≡ Err closed }
+    {
+        match &self.locked {
+            Some(locked) => Ok(locked.state()),
+            None => Err(Refusal::Closed),
+        }
+    }
+}
+
+impl<N: Naming, D: Disk + Drop, G: Gate + Drop, R: Wait + Copy> Handle<N, D, G, R> {
+    /// How the desk stands: all numbers are taken under its lock, at one moment. It takes no memory.
+    ///
+    /// Refused is a desk that is closed (61).
+    pub fn state(&self) -> Result<DeskState, Refusal>
+        ensures stood { IfOk result (StoodSo N.origin) }
+        ensures causes { IfErr result (λ refusal. refusal ≡ closed) }
+    {
+        self.shared.held.lock(&self.rt).state()
+    }
+}

@@ -1,0 +1,89 @@
+// What a task comes to outside the lock: its network, and the view that is built of it.
+ghost use Rattle.std.specs.Prelude.{◌≡◌, IfOk};
+
+use history::Front;
+use keeper::{GroupTask, carry_out_in_turn};
+use roadnet::{Network, OutOfMemory};
+use rows::View;
+use std::marker::Model;
+use std::sync::Arc;
+
+/// A version of a desk whose view is wanted. It is carried out outside the lock: its network is that of the view that was shown, with the
+/// groups since. Contracts see the desk, the version, the network and that view.
+#[derive(Drop)]
+pub struct Work {
+    pub(crate) task: GroupTask,
+    /// The groups up to its version.
+    pub(crate) groups: Front,
+}
+
+impl Model for Work {
+    ghost use Rattle.office.specs.Works.{Wanted, IsWanted};
+
+    ghost Value = { Wanted };
+
+    ghost view = { λ w. record { origin = w.groups.origin; version = w.task.version; network = w.task.network.value; before = w.task.view.value } };
+
+    ghost invariant = { λ w. IsWanted w.groups w.task.version w.task.network.value };
+}
+
+/// The view of a work: its network and version are the work's, which is a fact of the type. It is made by `Work::built` alone.
+#[derive(Drop)]
+pub struct Built {
+    pub(crate) view: Arc<View>,
+    pub(crate) groups: Front,
+}
+
+impl Model for Built {
+    ghost use Rattle.published.specs.Showing.{Showing};
+    ghost use Rattle.office.specs.Works.{IsWanted};
+
+    ghost Value = { Showing };
+
+    ghost view = { λ b. record { shown = b.groups; view = b.view.value } };
+
+    ghost invariant = { λ b. IsWanted b.groups b.view.value.version b.view.value.network };
+}
+
+impl Work {
+    /// The version.
+    pub fn version(&self) -> u64
+        ensures { result ≡ self.now.version }
+    {
+        self.task.version
+    }
+
+    /// The view that was shown as the task was taken.
+    pub fn shown(&self) -> &View
+        ensures { result.now ≡ self.now.before }
+    {
+        &self.task.view
+    }
+
+    /// The network at the version: a copy of the shown view's, on which the groups since are carried out. The one error is want of memory.
+    ///
+    /// Where version 0 of `examples/six.gr` is shown and `Close { arc: 7 }` is durable, arc 7 is closed in it.
+    pub fn network(&self) -> Result<Network, OutOfMemory>
+        ensures network { IfOk result (λ network. network ≡ self.now.network) }
+    {
+        let mut network = self.task.view.network().copy()?;
+        let groups = &self.task.groups;
+        if carry_out_in_turn(&mut network, groups) < groups.len() {
+            return Err(OutOfMemory);
+        }
+        Ok(network)
+    }
+
+    /// The view, which is of the work's network and version, as what `show` takes. It takes no memory.
+    pub fn built(&self, view: Arc<View>) -> Built
+        requires version { view.value.version ≡ self.now.version }
+        requires network { view.value.network ≡ self.now.network }
+        ensures origin { result.shown.origin ≡ self.now.origin }
+        ensures view { result.view ≡ view.value }
+    {
+        Built {
+            view,
+            groups: self.groups.again(),
+        }
+    }
+}

@@ -1,0 +1,111 @@
+ghost use Rattle.std.specs.Prelude.{◌≡◌, [], true, IfOk};
+ghost use Rattle.store.specs.State.{CameTidy, is_calm};
+
+use crate::networks::one_arc;
+use crate::offices::view_of;
+use disk::{Disk, MemDisk};
+use history::History;
+use office::{Built, Naming, Office, Work};
+use roadnet::{Command, Group, Network, Refusal};
+use std::alloc::Global;
+use std::marker::Brand;
+use std::sync::Wait;
+use std::test::Fail;
+use store::{Store, create};
+
+/// A command is made durable, and the work that follows is taken.
+fn take<N: Naming, D: Disk>(office: &mut Office<N, D>, command: Command) -> Result<Work, Refusal>
+    ensures { IfOk result (λ work. work.origin ≡ N.origin) }
+{
+    office.submit_group(Group::one(command))?;
+    office.flush()?;
+    match office.take_work() {
+        Ok(Some(work)) => Ok(work),
+        Ok(None) => Err(Refusal::NoTask),
+        Err(_) => Err(Refusal::OutOfMemory),
+    }
+}
+
+/// What is built of a work, and its network.
+fn build(alloc: Global, work: &Work) -> Result<(Built, Network), Refusal>
+    ensures { IfOk result (λ built. built.0.shown.origin ≡ work.now.origin) }
+{
+    let network = work.network()?;
+    let view = view_of(alloc, work.version(), &network)?;
+    Ok((work.built(view), network))
+}
+
+/// What a show of what was built tells.
+fn show<N: Naming, D: Disk, R: Wait>(
+    rt: &R,
+    office: &mut Office<N, D>,
+    built: Built,
+) -> Result<u64, Refusal>
+    requires { built.shown.origin ≡ N.origin }
+{
+    match office.show(rt, built) {
+        Ok(shown) => Ok(shown),
+        Err((refusal, _)) => Err(refusal),
+    }
+}
+
+/// What the shows tell of the first work's views, one behind the other and one behind the second work, and of the second work's. The arc is closed
+/// and has its new length in the second work's network.
+fn shows<N: Naming, D: Disk, R: Wait>(
+    rt: &R,
+    alloc: Global,
+    office: &mut Office<N, D>,
+) -> Result<[Result<u64, Refusal>; 4], Refusal> {
+    let first = take(office, Command::Close { arc: 1 })?;
+    let (built, _) = build(alloc, &first)?;
+    let (again, _) = build(alloc, &first)?;
+    let (older, _) = build(alloc, &first)?;
+    let once = show(rt, office, built);
+    let twice = show(rt, office, again);
+    let second = take(office, Command::Set { arc: 1, length: 9 })?;
+    let (built, network) = build(alloc, &second)?;
+    let before = show(rt, office, older);
+    let last = show(rt, office, built);
+    match network.arc(1) {
+        Some(arc) if !arc.opened && arc.length == 9 => Ok([once, twice, before, last]),
+        _ => Err(Refusal::NoSuchArc),
+    }
+}
+
+/// The same of an office over this store.
+fn round<N: Naming, D: Disk + Drop, R: Wait>(
+    rt: &R,
+    alloc: Global,
+    history: History,
+    store: Store<D>,
+) -> Result<[Result<u64, Refusal>; 4], Refusal>
+    requires calm { is_calm store ≡ true }
+    requires origin { (N.origin.base ≡ store.network) × (N.origin.version ≡ store.version) }
+    requires history { (history.origin ≡ N.origin) × (history.groups ≡ []) × (history.acknowledged ≡ 0) }
+    requires came_tidy { N.came_tidy → CameTidy D.honest D.content store.given }
+{
+    let first = view_of(alloc, store.version(), store.network())?;
+    let mut office = Office::<N, D>::new(rt, alloc, history, store, first)?;
+    let told = shows(rt, alloc, &mut office);
+    office.close(rt);
+    told
+}
+
+#[test]
+fn works_are_carried_out(rt: HostRuntime) -> Result<(), Fail> {
+    let alloc = rt.alloc();
+    let network = one_arc(alloc).map_err(|_| Fail::from("a network"))?;
+    let Ok(store) = create(alloc, MemDisk::new(alloc), &network, 4) else {
+        return Err(Fail::from("a store"));
+    };
+    let history = History::new(store.network(), store.version());
+    let told = round::<Brand, _, _>(&rt, alloc, history, store);
+    let due = [
+        Ok(1),
+        Err(Refusal::NoTask),
+        Err(Refusal::OtherNetwork),
+        Ok(2),
+    ];
+    assert_eq!(rt; told, Ok(due));
+    Ok(())
+}

@@ -1,0 +1,12 @@
+use Rattle.std.proofs.Common.{◌≡◌, take}
+use Rattle.std.specs.Io.KnownBytes.{Appends}
+use Rattle.printing.specs.Counting.{failed_writes, writer_of, IsSameWriter}
+use Rattle.printing.specs.Looks.{leads, arcs_where, listed_numbers}
+use Rattle.printing.proofs.looks.put_numbers.Given as goal
+
+abbrev pub invariant-loop-index : goal.invariant-loop-index
+invariant-loop-index g l = record {
+  written : Appends (g.W.Write.contents (writer_of l.initial.out)) (g.W.Write.contents (writer_of l.out)) (listed_numbers (arcs_where (leads l.tail l.head) (take l.index l.arcs)));
+  counts : failed_writes l.out ≡ failed_writes l.initial.out;
+  same : IsSameWriter l.initial.out l.out;
+}

@@ -1,0 +1,196 @@
+//! What an operator is told of a network's arcs, as bytes.
+ghost use Rattle.std.specs.Prelude.{◌≡◌, ◌++◌, [], decimal, OnOk, IfErr, if◌then◌else◌};
+ghost use Rattle.std.specs.Io.KnownBytes.{Appends};
+ghost use lib.Chars.{codes};
+ghost use Rattle.printing.specs.Counting.{failed_writes, writer_of, IsSameWriter, CountsFailure};
+ghost use Rattle.printing.specs.Looks.{leads, state_word, arc_line, arcs_line, listed_numbers, arcs_where, arc_answer, arcs_answer, look_answer, look_lines};
+ghost use Rattle.rows.specs.Replies.{are_nodes};
+
+use crate::failed::Failed;
+use crate::printed::{put_number, put_refusal, put_version};
+use crate::writer::CountedWriter;
+use roadnet::{Network, Refusal, RoadArc};
+use std::io::Write;
+
+/// What is asked of a network's arcs. Any numbers may stand in it.
+#[derive(Clone, Copy, Debug, PartialEq, Eq)]
+pub enum Look {
+    /// The arc of this number.
+    Arc { number: u64 },
+    /// The numbers of all arcs from `tail` to `head`, closed ones too.
+    Between { tail: u64, head: u64 },
+}
+
+/// A word, and a number behind it.
+pub(crate) fn put_part<W: Write>(
+    out: &mut CountedWriter<'_, W>,
+    word: &[u8],
+    number: u64,
+) -> Result<(), Failed>
+    ensures ok { OnOk result (Appends (W.contents (writer_of out.old)) (W.contents (writer_of out.new)) (word.now ++ decimal number)) }
+    ensures refused { IfErr result (λ failed. failed ≡ Failed.Code Refusal.Write) }
+    ensures counts { CountsFailure (failed_writes out.old) (failed_writes out.new) result }
+    ensures same { IsSameWriter out.old out.new }
+{
+    out.write_all(word)?;
+    put_number(out, number)
+}
+
+/// ` open` or ` closed`, and the end of the line
+fn put_state<W: Write>(out: &mut CountedWriter<'_, W>, opened: bool) -> Result<(), Failed>
+    ensures ok { OnOk result (Appends (W.contents (writer_of out.old)) (W.contents (writer_of out.new)) (state_word opened)) }
+    ensures refused { IfErr result (λ failed. failed ≡ Failed.Code Refusal.Write) }
+    ensures counts { CountsFailure (failed_writes out.old) (failed_writes out.new) result }
+    ensures same { IsSameWriter out.old out.new }
+{
+    if opened {
+        out.write_all(b" open\n")
+    } else {
+        out.write_all(b" closed\n")
+    }
+}
+
+/// `a K T H W open` or `a K T H W closed`
+fn put_arc<W: Write>(
+    out: &mut CountedWriter<'_, W>,
+    number: u64,
+    arc: &RoadArc,
+) -> Result<(), Failed>
+    ensures ok { OnOk result (Appends (W.contents (writer_of out.old)) (W.contents (writer_of out.new)) (arc_line number arc.now)) }
+    ensures refused { IfErr result (λ failed. failed ≡ Failed.Code Refusal.Write) }
+    ensures counts { CountsFailure (failed_writes out.old) (failed_writes out.new) result }
+    ensures same { IsSameWriter out.old out.new }
+{
+    put_part(out, b"a ", number)?;
+    put_part(out, b" ", u64::from(arc.tail))?;
+    put_part(out, b" ", u64::from(arc.head))?;
+    put_part(out, b" ", u64::from(arc.length))?;
+    put_state(out, arc.opened)
+}
+
+/// The line of the arc of this number, or `no 20`
+fn put_arc_answer<W: Write>(
+    out: &mut CountedWriter<'_, W>,
+    network: &Network,
+    number: u64,
+) -> Result<(), Failed>
+    ensures ok { OnOk result (Appends (W.contents (writer_of out.old)) (W.contents (writer_of out.new)) (arc_answer network.now number)) }
+    ensures refused { IfErr result (λ failed. failed ≡ Failed.Code Refusal.Write) }
+    ensures counts { CountsFailure (failed_writes out.old) (failed_writes out.new) result }
+    ensures same { IsSameWriter out.old out.new }
+{
+    match network.arc(number) {
+        Some(arc) => put_arc(out, number, &arc),
+        None => put_refusal(out, Refusal::NoSuchArc.number()),
+    }
+}
+
+/// Whether the arc leads from the one node to the other.
+fn leads(tail: u64, head: u64, arc: &RoadArc) -> bool
+    ensures { result ≡ leads tail head arc.now }
+{
+    u64::from(arc.tail) == tail && u64::from(arc.head) == head
+}
+
+/// A blank and the number, where the arc leads from the one node to the other.
+fn put_where_it_leads<W: Write>(
+    out: &mut CountedWriter<'_, W>,
+    tail: u64,
+    head: u64,
+    number: u64,
+    arc: &RoadArc,
+) -> Result<(), Failed>
+    ensures ok { OnOk result (Appends (W.contents (writer_of out.old)) (W.contents (writer_of out.new)) (if leads tail head arc.now then codes " " ++ decimal number else [])) }
+    ensures refused { IfErr result (λ failed. failed ≡ Failed.Code Refusal.Write) }
+    ensures counts { CountsFailure (failed_writes out.old) (failed_writes out.new) result }
+    ensures same { IsSameWriter out.old out.new }
+{
+    if !leads(tail, head, arc) {
+        return Ok(());
+    }
+    put_part(out, b" ", number)
+}
+
+/// The numbers of all of these arcs that lead from the one node to the other, a blank before each.
+fn put_numbers<W: Write>(
+    out: &mut CountedWriter<'_, W>,
+    tail: u64,
+    head: u64,
+    arcs: &[RoadArc],
+) -> Result<(), Failed>
+    ensures ok { OnOk result (Appends (W.contents (writer_of out.old)) (W.contents (writer_of out.new)) (listed_numbers (arcs_where (leads tail head) arcs.now))) }
+    ensures refused { IfErr result (λ failed. failed ≡ Failed.Code Refusal.Write) }
+    ensures counts { CountsFailure (failed_writes out.old) (failed_writes out.new) result }
+    ensures same { IsSameWriter out.old out.new }
+{
+    for (index, arc) in arcs.iter().enumerate() {
+        put_where_it_leads(out, tail, head, index as u64 + 1, arc)?;
+    }
+    Ok(())
+}
+
+/// `arcs T H K1 K2 ..`, or `no 24`
+fn put_arcs_answer<W: Write>(
+    out: &mut CountedWriter<'_, W>,
+    network: &Network,
+    tail: u64,
+    head: u64,
+) -> Result<(), Failed>
+    ensures ok { OnOk result (Appends (W.contents (writer_of out.old)) (W.contents (writer_of out.new)) (arcs_answer network.now tail head)) }
+    ensures refused { IfErr result (λ failed. failed ≡ Failed.Code Refusal.Write) }
+    ensures counts { CountsFailure (failed_writes out.old) (failed_writes out.new) result }
+    ensures same { IsSameWriter out.old out.new }
+{
+    if !has_nodes(network, tail, head) {
+        return put_refusal(out, Refusal::NoSuchNode.number());
+    }
+    put_part(out, b"arcs ", tail)?;
+    put_part(out, b" ", head)?;
+    put_numbers(out, tail, head, network.arcs())?;
+    out.write_all(b"\n")
+}
+
+/// Whether the network has nodes of both numbers.
+fn has_nodes(network: &Network, tail: u64, head: u64) -> bool
+    ensures { result ≡ are_nodes network.now tail head }
+{
+    network.has_node(tail) && network.has_node(head)
+}
+
+/// The answer line to a look at a network's arcs: `a K T H W open` or `a K T H W closed`, of the arc K from node T to node H of length W,
+/// or `no 20` where there is none; `arcs T H K1 K2 ..`, the numbers of all arcs from T to H ascending, or `no 24` where one of the two is
+/// no node. It takes no memory.
+///
+/// Of `examples/six.gr`, the arc 7 is `a 7 5 2 0 open`, and those from node 4 to node 6 are `arcs 4 6 6`; from 6 to 1 there is none:
+/// `arcs 6 1`.
+pub fn put_look_answer<W: Write>(
+    out: &mut CountedWriter<'_, W>,
+    network: &Network,
+    look: Look,
+) -> Result<(), Failed>
+    ensures ok { OnOk result (Appends (W.contents (writer_of out.old)) (W.contents (writer_of out.new)) (look_answer network.now look)) }
+    ensures refused { IfErr result (λ failed. failed ≡ Failed.Code Refusal.Write) }
+    ensures counts { CountsFailure (failed_writes out.old) (failed_writes out.new) result }
+    ensures same { IsSameWriter out.old out.new }
+{
+    match look {
+        Look::Arc { number } => put_arc_answer(out, network, number),
+        Look::Between { tail, head } => put_arcs_answer(out, network, tail, head),
+    }
+}
+
+/// `v V` and the answer line to a look.
+pub fn put_look<W: Write>(
+    out: &mut CountedWriter<'_, W>,
+    network: &Network,
+    version: u64,
+    look: Look,
+) -> Result<(), Failed>
+    ensures ok { OnOk result (Appends (W.contents (writer_of out.old)) (W.contents (writer_of out.new)) (look_lines network.now version look)) }
+    ensures refused { IfErr result (λ failed. failed ≡ Failed.Code Refusal.Write) }
+    ensures counts { CountsFailure (failed_writes out.old) (failed_writes out.new) result }
+    ensures same { IsSameWriter out.old out.new }
+{
+    put_version(out, version)?;
+    put_look_answer(out, network, look)
+}

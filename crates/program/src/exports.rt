@@ -1,0 +1,173 @@
+//! The files in which a store's network is written out.
+ghost use Rattle.std.specs.Prelude.{◌≡◌, IfErr};
+ghost use Rattle.program.specs.Failures.{unopened, IsTextUnmade};
+
+use crate::files::{buffered_writer, unopened};
+use disk::Disk;
+use printing::{CountedWriter, Exported, Failed};
+use roadnet::Refusal;
+use std::alloc::Global;
+use std::fs::{self, File, OpenOptions};
+use std::io::ErrorKind;
+use std::os::unix::fs::OpenOptionsExt;
+use std::path::PathBuf;
+use std::rt::Files;
+use store::Store;
+use storetexts::export_counted;
+
+/// By what number a failure names the folder of the texts.
+const FOLDER: u8 = 1;
+
+/// Read and written by its owner and group, and read by all.
+const MODE: u32 = 0o664;
+
+/// The name of a text's file in its folder.
+fn name_of(text: Exported) -> &'static str {
+    match text {
+        Exported::Network => "network.gr",
+        Exported::Landmarks => "landmarks.ss",
+        Exported::Closings => "closed.commands",
+    }
+}
+
+/// A folder that is there, opened to be synced. What is no folder is not opened at all: opening a pipe to read it waits for a writer. It is
+/// refused as fault 10 of line 0.
+pub fn open_folder<R: Files<File = File>>(rt: &R, folder: &str) -> Result<File, Failed>
+    ensures { IfErr result (λ failed. failed ≡ unopened 1) }
+{
+    match fs::metadata(rt, folder) {
+        Ok(metadata) if metadata.is_dir() => {}
+        _ => return Err(unopened(FOLDER)),
+    }
+    match fs::open(rt, folder) {
+        Ok(place) => Ok(place),
+        Err(_) => Err(unopened(FOLDER)),
+    }
+}
+
+/// The file of a text, which was made for it.
+#[derive(Drop)]
+struct TextFile {
+    path: PathBuf,
+    file: File,
+}
+
+impl TextFile {
+    /// Makes the file of a text, which is empty. Refused is one that is there already (46), a folder that takes none (fault 10 of line 0),
+    /// and want of memory for its name (11).
+    fn make<R: AllocGlobal + Files<File = File>>(
+        rt: &R,
+        folder: &str,
+        text: Exported,
+    ) -> Result<TextFile, Failed>
+        ensures { IfErr result IsTextUnmade }
+    {
+        let Ok(mut path) = PathBuf::from_str(rt.alloc(), folder) else {
+            return Err(Failed::Code(Refusal::OutOfMemory));
+        };
+        if path.push(name_of(text)).is_err() {
+            return Err(Failed::Code(Refusal::OutOfMemory));
+        }
+        let mut options = OpenOptions::new();
+        options.write(true).create_new(true).mode(MODE);
+        match options.open(rt, path.as_path()) {
+            Ok(file) => Ok(TextFile { path, file }),
+            Err(error) if error.kind() == ErrorKind::AlreadyExists => {
+                Err(Failed::Code(Refusal::NotEmpty))
+            }
+            Err(_) => Err(unopened(FOLDER)),
+        }
+    }
+
+    /// Writes the text into the file.
+    fn write<D: Disk>(
+        &self,
+        alloc: Global,
+        store: &Store<D>,
+        text: Exported,
+    ) -> Result<(), Failed> {
+        let mut writer = buffered_writer(alloc, &self.file)?;
+        let mut writer = CountedWriter::new(&mut writer);
+        match export_counted(store, text, &mut writer) {
+            Ok(()) => Ok(()),
+            Err(_) => Err(Failed::Code(Refusal::Device)),
+        }
+    }
+
+    /// Writes the text into the file, which is synced. What fails is told as 43: 12 tells that all is done, and only its line is not told.
+    fn fill<D: Disk>(&self, alloc: Global, store: &Store<D>, text: Exported) -> Result<(), Failed> {
+        self.write(alloc, store, text)?;
+        match self.file.sync_all() {
+            Ok(()) => Ok(()),
+            Err(_) => Err(Failed::Code(Refusal::Device)),
+        }
+    }
+
+    /// Removes the file.
+    fn remove<R: Files>(&self, rt: &R) {
+        let _ = fs::remove_file(rt, self.path.as_path());
+    }
+}
+
+/// The files of the three texts, which were made for them.
+#[derive(Drop)]
+pub struct TextFiles {
+    network: TextFile,
+    landmarks: TextFile,
+    closings: TextFile,
+}
+
+impl TextFiles {
+    /// Makes all three, or none.
+    pub fn make<R: AllocGlobal + Files<File = File>>(
+        rt: &R,
+        folder: &str,
+    ) -> Result<TextFiles, Failed>
+        ensures { IfErr result IsTextUnmade }
+    {
+        let network = TextFile::make(rt, folder, Exported::Network)?;
+        let landmarks = match TextFile::make(rt, folder, Exported::Landmarks) {
+            Ok(landmarks) => landmarks,
+            Err(failed) => {
+                network.remove(rt);
+                return Err(failed);
+            }
+        };
+        let closings = match TextFile::make(rt, folder, Exported::Closings) {
+            Ok(closings) => closings,
+            Err(failed) => {
+                landmarks.remove(rt);
+                network.remove(rt);
+                return Err(failed);
+            }
+        };
+        Ok(TextFiles {
+            network,
+            landmarks,
+            closings,
+        })
+    }
+
+    /// Writes the texts of a store's network into them. Each is synced, and then their folder.
+    pub fn fill<D: Disk>(
+        &self,
+        alloc: Global,
+        store: &Store<D>,
+        folder: &File,
+    ) -> Result<(), Failed> {
+        self.network.fill(alloc, store, Exported::Network)?;
+        self.landmarks.fill(alloc, store, Exported::Landmarks)?;
+        self.closings.fill(alloc, store, Exported::Closings)?;
+        match folder.sync_all() {
+            Ok(()) => Ok(()),
+            Err(_) => Err(Failed::Code(Refusal::Device)),
+        }
+    }
+
+    /// Removes them.
+    pub fn remove<R: Files>(&self, rt: &R) {
+        self.network.remove(rt);
+        self.landmarks.remove(rt);
+        self.closings.remove(rt);
+    }
+}

@@ -1,0 +1,40 @@
+-- The line that tells how a desk stands.
+use Rattle.std.specs.Prelude.{ℕ, List, ◌++◌, Result, Ok, Err, decimal}
+use lib.Chars.{codes}
+use Rattle.roadnet.specs.declared.refusals.Refusal.{Refusal}
+use Rattle.roadnet.specs.Numbers.{number_of}
+use Rattle.desk.specs.declared.states.DeskState.{DeskState}
+use Rattle.desk.specs.declared.states.Working.{Working}
+use Rattle.desk.specs.declared.states.Working.TheVariants.{On, Ended, Broken}
+use Rattle.printing.specs.Printed.{refusal_line}
+
+-- a word between blanks, and a number
+abbrev pub named : List ℕ → ℕ → List ℕ
+named word number = word ++ decimal number
+
+-- whether a thread goes on
+abbrev pub working_word : Working → List ℕ
+working_word On = codes "on"
+working_word Ended = codes "ended"
+working_word Broken = codes "broken"
+
+-- how far its versions are
+abbrev pub versions_part : DeskState → List ℕ
+versions_part state = named (codes "state shown ") state.shown ++ named (codes " durable ") state.durable
+
+-- what waits, and how full the journal is
+abbrev pub journal_part : DeskState → List ℕ
+journal_part state = named (codes " pending ") state.pending ++ named (codes " unchecked ") state.unchecked ++ named (codes " pages ") state.pages
+
+-- its threads
+abbrev pub threads_part : DeskState → List ℕ
+threads_part state = (codes " flusher " ++ working_word state.flusher) ++ (codes " builder " ++ working_word state.builder) ++ codes "\n"
+
+-- `state shown V durable D pending P unchecked U pages J flusher F builder B`
+abbrev pub state_line : DeskState → List ℕ
+state_line state = versions_part state ++ journal_part state ++ threads_part state
+
+-- that, or `no CODE`
+abbrev pub state_or_refusal : Result DeskState Refusal → List ℕ
+state_or_refusal (Ok state) = state_line state
+state_or_refusal (Err refusal) = refusal_line (number_of refusal)

@@ -1,0 +1,117 @@
+//! The line that tells how a desk stands.
+ghost use Rattle.std.specs.Prelude.{◌≡◌, ◌++◌, OnOk, IfErr};
+ghost use Rattle.std.specs.Io.KnownBytes.{Appends};
+ghost use Rattle.printing.specs.Counting.{failed_writes, writer_of, IsSameWriter, CountsFailure};
+ghost use Rattle.sessions.specs.Stated.{named, working_word, versions_part, journal_part, threads_part, state_line, state_or_refusal};
+
+use desk::{DeskState, Working};
+use printing::{CountedWriter, Failed, put_number, put_refusal};
+use roadnet::Refusal;
+use std::io::Write;
+
+/// A word with its blanks, and a number
+fn put_named<W: Write>(
+    out: &mut CountedWriter<'_, W>,
+    word: &[u8],
+    number: u64,
+) -> Result<(), Failed>
+    ensures ok { OnOk result (Appends (W.contents (writer_of out.old)) (W.contents (writer_of out.new)) (named word.now number)) }
+    ensures refused { IfErr result (λ failed. failed ≡ Failed.Code Refusal.Write) }
+    ensures counts { CountsFailure (failed_writes out.old) (failed_writes out.new) result }
+    ensures same { IsSameWriter out.old out.new }
+{
+    out.write_all(word)?;
+    put_number(out, number)
+}
+
+/// `state shown V durable D`
+fn put_versions<W: Write>(out: &mut CountedWriter<'_, W>, state: &DeskState) -> Result<(), Failed>
+    ensures ok { OnOk result (Appends (W.contents (writer_of out.old)) (W.contents (writer_of out.new)) (versions_part state.now)) }
+    ensures refused { IfErr result (λ failed. failed ≡ Failed.Code Refusal.Write) }
+    ensures counts { CountsFailure (failed_writes out.old) (failed_writes out.new) result }
+    ensures same { IsSameWriter out.old out.new }
+{
+    put_named(out, b"state shown ", state.shown)?;
+    put_named(out, b" durable ", state.durable)
+}
+
+/// ` pending P unchecked U pages J`
+fn put_journal<W: Write>(out: &mut CountedWriter<'_, W>, state: &DeskState) -> Result<(), Failed>
+    ensures ok { OnOk result (Appends (W.contents (writer_of out.old)) (W.contents (writer_of out.new)) (journal_part state.now)) }
+    ensures refused { IfErr result (λ failed. failed ≡ Failed.Code Refusal.Write) }
+    ensures counts { CountsFailure (failed_writes out.old) (failed_writes out.new) result }
+    ensures same { IsSameWriter out.old out.new }
+{
+    put_named(out, b" pending ", state.pending)?;
+    put_named(out, b" unchecked ", state.unchecked)?;
+    put_named(out, b" pages ", state.pages)
+}
+
+/// `on`, `ended` or `broken`
+fn put_working<W: Write>(out: &mut CountedWriter<'_, W>, working: Working) -> Result<(), Failed>
+    ensures ok { OnOk result (Appends (W.contents (writer_of out.old)) (W.contents (writer_of out.new)) (working_word working)) }
+    ensures refused { IfErr result (λ failed. failed ≡ Failed.Code Refusal.Write) }
+    ensures counts { CountsFailure (failed_writes out.old) (failed_writes out.new) result }
+    ensures same { IsSameWriter out.old out.new }
+{
+    match working {
+        Working::On => out.write_all(b"on"),
+        Working::Ended => out.write_all(b"ended"),
+        Working::Broken => out.write_all(b"broken"),
+    }
+}
+
+/// A word with its blanks, and how a thread stands
+fn put_thread<W: Write>(
+    out: &mut CountedWriter<'_, W>,
+    word: &[u8],
+    working: Working,
+) -> Result<(), Failed>
+    ensures ok { OnOk result (Appends (W.contents (writer_of out.old)) (W.contents (writer_of out.new)) (word.now ++ working_word working)) }
+    ensures refused { IfErr result (λ failed. failed ≡ Failed.Code Refusal.Write) }
+    ensures counts { CountsFailure (failed_writes out.old) (failed_writes out.new) result }
+    ensures same { IsSameWriter out.old out.new }
+{
+    out.write_all(word)?;
+    put_working(out, working)
+}
+
+/// ` flusher F builder B` and a line feed
+fn put_threads<W: Write>(out: &mut CountedWriter<'_, W>, state: &DeskState) -> Result<(), Failed>
+    ensures ok { OnOk result (Appends (W.contents (writer_of out.old)) (W.contents (writer_of out.new)) (threads_part state.now)) }
+    ensures refused { IfErr result (λ failed. failed ≡ Failed.Code Refusal.Write) }
+    ensures counts { CountsFailure (failed_writes out.old) (failed_writes out.new) result }
+    ensures same { IsSameWriter out.old out.new }
+{
+    put_thread(out, b" flusher ", state.flusher)?;
+    put_thread(out, b" builder ", state.builder)?;
+    out.write_all(b"\n")
+}
+
+/// How the desk stands, in a line.
+fn put_line<W: Write>(out: &mut CountedWriter<'_, W>, state: &DeskState) -> Result<(), Failed>
+    ensures ok { OnOk result (Appends (W.contents (writer_of out.old)) (W.contents (writer_of out.new)) (state_line state.now)) }
+    ensures refused { IfErr result (λ failed. failed ≡ Failed.Code Refusal.Write) }
+    ensures counts { CountsFailure (failed_writes out.old) (failed_writes out.new) result }
+    ensures same { IsSameWriter out.old out.new }
+{
+    put_versions(out, state)?;
+    put_journal(out, state)?;
+    put_threads(out, state)
+}
+
+/// How the desk stands, or `no CODE`
+pub(crate) fn put_state<W: Write>(
+    out: &mut CountedWriter<'_, W>,
+    stood: Result<DeskState, Refusal>,
+) -> Result<(), Failed>
+    ensures ok { OnOk result (Appends (W.contents (writer_of out.old)) (W.contents (writer_of out.new)) (state_or_refusal stood)) }
+    ensures refused { IfErr result (λ failed. failed ≡ Failed.Code Refusal.Write) }
+    ensures counts { CountsFailure (failed_writes out.old) (failed_writes out.new) result }
+    ensures same { IsSameWriter out.old out.new }
+{
+    match stood {
+        Ok(state) => put_line(out, &state),
+        Err(refusal) => put_refusal(out, refusal.number()),
+    }
+}

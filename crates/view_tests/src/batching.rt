@@ -1,0 +1,118 @@
+// Batches of pairs, in any order, beside plain answers to each of them.
+ghost use Rattle.std.specs.Prelude.{◌≤◌};
+
+use fixtures::{Draws, drawn, six};
+use relax::Solo;
+use roadnet::{OutOfMemory, Refusal};
+use rows::{Query, Reply, RowCache, View, answer_plain};
+use std::alloc::{AllocError, Global};
+use std::thread::Threads;
+
+/// Forty pairs that are drawn by the seed, of numbers up to these.
+fn drawn_pairs(
+    alloc: Global,
+    seed: u64,
+    sources: u32,
+    targets: u32,
+) -> Result<Vec<(u64, u64)>, OutOfMemory>
+    requires sources { 1 ≤ sources }
+    requires targets { 1 ≤ targets }
+{
+    let mut draws = Draws::new(seed);
+    let mut pairs = Vec::new(alloc);
+    for _ in 0..40 {
+        let pair = (draws.up_to(sources), draws.up_to(targets));
+        pairs
+            .push((u64::from(pair.0), u64::from(pair.1)))
+            .map_err(AllocError::from)?;
+    }
+    Ok(pairs)
+}
+
+/// The first place whose pair got another reply than by plain relaxation.
+fn first_other(
+    alloc: Global,
+    view: &View,
+    pairs: &[(u64, u64)],
+    replies: &[Reply],
+) -> Result<Option<usize>, OutOfMemory> {
+    for at in 0..pairs.len() {
+        let (source, target) = pairs[at];
+        let plain = answer_plain(alloc, view.network(), &Query::Dist { source, target })?;
+        if replies.get(at) != Some(&plain) {
+            return Ok(Some(at));
+        }
+    }
+    Ok(None)
+}
+
+/// The same of a batch in a network of ten nodes that is drawn by the seed, by a cache of four rows. The number 11 is that of no node.
+fn batch_differs_at<R: Threads>(
+    rt: &R,
+    alloc: Global,
+    seed: u64,
+    sources: u32,
+    targets: u32,
+) -> Result<Option<usize>, Refusal>
+    requires sources { 1 ≤ sources }
+    requires targets { 1 ≤ targets }
+{
+    let view = View::build(alloc, 0, drawn(alloc, seed)?, None, &Solo)?;
+    let pairs = drawn_pairs(alloc, seed, sources, targets)?;
+    let mut cache = RowCache::new(alloc, 4);
+    let mut pinned = view.pinned(&mut cache);
+    let replies = pinned.batch(rt, alloc, &pairs)?;
+    Ok(first_other(alloc, &view, &pairs, &replies)?)
+}
+
+/// A seed, and up to which numbers sources and targets go: as many, one of either, fewer of either, more sources than rows are kept.
+const SHAPES: [(u64, u32, u32); 7] = [
+    (1, 11, 11),
+    (2, 1, 11),
+    (3, 11, 1),
+    (4, 11, 3),
+    (5, 3, 11),
+    (6, 9, 8),
+    (7, 10, 10),
+];
+
+#[test]
+fn batches_in_any_order(rt: HostRuntime) -> Result<(), Refusal> {
+    for (seed, sources, targets) in SHAPES {
+        let other = batch_differs_at(&rt, rt.alloc(), seed, sources, targets)?;
+        assert!(rt; other.is_none(), "{seed}: {other:?}");
+    }
+    Ok(())
+}
+
+/// How many rows a batch leaves, of the network of the worked rows.
+fn rows_behind<R: Threads>(
+    rt: &R,
+    alloc: Global,
+    pairs: &[(u64, u64)],
+) -> Result<(usize, bool), Refusal> {
+    let view = View::build(alloc, 0, six(alloc)?, None, &Solo)?;
+    let mut cache = RowCache::new(alloc, 16);
+    let mut pinned = view.pinned(&mut cache);
+    let replies = pinned.batch(rt, alloc, pairs)?;
+    let right = first_other(alloc, &view, pairs, &replies)?.is_none();
+    Ok((cache.len(), right))
+}
+
+/// Rows are made of sources, and kept; where the targets are fewer, rows are made of these, and none is kept.
+#[test]
+fn fewer_side_of_a_batch(rt: HostRuntime) -> Result<(), Refusal> {
+    let alloc = rt.alloc();
+    let (one, two) = ([(1, 6), (1, 4), (1, 2)], [(1, 6), (2, 4), (1, 2)]);
+    assert_eq!(rt; rows_behind(&rt, alloc, &one)?, (1, true));
+    assert_eq!(rt; rows_behind(&rt, alloc, &two)?, (2, true));
+    assert_eq!(rt;
+        rows_behind(&rt, alloc, &[(1, 6), (2, 6), (3, 6)])?,
+        (0, true)
+    );
+    assert_eq!(rt;
+        rows_behind(&rt, alloc, &[(4, 6), (7, 6), (4, 0)])?,
+        (1, true)
+    );
+    Ok(())
+}

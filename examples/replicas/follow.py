@@ -245,9 +245,17 @@ def begin(told):
     words = shown.stdout.split()
     if shown.returncode or len(words) != 8 or words[4] != words[5]:
         raise SystemExit(f"follow: arc {told.begin} of {told.store} is no loop")
-    new = Begin(int(words[1]), int(words[6]), told.begin)
-    if not Log(told.urls, told.name).make(new):
-        raise SystemExit(f"follow: there is a log {told.name} already")
+    new, log, end = Begin(int(words[1]), int(words[6]), told.begin), Log(told.urls, told.name), time.monotonic() + 30
+    while True:
+        try:
+            # Where an attempt of which no answer came made it, it is this one's.
+            if not log.make(new) and log.begin() != new:
+                raise SystemExit(f"follow: there is a log {told.name} already, and it begins elsewhere: {log.begin()}")
+            break
+        except Unreachable:
+            if time.monotonic() > end:
+                raise
+            time.sleep(0.2)
     print(f"log {told.name}: version {new.version} has entry {new.entry}, arc {new.arc} keeps the number")
 
 def words():

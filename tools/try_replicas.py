@@ -159,7 +159,8 @@ class All:
             place.close()
         self.members = [Member(folder, number, ports) for number in range(3)]
         self.machines = [Machine(self, number) for number in range(4)]
-        self.began = None
+        # The one that will be away: its place in the log goes soon.
+        self.machines[3].options = ["--lease", 8]
 
     def tell(self, machine):
         self.tells += 1
@@ -324,7 +325,7 @@ class Client(threading.Thread):
         other = random.choice([machine for machine in self.all.machines[:3] if machine is not self.machine])
         talk = Talk(self.all, other)
         try:
-            shown = talk.tell(f"until {version}", )
+            shown = talk.tell(f"until {version}")
             assert shown[0] == "no" or int(shown[1]) >= version
             if shown[0] == "v":
                 seen, _ = talk.ask(f"arc {ARC}")
@@ -384,8 +385,8 @@ def judge(all, clients, readers):
             assert answer == least(states[version], source, target), (version, answer)
     return states, refused
 
-def compare(all, machines, state):
-    """Ends the followers, and compares what their stores have, byte for byte, and with the model."""
+def exported(all, machines):
+    """Ends the followers, and compares what their stores have, byte for byte: the lines of the three texts, but for the first of each."""
     kept = []
     for machine in machines:
         machine.end()
@@ -394,11 +395,8 @@ def compare(all, machines, state):
         folder.mkdir()
         all.run("export", machine.store, folder)
         kept.append([(folder / name).read_text() for name in ("network.gr", "landmarks.ss", "closed.commands")])
-    assert all_same(kept), "the stores differ"
-    assert tuple(text.split("\n")[1:-1] for text in kept[0]) == texts(state), "the stores are not the model's"
-
-def all_same(things):
-    return things.count(things[0]) == len(things)
+    assert kept.count(kept[0]) == len(kept), "the stores differ"
+    return tuple(text.split("\n")[1:-1] for text in kept[0])
 
 # What is done to them, one after the other.
 
@@ -419,9 +417,11 @@ def stop_member(member, seconds):
     member.child.send_signal(signal.SIGCONT)
 
 def slow_down(all, machine, seconds):
-    """A follower that is stopped for a while, and then catches up."""
+    """A follower that is stopped for a while, and then catches up; etcd forgets what came before meanwhile, so its watch begins too early."""
     machine.child.send_signal(signal.SIGSTOP)
     time.sleep(seconds)
+    log = all.log()
+    log.etcd.call("kv/compaction", {"revision": str(log.entries(1, 1)[2])})
     machine.child.send_signal(signal.SIGCONT)
     print(f"faults: a follower that stood still for {seconds} s had the log again in {all.catch_up([machine])[0]:.1f} s", flush=True)
 
@@ -478,6 +478,7 @@ def try_faults(all, count):
     steps += [lambda machine=machine: machine.signal_server(signal.SIGKILL) for _ in range(2) for machine in all.machines[:3]]
     steps += [lambda member=member, rest=rest: restart(member, rest) for rest in (0, 3) for member in all.members]
     steps += [lambda machine=machine: stop_server(machine, 2) for machine in all.machines[:3]] + [lambda member=member: stop_member(member, 6) for member in all.members]
+    often = len(steps)
     steps += [lambda: copy(all, all.machines[3]), lambda: slow_down(all, all.machines[1], 10), lambda: without_majority(all, clients, readers, all.members[:2]), lambda: second_follower(all),
               all.machines[3].start, lambda: all_at_once(all), lambda: slow_down(all, all.machines[2], 10), lambda: without_majority(all, clients, readers, all.members[1:])]
     until = began + 1800 + count / 5
@@ -490,7 +491,10 @@ def try_faults(all, count):
         time.sleep(1 + random.random())
         if done < len(steps):
             steps[done]()
-            done += 1
+        else:
+            time.sleep(2)
+            random.choice(steps[:often])()
+        done += 1
     for one in [*clients, *readers]:
         one.is_let_go = True
     for one in [*clients, *readers]:
@@ -499,7 +503,7 @@ def try_faults(all, count):
     took = time.monotonic() - began
     all.catch_up(all.machines)
     states, refused = judge(all, clients, readers)
-    compare(all, all.machines, states[-1])
+    assert exported(all, all.machines) == texts(states[-1]), "the stores are not the model's"
     for machine in all.machines:
         machine.start()
     print(f"faults: {len(states) - 1} entries in {took:.0f} s beside {done} faults, {refused} refused, each told once as the model has it; {sum(c.killed for c in clients)} clients killed, "
@@ -512,17 +516,13 @@ def write(all, count, machine=0):
     talk = Talk(all, all.machines[machine])
     told = [talk.tell(f"set {1 + number % 8} {number}") for number in range(count)]
     talk.end()
-    assert all_ok(told), told[:3]
+    assert {answer[0] for answer in told} == {"ok"}, told[:3]
     return int(told[-1][1])
-
-def all_ok(told):
-    return {answer[0] for answer in told} == {"ok"}
 
 def try_cut(all, _):
     """Old entries go where each machine has them; a machine that was away too long is told so, and begins with a copy."""
     for machine in all.machines[:3]:
-        if machine.child.poll() is None:
-            machine.end()
+        machine.end()
         machine.options = ["--lease", 8, "--keep", 50]
         machine.start()
     away = all.machines[3]
@@ -535,7 +535,7 @@ def try_cut(all, _):
     while (first := log.entries(0, 1)[0][0].number) < head - 60:
         assert time.monotonic() < until, "nothing is cut off"
         time.sleep(1)
-    assert first == head - 49 and log.refused(1) is None and log.value(log.key("id/", "client-a-0")) is None
+    assert first == head - 49 and log.code(1) is None and log.value(log.key("id/", "client-a-0")) is None
     print(f"cut: the log has {head - first + 1} entries of {head}", flush=True)
     for kind, text in (("away", "has been cut off"), ("written", "somebody else wrote"), ("lost", "etcd has lost entries")):
         name = NAME
@@ -562,16 +562,8 @@ def try_cut(all, _):
     away.start()
     write(all, 100, 1)
     all.catch_up(all.machines)
-    kept = all.machines
-    versions = []
-    for machine in kept:
-        machine.end()
-        folder = all.folder / f"cut-{machine.name}"
-        folder.mkdir()
-        all.run("export", machine.store, folder)
-        versions.append([(folder / text).read_text() for text in ("network.gr", "landmarks.ss", "closed.commands")])
-    assert all_same(versions), "the stores differ"
-    for machine in kept[:3]:
+    exported(all, all.machines)
+    for machine in all.machines[:3]:
         machine.options = []
         machine.start()
     print("cut: a machine that was away began with a copy, and has the same store as the others", flush=True)

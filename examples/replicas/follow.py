@@ -100,8 +100,8 @@ class Tail(threading.Thread):
                 self.read()
             except Unreachable:
                 time.sleep(0.2)
-            except Astray as astray:
-                self.hand_on(astray)
+            except Exception as fault:
+                self.hand_on(fault)
                 return
 
     def read(self):
@@ -137,7 +137,7 @@ class Tail(threading.Thread):
             entry = self.entries.get(timeout=seconds)
         except queue.Empty:
             return None
-        if isinstance(entry, Astray):
+        if isinstance(entry, Exception):
             raise entry
         return entry
 
@@ -157,6 +157,8 @@ class Place(threading.Thread):
                     self.cut()
             except Unreachable:
                 pass
+            except Exception as fault:
+                say(f"the place is not kept: {fault!r}")
             time.sleep(min(5, self.seconds / 4))
 
     def stand(self):

@@ -203,10 +203,10 @@ class Log:
     def refuse(self, number, code):
         self.transact([], [put(self.numbered("refused", number), str(code))])
 
-    def refused(self, number):
-        """The code by which the entry was refused, or None."""
-        code = self.value(self.numbered("refused", number))
-        return None if code is None else int(code)
+    def code(self, number):
+        """The code by which the entry was refused, or 0; None where the entry has been cut off, and its code with it."""
+        _, [entry, code], _ = self.transact([], [get(self.numbered("log", number)), get(self.numbered("refused", number))])
+        return (int(code[0][1]) if code else 0) if entry else None
 
     # Where each machine is, and what all of them have.
 

@@ -87,7 +87,7 @@ class Local:
         return answer
 
     def ask(self, line, until):
-        """The same, of the server that comes next where one ends before its answer. One that ends within `until` may have told 61."""
+        """The same, by the server that is started next where one ends before its answer; one that is ending tells 61."""
         while True:
             try:
                 answer = self.told(line, until)
@@ -170,8 +170,10 @@ class Teller:
         version = self.start.version + entry.number - self.start.entry
         self.show(version, until)
         self.see(until)
-        code = self.steadily(lambda: self.log.refused(entry.number), until)
-        return f"ok {version}" if code is None else f"no {code}"
+        code = self.steadily(lambda: self.log.code(entry.number), until)
+        if code is None:
+            raise Late
+        return f"no {code}" if code else f"ok {version}"
 
     def show(self, version, until):
         """Waits until this machine's server shows the version. It is asked again and again: a session that waits in `until` holds its pair of pipes as long as that takes."""

@@ -280,16 +280,16 @@ def random_group():
 class Client(threading.Thread):
     """Tells changes until it is let go, each under its own id as often as it takes."""
 
-    def __init__(self, all, machine, name, kills=True):
+    def __init__(self, all, machine, name, kills=True, group=random_group):
         super().__init__(daemon=True)
-        self.all, self.machine, self.name, self.kills, self.is_let_go, self.fault = all, machine, name, kills, False, None
+        self.all, self.machine, self.name, self.kills, self.group, self.is_let_go, self.fault = all, machine, name, kills, group, False, None
         self.told, self.when, self.again, self.killed, self.looked = {}, [], 0, 0, 0
 
     def run(self):
         try:
             talk = Talk(self.all, self.machine)
             while not self.is_let_go:
-                talk = self.change(talk, f"{self.name}-{len(self.told)}", random_group())
+                talk = self.change(talk, f"{self.name}-{len(self.told)}", self.group())
             talk.end()
         except BaseException as fault:
             self.fault = fault
@@ -585,9 +585,10 @@ def appended(all, name, count, seconds):
         thread.join()
     return sum(counts) / seconds
 
-def told(all, count, seconds):
-    """Changes a second that are told by tell.py."""
-    clients = [Client(all, all.machines[place], f"measured-{count}-{place}-{time.monotonic_ns()}", kills=False) for place in range(count)]
+def told(all, count, seconds, size=1):
+    """Changes a second that are told by tell.py, of so many commands each."""
+    group = lambda: [f"set {random.randint(1, 8)} {random.randint(0, 99)}" for _ in range(size)]
+    clients = [Client(all, all.machines[place], f"measured-{place}-{time.monotonic_ns()}", kills=False, group=group) for place in range(count)]
     for client in clients:
         client.start()
     time.sleep(2)
@@ -624,6 +625,7 @@ def try_measure(all, _, seconds=15):
     all.log("alone").make(Begin(0, 0, ARC))
     for count in (1, 3):
         print(f"measure: {count} clients: etcd alone {appended(all, 'alone', count, seconds):.0f} entries a second; by tell.py {told(all, count, seconds):.0f} changes a second, each shown on its machine", flush=True)
+    print(f"measure: 3 clients, 252 commands a change: {252 * told(all, 3, seconds, 252):.0f} commands a second", flush=True)
     print(f"measure: a server alone, one session: {served(all, seconds):.0f} changes a second", flush=True)
     talks = [Talk(all, machine) for machine in all.machines[:3]]
     log, times, whole = all.log(), [], []

@@ -363,6 +363,20 @@ class Reader(threading.Thread):
         except BaseException as fault:
             self.fault = fault
 
+class Clock(threading.Thread):
+    """Sees for how long this machine ran nobody, since then the longest wait says nothing of a server."""
+
+    def __init__(self):
+        super().__init__(daemon=True)
+        self.is_let_go, self.fault, self.longest = False, None, 0
+
+    def run(self):
+        before = time.monotonic()
+        while not self.is_let_go:
+            time.sleep(0.1)
+            now = time.monotonic()
+            self.longest, before = max(self.longest, now - before - 0.1), now
+
 def judge(all, clients, readers):
     """Compares all that was told with the log, carried out by the model: the number of entries, and of answers."""
     for one in [*clients, *readers]:
@@ -470,9 +484,9 @@ def copy(all, new):
 
 def try_faults(all, count):
     clients = [Client(all, machine, f"client-{machine.name}") for machine in all.machines[:3]]
-    readers = [Reader(all, machine) for machine in all.machines[:3]]
-    began = time.monotonic()
-    for one in [*clients, *readers]:
+    readers, clock = [Reader(all, machine) for machine in all.machines[:3]], Clock()
+    began, threads = time.monotonic(), [*clients, *readers, clock]
+    for one in threads:
         one.start()
     steps = [lambda machine=machine, rest=rest: restart(machine, rest) for rest in (0, 1) for machine in all.machines[:3]]
     steps += [lambda machine=machine: machine.signal_server(signal.SIGKILL) for _ in range(2) for machine in all.machines[:3]]
@@ -485,7 +499,7 @@ def try_faults(all, count):
     done = 0
     while sum(len(client.told) for client in clients) < count or done < len(steps):
         assert time.monotonic() < until, "it takes too long"
-        for one in [*clients, *readers]:
+        for one in threads:
             if one.fault:
                 raise one.fault
         time.sleep(1 + random.random())
@@ -495,9 +509,9 @@ def try_faults(all, count):
             time.sleep(2)
             random.choice(steps[:often])()
         done += 1
-    for one in [*clients, *readers]:
+    for one in threads:
         one.is_let_go = True
-    for one in [*clients, *readers]:
+    for one in threads:
         one.join(LONGEST)
         assert not one.is_alive(), "a client does not end"
     took = time.monotonic() - began
@@ -508,8 +522,8 @@ def try_faults(all, count):
         machine.start()
     print(f"faults: {len(states) - 1} entries in {took:.0f} s beside {done} faults, {refused} refused, each told once as the model has it; {sum(c.killed for c in clients)} clients killed, "
           f"{sum(c.again for c in clients)} changes told again, none twice in the log; {sum(c.looked for c in clients)} writes read on another machine", flush=True)
-    print(f"faults: {sum(len(r.answers) for r in readers)} answers, each right in its version, {sum(r.refused for r in readers)} times none, the longest wait for one {max(r.longest for r in readers):.1f} s; "
-          f"four stores, one of them begun as a copy, are byte for byte the same", flush=True)
+    print(f"faults: {sum(len(r.answers) for r in readers)} answers, each right in its version, {sum(r.refused for r in readers)} times none, the longest wait for one {max(r.longest for r in readers):.1f} s "
+          f"(this machine stood still for up to {clock.longest:.1f} s); four stores, one of them begun as a copy, are byte for byte the same", flush=True)
 
 def write(all, count, machine=0):
     """So many changes, by one client."""

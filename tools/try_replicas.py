@@ -312,7 +312,7 @@ class Client(threading.Thread):
                 continue
             if answer[0] != "unknown":
                 break
-            assert answer == ["unknown", identity], answer
+            assert answer == ["unknown", identity], f"an answer {answer}"
             self.again += 1
         self.told[identity] = (group, answer)
         self.when.append(time.monotonic())
@@ -326,10 +326,10 @@ class Client(threading.Thread):
         talk = Talk(self.all, other)
         try:
             shown = talk.tell(f"until {version}")
-            assert shown[0] == "no" or int(shown[1]) >= version
+            assert shown[0] == "no" or int(shown[1]) >= version, "`until` told an earlier version"
             if shown[0] == "v":
                 seen, _ = talk.ask(f"arc {ARC}")
-                assert seen >= version
+                assert seen >= version, "one's own write is not seen"
                 self.looked += 1
         except Gone:
             pass
@@ -471,9 +471,9 @@ def second_follower(all):
     double.pairs, double.name = all.folder / "pairs-double", "double"
     double.start()
     time.sleep(3)
-    assert double.child.poll() is None
+    assert double.child.poll() is None, "the second follower ended"
     kill(double.child)
-    assert "started again" in double.errors()
+    assert "started again" in double.errors(), "the second follower had the store"
 
 def copy(all, new):
     """A machine's follower is ended, its store copied, and the copy begins as one more machine."""
@@ -546,10 +546,10 @@ def try_cut(all, _):
         away.end()
     head = write(all, 300)
     until, log = time.monotonic() + LONGEST, all.log()
-    while (first := log.entries(0, 1)[0][0].number) < head - 60:
-        assert time.monotonic() < until, "nothing is cut off"
+    while (first := log.entries(0, 1)[0][0].number) != head - 49:
+        assert time.monotonic() < until, f"the log begins with {first}, and should with {head - 49}"
         time.sleep(1)
-    assert first == head - 49 and log.code(1) is None and log.value(log.key("id/", "client-a-0")) is None
+    assert log.code(1) is None and log.value(log.key("id/", "client-a-0")) is None, "something of what was cut off is there"
     print(f"cut: the log has {head - first + 1} entries of {head}", flush=True)
     for kind, text in (("away", "has been cut off"), ("written", "somebody else wrote"), ("lost", "etcd has lost entries")):
         name = NAME
@@ -570,7 +570,7 @@ def try_cut(all, _):
     all.catch_up([away])
     subprocess.run([TOP / "examples/attach.sh", away.pairs], input="set 1 5\n", text=True, check=True, stdout=subprocess.DEVNULL, timeout=LONGEST)
     write(all, 1)
-    assert away.child.wait(LONGEST) == 3
+    assert away.child.wait(LONGEST) == 3, "a follower went on behind another's write"
     print("cut: " + away.errors().split("\n")[-2], flush=True)
     copy(all, away)
     away.start()

@@ -8,6 +8,7 @@ Two things are its own: `id X` names the next change, and `unknown X` is told of
 id again, here or on another machine, has its answer, and it is carried out once. docs/REPLICAS.md has the whole.
 """
 import argparse
+import glob
 import os
 import pathlib
 import re
@@ -48,6 +49,9 @@ class Local:
         self.folder, self.attached, self.kept = folder, None, b""
 
     def attach(self):
+        # The follower makes them before its first server.
+        if not glob.glob(f"{glob.escape(self.folder)}/*.in"):
+            raise EOFError(f"no pairs of pipes in {self.folder}")
         self.attached = subprocess.Popen([ATTACH, self.folder], stdin=subprocess.PIPE, stdout=subprocess.PIPE, start_new_session=True)
         self.kept = b""
 
@@ -68,7 +72,7 @@ class Local:
                 raise Late
             part = os.read(self.attached.stdout.fileno(), 65536)
             if not part:
-                raise EOFError
+                raise EOFError("the server has ended")
             self.kept += part
         line, self.kept = self.kept.split(b"\n", 1)
         return line.decode()
@@ -93,13 +97,15 @@ class Local:
                 answer = self.told(line, until)
                 if answer != ["no 61"]:
                     return answer
-            except (EOFError, OSError):
-                pass
+                fault = "the server is ending"
+            except (EOFError, OSError) as error:
+                fault = error
             except Late:
                 self.leave()
                 raise
             self.leave()
             if time.monotonic() > until:
+                print(f"tell: {fault}", file=sys.stderr)
                 raise Late
             time.sleep(0.1)
 

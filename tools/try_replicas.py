@@ -626,7 +626,7 @@ def served(all, seconds):
     while time.monotonic() < end:
         server.stdin.write(f"set 1 {count}\n")
         server.stdin.flush()
-        assert server.stdout.readline().startswith("ok")
+        assert server.stdout.readline().startswith("ok"), "a server alone refused a change"
         count += 1
     server.stdin.close()
     server.wait(LONGEST)
@@ -650,7 +650,7 @@ def try_measure(all, _, seconds=15):
         for talk in talks[1:]:
             talk.send([f"until {answer[1]}"])
         for talk in talks[1:]:
-            assert talk.hear()[0] == "v"
+            assert talk.hear()[0] == "v", "a told version was not shown on another machine"
         times.append(time.monotonic() - heard)
         whole.append(heard - began)
     for talk in talks:

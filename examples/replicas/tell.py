@@ -133,7 +133,7 @@ class Teller:
             return []
         if fields[0] in COMMANDS:
             command, fault = command_of(fields)
-            return [f"no {fault}"] if fault else [self.change([command])]
+            return [self.change([command], fault)]
         return self.ask(fields)
 
     def grouped(self, fields):
@@ -145,9 +145,7 @@ class Teller:
             self.group = self.group[:MOST]
             return []
         group, self.group = self.group, None
-        if self.fault or not group:
-            return [f"no {self.fault or 13}"]
-        return [self.change(group)]
+        return [self.change(group, self.fault or (0 if group else 13))]
 
     def ask(self, fields):
         """The server's answer. What is waited for is asked once it is there."""
@@ -159,8 +157,10 @@ class Teller:
         except Late:
             return ["no 61"]
 
-    def change(self, commands):
+    def change(self, commands, fault):
         identity, self.identity = self.identity or secrets.token_hex(16), None
+        if fault:
+            return f"no {fault}"
         try:
             return self.outcome(identity, commands, time.monotonic() + self.patience)
         except Late:

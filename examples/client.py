@@ -13,10 +13,10 @@ class Refused(Exception):
     """An answer `no CODE`."""
 
 class Session:
-    """A session with one server. One line is told, and its whole answer read, before the next one."""
+    """A session with one server, which has further words. One line is told, and its whole answer read, before the next one."""
 
-    def __init__(self, store):
-        self.server = subprocess.Popen([PROGRAM, "serve", store], stdin=subprocess.PIPE, stdout=subprocess.PIPE, text=True)
+    def __init__(self, store, *words, program=PROGRAM):
+        self.server = subprocess.Popen([program, "serve", store, *words], stdin=subprocess.PIPE, stdout=subprocess.PIPE, text=True)
 
     def tell(self, line):
         self.server.stdin.write(line + "\n")
@@ -47,17 +47,21 @@ class Session:
         self.server.stdin.close()
         return self.server.wait()
 
-if len(sys.argv) != 2:
-    print("usage: examples/client.py STORE", file=sys.stderr)
-    sys.exit(2)
-session = Session(sys.argv[1])
-print("from 1 to 6 (version, length):", session.distance(1, 6))
-for line in ("close 7", "close 7"):
-    try:
-        print(f"{line}: durable as version", session.change(line))
-    except Refused as refused:
-        print(f"{line}: refused, code", refused)
-print("shown: version", session.wait())
-print("from 1 to 6 (version, length):", session.distance(1, 6))
-print("reopen 7: durable as version", session.change("reopen 7"))
-sys.exit(session.quit())
+def main():
+    if len(sys.argv) != 2:
+        print("usage: examples/client.py STORE", file=sys.stderr)
+        return 2
+    session = Session(sys.argv[1])
+    print("from 1 to 6 (version, length):", session.distance(1, 6))
+    for line in ("close 7", "close 7"):
+        try:
+            print(f"{line}: durable as version", session.change(line))
+        except Refused as refused:
+            print(f"{line}: refused, code", refused)
+    print("shown: version", session.wait())
+    print("from 1 to 6 (version, length):", session.distance(1, 6))
+    print("reopen 7: durable as version", session.change("reopen 7"))
+    return session.quit()
+
+if __name__ == "__main__":
+    sys.exit(main())

@@ -66,21 +66,24 @@ put 644 "$top/docs/roadmark.1" usr/share/man/man1
 gzip -9n "$tree/usr/share/man/man1/roadmark.1"
 put 644 "$top/README.md" "$doc"
 put 644 "$top"/docs/*.md "$top"/docs/*.svg "$doc/docs"
-put 644 "$top"/examples/* "$doc/examples"
-chmod 755 "$tree/$doc"/examples/*.sh "$tree/$doc"/examples/*.py
+put 644 "$top"/examples/*.* "$doc/examples"
+put 644 "$top"/examples/replicas/*.* "$doc/examples/replicas"
+chmod 755 "$tree/$doc"/examples/*.sh "$tree/$doc"/examples/*.py "$tree/$doc"/examples/replicas/{follow,tell}.py
 # The examples look for the program beside their folder.
 ln -s ../../../bin/roadmark "$tree/$doc/roadmark"
 
 # Units name the program where the package has it.
 units=()
-for unit in "$top"/examples/*.service "$top"/examples/*.socket "$top"/examples/*.timer; do
+for unit in "$top"/examples/{,replicas/}*.service "$top"/examples/{,replicas/}*.socket "$top"/examples/*.timer; do
   [ -e "$unit" ] || continue
   put 644 "$unit" usr/lib/systemd/system
   units+=("$tree/usr/lib/systemd/system/$(basename "$unit")")
 done
 if [ "${#units[@]}" -gt 0 ]; then
-  put 755 "$top/examples/attach.sh" "$top/examples/pairs.sh" usr/lib/roadmark
-  sed -i 's#/usr/local/bin/roadmark#/usr/bin/roadmark#; s#/usr/local/bin/\([a-z]*\.sh\)#/usr/lib/roadmark/\1#g; s#, the built program and the scripts attach.sh and pairs.sh of this folder in /usr/local/bin,##; s#, with the three units in /etc/systemd/system##' "${units[@]}"
+  put 755 "$top/examples/attach.sh" "$top/examples/pairs.sh" "$top/examples/client.py" usr/lib/roadmark
+  put 755 "$top/examples/replicas/follow.py" "$top/examples/replicas/tell.py" usr/lib/roadmark/replicas
+  put 644 "$top/examples/replicas/log.py" usr/lib/roadmark/replicas
+  sed -i 's#/usr/local/bin/roadmark#/usr/bin/roadmark#g; s#/usr/local/bin/\([a-z]*\.sh\)#/usr/lib/roadmark/\1#g; s#/usr/local/lib/roadmark#/usr/lib/roadmark#g; s#, the built program and the scripts attach.sh and pairs.sh of this folder in /usr/local/bin,##; s#, with the three units in /etc/systemd/system##' "${units[@]}"
   mkdir -p "$tree/usr/lib/sysusers.d"
   echo 'u roadmark - "roadmark" /var/lib/roadmark' > "$tree/usr/lib/sysusers.d/roadmark.conf"
   if command -v systemd-analyze > /dev/null; then
@@ -103,7 +106,7 @@ Architecture: $architecture
 Maintainer: roadmark <root@localhost>
 Installed-Size: $(du -sk --apparent-size "$tree" | cut -f1)
 Depends: libc6 (>= $(library))
-Suggests: socat
+Suggests: socat, python3, etcd-server, etcd-client
 Section: science
 Priority: optional
 Store-Format: $format

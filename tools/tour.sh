@@ -1,5 +1,5 @@
 #!/usr/bin/env bash
-# Runs every tour of README.md, docs/PROGRAM.md and the man page with the built program, and compares what is printed with what stands there.
+# Runs every tour of README.md, docs/PROGRAM.md, the man page and, where etcd is there, docs/REPLICAS.md with the built program, and compares what is printed with what stands there.
 #   tools/tour.sh [PROGRAM]
 # A tour is a code block, four blanks wide, whose first line begins with `$ `. Such a line is run, and the lines after it are what it prints on both streams. Each heading
 # `## ` begins in a new folder with the examples and the program as ./roadmark. Then the words and options of help are compared with those of the man page, the clauses
@@ -41,6 +41,11 @@ run_steps() {
 split_page readme < "$top/README.md"
 split_page manual < "$top/docs/PROGRAM.md"
 sed -n '/^\.SH EXAMPLES/,/^\.fi/ { /^\./d; s/\\e/\\/g; s/^/    /; p }' "$top/docs/roadmark.1" | split_page man
+if command -v etcd > /dev/null; then
+  split_page replicas < "$top/docs/REPLICAS.md"
+else
+  echo "no etcd here: the tour of docs/REPLICAS.md is left out"
+fi
 
 steps=0
 wrong=0

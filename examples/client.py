@@ -34,6 +34,10 @@ class Session:
     def change(self, line):
         return int(self.tell(line)[1])
 
+    def copy(self, name):
+        """The version of the copy that the server made under this name; it was started with --copies FOLDER."""
+        return int(self.tell(f"copy {name}")[1])
+
     def wait(self):
         return int(self.tell("wait")[1])
 

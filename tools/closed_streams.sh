@@ -31,6 +31,9 @@ for stream in 0 1 2; do
   mkdir texts
   tries export "$printed" "$stream" export six.store texts
   rm -r texts
+  tries copy "$printed" "$stream" copy six.store copied.store
+  cmp -s copied.store before.store || { wrong=1; echo "copy: another store"; }
+  rm -f copied.store
   tries serve "$printed" "$stream" serve six.store
   tries once "$printed" "$stream" once six.gr 1 6
   tries batch "$printed" "$stream" batch six.gr six.p2p

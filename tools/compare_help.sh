@@ -15,8 +15,9 @@ compare() {
   fi
 }
 
-# The options in a text, each with the name of its value; the arguments of a usage line.
+# The options in a text, each with the name of its value; its flags; the arguments of a usage line.
 options() { grep -o -e '--[a-z]\+ <\?[A-Z]\+>\?' | tr -d '<>' | sort -u; }
+flags() { grep -o -e '--verbose' | sort -u; }
 arguments() { sed 's/\[[^]]*\]//g' | grep -o '\<[A-Z][A-Z0-9]*\>'; }
 
 # A part of the man page, without its fonts.
@@ -34,6 +35,7 @@ for word in $words; do
   help=$("$program" help "$word")
   line=$(grep "^$word " <<< "$synopsis")
   compare "options of $word" "$(options <<< "$help")" "$(options <<< "$line")"
+  compare "flags of $word" "$(flags <<< "$help")" "$(flags <<< "$line")"
   compare "arguments of $word" "$(grep '^Usage:' <<< "$help" | arguments)" "$(arguments <<< "$line")"
   [ "$help" = "$("$program" "$word" --help)" ] || { wrong=1; echo "$word: two helps"; }
   grep -q "^Example: .*roadmark $word " <<< "$help" || { wrong=1; echo "$word: its help has no example"; }

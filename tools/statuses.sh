@@ -27,9 +27,13 @@ ends 0 '' < six.txt > out
 cp six.store other.store
 ends 0 '' apply other.store six.commands > out
 ends 0 '' serve other.store > out < <(printf 'close 7\nclose 7\nhello\n')
+mkdir copies
+ends 0 '' serve other.store --copies copies > out < <(printf 'copy a\ncopy a\ncopy a.b\n')
 ends 0 '' create new.store six.gr six.ss > out
 cp "$top/examples/old.store" .
 ends 0 '' migrate old.store moved.store --room 10 > out
+ends 0 '' upgrade six.store six.gr six.gr upgraded.store > out
+ends 0 '' copy six.store copied.store --room 10 --journal 2 > out
 mkdir texts
 ends 0 '' export six.store texts > out
 # 1: a fault of a text, a file, a store, the output, the input of a session
@@ -42,11 +46,20 @@ ends 1 'roadmark: 46 NotEmpty' create six.store six.gr six.ss > out
 ends 1 'roadmark: 46 NotEmpty' migrate old.store six.store > out
 ends 1 'roadmark: 41 WrongFormat' ask old.store six.p2p > out
 ends 1 'roadmark: 41 WrongFormat' migrate six.store none.store > out
+printf 'p sp 6 1\na 2 1 17\n' > other.gr
+ends 1 'roadmark: 52 OtherNetwork' upgrade six.store other.gr six.gr none.store > out
+ends 1 'roadmark: 46 NotEmpty' upgrade six.store six.gr six.gr other.store > out
+ends 1 'roadmark: none.store: line 0: 10 Read' upgrade none.store six.gr six.gr new2.store > out
+ends 1 'roadmark: 46 NotEmpty' copy six.store moved.store > out
+ends 1 'roadmark: 41 WrongFormat' copy old.store none.store > out
+ends 1 'roadmark: 9 TooLarge' copy six.store none.store --room 7 > out
+ends 1 'roadmark: six.store: line 0: 10 Read' copy six.store six.store > out
 ends 1 'roadmark: 9 TooLarge' create none.store six.gr six.ss --room 7 > out
 ends 1 'roadmark: 40 NotAStore' check short.store > out
 ends 1 'roadmark: 40 NotAStore' show short.store 7 > out
 ends 1 'roadmark: 46 NotEmpty' export six.store texts > out
 ends 1 'roadmark: none: line 0: 10 Read' export six.store none > out
+ends 1 'roadmark: none: line 0: 10 Read' serve six.store --copies none > out
 ends 1 'roadmark: 12 Write' once six.gr 1 6 > /dev/full
 ends 1 'roadmark: 12 Write' --help > /dev/full
 ends 1 'roadmark: 12 Write' serve six.store > /dev/full < <(printf 'dist 1 6\n')

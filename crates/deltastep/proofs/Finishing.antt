@@ -29,18 +29,22 @@ trip_length-cons leg legs = sum_by-cons (λ (l : Leg). l.length) leg legs
 length_of_step : (net : Net) (k : ℕ) (ks : List ℕ) → length_of net (k ∷ ks) ≡ length_of_arc net k + length_of net ks
 length_of_step net k ks = sum_by-cons (length_of_arc net) k ks
 
--- where all legs are relaxed, of the nodes that are not queued, and no queued node has less than v, each trip to v is at least as long as
--- what is known of v
-pub value-le_trip : (groups : Groups) (t : List (Option ℕ)) (queue : Entries) (v : ℕ) → ((part : Part) → IsRelaxedBut groups part t queue []) → ((u : ℕ) → IsSome (get queue u) → value_or (top_of groups) t v ≤ value_or (top_of groups) t u) → (u : ℕ) (legs : List Leg) → Trip groups u v legs → value_or (top_of groups) t v ≤ value_or (top_of groups) t u + trip_length legs
-value-le_trip groups t queue v relaxed above u [] e = subst (λ w. value_or (top_of groups) t w ≤ value_or (top_of groups) t u + 0) e (omega arith)
-value-le_trip groups t queue v relaxed above u (leg ∷ legs) (part, c, trip) =
-    elim (relaxed part u) as (λ _. value_or (top_of groups) t v ≤ value_or (top_of groups) t u + trip_length (leg ∷ legs)) [
+-- where all legs are relaxed, of the nodes that are not queued, a number that is at most what is known of v and of each queued node is at most what is
+-- known of a node with each trip from there to v
+pub bound-le_trip : (groups : Groups) (t : List (Option ℕ)) (queue : Entries) (v bound : ℕ) → ((part : Part) → IsRelaxedBut groups part t queue []) → bound ≤ value_or (top_of groups) t v → ((u : ℕ) → IsSome (get queue u) → bound ≤ value_or (top_of groups) t u) → (u : ℕ) (legs : List Leg) → Trip groups u v legs → bound ≤ value_or (top_of groups) t u + trip_length legs
+bound-le_trip groups t queue v bound relaxed below above u [] e = subst (λ w. bound ≤ value_or (top_of groups) t w + 0) (sym e) (omega (arith, below))
+bound-le_trip groups t queue v bound relaxed below above u (leg ∷ legs) (part, c, trip) =
+    elim (relaxed part u) as (λ _. bound ≤ value_or (top_of groups) t u + trip_length (leg ∷ legs)) [
       | inl queued ↦ omega (arith, above u queued)
-      | inr rest ↦ elim rest as (λ _. value_or (top_of groups) t v ≤ value_or (top_of groups) t u + trip_length (leg ∷ legs)) [
+      | inr rest ↦ elim rest as (λ _. bound ≤ value_or (top_of groups) t u + trip_length (leg ∷ legs)) [
         | inl owes ↦ absurd (Contains-nil u owes)
-        | inr known ↦ omega (arith, value-le_trip groups t queue v relaxed above leg.head legs trip, known leg c, trip_length-cons leg legs)
+        | inr known ↦ omega (arith, bound-le_trip groups t queue v bound relaxed below above leg.head legs trip, known leg c, trip_length-cons leg legs)
       ]
     ]
+
+-- .. so where no queued node has less than v, each trip to v is at least as long as what is known of v
+pub value-le_trip : (groups : Groups) (t : List (Option ℕ)) (queue : Entries) (v : ℕ) → ((part : Part) → IsRelaxedBut groups part t queue []) → ((u : ℕ) → IsSome (get queue u) → value_or (top_of groups) t v ≤ value_or (top_of groups) t u) → (u : ℕ) (legs : List Leg) → Trip groups u v legs → value_or (top_of groups) t v ≤ value_or (top_of groups) t u + trip_length legs
+value-le_trip groups t queue v relaxed above u legs trip = bound-le_trip groups t queue v (value_or (top_of groups) t v) relaxed (le_refl (value_or (top_of groups) t v)) above u legs trip
 
 -- ---- a trip that visits no node twice
 
@@ -127,7 +131,7 @@ module _ (groups : Groups) (grouped : IsGrouped groups) where
 
 -- ---- trips and walks
 
-Contains-filter : {X : Type 0} (p : X → Bool) (xs : List X) (x : X) → p x ≡ true → Contains xs x → Contains (filter p xs) x
+pub Contains-filter : {X : Type 0} (p : X → Bool) (xs : List X) (x : X) → p x ≡ true → Contains xs x → Contains (filter p xs) x
 Contains-filter p [] x h c = absurd (Contains-nil x c)
 Contains-filter p (y ∷ xs) x h (zero, within, e) =
     let here : p y ≡ true = ap p e ∙ h in
@@ -141,7 +145,7 @@ filter_step p y xs x rest true e (zero, within, is) = (subst (λ z. Contains (y 
 filter_step p y xs x rest true e (suc k, within, is) = let r = rest (k, omega arith, is) in (Contains-tail y xs x r.0, r.1)
 filter_step p y xs x rest false e c = let r = rest c in (Contains-tail y xs x r.0, r.1)
 
-Contains-of_filter : {X : Type 0} (p : X → Bool) (xs : List X) (x : X) → Contains (filter p xs) x → Contains xs x × (p x ≡ true)
+pub Contains-of_filter : {X : Type 0} (p : X → Bool) (xs : List X) (x : X) → Contains (filter p xs) x → Contains xs x × (p x ≡ true)
 Contains-of_filter p [] x c = absurd (Contains-nil x c)
 Contains-of_filter p (y ∷ xs) x c = filter_step p y xs x (Contains-of_filter p xs x) (p y) refl c
 

@@ -1,5 +1,7 @@
 pub mod Arcs
+pub mod Backwards
 pub mod Division
+pub mod Ending
 pub mod Entries
 pub mod Finishing
 pub mod Flags
@@ -18,5 +20,6 @@ pub mod Resuming
 pub mod Rounds
 pub mod SomeWalk
 pub mod Starting
+pub mod Telling
 pub mod Thinning
 pub mod Turning

@@ -1,17 +1,22 @@
 // How the view of a task is built.
 ghost use Rattle.std.specs.Prelude.{◌≡◌, ◌≤◌, IfOk, unwrap_or};
 ghost use Rattle.std.specs.Option.{ForSome};
+ghost use Rattle.roadnet.specs.Ends.{KeepsEnds};
+ghost use Rattle.rows.specs.Backs.{LeadsBack};
 ghost use Rattle.rows.specs.Kept.{IsWidth};
-ghost use Rattle.snapshot.specs.Groups.{default_width};
+ghost use Rattle.rows.specs.Views.{AreLandmarkRows};
+ghost use Rattle.snapshot.specs.Groups.{IsSnapshotOf, default_width};
+ghost use Rattle.desk.specs.Repairs.{LeadBackTo};
 
 use crate::gates::{Gate, NoGate};
 use crate::last::{UNKNOWN, Unbuilt};
 use crate::repairs::Before;
 use crate::row_workers::{RowJob, landmark_rows};
+use deltastep::back_of;
 use disk::Disk;
 use office::Work;
 use roadnet::{Network, OutOfMemory};
-use rows::View;
+use rows::{Row, View};
 use snapshot::{Snapshot, default_delta};
 use std::alloc::Global;
 use std::sync::Arc;
@@ -32,6 +37,61 @@ pub(crate) struct Plan {
     ghost few: { workers ≤ 64 },
 }
 
+/// All arcs of a network the other way round: those that an older view has, where no arc was laid since, else they are grouped anew. It is nothing where no
+/// older view is given, and where no memory is had for it.
+fn back_after(alloc: Global, old: Option<&View>, network: &Network) -> Option<Arc<Snapshot>>
+    requires { ForSome old (λ old. KeepsEnds old.now.network network.now) }
+    ensures { ForSome result (λ back. LeadsBack network.now back.value) }
+{
+    let old = old?;
+    if old.network().arcs().len() == network.arcs().len() {
+        if let Some(back) = old.back() {
+            return Some(back);
+        }
+    }
+    match back_of(alloc, network) {
+        Ok(back) => Arc::new(alloc, back).ok(),
+        Err(_) => None,
+    }
+}
+
+/// The way back along the legs of a network's snapshot, lent.
+fn lent<'a>(
+    back: &'a Option<Arc<Snapshot>>,
+    network: &Network,
+    snapshot: &Snapshot,
+) -> Option<&'a Snapshot>
+    requires back { ForSome back.now (λ back. LeadsBack network.now back.value) }
+    requires snapshot { IsSnapshotOf network.now snapshot.now }
+    ensures { ForSome result (λ back. LeadBackTo snapshot.now back.now) }
+{
+    let _grouped = snapshot.nodes();
+    match back {
+        Some(back) => Some(back),
+        None => None,
+    }
+}
+
+/// The view of these parts, with the arcs the other way round, where they are given.
+fn assembled(
+    version: u64,
+    network: Network,
+    snapshot: Snapshot,
+    rows: Vec<Row>,
+    back: Option<Arc<Snapshot>>,
+) -> View
+    requires snapshot { IsSnapshotOf network snapshot }
+    requires rows { AreLandmarkRows version network rows.items }
+    requires back { ForSome back (λ back. LeadsBack network back.value) }
+    ensures { result ≡ record { version = version; network = network; delta = snapshot.delta } }
+{
+    let view = View::assemble(version, network, snapshot, rows);
+    match back {
+        Some(back) => view.with_back(back),
+        None => view,
+    }
+}
+
 impl Plan {
     /// A view of this network at this version: the rows of its landmarks are made by the row workers, out of those of an older view where one is
     /// given. It is given up where the version is passed over meanwhile.
@@ -44,6 +104,7 @@ impl Plan {
         network: Network,
         old: Option<&View>,
     ) -> Result<Arc<View>, Unbuilt>
+        requires { ForSome old (λ old. KeepsEnds old.now.network network) }
         ensures version { IfOk result (λ view. view.value.version ≡ version) }
         ensures network { IfOk result (λ view. view.value.network ≡ network) }
         ensures width { IfOk result (λ view. view.value.delta ≡ unwrap_or self.now.delta (default_width network)) }
@@ -52,8 +113,9 @@ impl Plan {
             Some(width) => width,
             None => default_delta(&network),
         };
+        let back = back_after(self.alloc, old, &network);
         let snapshot = Snapshot::build(self.alloc, &network, width)?;
-        let before = Before::of(self.alloc, old, &snapshot);
+        let before = Before::of(self.alloc, old, &snapshot, lent(&back, &network, &snapshot));
         let rows = landmark_rows(
             rt,
             &RowJob {
@@ -67,7 +129,9 @@ impl Plan {
                 workers: self.workers,
             },
         )?;
-        match Arc::new(self.alloc, View::assemble(version, network, snapshot, rows)) {
+        drop(before);
+        let view = assembled(version, network, snapshot, rows, back);
+        match Arc::new(self.alloc, view) {
             Ok(view) => Ok(view),
             Err(_) => Err(Unbuilt::OutOfMemory),
         }

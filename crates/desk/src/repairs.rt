@@ -1,6 +1,7 @@
 // What the rows of a view are made out of: those of an older view.
 ghost use Rattle.std.specs.Prelude.{IfSome};
-ghost use Rattle.desk.specs.Repairs.{IsBefore};
+ghost use Rattle.std.specs.Option.{ForSome};
+ghost use Rattle.desk.specs.Repairs.{IsBefore, LeadBackTo};
 
 use deltastep::changed_nodes;
 use rows::View;
@@ -15,16 +16,20 @@ pub(crate) struct Before<'a> {
     pub(crate) snapshot: &'a Snapshot,
     /// The nodes of which some leg is not the same in the other snapshot.
     pub(crate) changed: Vec<u32>,
+    /// All arcs the other way round.
+    pub(crate) back: Option<&'a Snapshot>,
 }
 
 impl Before<'_> {
-    /// The older view, beside what this snapshot has changed of it. It is nothing where none is given, where its network has other nodes, and
+    /// The older view, beside what this snapshot has changed of it, and the way back along its legs, where that is given. It is nothing where none is given, where its network has other nodes, and
     /// where no memory is had for the list of those that changed.
     pub(crate) fn of<'a>(
         alloc: Global,
         old: Option<&'a View>,
         snapshot: &Snapshot,
+        back: Option<&'a Snapshot>,
     ) -> Option<Before<'a>>
+        requires { ForSome back (λ back. LeadBackTo snapshot.now back.now) }
         ensures { IfSome result (IsBefore snapshot.now) }
     {
         let view = old?;
@@ -39,6 +44,7 @@ impl Before<'_> {
             view,
             snapshot: before,
             changed,
+            back,
         })
     }
 }

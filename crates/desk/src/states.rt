@@ -9,6 +9,7 @@ use crate::handles::Handle;
 use crate::held::Held;
 use crate::locked::Locked;
 use disk::Disk;
+use machine::MOST_OF_LIFE;
 use office::{Naming, Office};
 use roadnet::Refusal;
 use std::sync::Wait;
@@ -30,12 +31,18 @@ pub struct DeskState {
     pub shown: u64,
     /// The last durable version.
     pub durable: u64,
+    /// The version after all accepted groups.
+    pub accepted: u64,
     /// How many commands the groups have that are accepted and not durable: at most 4,096.
     pub pending: u64,
     /// How many pages of the journal no checkpoint has made needless.
     pub unchecked: u64,
     /// How many pages the journal has.
     pub pages: u64,
+    /// How many landmarks the network of the shown version has.
+    pub landmarks: u64,
+    /// How many more commands may be accepted before the store is to be opened again: 16,777,216 less those of this life.
+    pub left: u64,
     pub flusher: Working,
     pub builder: Working,
 }
@@ -65,9 +72,12 @@ impl<N: Naming, D: Disk> Locked<Office<N, D>> {
         DeskState {
             shown: self.office.shown(),
             durable: self.office.durable(),
+            accepted: self.office.latest(),
             pending: self.office.pending(),
             unchecked: u64::from(self.office.unchecked()),
             pages: u64::from(self.office.journal_pages()),
+            landmarks: self.office.network().landmarks().len() as u64,
+            left: MOST_OF_LIFE as u64 - self.office.of_life(),
             flusher: self.flusher_state(),
             builder: working_of(self.builder_ended),
         }

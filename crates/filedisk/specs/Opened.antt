@@ -1,11 +1,35 @@
 -- With what a file that is there is not opened for a disk.
 use Rattle.std.specs.Prelude.{⊤}
+use Rattle.std.specs.declared.io.ErrorKind.{ErrorKind}
+use Rattle.std.specs.declared.io.ErrorKind.TheVariants.{NotFound, PermissionDenied, IsADirectory, WouldBlock}
 use Rattle.filedisk.specs.declared.opened.OpenError.{OpenError}
-use Rattle.filedisk.specs.declared.opened.OpenError.TheVariants.{NotOpened, NoFile, InUse}
+use Rattle.filedisk.specs.declared.opened.OpenError.TheVariants.{Missing, NotPermitted, NotOpened, Folder, NoFile, InUse, NoLocks}
 
--- it can't be opened, is no file, or is in use: no name is made durable, and no memory is asked for
+-- why a file is not opened at whose opening the system failed so
+abbrev pub why_unopened : ErrorKind → OpenError
+why_unopened NotFound = Missing
+why_unopened PermissionDenied = NotPermitted
+why_unopened IsADirectory = Folder
+why_unopened _ = NotOpened
+
+-- why a file is not locked at whose locking the system failed so
+abbrev pub why_unlocked : ErrorKind → OpenError
+why_unlocked WouldBlock = InUse
+why_unlocked _ = NoLocks
+
+-- it is not locked
+abbrev pub IsUnlocked : OpenError → Type 0
+IsUnlocked InUse = ⊤
+IsUnlocked NoLocks = ⊤
+IsUnlocked other = ⊥
+
+-- it can't be opened, is no file, or is not locked: no name is made durable, and no memory is asked for
 abbrev pub IsNotHad : OpenError → Type 0
+IsNotHad Missing = ⊤
+IsNotHad NotPermitted = ⊤
 IsNotHad NotOpened = ⊤
+IsNotHad Folder = ⊤
 IsNotHad NoFile = ⊤
 IsNotHad InUse = ⊤
+IsNotHad NoLocks = ⊤
 IsNotHad other = ⊥

@@ -1,8 +1,9 @@
 //! Files opened for a disk.
 ghost use Rattle.std.specs.Prelude.{◌≡◌, [], ◌∷◌, false, IfOk, IfErr, OnOk};
+ghost use Rattle.std.specs.IoError.{error_kind};
 ghost use Rattle.filedisk.specs.Files.{failures_of};
 ghost use Rattle.filedisk.specs.Noted.{Lock, SyncAll, SyncFolder, Done, has_failed_sync};
-ghost use Rattle.filedisk.specs.Opened.{IsNotHad};
+ghost use Rattle.filedisk.specs.Opened.{IsNotHad, IsUnlocked, why_unlocked, why_unopened};
 ghost use Rattle.filedisk.specs.SystemFiles.{calls_made, calls_of};
 ghost use Rattle.filedisk.specs.declared.notes.Share.TheVariants.{Alone, WithReaders};
 
@@ -20,17 +21,29 @@ use thiserror::Error;
 /// Why a file is not opened for a disk.
 #[derive(Clone, Copy, Debug, PartialEq, Eq, Error)]
 pub enum OpenError {
-    /// There is no such file that may be opened so.
-    #[error("the file can't be opened")]
+    /// There is no such file, or no such folder.
+    #[error("there is no such file")]
+    Missing,
+    /// The system doesn't permit that it is opened so.
+    #[error("opening it is not permitted")]
+    NotPermitted,
+    /// The system doesn't open it for another reason.
+    #[error("it can't be opened")]
     NotOpened,
-    /// It is a folder or a device.
+    /// It is a folder.
+    #[error("it is a folder")]
+    Folder,
+    /// It is a device or a pipe.
     #[error("it is no file")]
     NoFile,
     /// Another opening of it is not shared with this one.
-    #[error("the file is in use")]
+    #[error("it is in use")]
     InUse,
+    /// The system can't lock it, as where its file system has no locks.
+    #[error("it can't be locked")]
+    NoLocks,
     /// The name of a new file was not made durable.
-    #[error("the folder could not be synced")]
+    #[error("its folder can't be synced")]
     NameNotSynced,
     /// There is no memory for the file's name.
     #[error("out of memory")]
@@ -39,6 +52,28 @@ pub enum OpenError {
 
 /// Read and written by its owner and group, and read by all.
 const MODE: u32 = 0o664;
+
+/// Why a file is not opened at whose opening the system failed so.
+pub fn why_unopened(error: &io::Error) -> OpenError
+    ensures { result ≡ why_unopened (error_kind error.now) }
+{
+    match error.kind() {
+        ErrorKind::NotFound => OpenError::Missing,
+        ErrorKind::PermissionDenied => OpenError::NotPermitted,
+        ErrorKind::IsADirectory => OpenError::Folder,
+        _ => OpenError::NotOpened,
+    }
+}
+
+/// Why a file is not locked at whose locking the system failed so.
+fn why_unlocked(error: &io::Error) -> OpenError
+    ensures { result ≡ why_unlocked (error_kind error.now) }
+{
+    match error.kind() {
+        ErrorKind::WouldBlock => OpenError::InUse,
+        _ => OpenError::NoLocks,
+    }
+}
 
 /// A file that this opening made, by its own name: no link is left to follow in the name's last part.
 #[derive(Drop)]
@@ -70,12 +105,12 @@ pub struct NewFile {
 /// The file, locked, where no other opening keeps it from this one.
 fn lock_file(file: File, share: Share) -> Result<NotedFile<File>, OpenError>
     ensures calls { IfOk result (λ file. calls_made file ≡ (Lock share, Done) ∷ []) }
-    ensures causes { IfErr result (λ error. error ≡ OpenError.InUse) }
+    ensures causes { IfErr result IsUnlocked }
 {
     let mut file = NotedFile::new(file);
     match file.lock(share) {
         Ok(()) => Ok(file),
-        Err(_) => Err(OpenError::InUse),
+        Err(error) => Err(why_unlocked(&error)),
     }
 }
 
@@ -86,7 +121,7 @@ fn look_at(file: &NotedFile<File>) -> Result<(), OpenError>
     match file.is_file() {
         Ok(true) => Ok(()),
         Ok(false) => Err(OpenError::NoFile),
-        Err(_) => Err(OpenError::NotOpened),
+        Err(error) => Err(why_unopened(&error)),
     }
 }
 
@@ -118,15 +153,15 @@ fn open_as<R: Files<File = File>>(
 ) -> Result<File, OpenError>
     ensures causes { IfErr result IsNotHad }
 {
-    let Ok(metadata) = fs::metadata(rt, path) else {
-        return Err(OpenError::NotOpened);
-    };
-    if !metadata.is_file() {
-        return Err(OpenError::NoFile);
+    match fs::metadata(rt, path) {
+        Ok(metadata) if metadata.is_file() => {}
+        Ok(metadata) if metadata.is_dir() => return Err(OpenError::Folder),
+        Ok(_) => return Err(OpenError::NoFile),
+        Err(error) => return Err(why_unopened(&error)),
     }
     match options.open(rt, path) {
         Ok(file) => Ok(file),
-        Err(_) => Err(OpenError::NotOpened),
+        Err(error) => Err(why_unopened(&error)),
     }
 }
 
@@ -179,7 +214,7 @@ fn open_or_make<R: Files<File = File>>(rt: &R, path: &str) -> Result<(File, bool
         Err(error) if error.kind() == ErrorKind::AlreadyExists => {
             Ok((open_to_write(rt, path)?, false))
         }
-        Err(_) => Err(OpenError::NotOpened),
+        Err(error) => Err(why_unopened(&error)),
     }
 }
 
@@ -230,7 +265,7 @@ pub fn create_file<R: AllocGlobal + Files<File = File>>(
     let path = match resolve(rt, path) {
         Ok(path) => path,
         Err(error) if error.kind() == ErrorKind::OutOfMemory => return Err(OpenError::OutOfMemory),
-        Err(_) => return Err(OpenError::NotOpened),
+        Err(error) => return Err(why_unopened(&error)),
     };
     let (file, is_new) = open_or_make(rt, path.as_str())?;
     let mut file = lock_file(file, Share::Alone)?;

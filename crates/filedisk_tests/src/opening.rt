@@ -76,8 +76,9 @@ fn what_is_no_file(rt: HostRuntime) -> Result<(), Fail> {
     let (reader, _writer) = io::pipe(&rt)?;
     let pipe = format!(in rt.alloc(); "/proc/self/fd/{}", reader.as_raw_fd())?;
     let none = ([Some(OpenError::NoFile); 2], 0);
+    let folder = ([Some(OpenError::Folder); 2], 0);
     assert!(rt; told_of(&rt, pipe.as_str()) == none);
-    assert!(rt; told_of(&rt, env::temp_dir(&rt)?.as_str()) == none);
+    assert!(rt; told_of(&rt, env::temp_dir(&rt)?.as_str()) == folder);
     assert!(rt; told_of(&rt, "/dev/null") == none);
     Ok(())
 }

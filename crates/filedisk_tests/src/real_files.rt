@@ -46,7 +46,7 @@ fn is_there(rt: &HostRuntime, path: &str) -> Result<bool, OpenError> {
 /// Whether what is there, but no file, is told so.
 fn are_no_files(rt: &HostRuntime, folder: &str) -> bool {
     let no_file = Some(OpenError::NoFile);
-    open_file(rt, folder).err() == no_file
+    open_file(rt, folder).err() == Some(OpenError::Folder)
         && open_to_read(rt, "/dev/null").err() == no_file
         && create_file(rt, "/dev/null").err() == no_file
 }
@@ -54,8 +54,8 @@ fn are_no_files(rt: &HostRuntime, folder: &str) -> bool {
 #[test]
 fn a_real_file(rt: HostRuntime) -> Result<(), Fail> {
     let path = own_path(&rt, "real")?;
-    assert!(rt; open_file(&rt, path.as_str()).err() == Some(OpenError::NotOpened));
-    assert!(rt; open_to_read(&rt, path.as_str()).err() == Some(OpenError::NotOpened));
+    assert!(rt; open_file(&rt, path.as_str()).err() == Some(OpenError::Missing));
+    assert!(rt; open_to_read(&rt, path.as_str()).err() == Some(OpenError::Missing));
     assert!(rt; are_no_files(&rt, env::temp_dir(&rt)?.as_str()));
     assert!(rt; is_made(&rt, path.as_str()) == Ok(true));
     assert!(rt; is_there(&rt, path.as_str()) == Ok(true));

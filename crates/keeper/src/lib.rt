@@ -5,6 +5,7 @@
 mod asking;
 mod beginning;
 mod checkpoints;
+mod counts;
 mod entries;
 mod flushing;
 mod halted;

@@ -1,7 +1,9 @@
-//! Tests of stores that are made from stores of format 1, by the public call: what is made, what is refused and in which order, calls of either disk that
-//! fail, stops, and growths that are refused.
+//! Tests of stores that are made from other stores, copies and those of stores of format 1, by the public calls: what is made, what is refused and in which
+//! order, calls of either disk that fail, stops, and growths that are refused.
 #![tactic(auto)]
 
+#[cfg(test)]
+mod copying;
 #[cfg(test)]
 mod failing;
 #[cfg(test)]

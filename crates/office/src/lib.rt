@@ -4,6 +4,7 @@
 
 mod checkpoints;
 mod closed;
+mod counts;
 mod naming;
 mod numbers;
 mod offices;

@@ -1,5 +1,6 @@
 // What a task comes to outside the lock: its network, and the view that is built of it.
 ghost use Rattle.std.specs.Prelude.{◌≡◌, IfOk};
+ghost use Rattle.roadnet.specs.Ends.{KeepsEnds};
 
 use history::Front;
 use keeper::{GroupTask, carry_out_in_turn};
@@ -65,6 +66,8 @@ impl Work {
     /// Where version 0 of `examples/six.gr` is shown and `Close { arc: 7 }` is durable, arc 7 is closed in it.
     pub fn network(&self) -> Result<Network, OutOfMemory>
         ensures network { IfOk result (λ network. network ≡ self.now.network) }
+        // Whatever is commanded, arcs keep their ends.
+        ensures ends { IfOk result (λ network. KeepsEnds self.now.before.network network) }
     {
         let mut network = self.task.view.network().copy()?;
         let groups = &self.task.groups;

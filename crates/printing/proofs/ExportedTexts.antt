@@ -14,7 +14,8 @@ use Rattle.dimacs.specs.Landmarks.{ss_text}
 use Rattle.dimacs.specs.Texts.{content_by}
 use Rattle.printing.specs.declared.exports.Exported.TheVariants.{Network, Landmarks, Closings}
 use Rattle.printing.specs.declared.exports.Origin.{Origin}
-use Rattle.printing.specs.Exports.{text_of, IsOrigin, heading, counts_row, count_row, arc_row, landmark_row, closing_row, closed_arcs, network_rows, landmark_rows, closing_rows, Says, Writes}
+use Rattle.printing.specs.Chosen.{closed_arcs}
+use Rattle.printing.specs.Exports.{text_of, IsOrigin, heading, counts_row, count_row, arc_row, landmark_row, closing_row, network_rows, landmark_rows, closing_rows, Says, Writes}
 use Rattle.printing.proofs.PrintedRows.{IsField, IsLine, rows_back, word_is_field}
 use Rattle.printing.proofs.PrintedNumerals.{number_is_field}
 use Rattle.printing.proofs.PrintedNetwork.{network_back}

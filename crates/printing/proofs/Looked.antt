@@ -5,12 +5,12 @@ use Rattle.std.specs.Io.KnownBytes.{Appends}
 use Rattle.std.specs.List.{flat_map, enumerate_from}
 use Rattle.std.proofs.KnownBytes.{Appends-trans}
 use Rattle.std.proofs.lemmas.Grind.{flat_map-append}
-use Rattle.std.proofs.lemmas.List.{take_more, length-take, map-append}
+use Rattle.std.proofs.lemmas.List.{take_more, length-append, length-take, map-append}
 use Rattle.std.proofs.lemmas.List.Elements.{filter-append}
 use Rattle.roadnet.specs.declared.arcs.RoadArc.{RoadArc}
 use Rattle.dimacs.specs.Faults.{Row}
 use Rattle.printing.specs.Exports.{line_of, text_of}
-use Rattle.printing.specs.Looks.{arcs_where}
+use Rattle.printing.specs.Chosen.{arcs_where}
 
 enumerate_push : (n : ℕ) (arcs : List RoadArc) (arc : RoadArc) → enumerate_from n (arcs ++ arc ∷ []) ≡ enumerate_from n arcs ++ (n + length arcs, arc) ∷ []
 enumerate_push n [] arc = let same : n ≡ n + 0 = omega arith in ap {B = List (ℕ × RoadArc)} (λ k. (k, arc) ∷ []) same
@@ -49,6 +49,25 @@ where_more test f arcs i d lt =
 pub written_more : (test : RoadArc → Bool) (f : ℕ → List ℕ) (arcs : List RoadArc) (i : ℕ) (d : RoadArc) (old mid new : Option (List ℕ)) → i < length arcs
     → Appends old mid (flat_map f (arcs_where test (take i arcs))) → Appends mid new (cond (test (get_or arcs i d)) (f (i + 1)) []) → Appends old new (flat_map f (arcs_where test (take (i + 1) arcs)))
 written_more test f arcs i d old mid new lt before here = subst (Appends old new) (sym (where_more test f arcs i d lt)) (Appends-trans old mid new _ _ before here)
+
+-- how many they are, one arc more
+one_more : (test : RoadArc → Bool) (arcs : List RoadArc) (i : ℕ) (d : RoadArc) → i < length arcs
+    → arcs_where test (take (i + 1) arcs) ≡ arcs_where test (take i arcs) ++ cond (test (get_or arcs i d)) ((1 + length (take i arcs)) ∷ []) []
+one_more test arcs i d lt = ap (arcs_where test) (take_more arcs i d lt) ∙ where_push test (take i arcs) (get_or arcs i d)
+
+pub counted_yes : (test : RoadArc → Bool) (arcs : List RoadArc) (i : ℕ) (d : RoadArc) (count : ℕ) → i < length arcs → test (get_or arcs i d) ≡ true → count ≡ length (arcs_where test (take i arcs))
+    → count + 1 ≡ length (arcs_where test (take (i + 1) arcs))
+counted_yes test arcs i d count lt passes is =
+    let more = one_more test arcs i d lt in
+    let longer : arcs_where test (take (i + 1) arcs) ≡ arcs_where test (take i arcs) ++ (1 + length (take i arcs)) ∷ [] = rw passes at more in
+    omega (arith, is, ap length longer, length-append (arcs_where test (take i arcs)) ((1 + length (take i arcs)) ∷ []))
+
+pub counted_no : (test : RoadArc → Bool) (arcs : List RoadArc) (i : ℕ) (d : RoadArc) (count : ℕ) → i < length arcs → test (get_or arcs i d) ≡ false → count ≡ length (arcs_where test (take i arcs))
+    → count ≡ length (arcs_where test (take (i + 1) arcs))
+counted_no test arcs i d count lt fails is =
+    let more = one_more test arcs i d lt in
+    let same : arcs_where test (take (i + 1) arcs) ≡ arcs_where test (take i arcs) ++ [] = rw fails at more in
+    is ∙ ap length (sym (append-nil (arcs_where test (take i arcs)))) ∙ sym (ap length same)
 
 -- ---- the same of lines
 of_rows : {X : Type 0} (row : X → Row) (xs : List X) → text_of (map row xs) ≡ flat_map (λ x. line_of (row x)) xs

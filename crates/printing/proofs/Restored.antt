@@ -8,7 +8,7 @@ use Rattle.roadnet.specs.declared.commands.Command.{Command}
 use Rattle.roadnet.specs.declared.commands.Command.TheVariants.{Close}
 use Rattle.roadnet.specs.Net.{Net, nth, update_nth}
 use Rattle.roadnet.specs.Step.{after, step}
-use Rattle.printing.specs.Exports.{opened, closings, closed_arcs, ClosingRestores}
+use Rattle.printing.specs.Exports.{opened, closings, ClosingRestores}
 
 -- the arc behind these
 arc_behind : (front : List RoadArc) (arc : RoadArc) (back : List RoadArc) → slice_get (front ++ arc ∷ back) (length front) ≡ Some arc

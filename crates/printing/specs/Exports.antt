@@ -1,5 +1,5 @@
 -- The texts in which a network is written out, as the fields of their lines.
-use Rattle.std.specs.Prelude.{◌≡◌, ◌<◌, ◌^◌, ℕ, true, not, List, [], ◌∷◌, ◌++◌, Option, Some, decimal, map, length, Ok}
+use Rattle.std.specs.Prelude.{◌≡◌, ◌<◌, ◌^◌, ℕ, true, List, [], ◌∷◌, ◌++◌, Option, Some, decimal, map, length, Ok}
 use Rattle.std.specs.Io.KnownBytes.{Appends}
 use Rattle.std.specs.List.{flat_map}
 use lib.Chars.{codes}
@@ -17,7 +17,7 @@ use Rattle.dimacs.specs.Texts.{content_by}
 use Rattle.printing.specs.declared.exports.Exported.{Exported}
 use Rattle.printing.specs.declared.exports.Exported.TheVariants.{Network, Landmarks, Closings}
 use Rattle.printing.specs.declared.exports.Origin.{Origin}
-use Rattle.printing.specs.Looks.{arcs_where}
+use Rattle.printing.specs.Chosen.{closed_arcs}
 
 -- a line: its fields with one blank between each two, and a line feed
 abbrev pub line_of : Row → List ℕ
@@ -55,10 +55,6 @@ landmark_row x = codes "s" ∷ decimal x ∷ []
 
 abbrev pub closing_row : ℕ → Row
 closing_row k = codes "close" ∷ decimal k ∷ []
-
--- the numbers of the closed arcs, ascending
-abbrev pub closed_arcs : List RoadArc → List ℕ
-closed_arcs arcs = arcs_where (λ arc. not arc.opened) arcs
 
 -- ---- the texts
 

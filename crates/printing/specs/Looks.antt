@@ -1,6 +1,6 @@
--- What an operator is told of the arcs of a network.
-use Rattle.std.specs.Prelude.{ℕ, ◌==◌, Bool, ◌&&◌, List, ◌++◌, decimal, map, filter, if◌then◌else◌}
-use Rattle.std.specs.List.{flat_map, enumerate_from}
+-- What an operator is told of a network.
+use Rattle.std.specs.Prelude.{ℕ, Bool, List, ◌++◌, length, decimal, map, if◌then◌else◌}
+use Rattle.std.specs.List.{flat_map}
 use Rattle.std.specs.Option.{option_map_or}
 use lib.Chars.{codes}
 use Rattle.roadnet.specs.declared.arcs.RoadArc.{RoadArc}
@@ -9,16 +9,11 @@ use Rattle.roadnet.specs.Net.{Net, arc_at}
 use Rattle.roadnet.specs.Numbers.{number_of}
 use Rattle.rows.specs.Replies.{are_nodes}
 use Rattle.printing.specs.declared.looks.Look.{Look}
-use Rattle.printing.specs.declared.looks.Look.TheVariants.{Arc, Between}
+use Rattle.printing.specs.declared.looks.Look.TheVariants.{Arc, Between, Landmarks, Closed}
+use Rattle.printing.specs.Chosen.{arcs_where, closed_arcs, leads}
+use Rattle.printing.specs.Exports.{closing_row, landmark_row, text_of}
 use Rattle.printing.specs.Printed.{version_line, refusal_line}
-
--- the numbers of the arcs that pass a test, ascending
-abbrev pub arcs_where : (RoadArc → Bool) → List RoadArc → List ℕ
-arcs_where test arcs = map (λ p. p.0) (filter (λ p. test p.1) (enumerate_from 1 arcs))
-
--- the arc leads from the one node to the other
-abbrev pub leads : ℕ → ℕ → RoadArc → Bool
-leads tail head arc = (arc.tail == tail) && (arc.head == head)
+use Rattle.printing.specs.Replied.{number_line}
 
 -- the numbers of all arcs from the one node to the other, closed ones too
 abbrev pub arcs_between : Net → ℕ → ℕ → List ℕ
@@ -47,10 +42,20 @@ arc_answer net k = option_map_or (arc_line k) (arc_at net k) (refusal_line (numb
 abbrev pub arcs_answer : Net → ℕ → ℕ → List ℕ
 arcs_answer net tail head = if are_nodes net tail head then arcs_line tail head (arcs_between net tail head) else refusal_line (number_of NoSuchNode)
 
--- the answer line to what is asked
+-- how many landmarks there are, and a line for each
+abbrev pub landmarks_answer : Net → List ℕ
+landmarks_answer net = number_line (codes "landmarks ") (length net.landmarks) ++ text_of (map landmark_row net.landmarks)
+
+-- how many arcs are closed, and a line that would close it for each
+abbrev pub closed_answer : Net → List ℕ
+closed_answer net = number_line (codes "closed ") (length (closed_arcs net.arcs)) ++ text_of (map closing_row (closed_arcs net.arcs))
+
+-- the answer to what is asked
 abbrev pub look_answer : Net → Look → List ℕ
 look_answer net (Arc number) = arc_answer net number
 look_answer net (Between tail head) = arcs_answer net tail head
+look_answer net Landmarks = landmarks_answer net
+look_answer net Closed = closed_answer net
 
 -- the same with the version before it
 abbrev pub look_lines : Net → ℕ → Look → List ℕ

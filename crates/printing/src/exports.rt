@@ -3,7 +3,8 @@ ghost use Rattle.std.specs.Prelude.{◌≡◌, ◌<◌, ◌^◌, [], not, map, O
 ghost use Rattle.std.specs.Io.KnownBytes.{Appends};
 ghost use Rattle.roadnet.specs.Net.{IsNetwork};
 ghost use Rattle.printing.specs.Counting.{failed_writes, writer_of, IsSameWriter, CountsFailure};
-ghost use Rattle.printing.specs.Exports.{line_of, text_of, heading, counts_row, count_row, arc_row, landmark_row, closing_row, closed_arcs, network_rows, landmark_rows, closing_rows, exported_rows, IsOrigin, Says, Writes, ClosingRestores};
+ghost use Rattle.printing.specs.Chosen.{closed_arcs};
+ghost use Rattle.printing.specs.Exports.{line_of, text_of, heading, counts_row, count_row, arc_row, landmark_row, closing_row, network_rows, landmark_rows, closing_rows, exported_rows, IsOrigin, Says, Writes, ClosingRestores};
 
 use crate::failed::Failed;
 use crate::looks::put_part;
@@ -100,7 +101,7 @@ fn put_arc_rows<W: Write>(out: &mut CountedWriter<'_, W>, arcs: &[RoadArc]) -> R
 }
 
 /// `s X` for each landmark.
-fn put_landmark_rows<W: Write>(
+pub(crate) fn put_landmark_rows<W: Write>(
     out: &mut CountedWriter<'_, W>,
     landmarks: &[u32],
 ) -> Result<(), Failed>
@@ -133,7 +134,7 @@ fn put_closing<W: Write>(
 }
 
 /// A line for each closed arc.
-fn put_closing_rows<W: Write>(
+pub(crate) fn put_closing_rows<W: Write>(
     out: &mut CountedWriter<'_, W>,
     arcs: &[RoadArc],
 ) -> Result<(), Failed>

@@ -1,24 +1,29 @@
-//! What an operator is told of a network's arcs, as bytes.
-ghost use Rattle.std.specs.Prelude.{◌≡◌, ◌++◌, [], decimal, OnOk, IfErr, if◌then◌else◌};
+//! What an operator is told of a network, as bytes. No list is made: each number is written as the network is gone through.
+ghost use Rattle.std.specs.Prelude.{◌≡◌, ◌++◌, [], decimal, length, map, OnOk, IfErr, if◌then◌else◌};
 ghost use Rattle.std.specs.Io.KnownBytes.{Appends};
 ghost use lib.Chars.{codes};
+ghost use Rattle.printing.specs.Chosen.{arcs_where, closed_arcs, leads};
 ghost use Rattle.printing.specs.Counting.{failed_writes, writer_of, IsSameWriter, CountsFailure};
-ghost use Rattle.printing.specs.Looks.{leads, state_word, arc_line, arcs_line, listed_numbers, arcs_where, arc_answer, arcs_answer, look_answer, look_lines};
+ghost use Rattle.printing.specs.Looks.{state_word, arc_line, arcs_line, listed_numbers, arc_answer, arcs_answer, landmarks_answer, closed_answer, look_answer, look_lines};
 ghost use Rattle.rows.specs.Replies.{are_nodes};
 
+use crate::exports::{put_closing_rows, put_landmark_rows};
 use crate::failed::Failed;
-use crate::printed::{put_number, put_refusal, put_version};
+use crate::printed::{put_number, put_numbered, put_refusal, put_version};
 use crate::writer::CountedWriter;
 use roadnet::{Network, Refusal, RoadArc};
 use std::io::Write;
 
-/// What is asked of a network's arcs. Any numbers may stand in it.
+/// What is asked of a network. Any numbers may stand in it.
 #[derive(Clone, Copy, Debug, PartialEq, Eq)]
 pub enum Look {
     /// The arc of this number.
     Arc { number: u64 },
     /// The numbers of all arcs from `tail` to `head`, closed ones too.
     Between { tail: u64, head: u64 },
+    Landmarks,
+    /// The closed arcs.
+    Closed,
 }
 
 /// A word, and a number behind it.
@@ -157,9 +162,50 @@ fn has_nodes(network: &Network, tail: u64, head: u64) -> bool
     network.has_node(tail) && network.has_node(head)
 }
 
-/// The answer line to a look at a network's arcs: `a K T H W open` or `a K T H W closed`, of the arc K from node T to node H of length W,
+/// `landmarks C`, and `s X` for each
+fn put_landmarks_answer<W: Write>(
+    out: &mut CountedWriter<'_, W>,
+    network: &Network,
+) -> Result<(), Failed>
+    ensures ok { OnOk result (Appends (W.contents (writer_of out.old)) (W.contents (writer_of out.new)) (landmarks_answer network.now)) }
+    ensures refused { IfErr result (λ failed. failed ≡ Failed.Code Refusal.Write) }
+    ensures counts { CountsFailure (failed_writes out.old) (failed_writes out.new) result }
+    ensures same { IsSameWriter out.old out.new }
+{
+    put_numbered(out, b"landmarks ", network.landmarks().len() as u64)?;
+    put_landmark_rows(out, network.landmarks())
+}
+
+/// How many arcs are closed.
+fn count_closed(arcs: &[RoadArc]) -> u64
+    ensures { result ≡ length (closed_arcs arcs.now) }
+{
+    let mut count = 0;
+    for arc in arcs {
+        if !arc.opened {
+            count += 1;
+        }
+    }
+    count
+}
+
+/// `closed C`, and `close K` for each
+fn put_closed_answer<W: Write>(
+    out: &mut CountedWriter<'_, W>,
+    network: &Network,
+) -> Result<(), Failed>
+    ensures ok { OnOk result (Appends (W.contents (writer_of out.old)) (W.contents (writer_of out.new)) (closed_answer network.now)) }
+    ensures refused { IfErr result (λ failed. failed ≡ Failed.Code Refusal.Write) }
+    ensures counts { CountsFailure (failed_writes out.old) (failed_writes out.new) result }
+    ensures same { IsSameWriter out.old out.new }
+{
+    put_numbered(out, b"closed ", count_closed(network.arcs()))?;
+    put_closing_rows(out, network.arcs())
+}
+
+/// The answer to a look at a network: `a K T H W open` or `a K T H W closed`, of the arc K from node T to node H of length W,
 /// or `no 20` where there is none; `arcs T H K1 K2 ..`, the numbers of all arcs from T to H ascending, or `no 24` where one of the two is
-/// no node. It takes no memory.
+/// no node; `landmarks C` and C lines `s X`, its landmarks ascending; `closed C` and C lines `close K`, its closed arcs ascending. It takes no memory.
 ///
 /// Of `examples/six.gr`, the arc 7 is `a 7 5 2 0 open`, and those from node 4 to node 6 are `arcs 4 6 6`; from 6 to 1 there is none:
 /// `arcs 6 1`.
@@ -176,6 +222,8 @@ pub fn put_look_answer<W: Write>(
     match look {
         Look::Arc { number } => put_arc_answer(out, network, number),
         Look::Between { tail, head } => put_arcs_answer(out, network, tail, head),
+        Look::Landmarks => put_landmarks_answer(out, network),
+        Look::Closed => put_closed_answer(out, network),
     }
 }
 

@@ -1,16 +1,16 @@
 -- What the program says of failures.
-use Rattle.std.specs.Prelude.{◌≡◌, ◌⊎◌, ◌+◌, ℕ, Bool, true, false, List, Some, slice_get, ◌==◌, if◌then◌else◌, Result, MatchResult, ⊤}
+use Rattle.std.specs.Prelude.{◌≡◌, ◌⊎◌, ◌+◌, ℕ, Bool, true, false, List, Option, None, Some, slice_get, option_map, unwrap_or, ◌==◌, if◌then◌else◌, Result, MatchResult, ⊤}
 use lib.Chars.{codes}
 use Rattle.roadnet.specs.declared.refusals.Refusal.{Refusal}
-use Rattle.roadnet.specs.declared.refusals.Refusal.TheVariants.{Device, NotEmpty, OutOfMemory, Write}
+use Rattle.roadnet.specs.declared.refusals.Refusal.TheVariants.{Damaged, Device, NotAStore, NotEmpty, OutOfMemory, WrongFormat, Write}
 use Rattle.store.specs.Opening.{MayRefuseToOpen, StandsForSome}
 use Rattle.dimacs.specs.declared.fault.Code.TheVariants.{Read}
 use Rattle.printing.specs.declared.failed.Failed.{Failed}
 use Rattle.printing.specs.declared.failed.Failed.TheVariants.{Text, Code}
-use Rattle.program.specs.declared.pipes.PipePair.{PipePair}
-use Rattle.program.specs.Pipes.{named, AreTold}
-use Rattle.program.specs.declared.words.Job.{Job}
-use Rattle.program.specs.declared.words.Job.TheVariants.{Joint, Once, Batch, Rehearse, Create, Apply, Ask, Check, Serve, Migrate, Show, Export}
+use Rattle.words.specs.declared.pipes.PipePair.{PipePair}
+use Rattle.words.specs.Pipes.{named, AreTold}
+use Rattle.words.specs.declared.words.Job.{Job}
+use Rattle.words.specs.declared.words.Job.TheVariants.{Joint, Once, Batch, Rehearse, Create, Apply, Ask, Check, Serve, Migrate, Copy, Upgrade, Show, Export}
 
 -- the failure is one of the call's first text
 abbrev pub is_of_first : Failed → Bool
@@ -22,10 +22,19 @@ abbrev pub is_of_second : Failed → Bool
 is_of_second (Text which fault) = which == 1
 is_of_second (Code refusal) = false
 
+-- the failure is one of the call's third name: the file of a store that is made
+abbrev pub is_of_third : Failed → Bool
+is_of_third (Text which fault) = which == 2
+is_of_third (Code refusal) = false
+
 -- the name of the pipe of which a failure is, 3 and on, or that of the store
 abbrev pub pipe_name : List ℕ → List PipePair → Failed → List ℕ
 pipe_name store pairs (Text which fault) = named store pairs which
 pipe_name store pairs (Code refusal) = store
+
+-- the name of the folder of copies, if there is one
+abbrev pub folder_name : List ℕ → Option (List ℕ) → List ℕ
+folder_name store copies = unwrap_or copies store
 
 -- by what name a fault line calls the text of a failure
 abbrev pub text_name : Job → Failed → List ℕ
@@ -38,10 +47,43 @@ text_name (Create store network landmarks journal_pages room) failed =
 text_name (Apply store commands delta) failed = if is_of_first failed then commands.now else store.now
 text_name (Ask store pairs delta) failed = if is_of_first failed then pairs.now else store.now
 text_name (Check store) failed = store.now
-text_name (Serve store pipes delta workers) failed = pipe_name store.now pipes.items failed
+text_name (Serve store pipes copies delta workers) failed =
+    if is_of_second failed then folder_name store.now (option_map (λ folder. folder.now) copies) else pipe_name store.now pipes.items failed
 text_name (Migrate old new room) failed = if is_of_first failed then old.now else new.now
+text_name (Upgrade store old network new room) failed =
+    if is_of_first failed then old.now else if is_of_second failed then network.now else if is_of_third failed then new.now else store.now
+text_name (Copy store file room journal_pages) failed = if is_of_first failed then store.now else file.now
 text_name (Show store look) failed = store.now
 text_name (Export store folder) failed = if is_of_second failed then folder.now else store.now
+
+-- the store that a job opens, if it opens one
+abbrev pub opened_store : Job → Option (List ℕ)
+opened_store (Apply store commands delta) = Some store.now
+opened_store (Ask store pairs delta) = Some store.now
+opened_store (Check store) = Some store.now
+opened_store (Serve store pipes copies delta workers) = Some store.now
+opened_store (Migrate old new room) = Some old.now
+opened_store (Upgrade store old network new room) = Some store.now
+opened_store (Copy store file room journal_pages) = Some store.now
+opened_store (Show store look) = Some store.now
+opened_store (Export store folder) = Some store.now
+opened_store job = None
+
+-- the store that a job makes, if it makes one
+abbrev pub made_store : Job → Option (List ℕ)
+made_store (Create store network landmarks journal_pages room) = Some store.now
+made_store (Migrate old new room) = Some new.now
+made_store (Upgrade store old network new room) = Some new.now
+made_store (Copy store file room journal_pages) = Some file.now
+made_store job = None
+
+-- the file of which a refusal is that names none
+abbrev pub refused_file : Job → Refusal → Option (List ℕ)
+refused_file job NotAStore = opened_store job
+refused_file job WrongFormat = opened_store job
+refused_file job (Damaged page) = opened_store job
+refused_file job NotEmpty = made_store job
+refused_file job refusal = None
 
 -- what is told of a file that can't be opened
 abbrev pub unopened : ℕ → Failed

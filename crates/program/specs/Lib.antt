@@ -1,3 +1,2 @@
+pub mod Copied
 pub mod Failures
-pub mod Pipes
-pub mod Words

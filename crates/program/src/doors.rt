@@ -1,11 +1,12 @@
 //! The doors of a server: pairs of named pipes, by each of which clients come one after the other.
 ghost use Rattle.std.specs.Prelude.{◌≡◌, ◌≤◌, ℕ, Bool, List, length, vec_len, IfOk, IfErr, OnOk, ⊤};
 ghost use Rattle.program.specs.Failures.{IsOfNoPipe};
-ghost use Rattle.program.specs.Pipes.{names_of, AreTold};
+ghost use Rattle.words.specs.Pipes.{names_of, AreTold};
 
 use crate::files::{FIRST_PIPE, unopened};
-use crate::pipes::{PipePair, pipe_at};
+use crate::standings::Guests;
 use printing::Failed;
+use progress::ToldName;
 use roadnet::Refusal;
 use sessions::Door;
 use std::alloc::{AllocError, Global};
@@ -14,8 +15,9 @@ use std::io::{self, BufReader, BufWriter, ErrorKind, Write};
 use std::os::unix::fs::FileTypeExt;
 use std::rt::Files;
 use std::sync::{Arc, Mutex, Wait};
+use std::thread;
 use std::time::{Clock, Duration};
-use std::{fmt, thread};
+use words::{PipePair, pipe_at};
 
 /// The bytes of a client that are read or written at once.
 const BUFFER: usize = 1 << 13;
@@ -28,6 +30,8 @@ const REST: u64 = 100;
 pub struct Doors<C> {
     pub doors: Vec<C>,
     pub are_open: Arc<Mutex<bool>>,
+    /// Those who come in.
+    pub guests: Guests,
 }
 
 /// The pipe into which a client's answers go. It knows whether the client has closed its end.
@@ -53,27 +57,9 @@ impl Write for AnswerPipe {
     }
 }
 
-/// The name of a pipe in a line that tells of it: what is no printable text in it is told escaped, as in a fault line.
-#[derive(Clone, Copy)]
-struct ToldPipe<'a> {
-    name: &'a str,
-}
-
-impl fmt::Display for ToldPipe<'_> {
-    fn fmt<W: fmt::Write>(&self, f: &mut fmt::Formatter<W>) -> fmt::Result {
-        for letter in self.name.chars() {
-            match letter {
-                '\\' | '\'' | '"' => write!(f, "{letter}")?,
-                _ => write!(f, "{}", letter.escape_debug())?,
-            }
-        }
-        Ok(())
-    }
-}
-
 /// Tells on standard error why a session by a pipe ended, or why no more come by it: `roadmark: NAME: CODE Name`.
 fn tell<R: Eprint>(rt: &R, name: &str, refusal: Refusal) {
-    let name = ToldPipe { name };
+    let name = ToldName { name };
     let _ = eprintln!(rt; "roadmark: {name}: {refusal}");
 }
 
@@ -85,6 +71,7 @@ pub struct PipeDoor<T> {
     input: String,
     output: String,
     are_open: Arc<Mutex<bool>>,
+    guests: Guests,
 }
 
 /// A client that has come.
@@ -183,7 +170,10 @@ impl<T: Files<File = File> + Eprint + Clock + Wait> Door<BufReader<File>, BufWri
         }
         for _ in 0..u64::MAX {
             match self.open() {
-                Ok(client) => return Some(client),
+                Ok(client) => {
+                    self.guests.one_came(&self.rt);
+                    return Some(client);
+                }
                 Err(unopened) => {
                     if !self.goes_on(unopened) {
                         return None;
@@ -205,6 +195,7 @@ impl<T: Files<File = File> + Eprint + Clock + Wait> Door<BufReader<File>, BufWri
         let has_reader = writer.get_ref().has_reader;
         drop(reader);
         drop(writer);
+        self.guests.one_went(&self.rt);
         match outcome {
             Err(Failed::Code(Refusal::Write)) if has_reader => {
                 tell(&self.rt, self.output.as_str(), Refusal::Write);
@@ -276,6 +267,7 @@ fn door_of<T: Copy + Drop>(
     alloc: Global,
     pair: &PipePair<'_>,
     are_open: &Arc<Mutex<bool>>,
+    guests: &Guests,
 ) -> Result<PipeDoor<T>, AllocError> {
     Ok(PipeDoor {
         rt,
@@ -283,21 +275,28 @@ fn door_of<T: Copy + Drop>(
         input: String::from_str(alloc, pair.input)?,
         output: String::from_str(alloc, pair.output)?,
         are_open: Arc::try_clone(are_open)?,
+        guests: guests.again()?,
     })
 }
 
-/// The doors of these pairs, which are closed yet.
+/// The doors of these pairs, which are closed yet. Where it is told who comes in, it is told how the whole server stands.
 pub fn doors_of<T: Copy + Drop>(
     rt: T,
     alloc: Global,
     pipes: SeenPipes<'_, '_>,
+    are_told: bool,
 ) -> Result<Doors<PipeDoor<T>>, AllocError>
     ensures { IfOk result (λ doors. vec_len doors.doors ≡ length pipes.entry.pairs.now) }
 {
     let are_open = Arc::new(alloc, Mutex::new(false))?;
+    let guests = Guests::new(alloc, are_told)?;
     let mut doors = Vec::new(alloc);
     for pair in pipes.pairs {
-        doors.push(door_of(rt, alloc, pair, &are_open)?)?;
+        doors.push(door_of(rt, alloc, pair, &are_open, &guests)?)?;
     }
-    Ok(Doors { doors, are_open })
+    Ok(Doors {
+        doors,
+        are_open,
+        guests,
+    })
 }

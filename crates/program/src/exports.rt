@@ -4,14 +4,17 @@ ghost use Rattle.program.specs.Failures.{unopened, IsTextUnmade};
 
 use crate::files::{buffered_writer, unopened};
 use disk::Disk;
+use filedisk::why_unopened;
 use printing::{CountedWriter, Exported, Failed};
+use progress::{Progress, TellingWriter};
 use roadnet::Refusal;
 use std::alloc::Global;
 use std::fs::{self, File, OpenOptions};
-use std::io::ErrorKind;
+use std::io::{self, ErrorKind};
 use std::os::unix::fs::OpenOptionsExt;
 use std::path::PathBuf;
 use std::rt::Files;
+use std::time::Clock;
 use store::Store;
 use storetexts::export_counted;
 
@@ -32,17 +35,33 @@ fn name_of(text: Exported) -> &'static str {
 
 /// A folder that is there, opened to be synced. What is no folder is not opened at all: opening a pipe to read it waits for a writer. It is
 /// refused as fault 10 of line 0.
-pub fn open_folder<R: Files<File = File>>(rt: &R, folder: &str) -> Result<File, Failed>
+pub fn open_folder<R: Clock + Eprint + Files<File = File>>(
+    rt: &R,
+    progress: &Progress<'_, R>,
+    folder: &str,
+) -> Result<File, Failed>
     ensures { IfErr result (λ failed. failed ≡ unopened 1) }
 {
     match fs::metadata(rt, folder) {
         Ok(metadata) if metadata.is_dir() => {}
-        _ => return Err(unopened(FOLDER)),
+        Ok(_) => {
+            progress.tell(folder, &"it is no folder");
+            return Err(unopened(FOLDER));
+        }
+        Err(error) => return Err(unopened_folder(progress, folder, &error)),
     }
     match fs::open(rt, folder) {
         Ok(place) => Ok(place),
-        Err(_) => Err(unopened(FOLDER)),
+        Err(error) => Err(unopened_folder(progress, folder, &error)),
     }
+}
+
+/// What is told of a folder, or of a new file in it, that the system doesn't open; and it is told why.
+fn unopened_folder<R: Eprint>(progress: &Progress<'_, R>, name: &str, error: &io::Error) -> Failed
+    ensures { result ≡ unopened 1 }
+{
+    progress.tell(name, &why_unopened(error));
+    unopened(FOLDER)
 }
 
 /// The file of a text, which was made for it.
@@ -55,8 +74,9 @@ struct TextFile {
 impl TextFile {
     /// Makes the file of a text, which is empty. Refused is one that is there already (46), a folder that takes none (fault 10 of line 0),
     /// and want of memory for its name (11).
-    fn make<R: AllocGlobal + Files<File = File>>(
+    fn make<R: AllocGlobal + Eprint + Files<File = File>>(
         rt: &R,
+        progress: &Progress<'_, R>,
         folder: &str,
         text: Exported,
     ) -> Result<TextFile, Failed>
@@ -73,20 +93,23 @@ impl TextFile {
         match options.open(rt, path.as_path()) {
             Ok(file) => Ok(TextFile { path, file }),
             Err(error) if error.kind() == ErrorKind::AlreadyExists => {
+                progress.tell(path.as_str(), &"it is there already");
                 Err(Failed::Code(Refusal::NotEmpty))
             }
-            Err(_) => Err(unopened(FOLDER)),
+            Err(error) => Err(unopened_folder(progress, path.as_str(), &error)),
         }
     }
 
     /// Writes the text into the file.
-    fn write<D: Disk>(
+    fn write<R: Clock + Eprint, D: Disk>(
         &self,
         alloc: Global,
+        progress: &Progress<'_, R>,
         store: &Store<D>,
         text: Exported,
     ) -> Result<(), Failed> {
-        let mut writer = buffered_writer(alloc, &self.file)?;
+        let file = TellingWriter::new(progress, self.path.as_str(), &self.file);
+        let mut writer = buffered_writer(alloc, file)?;
         let mut writer = CountedWriter::new(&mut writer);
         match export_counted(store, text, &mut writer) {
             Ok(()) => Ok(()),
@@ -95,8 +118,14 @@ impl TextFile {
     }
 
     /// Writes the text into the file, which is synced. What fails is told as 43: 12 tells that all is done, and only its line is not told.
-    fn fill<D: Disk>(&self, alloc: Global, store: &Store<D>, text: Exported) -> Result<(), Failed> {
-        self.write(alloc, store, text)?;
+    fn fill<R: Clock + Eprint, D: Disk>(
+        &self,
+        alloc: Global,
+        progress: &Progress<'_, R>,
+        store: &Store<D>,
+        text: Exported,
+    ) -> Result<(), Failed> {
+        self.write(alloc, progress, store, text)?;
         match self.file.sync_all() {
             Ok(()) => Ok(()),
             Err(_) => Err(Failed::Code(Refusal::Device)),
@@ -119,21 +148,22 @@ pub struct TextFiles {
 
 impl TextFiles {
     /// Makes all three, or none.
-    pub fn make<R: AllocGlobal + Files<File = File>>(
+    pub fn make<R: AllocGlobal + Eprint + Files<File = File>>(
         rt: &R,
+        progress: &Progress<'_, R>,
         folder: &str,
     ) -> Result<TextFiles, Failed>
         ensures { IfErr result IsTextUnmade }
     {
-        let network = TextFile::make(rt, folder, Exported::Network)?;
-        let landmarks = match TextFile::make(rt, folder, Exported::Landmarks) {
+        let network = TextFile::make(rt, progress, folder, Exported::Network)?;
+        let landmarks = match TextFile::make(rt, progress, folder, Exported::Landmarks) {
             Ok(landmarks) => landmarks,
             Err(failed) => {
                 network.remove(rt);
                 return Err(failed);
             }
         };
-        let closings = match TextFile::make(rt, folder, Exported::Closings) {
+        let closings = match TextFile::make(rt, progress, folder, Exported::Closings) {
             Ok(closings) => closings,
             Err(failed) => {
                 landmarks.remove(rt);
@@ -149,15 +179,19 @@ impl TextFiles {
     }
 
     /// Writes the texts of a store's network into them. Each is synced, and then their folder.
-    pub fn fill<D: Disk>(
+    pub fn fill<R: Clock + Eprint, D: Disk>(
         &self,
         alloc: Global,
+        progress: &Progress<'_, R>,
         store: &Store<D>,
         folder: &File,
     ) -> Result<(), Failed> {
-        self.network.fill(alloc, store, Exported::Network)?;
-        self.landmarks.fill(alloc, store, Exported::Landmarks)?;
-        self.closings.fill(alloc, store, Exported::Closings)?;
+        self.network
+            .fill(alloc, progress, store, Exported::Network)?;
+        self.landmarks
+            .fill(alloc, progress, store, Exported::Landmarks)?;
+        self.closings
+            .fill(alloc, progress, store, Exported::Closings)?;
         match folder.sync_all() {
             Ok(()) => Ok(()),
             Err(_) => Err(Failed::Code(Refusal::Device)),

@@ -4,22 +4,28 @@ ghost use Rattle.std.specs.Io.Buffered.{reader_inner, reader_buffer, writer_inne
 ghost use Rattle.program.specs.Failures.{unopened, IsUnopened, IsFaultOrUnopened, IsFileUnmade};
 
 use crate::patient::Patient;
-use crate::words::is_input;
 use dimacs::{Code, Fault, read_gr};
-use filedisk::{FileDisk, NewFile, OpenError, SystemFile, create_file, open_file, open_to_read};
+use filedisk::{
+    FileDisk, MadeFile, OpenError, SystemFile, create_file, open_file, open_to_read, why_unopened,
+};
 use printing::Failed;
+use progress::{Progress, TellingDisk, TellingReader, TellingWriter};
 use roadnet::Refusal;
 use std::alloc::Global;
-use std::fs::{self, File};
+use std::fs::{self, File, OpenFile};
 use std::io::{self, BufReader, BufWriter, Printer, Read, Write};
 use std::rt::Files;
 use std::time::Clock;
+use words::is_input;
 
 /// The bytes that are read or written at once.
 const BUFFER: usize = 1 << 16;
 
 /// By what number a failure names the store's file; the texts are 0 and 1.
 const STORE: u8 = 2;
+
+/// By what number a failure names the file of the store of which another is made by texts.
+const BASE: u8 = 3;
 
 /// By what number a failure names the first pipe of a session; those behind it are 4 and on.
 pub const FIRST_PIPE: u8 = 3;
@@ -66,6 +72,23 @@ pub fn standard_output<R: AllocGlobal + Clock + Print>(
     buffered_writer(rt.alloc(), Patient::new(rt, io::writer(rt)))
 }
 
+/// By what name it is told of the standard output.
+const OUTPUT: &str = "standard output";
+
+/// The standard output, which is waited for, and of which it is told how many lines were written.
+pub type ToldOutput<'a, R> = BufWriter<TellingWriter<'a, R, Patient<'a, R, Printer<'a, R>>>>;
+
+/// The standard output for many lines.
+pub fn told_output<'a, R: AllocGlobal + Clock + Eprint + Print>(
+    rt: &'a R,
+    progress: &'a Progress<'a, R>,
+) -> Result<ToldOutput<'a, R>, Failed>
+    ensures { IfErr result (λ failed. failed ≡ Failed.Code Refusal.OutOfMemory) }
+{
+    let output = Patient::new(rt, io::writer(rt));
+    buffered_writer(rt.alloc(), TellingWriter::new(progress, OUTPUT, output))
+}
+
 /// What is told of a file that can't be opened: fault 10 of line 0.
 pub fn unopened(which: u8) -> Failed
     ensures { result ≡ unopened which }
@@ -95,36 +118,65 @@ impl<R: Clock, F: Read, S: Read> Read for Source<'_, R, F, S> {
     }
 }
 
-/// A reader of a text's file, or of the standard input.
-pub type TextReader<'a, R> = BufReader<Source<'a, R, <R as Files>::File, <R as Input>::Reader>>;
+/// A text's file, or the standard input, of which it is told how far it was read.
+type TextSource<'a, R> = TellingReader<
+    'a,
+    R,
+    Source<'a, R, <R as Files>::File, <R as Input>::Reader>,
+>;
 
-/// The file of a call's text `which`, or the standard input where `-` is written in its place. A file that can't be opened is fault 10 of line 0.
-pub fn open_text<'a, R: AllocGlobal + Clock + Files + Input>(
+/// A reader of a text's file, or of the standard input.
+pub type TextReader<'a, R> = BufReader<TextSource<'a, R>>;
+
+/// How long a file is, where it is one.
+fn length_of<F: OpenFile>(file: &F) -> Option<u64> {
+    match file.metadata() {
+        Ok(metadata) if metadata.is_file() => Some(metadata.len()),
+        _ => None,
+    }
+}
+
+/// The file of a call's text `which`, or the standard input where `-` is written in its place. A file that can't be opened is fault 10 of line 0, and it is
+/// told why.
+pub fn open_text<'a, R: AllocGlobal + Clock + Eprint + Files + Input>(
     rt: &'a R,
+    progress: &'a Progress<'a, R>,
     which: u8,
-    name: &str,
+    name: &'a str,
 ) -> Result<TextReader<'a, R>, Failed>
     ensures { IfErr result (IsUnopened which) }
 {
     if is_input(name) {
-        return buffered(rt.alloc(), Source::Input(Patient::new(rt, rt.reader())));
+        let input = Source::Input(Patient::new(rt, rt.reader()));
+        return buffered(rt.alloc(), TellingReader::new(progress, name, None, input));
     }
     match fs::open(rt, name) {
-        Ok(file) => buffered(rt.alloc(), Source::File(file)),
-        Err(_) => Err(unopened(which)),
+        Ok(file) => {
+            let length = length_of(&file);
+            let source = Source::File(file);
+            buffered(
+                rt.alloc(),
+                TellingReader::new(progress, name, length, source),
+            )
+        }
+        Err(error) => {
+            progress.tell(name, &why_unopened(&error));
+            Err(unopened(which))
+        }
     }
 }
 
 /// The files of a network and of the text that follows it. Where the second can't be opened, a fault of the network is still told first.
-pub fn open_texts<'a, R: AllocGlobal + Clock + Files + Input>(
+pub fn open_texts<'a, R: AllocGlobal + Clock + Eprint + Files + Input>(
     rt: &'a R,
-    network: &str,
-    second: &str,
+    progress: &'a Progress<'a, R>,
+    network: &'a str,
+    second: &'a str,
 ) -> Result<(TextReader<'a, R>, TextReader<'a, R>), Failed>
     ensures { IfErr result IsFaultOrUnopened }
 {
-    let mut gr = open_text(rt, 0, network)?;
-    match open_text(rt, 1, second) {
+    let mut gr = open_text(rt, progress, 0, network)?;
+    match open_text(rt, progress, 1, second) {
         Ok(second) => Ok((gr, second)),
         Err(failed) => match read_gr(rt.alloc(), &mut gr) {
             Ok(_) => Err(failed),
@@ -133,55 +185,117 @@ pub fn open_texts<'a, R: AllocGlobal + Clock + Files + Input>(
     }
 }
 
+/// A store's file, of which it is told how far it was read and written.
+pub type StoreDisk<'a, R> = TellingDisk<'a, R, FileDisk<SystemFile>>;
+
+/// The file of a store that was opened, or fault 10 of line 0 of text `which`, and it is told why.
+fn opened<'a, R: Clock + Eprint>(
+    progress: &'a Progress<'a, R>,
+    which: u8,
+    name: &'a str,
+    disk: Result<FileDisk<SystemFile>, OpenError>,
+) -> Result<StoreDisk<'a, R>, Failed>
+    ensures { IfErr result (λ failed. failed ≡ unopened which) }
+{
+    match disk {
+        Ok(disk) => Ok(TellingDisk::new(progress, name, disk)),
+        Err(error) => {
+            progress.tell(name, &error);
+            Err(unopened(which))
+        }
+    }
+}
+
 /// The file of a store that is changed. One that can't be opened to be read and written, is no file, or is in use is fault 10 of line 0.
-pub fn open_store<R: Files<File = File>>(rt: &R, name: &str) -> Result<FileDisk<SystemFile>, Failed>
+pub fn open_store<'a, R: Clock + Eprint + Files<File = File>>(
+    rt: &R,
+    progress: &'a Progress<'a, R>,
+    name: &'a str,
+) -> Result<StoreDisk<'a, R>, Failed>
+    ensures { IfErr result (λ failed. failed ≡ unopened 2) }
+{
+    opened(progress, STORE, name, open_file(rt, name))
+}
+
+/// The file of a store that is served, as `open_store` opens it. Of its disk nothing is told.
+pub fn open_served_store<R: Clock + Eprint + Files<File = File>>(
+    rt: &R,
+    progress: &Progress<'_, R>,
+    name: &str,
+) -> Result<FileDisk<SystemFile>, Failed>
     ensures { IfErr result (λ failed. failed ≡ unopened 2) }
 {
     match open_file(rt, name) {
         Ok(disk) => Ok(disk),
-        Err(_) => Err(unopened(STORE)),
+        Err(error) => {
+            progress.tell(name, &error);
+            Err(unopened(STORE))
+        }
     }
 }
 
 /// The file of a store that is read. One that can't be opened to be read, is no file, or is being changed is fault 10 of line 0.
-pub fn open_store_to_read<R: Files<File = File>>(
+pub fn open_store_to_read<'a, R: Clock + Eprint + Files<File = File>>(
     rt: &R,
-    name: &str,
-) -> Result<FileDisk<SystemFile>, Failed>
+    progress: &'a Progress<'a, R>,
+    name: &'a str,
+) -> Result<StoreDisk<'a, R>, Failed>
     ensures { IfErr result (λ failed. failed ≡ unopened 2) }
 {
-    match open_to_read(rt, name) {
-        Ok(disk) => Ok(disk),
-        Err(_) => Err(unopened(STORE)),
-    }
+    opened(progress, STORE, name, open_to_read(rt, name))
 }
 
 /// The file of the store of which another is made, as `open_store_to_read` opens it. A failure names it as the first.
-pub fn open_old_store<R: Files<File = File>>(
+pub fn open_old_store<'a, R: Clock + Eprint + Files<File = File>>(
     rt: &R,
-    name: &str,
-) -> Result<FileDisk<SystemFile>, Failed>
+    progress: &'a Progress<'a, R>,
+    name: &'a str,
+) -> Result<StoreDisk<'a, R>, Failed>
     ensures { IfErr result (λ failed. failed ≡ unopened 0) }
 {
-    match open_to_read(rt, name) {
-        Ok(disk) => Ok(disk),
-        Err(_) => Err(unopened(0)),
+    opened(progress, 0, name, open_to_read(rt, name))
+}
+
+/// The file of the store of which another is made by texts, as `open_store_to_read` opens it. A failure names it as the one behind the new store's.
+pub fn open_base_store<'a, R: Clock + Eprint + Files<File = File>>(
+    rt: &R,
+    progress: &'a Progress<'a, R>,
+    name: &'a str,
+) -> Result<StoreDisk<'a, R>, Failed>
+    ensures { IfErr result (λ failed. failed ≡ unopened 3) }
+{
+    opened(progress, BASE, name, open_to_read(rt, name))
+}
+
+/// What is told of a new store's file that is not there.
+fn unmade(error: OpenError) -> Failed
+    ensures { IsFileUnmade result }
+{
+    match error {
+        OpenError::NameNotSynced => Failed::Code(Refusal::Device),
+        OpenError::OutOfMemory => Failed::Code(Refusal::OutOfMemory),
+        _ => unopened(STORE),
     }
 }
+
+/// The file for a new store, and the file that was made for it, if there was none.
+pub type NewDisk<'a, R> = (StoreDisk<'a, R>, Option<MadeFile>);
 
 /// The file for a new store, which is made where there is none. It is refused as by `open_store`, with 43 where its name is not made
 /// durable, and with 11 where there is no memory for the name; after a refusal no file is there that was not there before, but where its
 /// lock is refused: then an empty file may stay, which `create` takes again.
-pub fn create_store_file<R: AllocGlobal + Files<File = File>>(
+pub fn create_store_file<'a, R: AllocGlobal + Clock + Eprint + Files<File = File>>(
     rt: &R,
-    name: &str,
-) -> Result<NewFile, Failed>
+    progress: &'a Progress<'a, R>,
+    name: &'a str,
+) -> Result<NewDisk<'a, R>, Failed>
     ensures { IfErr result IsFileUnmade }
 {
     match create_file(rt, name) {
-        Ok(file) => Ok(file),
-        Err(OpenError::NameNotSynced) => Err(Failed::Code(Refusal::Device)),
-        Err(OpenError::OutOfMemory) => Err(Failed::Code(Refusal::OutOfMemory)),
-        Err(OpenError::NotOpened | OpenError::NoFile | OpenError::InUse) => Err(unopened(STORE)),
+        Ok(file) => Ok((TellingDisk::new(progress, name, file.disk), file.made)),
+        Err(error) => {
+            progress.tell(name, &error);
+            Err(unmade(error))
+        }
     }
 }

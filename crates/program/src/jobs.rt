@@ -2,12 +2,13 @@
 ghost use Rattle.std.specs.Prelude.{◌≡◌, IfOk};
 ghost use Rattle.std.specs.Option.{ForSome};
 ghost use Rattle.rows.specs.Kept.{IsWidth};
-ghost use Rattle.program.specs.Words.{IsJournal};
+ghost use Rattle.words.specs.Words.{IsJournal};
 ghost use Rattle.printing.specs.Widths.{told_width};
 
-use crate::files::{open_text, open_texts, standard_input, standard_output};
+use crate::files::{open_text, open_texts, standard_input, standard_output, told_output};
 use dimacs::Counted;
 use printing::{CountedWriter, Done, Failed};
+use progress::Progress;
 use querytexts::{batch_counted, once_counted};
 use rehearsals::{joint_text, rehearse_counted};
 use std::rt::Files;
@@ -28,8 +29,9 @@ pub fn run_joint<R: AllocGlobal + Clock + Input + Print + Threads>(
 }
 
 /// One distance in the network of a file.
-pub fn run_once<R: AllocGlobal + Clock + Files + Input + Print + Threads>(
+pub fn run_once<R: AllocGlobal + Clock + Eprint + Files + Input + Print + Threads>(
     rt: &R,
+    progress: &Progress<'_, R>,
     network: &str,
     source: u64,
     target: u64,
@@ -38,7 +40,7 @@ pub fn run_once<R: AllocGlobal + Clock + Files + Input + Print + Threads>(
     requires { ForSome delta IsWidth }
     ensures { IfOk result (λ done. told_width done ≡ delta) }
 {
-    let mut reader = open_text(rt, 0, network)?;
+    let mut reader = open_text(rt, progress, 0, network)?;
     let mut writer = standard_output(rt)?;
     let mut reader = Counted::new(&mut reader);
     let mut writer = CountedWriter::new(&mut writer);
@@ -54,8 +56,9 @@ pub fn run_once<R: AllocGlobal + Clock + Files + Input + Print + Threads>(
 }
 
 /// The pairs of a file in the network of another.
-pub fn run_batch<R: AllocGlobal + Clock + Files + Input + Print + Threads>(
+pub fn run_batch<R: AllocGlobal + Clock + Eprint + Files + Input + Print + Threads>(
     rt: &R,
+    progress: &Progress<'_, R>,
     network: &str,
     pairs: &str,
     delta: Option<u32>,
@@ -63,8 +66,8 @@ pub fn run_batch<R: AllocGlobal + Clock + Files + Input + Print + Threads>(
     requires { ForSome delta IsWidth }
     ensures { IfOk result (λ done. told_width done ≡ delta) }
 {
-    let (mut gr, mut p2p) = open_texts(rt, network, pairs)?;
-    let mut writer = standard_output(rt)?;
+    let (mut gr, mut p2p) = open_texts(rt, progress, network, pairs)?;
+    let mut writer = told_output(rt, progress)?;
     let mut gr = Counted::new(&mut gr);
     let mut p2p = Counted::new(&mut p2p);
     let mut writer = CountedWriter::new(&mut writer);
@@ -72,8 +75,9 @@ pub fn run_batch<R: AllocGlobal + Clock + Files + Input + Print + Threads>(
 }
 
 /// The script of a file, on a store in memory for the network of another, with room for so many arcs.
-pub fn run_rehearse<R: AllocGlobal + Clock + Files + Input + Print + Threads>(
+pub fn run_rehearse<R: AllocGlobal + Clock + Eprint + Files + Input + Print + Threads>(
     rt: &R,
+    progress: &Progress<'_, R>,
     network: &str,
     script: &str,
     journal_pages: u32,
@@ -84,8 +88,8 @@ pub fn run_rehearse<R: AllocGlobal + Clock + Files + Input + Print + Threads>(
     requires width { ForSome delta IsWidth }
     ensures width { IfOk result (λ done. told_width done ≡ delta) }
 {
-    let (mut gr, mut script) = open_texts(rt, network, script)?;
-    let mut writer = standard_output(rt)?;
+    let (mut gr, mut script) = open_texts(rt, progress, network, script)?;
+    let mut writer = told_output(rt, progress)?;
     let mut gr = Counted::new(&mut gr);
     let mut script = Counted::new(&mut script);
     let mut writer = CountedWriter::new(&mut writer);

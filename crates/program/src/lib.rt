@@ -6,34 +6,33 @@
 //! closed, the next file that is opened takes its number, and what is printed would be written into that file.
 #![tactic(auto)]
 
-ghost use Rattle.std.specs.Prelude.{◌≡◌, ◌≢◌, ◌≤◌, Some, is_ok, if◌then◌else◌, IfOk};
+ghost use Rattle.std.specs.Prelude.{◌≡◌, ◌≢◌, ◌≤◌, Some, is_ok, option_map, if◌then◌else◌, IfOk};
 ghost use Rattle.std.specs.Option.{ForSome};
 ghost use Rattle.std.specs.IoError.{error_kind};
 ghost use Rattle.rows.specs.Kept.{IsWidth};
-ghost use Rattle.program.specs.Failures.{text_name, pipe_name};
-ghost use Rattle.program.specs.Pipes.{AreFit};
-ghost use Rattle.program.specs.Words.{IsJournal, IsWorkers, delta_of, journal_of, pipes_of, workers_of, searched_width};
+ghost use Rattle.program.specs.Failures.{text_name, folder_name, pipe_name, opened_store, made_store, refused_file};
+ghost use Rattle.words.specs.Pipes.{AreFit};
+ghost use Rattle.words.specs.Words.{IsJournal, IsWorkers, delta_of, journal_of, pipes_of, workers_of, searched_width};
 ghost use Rattle.printing.specs.Widths.{told_width, told_workers};
 
-mod commands;
+mod copies;
 mod doors;
 mod exports;
 mod files;
 mod jobs;
 mod patient;
-mod pipes;
 mod serve_jobs;
+mod standings;
 mod store_jobs;
 mod streams;
-mod words;
 
+pub use copies::copy_store;
 pub use doors::{FileNames, doors_of, see_pipes};
 pub use filedisk::FileDisk;
 use files::FIRST_PIPE;
 use jobs::{run_batch, run_joint, run_once, run_rehearse};
-use pipes::pipe_at;
-pub use pipes::{Misfit, PipePair};
 pub use printing::{Done, Failed, Look, fault_line, status};
+use progress::Progress;
 pub use querytexts::{batch_text, once_text};
 pub use rehearsals::{joint_text, rehearse_text};
 use roadnet::Refusal;
@@ -41,6 +40,7 @@ pub use scripts::parse_script;
 use serve_jobs::run_serve;
 pub use serve_jobs::{Teller, serve_disk};
 pub use sessions::serve;
+pub use standings::{Standing, Visits};
 use std::env;
 use std::fs::File;
 use std::io::{self, ErrorKind};
@@ -48,12 +48,16 @@ use std::rt::{Env, Files};
 use std::sync::Wait;
 use std::thread::Threads;
 use std::time::Clock;
-use store_jobs::{run_apply, run_ask, run_check, run_create, run_export, run_migrate, run_show};
+use store_jobs::{
+    run_apply, run_ask, run_check, run_copy, run_create, run_export, run_migrate, run_show,
+    run_upgrade,
+};
 pub use storetexts::{
-    apply_text, ask_text, check_text, create_text, export_text, migrate_text, show_text,
+    apply_text, ask_text, check_text, copy_text, create_text, export_text, migrate_text, show_text,
 };
 use streams::{Streams, hold_streams};
-pub use words::{Job, MISUSE, Usage, read_words};
+use words::pipe_at;
+pub use words::{Asked, Job, MISUSE, Misfit, PipePair, Usage, read_words};
 
 /// The pairs of pipes by which clients of a server may come; of another job none.
 fn pipes_of<'a, 'w>(job: &'a Job<'w>) -> &'a [PipePair<'w>]
@@ -67,9 +71,18 @@ fn pipes_of<'a, 'w>(job: &'a Job<'w>) -> &'a [PipePair<'w>]
 
 /// Does a job, with searches of the job's width. `threads` is the runtime of a desk's threads.
 fn run<
-    R: AllocGlobal + Clock + Files<File = File> + Input + Print + Threads,
-    T: Threads + Wait + Clock + Eprint + Files<File = File> + Copy + Send + Sync + 'static,
->(rt: &R, threads: T, job: &Job<'_>) -> Result<Done, Failed>
+    R: AllocGlobal + Clock + Eprint + Files<File = File> + Input + Print + Threads,
+    T: AllocGlobal
+        + Threads
+        + Wait
+        + Clock
+        + Eprint
+        + Files<File = File>
+        + Copy
+        + Send
+        + Sync
+        + 'static,
+>(rt: &R, threads: T, progress: &Progress<'_, R>, job: &Job<'_>) -> Result<Done, Failed>
 where
     T::Dir: Send + 'static,
     requires width { ForSome (delta_of job.now) IsWidth }
@@ -87,46 +100,60 @@ where
             source,
             target,
             delta,
-        } => run_once(rt, network, source, target, delta),
+        } => run_once(rt, progress, network, source, target, delta),
         Job::Batch {
             network,
             pairs,
             delta,
-        } => run_batch(rt, network, pairs, delta),
+        } => run_batch(rt, progress, network, pairs, delta),
         Job::Rehearse {
             network,
             script,
             journal_pages,
             room,
             delta,
-        } => run_rehearse(rt, network, script, journal_pages, room, delta),
+        } => run_rehearse(rt, progress, network, script, journal_pages, room, delta),
         Job::Create {
             store,
             network,
             landmarks,
             journal_pages,
             room,
-        } => run_create(rt, store, network, landmarks, journal_pages, room),
+        } => run_create(rt, progress, store, network, landmarks, journal_pages, room),
         Job::Apply {
             store,
             commands,
             delta: _,
-        } => run_apply(rt, store, commands),
+        } => run_apply(rt, progress, store, commands),
         Job::Ask {
             store,
             pairs,
             delta,
-        } => run_ask(rt, store, pairs, delta),
-        Job::Check { store } => run_check(rt, store),
+        } => run_ask(rt, progress, store, pairs, delta),
+        Job::Check { store } => run_check(rt, progress, store),
         Job::Serve {
             store,
+            copies,
             delta,
             workers,
             ..
-        } => run_serve(rt, threads, store, pipes, delta, workers),
-        Job::Migrate { old, new, room } => run_migrate(rt, old, new, room),
-        Job::Show { store, look } => run_show(rt, store, look),
-        Job::Export { store, folder } => run_export(rt, store, folder),
+        } => run_serve(rt, threads, progress, store, pipes, copies, delta, workers),
+        Job::Migrate { old, new, room } => run_migrate(rt, progress, old, new, room),
+        Job::Upgrade {
+            store,
+            old,
+            network,
+            new,
+            room,
+        } => run_upgrade(rt, progress, store, old, network, new, room),
+        Job::Copy {
+            store,
+            file,
+            room,
+            journal_pages,
+        } => run_copy(rt, progress, store, file, room, journal_pages),
+        Job::Show { store, look } => run_show(rt, progress, store, look),
+        Job::Export { store, folder } => run_export(rt, progress, store, folder),
     }
 }
 
@@ -142,12 +169,23 @@ fn pipe_name<'w>(store: &'w str, pipes: &[PipePair<'w>], failed: &Failed) -> &'w
     }
 }
 
+/// By what name a fault line of `serve` calls its folder of copies.
+fn folder_name<'w>(store: &'w str, copies: Option<&'w str>) -> &'w str
+    ensures { result.now ≡ folder_name store.now (option_map (λ folder. folder.now) copies) }
+{
+    match copies {
+        Some(folder) => folder,
+        None => store,
+    }
+}
+
 /// By what name a fault line calls the text of a failure.
 fn text_name<'w>(job: &Job<'w>, failed: &Failed) -> &'w str
     ensures { result.now ≡ text_name job.now failed.now }
 {
     let is_first = matches!(failed, Failed::Text { which: 0, fault: _ });
     let is_second = matches!(failed, Failed::Text { which: 1, fault: _ });
+    let is_third = matches!(failed, Failed::Text { which: 2, fault: _ });
     match *job {
         Job::Joint { delta: _ } => { if is_first { "net" } else { "script" } }
         Job::Once { network, .. } => network,
@@ -180,12 +218,94 @@ fn text_name<'w>(job: &Job<'w>, failed: &Failed) -> &'w str
         Job::Check { store } => store,
         Job::Serve {
             store,
+            copies,
             ref pipes,
             ..
-        } => pipe_name(store, pipes.as_slice(), failed),
+        } => {
+            if is_second {
+                folder_name(store, copies)
+            } else {
+                pipe_name(store, pipes.as_slice(), failed)
+            }
+        }
         Job::Migrate { old, new, .. } => { if is_first { old } else { new } }
+        Job::Upgrade {
+            store,
+            old,
+            network,
+            new,
+            ..
+        } => {
+            if is_first {
+                old
+            } else if is_second {
+                network
+            } else if is_third {
+                new
+            } else {
+                store
+            }
+        }
+        Job::Copy { store, file, .. } => { if is_first { store } else { file } }
         Job::Show { store, .. } => store,
         Job::Export { store, folder } => { if is_second { folder } else { store } }
+    }
+}
+
+/// The store that a job opens, if it opens one.
+fn opened_store<'w>(job: &Job<'w>) -> Option<&'w str>
+    ensures { option_map (λ name. name.now) result ≡ opened_store job.now }
+{
+    match *job {
+        Job::Apply { store, .. }
+        | Job::Ask { store, .. }
+        | Job::Check { store }
+        | Job::Serve { store, .. }
+        | Job::Migrate { old: store, .. }
+        | Job::Upgrade { store, .. }
+        | Job::Copy { store, .. }
+        | Job::Show { store, .. }
+        | Job::Export { store, .. } => Some(store),
+        Job::Joint { .. }
+        | Job::Once { .. }
+        | Job::Batch { .. }
+        | Job::Rehearse { .. }
+        | Job::Create { .. } => None,
+    }
+}
+
+/// The store that a job makes, if it makes one.
+fn made_store<'w>(job: &Job<'w>) -> Option<&'w str>
+    ensures { option_map (λ name. name.now) result ≡ made_store job.now }
+{
+    match *job {
+        Job::Create { store, .. }
+        | Job::Migrate { new: store, .. }
+        | Job::Upgrade { new: store, .. }
+        | Job::Copy { file: store, .. } => Some(store),
+        _ => None,
+    }
+}
+
+/// The file of which a refusal is that names none: the store that was opened (40 to 42), or what was to be made (46).
+fn refused_file<'w>(job: &Job<'w>, refusal: Refusal) -> Option<&'w str>
+    ensures { option_map (λ name. name.now) result ≡ refused_file job.now refusal }
+{
+    match refusal {
+        Refusal::NotAStore | Refusal::WrongFormat | Refusal::Damaged { page: _ } => {
+            opened_store(job)
+        }
+        Refusal::NotEmpty => made_store(job),
+        _ => None,
+    }
+}
+
+/// Tells of which file a refusal is whose fault line names none.
+fn tell_file<R: Eprint>(progress: &Progress<'_, R>, job: &Job<'_>, failed: &Failed) {
+    if let Failed::Code(refusal) = *failed
+        && let Some(name) = refused_file(job, refusal)
+    {
+        progress.tell(name, &refusal);
     }
 }
 
@@ -240,7 +360,16 @@ fn without_words<R: Eprint>(rt: &R, error: &io::Error) -> u8
 /// Does what the program's words ask for, and gives the exit status. The standard streams are lent for it, so they are held until it is done.
 fn do_words<
     R: AllocGlobal + Clock + Env + Eprint + Files<File = File> + Input + Print + Threads,
-    T: Threads + Wait + Clock + Eprint + Files<File = File> + Copy + Send + Sync + 'static,
+    T: AllocGlobal
+        + Threads
+        + Wait
+        + Clock
+        + Eprint
+        + Files<File = File>
+        + Copy
+        + Send
+        + Sync
+        + 'static,
 >(rt: &R, threads: T, _held: &Streams) -> u8
 where
     T::Dir: Send + 'static,
@@ -253,14 +382,18 @@ where
     let Ok(words) = words.collect::<Vec<String>>(rt.alloc()) else {
         return ended::<R, ()>(rt, &Err(Failed::Code(Refusal::OutOfMemory)), "");
     };
-    let job = match read_words(rt.alloc(), &words) {
-        Ok(job) => job,
+    let Asked { job, verbose } = match read_words(rt.alloc(), &words) {
+        Ok(asked) => asked,
         Err(usage) => return show(rt, &usage),
     };
-    let outcome = run(rt, threads, &job);
+    let progress = Progress::new(rt, verbose);
+    let outcome = run(rt, threads, &progress, &job);
     let name = match &outcome {
         Ok(_) => "",
-        Err(failed) => text_name(&job, failed),
+        Err(failed) => {
+            tell_file(&progress, &job, failed);
+            text_name(&job, failed)
+        }
     };
     ended(rt, &outcome, name)
 }
@@ -269,7 +402,16 @@ where
 /// where the words are not ones that it takes. `threads` is the runtime of a desk's threads.
 pub fn run_program<
     R: AllocGlobal + Clock + Env + Eprint + Files<File = File> + Input + Print + Threads,
-    T: Threads + Wait + Clock + Eprint + Files<File = File> + Copy + Send + Sync + 'static,
+    T: AllocGlobal
+        + Threads
+        + Wait
+        + Clock
+        + Eprint
+        + Files<File = File>
+        + Copy
+        + Send
+        + Sync
+        + 'static,
 >(rt: &R, threads: T) -> u8
 where
     T::Dir: Send + 'static,

@@ -1,5 +1,6 @@
 //! The sessions of the program: one on standard input and output, and one with each client that comes by a door.
 ghost use Rattle.std.specs.Prelude.{◌≡◌, ◌⊎◌, ◌↔◌, true, Some, IfOk, IfErr, IfSome};
+ghost use Rattle.std.specs.Arc.{arc_value};
 ghost use Rattle.std.specs.Option.{ForSome};
 ghost use Rattle.roadnet.specs.declared.refusals.Refusal.TheVariants.{Closed as closed};
 ghost use Rattle.rows.specs.Kept.{IsWidth};
@@ -15,19 +16,22 @@ ghost use Rattle.storetexts.specs.Asked.{IsUnopened};
 ghost use Rattle.sessions.specs.declared.reading.LastLine.TheVariants.{Taken};
 ghost use Rattle.sessions.specs.Told.{CountsRead};
 ghost use Rattle.sessions.specs.Turns.{Serves, IsKept};
-ghost use Rattle.program.specs.Pipes.{AreFit};
-ghost use Rattle.program.specs.Words.{IsWorkers};
+ghost use Rattle.program.specs.Copied.{copies_in};
+ghost use Rattle.words.specs.Pipes.{AreFit};
+ghost use Rattle.words.specs.Words.{IsWorkers};
 
+use crate::copies::{FileCopies, see_folder};
 use crate::doors::{Doors, FileNames, doors_of, see_pipes};
-use crate::files::{open_store, standard_input, standard_output};
-use crate::pipes::PipePair;
+use crate::files::{FIRST_PIPE, open_served_store, standard_input, standard_output};
+use crate::standings::start_telling;
 use desk::{Closed, Desk, Gate, Handle, History, Naming, Setup};
 use dimacs::Counted;
 use disk::Disk;
 use filedisk::FileLock;
 use printing::{CountedWriter, Done, Failed};
+use progress::Progress;
 use roadnet::Refusal;
-use sessions::{Door, LastLine, Terms, Visits, serve, serve_door};
+use sessions::{Copies, Door, LastLine, Terms, Visits, serve, serve_door};
 use std::alloc::Global;
 use std::fs::File;
 use std::io::{BufRead, Write};
@@ -37,6 +41,7 @@ use std::sync::{Arc, Wait};
 use std::thread::Threads;
 use std::time::Clock;
 use store::{Store, open};
+use words::{PipePair, pipe_at};
 
 /// The gate of a session's desk. It holds nothing up, and tells on standard error of a builder that ended.
 #[derive(Drop)]
@@ -81,27 +86,35 @@ pub struct Ended<D: Disk> {
 /// For how many milliseconds a server that ends lets sessions at doors send the answers that they are within.
 const LAST_ANSWERS: u64 = 1000;
 
-/// Starts a thread for each door, and opens them once all have one. Refused is want of memory (11) and of threads (63); the doors stay closed then.
+/// Starts a thread for each door, whose sessions have these copies made, and opens them once all have one; where the clients are counted, one more tells from then
+/// on how the server stands. Refused is want of memory (11) and of threads (63); the doors stay closed then.
 fn start_doors<
     N: Naming + Send + Sync + 'static,
     D: Disk + Drop + Send + 'static,
     G: Gate + Drop + Send + Sync + 'static,
-    T: Threads + Wait + Copy + Send + Sync + 'static,
+    T: Threads + Wait + Clock + Eprint + Copy + Send + Sync + 'static,
     A: BufRead + Send + 'static,
     B: Write + Send + 'static,
-    C: Door<A, B> + Drop + Send + 'static,
+    P: Door<A, B> + Drop + Send + 'static,
+    C: Copies + Drop + Send + Sync + 'static,
 >(
     threads: T,
     alloc: Global,
     desk: &Handle<N, D, G, T>,
-    doors: Doors<C>,
-) -> Result<Arc<Visits<N>>, Refusal>
+    doors: Doors<P>,
+    copies: C,
+) -> Result<Arc<Visits<N, C>>, Refusal>
+    ensures copies { IfOk result (λ visits. (arc_value visits).copies ≡ copies) }
     ensures causes { IfErr result IsUnstarted }
 {
-    let Ok(visits) = Arc::new(alloc, Visits::new()) else {
+    let Ok(visits) = Arc::new(alloc, Visits::new(copies)) else {
         return Err(Refusal::OutOfMemory);
     };
-    let Doors { doors, are_open } = doors;
+    let Doors {
+        doors,
+        are_open,
+        guests,
+    } = doors;
     let mut are_open = are_open.lock(&threads);
     for door in doors {
         let (Ok(desk), Ok(visits)) = (desk.again(), Arc::try_clone(&visits)) else {
@@ -110,6 +123,7 @@ fn start_doors<
         serve_door(threads, alloc, desk, door, visits)?;
     }
     *are_open = true;
+    start_telling(threads, desk, guests);
     Ok(visits)
 }
 
@@ -123,10 +137,11 @@ fn serve_store<
     N: Naming + Send + Sync + 'static,
     D: Disk + Drop + Send + 'static,
     G: Gate + Drop + Send + Sync + 'static,
-    T: Threads + Wait + Clock + Copy + Send + Sync + 'static,
+    T: Threads + Wait + Clock + Eprint + Copy + Send + Sync + 'static,
     A: BufRead + Send + 'static,
     B: Write + Send + 'static,
-    C: Door<A, B> + Drop + Send + 'static,
+    P: Door<A, B> + Drop + Send + 'static,
+    C: Copies + Drop + Send + Sync + 'static,
     I: BufRead,
     W: Write,
 >(
@@ -137,7 +152,8 @@ fn serve_store<
     gate: G,
     setup: Setup,
     lock: Option<FileLock>,
-    doors: Doors<C>,
+    doors: Doors<P>,
+    copies: C,
     reader: &mut Counted<'_, I>,
     writer: &mut CountedWriter<'_, W>,
 ) -> Result<Ended<D>, Refusal>
@@ -148,7 +164,7 @@ fn serve_store<
     requires came_tidy { N.came_tidy ↔ CameTidy D.honest D.content store.given }
     // The lines were answered in their order. Whatever a stop leaves of the closed desk: each command that was told to be durable has its number in it,
     // and it begins with all commands after which a query was answered.
-    ensures answered { IfOk result (λ ended. IfSome (I.remaining (reader_of reader.old)) (λ text. Serves Taken N.origin text (I.remaining (reader_of reader.new)) (W.contents (writer_of writer.old)) (W.contents (writer_of writer.new)) (IsKept ended.closed.whole ended.closed.shown) ended.outcome)) }
+    ensures answered { IfOk result (λ ended. IfSome (I.remaining (reader_of reader.old)) (λ text. Serves (C.copying copies) Taken N.origin text (I.remaining (reader_of reader.new)) (W.contents (writer_of writer.old)) (W.contents (writer_of writer.new)) (IsKept ended.closed.whole ended.closed.shown) ended.outcome)) }
     // The desk's views were built by the setup.
     ensures width { IfOk result (λ ended. told_width ended.done ≡ setup.delta) }
     ensures workers { IfOk result (λ ended. told_workers ended.done ≡ Some setup.workers) }
@@ -162,10 +178,11 @@ fn serve_store<
     ensures causes { IfErr result (λ refusal. IsUnstarted refusal ⊎ (refusal ≡ closed)) }
 {
     let desk: Desk<N, D, G, T> = Desk::start(threads, alloc, history, store, gate, setup)?;
-    let visits = start_doors(threads, alloc, desk.handle(), doors)?;
+    let visits = start_doors(threads, alloc, desk.handle(), doors, copies)?;
     let terms = Terms {
         last_line: LastLine::Taken,
         answering: visits.answering(),
+        copies: visits.copies(),
     };
     let (outcome, session) = serve(&threads, alloc, desk.handle(), terms, reader, writer);
     let done = Done::by(&desk);
@@ -187,16 +204,25 @@ fn serve_store<
 }
 
 /// A session over the store of a disk, and those with clients that come by doors: what it came to, and what is left of its desk, which is closed after it however it
-/// ended.
+/// ended. Copies for which lines ask are made in this folder, where there is one, with as many journal pages as the store has.
 ///
 /// Refused is a store that can't be opened (11, 40 to 43), then what no desk is started for.
 pub fn serve_disk<
     D: Disk + Drop + Send + 'static,
     G: Gate + Drop + Send + Sync + 'static,
-    T: Threads + Wait + Clock + Copy + Send + Sync + 'static,
+    T: AllocGlobal
+        + Threads
+        + Wait
+        + Clock
+        + Eprint
+        + Files<File = File>
+        + Copy
+        + Send
+        + Sync
+        + 'static,
     A: BufRead + Send + 'static,
     B: Write + Send + 'static,
-    C: Door<A, B> + Drop + Send + 'static,
+    P: Door<A, B> + Drop + Send + 'static,
     I: BufRead,
     W: Write,
 >(
@@ -206,10 +232,13 @@ pub fn serve_disk<
     gate: G,
     setup: Setup,
     lock: Option<FileLock>,
-    doors: Doors<C>,
+    doors: Doors<P>,
+    folder: Option<String>,
     reader: &mut Counted<'_, I>,
     writer: &mut CountedWriter<'_, W>,
 ) -> Result<Ended<D>, Refusal>
+where
+    T::Dir: Send + 'static,
     requires width { ForSome setup.delta IsWidth }
     requires workers { IsWorkers setup.workers }
     // The desk's views were built by the setup.
@@ -219,7 +248,7 @@ pub fn serve_disk<
     ensures writes { IfOk result (λ ended. CountsWrites (failed_writes writer.old) (failed_writes writer.new) ended.outcome) }
     // The lines were answered in their order, and what they were told is kept: each command that was told to be durable has its number in whatever a stop
     // leaves of the closed desk, which begins with all commands after which a query was answered.
-    ensures answered { IfOk result (λ ended. IfSome (I.remaining (reader_of reader.old)) (λ text. Serves Taken ended.closed.whole.origin text (I.remaining (reader_of reader.new)) (W.contents (writer_of writer.old)) (W.contents (writer_of writer.new)) (IsKept ended.closed.whole ended.closed.shown) ended.outcome)) }
+    ensures answered { IfOk result (λ ended. IfSome (I.remaining (reader_of reader.old)) (λ text. Serves (copies_in folder) Taken ended.closed.whole.origin text (I.remaining (reader_of reader.new)) (W.contents (writer_of writer.old)) (W.contents (writer_of writer.new)) (IsKept ended.closed.whole ended.closed.shown) ended.outcome)) }
     // The history is of the network and version that the disk's content stood for.
     ensures opened { D.honest disk → IfOk result (λ ended. StandsAt (D.content disk) ended.closed.whole.origin.base ended.closed.whole.origin.version) }
     // Where that content was tidy, the closed disk keeps the disk model, and what a stop may leave of it stands for the network after a beginning of the history, with all
@@ -233,22 +262,44 @@ pub fn serve_disk<
         Err((refusal, _)) => return Err(refusal),
     };
     let history = History::new(store.network(), store.version());
-    serve_store::<Brand, _, _, _, _, _, _, _, _>(
-        threads, alloc, history, store, gate, setup, lock, doors, reader, writer,
+    let copies = FileCopies::new(threads, folder, store.journal_pages());
+    serve_store::<Brand, _, _, _, _, _, _, _, _, _>(
+        threads, alloc, history, store, gate, setup, lock, doors, copies, reader, writer,
     )
+}
+
+/// Tells of a failure by which name it is none of a named pipe.
+fn tell_pipe<R: Eprint>(progress: &Progress<'_, R>, pipes: &[PipePair<'_>], failed: &Failed) {
+    if let Failed::Text { which, fault: _ } = failed
+        && *which >= FIRST_PIPE
+        && let Some(name) = pipe_at(pipes, usize::from(*which - FIRST_PIPE))
+    {
+        progress.tell(name, &"it is no named pipe");
+    }
 }
 
 /// A session over the store of a file, which nobody else has while it may be written, and one with each client that comes by a pair of pipes.
 ///
-/// A name that is none of a pipe is told (10 of line 0) before anything is served.
+/// A name that is none of a pipe is told (10 of line 0) before anything is served, and then one of a folder that is not there.
 pub fn run_serve<
-    R: AllocGlobal + Clock + Files<File = File> + Input + Print,
-    T: Threads + Wait + Clock + Eprint + Files<File = File> + Copy + Send + Sync + 'static,
+    R: AllocGlobal + Clock + Eprint + Files<File = File> + Input + Print,
+    T: AllocGlobal
+        + Threads
+        + Wait
+        + Clock
+        + Eprint
+        + Files<File = File>
+        + Copy
+        + Send
+        + Sync
+        + 'static,
 >(
     rt: &R,
     threads: T,
+    progress: &Progress<'_, R>,
     store: &str,
     pipes: &[PipePair<'_>],
+    copies: Option<&str>,
     delta: Option<u32>,
     workers: u32,
 ) -> Result<Done, Failed>
@@ -260,11 +311,19 @@ where
     ensures width { IfOk result (λ done. told_width done ≡ delta) }
     ensures workers { IfOk result (λ done. told_workers done ≡ Some workers) }
 {
-    let disk = open_store(rt, store)?;
-    let pipes = see_pipes(&FileNames { rt }, pipes)?;
-    let Ok(doors) = doors_of(threads, rt.alloc(), pipes) else {
+    let disk = open_served_store(rt, progress, store)?;
+    let pipes = match see_pipes(&FileNames { rt }, pipes) {
+        Ok(pipes) => pipes,
+        Err(failed) => {
+            tell_pipe(progress, pipes, &failed);
+            return Err(failed);
+        }
+    };
+    let folder = see_folder(rt, progress, copies)?;
+    let Ok(doors) = doors_of(threads, rt.alloc(), pipes, progress.is_asked()) else {
         return Err(Failed::Code(Refusal::OutOfMemory));
     };
+    progress.tell(store, &"opening");
     let lock = disk.lock().ok();
     let mut reader = standard_input(rt)?;
     let mut writer = standard_output(rt)?;
@@ -280,6 +339,7 @@ where
         setup,
         lock,
         doors,
+        folder,
         &mut reader,
         &mut writer,
     ) {

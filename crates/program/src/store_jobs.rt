@@ -4,19 +4,20 @@ ghost use Rattle.std.specs.Option.{ForSome};
 ghost use Rattle.rows.specs.Kept.{IsWidth};
 ghost use Rattle.std.specs.Bool.{Decides};
 ghost use Rattle.program.specs.Failures.{IsStoreMade, IsToldAfterOpening};
-ghost use Rattle.program.specs.Words.{IsJournal};
+ghost use Rattle.words.specs.Words.{IsJournal};
 ghost use Rattle.printing.specs.Widths.{told_width};
 
 use crate::exports::{TextFiles, open_folder};
 use crate::files::{
-    create_store_file, open_old_store, open_store, open_store_to_read, open_text, open_texts,
-    standard_output,
+    create_store_file, open_base_store, open_old_store, open_store, open_store_to_read, open_text,
+    open_texts, standard_output, told_output,
 };
 use dimacs::Counted;
 use disk::Disk;
-use filedisk::NewFile;
+use filedisk::{FileDisk, MadeFile, SystemFile};
 use machine::Replied;
 use printing::{CountedWriter, Done, Failed, Look, put_reply};
+use progress::Progress;
 use roadnet::Refusal;
 use std::alloc::Global;
 use std::fs::File;
@@ -26,8 +27,8 @@ use std::thread::Threads;
 use std::time::Clock;
 use store::{Store, open};
 use storetexts::{
-    apply_counted, ask_counted, check_counted, create_store, migrate_counted, read_planned,
-    show_counted,
+    apply_counted, ask_counted, check_counted, copy_counted, create_store, make_upgraded,
+    migrate_counted, read_maps, read_planned, show_counted, upgrade_stored,
 };
 
 /// Whether a store that was to be made is there: all was done, or only its line could not be told.
@@ -40,10 +41,29 @@ fn is_store_made(outcome: &Result<(), Failed>) -> bool
     }
 }
 
+/// What a job that makes a store ends with. A file that was made and holds no store in the end is removed, while it is still locked.
+fn after_making<R: Files>(
+    rt: &R,
+    made: Option<MadeFile>,
+    locked: &FileDisk<SystemFile>,
+    outcome: Result<(), Failed>,
+) -> Result<Done, Failed>
+    ensures { IfOk result (λ done. told_width done ≡ None) }
+{
+    if let Some(made) = made
+        && !is_store_made(&outcome)
+    {
+        let _ = made.remove(rt, locked);
+    }
+    outcome?;
+    Ok(Done::without_search())
+}
+
 /// A new store in a file, for the network of another with the landmarks of a third, with room for so many arcs. Both texts are read whole
 /// before the store's file is opened or made. A file that was made and holds no store in the end is removed, while it is still locked.
-pub fn run_create<R: AllocGlobal + Clock + Files<File = File> + Input + Print>(
+pub fn run_create<R: AllocGlobal + Clock + Eprint + Files<File = File> + Input + Print>(
     rt: &R,
+    progress: &Progress<'_, R>,
     store: &str,
     network: &str,
     landmarks: &str,
@@ -53,45 +73,104 @@ pub fn run_create<R: AllocGlobal + Clock + Files<File = File> + Input + Print>(
     requires { IsJournal journal_pages }
     ensures { IfOk result (λ done. told_width done ≡ None) }
 {
-    let (mut gr, mut ss) = open_texts(rt, network, landmarks)?;
+    let (mut gr, mut ss) = open_texts(rt, progress, network, landmarks)?;
     let mut gr = Counted::new(&mut gr);
     let mut ss = Counted::new(&mut ss);
     let network = read_planned(rt.alloc(), &mut gr, &mut ss, room)?;
     let mut writer = standard_output(rt)?;
     let mut writer = CountedWriter::new(&mut writer);
-    let NewFile { disk, made } = create_store_file(rt, store)?;
+    let (disk, made) = create_store_file(rt, progress, store)?;
     let (outcome, locked) = create_store(rt.alloc(), disk, &network, journal_pages, &mut writer);
-    if let Some(made) = made
-        && !is_store_made(&outcome)
-    {
-        let _ = made.remove(rt, &locked);
-    }
-    outcome?;
-    Ok(Done::without_search())
+    after_making(rt, made, locked.disk(), outcome)
 }
 
 /// A new store in a file, of the store of another, which is read alone and stays as it is, with room for so many arcs. A file that was made and
 /// holds no store in the end is removed, while it is still locked.
-pub fn run_migrate<R: AllocGlobal + Clock + Files<File = File> + Print>(
+pub fn run_migrate<R: AllocGlobal + Clock + Eprint + Files<File = File> + Print>(
     rt: &R,
+    progress: &Progress<'_, R>,
     old: &str,
     new: &str,
     room: Option<u64>,
 ) -> Result<Done, Failed>
     ensures { IfOk result (λ done. told_width done ≡ None) }
 {
-    let mut old = open_old_store(rt, old)?;
+    let mut old = open_old_store(rt, progress, old)?;
     let mut writer = standard_output(rt)?;
     let mut writer = CountedWriter::new(&mut writer);
-    let NewFile { disk, made } = create_store_file(rt, new)?;
+    let (disk, made) = create_store_file(rt, progress, new)?;
     let (outcome, locked) = migrate_counted(rt.alloc(), &mut old, disk, room, &mut writer);
-    if let Some(made) = made
-        && !is_store_made(&outcome)
-    {
-        let _ = made.remove(rt, &locked);
-    }
-    outcome?;
-    Ok(Done::without_search())
+    after_making(rt, made, locked.disk(), outcome)
+}
+
+/// A copy of the store of a file in another file, with so much room and so many journal pages, where they are given. The store is read alone and
+/// stays as it is. A file that was made and holds no store in the end is removed, while it is still locked.
+pub fn run_copy<R: AllocGlobal + Clock + Eprint + Files<File = File> + Print>(
+    rt: &R,
+    progress: &Progress<'_, R>,
+    store: &str,
+    file: &str,
+    room: Option<u64>,
+    journal_pages: Option<u32>,
+) -> Result<Done, Failed>
+    requires { ForSome journal_pages IsJournal }
+    ensures { IfOk result (λ done. told_width done ≡ None) }
+{
+    let mut old = open_old_store(rt, progress, store)?;
+    let mut writer = standard_output(rt)?;
+    let mut writer = CountedWriter::new(&mut writer);
+    let (disk, made) = create_store_file(rt, progress, file)?;
+    let (outcome, locked) = copy_counted(
+        rt.alloc(),
+        &mut old,
+        disk,
+        room,
+        journal_pages,
+        &mut writer,
+    );
+    after_making(rt, made, locked.disk(), outcome)
+}
+
+/// A new store in a file, of the store of another, which is read alone and stays as it is, brought from the map of which it was made to a new one, with room for so many arcs. Both
+/// texts are read whole before the store is opened, and the new store's file is opened or made last. A file that was made and holds no store in the end is removed, while it is
+/// still locked.
+pub fn run_upgrade<R: AllocGlobal + Clock + Eprint + Files<File = File> + Input + Print>(
+    rt: &R,
+    progress: &Progress<'_, R>,
+    store: &str,
+    old: &str,
+    network: &str,
+    new: &str,
+    room: Option<u64>,
+) -> Result<Done, Failed>
+    ensures { IfOk result (λ done. told_width done ≡ None) }
+{
+    let (mut before, mut after) = open_texts(rt, progress, old, network)?;
+    let mut before = Counted::new(&mut before);
+    let mut after = Counted::new(&mut after);
+    let (map, fresh) = read_maps(rt.alloc(), &mut before, &mut after, room)?;
+    let stored = open_base_store(rt, progress, store)?;
+    let (network, counts, journal_pages, _stored) = match upgrade_stored(
+        rt.alloc(),
+        stored,
+        &map,
+        fresh,
+    ) {
+        Ok(found) => found,
+        Err((refusal, _)) => return Err(Failed::Code(refusal)),
+    };
+    let mut writer = standard_output(rt)?;
+    let mut writer = CountedWriter::new(&mut writer);
+    let (disk, made) = create_store_file(rt, progress, new)?;
+    let (outcome, locked) = make_upgraded(
+        rt.alloc(),
+        disk,
+        &network,
+        journal_pages,
+        counts,
+        &mut writer,
+    );
+    after_making(rt, made, locked.disk(), outcome)
 }
 
 /// The failure of a text that is read for a store: a refusal of the store is told before it.
@@ -106,19 +185,20 @@ fn after_opening<D: Disk + Drop>(alloc: Global, disk: D, failed: Failed) -> Fail
 
 /// The groups of commands of a file, on the store of another. A fault of the store is told before one of the commands. No row is computed, so no
 /// width is asked for.
-pub fn run_apply<R: AllocGlobal + Clock + Files<File = File> + Input + Print>(
+pub fn run_apply<R: AllocGlobal + Clock + Eprint + Files<File = File> + Input + Print>(
     rt: &R,
+    progress: &Progress<'_, R>,
     store: &str,
     commands: &str,
 ) -> Result<Done, Failed>
     ensures { IfOk result (λ done. told_width done ≡ None) }
 {
-    let disk = open_store(rt, store)?;
-    let mut commands = match open_text(rt, 0, commands) {
+    let disk = open_store(rt, progress, store)?;
+    let mut commands = match open_text(rt, progress, 0, commands) {
         Ok(commands) => commands,
         Err(failed) => return Err(after_opening(rt.alloc(), disk, failed)),
     };
-    let mut writer = standard_output(rt)?;
+    let mut writer = told_output(rt, progress)?;
     let mut commands = Counted::new(&mut commands);
     let mut writer = CountedWriter::new(&mut writer);
     let (outcome, _disk) = apply_counted(rt.alloc(), disk, &mut commands, &mut writer);
@@ -128,8 +208,9 @@ pub fn run_apply<R: AllocGlobal + Clock + Files<File = File> + Input + Print>(
 
 /// The pairs of a file in the network of a store, which is read alone and stays as it is. A fault of the store is told before one of the
 /// pairs.
-pub fn run_ask<R: AllocGlobal + Clock + Files<File = File> + Input + Print + Threads>(
+pub fn run_ask<R: AllocGlobal + Clock + Eprint + Files<File = File> + Input + Print + Threads>(
     rt: &R,
+    progress: &Progress<'_, R>,
     store: &str,
     pairs: &str,
     delta: Option<u32>,
@@ -137,12 +218,12 @@ pub fn run_ask<R: AllocGlobal + Clock + Files<File = File> + Input + Print + Thr
     requires { ForSome delta IsWidth }
     ensures { IfOk result (λ done. told_width done ≡ delta) }
 {
-    let disk = open_store_to_read(rt, store)?;
-    let mut p2p = match open_text(rt, 0, pairs) {
+    let disk = open_store_to_read(rt, progress, store)?;
+    let mut p2p = match open_text(rt, progress, 0, pairs) {
         Ok(p2p) => p2p,
         Err(failed) => return Err(after_opening(rt.alloc(), disk, failed)),
     };
-    let mut writer = standard_output(rt)?;
+    let mut writer = told_output(rt, progress)?;
     let mut p2p = Counted::new(&mut p2p);
     let mut writer = CountedWriter::new(&mut writer);
     let (outcome, _disk) = ask_counted(rt, rt.alloc(), disk, &mut p2p, delta, &mut writer);
@@ -150,13 +231,14 @@ pub fn run_ask<R: AllocGlobal + Clock + Files<File = File> + Input + Print + Thr
 }
 
 /// How the store of a file stands. The file is read alone and stays as it is.
-pub fn run_check<R: AllocGlobal + Clock + Files<File = File> + Print>(
+pub fn run_check<R: AllocGlobal + Clock + Eprint + Files<File = File> + Print>(
     rt: &R,
+    progress: &Progress<'_, R>,
     store: &str,
 ) -> Result<Done, Failed>
     ensures { IfOk result (λ done. told_width done ≡ None) }
 {
-    let disk = open_store_to_read(rt, store)?;
+    let disk = open_store_to_read(rt, progress, store)?;
     let mut writer = standard_output(rt)?;
     let mut writer = CountedWriter::new(&mut writer);
     let (outcome, _disk) = check_counted(rt.alloc(), disk, &mut writer);
@@ -165,14 +247,15 @@ pub fn run_check<R: AllocGlobal + Clock + Files<File = File> + Print>(
 }
 
 /// A look at the arcs of a store's network. The file is read alone and stays as it is.
-pub fn run_show<R: AllocGlobal + Clock + Files<File = File> + Print>(
+pub fn run_show<R: AllocGlobal + Clock + Eprint + Files<File = File> + Print>(
     rt: &R,
+    progress: &Progress<'_, R>,
     store: &str,
     look: Look,
 ) -> Result<Done, Failed>
     ensures { IfOk result (λ done. told_width done ≡ None) }
 {
-    let disk = open_store_to_read(rt, store)?;
+    let disk = open_store_to_read(rt, progress, store)?;
     let mut writer = standard_output(rt)?;
     let mut writer = CountedWriter::new(&mut writer);
     let (outcome, _disk) = show_counted(rt.alloc(), disk, look, &mut writer);
@@ -182,14 +265,15 @@ pub fn run_show<R: AllocGlobal + Clock + Files<File = File> + Print>(
 
 /// Writes the network of a store out as three texts in a folder that is there. Where one of the texts is there already nothing is made (46). Each text is
 /// synced, and then the folder; where one of these fails (43) those that were made are removed.
-fn write_out<R: AllocGlobal + Files<File = File>, D: Disk>(
+fn write_out<R: AllocGlobal + Clock + Eprint + Files<File = File>, D: Disk>(
     rt: &R,
+    progress: &Progress<'_, R>,
     store: &Store<D>,
     folder: &str,
 ) -> Result<(), Failed> {
-    let place = open_folder(rt, folder)?;
-    let texts = TextFiles::make(rt, folder)?;
-    let filled = texts.fill(rt.alloc(), store, &place);
+    let place = open_folder(rt, progress, folder)?;
+    let texts = TextFiles::make(rt, progress, folder)?;
+    let filled = texts.fill(rt.alloc(), progress, store, &place);
     if filled.is_err() {
         texts.remove(rt);
     }
@@ -204,21 +288,22 @@ fn tell_version<W: Write>(out: &mut CountedWriter<'_, W>, version: u64) -> Resul
 
 /// The network of a store, written out as three texts in a folder. The store's file is read alone and stays as it is. Where all is done, and only its
 /// line could not be told (12), the texts stay.
-pub fn run_export<R: AllocGlobal + Clock + Files<File = File> + Print>(
+pub fn run_export<R: AllocGlobal + Clock + Eprint + Files<File = File> + Print>(
     rt: &R,
+    progress: &Progress<'_, R>,
     store: &str,
     folder: &str,
 ) -> Result<Done, Failed>
     ensures { IfOk result (λ done. told_width done ≡ None) }
 {
-    let disk = open_store_to_read(rt, store)?;
+    let disk = open_store_to_read(rt, progress, store)?;
     let store = match open(rt.alloc(), disk) {
         Ok(store) => store,
         Err((refusal, _)) => return Err(Failed::Code(refusal)),
     };
     let mut writer = standard_output(rt)?;
     let mut writer = CountedWriter::new(&mut writer);
-    write_out(rt, &store, folder)?;
+    write_out(rt, progress, &store, folder)?;
     tell_version(&mut writer, store.version())?;
     Ok(Done::without_search())
 }

@@ -110,7 +110,7 @@ where
     let Ok(pipes) = see_pipes(&FileNames { rt: &rt }, pipes) else {
         return Ok(false);
     };
-    let doors = doors_of(rt, rt.alloc(), pipes)?;
+    let doors = doors_of(rt, rt.alloc(), pipes, false)?;
     let gate = Teller { rt };
     let served = serve_disk(
         rt,
@@ -120,6 +120,7 @@ where
         setup,
         None,
         doors,
+        None,
         &mut reader,
         &mut writer,
     );

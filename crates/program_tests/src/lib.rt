@@ -1,10 +1,14 @@
-//! Tests of the program by what its library gives to `main`: words, runs on files, sessions with many clients.
+//! Tests of the program by what its library gives to `main`: runs on files, sessions with many clients.
 #![tactic(auto)]
 
 #[cfg(test)]
 mod checking;
 #[cfg(test)]
 mod clients;
+#[cfg(test)]
+mod copying;
+#[cfg(test)]
+mod copying_stores;
 #[cfg(test)]
 mod exporting;
 #[cfg(test)]
@@ -18,4 +22,6 @@ mod shell;
 #[cfg(test)]
 mod stores;
 #[cfg(test)]
-mod words;
+mod telling;
+#[cfg(test)]
+mod upgrading;

@@ -47,7 +47,7 @@ pub fn new_folder<R: AllocGlobal + Env + Files>(rt: &R, name: &str) -> Result<St
 }
 
 /// A run of these words, with this input, ends with this status, and prints these texts on its output and as its fault line.
-fn ends<
+pub fn ends<
     'a,
     R: Abort
         + AllocGlobal

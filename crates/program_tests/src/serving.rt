@@ -114,7 +114,8 @@ where
         gate,
         setup,
         Some(lock),
-        doors_of(rt, rt.alloc(), no_pipes)?,
+        doors_of(rt, rt.alloc(), no_pipes, false)?,
+        None,
         &mut reader,
         &mut writer,
     );

@@ -79,6 +79,12 @@ pub struct Shell<'a, R> {
     pub blunt: bool,
     /// The write to the standard output that fails, counted from 1.
     pub fails_at: usize,
+    /// The clock tells a time, which is a second later each time.
+    pub has_clock: bool,
+    // How often the clock was asked.
+    seconds: Cell<u64>,
+    /// Nothing is written to the standard error: each write to it fails.
+    pub is_mute: bool,
 }
 
 impl<'a, R: AllocGlobal> Shell<'a, R> {
@@ -101,6 +107,9 @@ impl<'a, R: AllocGlobal> Shell<'a, R> {
             absent: "",
             blunt: false,
             fails_at: 0,
+            has_clock: false,
+            seconds: Cell::new(0),
+            is_mute: false,
         })
     }
 }
@@ -150,7 +159,11 @@ impl<'a, R: Threads> Threads for Shell<'a, R> {}
 
 impl<'a, R> Clock for Shell<'a, R> {
     fn monotonic(&self) -> io::Result<Duration> {
-        Err(io::Error::from(ErrorKind::Unsupported))
+        if !self.has_clock {
+            return Err(io::Error::from(ErrorKind::Unsupported));
+        }
+        self.seconds.set(self.seconds.get().saturating_add(1));
+        Ok(Duration::from_secs(self.seconds.get()))
     }
 
     fn since_1970(&self) -> io::Result<Duration> {
@@ -192,15 +205,24 @@ impl<'a, R: AllocGlobal> Print for Shell<'a, R> {
     }
 }
 
+impl<'a, R> Shell<'a, R> {
+    fn write_error(&self, text: &str) -> io::Result<()> {
+        if self.is_mute {
+            return Err(io::Error::from(ErrorKind::BrokenPipe));
+        }
+        append(&self.err, text)
+    }
+}
+
 impl<'a, R: AllocGlobal> Eprint for Shell<'a, R> {
     fn eprint<D: Display + Drop>(&self, value: D) -> io::Result<()> {
         let text = format!(in self.rt.alloc(); "{value}")?;
-        append(&self.err, text.as_str())
+        self.write_error(text.as_str())
     }
 
     fn eprintln<D: Display + Drop>(&self, value: D) -> io::Result<()> {
         let text = format!(in self.rt.alloc(); "{value}\n")?;
-        append(&self.err, text.as_str())
+        self.write_error(text.as_str())
     }
 }
 

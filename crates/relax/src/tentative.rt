@@ -47,7 +47,7 @@ fn noted_with(noted: Option<Vec<u32>>, word: u64, node: u32) -> Option<Vec<u32>>
 }
 
 impl Tentative {
-    ghost use Rattle.std.specs.Prelude.{◌≡◌, ℕ, ◌+◌, ◌≤◌, ◌<◌, ◌^◌, ◌⊎◌, List, [], ◌∷◌, ◌++◌, Option, Some, None, replicate, map, length, slice_set, All, IfOk};
+    ghost use Rattle.std.specs.Prelude.{◌≡◌, ℕ, ◌+◌, ◌≤◌, ◌<◌, ◌^◌, ◌⊎◌, List, [], ◌∷◌, ◌++◌, Option, Some, None, replicate, map, length, slice_set, All, IfOk, IfSome};
     ghost use Rattle.std.specs.Bool.{OnTrue};
     ghost use Rattle.relax.specs.Values.{value_at, no_value, value_of_word};
     ghost use Rattle.relax.specs.Noted.{AreNoted};
@@ -85,6 +85,16 @@ impl Tentative {
             return false;
         }
         true
+    }
+
+    /// The nodes that were noted, if they are: all that have a value are among them. It takes no memory.
+    pub fn noted(&self) -> Option<&[u32]>
+        ensures { IfSome result (λ nodes. AreNoted self.now nodes.now) }
+    {
+        match &self.noted {
+            Some(nodes) => Some(nodes),
+            None => None,
+        }
     }
 
     /// Takes all values away, in time for the nodes that were noted, or where they were not, for all.

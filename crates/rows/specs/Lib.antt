@@ -6,5 +6,6 @@ pub mod ReplyLaws
 pub mod Cached
 pub mod Kept
 pub mod Batches
+pub mod Backs
 pub mod Views
 pub mod Pins

@@ -19,7 +19,7 @@ use std::alloc::Global;
 use std::thread::Threads;
 
 /// The greatest width of a search's buckets.
-const WIDEST: u32 = 2_147_483_647;
+pub(crate) const WIDEST: u32 = 2_147_483_647;
 
 /// The replies to pairs, one after the other.
 fn in_order<R: Threads, E: Ends>(

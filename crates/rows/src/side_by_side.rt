@@ -64,6 +64,7 @@ fn in_parts<R: Threads + Sync>(
 {
     sources
         .par_chunks(each)
+        .with_min_len(1)
         .map(
             move |some: &[u32]| -> Result<Vec<(u32, Distances)>, OutOfMemory>
                 requires { AreNodes snapshot.now.nodes some.now }

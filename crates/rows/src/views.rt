@@ -7,6 +7,7 @@ ghost use Rattle.snapshot.specs.Groups.{IsSnapshotOf, default_width};
 ghost use Rattle.roadnet.specs.Members.{is_member};
 ghost use Rattle.roadnet.specs.Step.{is_landmark};
 ghost use Rattle.roadnet.specs.Walks.{RowOf};
+ghost use Rattle.rows.specs.Backs.{LeadsBack};
 ghost use Rattle.rows.specs.Kept.{IsWidth};
 ghost use Rattle.rows.specs.Views.{AreLandmarkRows};
 ghost use Rattle.rows.specs.Cached.{HasRowsOf};
@@ -21,28 +22,34 @@ use roadnet::{Network, OutOfMemory};
 use snapshot::{Snapshot, default_delta};
 use std::alloc::Global;
 use std::marker::Model;
+use std::sync::Arc;
 
 /// A network at a version, made ready for queries: its open arcs are grouped, and there is a row for each of its landmarks.
 ///
-/// Beside the network it takes 8 bytes an open arc, 8 a node for the groups, and 4 or 8 a node for each landmark.
+/// Beside the network it takes 8 bytes an open arc, 8 a node for the groups, and 4 or 8 a node for each landmark; and 8 an arc and 8 a node for the arcs the
+/// other way round, where it was given them, which views share.
 #[derive(Drop)]
 pub struct View {
     version: u64,
     network: Network,
     snapshot: Snapshot,
     rows: Vec<Row>,
+    /// All arcs the other way round.
+    back: Option<Arc<Snapshot>>,
 }
 
 impl Model for View {
     ghost use Rattle.std.specs.Prelude.{◌≡◌};
     ghost use Rattle.snapshot.specs.Groups.{IsSnapshotOf};
+    ghost use Rattle.std.specs.Option.{ForSome};
+    ghost use Rattle.rows.specs.Backs.{LeadsBack};
     ghost use Rattle.rows.specs.Views.{Viewed, AreLandmarkRows};
 
     ghost Value = { Viewed };
 
     ghost view = { λ v. record { version = v.version; network = v.network; delta = v.snapshot.delta } };
 
-    ghost invariant = { λ v. IsSnapshotOf v.network v.snapshot × AreLandmarkRows v.version v.network v.rows.items };
+    ghost invariant = { λ v. IsSnapshotOf v.network v.snapshot × AreLandmarkRows v.version v.network v.rows.items × ForSome v.back (λ back. LeadsBack v.network back.value) };
 }
 
 /// The width that is given, else the network's default.
@@ -236,7 +243,27 @@ impl View {
             network,
             snapshot,
             rows,
+            back: None,
         }
+    }
+
+    /// The same view, with the arcs of its network the other way round, as `deltastep::back_of` makes them.
+    pub fn with_back(self, back: Arc<Snapshot>) -> View
+        requires { LeadsBack self.network back.value }
+        ensures { result ≡ self }
+    {
+        View {
+            back: Some(back),
+            ..self
+        }
+    }
+
+    /// A share of the arcs of its network the other way round, where it has them. It is none too where no share of them is had.
+    pub fn back(&self) -> Option<Arc<Snapshot>>
+        ensures { ForSome result (λ back. LeadsBack self.now.network back.value) }
+    {
+        let back = self.back.as_ref()?;
+        Arc::try_clone(back).ok()
     }
 
     /// The version of the network.

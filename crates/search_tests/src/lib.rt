@@ -2,6 +2,8 @@
 #![tactic(auto)]
 
 #[cfg(test)]
+mod reaching;
+#[cfg(test)]
 mod relaxing;
 #[cfg(test)]
 mod repairing;

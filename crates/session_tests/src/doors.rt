@@ -9,7 +9,7 @@ use disk::Disk;
 use fixtures::Flag;
 use printing::Failed;
 use roadnet::Refusal;
-use sessions::{Door, Visits, serve_door};
+use sessions::{Door, NoCopies, Visits, serve_door};
 use std::alloc::Global;
 use std::marker::Brand;
 use std::sync::atomic::{AtomicU64, Ordering};
@@ -68,7 +68,7 @@ fn start_doors<
     alloc: Global,
     desk: &Handle<N, D, NoGate, R>,
     told: &Arc<Told>,
-    visits: &Arc<Visits<N>>,
+    visits: &Arc<Visits<N, NoCopies>>,
 ) -> Result<(), Refusal> {
     for _ in 0..DOORS {
         let (Ok(told), Ok(visits)) = (Arc::try_clone(told), Arc::try_clone(visits)) else {
@@ -109,7 +109,7 @@ fn serve_doors<
         workers: 2,
     };
     let desk: Desk<N, D, NoGate, R> = Desk::start(rt, alloc, history, store, NoGate, setup)?;
-    let Ok(visits) = Arc::new(alloc, Visits::new()) else {
+    let Ok(visits) = Arc::new(alloc, Visits::new(NoCopies)) else {
         return Err(Refusal::OutOfMemory);
     };
     start_doors(rt, alloc, desk.handle(), told, &visits)?;

@@ -4,6 +4,8 @@
 #[cfg(test)]
 mod agreeing;
 #[cfg(test)]
+mod copying;
+#[cfg(test)]
 mod doors;
 #[cfg(test)]
 mod leaving;

@@ -2,6 +2,7 @@
 use crate::serving::{Found, answers_of, left_by, session_over, settled_in, store_of_six};
 use desk::{Gate, History};
 use roadnet::Refusal;
+use sessions::NoCopies;
 use std::alloc::Global;
 use std::marker::Brand;
 use std::sync::Wait;
@@ -49,13 +50,14 @@ fn answers_past<R: Threads + Wait + Clock + Copy + Send + Sync + 'static>(
     let history = History::new(store.network(), store.version());
     let mut input = lines;
     let mut output = Vec::new(alloc);
-    let ended = session_over::<Brand, _, _, _, _, _>(
+    let ended = session_over::<Brand, _, _, _, _, _, _>(
         rt,
         alloc,
         history,
         store,
         gate,
         Found::Serving,
+        &NoCopies,
         &mut input,
         &mut output,
     )?;

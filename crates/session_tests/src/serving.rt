@@ -7,7 +7,7 @@ use dimacs::Counted;
 use disk::{Disk, FailOnce, MemDisk};
 use printing::{CountedWriter, Failed};
 use roadnet::{Network, Refusal, RoadArc};
-use sessions::{Answering, LastLine, Terms, serve};
+use sessions::{Answering, Copies, LastLine, NoCopies, Terms, serve};
 use std::alloc::Global;
 use std::io::{self, BufRead, BufReader, ErrorKind, Read, Write};
 use std::marker::Brand;
@@ -78,6 +78,7 @@ pub(crate) fn session_over<
     D: Disk + Drop + Send + 'static,
     G: Gate + Drop + Send + Sync + 'static,
     R: Threads + Wait + Clock + Copy + Send + Sync + 'static,
+    C: Copies,
     I: BufRead,
     W: Write,
 >(
@@ -87,6 +88,7 @@ pub(crate) fn session_over<
     store: Store<D>,
     gate: G,
     found: Found,
+    copies: &C,
     input: &mut I,
     output: &mut W,
 ) -> Result<Ended<D>, Refusal>
@@ -116,6 +118,7 @@ pub(crate) fn session_over<
     let terms = Terms {
         last_line: LastLine::Taken,
         answering: &answering,
+        copies,
     };
     let (outcome, session) = serve(&rt, alloc, desk.handle(), terms, &mut reader, &mut writer);
     let (failed_reads, failed_writes) = (reader.failed_calls(), writer.failed_writes());
@@ -130,28 +133,47 @@ pub(crate) fn session_over<
 }
 
 /// A session over a new store of the network of the worked rows.
-fn session<R: Threads + Wait + Clock + Copy + Send + Sync + 'static, I: BufRead, W: Write>(
+fn session<
+    R: Threads + Wait + Clock + Copy + Send + Sync + 'static,
+    C: Copies,
+    I: BufRead,
+    W: Write,
+>(
     rt: R,
     alloc: Global,
     found: Found,
+    copies: &C,
     input: &mut I,
     output: &mut W,
 ) -> Result<Ended<MemDisk>, Refusal> {
     let store = store_of_six(alloc)?;
     let history = History::new(store.network(), store.version());
-    session_over::<Brand, _, _, _, _, _>(rt, alloc, history, store, NoGate, found, input, output)
+    session_over::<Brand, _, _, _, _, _, _>(
+        rt, alloc, history, store, NoGate, found, copies, input, output,
+    )
 }
 
-/// What a session with these lines writes that ends without a fault.
+/// What a session with these lines writes that ends without a fault. No copies are made.
 pub(crate) fn answers_of<R: Threads + Wait + Clock + Copy + Send + Sync + 'static>(
     rt: R,
     alloc: Global,
     found: Found,
     lines: &[u8],
 ) -> Result<Vec<u8>, Refusal> {
+    answers_with(rt, alloc, found, &NoCopies, lines)
+}
+
+/// What a session with these lines, for which these copies are made, writes that ends without a fault.
+pub(crate) fn answers_with<R: Threads + Wait + Clock + Copy + Send + Sync + 'static, C: Copies>(
+    rt: R,
+    alloc: Global,
+    found: Found,
+    copies: &C,
+    lines: &[u8],
+) -> Result<Vec<u8>, Refusal> {
     let mut input = lines;
     let mut output = Vec::new(alloc);
-    let ended = session(rt, alloc, found, &mut input, &mut output)?;
+    let ended = session(rt, alloc, found, copies, &mut input, &mut output)?;
     let has_failed = ended.failed_reads != 0 || ended.failed_writes != 0;
     if ended.outcome != Ok(()) || has_failed || !ended.is_kept {
         return Err(Refusal::NotYet);
@@ -332,13 +354,14 @@ fn a_broken_store(rt: HostRuntime) -> Result<(), Fail> {
     let history = History::new(store.network(), store.version());
     let mut input = b"close 7\nwait\ndist 1 6\nclose 8\n".as_slice();
     let mut output = Vec::new(alloc);
-    let ended = session_over::<Brand, _, _, _, _, _>(
+    let ended = session_over::<Brand, _, _, _, _, _, _>(
         rt,
         alloc,
         history,
         store,
         NoGate,
         Found::Serving,
+        &NoCopies,
         &mut input,
         &mut output,
     )?;
@@ -442,7 +465,14 @@ fn answers_are_sent_out(rt: HostRuntime) -> Result<(), Fail> {
     };
     let mut input = BufReader::with_capacity(rt.alloc(), 1, reading)?;
     let mut output = WaitingWriter { waits: &waits };
-    let ended = session(rt, rt.alloc(), Found::Serving, &mut input, &mut output)?;
+    let ended = session(
+        rt,
+        rt.alloc(),
+        Found::Serving,
+        &NoCopies,
+        &mut input,
+        &mut output,
+    )?;
     assert!(rt; ended.outcome == Ok(()) && ended.failed_reads == 0);
     Ok(())
 }
@@ -488,7 +518,14 @@ fn reader_fails_at_each_call(rt: HostRuntime) -> Result<(), Fail> {
             failed_writes,
             is_kept: _,
             closed,
-        } = session(rt, alloc, Found::Serving, &mut input, &mut output)?;
+        } = session(
+            rt,
+            alloc,
+            Found::Serving,
+            &NoCopies,
+            &mut input,
+            &mut output,
+        )?;
         let (accepted, version) = left_by(alloc, closed)?;
         if failed_reads == 0 {
             assert!(rt; outcome == Ok(()), "read {reads}");
@@ -524,7 +561,14 @@ fn writer_fails_at_each_call(rt: HostRuntime) -> Result<(), Fail> {
             failed_writes,
             is_kept: _,
             closed,
-        } = session(rt, alloc, Found::Serving, &mut input, &mut output)?;
+        } = session(
+            rt,
+            alloc,
+            Found::Serving,
+            &NoCopies,
+            &mut input,
+            &mut output,
+        )?;
         let (accepted, version) = left_by(alloc, closed)?;
         if failed_writes == 0 {
             assert!(rt; outcome == Ok(()), "call {calls}");

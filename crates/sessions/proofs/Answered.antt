@@ -1,5 +1,5 @@
 -- What a session knows, and what it tells.
-use Rattle.std.proofs.Common.{◌≡◌, ◌∙◌, ◌⊎◌, inl, inr, ℕ, ◌+◌, ◌≤◌, List, [], ◌∷◌, ◌++◌, All, Option, None, Some, length, get_or, refl, sym, ap, subst, arith}
+use Rattle.std.proofs.Common.{◌≡◌, ◌∙◌, ◌⊎◌, inl, inr, ℕ, ◌+◌, ◌≤◌, true, false, List, [], ◌∷◌, ◌++◌, All, Option, None, Some, length, get_or, refl, sym, ap, subst, arith}
 use Rattle.std.proofs.KnownBytes.{Appends-nil}
 use Rattle.std.proofs.lemmas.List.{append-nil, length-append}
 use Rattle.std.proofs.lemmas.List.Elements.{All-push, All-nil}
@@ -27,16 +27,19 @@ use Rattle.machine.specs.declared.events.Replied.{Replied}
 use Rattle.machine.specs.declared.events.Replied.TheVariants.{Durable, Refused as told_refused}
 use Rattle.roadnet.specs.declared.refusals.Refusal.TheVariants.{OutOfMemory, Closed}
 use Rattle.dimacs.specs.declared.fault.Code.TheVariants.{BadLine}
-use Rattle.printing.specs.Printed.{refusal_line, version_line}
+use Rattle.printing.specs.Printed.{refusal_line}
 use Rattle.printing.specs.Replied.{printed_reply}
 use Rattle.sessions.specs.declared.answers.Accepted.{Accepted}
 use Rattle.sessions.specs.declared.lines.Line.{Line}
-use Rattle.sessions.specs.declared.lines.Line.TheVariants.{Ignored, Command as a_command, Query as a_query, Look as a_look, Wait, Until, State, Quit, Begin, End, Refused as a_fault}
-use Rattle.sessions.specs.declared.looks.Look.{Look}
-use Rattle.sessions.specs.Looks.{look_lines}
+use Rattle.sessions.specs.declared.lines.Line.TheVariants.{Ignored, Command as a_command, Query as a_query, Look as a_look, Copy as a_copy, Wait, Until, State, Quit, Begin, End, Refused as a_fault}
+use Rattle.printing.specs.declared.looks.Look.{Look}
+use Rattle.printing.specs.Looks.{look_lines}
 use Rattle.sessions.specs.Stated.{state_or_refusal}
+use Rattle.sessions.specs.Copying.{Copying, IsUnmade, no_copying}
+use Rattle.sessions.specs.declared.names.Name.{Name}
+use Rattle.sessions.specs.SessionLines.{name_of}
 use Rattle.sessions.specs.Drafts.{Drafted, IsWhole, fault_of}
-use Rattle.sessions.specs.Told.{AnswersAfter, LooksAfter, IsReached, HaveReceipts, HasMore, HasShown, ShowsLast, Settles, Replies, IsUnshown, claim_of, known_to, told_durable}
+use Rattle.sessions.specs.Told.{AnswersAfter, LooksAfter, CopiesAfter, copied_line, copied_or_refusal, IsReached, HaveReceipts, HasMore, HasShown, ShowsLast, Settles, Replies, IsUnshown, claim_of, known_to, told_durable}
 use Rattle.sessions.specs.Turns.{Tells, Standing, IsEndAnswer, IsSessionAt, IsKept, fault_number, version_or_refusal}
 
 -- the answer by what was seen of the view
@@ -120,58 +123,118 @@ kept_in origin whole shown place (Some front) last same held seen is = record {
 
 -- ---- what a line is told
 
-pub nothing_told : (origin : Origin) (line : Line) (last : Option Accepted) (known : List Group) (has : Option Beginning) (written : Option (List ℕ)) → (line ≡ Ignored) ⊎ ((line ≡ Quit) ⊎ (line ≡ Begin))
-    → Tells origin None line last last known has has written written
-nothing_told origin line last known has written (inl is) =
+pub nothing_told : (copying : Copying) (origin : Origin) (line : Line) (last : Option Accepted) (known : List Group) (has : Option Beginning) (written : Option (List ℕ)) → (line ≡ Ignored) ⊎ ((line ≡ Quit) ⊎ (line ≡ Begin))
+    → Tells copying origin None line last last known has has written written
+nothing_told copying origin line last known has written (inl is) =
     rw is (record { told = []; durable = []; is_answer = (refl, refl, refl); kept = nothing_more origin has has refl; written = Appends-nil written })
-nothing_told origin line last known has written (inr (inl is)) =
+nothing_told copying origin line last known has written (inr (inl is)) =
     rw is (record { told = []; durable = []; is_answer = (refl, refl, refl); kept = nothing_more origin has has refl; written = Appends-nil written })
-nothing_told origin line last known has written (inr (inr is)) =
+nothing_told copying origin line last known has written (inr (inr is)) =
     rw is (record { told = []; durable = []; is_answer = (refl, refl, refl); kept = nothing_more origin has has refl; written = Appends-nil written })
 
 -- within a group nothing is told before its end
-pub nothing_within : (origin : Origin) (draft : Drafted) (line : Line) (last : Option Accepted) (known : List Group) (has : Option Beginning) (written : Option (List ℕ)) → (line ≡ End → ⊥)
-    → Tells origin (Some draft) line last last known has has written written
-nothing_within origin draft End last known has written other = absurd (other refl)
-nothing_within origin draft _ last known has written other = record { told = []; durable = []; is_answer = (refl, refl, refl); kept = nothing_more origin has has refl; written = Appends-nil written }
+pub nothing_within : (copying : Copying) (origin : Origin) (draft : Drafted) (line : Line) (last : Option Accepted) (known : List Group) (has : Option Beginning) (written : Option (List ℕ)) → (line ≡ End → ⊥)
+    → Tells copying origin (Some draft) line last last known has has written written
+nothing_within copying origin draft End last known has written other = absurd (other refl)
+nothing_within copying origin draft _ last known has written other = record { told = []; durable = []; is_answer = (refl, refl, refl); kept = nothing_more origin has has refl; written = Appends-nil written }
 
-pub told_command : {X E : Type 0} (origin : Origin) (command : Command) (before last : Option Accepted) (known : List Group) (had has : Option Beginning) (old new : Option (List ℕ)) (result : Result X E) (reply : Replied)
+pub told_command : {X E : Type 0} (copying : Copying) (origin : Origin) (command : Command) (before last : Option Accepted) (known : List Group) (had has : Option Beginning) (old new : Option (List ℕ)) (result : Result X E) (reply : Replied)
     → Settles origin before last (command ∷ []) reply → HasMore origin had has (told_durable (command ∷ []) reply) → OnOk result (Appends old new (printed_reply reply))
-    → OnOk result (Tells origin None (a_command command) before last known had has old new)
-told_command origin command before last known had has old new (Ok x) reply settles more appends =
+    → OnOk result (Tells copying origin None (a_command command) before last known had has old new)
+told_command copying origin command before last known had has old new (Ok x) reply settles more appends =
     record { told = printed_reply reply; durable = told_durable (command ∷ []) reply; is_answer = (reply, settles, refl, refl); kept = more; written = appends }
-told_command origin command before last known had has old new (Err e) reply settles more appends = tt
+told_command copying origin command before last known had has old new (Err e) reply settles more appends = tt
 
-pub told_query : {X E : Type 0} (origin : Origin) (query : Query) (before last : Option Accepted) (known : List Group) (had has : Option Beginning) (old new : Option (List ℕ)) (result : Result X E) (reply : Replied)
+pub told_query : {X E : Type 0} (copying : Copying) (origin : Origin) (query : Query) (before last : Option Accepted) (known : List Group) (had has : Option Beginning) (old new : Option (List ℕ)) (result : Result X E) (reply : Replied)
     → Replies origin known query reply → last ≡ before → has ≡ had → OnOk result (Appends old new (printed_reply reply))
-    → OnOk result (Tells origin None (a_query query) before last known had has old new)
-told_query origin query before last known had has old new (Ok x) reply replies same kept appends =
+    → OnOk result (Tells copying origin None (a_query query) before last known had has old new)
+told_query copying origin query before last known had has old new (Ok x) reply replies same kept appends =
     record { told = printed_reply reply; durable = []; is_answer = (reply, replies, refl, refl, same); kept = nothing_more origin had has kept; written = appends }
-told_query origin query before last known had has old new (Err e) reply replies same kept appends = tt
+told_query copying origin query before last known had has old new (Err e) reply replies same kept appends = tt
 
 -- the lines of what was seen of the view
-pub looked : (origin : Origin) (groups : List Group) (view : Viewed) (look : Look) (told : List ℕ) → IsViewAfter origin groups view → told ≡ version_line view.version ++ look_lines view.network look
+pub looked : (origin : Origin) (groups : List Group) (view : Viewed) (look : Look) (told : List ℕ) → IsViewAfter origin groups view → told ≡ look_lines view.network view.version look
     → LooksAfter origin groups look told
 looked origin groups view look told is told_is =
-    record { network = view.network; network_is = is.network; told_is = told_is ∙ ap (λ (v : ℕ). version_line v ++ look_lines view.network look) is.version }
+    record { network = view.network; network_is = is.network; told_is = told_is ∙ ap (λ (v : ℕ). look_lines view.network v look) is.version }
 
-pub told_look : {X E : Type 0} (origin : Origin) (look : Look) (before last : Option Accepted) (known groups : List Group) (view : Viewed) (had has : Option Beginning) (old new : Option (List ℕ)) (result : Result X E)
-    → groups ≡ known → IsViewAfter origin groups view → last ≡ before → has ≡ had → OnOk result (Appends old new (version_line view.version ++ look_lines view.network look))
-    → OnOk result (Tells origin None (a_look look) before last known had has old new)
-told_look origin look before last known groups view had has old new (Ok x) seen is same kept appends = record {
-  told = version_line view.version ++ look_lines view.network look;
+pub told_look : {X E : Type 0} (copying : Copying) (origin : Origin) (look : Look) (before last : Option Accepted) (known groups : List Group) (view : Viewed) (had has : Option Beginning) (old new : Option (List ℕ)) (result : Result X E)
+    → groups ≡ known → IsViewAfter origin groups view → last ≡ before → has ≡ had → OnOk result (Appends old new (look_lines view.network view.version look))
+    → OnOk result (Tells copying origin None (a_look look) before last known had has old new)
+told_look copying origin look before last known groups view had has old new (Ok x) seen is same kept appends = record {
+  told = look_lines view.network view.version look;
   durable = [];
   is_answer = (inl (looked origin known view look _ (subst (λ (gs : List Group). IsViewAfter origin gs view) seen is) refl), refl, same);
   kept = nothing_more origin had has kept;
   written = appends;
 }
-told_look origin look before last known groups view had has old new (Err e) seen is same kept appends = tt
+told_look copying origin look before last known groups view had has old new (Err e) seen is same kept appends = tt
 
-pub told_unseen : {X E : Type 0} (origin : Origin) (look : Look) (before last : Option Accepted) (known : List Group) (had has : Option Beginning) (old new : Option (List ℕ)) (result : Result X E) (refusal : Refusal)
-    → IsNoReader refusal → last ≡ before → has ≡ had → OnOk result (Appends old new (refusal_line (number_of refusal))) → OnOk result (Tells origin None (a_look look) before last known had has old new)
-told_unseen origin look before last known had has old new (Ok x) refusal cause same kept appends =
+pub told_unseen : {X E : Type 0} (copying : Copying) (origin : Origin) (look : Look) (before last : Option Accepted) (known : List Group) (had has : Option Beginning) (old new : Option (List ℕ)) (result : Result X E) (refusal : Refusal)
+    → IsNoReader refusal → last ≡ before → has ≡ had → OnOk result (Appends old new (refusal_line (number_of refusal))) → OnOk result (Tells copying origin None (a_look look) before last known had has old new)
+told_unseen copying origin look before last known had has old new (Ok x) refusal cause same kept appends =
     record { told = refusal_line (number_of refusal); durable = []; is_answer = (inr (refusal, cause, refl), refl, same); kept = nothing_more origin had has kept; written = appends }
-told_unseen origin look before last known had has old new (Err e) refusal cause same kept appends = tt
+told_unseen copying origin look before last known had has old new (Err e) refusal cause same kept appends = tt
+
+-- whoever makes copies, a look is told the same
+pub look_told : {X E : Type 0} (copying : Copying) (origin : Origin) (look : Look) (before last : Option Accepted) (known : List Group) (had has : Option Beginning) (old new : Option (List ℕ)) (result : Result X E)
+    → OnOk result (Tells no_copying origin None (a_look look) before last known had has old new) → OnOk result (Tells copying origin None (a_look look) before last known had has old new)
+look_told copying origin look before last known had has old new (Ok x) t = record { told = t.told; durable = t.durable; is_answer = t.is_answer; kept = t.kept; written = t.written }
+look_told copying origin look before last known had has old new (Err e) t = tt
+
+-- and so is the end of a group
+pub end_told : {X E : Type 0} (copying : Copying) (origin : Origin) (draft : Drafted) (before last : Option Accepted) (known : List Group) (had has : Option Beginning) (old new : Option (List ℕ)) (result : Result X E)
+    → OnOk result (Tells no_copying origin (Some draft) End before last known had has old new) → OnOk result (Tells copying origin (Some draft) End before last known had has old new)
+end_told copying origin draft before last known had has old new (Ok x) t = record { told = t.told; durable = t.durable; is_answer = t.is_answer; kept = t.kept; written = t.written }
+end_told copying origin draft before last known had has old new (Err e) t = tt
+
+-- the copy that was made of what was seen
+copied_after : (copying : Copying) (origin : Origin) (groups : List Group) (view : Viewed) (name : List ℕ) (version : ℕ) → IsViewAfter origin groups view → version ≡ view.version
+    → copying.made name view.network version → CopiesAfter copying origin groups name (copied_line version)
+copied_after copying origin groups view name version is version_is made =
+    let at : version ≡ origin.version + length groups = version_is ∙ is.version in
+    record { network = view.network; network_is = is.network; made = subst (λ (v : ℕ). copying.made name view.network v) at made; told_is = ap copied_line at }
+
+pub told_copied : {X E : Type 0} (copying : Copying) (origin : Origin) (name : Name) (before last : Option Accepted) (known groups : List Group) (view : Viewed) (had has : Option Beginning) (old new : Option (List ℕ))
+    (result : Result X E) (copied : Result ℕ Refusal) → copying.allowed ≡ true → groups ≡ known → IsViewAfter origin groups view
+    → IfOk copied (λ version. version ≡ view.version) → IfOk copied (λ version. copying.made (name_of name) view.network version) → IfErr copied IsUnmade
+    → last ≡ before → has ≡ had → OnOk result (Appends old new (copied_or_refusal copied)) → OnOk result (Tells copying origin None (a_copy name) before last known had has old new)
+told_copied copying origin name before last known groups view had has old new (Ok x) (Ok version) allowed seen is version_is made causes same kept appends =
+    let after_known : IsViewAfter origin known view = subst (λ (gs : List Group). IsViewAfter origin gs view) seen is in
+    record {
+      told = copied_line version;
+      durable = [];
+      is_answer = (inr (allowed, inl (copied_after copying origin known view (name_of name) version after_known version_is made)), refl, same);
+      kept = nothing_more origin had has kept;
+      written = appends;
+    }
+told_copied copying origin name before last known groups view had has old new (Ok x) (Err refusal) allowed seen is version_is made causes same kept appends = record {
+  told = refusal_line (number_of refusal);
+  durable = [];
+  is_answer = (inr (allowed, inr (refusal, inr causes, refl)), refl, same);
+  kept = nothing_more origin had has kept;
+  written = appends;
+}
+told_copied copying origin name before last known groups view had has old new (Err e) copied allowed seen is version_is made causes same kept appends = tt
+
+pub told_uncopied : {X E : Type 0} (copying : Copying) (origin : Origin) (name : Name) (before last : Option Accepted) (known : List Group) (had has : Option Beginning) (old new : Option (List ℕ)) (result : Result X E)
+    (refusal : Refusal) → copying.allowed ≡ true → IsNoReader refusal → last ≡ before → has ≡ had → OnOk result (Appends old new (refusal_line (number_of refusal)))
+    → OnOk result (Tells copying origin None (a_copy name) before last known had has old new)
+told_uncopied copying origin name before last known had has old new (Ok x) refusal allowed cause same kept appends = record {
+  told = refusal_line (number_of refusal);
+  durable = [];
+  is_answer = (inr (allowed, inr (refusal, inl cause, refl)), refl, same);
+  kept = nothing_more origin had has kept;
+  written = appends;
+}
+told_uncopied copying origin name before last known had has old new (Err e) refusal allowed cause same kept appends = tt
+
+-- where no copies are made
+pub told_no_copies : {X E : Type 0} (copying : Copying) (origin : Origin) (name : Name) (before last : Option Accepted) (known : List Group) (had has : Option Beginning) (old new : Option (List ℕ)) (result : Result X E)
+    → copying.allowed ≡ false → last ≡ before → has ≡ had → OnOk result (Appends old new (refusal_line (fault_number BadLine))) → OnOk result (Tells copying origin None (a_copy name) before last known had has old new)
+told_no_copies copying origin name before last known had has old new (Ok x) none same kept appends =
+    record { told = refusal_line (fault_number BadLine); durable = []; is_answer = (inl (none, refl), refl, same); kept = nothing_more origin had has kept; written = appends }
+told_no_copies copying origin name before last known had has old new (Err e) none same kept appends = tt
 
 prefix_length : (shown groups : List Group) → IsPrefix shown groups → length shown ≤ length groups
 prefix_length shown groups begins = omega (arith, ap length begins.1, length-append shown begins.0)
@@ -182,49 +245,49 @@ pub reached : (origin : Origin) (number : ℕ) (shown groups : List Group) (resu
 reached origin number shown groups (Ok version) there begins is = (let longer = prefix_length shown groups begins in omega (arith, there, longer, is), is)
 reached origin number shown groups (Err refusal) there begins is = tt
 
-pub told_until : {X E : Type 0} (origin : Origin) (number : ℕ) (before last : Option Accepted) (known : List Group) (had has : Option Beginning) (old new : Option (List ℕ)) (result : Result X E) (shown : Result ℕ Refusal)
+pub told_until : {X E : Type 0} (copying : Copying) (origin : Origin) (number : ℕ) (before last : Option Accepted) (known : List Group) (had has : Option Beginning) (old new : Option (List ℕ)) (result : Result X E) (shown : Result ℕ Refusal)
     → IfOk shown (IsReached origin number known) → IfErr shown IsUnshown → last ≡ before → has ≡ had → OnOk result (Appends old new (version_or_refusal shown))
-    → OnOk result (Tells origin None (Until number) before last known had has old new)
-told_until origin number before last known had has old new (Ok x) shown reaches causes same kept appends =
+    → OnOk result (Tells copying origin None (Until number) before last known had has old new)
+told_until copying origin number before last known had has old new (Ok x) shown reaches causes same kept appends =
     record { told = version_or_refusal shown; durable = []; is_answer = (shown, reaches, causes, refl, refl, same); kept = nothing_more origin had has kept; written = appends }
-told_until origin number before last known had has old new (Err e) shown reaches causes same kept appends = tt
+told_until copying origin number before last known had has old new (Err e) shown reaches causes same kept appends = tt
 
-pub told_state : {X E : Type 0} (origin : Origin) (before last : Option Accepted) (known : List Group) (had has : Option Beginning) (old new : Option (List ℕ)) (result : Result X E) (stood : Result DeskState Refusal)
+pub told_state : {X E : Type 0} (copying : Copying) (origin : Origin) (before last : Option Accepted) (known : List Group) (had has : Option Beginning) (old new : Option (List ℕ)) (result : Result X E) (stood : Result DeskState Refusal)
     → IfOk stood (StoodSo origin) → IfErr stood (λ refusal. refusal ≡ Closed) → last ≡ before → has ≡ had → OnOk result (Appends old new (state_or_refusal stood))
-    → OnOk result (Tells origin None State before last known had has old new)
-told_state origin before last known had has old new (Ok x) stood stands causes same kept appends =
+    → OnOk result (Tells copying origin None State before last known had has old new)
+told_state copying origin before last known had has old new (Ok x) stood stands causes same kept appends =
     record { told = state_or_refusal stood; durable = []; is_answer = (stood, stands, causes, refl, refl, same); kept = nothing_more origin had has kept; written = appends }
-told_state origin before last known had has old new (Err e) stood stands causes same kept appends = tt
+told_state copying origin before last known had has old new (Err e) stood stands causes same kept appends = tt
 
-pub told_wait : {X E : Type 0} (origin : Origin) (before last : Option Accepted) (known : List Group) (had has : Option Beginning) (old new : Option (List ℕ)) (result : Result X E) (shown : Result ℕ Refusal)
+pub told_wait : {X E : Type 0} (copying : Copying) (origin : Origin) (before last : Option Accepted) (known : List Group) (had has : Option Beginning) (old new : Option (List ℕ)) (result : Result X E) (shown : Result ℕ Refusal)
     → IfOk shown (ShowsLast origin last known) → IfErr shown IsUnshown → last ≡ before → has ≡ had → OnOk result (Appends old new (version_or_refusal shown))
-    → OnOk result (Tells origin None Wait before last known had has old new)
-told_wait origin before last known had has old new (Ok x) shown shows causes same kept appends =
+    → OnOk result (Tells copying origin None Wait before last known had has old new)
+told_wait copying origin before last known had has old new (Ok x) shown shows causes same kept appends =
     record { told = version_or_refusal shown; durable = []; is_answer = (shown, shows, causes, refl, refl, same); kept = nothing_more origin had has kept; written = appends }
-told_wait origin before last known had has old new (Err e) shown shows causes same kept appends = tt
+told_wait copying origin before last known had has old new (Err e) shown shows causes same kept appends = tt
 
-pub told_fault : {X E : Type 0} (origin : Origin) (code : Code) (before last : Option Accepted) (known : List Group) (had has : Option Beginning) (old new : Option (List ℕ)) (result : Result X E)
-    → last ≡ before → has ≡ had → OnOk result (Appends old new (refusal_line (fault_number code))) → OnOk result (Tells origin None (a_fault code) before last known had has old new)
-told_fault origin code before last known had has old new (Ok x) same kept appends =
+pub told_fault : {X E : Type 0} (copying : Copying) (origin : Origin) (code : Code) (before last : Option Accepted) (known : List Group) (had has : Option Beginning) (old new : Option (List ℕ)) (result : Result X E)
+    → last ≡ before → has ≡ had → OnOk result (Appends old new (refusal_line (fault_number code))) → OnOk result (Tells copying origin None (a_fault code) before last known had has old new)
+told_fault copying origin code before last known had has old new (Ok x) same kept appends =
     record { told = refusal_line (fault_number code); durable = []; is_answer = (refl, refl, same); kept = nothing_more origin had has kept; written = appends }
-told_fault origin code before last known had has old new (Err e) same kept appends = tt
+told_fault copying origin code before last known had has old new (Err e) same kept appends = tt
 
 -- an end that stands in no group
-pub told_no_end : {X E : Type 0} (origin : Origin) (before last : Option Accepted) (known : List Group) (had has : Option Beginning) (old new : Option (List ℕ)) (result : Result X E)
-    → last ≡ before → has ≡ had → OnOk result (Appends old new (refusal_line (fault_number BadLine))) → OnOk result (Tells origin None End before last known had has old new)
-told_no_end origin before last known had has old new (Ok x) same kept appends =
+pub told_no_end : {X E : Type 0} (copying : Copying) (origin : Origin) (before last : Option Accepted) (known : List Group) (had has : Option Beginning) (old new : Option (List ℕ)) (result : Result X E)
+    → last ≡ before → has ≡ had → OnOk result (Appends old new (refusal_line (fault_number BadLine))) → OnOk result (Tells copying origin None End before last known had has old new)
+told_no_end copying origin before last known had has old new (Ok x) same kept appends =
     record { told = refusal_line (fault_number BadLine); durable = []; is_answer = (refl, refl, same); kept = nothing_more origin had has kept; written = appends }
-told_no_end origin before last known had has old new (Err e) same kept appends = tt
+told_no_end copying origin before last known had has old new (Err e) same kept appends = tt
 
 -- ---- the end of a group
 end_answer : (origin : Origin) (fault found : Option Code) (group : Group) (before last : Option Accepted) (told : List ℕ) (durable : List Ticket) → fault ≡ found
     → IsEndAnswer origin found group before last told durable → IsEndAnswer origin fault group before last told durable
 end_answer origin fault found group before last told durable e is = rw e is
 
-pub told_group : {X E : Type 0} (origin : Origin) (draft : Drafted) (group : Group) (before last : Option Accepted) (known : List Group) (had has : Option Beginning) (old new : Option (List ℕ)) (result : Result X E) (reply : Replied)
+pub told_group : {X E : Type 0} (copying : Copying) (origin : Origin) (draft : Drafted) (group : Group) (before last : Option Accepted) (known : List Group) (had has : Option Beginning) (old new : Option (List ℕ)) (result : Result X E) (reply : Replied)
     → IsWhole draft group → Settles origin before last group reply → HasMore origin had has (told_durable group reply) → OnOk result (Appends old new (printed_reply reply))
-    → OnOk result (Tells origin (Some draft) End before last known had has old new)
-told_group origin draft group before last known had has old new (Ok x) reply whole settles more appends =
+    → OnOk result (Tells copying origin (Some draft) End before last known had has old new)
+told_group copying origin draft group before last known had has old new (Ok x) reply whole settles more appends =
     let is : Settles origin before last draft.commands reply = subst (λ (g : Group). Settles origin before last g reply) whole.1 settles in
     let kept : HasMore origin had has (told_durable draft.commands reply) = subst (λ (g : Group). HasMore origin had has (told_durable g reply)) whole.1 more in
     record {
@@ -234,26 +297,26 @@ told_group origin draft group before last known had has old new (Ok x) reply who
       kept = kept;
       written = appends;
     }
-told_group origin draft group before last known had has old new (Err e) reply whole settles more appends = tt
+told_group copying origin draft group before last known had has old new (Err e) reply whole settles more appends = tt
 
-pub told_no_group : {X E : Type 0} (origin : Origin) (draft : Drafted) (code : Code) (last : Option Accepted) (known : List Group) (has : Option Beginning) (old new : Option (List ℕ)) (result : Result X E)
-    → fault_of draft ≡ Some code → OnOk result (Appends old new (refusal_line (fault_number code))) → OnOk result (Tells origin (Some draft) End last last known has has old new)
-told_no_group origin draft code last known has old new (Ok x) fault appends = record {
+pub told_no_group : {X E : Type 0} (copying : Copying) (origin : Origin) (draft : Drafted) (code : Code) (last : Option Accepted) (known : List Group) (has : Option Beginning) (old new : Option (List ℕ)) (result : Result X E)
+    → fault_of draft ≡ Some code → OnOk result (Appends old new (refusal_line (fault_number code))) → OnOk result (Tells copying origin (Some draft) End last last known has has old new)
+told_no_group copying origin draft code last known has old new (Ok x) fault appends = record {
   told = refusal_line (fault_number code);
   durable = [];
   is_answer = end_answer origin (fault_of draft) (Some code) draft.commands last last (refusal_line (fault_number code)) [] fault (refl, refl, refl);
   kept = nothing_more origin has has refl;
   written = appends;
 }
-told_no_group origin draft code last known has old new (Err e) fault appends = tt
+told_no_group copying origin draft code last known has old new (Err e) fault appends = tt
 
-pub told_no_memory : {X E : Type 0} (origin : Origin) (draft : Drafted) (last : Option Accepted) (known : List Group) (has : Option Beginning) (old new : Option (List ℕ)) (result : Result X E)
-    → fault_of draft ≡ None → OnOk result (Appends old new (printed_reply (told_refused OutOfMemory))) → OnOk result (Tells origin (Some draft) End last last known has has old new)
-told_no_memory origin draft last known has old new (Ok x) whole appends = record {
+pub told_no_memory : {X E : Type 0} (copying : Copying) (origin : Origin) (draft : Drafted) (last : Option Accepted) (known : List Group) (has : Option Beginning) (old new : Option (List ℕ)) (result : Result X E)
+    → fault_of draft ≡ None → OnOk result (Appends old new (printed_reply (told_refused OutOfMemory))) → OnOk result (Tells copying origin (Some draft) End last last known has has old new)
+told_no_memory copying origin draft last known has old new (Ok x) whole appends = record {
   told = printed_reply (told_refused OutOfMemory);
   durable = [];
   is_answer = end_answer origin (fault_of draft) None draft.commands last last (printed_reply (told_refused OutOfMemory)) [] whole (told_refused OutOfMemory, inr (refl, refl), refl, refl);
   kept = nothing_more origin has has refl;
   written = appends;
 }
-told_no_memory origin draft last known has old new (Err e) whole appends = tt
+told_no_memory copying origin draft last known has old new (Err e) whole appends = tt

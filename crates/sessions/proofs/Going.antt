@@ -8,28 +8,29 @@ use Rattle.sessions.specs.declared.answers.Accepted.{Accepted}
 use Rattle.sessions.specs.declared.drafts.Draft.{Draft}
 use Rattle.sessions.specs.declared.lines.Line.{Line}
 use Rattle.sessions.specs.declared.reading.LastLine.{LastLine}
+use Rattle.sessions.specs.Copying.{Copying}
 use Rattle.sessions.specs.Drafts.{Drafted, HasDraft, next_draft}
 use Rattle.sessions.specs.Reads.{ReadsOne, ReadsLine}
 use Rattle.sessions.specs.Told.{known_to}
 use Rattle.sessions.specs.Turns.{Tells, Standing, IsTurn, AreTurns, beginning, is_quit, HasServed, IsSessionAt}
 
 -- the lines up to here were answered, and a session with this reader, these receipts, this last accepted group and this draft goes on with what is left
-pub record HasGone (last_line : LastLine) (origin : Origin) (text : List ℕ) (left old new : Option (List ℕ)) (place receipts : Option Beginning) (last : Option Accepted) (draft : Option Draft) : Type 0 where
+pub record HasGone (copying : Copying) (last_line : LastLine) (origin : Origin) (text : List ℕ) (left old new : Option (List ℕ)) (place receipts : Option Beginning) (last : Option Accepted) (draft : Option Draft) : Type 0 where
   pub here : Standing
-  pub served : HasServed last_line origin text old new here
+  pub served : HasServed copying last_line origin text old new here
   pub left_is : left ≡ Some here.left
   pub session : IsSessionAt origin place receipts here
   pub last_is : here.last ≡ last
   pub draft_is : HasDraft here.draft draft
 
-abbrev pub FarServed : LastLine → Origin → Option (List ℕ) → Option (List ℕ) → Option (List ℕ) → Option (List ℕ) → Option Beginning → Option Beginning → Option Accepted → Option Draft → Type 0
-FarServed last_line origin None left old new place receipts last draft = ⊤
-FarServed last_line origin (Some text) left old new place receipts last draft = HasGone last_line origin text left old new place receipts last draft
+abbrev pub FarServed : Copying → LastLine → Origin → Option (List ℕ) → Option (List ℕ) → Option (List ℕ) → Option (List ℕ) → Option Beginning → Option Beginning → Option Accepted → Option Draft → Type 0
+FarServed copying last_line origin None left old new place receipts last draft = ⊤
+FarServed copying last_line origin (Some text) left old new place receipts last draft = HasGone copying last_line origin text left old new place receipts last draft
 
-pub far_begun : (last_line : LastLine) (origin : Origin) (known written : Option (List ℕ)) (place receipts : Option Beginning) (last : Option Accepted) (draft : Option Draft) → place ≡ None → receipts ≡ None → last ≡ None → draft ≡ None
-    → FarServed last_line origin known known written written place receipts last draft
-far_begun last_line origin None written place receipts last draft no_place no_receipts no_last no_draft = tt
-far_begun last_line origin (Some text) written place receipts last draft no_place no_receipts no_last no_draft = record {
+pub far_begun : (copying : Copying) (last_line : LastLine) (origin : Origin) (known written : Option (List ℕ)) (place receipts : Option Beginning) (last : Option Accepted) (draft : Option Draft) → place ≡ None → receipts ≡ None → last ≡ None → draft ≡ None
+    → FarServed copying last_line origin known known written written place receipts last draft
+far_begun copying last_line origin None written place receipts last draft no_place no_receipts no_last no_draft = tt
+far_begun copying last_line origin (Some text) written place receipts last draft no_place no_receipts no_last no_draft = record {
   here = beginning text;
   served = record { turns = []; are = refl; written = Appends-nil written };
   left_is = refl;
@@ -38,18 +39,18 @@ far_begun last_line origin (Some text) written place receipts last draft no_plac
   draft_is = rw no_draft tt;
 }
 
-one_more : (last_line : LastLine) (origin : Origin) (first : Standing) (turns : List Standing) (mid last : Standing) → AreTurns last_line origin first turns mid → IsTurn last_line origin mid last → AreTurns last_line origin first (turns ++ last ∷ []) last
-one_more last_line origin first [] mid last are turn = (subst (λ (s : Standing). IsTurn last_line origin s last) are turn, refl)
-one_more last_line origin first (next ∷ turns) mid last are turn = (are.0, one_more last_line origin next turns mid last are.1 turn)
+one_more : (copying : Copying) (last_line : LastLine) (origin : Origin) (first : Standing) (turns : List Standing) (mid last : Standing) → AreTurns copying last_line origin first turns mid → IsTurn copying last_line origin mid last → AreTurns copying last_line origin first (turns ++ last ∷ []) last
+one_more copying last_line origin first [] mid last are turn = (subst (λ (s : Standing). IsTurn copying last_line origin s last) are turn, refl)
+one_more copying last_line origin first (next ∷ turns) mid last are turn = (are.0, one_more copying last_line origin next turns mid last are.1 turn)
 
-turned : (last_line : LastLine) (origin : Origin) (text : List ℕ) (left rest old mid new : Option (List ℕ)) (r s had has : Option Beginning) (before last : Option Accepted) (draft next : Option Draft) (line : Line) → is_quit line ≡ false
-    → (far : HasGone last_line origin text left old mid r had before draft) → ReadsOne last_line far.here.left rest line → Tells origin far.here.draft line before last (known_to s) had has mid new
-    → HasDraft (next_draft far.here.draft line) next → IsPrefix (known_to r) (known_to s) → HasGone last_line origin text rest old new s has last next
-turned last_line origin text left rest old mid new r s had has before last draft next line goes_on far reads tells drafted begins =
+turned : (copying : Copying) (last_line : LastLine) (origin : Origin) (text : List ℕ) (left rest old mid new : Option (List ℕ)) (r s had has : Option Beginning) (before last : Option Accepted) (draft next : Option Draft) (line : Line) → is_quit line ≡ false
+    → (far : HasGone copying last_line origin text left old mid r had before draft) → ReadsOne last_line far.here.left rest line → Tells copying origin far.here.draft line before last (known_to s) had has mid new
+    → HasDraft (next_draft far.here.draft line) next → IsPrefix (known_to r) (known_to s) → HasGone copying last_line origin text rest old new s has last next
+turned copying last_line origin text left rest old mid new r s had has before last draft next line goes_on far reads tells drafted begins =
     let there : Standing =
     record { left = reads.rest; told = far.here.told ++ tells.told; durable = far.here.durable ++ tells.durable; known = known_to s; last = last; draft = next_draft far.here.draft line } in
     let read : ReadsOne last_line far.here.left (Some reads.rest) line = record { bytes = reads.bytes; rest = reads.rest; first = reads.first; left_is = refl; is = reads.is } in
-    let turn : IsTurn last_line origin far.here there = record {
+    let turn : IsTurn copying last_line origin far.here there = record {
       line = line;
       goes_on = goes_on;
       read = read;
@@ -65,7 +66,7 @@ turned last_line origin text left rest old mid new r s had has before last draft
       here = there;
       served = record {
         turns = far.served.turns ++ there ∷ [];
-        are = one_more last_line origin (beginning text) far.served.turns far.here there far.served.are turn;
+        are = one_more copying last_line origin (beginning text) far.served.turns far.here there far.served.are turn;
         written = Appends-trans old mid new far.here.told tells.told far.served.written tells.written;
       };
       left_is = reads.left_is;
@@ -74,10 +75,10 @@ turned last_line origin text left rest old mid new r s had has before last draft
       draft_is = drafted;
     }
 
-pub far_turned : (last_line : LastLine) (origin : Origin) (known left rest old mid new : Option (List ℕ)) (r s had has : Option Beginning) (before last : Option Accepted) (draft next : Option Draft) (line : Line) → is_quit line ≡ false
-    → FarServed last_line origin known left old mid r had before draft → IfSome left (λ text. ReadsLine last_line text rest (Ok (Some line)))
-    → ((d : Option Drafted) → HasDraft d draft → Tells origin d line before last (known_to s) had has mid new) → ((d : Option Drafted) → HasDraft d draft → HasDraft (next_draft d line) next)
-    → IsPrefix (known_to r) (known_to s) → FarServed last_line origin known rest old new s has last next
-far_turned last_line origin None left rest old mid new r s had has before last draft next line goes_on far reads tells drafted begins = tt
-far_turned last_line origin (Some text) left rest old mid new r s had has before last draft next line goes_on far reads tells drafted begins =
-    turned last_line origin text left rest old mid new r s had has before last draft next line goes_on far (rw far.left_is at reads) (tells far.here.draft far.draft_is) (drafted far.here.draft far.draft_is) begins
+pub far_turned : (copying : Copying) (last_line : LastLine) (origin : Origin) (known left rest old mid new : Option (List ℕ)) (r s had has : Option Beginning) (before last : Option Accepted) (draft next : Option Draft) (line : Line) → is_quit line ≡ false
+    → FarServed copying last_line origin known left old mid r had before draft → IfSome left (λ text. ReadsLine last_line text rest (Ok (Some line)))
+    → ((d : Option Drafted) → HasDraft d draft → Tells copying origin d line before last (known_to s) had has mid new) → ((d : Option Drafted) → HasDraft d draft → HasDraft (next_draft d line) next)
+    → IsPrefix (known_to r) (known_to s) → FarServed copying last_line origin known rest old new s has last next
+far_turned copying last_line origin None left rest old mid new r s had has before last draft next line goes_on far reads tells drafted begins = tt
+far_turned copying last_line origin (Some text) left rest old mid new r s had has before last draft next line goes_on far reads tells drafted begins =
+    turned copying last_line origin text left rest old mid new r s had has before last draft next line goes_on far (rw far.left_is at reads) (tells far.here.draft far.draft_is) (drafted far.here.draft far.draft_is) begins

@@ -2,9 +2,9 @@ mod Fieldwise
 mod Worded
 mod Numbered
 mod Staged
+mod Naming
 mod Drafting
 mod Answered
 mod Bytewise
-mod Listed
 mod Going
 pub mod Lasting

@@ -21,7 +21,10 @@ use Rattle.sessions.specs.Judging.{IsOneField, IsSoFar, IsStage, letters_of}
 use Rattle.sessions.specs.SessionLines.{session_code, IsLine}
 use Rattle.sessions.specs.Spelled.{spelling, words, word_from}
 use Rattle.sessions.proofs.Fieldwise.{blank_first, ended_by_blank, ended_by_line, one_byte, one_more, first_field, remark_first, without_return, no_return}
-use Rattle.sessions.proofs.Worded.{unknown_row, long_field}
+use Rattle.std.specs.Str.{bytes_eq}
+use lib.Chars.{codes}
+use Rattle.sessions.specs.Names.{copy_of}
+use Rattle.sessions.proofs.Worded.{unknown_row, long_field, not_copy, long_not_copy, copy_alone}
 
 -- ---- blanks and the first byte behind them
 pub more_blanks : (front : List ℕ) (b : ℕ) → is_blank b ≡ true → IsStage front Blank → IsStage (front ++ b ∷ []) Blank
@@ -70,25 +73,26 @@ too_long front b letters plain nine is more =
     rw (append_assoc front (b ∷ []) more) (is.goes_on (b ∷ more) ∙ ap (λ (l : List ℕ). fields (l ++ b ∷ more)) is.letters_are ∙ ap (λ (l : List ℕ). fields (is.first ∷ l)) (sym (append_assoc is.others (b ∷ []) more)) ∙ found.row) in
     let count : length (is.first ∷ is.others) ≡ 9 = sym (ap length is.letters_are) ∙ nine in
     let long : 9 < length (is.first ∷ (w ++ found.tail)) = omega (arith, count, length-append w found.tail, length-append is.others (b ∷ [])) in
-    ap session_code row ∙ unknown_row is.first (w ++ found.tail) found.others is.no_remark (long_field (is.first ∷ (w ++ found.tail)) long)
+    ap session_code row ∙ unknown_row is.first (w ++ found.tail) found.others is.no_remark (long_field (is.first ∷ (w ++ found.tail)) long) (long_not_copy (is.first ∷ (w ++ found.tail)) found.others long)
 
 some_letters : (letters : List ℕ) (first : ℕ) (others : List ℕ) → letters ≡ first ∷ others → as_row letters ≡ letters ∷ []
 some_letters letters first others e = rw e refl
 
-first_whole : (front : List ℕ) (b : ℕ) (letters : Letters) (more : List ℕ) → is_blank b ≡ true → IsStage front (Beginning letters) → fields ((front ++ b ∷ []) ++ more) ≡ letters_of letters ∷ fields more
+pub first_whole : (front : List ℕ) (b : ℕ) (letters : Letters) (more : List ℕ) → is_blank b ≡ true → IsStage front (Beginning letters) → fields ((front ++ b ∷ []) ++ more) ≡ letters_of letters ∷ fields more
 first_whole front b letters more blank is =
     rw (append_assoc front (b ∷ []) more) (
     is.goes_on (b ∷ more) ∙ ended_by_blank (letters_of letters) b more is.no_blank blank
     ∙ ap (λ (l : Row). l ++ fields more) (some_letters (letters_of letters) is.first is.others is.letters_are)
     )
 
-pub unknown_ended : (front : List ℕ) (b : ℕ) (letters : Letters) → is_blank b ≡ true → None ≡ word_from (letters_of letters) → IsStage front (Beginning letters) → IsStage (front ++ b ∷ []) Unknown
-unknown_ended front b letters blank none is more =
+pub unknown_ended : (front : List ℕ) (b : ℕ) (letters : Letters) → is_blank b ≡ true → None ≡ word_from (letters_of letters) → bytes_eq (letters_of letters) (codes "copy") ≡ false → IsStage front (Beginning letters) → IsStage (front ++ b ∷ []) Unknown
+unknown_ended front b letters blank none other is more =
     let row : fields ((front ++ b ∷ []) ++ more) ≡ (is.first ∷ is.others) ∷ fields more = first_whole front b letters more blank is ∙ ap (λ (l : List ℕ). l ∷ fields more) is.letters_are in
     let no : word_from (is.first ∷ is.others) ≡ None = sym (ap word_from is.letters_are) ∙ sym none in
-    ap session_code row ∙ unknown_row is.first is.others (fields more) is.no_remark no
+    let no_copy : copy_of ((is.first ∷ is.others) ∷ fields more) ≡ None = not_copy (is.first ∷ is.others) (fields more) (sym (ap (λ (l : List ℕ). bytes_eq l (codes "copy")) is.letters_are) ∙ other) in
+    ap session_code row ∙ unknown_row is.first is.others (fields more) is.no_remark no no_copy
 
-no_bytes : IsOneField []
+pub no_bytes : IsOneField []
 no_bytes k d l = absurd (omega (arith, l))
 
 pub word_ended : (front : List ℕ) (b : ℕ) (letters : Letters) (word : Word) → is_blank b ≡ true → Some word ≡ word_from (letters_of letters) → IsStage front (Beginning letters)
@@ -153,7 +157,7 @@ first_alone front letters is =
 pub unknown_alone : (front : List ℕ) (letters : Letters) → None ≡ word_from (letters_of letters) → IsStage front (Beginning letters) → IsLine (fields front) (Refused BadLine)
 unknown_alone front letters none is =
     let no : word_from (is.first ∷ is.others) ≡ None = sym (ap word_from is.letters_are) ∙ sym none in
-    ap session_code (first_alone front letters is ∙ ap (λ (l : List ℕ). l ∷ []) is.letters_are) ∙ unknown_row is.first is.others [] is.no_remark no
+    ap session_code (first_alone front letters is ∙ ap (λ (l : List ℕ). l ∷ []) is.letters_are) ∙ unknown_row is.first is.others [] is.no_remark no (copy_alone (is.first ∷ is.others))
 
 pub word_alone : (front : List ℕ) (letters : Letters) (word : Word) (line : Line) → Some word ≡ word_from (letters_of letters)
     → ((row : Row) → IsNumbers row Nothing → IsLine (spelling word ∷ row) line) → IsStage front (Beginning letters) → IsLine (fields front) line

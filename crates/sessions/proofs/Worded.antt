@@ -1,5 +1,6 @@
 -- What a line asks for, by its word and the numbers behind it.
 use Rattle.std.proofs.Common.{◌≡◌, ◌≢◌, ◌∙◌, ℕ, ◌<◌, Bool, true, false, ◌||◌, cond, eqb, ltb, List, [], ◌∷◌, Option, None, Some, length, refl, sym, ap, inl, inr, arith}
+use Rattle.std.specs.Prelude.{if◌then◌else◌}
 use Rattle.std.specs.Str.{bytes_eq}
 use Rattle.std.proofs.lemmas.Bool.{or_parts, lt-ltb, ne_eqb, false_from_ne_true}
 use Rattle.std.proofs.lemmas.Slice.Eq.{bytes_eq-Decides}
@@ -29,17 +30,18 @@ use Rattle.sessions.specs.declared.fields.Numbers.{Numbers}
 use Rattle.sessions.specs.declared.fields.Numbers.TheVariants.{Nothing, One, Two, Three, TooMany}
 use Rattle.sessions.specs.Fields.{IsNumbers, AreTwo, AreThree, number_of, has_one, has_two, has_three}
 use Rattle.sessions.specs.SessionLines.{forms, session_code, line_of, AsksFor, IsLine}
+use Rattle.sessions.specs.Names.{copy_of, name_from}
 use Rattle.sessions.specs.Spelled.{spelling, words, word_from}
 use Rattle.sessions.specs.Words.{bare_line, one_line, two_line}
 
 -- ---- the word of a field
 -- a field that is no word and begins no comment
-pub unknown_row : (first : ℕ) (w : List ℕ) (others : Row) → first ≢ 35 → word_from (first ∷ w) ≡ None → session_code ((first ∷ w) ∷ others) ≡ Some BadLine
+pub unknown_row : (first : ℕ) (w : List ℕ) (others : Row) → first ≢ 35 → word_from (first ∷ w) ≡ None → copy_of ((first ∷ w) ∷ others) ≡ None → session_code ((first ∷ w) ∷ others) ≡ Some BadLine
 unfolding command_code
-unknown_row first w others plain none =
+unknown_row first w others plain none no_copy =
     let some : ltb 0 (length (first ∷ w)) ≡ true = lt-ltb _ _ (omega arith) in
     let mark : eqb first 35 ≡ false = ne_eqb first 35 plain in
-    rw (some, mark, unformed spelling words (first ∷ w) others forms none refl) refl
+    rw (no_copy, some, mark, unformed spelling words (first ∷ w) others forms none refl) refl
 
 -- more bytes than a word has
 other_bytes : (field word : List ℕ) → length word < length field → bytes_eq field word ≡ false
@@ -69,37 +71,53 @@ long_field field long =
       other_bytes field (codes "lay") (omega (arith, long)),
     ) refl
 
+-- a first field that is not `copy`
+pub not_copy : (field : List ℕ) (others : Row) → bytes_eq field (codes "copy") ≡ false → copy_of (field ∷ others) ≡ None
+not_copy field others other = rw other refl
+
+pub long_not_copy : (field : List ℕ) (others : Row) → 9 < length field → copy_of (field ∷ others) ≡ None
+long_not_copy field others long = not_copy field others (other_bytes field (codes "copy") (omega (arith, long)))
+
+-- `copy` without a name
+pub copy_alone : (field : List ℕ) → copy_of (field ∷ []) ≡ None
+copy_alone field = go (bytes_eq field (codes "copy"))
+  where
+    go : (b : Bool) → (if b then name_from [] else None) ≡ None
+    go true = refl
+    go false = refl
+
 -- ---- words with so many numbers behind them
 record IsForm (word : List ℕ) (n : ℕ) : Type 0 where
   plain : (numbers : Row) → (is_empty (word ∷ numbers) || is_remark 35 (word ∷ numbers)) ≡ false
   formed : (numbers : Row) → form_of forms (word ∷ numbers) ≡ Some (form word n)
+  no_copy : (numbers : Row) → copy_of (word ∷ numbers) ≡ None
 
 bare_form : (word : Bare) → IsForm (spelling (WithNone word)) 0
-bare_form Wait = record { plain = λ numbers. refl; formed = λ numbers. refl }
-bare_form Quit = record { plain = λ numbers. refl; formed = λ numbers. refl }
-bare_form Begin = record { plain = λ numbers. refl; formed = λ numbers. refl }
-bare_form End = record { plain = λ numbers. refl; formed = λ numbers. refl }
-bare_form Landmarks = record { plain = λ numbers. refl; formed = λ numbers. refl }
-bare_form Closed = record { plain = λ numbers. refl; formed = λ numbers. refl }
-bare_form State = record { plain = λ numbers. refl; formed = λ numbers. refl }
+bare_form Wait = record { plain = λ numbers. refl; formed = λ numbers. refl; no_copy = λ numbers. refl }
+bare_form Quit = record { plain = λ numbers. refl; formed = λ numbers. refl; no_copy = λ numbers. refl }
+bare_form Begin = record { plain = λ numbers. refl; formed = λ numbers. refl; no_copy = λ numbers. refl }
+bare_form End = record { plain = λ numbers. refl; formed = λ numbers. refl; no_copy = λ numbers. refl }
+bare_form Landmarks = record { plain = λ numbers. refl; formed = λ numbers. refl; no_copy = λ numbers. refl }
+bare_form Closed = record { plain = λ numbers. refl; formed = λ numbers. refl; no_copy = λ numbers. refl }
+bare_form State = record { plain = λ numbers. refl; formed = λ numbers. refl; no_copy = λ numbers. refl }
 
 one_form : (word : OneWord) → IsForm (spelling (WithOne word)) 1
-one_form (one_common Close) = record { plain = λ numbers. refl; formed = λ numbers. refl }
-one_form (one_common Reopen) = record { plain = λ numbers. refl; formed = λ numbers. refl }
-one_form (one_common Mark) = record { plain = λ numbers. refl; formed = λ numbers. refl }
-one_form (one_common Unmark) = record { plain = λ numbers. refl; formed = λ numbers. refl }
-one_form Arc = record { plain = λ numbers. refl; formed = λ numbers. refl }
-one_form Until = record { plain = λ numbers. refl; formed = λ numbers. refl }
+one_form (one_common Close) = record { plain = λ numbers. refl; formed = λ numbers. refl; no_copy = λ numbers. refl }
+one_form (one_common Reopen) = record { plain = λ numbers. refl; formed = λ numbers. refl; no_copy = λ numbers. refl }
+one_form (one_common Mark) = record { plain = λ numbers. refl; formed = λ numbers. refl; no_copy = λ numbers. refl }
+one_form (one_common Unmark) = record { plain = λ numbers. refl; formed = λ numbers. refl; no_copy = λ numbers. refl }
+one_form Arc = record { plain = λ numbers. refl; formed = λ numbers. refl; no_copy = λ numbers. refl }
+one_form Until = record { plain = λ numbers. refl; formed = λ numbers. refl; no_copy = λ numbers. refl }
 
 two_form : (word : TwoWord) → IsForm (spelling (WithTwo word)) 2
-two_form (two_common Set) = record { plain = λ numbers. refl; formed = λ numbers. refl }
-two_form (two_common Dist) = record { plain = λ numbers. refl; formed = λ numbers. refl }
-two_form (two_common From) = record { plain = λ numbers. refl; formed = λ numbers. refl }
-two_form (two_common Lower) = record { plain = λ numbers. refl; formed = λ numbers. refl }
-two_form Arcs = record { plain = λ numbers. refl; formed = λ numbers. refl }
+two_form (two_common Set) = record { plain = λ numbers. refl; formed = λ numbers. refl; no_copy = λ numbers. refl }
+two_form (two_common Dist) = record { plain = λ numbers. refl; formed = λ numbers. refl; no_copy = λ numbers. refl }
+two_form (two_common From) = record { plain = λ numbers. refl; formed = λ numbers. refl; no_copy = λ numbers. refl }
+two_form (two_common Lower) = record { plain = λ numbers. refl; formed = λ numbers. refl; no_copy = λ numbers. refl }
+two_form Arcs = record { plain = λ numbers. refl; formed = λ numbers. refl; no_copy = λ numbers. refl }
 
 lay_form : IsForm (spelling Lay) 3
-lay_form = record { plain = λ numbers. refl; formed = λ numbers. refl }
+lay_form = record { plain = λ numbers. refl; formed = λ numbers. refl; no_copy = λ numbers. refl }
 
 bare_made : (word : Bare) (numbers : Row) → line_of (spelling (WithNone word) ∷ numbers) ≡ Some (bare_line word)
 bare_made Wait numbers = refl
@@ -130,25 +148,25 @@ lay_made numbers = refl
 
 malformed : (word : List ℕ) (n : ℕ) (numbers : Row) → IsForm word n → is_malformed n numbers ≡ true → session_code (word ∷ numbers) ≡ Some BadLine
 unfolding command_code
-malformed word n numbers f e = rw (f.plain numbers, f.formed numbers, e) refl
+malformed word n numbers f e = rw (f.no_copy numbers, f.plain numbers, f.formed numbers, e) refl
 
 code_alone : (word : List ℕ) → IsForm word 0 → session_code (word ∷ []) ≡ None
 unfolding command_code
-code_alone word f = rw (f.plain [], f.formed []) refl
+code_alone word f = rw (f.no_copy [], f.plain [], f.formed []) refl
 
 code_of_one : (word u : List ℕ) (a : Numeral) → IsForm word 1 → numeral u ≡ Some a → session_code (word ∷ u ∷ []) ≡ cond (is_refused a) (Some NumberRange) None
 unfolding command_code
-code_of_one word u a f e = rw (f.plain (u ∷ []), f.formed (u ∷ []), e) (simp or-false)
+code_of_one word u a f e = rw (f.no_copy (u ∷ []), f.plain (u ∷ []), f.formed (u ∷ []), e) (simp or-false)
 
 code_of_two : (word u v : List ℕ) (a b : Numeral) → IsForm word 2 → numeral u ≡ Some a → numeral v ≡ Some b
     → session_code (word ∷ u ∷ v ∷ []) ≡ cond (is_refused a || is_refused b) (Some NumberRange) None
 unfolding command_code
-code_of_two word u v a b f d e = rw (f.plain (u ∷ v ∷ []), f.formed (u ∷ v ∷ []), d, e) (simp or-false)
+code_of_two word u v a b f d e = rw (f.no_copy (u ∷ v ∷ []), f.plain (u ∷ v ∷ []), f.formed (u ∷ v ∷ []), d, e) (simp or-false)
 
 code_of_three : (word u v w : List ℕ) (a b d : Numeral) → IsForm word 3 → numeral u ≡ Some a → numeral v ≡ Some b → numeral w ≡ Some d
     → session_code (word ∷ u ∷ v ∷ w ∷ []) ≡ cond (is_refused a || (is_refused b || is_refused d)) (Some NumberRange) None
 unfolding command_code
-code_of_three word u v w a b d f e g h = rw (f.plain (u ∷ v ∷ w ∷ []), f.formed (u ∷ v ∷ w ∷ []), e, g, h) (simp or-false)
+code_of_three word u v w a b d f e g h = rw (f.no_copy (u ∷ v ∷ w ∷ []), f.plain (u ∷ v ∷ w ∷ []), f.formed (u ∷ v ∷ w ∷ []), e, g, h) (simp or-false)
 
 -- ---- what stands behind a word
 -- not so many fields

@@ -1,6 +1,7 @@
 -- What is known of a line before it ends, without its bytes.
 use Rattle.std.specs.Prelude.{◌≡◌, ℕ, true, false, List, [], ◌∷◌, ◌++◌, All, take, Some, ◌≢◌, if◌then◌else◌}
 use Rattle.std.specs.Io.BufRead.{strip_last}
+use lib.Chars.{codes}
 use Rattle.dimacs.specs.declared.fault.Code.TheVariants.{BadLine}
 use Rattle.dimacs.specs.Faults.{Row, is_remark}
 use Rattle.dimacs.specs.Lines.{is_blank, fields}
@@ -8,11 +9,12 @@ use Rattle.sessions.specs.declared.fields.Field.{Field}
 use Rattle.sessions.specs.declared.fields.Numbers.{Numbers}
 use Rattle.sessions.specs.declared.words.Word.{Word}
 use Rattle.sessions.specs.declared.letters.Letters.{Letters}
+use Rattle.sessions.specs.declared.names.Name.{Name}
 use Rattle.sessions.specs.declared.lines.Stage.{Stage}
-use Rattle.sessions.specs.declared.lines.Stage.TheVariants.{Blank, Beginning, Remark, Unknown, Behind}
+use Rattle.sessions.specs.declared.lines.Stage.TheVariants.{Blank, Beginning, Remark, Unknown, Behind, Unnamed, Naming, Named}
 use Rattle.sessions.specs.declared.lines.LineSoFar.{LineSoFar}
 use Rattle.sessions.specs.Fields.{IsField, IsNumbers}
-use Rattle.sessions.specs.SessionLines.{session_code}
+use Rattle.sessions.specs.SessionLines.{session_code, name_of}
 use Rattle.sessions.specs.Spelled.{spelling}
 
 -- the bytes of the first field
@@ -41,6 +43,11 @@ pub record GoesOnBehind (front : List ℕ) (word : Word) (numbers : Numbers) (fi
   pub no_blank : IsOneField last
   pub goes_on : (more : List ℕ) → fields (front ++ more) ≡ spelling word ∷ (whole ++ fields (last ++ more))
 
+-- the line begins with `copy`, then has a field that begins with this name, and may go on
+pub record GoesOnNaming (front name : List ℕ) : Type 0 where
+  pub no_blank : IsOneField name
+  pub goes_on : (more : List ℕ) → fields (front ++ more) ≡ codes "copy" ∷ fields (name ++ more)
+
 -- what is known of the front of a line
 abbrev pub IsStage : List ℕ → Stage → Type 0
 IsStage front Blank = (more : List ℕ) → fields (front ++ more) ≡ fields more
@@ -48,6 +55,9 @@ IsStage front (Beginning letters) = BeginsWith front (letters_of letters)
 IsStage front Remark = (more : List ℕ) → is_remark 35 (fields (front ++ more)) ≡ true
 IsStage front Unknown = (more : List ℕ) → session_code (fields (front ++ more)) ≡ Some BadLine
 IsStage front (Behind word numbers field) = GoesOnBehind front word numbers field
+IsStage front Unnamed = (more : List ℕ) → fields (front ++ more) ≡ codes "copy" ∷ fields more
+IsStage front (Naming name) = GoesOnNaming front (name_of name)
+IsStage front (Named name) = (more : List ℕ) → fields (front ++ more) ≡ codes "copy" ∷ name_of name ∷ fields more
 
 -- these bytes came: where the last is a carriage return, it waits for what follows
 pub record IsSoFar (front : List ℕ) (line : LineSoFar) : Type 0 where

@@ -1,8 +1,9 @@
 pub mod Spelled
+pub mod Names
+pub mod Copying
 pub mod Words
 pub mod Fields
 pub mod SessionLines
-pub mod Looks
 pub mod Judging
 pub mod Reads
 pub mod Drafts

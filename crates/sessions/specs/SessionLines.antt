@@ -1,6 +1,6 @@
--- The lines of a session: those of command texts, the queries of scripts, those that look at the network or at the desk, `wait`, `until` and `quit`, and
--- `begin` and `end` about a group.
-use Rattle.std.specs.Prelude.{◌≡◌, ℕ, ◌||◌, true, List, [], ◌∷◌, ◌++◌, Option, None, Some, if◌then◌else◌}
+-- The lines of a session: those of command texts, the queries of scripts, those that look at the network or at the desk, `wait`, `until` and `quit`,
+-- `begin` and `end` about a group, and `copy`, behind which a name stands.
+use Rattle.std.specs.Prelude.{◌≡◌, ℕ, ◌||◌, true, List, [], ◌∷◌, ◌++◌, take, Option, None, Some, is_some, if◌then◌else◌}
 use Rattle.std.specs.Option.{option_map}
 use Rattle.std.specs.Str.{bytes_eq}
 use lib.Chars.{codes}
@@ -11,24 +11,30 @@ use Rattle.dimacs.specs.Content.{size_at}
 use Rattle.dimacs.specs.Faults.{Row, is_empty, is_remark}
 use Rattle.rows.specs.declared.queries.Query.TheVariants.{Dist, From, Lower}
 use Rattle.sessions.specs.declared.lines.Line.{Line}
-use Rattle.sessions.specs.declared.lines.Line.TheVariants.{Ignored, Command, Query, Look, Wait, Until, State, Quit, Begin, End, Refused}
-use Rattle.sessions.specs.declared.looks.Look.TheVariants.{Arc, Arcs, Landmarks, Closed}
+use Rattle.sessions.specs.declared.lines.Line.TheVariants.{Ignored, Command, Query, Look, Copy, Wait, Until, State, Quit, Begin, End, Refused}
+use Rattle.printing.specs.declared.looks.Look.TheVariants.{Arc, Between, Landmarks, Closed}
+use Rattle.sessions.specs.declared.names.Name.{Name}
+use Rattle.sessions.specs.Names.{copy_of}
 
--- the words of a session, with how many numbers follow them
+-- the words of a session behind which numbers stand, with how many follow them
 abbrev pub forms : List Form
 forms = commands ++ form (codes "dist") 2 ∷ form (codes "from") 2 ∷ form (codes "lower") 2 ∷ form (codes "arc") 1 ∷ form (codes "arcs") 2 ∷ form (codes "landmarks") 0 ∷ form (codes "closed") 0 ∷ form (codes "wait") 0 ∷ form (codes "until") 1 ∷ form (codes "state") 0 ∷ form (codes "quit") 0 ∷ form (codes "begin") 0 ∷ form (codes "end") 0 ∷ []
 
--- the code of a line, by the table of command texts with these words
-abbrev pub session_code : Row → Option Code
-session_code row = command_code forms [] row
+-- the bytes of a name
+abbrev pub name_of : Name → List ℕ
+name_of name = take name.count name.bytes
 
--- what a line asks for, by its word and the fields behind it
+-- the code of a line: none of `copy` with a name, and else by the table of command texts with these words
+abbrev pub session_code : Row → Option Code
+session_code row = if is_some (copy_of row) then None else command_code forms [] row
+
+-- what a line asks for, by its word and the numbers behind it
 abbrev pub line_from : List ℕ → Row → Option Line
 line_from word others = if bytes_eq word (codes "dist") then Some (Query (Dist (size_at others 0) (size_at others 1)))
     else (if bytes_eq word (codes "from") then Some (Query (From (size_at others 0) (size_at others 1)))
     else (if bytes_eq word (codes "lower") then Some (Query (Lower (size_at others 0) (size_at others 1)))
     else (if bytes_eq word (codes "arc") then Some (Look (Arc (size_at others 0)))
-    else (if bytes_eq word (codes "arcs") then Some (Look (Arcs (size_at others 0) (size_at others 1)))
+    else (if bytes_eq word (codes "arcs") then Some (Look (Between (size_at others 0) (size_at others 1)))
     else (if bytes_eq word (codes "landmarks") then Some (Look Landmarks)
     else (if bytes_eq word (codes "closed") then Some (Look Closed)
     else (if bytes_eq word (codes "wait") then Some Wait
@@ -54,6 +60,7 @@ IsLine row (Refused code) = session_code row ≡ Some code
 IsLine row (Command command) = AsksFor row (Command command)
 IsLine row (Query query) = AsksFor row (Query query)
 IsLine row (Look look) = AsksFor row (Look look)
+IsLine row (Copy name) = copy_of row ≡ Some (name_of name)
 IsLine row Wait = AsksFor row Wait
 IsLine row (Until number) = AsksFor row (Until number)
 IsLine row State = AsksFor row State

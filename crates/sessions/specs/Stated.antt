@@ -22,17 +22,25 @@ working_word Broken = codes "broken"
 abbrev pub versions_part : DeskState → List ℕ
 versions_part state = named (codes "state shown ") state.shown ++ named (codes " durable ") state.durable
 
--- what waits, and how full the journal is
+-- what waits
+abbrev pub waiting_part : DeskState → List ℕ
+waiting_part state = named (codes " accepted ") state.accepted ++ named (codes " pending ") state.pending
+
+-- how full the journal is
 abbrev pub journal_part : DeskState → List ℕ
-journal_part state = named (codes " pending ") state.pending ++ named (codes " unchecked ") state.unchecked ++ named (codes " pages ") state.pages
+journal_part state = named (codes " unchecked ") state.unchecked ++ named (codes " pages ") state.pages
+
+-- its landmarks, and how many commands it may still take
+abbrev pub life_part : DeskState → List ℕ
+life_part state = named (codes " landmarks ") state.landmarks ++ named (codes " left ") state.left
 
 -- its threads
 abbrev pub threads_part : DeskState → List ℕ
 threads_part state = (codes " flusher " ++ working_word state.flusher) ++ (codes " builder " ++ working_word state.builder) ++ codes "\n"
 
--- `state shown V durable D pending P unchecked U pages J flusher F builder B`
+-- `state shown V durable D accepted A pending P unchecked U pages J landmarks L left C flusher F builder B`
 abbrev pub state_line : DeskState → List ℕ
-state_line state = versions_part state ++ journal_part state ++ threads_part state
+state_line state = versions_part state ++ waiting_part state ++ journal_part state ++ life_part state ++ threads_part state
 
 -- that, or `no CODE`
 abbrev pub state_or_refusal : Result DeskState Refusal → List ℕ

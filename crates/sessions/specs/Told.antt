@@ -1,5 +1,5 @@
 -- What a session is told by its desk, and what it tells.
-use Rattle.std.specs.Prelude.{◌≡◌, ◌⊎◌, ℕ, ◌+◌, ◌≤◌, List, [], ◌∷◌, ◌++◌, length, All, Option, None, Some, Result, Ok, Err, ⊤}
+use Rattle.std.specs.Prelude.{◌≡◌, ◌⊎◌, ℕ, ◌+◌, ◌≤◌, true, false, List, [], ◌∷◌, ◌++◌, length, All, Option, None, Some, Result, Ok, Err, ⊤}
 use Rattle.roadnet.specs.declared.groups.Group.{Group}
 use Rattle.roadnet.specs.declared.refusals.Refusal.{Refusal}
 use Rattle.roadnet.specs.declared.refusals.Refusal.TheVariants.{Read, Write}
@@ -20,11 +20,14 @@ use Rattle.desk.specs.Turns.{IsUnserved, IsUntaken}
 use Rattle.dimacs.specs.Counts.{one_more_failed}
 use Rattle.printing.specs.declared.failed.Failed.{Failed}
 use Rattle.printing.specs.declared.failed.Failed.TheVariants.{Code}
-use Rattle.printing.specs.Printed.{version_line, refusal_line}
+use lib.Chars.{codes}
+use Rattle.printing.specs.Printed.{refusal_line}
+use Rattle.printing.specs.Replied.{number_line}
+use Rattle.sessions.specs.Copying.{Copying, IsUnmade}
 use Rattle.sessions.specs.declared.answers.Accepted.{Accepted}
 use Rattle.sessions.specs.declared.answers.Accepted.TheVariants.{Settled, Unsettled}
-use Rattle.sessions.specs.declared.looks.Look.{Look}
-use Rattle.sessions.specs.Looks.{look_lines}
+use Rattle.printing.specs.declared.looks.Look.{Look}
+use Rattle.printing.specs.Looks.{look_lines}
 
 -- the ticket of an accepted group, with its desk
 abbrev pub claim_of : Accepted → Claimed
@@ -84,11 +87,37 @@ Replies origin groups query other = ⊥
 pub record LooksAfter (origin : Origin) (groups : List Group) (look : Look) (told : List ℕ) : Type 0 where
   pub network : Net
   pub network_is : after origin.base groups ≡ Some network
-  pub told_is : told ≡ version_line (origin.version + length groups) ++ look_lines network look
+  pub told_is : told ≡ look_lines network (origin.version + length groups) look
 
 -- or that there is no view to look at (60, 11, 61)
 abbrev pub IsLooked : Origin → List Group → Look → List ℕ → Type 0
 IsLooked origin groups look told = LooksAfter origin groups look told ⊎ ((refusal : Refusal) × IsNoReader refusal × (told ≡ refusal_line (number_of refusal)))
+
+-- `copied V`
+abbrev pub copied_line : ℕ → List ℕ
+copied_line version = number_line (codes "copied ") version
+
+-- that, or `no CODE`
+abbrev pub copied_or_refusal : Result ℕ Refusal → List ℕ
+copied_or_refusal (Ok version) = copied_line version
+copied_or_refusal (Err refusal) = refusal_line (number_of refusal)
+
+-- a copy of this name was made of the desk's network after these groups, at the version after them, which is told
+pub record CopiesAfter (copying : Copying) (origin : Origin) (groups : List Group) (name told : List ℕ) : Type 0 where
+  pub network : Net
+  pub network_is : after origin.base groups ≡ Some network
+  pub made : copying.made name network (origin.version + length groups)
+  pub told_is : told ≡ copied_line (origin.version + length groups)
+
+-- why there is no copy: no view to make it of (60, 11, 61), or that it is not made (46, 43, 10, 11)
+abbrev pub IsUncopied : Refusal → Type 0
+IsUncopied refusal = IsNoReader refusal ⊎ IsUnmade refusal
+
+-- what a line `copy` is told: the version of the copy, or why there is none; where no copies are made, that it is no line (1)
+abbrev pub IsCopied : Copying → Origin → List Group → List ℕ → List ℕ → Type 0
+IsCopied copying origin groups name told =
+    ((copying.allowed ≡ false) × (told ≡ refusal_line 1))
+    ⊎ ((copying.allowed ≡ true) × (CopiesAfter copying origin groups name told ⊎ ((refusal : Refusal) × IsUncopied refusal × (told ≡ refusal_line (number_of refusal)))))
 
 -- the groups that a session has seen or was told of at its place among the readers, if it has one
 abbrev pub known_to : Option Beginning → List Group

@@ -23,11 +23,13 @@ use Rattle.printing.specs.Replied.{printed_reply}
 use Rattle.sessions.specs.declared.answers.Accepted.{Accepted}
 use Rattle.sessions.specs.declared.lines.Line.{Line}
 use Rattle.sessions.specs.declared.reading.LastLine.{LastLine}
-use Rattle.sessions.specs.declared.lines.Line.TheVariants.{Ignored, Command as a_command, Query, Look as a_look, Wait, Until, State, Quit, Begin, End, Refused}
+use Rattle.sessions.specs.declared.lines.Line.TheVariants.{Ignored, Command as a_command, Query, Look as a_look, Copy, Wait, Until, State, Quit, Begin, End, Refused}
+use Rattle.sessions.specs.Copying.{Copying}
+use Rattle.sessions.specs.SessionLines.{name_of}
 use Rattle.sessions.specs.Drafts.{Drafted, fault_of, next_draft}
 use Rattle.sessions.specs.Reads.{ReadsOne, FailsInLine, ReadsLine}
 use Rattle.sessions.specs.Stated.{state_or_refusal}
-use Rattle.sessions.specs.Told.{HaveReceipts, HasMore, Settles, Replies, IsLooked, IsReached, ShowsLast, IsUnshown, known_to, told_durable}
+use Rattle.sessions.specs.Told.{HaveReceipts, HasMore, Settles, Replies, IsLooked, IsCopied, IsReached, ShowsLast, IsUnshown, known_to, told_durable}
 
 -- the number by which the fault of a line or of a group is told
 abbrev pub fault_number : Code → ℕ
@@ -48,31 +50,32 @@ IsEndAnswer origin None group before last told durable =
 
 -- What a line is told, and which groups it tells to be durable, within this group or outside of groups, where the session's last accepted group
 -- was `before` and is `last`, and the session knows these groups. A command outside is a group of its own. Within a group nothing is told before its end.
-abbrev pub IsAnswer : Origin → Option Drafted → Line → Option Accepted → Option Accepted → List Group → List ℕ → List Ticket → Type 0
-IsAnswer origin None (a_command command) before last known told durable =
+abbrev pub IsAnswer : Copying → Origin → Option Drafted → Line → Option Accepted → Option Accepted → List Group → List ℕ → List Ticket → Type 0
+IsAnswer copying origin None (a_command command) before last known told durable =
     (reply : Replied) × Settles origin before last (command ∷ []) reply × (told ≡ printed_reply reply) × (durable ≡ told_durable (command ∷ []) reply)
-IsAnswer origin None (Query query) before last known told durable =
+IsAnswer copying origin None (Query query) before last known told durable =
     (reply : Replied) × Replies origin known query reply × (told ≡ printed_reply reply) × (durable ≡ []) × (last ≡ before)
-IsAnswer origin None Wait before last known told durable =
+IsAnswer copying origin None Wait before last known told durable =
     (shown : Result ℕ Refusal) × IfOk shown (ShowsLast origin last known) × IfErr shown IsUnshown × (told ≡ version_or_refusal shown) × (durable ≡ []) × (last ≡ before)
-IsAnswer origin None (a_look look) before last known told durable = IsLooked origin known look told × (durable ≡ []) × (last ≡ before)
-IsAnswer origin None (Until number) before last known told durable =
+IsAnswer copying origin None (a_look look) before last known told durable = IsLooked origin known look told × (durable ≡ []) × (last ≡ before)
+IsAnswer copying origin None (Copy name) before last known told durable = IsCopied copying origin known (name_of name) told × (durable ≡ []) × (last ≡ before)
+IsAnswer copying origin None (Until number) before last known told durable =
     (shown : Result ℕ Refusal) × IfOk shown (IsReached origin number known) × IfErr shown IsUnshown × (told ≡ version_or_refusal shown) × (durable ≡ []) × (last ≡ before)
-IsAnswer origin None State before last known told durable =
+IsAnswer copying origin None State before last known told durable =
     (stood : Result DeskState Refusal) × IfOk stood (StoodSo origin) × IfErr stood (λ refusal. refusal ≡ Closed) × (told ≡ state_or_refusal stood) × (durable ≡ []) × (last ≡ before)
-IsAnswer origin None (Refused code) before last known told durable = (told ≡ refusal_line (fault_number code)) × (durable ≡ []) × (last ≡ before)
-IsAnswer origin None End before last known told durable = (told ≡ refusal_line (fault_number BadLine)) × (durable ≡ []) × (last ≡ before)
-IsAnswer origin None Ignored before last known told durable = (told ≡ []) × (durable ≡ []) × (last ≡ before)
-IsAnswer origin None Quit before last known told durable = (told ≡ []) × (durable ≡ []) × (last ≡ before)
-IsAnswer origin None Begin before last known told durable = (told ≡ []) × (durable ≡ []) × (last ≡ before)
-IsAnswer origin (Some draft) End before last known told durable = IsEndAnswer origin (fault_of draft) draft.commands before last told durable
-IsAnswer origin (Some draft) other before last known told durable = (told ≡ []) × (durable ≡ []) × (last ≡ before)
+IsAnswer copying origin None (Refused code) before last known told durable = (told ≡ refusal_line (fault_number code)) × (durable ≡ []) × (last ≡ before)
+IsAnswer copying origin None End before last known told durable = (told ≡ refusal_line (fault_number BadLine)) × (durable ≡ []) × (last ≡ before)
+IsAnswer copying origin None Ignored before last known told durable = (told ≡ []) × (durable ≡ []) × (last ≡ before)
+IsAnswer copying origin None Quit before last known told durable = (told ≡ []) × (durable ≡ []) × (last ≡ before)
+IsAnswer copying origin None Begin before last known told durable = (told ≡ []) × (durable ≡ []) × (last ≡ before)
+IsAnswer copying origin (Some draft) End before last known told durable = IsEndAnswer origin (fault_of draft) draft.commands before last told durable
+IsAnswer copying origin (Some draft) other before last known told durable = (told ≡ []) × (durable ≡ []) × (last ≡ before)
 
 -- The writer has this answer and no more. The beginning of the history that the session has goes on to one with what is told to be durable.
-pub record Tells (origin : Origin) (draft : Option Drafted) (line : Line) (before last : Option Accepted) (known : List Group) (had has : Option Beginning) (old new : Option (List ℕ)) : Type 0 where
+pub record Tells (copying : Copying) (origin : Origin) (draft : Option Drafted) (line : Line) (before last : Option Accepted) (known : List Group) (had has : Option Beginning) (old new : Option (List ℕ)) : Type 0 where
   pub told : List ℕ
   pub durable : List Ticket
-  pub is_answer : IsAnswer origin draft line before last known told durable
+  pub is_answer : IsAnswer copying origin draft line before last known told durable
   pub kept : HasMore origin had has durable
   pub written : Appends old new told
 
@@ -92,31 +95,31 @@ is_quit Quit = true
 is_quit other = false
 
 -- the next line, which is not `quit`, is read and answered
-pub record IsTurn (last_line : LastLine) (origin : Origin) (old new : Standing) : Type 0 where
+pub record IsTurn (copying : Copying) (last_line : LastLine) (origin : Origin) (old new : Standing) : Type 0 where
   pub line : Line
   pub goes_on : is_quit line ≡ false
   pub read : ReadsOne last_line old.left (Some new.left) line
   pub answer : List ℕ
   pub receipts : List Ticket
-  pub answers : IsAnswer origin old.draft line old.last new.last new.known answer receipts
+  pub answers : IsAnswer copying origin old.draft line old.last new.last new.known answer receipts
   pub draft : new.draft ≡ next_draft old.draft line
   pub told : new.told ≡ old.told ++ answer
   pub durable : new.durable ≡ old.durable ++ receipts
   pub begins : IsPrefix old.known new.known
 
 -- one line after the other
-abbrev pub AreTurns : LastLine → Origin → Standing → List Standing → Standing → Type 0
-AreTurns last_line origin first [] last = last ≡ first
-AreTurns last_line origin first (next ∷ others) last = IsTurn last_line origin first next × AreTurns last_line origin next others last
+abbrev pub AreTurns : Copying → LastLine → Origin → Standing → List Standing → Standing → Type 0
+AreTurns copying last_line origin first [] last = last ≡ first
+AreTurns copying last_line origin first (next ∷ others) last = IsTurn copying last_line origin first next × AreTurns copying last_line origin next others last
 
 -- a session over this text that has just begun
 abbrev pub beginning : List ℕ → Standing
 beginning text = record { left = text; told = []; durable = []; known = []; last = None; draft = None }
 
 -- the lines of the text up to here were answered in their order, and the writer has the answers and no more
-pub record HasServed (last_line : LastLine) (origin : Origin) (text : List ℕ) (old new : Option (List ℕ)) (last : Standing) : Type 0 where
+pub record HasServed (copying : Copying) (last_line : LastLine) (origin : Origin) (text : List ℕ) (old new : Option (List ℕ)) (last : Standing) : Type 0 where
   pub turns : List Standing
-  pub are : AreTurns last_line origin (beginning text) turns last
+  pub are : AreTurns copying last_line origin (beginning text) turns last
   pub written : Appends old new last.told
 
 -- the session has all that it told to be durable, and has seen or was told of these groups
@@ -132,8 +135,8 @@ pub record IsKept (history shown : Beginning) (last : Standing) : Type 0 where
 
 -- Behind these lines comes the line `quit` or the end of the text, which may follow a line without its end that is dropped; or the reader fails in a line,
 -- which is not carried out; and this holds of the session as far as it came. Where the writer fails nothing is said.
-abbrev pub Serves : {X : Type 0} → LastLine → Origin → List ℕ → Option (List ℕ) → Option (List ℕ) → Option (List ℕ) → (Standing → Type 0) → Result X Failed → Type 0
-Serves last_line origin text left old new Holds (Ok x) =
-    (last : Standing) × HasServed last_line origin text old new last × Holds last × (ReadsLine last_line last.left left (Ok None) ⊎ ReadsLine last_line last.left left (Ok (Some Quit)))
-Serves last_line origin text left old new Holds (Err (of_code Read)) = (last : Standing) × HasServed last_line origin text old new last × Holds last × FailsInLine last.left left
-Serves last_line origin text left old new Holds (Err other) = ⊤
+abbrev pub Serves : {X : Type 0} → Copying → LastLine → Origin → List ℕ → Option (List ℕ) → Option (List ℕ) → Option (List ℕ) → (Standing → Type 0) → Result X Failed → Type 0
+Serves copying last_line origin text left old new Holds (Ok x) =
+    (last : Standing) × HasServed copying last_line origin text old new last × Holds last × (ReadsLine last_line last.left left (Ok None) ⊎ ReadsLine last_line last.left left (Ok (Some Quit)))
+Serves copying last_line origin text left old new Holds (Err (of_code Read)) = (last : Standing) × HasServed copying last_line origin text old new last × Holds last × FailsInLine last.left left
+Serves copying last_line origin text left old new Holds (Err other) = ⊤

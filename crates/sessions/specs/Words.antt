@@ -2,7 +2,7 @@
 use Rattle.std.specs.Prelude.{ℕ}
 use Rattle.sessions.specs.declared.lines.Line.{Line}
 use Rattle.sessions.specs.declared.lines.Line.TheVariants.{Command as a_command, Query as a_query, Look as a_look, Wait as a_wait, Until as an_until, State as a_state, Quit as a_quit, Begin as a_begin, End as an_end}
-use Rattle.sessions.specs.declared.looks.Look.TheVariants.{Arc as arc_of, Arcs as arcs_of, Landmarks as landmarks_of, Closed as closed_of}
+use Rattle.printing.specs.declared.looks.Look.TheVariants.{Arc as arc_of, Between as arcs_of, Landmarks as landmarks_of, Closed as closed_of}
 use Rattle.roadnet.specs.declared.commands.Command.TheVariants.{Set as set_arc}
 use Rattle.rows.specs.declared.queries.Query.TheVariants.{Dist as distance, From as distance_from, Lower as lower_bound}
 use Rattle.sessions.specs.declared.words.Bare.{Bare}

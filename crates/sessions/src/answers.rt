@@ -9,19 +9,24 @@ ghost use Rattle.desk.specs.Turns.{IsUnserved};
 ghost use Rattle.printing.specs.Counting.{failed_writes, writer_of, IsSameWriter, CountsFailure};
 ghost use Rattle.machine.specs.declared.events.Replied.TheVariants.{Durable};
 ghost use Rattle.sessions.specs.Told.{claim_of, told_durable, HasMore, HasReceipt, HasShown, AnswersAfter, known_to, IsReached, IsRefusedFor, IsUnshown, Settles, Replies, ShowsLast};
+ghost use Rattle.sessions.specs.Copying.{IsUnmade, no_copying};
+ghost use Rattle.sessions.specs.SessionLines.{name_of};
 ghost use Rattle.sessions.specs.Drafts.{Drafted, HasDraft, IsDraft, next_draft};
 ghost use Rattle.sessions.specs.Turns.{Tells, Standing, IsSessionAt, IsKept};
 
+use crate::copies::Copies;
 use crate::drafts::{Draft, NoGroup};
 use crate::lines::{Line, is_end};
-use crate::looks::Look;
-use crate::telling::{tell_fault, tell_look, tell_refusal, tell_reply, tell_state, tell_version};
+use crate::names::Name;
+use crate::telling::{
+    tell_copied, tell_fault, tell_look, tell_refusal, tell_reply, tell_state, tell_version,
+};
 use desk::{Closed, Gate, Glance, Handle, Naming, Place, Receipt, Shown, Ticket};
 use dimacs::Code;
 use disk::Disk;
 use history::{Front, Whole};
 use machine::{Answer, Replied};
-use printing::{CountedWriter, Failed};
+use printing::{CountedWriter, Failed, Look};
 use roadnet::{Group, Refusal};
 use rows::{Query, Reply};
 use std::alloc::Global;
@@ -110,6 +115,22 @@ fn answer_by<N: Naming, D: Disk + Drop, G: Gate + Drop, R: Threads + Wait + Copy
     let version = glance.version();
     let reply = reply_by(desk, &glance, query)?;
     Ok(Answer { version, reply })
+}
+
+/// Makes a copy of what is seen at a glance, under this name, and tells its version. Refused is a copy that is not made (46, 43, 10, 11).
+fn copy_by<N: Naming, C: Copies>(
+    alloc: Global,
+    copies: &C,
+    name: &Name,
+    glance: &Glance<N>,
+) -> Result<u64, Refusal>
+    ensures version { IfOk result (λ version. version ≡ glance.now.view.version) }
+    ensures made { IfOk result (λ version. (C.copying copies.now).made (name_of name.now) glance.now.view.network version) }
+    ensures refused { IfErr result IsUnmade }
+{
+    let version = glance.version();
+    copies.copy(alloc, name.bytes(), glance.network(), version)?;
+    Ok(version)
 }
 
 /// The version of the view that is shown now. Refused is a view that can't be looked at (11, 61).
@@ -298,7 +319,8 @@ impl<N: Naming> Session<N> {
         look: Look,
         out: &mut CountedWriter<'_, W>,
     ) -> Result<(), Failed>
-        ensures told { OnOk result (Tells N.origin None (Line.Look look) self.old.last self.new.last (known_to self.new.place) self.old.receipts self.new.receipts (W.contents (writer_of out.old)) (W.contents (writer_of out.new))) }
+        // Who makes copies has no part in it.
+        ensures told { OnOk result (Tells no_copying N.origin None (Line.Look look) self.old.last self.new.last (known_to self.new.place) self.old.receipts self.new.receipts (W.contents (writer_of out.old)) (W.contents (writer_of out.new))) }
         ensures draft { self.new.draft ≡ self.old.draft }
         ensures begins { IsPrefix (known_to self.old.place) (known_to self.new.place) }
         ensures refused { IfErr result (λ failed. failed ≡ Failed.Code Refusal.Write) }
@@ -307,6 +329,31 @@ impl<N: Naming> Session<N> {
     {
         match self.see(desk) {
             Ok(glance) => tell_look(out, &glance, look),
+            Err(refusal) => tell_refusal(out, refusal),
+        }
+    }
+
+    /// Makes a copy of the network that is shown, under this name, writes its version, and sends it out. Where no copies are made the line has a fault.
+    fn copy<D: Disk + Drop, G: Gate + Drop, R: Threads + Wait + Copy, C: Copies, W: Write>(
+        &mut self,
+        alloc: Global,
+        desk: &Handle<N, D, G, R>,
+        copies: &C,
+        name: &Name,
+        out: &mut CountedWriter<'_, W>,
+    ) -> Result<(), Failed>
+        ensures told { OnOk result (Tells (C.copying copies.now) N.origin None (Line.Copy name.now) self.old.last self.new.last (known_to self.new.place) self.old.receipts self.new.receipts (W.contents (writer_of out.old)) (W.contents (writer_of out.new))) }
+        ensures draft { self.new.draft ≡ self.old.draft }
+        ensures begins { IsPrefix (known_to self.old.place) (known_to self.new.place) }
+        ensures refused { IfErr result (λ failed. failed ≡ Failed.Code Refusal.Write) }
+        ensures counts { CountsFailure (failed_writes out.old) (failed_writes out.new) result }
+        ensures same { IsSameWriter out.old out.new }
+    {
+        if !copies.are_made() {
+            return tell_fault(out, Code::BadLine);
+        }
+        match self.see(desk) {
+            Ok(glance) => tell_copied(out, copy_by(alloc, copies, name, &glance)),
             Err(refusal) => tell_refusal(out, refusal),
         }
     }
@@ -377,7 +424,8 @@ impl<N: Naming> Session<N> {
         draft: Draft,
         out: &mut CountedWriter<'_, W>,
     ) -> Result<(), Failed>
-        ensures told { (drafted : Drafted) → IsDraft drafted draft → OnOk result (Tells N.origin (Some drafted) Line.End self.old.last self.new.last (known_to self.new.place) self.old.receipts self.new.receipts (W.contents (writer_of out.old)) (W.contents (writer_of out.new))) }
+        // Who makes copies has no part in it.
+        ensures told { (drafted : Drafted) → IsDraft drafted draft → OnOk result (Tells no_copying N.origin (Some drafted) Line.End self.old.last self.new.last (known_to self.new.place) self.old.receipts self.new.receipts (W.contents (writer_of out.old)) (W.contents (writer_of out.new))) }
         ensures draft { self.new.draft ≡ self.old.draft }
         ensures begins { IsPrefix (known_to self.old.place) (known_to self.new.place) }
         ensures refused { IfErr result (λ failed. failed ≡ Failed.Code Refusal.Write) }
@@ -395,15 +443,16 @@ impl<N: Naming> Session<N> {
     }
 
     /// Writes the answer to a line that stands in no group, if it has one, and sends it out.
-    fn answer_alone<D: Disk + Drop, G: Gate + Drop, R: Threads + Wait + Copy, W: Write>(
+    fn answer_alone<D: Disk + Drop, G: Gate + Drop, R: Threads + Wait + Copy, C: Copies, W: Write>(
         &mut self,
         alloc: Global,
         desk: &Handle<N, D, G, R>,
+        copies: &C,
         line: Line,
         out: &mut CountedWriter<'_, W>,
     ) -> Result<(), Failed>
         requires { self.old.draft ≡ None }
-        ensures told { OnOk result (Tells N.origin None line self.old.last self.new.last (known_to self.new.place) self.old.receipts self.new.receipts (W.contents (writer_of out.old)) (W.contents (writer_of out.new))) }
+        ensures told { OnOk result (Tells (C.copying copies.now) N.origin None line self.old.last self.new.last (known_to self.new.place) self.old.receipts self.new.receipts (W.contents (writer_of out.old)) (W.contents (writer_of out.new))) }
         ensures draft { HasDraft (next_draft None line) self.new.draft }
         ensures begins { IsPrefix (known_to self.old.place) (known_to self.new.place) }
         ensures refused { IfErr result (λ failed. failed ≡ Failed.Code Refusal.Write) }
@@ -423,6 +472,7 @@ impl<N: Naming> Session<N> {
             }
             Line::Query(query) => tell_reply(out, &self.ask(desk, query)),
             Line::Look(look) => self.look(desk, look, out),
+            Line::Copy(name) => self.copy(alloc, desk, copies, &name, out),
             Line::Wait => tell_version(out, self.wait(desk)),
             Line::Until(number) => tell_version(out, self.wait_until(desk, number)),
             Line::State => tell_state(out, desk.state()),
@@ -431,14 +481,21 @@ impl<N: Naming> Session<N> {
     }
 
     /// Writes the answer to a line, if it has one, and sends it out: a line within a group has none but at its end. The one error is a failed write.
-    pub(crate) fn answer<D: Disk + Drop, G: Gate + Drop, R: Threads + Wait + Copy, W: Write>(
+    pub(crate) fn answer<
+        D: Disk + Drop,
+        G: Gate + Drop,
+        R: Threads + Wait + Copy,
+        C: Copies,
+        W: Write,
+    >(
         &mut self,
         alloc: Global,
         desk: &Handle<N, D, G, R>,
+        copies: &C,
         line: Line,
         out: &mut CountedWriter<'_, W>,
     ) -> Result<(), Failed>
-        ensures told { (draft : Option Drafted) → HasDraft draft self.old.draft → OnOk result (Tells N.origin draft line self.old.last self.new.last (known_to self.new.place) self.old.receipts self.new.receipts (W.contents (writer_of out.old)) (W.contents (writer_of out.new))) }
+        ensures told { (draft : Option Drafted) → HasDraft draft self.old.draft → OnOk result (Tells (C.copying copies.now) N.origin draft line self.old.last self.new.last (known_to self.new.place) self.old.receipts self.new.receipts (W.contents (writer_of out.old)) (W.contents (writer_of out.new))) }
         ensures draft { (draft : Option Drafted) → HasDraft draft self.old.draft → HasDraft (next_draft draft line) self.new.draft }
         ensures begins { IsPrefix (known_to self.old.place) (known_to self.new.place) }
         ensures refused { IfErr result (λ failed. failed ≡ Failed.Code Refusal.Write) }
@@ -446,7 +503,7 @@ impl<N: Naming> Session<N> {
         ensures same { IsSameWriter out.old out.new }
     {
         let Some(draft) = self.draft.take() else {
-            return self.answer_alone(alloc, desk, line, out);
+            return self.answer_alone(alloc, desk, copies, line, out);
         };
         if is_end(line) {
             return self.answer_end(desk, draft, out);

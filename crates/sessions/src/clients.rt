@@ -2,10 +2,12 @@
 ghost use Rattle.std.specs.Prelude.{◌≡◌, ◌<◌, ℕ, length, true, None, IfSome, slice_index_or};
 ghost use Rattle.std.specs.Option.{IsSomeAnd};
 ghost use Rattle.sessions.specs.Clients.{IsAnswered};
+ghost use Rattle.sessions.specs.Copying.{no_copying};
 ghost use Rattle.sessions.specs.Turns.{Standing, IsSessionAt, IsKept};
 
 use crate::answering::Answering;
 use crate::answers::Session;
+use crate::copies::{Copies, NoCopies};
 use crate::reading::LastLine;
 use crate::serving::{Terms, serve};
 use desk::{Closed, Gate, Handle, Naming};
@@ -36,17 +38,18 @@ pub(crate) fn serve_client<
     D: Disk + Drop,
     G: Gate + Drop,
     R: Threads + Wait + Copy,
+    C: Copies,
     I: BufRead,
     W: Write,
 >(
     rt: &R,
     alloc: Global,
     desk: &Handle<N, D, G, R>,
-    terms: Terms<'_>,
+    terms: Terms<'_, C>,
     reader: &mut I,
     writer: &mut W,
 ) -> Served<N>
-    ensures { IsAnswered terms.entry.last_line N.origin (I.remaining reader.old) (I.remaining reader.new) (W.contents writer.old) (W.contents writer.new) result.session.place result.session.receipts result.failed_reads result.failed_writes result.outcome }
+    ensures { IsAnswered (C.copying terms.entry.copies.now) terms.entry.last_line N.origin (I.remaining reader.old) (I.remaining reader.new) (W.contents writer.old) (W.contents writer.new) result.session.place result.session.receipts result.failed_reads result.failed_writes result.outcome }
 {
     let mut reader = Counted::new(reader);
     let mut writer = CountedWriter::new(writer);
@@ -99,7 +102,7 @@ impl<N: Naming, D: Disk + Drop, G: Gate + Drop, R: Threads + Wait + Copy, I: Buf
     Handle<N, D, G, R>,
     R,
 > for Client<N, I, W> {
-    ghost leaves = { λ old new. IsSomeAnd new.served (λ served. IsAnswered old.last_line N.origin (I.remaining old.reader) (I.remaining new.reader) (W.contents old.writer) (W.contents new.writer) served.session.place served.session.receipts served.failed_reads served.failed_writes served.outcome) };
+    ghost leaves = { λ old new. IsSomeAnd new.served (λ served. IsAnswered no_copying old.last_line N.origin (I.remaining old.reader) (I.remaining new.reader) (W.contents old.writer) (W.contents new.writer) served.session.place served.session.receipts served.failed_reads served.failed_writes served.outcome) };
 
     /// The client's session, as `serve`.
     fn run(&mut self, rt: &R, alloc: Global, shared: &Handle<N, D, G, R>) {
@@ -107,6 +110,7 @@ impl<N: Naming, D: Disk + Drop, G: Gate + Drop, R: Threads + Wait + Copy, I: Buf
         let terms = Terms {
             last_line: self.last_line,
             answering: &answering,
+            copies: &NoCopies,
         };
         let served = serve_client(rt, alloc, shared, terms, &mut self.reader, &mut self.writer);
         self.served = Some(served);
@@ -136,7 +140,7 @@ fn run_all<R: Threads + Sync, T: Sync, J: Job<T, R> + Send>(
 /// A session with each client, as `serve`, all at once: each in a thread of its own where the system gives one. Where it gives none, a client is
 /// served behind others. It returns once all sessions have ended, each with what it leaves in its client; the desk goes on.
 ///
-/// There are 64 places among the readers of a desk. A session takes one at its first query or `wait`, and gives it back where the client is let go.
+/// No copies are made for them. There are 64 places among the readers of a desk. A session takes one at its first query or `wait`, and gives it back where the client is let go.
 pub fn serve_all<
     N: Naming + Send + Sync,
     D: Disk + Drop + Send,
@@ -145,7 +149,7 @@ pub fn serve_all<
     I: BufRead + Send,
     W: Write + Send,
 >(rt: &R, alloc: Global, desk: &Handle<N, D, G, R>, clients: &mut [Client<N, I, W>])
-    ensures { (i : ℕ) (any : _) → i < length clients.old → let old = slice_index_or clients.old i any in let new = slice_index_or clients.new i any in IsSomeAnd new.served (λ served. IsAnswered old.last_line N.origin (I.remaining old.reader) (I.remaining new.reader) (W.contents old.writer) (W.contents new.writer) served.session.place served.session.receipts served.failed_reads served.failed_writes served.outcome) }
+    ensures { (i : ℕ) (any : _) → i < length clients.old → let old = slice_index_or clients.old i any in let new = slice_index_or clients.new i any in IsSomeAnd new.served (λ served. IsAnswered no_copying old.last_line N.origin (I.remaining old.reader) (I.remaining new.reader) (W.contents old.writer) (W.contents new.writer) served.session.place served.session.receipts served.failed_reads served.failed_writes served.outcome) }
 {
     run_all(rt, alloc, desk, clients);
 }

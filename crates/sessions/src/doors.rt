@@ -4,6 +4,7 @@ ghost use Rattle.roadnet.specs.declared.refusals.Refusal.TheVariants.{NoThread a
 
 use crate::answering::Answering;
 use crate::clients::{Served, serve_client};
+use crate::copies::Copies;
 use crate::past::Past;
 use crate::reading::LastLine;
 use crate::serving::Terms;
@@ -25,20 +26,31 @@ pub trait Door<I, W> {
     fn ended(&mut self, reader: I, writer: W, outcome: Result<(), Failed>);
 }
 
-/// What the sessions at the doors of one desk share: what is left of those that have ended, and which are within an answer.
+/// What the sessions at the doors of one desk share: what is left of those that have ended, which are within an answer, and who makes copies for them.
 #[derive(Drop)]
-pub struct Visits<N: Naming> {
+pub struct Visits<N: Naming, C> {
     past: Mutex<Past<N>>,
     answering: Answering,
+    copies: C,
 }
 
-impl<N: Naming> Visits<N> {
+impl<N: Naming, C: Copies> Visits<N, C> {
     /// Nobody has come yet.
-    pub fn new() -> Visits<N> {
+    pub fn new(copies: C) -> Visits<N, C>
+        ensures { result.copies ≡ copies }
+    {
         Visits {
             past: Mutex::new(Past::new()),
             answering: Answering::new(),
+            copies,
         }
+    }
+
+    /// Who makes the copies for which sessions ask.
+    pub fn copies(&self) -> &C
+        ensures { result.now ≡ self.now.copies }
+    {
+        &self.copies
     }
 
     /// Which sessions are within an answer.
@@ -76,15 +88,17 @@ fn serve_in_turn<
     R: Threads + Wait + Copy,
     I: BufRead,
     W: Write,
-    C: Door<I, W>,
->(rt: &R, alloc: Global, desk: &Handle<N, D, G, R>, door: &mut C, visits: &Visits<N>) {
-    let terms = Terms {
-        last_line: LastLine::Dropped,
-        answering: &visits.answering,
-    };
+    P: Door<I, W>,
+    C: Copies,
+>(rt: &R, alloc: Global, desk: &Handle<N, D, G, R>, door: &mut P, visits: &Visits<N, C>) {
     for _ in rt.forever() {
         let Some((mut reader, mut writer)) = door.next() else {
             return;
+        };
+        let terms = Terms {
+            last_line: LastLine::Dropped,
+            answering: &visits.answering,
+            copies: &visits.copies,
         };
         let served = serve_client(rt, alloc, desk, terms, &mut reader, &mut writer);
         let outcome = visits.add(rt, served);
@@ -127,13 +141,14 @@ pub fn serve_door<
     R: Threads + Wait + Copy + Send + Sync + 'static,
     I: BufRead + Send + 'static,
     W: Write + Send + 'static,
-    C: Door<I, W> + Drop + Send + 'static,
+    P: Door<I, W> + Drop + Send + 'static,
+    C: Copies + Drop + Send + Sync + 'static,
 >(
     rt: R,
     alloc: Global,
     desk: Handle<N, D, G, R>,
-    mut door: C,
-    visits: Arc<Visits<N>>,
+    mut door: P,
+    visits: Arc<Visits<N, C>>,
 ) -> Result<(), Refusal>
     ensures { IfErr result (λ refusal. refusal ≡ no_thread) }
 {
@@ -141,7 +156,7 @@ pub fn serve_door<
         &rt,
         desk,
         visits,
-        move |desk: Handle<N, D, G, R>, visits: Arc<Visits<N>>| serve_in_turn(
+        move |desk: Handle<N, D, G, R>, visits: Arc<Visits<N, C>>| serve_in_turn(
             &rt, alloc, &desk, &mut door, &visits,
         ),
     )

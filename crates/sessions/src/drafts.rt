@@ -86,6 +86,7 @@ impl Draft {
             Line::Refused(code) => self.faulty(code),
             Line::Query(_) => self.faulty(Code::BadLine),
             Line::Look(_) => self.faulty(Code::BadLine),
+            Line::Copy(_) => self.faulty(Code::BadLine),
             Line::Wait => self.faulty(Code::BadLine),
             Line::Until(_) => self.faulty(Code::BadLine),
             Line::State => self.faulty(Code::BadLine),

@@ -1,8 +1,10 @@
 //! The bytes of a line's first field.
 ghost use Rattle.std.specs.Prelude.{◌≡◌, ◌≤◌, ◌∷◌, ◌++◌, [], take, MatchOption};
+ghost use Rattle.std.specs.Str.{bytes_eq};
+ghost use lib.Chars.{codes};
 ghost use Rattle.sessions.specs.Spelled.{word_from};
 
-use crate::words::{Word, word_of};
+use crate::words::{Word, is_copy, word_of};
 
 /// The most bytes that a word has.
 const LONGEST_WORD: usize = 9;
@@ -45,5 +47,12 @@ impl Letters {
         ensures { result ≡ word_from (take self.now.count self.now.bytes) }
     {
         word_of(&self.bytes[..self.count])
+    }
+
+    /// Whether they spell `copy`, behind which a name stands.
+    pub(crate) fn are_copy(&self) -> bool
+        ensures { result ≡ bytes_eq (take self.now.count self.now.bytes) (codes "copy") }
+    {
+        is_copy(&self.bytes[..self.count])
     }
 }

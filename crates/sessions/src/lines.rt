@@ -1,4 +1,4 @@
-//! The lines of a session, judged byte by byte: of the bytes of a line none is kept but those of a word.
+//! The lines of a session, judged byte by byte: of the bytes of a line none is kept but those of a word and of a name.
 ghost use Rattle.std.specs.Prelude.{◌≡◌, ◌||◌, ◌∷◌, ◌++◌, [], List, ℕ, true, false};
 ghost use Rattle.std.specs.Bool.{Decides};
 ghost use Rattle.std.specs.Io.BufRead.{strip_last};
@@ -14,9 +14,10 @@ ghost use Rattle.sessions.specs.Turns.{is_quit};
 
 use crate::fields::{Field, Numbers, one_of, three_of, two_of};
 use crate::letters::Letters;
-use crate::looks::Look;
+use crate::names::{Name, is_name_byte};
 use crate::words::{Bare, One, Two, Word};
 use dimacs::{Code, Numeral, TwoNumbers};
+use printing::Look;
 use roadnet::Command;
 use rows::Query;
 
@@ -29,6 +30,8 @@ pub(crate) enum Line {
     Query(Query),
     /// What the network has.
     Look(Look),
+    /// A copy of the network is to be made under this name.
+    Copy(Name),
     /// The session's last accepted command is to be shown.
     Wait,
     /// This version is to be shown.
@@ -75,6 +78,12 @@ pub(crate) enum Stage {
         numbers: Numbers,
         field: Field,
     },
+    /// Behind `copy`, and no byte of a name came.
+    Unnamed,
+    /// Behind `copy`: the name, which may go on.
+    Naming(Name),
+    /// Behind `copy` and a whole name.
+    Named(Name),
 }
 
 fn is_blank(byte: u8) -> bool
@@ -104,7 +113,7 @@ fn one_line(word: One, number: u64) -> Line
 {
     match word {
         One::Common(word) => Line::Command(word.command(number)),
-        One::Arc => Line::Look(Look::Arc { arc: number }),
+        One::Arc => Line::Look(Look::Arc { number }),
         One::Until => Line::Until(number),
     }
 }
@@ -130,7 +139,7 @@ fn two_line(word: Two, first: u64, second: u64) -> Line
             source: first,
             target: second,
         }),
-        Two::Arcs => Line::Look(Look::Arcs {
+        Two::Arcs => Line::Look(Look::Between {
             tail: first,
             head: second,
         }),
@@ -239,6 +248,9 @@ fn behind(letters: Letters, blank: u8) -> Stage
     requires { is_blank blank ≡ true }
     ensures { (front : List ℕ) → IsStage front (Stage.Beginning letters) → IsStage (front ++ blank ∷ []) result }
 {
+    if letters.are_copy() {
+        return Stage::Unnamed;
+    }
     match letters.word() {
         Some(word) => Stage::Behind {
             word,
@@ -265,6 +277,51 @@ fn with_field(word: Word, numbers: Numbers, field: Field, byte: u8) -> Stage
         numbers,
         field: field.with(byte),
     }
+}
+
+/// A line `copy` whose name begins with this byte, which is no blank.
+fn naming(byte: u8) -> Stage
+    requires { is_blank byte ≡ false }
+    ensures { (front : List ℕ) → IsStage front Stage.Unnamed → IsStage (front ++ byte ∷ []) result }
+{
+    if is_name_byte(byte) {
+        return Stage::Naming(Name::one(byte));
+    }
+    Stage::Unknown
+}
+
+/// A line `copy` whose name goes on with this byte, which is no blank.
+fn naming_on(name: Name, byte: u8) -> Stage
+    requires { is_blank byte ≡ false }
+    ensures { (front : List ℕ) → IsStage front (Stage.Naming name) → IsStage (front ++ byte ∷ []) result }
+{
+    if !is_name_byte(byte) {
+        return Stage::Unknown;
+    }
+    match name.with(byte) {
+        Some(name) => Stage::Naming(name),
+        None => Stage::Unknown,
+    }
+}
+
+/// A line `copy` with a name that goes on with this byte.
+fn with_name(name: Name, byte: u8) -> Stage
+    ensures { (front : List ℕ) → IsStage front (Stage.Naming name) → IsStage (front ++ byte ∷ []) result }
+{
+    if is_blank(byte) {
+        return Stage::Named(name);
+    }
+    naming_on(name, byte)
+}
+
+/// A line `copy` with a whole name that goes on with this byte: no other field may follow.
+fn behind_name(name: Name, byte: u8) -> Stage
+    ensures { (front : List ℕ) → IsStage front (Stage.Named name) → IsStage (front ++ byte ∷ []) result }
+{
+    if is_blank(byte) {
+        return Stage::Named(name);
+    }
+    Stage::Unknown
 }
 
 impl Stage {
@@ -294,6 +351,15 @@ impl Stage {
                 numbers,
                 field,
             } => with_field(word, numbers, field, byte),
+            Stage::Unnamed => {
+                if is_blank(byte) {
+                    Stage::Unnamed
+                } else {
+                    naming(byte)
+                }
+            }
+            Stage::Naming(name) => with_name(name, byte),
+            Stage::Named(name) => behind_name(name, byte),
         }
     }
 
@@ -314,6 +380,9 @@ impl Stage {
                 numbers,
                 field,
             } => read_line(word, numbers.ended(field)),
+            Stage::Unnamed => Line::Refused(Code::BadLine),
+            Stage::Naming(name) => Line::Copy(name),
+            Stage::Named(name) => Line::Copy(name),
         }
     }
 }

@@ -8,6 +8,7 @@ ghost use Rattle.sessions.specs.Turns.{Serves, IsSessionAt};
 
 use crate::answering::Answering;
 use crate::answers::Session;
+use crate::copies::Copies;
 use crate::lines::is_quit;
 use crate::reading::{LastLine, next_line};
 use desk::{Gate, Handle, Naming};
@@ -22,11 +23,13 @@ use std::thread::Threads;
 
 /// How a session is held.
 #[derive(Clone, Copy)]
-pub struct Terms<'a> {
+pub struct Terms<'a, C> {
     /// What becomes of a last line that no line feed ends.
     pub last_line: LastLine,
     /// Where the session is counted while it is within an answer.
     pub answering: &'a Answering,
+    /// Who makes the copies that its lines ask for.
+    pub copies: &'a C,
 }
 
 /// Carries out the lines of a client in their order by the desk, each answered, and the answer sent out, before the next line is read. It ends at
@@ -35,7 +38,8 @@ pub struct Terms<'a> {
 /// The lines are the six commands (`ok N` once the command is durable, or `no CODE`), `dist S T`, `from X T` and `lower S T` (`v V` and an
 /// answer line, from a glance of that moment, or `no CODE`), `arc K`, `arcs T H`, `landmarks` and `closed` (`v V` and lines of the network that is
 /// shown, from a glance too, which is held until they are written), `wait` (`v V` once the session's last accepted group is shown, or `no CODE`),
-/// `until N` (`v V` once version N is shown), `state` (how the desk stands, in a line) and `quit`. The lines `begin` and `end` enclose the commands of a group: nothing is answered before its end, which answers for the whole, `ok N` once it
+/// `until N` (`v V` once version N is shown), `state` (how the desk stands, in a line), `copy NAME` (`copied V` once a copy of the network that is shown
+/// is made under this name, of 1 to 64 letters, digits, `-` and `_`, or `no CODE`; `no 1` where no copies are made) and `quit`. The lines `begin` and `end` enclose the commands of a group: nothing is answered before its end, which answers for the whole, `ok N` once it
 /// is durable, or the code of its first line that has a fault, or `no CODE`. A group that `quit` or the end of the input cuts off is dropped. Lines with no field and comments, which begin with `#`, have no answer; any other line has `no 1` or `no 5`. No line is too long:
 /// a line takes no memory; a group takes 32 bytes a command. A last line that no line feed ends is a line, or is dropped, as the terms say: what is
 /// carried out are whole lines alone then.
@@ -51,17 +55,18 @@ pub fn serve<
     D: Disk + Drop,
     G: Gate + Drop,
     R: Threads + Wait + Copy,
+    C: Copies,
     I: BufRead,
     W: Write,
 >(
     rt: &R,
     alloc: Global,
     desk: &Handle<N, D, G, R>,
-    terms: Terms<'_>,
+    terms: Terms<'_, C>,
     reader: &mut Counted<'_, I>,
     writer: &mut CountedWriter<'_, W>,
 ) -> (Result<(), Failed>, Session<N>)
-    ensures answered { IfSome (I.remaining (reader_of reader.old)) (λ text. Serves terms.entry.last_line N.origin text (I.remaining (reader_of reader.new)) (W.contents (writer_of writer.old)) (W.contents (writer_of writer.new)) (IsSessionAt N.origin result.1.place result.1.receipts) result.0) }
+    ensures answered { IfSome (I.remaining (reader_of reader.old)) (λ text. Serves (C.copying terms.entry.copies.now) terms.entry.last_line N.origin text (I.remaining (reader_of reader.new)) (W.contents (writer_of writer.old)) (W.contents (writer_of writer.new)) (IsSessionAt N.origin result.1.place result.1.receipts) result.0) }
     ensures reads { CountsRead (failed_calls reader.old) (failed_calls reader.new) result.0 }
     ensures writes { CountsWrites (failed_writes writer.old) (failed_writes writer.new) result.0 }
     ensures causes { IfErr result.0 IsOfStream }
@@ -79,7 +84,7 @@ pub fn serve<
             return (Ok(()), session);
         }
         let is_counted = terms.answering.begin();
-        let told = session.answer(alloc, desk, line, writer);
+        let told = session.answer(alloc, desk, terms.copies, line, writer);
         terms.answering.end(is_counted);
         if let Err(failed) = told {
             return (Err(failed), session);

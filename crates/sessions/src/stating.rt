@@ -1,8 +1,9 @@
 //! The line that tells how a desk stands.
 ghost use Rattle.std.specs.Prelude.{◌≡◌, ◌++◌, OnOk, IfErr};
 ghost use Rattle.std.specs.Io.KnownBytes.{Appends};
+ghost use lib.Chars.{codes};
 ghost use Rattle.printing.specs.Counting.{failed_writes, writer_of, IsSameWriter, CountsFailure};
-ghost use Rattle.sessions.specs.Stated.{named, working_word, versions_part, journal_part, threads_part, state_line, state_or_refusal};
+ghost use Rattle.sessions.specs.Stated.{named, working_word, versions_part, waiting_part, journal_part, life_part, threads_part, state_line, state_or_refusal};
 
 use desk::{DeskState, Working};
 use printing::{CountedWriter, Failed, put_number, put_refusal};
@@ -35,16 +36,37 @@ fn put_versions<W: Write>(out: &mut CountedWriter<'_, W>, state: &DeskState) -> 
     put_named(out, b" durable ", state.durable)
 }
 
-/// ` pending P unchecked U pages J`
+/// ` accepted A pending P`
+fn put_waiting<W: Write>(out: &mut CountedWriter<'_, W>, state: &DeskState) -> Result<(), Failed>
+    ensures ok { OnOk result (Appends (W.contents (writer_of out.old)) (W.contents (writer_of out.new)) (waiting_part state.now)) }
+    ensures refused { IfErr result (λ failed. failed ≡ Failed.Code Refusal.Write) }
+    ensures counts { CountsFailure (failed_writes out.old) (failed_writes out.new) result }
+    ensures same { IsSameWriter out.old out.new }
+{
+    put_named(out, b" accepted ", state.accepted)?;
+    put_named(out, b" pending ", state.pending)
+}
+
+/// ` unchecked U pages J`
 fn put_journal<W: Write>(out: &mut CountedWriter<'_, W>, state: &DeskState) -> Result<(), Failed>
     ensures ok { OnOk result (Appends (W.contents (writer_of out.old)) (W.contents (writer_of out.new)) (journal_part state.now)) }
     ensures refused { IfErr result (λ failed. failed ≡ Failed.Code Refusal.Write) }
     ensures counts { CountsFailure (failed_writes out.old) (failed_writes out.new) result }
     ensures same { IsSameWriter out.old out.new }
 {
-    put_named(out, b" pending ", state.pending)?;
     put_named(out, b" unchecked ", state.unchecked)?;
     put_named(out, b" pages ", state.pages)
+}
+
+/// ` landmarks L left C`
+fn put_life<W: Write>(out: &mut CountedWriter<'_, W>, state: &DeskState) -> Result<(), Failed>
+    ensures ok { OnOk result (Appends (W.contents (writer_of out.old)) (W.contents (writer_of out.new)) (life_part state.now)) }
+    ensures refused { IfErr result (λ failed. failed ≡ Failed.Code Refusal.Write) }
+    ensures counts { CountsFailure (failed_writes out.old) (failed_writes out.new) result }
+    ensures same { IsSameWriter out.old out.new }
+{
+    put_named(out, b" landmarks ", state.landmarks)?;
+    put_named(out, b" left ", state.left)
 }
 
 /// `on`, `ended` or `broken`
@@ -96,7 +118,9 @@ fn put_line<W: Write>(out: &mut CountedWriter<'_, W>, state: &DeskState) -> Resu
     ensures same { IsSameWriter out.old out.new }
 {
     put_versions(out, state)?;
+    put_waiting(out, state)?;
     put_journal(out, state)?;
+    put_life(out, state)?;
     put_threads(out, state)
 }
 

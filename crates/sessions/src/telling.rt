@@ -1,20 +1,22 @@
 //! The answers of a session, written and sent out.
-ghost use Rattle.std.specs.Prelude.{◌≡◌, ◌++◌, IfErr, OnOk};
+ghost use Rattle.std.specs.Prelude.{◌≡◌, IfErr, OnOk};
 ghost use Rattle.std.specs.Io.KnownBytes.{Appends};
 ghost use Rattle.printing.specs.Counting.{failed_writes, writer_of, IsSameWriter, CountsFailure};
-ghost use Rattle.printing.specs.Printed.{refusal_line, version_line};
+ghost use Rattle.printing.specs.Looks.{look_lines};
+ghost use Rattle.printing.specs.Printed.{refusal_line};
 ghost use Rattle.printing.specs.Replied.{printed_reply};
 ghost use Rattle.roadnet.specs.Numbers.{number_of};
-ghost use Rattle.sessions.specs.Looks.{look_lines};
 ghost use Rattle.sessions.specs.Stated.{state_or_refusal};
+ghost use Rattle.sessions.specs.Told.{copied_or_refusal};
 ghost use Rattle.sessions.specs.Turns.{fault_number, version_or_refusal};
 
-use crate::looks::{Look, put_look};
 use crate::stating::put_state;
 use desk::{DeskState, Glance, Naming};
 use dimacs::Code;
 use machine::Replied;
-use printing::{CountedWriter, Failed, put_refusal, put_reply, put_version};
+use printing::{
+    CountedWriter, Failed, Look, put_look, put_numbered, put_refusal, put_reply, put_version,
+};
 use roadnet::Refusal;
 use std::io::Write;
 
@@ -79,13 +81,42 @@ pub(crate) fn tell_look<N: Naming, W: Write>(
     glance: &Glance<N>,
     look: Look,
 ) -> Result<(), Failed>
-    ensures ok { OnOk result (Appends (W.contents (writer_of out.old)) (W.contents (writer_of out.new)) (version_line glance.now.view.version ++ look_lines glance.now.view.network look)) }
+    ensures ok { OnOk result (Appends (W.contents (writer_of out.old)) (W.contents (writer_of out.new)) (look_lines glance.now.view.network glance.now.view.version look)) }
     ensures refused { IfErr result (λ failed. failed ≡ Failed.Code Refusal.Write) }
     ensures counts { CountsFailure (failed_writes out.old) (failed_writes out.new) result }
     ensures same { IsSameWriter out.old out.new }
 {
-    put_version(out, glance.version())?;
-    put_look(out, glance.network(), look)?;
+    put_look(out, glance.network(), glance.version(), look)?;
+    out.flush()
+}
+
+/// `copied V` or `no CODE`
+fn put_copied<W: Write>(
+    out: &mut CountedWriter<'_, W>,
+    copied: Result<u64, Refusal>,
+) -> Result<(), Failed>
+    ensures ok { OnOk result (Appends (W.contents (writer_of out.old)) (W.contents (writer_of out.new)) (copied_or_refusal copied)) }
+    ensures refused { IfErr result (λ failed. failed ≡ Failed.Code Refusal.Write) }
+    ensures counts { CountsFailure (failed_writes out.old) (failed_writes out.new) result }
+    ensures same { IsSameWriter out.old out.new }
+{
+    match copied {
+        Ok(version) => put_numbered(out, b"copied ", version),
+        Err(refusal) => put_refusal(out, refusal.number()),
+    }
+}
+
+/// `copied V` or `no CODE`, sent out.
+pub(crate) fn tell_copied<W: Write>(
+    out: &mut CountedWriter<'_, W>,
+    copied: Result<u64, Refusal>,
+) -> Result<(), Failed>
+    ensures ok { OnOk result (Appends (W.contents (writer_of out.old)) (W.contents (writer_of out.new)) (copied_or_refusal copied)) }
+    ensures refused { IfErr result (λ failed. failed ≡ Failed.Code Refusal.Write) }
+    ensures counts { CountsFailure (failed_writes out.old) (failed_writes out.new) result }
+    ensures same { IsSameWriter out.old out.new }
+{
+    put_copied(out, copied)?;
     out.flush()
 }
 

@@ -1,5 +1,7 @@
 //! The words with which the lines of a session begin.
 ghost use Rattle.std.specs.Prelude.{◌≡◌};
+ghost use Rattle.std.specs.Str.{bytes_eq};
+ghost use lib.Chars.{codes};
 ghost use Rattle.dimacs.specs.Spelling.{spelled_word};
 ghost use Rattle.sessions.specs.Spelled.{bare_spelling, bare_words, one_spelling, one_words, two_spelling, two_words, word_from};
 
@@ -34,7 +36,7 @@ pub(crate) enum Two {
     Arcs,
 }
 
-/// A word by what stands behind it.
+/// A word by the numbers that stand behind it.
 #[derive(Clone, Copy)]
 pub(crate) enum Word {
     WithNone(Bare),
@@ -101,7 +103,14 @@ fn bare_of_session(field: &[u8]) -> Option<Bare>
     None
 }
 
-/// The word that a field spells.
+/// Whether a field spells `copy`, behind which a name stands and no number.
+pub(crate) fn is_copy(field: &[u8]) -> bool
+    ensures { result ≡ bytes_eq field.now (codes "copy") }
+{
+    field == b"copy".as_slice()
+}
+
+/// The word that a field spells, behind which numbers stand.
 pub(crate) fn word_of(field: &[u8]) -> Option<Word>
     ensures { result ≡ word_from field.now }
 {

@@ -132,7 +132,7 @@ fn open_gates<D: Disk>(disk: &mut D, header: &Header) -> Result<(), DiskError>
     open_gate(disk, GATE_AT as u64)
 }
 
-/// The pages of a new store of this network at this version, as `create` and `migrate` make it.
+/// The pages of a new store of this network at this version, as `create_at` makes it.
 pub fn create_paged<D: Disk>(
     alloc: Global,
     disk: D,

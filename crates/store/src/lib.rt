@@ -7,6 +7,7 @@ mod batch;
 mod checkpoint_parts;
 mod checkpointing;
 mod commit;
+mod copying;
 mod creation;
 mod going;
 mod header;
@@ -21,7 +22,8 @@ mod rooms;
 mod standing;
 mod store;
 
-pub use making::{create, open};
+pub use copying::copy;
+pub use making::{create, create_at, open};
 pub use migration::migrate;
 pub use parts::Part;
 pub use rooms::with_given_room;

@@ -6,6 +6,7 @@ ghost use Rattle.disk.specs.Moments.{StaysSame};
 ghost use Rattle.pagereader.specs.Outcomes.{failures_with, MayEndOpening};
 ghost use Rattle.storefile.specs.StoreFile.{StandsTidyFor};
 ghost use Rattle.pages.specs.declared.content.Slot.TheVariants.{A as slot_a};
+ghost use Rattle.pages.specs.Limits.{most_versions};
 ghost use Rattle.store.specs.Opening.{HeaderFits, IsPassing, MayRefuseToOpen, StandsForSome};
 ghost use Rattle.store.specs.State.{checkpoint_pages_of, IsTidy, StandsAs, StandsAt, told};
 
@@ -18,7 +19,57 @@ use roadnet::{Network, Refusal};
 use std::alloc::Global;
 use std::snapshot::Snapshot;
 
-/// Makes a store of the network with so many journal pages, 1 to 65,536, at version 0.
+/// Makes a store of the network at this version, at most 2^48, with so many journal pages, 1 to 65,536.
+///
+/// It answers 46 where the disk is not empty, 43 where it fails, and 11. The disk is handed back then, at 46 and 11 with its content as it
+/// was. It takes linear time, and memory for a copy of the network and 64 pages.
+pub fn create_at<D: Disk>(
+    alloc: Global,
+    disk: D,
+    network: &Network,
+    version: u64,
+    journal_pages: u32,
+) -> Result<Store<D>, (Refusal, D)>
+    requires versions { version ≤ most_versions }
+    requires some { 1 ≤ journal_pages }
+    requires few { journal_pages ≤ 65536 }
+    ensures network { IfOk result (λ store. store.network ≡ network.now) }
+    ensures version { IfOk result (λ store. store.version ≡ version) }
+    ensures journal_pages { IfOk result (λ store. store.journal_pages ≡ journal_pages) }
+    // A checkpoint writes what the network's room needs.
+    ensures checkpoint_pages { IfOk result (λ store. store.checkpoint_pages ≡ checkpoint_pages_of (length network.now.arcs) network.now) }
+    ensures unchecked { IfOk result (λ store. store.unchecked ≡ 0) }
+    ensures slot { IfOk result (λ store. (store.slot ≡ slot_a) × (store.epoch ≡ 1)) }
+    ensures works { IfOk result (λ store. store.broken ≡ false) }
+    ensures none_going { IfOk result (λ store. store.going ≡ None) }
+    ensures none_in_flight { IfOk result (λ store. store.in_flight ≡ []) }
+    ensures given { IfOk result (λ store. store.given ≡ store.disk) }
+    // The content stands for the network at this version, is tidy, has so many journal pages and a slot for the network's room, and is all that a stop may leave.
+    ensures stands { D.honest disk → IfOk result (λ store. StandsTidyFor journal_pages (checkpoint_pages_of (length network.now.arcs) network.now) (D.content store.disk) network.now version) }
+    ensures only { D.honest disk → IfOk result (λ store. Only (D.content store.disk) (D.left store.disk)) }
+    ensures tidy { D.honest disk → IfOk result (λ store. IsTidy (D.content store.disk)) }
+    ensures told { D.honest disk → IfOk result (λ store. StandsAs (D.content store.disk) (told store)) }
+    ensures empty { D.honest disk → IfOk result (λ store. D.content disk ≡ []) }
+    ensures refused { IfErr result (λ refused. (refused.0 ≡ not_empty) ⊎ ((refused.0 ≡ device) ⊎ (refused.0 ≡ out_of_memory))) }
+    ensures not_empty { D.honest disk → IfErr result (λ refused. refused.0 ≡ not_empty → D.content disk ≢ []) }
+    ensures order { D.honest disk → IfErr result (λ refused. refused.0 ≡ out_of_memory → D.content disk ≡ []) }
+    // The count of failures rises by one where 43 is told, and else not at all.
+    ensures counted { MatchResult result (λ store. D.failures store.disk ≡ D.failures disk) (λ refused. D.failures refused.1 ≡ failures_with refused.0 (D.failures disk)) }
+    ensures failed { IfErr result (λ refused. refused.0 ≡ device → Rose (D.failures disk) (D.failures refused.1)) }
+    ensures same { D.honest disk → IfErr result (λ refused. refused.0 ≢ device → StaysSame D.content D.left D.moment D.left_since disk refused.1) }
+    ensures honest { (IfOk result (λ store. D.honest store.disk ↔ D.honest disk)) × (IfErr result (λ refused. D.honest refused.1 ↔ D.honest disk)) }
+{
+    let pages = create_paged(alloc, disk, network, version, journal_pages)?;
+    let given = Snapshot::of(&pages.disk);
+    let in_flight = InFlight::none();
+    Ok(Store {
+        pages,
+        given,
+        in_flight,
+    })
+}
+
+/// Makes a store of the network with so many journal pages, 1 to 65,536, at version 0, as `create_at` does at any.
 ///
 /// It answers 46 where the disk is not empty, 43 where it fails, and 11. The disk is handed back then, at 46 and 11 with its content as it
 /// was. It takes linear time, and memory for a copy of the network and 64 pages.
@@ -59,14 +110,7 @@ pub fn create<D: Disk>(
     ensures same { D.honest disk → IfErr result (λ refused. refused.0 ≢ device → StaysSame D.content D.left D.moment D.left_since disk refused.1) }
     ensures honest { (IfOk result (λ store. D.honest store.disk ↔ D.honest disk)) × (IfErr result (λ refused. D.honest refused.1 ↔ D.honest disk)) }
 {
-    let pages = create_paged(alloc, disk, network, 0, journal_pages)?;
-    let given = Snapshot::of(&pages.disk);
-    let in_flight = InFlight::none();
-    Ok(Store {
-        pages,
-        given,
-        in_flight,
-    })
+    create_at(alloc, disk, network, 0, journal_pages)
 }
 
 /// Opens the store on a disk. It syncs, and then judges and reads the whole file in the order of the format; nothing is written. The first

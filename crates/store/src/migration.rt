@@ -3,21 +3,17 @@ ghost use Rattle.std.specs.Prelude.{◌≡◌, ◌≢◌, ◌⊎◌, ◌↔◌, 
 ghost use Rattle.roadnet.specs.declared.refusals.Refusal.TheVariants.{Device as device};
 ghost use Rattle.disk.specs.Contents.{Only, Rose};
 ghost use Rattle.disk.specs.Moments.{StaysSame};
-ghost use Rattle.pages.specs.declared.content.Format.TheVariants.{One as one};
 ghost use Rattle.pages.specs.declared.content.Slot.TheVariants.{A as slot_a};
 ghost use Rattle.storefile.specs.StoreFile.{StandsTidyFor};
 ghost use Rattle.store.specs.State.{checkpoint_pages_of, IsTidy, StandsAs, told};
-ghost use Rattle.store.specs.Migrating.{IsMigrated, MayEndMigrating, MayRefuseToMigrate};
+ghost use Rattle.store.specs.Migrating.{IsMigrated, MayEndCopying, MayRefuseToMigrate};
 
-use crate::creation::create_paged;
-use crate::in_flight::InFlight;
-use crate::opening::{Found, find_in};
+use crate::copying::copy_in;
 use crate::store::Store;
-use disk::{Disk, length_of};
+use disk::Disk;
 use pages::Format;
 use roadnet::Refusal;
 use std::alloc::Global;
-use std::snapshot::Snapshot;
 
 /// Makes a store, on the empty disk `new`, of the network for which the store of format 1 on the disk `old` stands, at its version and with its
 /// journal pages, and with room for so many arcs; where no room is given, for those that there are.
@@ -49,7 +45,7 @@ pub fn migrate<O: Disk, D: Disk>(
     ensures none_in_flight { IfOk result (λ store. store.in_flight ≡ []) }
     ensures given { IfOk result (λ store. store.given ≡ store.disk) }
     ensures refused { O.honest old.old → D.honest new → IfErr result (λ refused. MayRefuseToMigrate (D.content new) (O.content old.old) room refused.0) }
-    ensures causes { IfErr result (λ refused. MayEndMigrating refused.0) }
+    ensures causes { IfErr result (λ refused. MayEndCopying refused.0) }
     // Where 43 is told, a disk failed in this call; and else none did.
     ensures failed { IfErr result (λ refused. refused.0 ≡ device → Rose (O.failures old.old) (O.failures old.new) ⊎ Rose (D.failures new) (D.failures refused.1)) }
     ensures counted { MatchResult result (λ store. (O.failures old.new ≡ O.failures old.old) × (D.failures store.disk ≡ D.failures new)) (λ refused. refused.0 ≢ device → (O.failures old.new ≡ O.failures old.old) × (D.failures refused.1 ≡ D.failures new)) }
@@ -59,40 +55,5 @@ pub fn migrate<O: Disk, D: Disk>(
     ensures honest { O.honest old.new ↔ O.honest old.old }
     ensures honest_new { (IfOk result (λ store. D.honest store.disk ↔ D.honest new)) × (IfErr result (λ refused. D.honest refused.1 ↔ D.honest new)) }
 {
-    let mut new = new;
-    let Ok(length) = length_of(&mut new) else {
-        return Err((Refusal::Device, new));
-    };
-    if length != 0 {
-        return Err((Refusal::NotEmpty, new));
-    }
-    let found = match find_in(alloc, old, Format::One) {
-        Ok(found) => found,
-        Err(refusal) => return Err((refusal, new)),
-    };
-    let Found {
-        header,
-        slot: _,
-        epoch: _,
-        network,
-        version,
-        next_sequence: _,
-        unchecked: _,
-    } = found;
-    let room = match room {
-        Some(room) => room,
-        None => u64::from(network.room()),
-    };
-    let network = match network.with_room(room) {
-        Ok(network) => network,
-        Err((refusal, _)) => return Err((refusal, new)),
-    };
-    let pages = create_paged(alloc, new, &network, version, header.journal_pages)?;
-    let given = Snapshot::of(&pages.disk);
-    let in_flight = InFlight::none();
-    Ok(Store {
-        pages,
-        given,
-        in_flight,
-    })
+    copy_in(alloc, old, new, Format::One, room, None)
 }

@@ -1,7 +1,8 @@
 -- The texts in which a network is written out give it back.
 use Rattle.std.proofs.Common.{◌≤◌, length, map, refl, arith}
 use Rattle.std.proofs.lemmas.List.{length-map}
-use Rattle.printing.specs.Exports.{opened, all_open, closings, closed_arcs}
+use Rattle.printing.specs.Chosen.{closed_arcs}
+use Rattle.printing.specs.Exports.{opened, all_open, closings}
 use Rattle.printing.proofs.Restored.{closing_restores}
 use Rattle.storetexts.specs.Exported.{ExportRestores}
 

@@ -12,6 +12,7 @@ pub mod Beginning
 pub mod Checkpointed
 pub mod RefusedFirst
 pub mod TextApplied
+pub mod Upgraded
 pub mod Checked
 pub mod Moved
 pub mod Read

@@ -7,4 +7,5 @@ pub mod Applying
 pub mod Checked
 pub mod Moved
 pub mod Shown
+pub mod Upgraded
 pub mod Exported

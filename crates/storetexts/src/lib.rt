@@ -1,5 +1,5 @@
 //! Texts that run on a store: made from a network and its landmarks, changed by commands, asked for pairs. A store that is only
-//! looked at, or written out as texts. And one that is made of a store of the format before.
+//! looked at, or written out as texts. And one that is made of another store, of this format or the one before.
 #![tactic(auto)]
 
 mod applying;
@@ -10,12 +10,14 @@ mod exporting;
 mod moving;
 mod outcomes;
 mod showing;
+mod upgrading;
 
 pub use applying::{apply_counted, apply_text};
 pub use asking::{ask_counted, ask_text};
 pub use checking::{check_counted, check_text};
 pub use creating::{create_counted, create_store, create_text, read_planned};
 pub use exporting::{export_counted, export_text, laws_of_exports};
-pub use moving::{migrate_counted, migrate_text};
+pub use moving::{copy_counted, copy_text, migrate_counted, migrate_text};
 pub use outcomes::Outcome;
 pub use showing::{show_counted, show_text};
+pub use upgrading::{make_upgraded, read_maps, upgrade_counted, upgrade_stored};

@@ -1,17 +1,101 @@
-// A store made of one of the format before.
-ghost use Rattle.std.specs.Prelude.{◌≡◌, ◌↔◌, OnOk, IfErr};
+// A store made of another one: a copy, or one of the format before that is migrated.
+ghost use Rattle.std.specs.Prelude.{◌≡◌, ◌≤◌, ◌↔◌, Err, None, OnOk, OnErr, IfOk, IfErr, MatchResult};
+ghost use Rattle.std.specs.Io.KnownBytes.{Appends};
+ghost use Rattle.std.specs.Option.{ForSome};
+ghost use lib.Chars.{codes};
 ghost use Rattle.disk.specs.Moments.{StaysSame};
+ghost use Rattle.pages.specs.declared.content.Format.TheVariants.{One as one, Two as two};
 ghost use Rattle.printing.specs.Counting.{failed_writes, writer_of, IsSameWriter};
 ghost use Rattle.printing.specs.Failing.{CountsWrites, LeavesUnwritten};
+ghost use Rattle.printing.specs.Replied.{number_line};
 ghost use Rattle.storetexts.specs.Moved.{IsMoved, IsRefusedMove, TellsMoved};
 ghost use Rattle.storetexts.specs.Refused.{IfDone, IfNoDevice};
 
 use disk::Disk;
 use machine::Replied;
 use printing::{CountedWriter, Failed, put_reply};
+use roadnet::Refusal;
 use std::alloc::Global;
 use std::io::Write;
-use store::migrate;
+use store::{Store, copy, migrate};
+
+/// Tells of a store that was made, `ok V`, V its version, and sends it out; or of why none was. The disk is handed back.
+fn tell_made<D: Disk, W: Write>(
+    made: Result<Store<D>, (Refusal, D)>,
+    out: &mut CountedWriter<'_, W>,
+) -> (Result<(), Failed>, D)
+    ensures disk { MatchResult made (λ store. result.1 ≡ store.disk) (λ refused. result.1 ≡ refused.1) }
+    ensures told { IfOk made (λ store. OnOk result.0 (Appends (W.contents (writer_of out.old)) (W.contents (writer_of out.new)) (number_line (codes "ok ") store.version))) }
+    ensures refused { IfErr made (λ refused. result.0 ≡ Err (Failed.Code refused.0)) }
+    ensures untold { OnErr made (out.new ≡ out.old) }
+    ensures failed { OnOk made (IfErr result.0 (λ failed. failed ≡ Failed.Code Refusal.Write)) }
+    ensures writes { OnOk made (CountsWrites (failed_writes out.old) (failed_writes out.new) result.0) }
+    ensures same_writer { IsSameWriter out.old out.new }
+{
+    let store = match made {
+        Ok(store) => store,
+        Err((refusal, disk)) => return (Err(Failed::Code(refusal)), disk),
+    };
+    let version = store.version();
+    let disk = store.close();
+    if let Err(failed) = put_reply(out, &Replied::Durable { version }) {
+        return (Err(failed), disk);
+    }
+    (out.flush(), disk)
+}
+
+/// Makes a store on the empty disk `new` of the store on the disk `old`, at its version, with room for so many arcs and with so many journal pages, 1 to
+/// 65,536; where one of the two is not given, with as many as the old store has. Then it writes `ok V`, V the version, and sends it out. The new disk is
+/// handed back. The old one is read alone, and stays as it is.
+///
+/// Refused, the first that holds, is a new disk that is not empty (46), what opening refuses of the old store (40 to 42), a room below the number of
+/// arcs or above 67,108,864 (9), and want of memory (11); a disk that fails is told as 43. The new disk is untouched then, but at 43, and nothing
+/// is written. A failed write (12) is told where the store is there, and its line could not be. After an `Err` the writer is not used again.
+pub fn copy_counted<O: Disk, D: Disk, W: Write>(
+    alloc: Global,
+    old: &mut O,
+    new: D,
+    room: Option<u64>,
+    journal: Option<u32>,
+    out: &mut CountedWriter<'_, W>,
+) -> (Result<(), Failed>, D)
+    requires journal { ForSome journal (λ pages. (1 ≤ pages) × (pages ≤ 65536)) }
+    // The new content stands for the network of the old one, with its room, at its version, and is all that a stop may leave.
+    ensures made { O.honest old.old → D.honest new → IfDone result.0 (IsMoved two (O.content old.old) room journal (D.content result.1) (D.left result.1)) }
+    ensures told { OnOk result.0 (TellsMoved two (O.honest old.old) (O.content old.old) (W.contents (writer_of out.old)) (W.contents (writer_of out.new))) }
+    ensures refused { O.honest old.old → D.honest new → IfErr result.0 (IsRefusedMove two (D.content new) (O.content old.old) room) }
+    ensures untouched { O.honest old.old → StaysSame O.content O.left O.moment O.left_since old.old old.new }
+    ensures same { D.honest new → IfErr result.0 (λ failed. IfNoDevice failed (StaysSame D.content D.left D.moment D.left_since new result.1)) }
+    ensures unwritten { IfErr result.0 (LeavesUnwritten (writer_of out.old) (writer_of out.new)) }
+    ensures honest { (O.honest old.new ↔ O.honest old.old) × (D.honest result.1 ↔ D.honest new) }
+    ensures writes { CountsWrites (failed_writes out.old) (failed_writes out.new) result.0 }
+    ensures same_writer { IsSameWriter out.old out.new }
+{
+    let made = copy(alloc, old, new, room, journal);
+    tell_made(made, out)
+}
+
+/// The same over any writer, whose failed calls nobody counts.
+pub fn copy_text<O: Disk, D: Disk, W: Write>(
+    alloc: Global,
+    old: &mut O,
+    new: D,
+    room: Option<u64>,
+    journal: Option<u32>,
+    out: &mut W,
+) -> (Result<(), Failed>, D)
+    requires journal { ForSome journal (λ pages. (1 ≤ pages) × (pages ≤ 65536)) }
+    ensures made { O.honest old.old → D.honest new → IfDone result.0 (IsMoved two (O.content old.old) room journal (D.content result.1) (D.left result.1)) }
+    ensures told { OnOk result.0 (TellsMoved two (O.honest old.old) (O.content old.old) (W.contents out.old) (W.contents out.new)) }
+    ensures refused { O.honest old.old → D.honest new → IfErr result.0 (IsRefusedMove two (D.content new) (O.content old.old) room) }
+    ensures untouched { O.honest old.old → StaysSame O.content O.left O.moment O.left_since old.old old.new }
+    ensures same { D.honest new → IfErr result.0 (λ failed. IfNoDevice failed (StaysSame D.content D.left D.moment D.left_since new result.1)) }
+    ensures unwritten { IfErr result.0 (LeavesUnwritten out.old out.new) }
+    ensures honest { (O.honest old.new ↔ O.honest old.old) × (D.honest result.1 ↔ D.honest new) }
+{
+    let mut counted = CountedWriter::new(out);
+    copy_counted(alloc, old, new, room, journal, &mut counted)
+}
 
 /// Makes a store on the empty disk `new` of the store of format 1 on the disk `old`, at its version and with its journal pages, and with room for so many
 /// arcs; where no number is given, for those that there are. Then it writes `ok V`, V the version, and sends it out. The new disk is handed back. The old
@@ -29,9 +113,9 @@ pub fn migrate_counted<O: Disk, D: Disk, W: Write>(
     out: &mut CountedWriter<'_, W>,
 ) -> (Result<(), Failed>, D)
     // The new content stands for the network of the old one, with its room, at its version, and is all that a stop may leave.
-    ensures made { O.honest old.old → D.honest new → IfDone result.0 (IsMoved (O.content old.old) room (D.content result.1) (D.left result.1)) }
-    ensures told { OnOk result.0 (TellsMoved (O.honest old.old) (O.content old.old) room (W.contents (writer_of out.old)) (W.contents (writer_of out.new))) }
-    ensures refused { O.honest old.old → D.honest new → IfErr result.0 (IsRefusedMove (D.content new) (O.content old.old) room) }
+    ensures made { O.honest old.old → D.honest new → IfDone result.0 (IsMoved one (O.content old.old) room None (D.content result.1) (D.left result.1)) }
+    ensures told { OnOk result.0 (TellsMoved one (O.honest old.old) (O.content old.old) (W.contents (writer_of out.old)) (W.contents (writer_of out.new))) }
+    ensures refused { O.honest old.old → D.honest new → IfErr result.0 (IsRefusedMove one (D.content new) (O.content old.old) room) }
     ensures untouched { O.honest old.old → StaysSame O.content O.left O.moment O.left_since old.old old.new }
     ensures same { D.honest new → IfErr result.0 (λ failed. IfNoDevice failed (StaysSame D.content D.left D.moment D.left_since new result.1)) }
     ensures unwritten { IfErr result.0 (LeavesUnwritten (writer_of out.old) (writer_of out.new)) }
@@ -39,16 +123,8 @@ pub fn migrate_counted<O: Disk, D: Disk, W: Write>(
     ensures writes { CountsWrites (failed_writes out.old) (failed_writes out.new) result.0 }
     ensures same_writer { IsSameWriter out.old out.new }
 {
-    let store = match migrate(alloc, old, new, room) {
-        Ok(store) => store,
-        Err((refusal, disk)) => return (Err(Failed::Code(refusal)), disk),
-    };
-    let version = store.version();
-    let disk = store.close();
-    if let Err(failed) = put_reply(out, &Replied::Durable { version }) {
-        return (Err(failed), disk);
-    }
-    (out.flush(), disk)
+    let made = migrate(alloc, old, new, room);
+    tell_made(made, out)
 }
 
 /// The same over any writer, whose failed calls nobody counts.
@@ -59,9 +135,9 @@ pub fn migrate_text<O: Disk, D: Disk, W: Write>(
     room: Option<u64>,
     out: &mut W,
 ) -> (Result<(), Failed>, D)
-    ensures made { O.honest old.old → D.honest new → IfDone result.0 (IsMoved (O.content old.old) room (D.content result.1) (D.left result.1)) }
-    ensures told { OnOk result.0 (TellsMoved (O.honest old.old) (O.content old.old) room (W.contents out.old) (W.contents out.new)) }
-    ensures refused { O.honest old.old → D.honest new → IfErr result.0 (IsRefusedMove (D.content new) (O.content old.old) room) }
+    ensures made { O.honest old.old → D.honest new → IfDone result.0 (IsMoved one (O.content old.old) room None (D.content result.1) (D.left result.1)) }
+    ensures told { OnOk result.0 (TellsMoved one (O.honest old.old) (O.content old.old) (W.contents out.old) (W.contents out.new)) }
+    ensures refused { O.honest old.old → D.honest new → IfErr result.0 (IsRefusedMove one (D.content new) (O.content old.old) room) }
     ensures untouched { O.honest old.old → StaysSame O.content O.left O.moment O.left_since old.old old.new }
     ensures same { D.honest new → IfErr result.0 (λ failed. IfNoDevice failed (StaysSame D.content D.left D.moment D.left_since new result.1)) }
     ensures unwritten { IfErr result.0 (LeavesUnwritten out.old out.new) }

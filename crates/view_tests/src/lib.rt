@@ -10,6 +10,8 @@ mod compared;
 #[cfg(test)]
 mod guiding;
 #[cfg(test)]
+mod reaching;
+#[cfg(test)]
 mod renewing;
 #[cfg(test)]
 mod viewing;

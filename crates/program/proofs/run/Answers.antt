@@ -1,7 +1,7 @@
 -- The journal pages and row workers of a job are those of its words.
 use Rattle.std.proofs.Common.{ap, subst, sym}
-use Rattle.program.specs.Pipes.{AreFit}
-use Rattle.program.specs.Words.{journal_of, workers_of}
+use Rattle.words.specs.Pipes.{AreFit}
+use Rattle.words.specs.Words.{journal_of, workers_of}
 use Rattle.program.proofs.run.Goals as goal
 
 pub run_rehearse-requires-clause-journal : goal.run_rehearse-requires-clause-journal

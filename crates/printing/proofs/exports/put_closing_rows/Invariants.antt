@@ -1,7 +1,8 @@
 use Rattle.std.proofs.Common.{◌≡◌, take, map}
 use Rattle.std.specs.Io.KnownBytes.{Appends}
 use Rattle.printing.specs.Counting.{failed_writes, writer_of, IsSameWriter}
-use Rattle.printing.specs.Exports.{text_of, closing_row, closed_arcs}
+use Rattle.printing.specs.Chosen.{closed_arcs}
+use Rattle.printing.specs.Exports.{text_of, closing_row}
 use Rattle.printing.proofs.exports.put_closing_rows.Given as goal
 
 abbrev pub invariant-loop-index : goal.invariant-loop-index

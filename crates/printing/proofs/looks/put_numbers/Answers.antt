@@ -1,7 +1,7 @@
 use Rattle.std.proofs.Common.{◌∙◌, ◌++◌}
 use Rattle.std.specs.Prelude.{decimal}
 use lib.Chars.{codes}
-use Rattle.printing.specs.Looks.{leads}
+use Rattle.printing.specs.Chosen.{leads}
 use Rattle.printing.proofs.Looked.{written_more}
 use Rattle.printing.proofs.looks.put_numbers.Goals as goal
 

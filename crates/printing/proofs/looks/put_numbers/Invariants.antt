@@ -1,7 +1,8 @@
 use Rattle.std.proofs.Common.{◌≡◌, take}
 use Rattle.std.specs.Io.KnownBytes.{Appends}
 use Rattle.printing.specs.Counting.{failed_writes, writer_of, IsSameWriter}
-use Rattle.printing.specs.Looks.{leads, arcs_where, listed_numbers}
+use Rattle.printing.specs.Chosen.{arcs_where, leads}
+use Rattle.printing.specs.Looks.{listed_numbers}
 use Rattle.printing.proofs.looks.put_numbers.Given as goal
 
 abbrev pub invariant-loop-index : goal.invariant-loop-index

@@ -1,5 +1,5 @@
 use Rattle.std.proofs.Common.{◌≡◌, ℕ, ◌*◌, length, arith}
-use Rattle.program.specs.Pipes.{names_of}
+use Rattle.words.specs.Pipes.{names_of}
 use Rattle.program.proofs.PipeNames.{length-names_of}
 use Rattle.program.proofs.doors.see_pipes.Goals as goal
 

@@ -1,4 +1,4 @@
-use Rattle.program.specs.Pipes.{names_of, AreTold}
+use Rattle.words.specs.Pipes.{names_of, AreTold}
 use Rattle.program.proofs.doors.see_pipes.Given as goal
 
 -- each name so far was told to be one of a pipe

@@ -9,6 +9,7 @@ use Rattle.dimacs.specs.Counts.{reader_of}
 use Rattle.printing.specs.Counting.{writer_of}
 use Rattle.sessions.specs.declared.reading.LastLine.TheVariants.{Taken}
 use Rattle.sessions.specs.Turns.{Serves, IsKept}
+use Rattle.program.specs.Copied.{copies_in}
 use Rattle.program.proofs.serve_jobs.serve_disk.Goals as goal
 
 stands_for_origin : {X : Type 0} (content : List ℕ) (answer : Result X Refusal) (origin_of : X → Origin) (origin : Origin)
@@ -40,9 +41,9 @@ returns-clause-answered g c =
     (λ origin ended.
     IfSome (g.I.Read.remaining (reader_of c.args.reader.now))
     (λ text.
-    Serves Taken origin text (g.I.Read.remaining (reader_of c.serve_store.new.reader)) (g.W.Write.contents (writer_of c.args.writer.now)) (g.W.Write.contents (writer_of c.serve_store.new.writer))
+    Serves (copies_in c.args.folder) Taken origin text (g.I.Read.remaining (reader_of c.serve_store.new.reader)) (g.W.Write.contents (writer_of c.args.writer.now)) (g.W.Write.contents (writer_of c.serve_store.new.writer))
     (IsKept ended.closed.whole ended.closed.shown) ended.outcome))
-    c.serve_store.ensures.answered
+    (rw c.new-copies.ensures at c.serve_store.ensures.answered)
     c.serve_store.ensures.origin
 
 pub returns-clause-honest : goal.returns-clause-honest

@@ -1,58 +1,33 @@
-use Rattle.std.proofs.Common.{rules, Err, ◌≡◌}
-use Rattle.std.specs.Prelude.{OnOk}
-use Rattle.std.specs.Io.KnownBytes.{Appends}
-use lib.Chars.{codes}
-use Rattle.printing.specs.Counting.{writer_of}
-use Rattle.printing.specs.Replied.{number_line}
-use Rattle.storetexts.proofs.Made.{done_any}
-use Rattle.storetexts.proofs.Moved.{may_move, moved_so, told_moved, refused_so, write_refused, nothing_done, moving_counts, still_unwritten}
+use Rattle.std.proofs.Common.{None}
+use Rattle.disk.specs.Moments.{StaysSame}
+use Rattle.pages.specs.declared.content.Format.TheVariants.{One}
+use Rattle.storetexts.proofs.Moved.{all_moved, all_told, all_refused, all_same, all_unwritten, all_counted, all_honest}
 use Rattle.storetexts.proofs.moving.migrate_counted.Goals as goal
-
-pub returns-in-Err-clause-made : goal.returns-in-Err-clause-made
-returns-in-Err-clause-made g c old_honest new_honest = nothing_done c.in-Err.refusal _ c.in-Err.ensures.causes
-
-pub returns-in-Err-clause-refused : goal.returns-in-Err-clause-refused
-returns-in-Err-clause-refused g c old_honest new_honest = refused_so (g.O.Disk.content c.args.old.now) c.args.room (g.D.Disk.content c.args.new) c.in-Err.refusal c.in-Err.ensures.causes (c.in-Err.ensures.refused old_honest new_honest)
-
-pub returns-in-Err-clause-writes : goal.returns-in-Err-clause-writes
-returns-in-Err-clause-writes g c = moving_counts (Unit {0}) c.in-Err.refusal _ c.in-Err.ensures.causes
-
-pub returns-in-Err-clause-unwritten : goal.returns-in-Err-clause-unwritten
-returns-in-Err-clause-unwritten g c = still_unwritten c.in-Err.refusal _
-
-pub returns-in-Err-put_reply-clause-made : goal.returns-in-Err-put_reply-clause-made
-returns-in-Err-put_reply-clause-made g c old_honest new_honest =
-    let store = c.in-Ok.store in
-    let made = moved_so (g.O.Disk.content c.args.old.now) c.args.room store.network store.version store.journal_pages store.checkpoint_pages (g.D.Disk.content store.disk) (g.D.Disk.left store.disk)
-    (c.in-Ok.ensures.migrated old_honest) c.in-Ok.ensures.checkpoint_pages (c.in-Ok.ensures.stands new_honest) (c.in-Ok.ensures.only new_honest) in
-    let h = done_any (Err c.in-Err-put_reply.failed) _ made in
-    let there = c.close-disk.ensures.disk in
-    search (rules, h, there)
-
-pub returns-in-Err-put_reply-clause-refused : goal.returns-in-Err-put_reply-clause-refused
-returns-in-Err-put_reply-clause-refused g c old_honest new_honest =
-    let store = c.in-Ok.store in
-    write_refused (g.O.Disk.content c.args.old.now) c.args.room (g.D.Disk.content c.args.new) store.version (Err c.in-Err-put_reply.failed)
-    (may_move (g.O.Disk.content c.args.old.now) c.args.room store.network store.version store.journal_pages (c.in-Ok.ensures.migrated old_honest)) c.in-Err-put_reply.ensures.refused
 
 pub returns-clause-made : goal.returns-clause-made
 returns-clause-made g c old_honest new_honest =
-    let store = c.in-Ok.store in
-    let made = moved_so (g.O.Disk.content c.args.old.now) c.args.room store.network store.version store.journal_pages store.checkpoint_pages (g.D.Disk.content store.disk) (g.D.Disk.left store.disk)
-    (c.in-Ok.ensures.migrated old_honest) c.in-Ok.ensures.checkpoint_pages (c.in-Ok.ensures.stands new_honest) (c.in-Ok.ensures.only new_honest) in
-    let h = done_any c.flush.result _ made in
-    let there = c.close-disk.ensures.disk in
-    search (rules, h, there)
+    all_moved c.migrate-made.result c.tell_made.result.0 c.tell_made.result.1 g.D.Disk.content g.D.Disk.left One (g.O.Disk.content c.args.old.now) c.args.room None
+    (c.migrate-made.ensures.migrated old_honest) c.migrate-made.ensures.checkpoint_pages (c.migrate-made.ensures.stands new_honest) (c.migrate-made.ensures.only new_honest) c.migrate-made.ensures.causes c.tell_made.ensures.disk c.tell_made.ensures.refused
 
 pub returns-clause-told : goal.returns-clause-told
 returns-clause-told g c =
-    let store = c.in-Ok.store in
-    let lines : OnOk c.flush.result (Appends (g.W.Write.contents (writer_of c.args.out.now)) (g.W.Write.contents (writer_of c.flush.new.self)) (number_line (codes "ok ") store.version)) = search rules in
-    told_moved (g.O.Disk.content c.args.old.now) c.args.room c.flush.result (g.O.Disk.honest c.args.old.now) store.version _ _
-    (λ old_honest. may_move (g.O.Disk.content c.args.old.now) c.args.room store.network store.version store.journal_pages (c.in-Ok.ensures.migrated old_honest)) lines
+    all_told c.migrate-made.result c.tell_made.result.0 (g.O.Disk.honest c.args.old.now) One (g.O.Disk.content c.args.old.now) c.args.room None _ _ c.migrate-made.ensures.migrated c.tell_made.ensures.told c.tell_made.ensures.refused
 
 pub returns-clause-refused : goal.returns-clause-refused
 returns-clause-refused g c old_honest new_honest =
-    let store = c.in-Ok.store in
-    write_refused (g.O.Disk.content c.args.old.now) c.args.room (g.D.Disk.content c.args.new) store.version c.flush.result
-    (may_move (g.O.Disk.content c.args.old.now) c.args.room store.network store.version store.journal_pages (c.in-Ok.ensures.migrated old_honest)) c.flush.ensures.refused
+    all_refused c.migrate-made.result c.tell_made.result.0 One (g.D.Disk.content c.args.new) (g.O.Disk.content c.args.old.now) c.args.room None
+    (c.migrate-made.ensures.migrated old_honest) (c.migrate-made.ensures.refused old_honest new_honest) c.migrate-made.ensures.causes c.tell_made.ensures.failed c.tell_made.ensures.refused
+
+pub returns-clause-same : goal.returns-clause-same
+returns-clause-same g c new_honest =
+    all_same c.migrate-made.result c.tell_made.result.0 c.tell_made.result.1 (StaysSame g.D.Disk.content g.D.Disk.left g.D.Disk.moment g.D.Disk.left_since c.args.new) (c.migrate-made.ensures.same new_honest)
+    c.tell_made.ensures.failed c.tell_made.ensures.disk c.tell_made.ensures.refused
+
+pub returns-clause-unwritten : goal.returns-clause-unwritten
+returns-clause-unwritten g c = all_unwritten c.migrate-made.result c.tell_made.result.0 c.args.out.now c.tell_made.new.out c.tell_made.ensures.failed c.tell_made.ensures.untold c.tell_made.ensures.refused
+
+pub returns-clause-writes : goal.returns-clause-writes
+returns-clause-writes g c = all_counted c.migrate-made.result c.tell_made.result.0 c.args.out.now c.tell_made.new.out c.tell_made.ensures.writes c.tell_made.ensures.untold c.migrate-made.ensures.causes c.tell_made.ensures.refused
+
+pub returns-clause-honest : goal.returns-clause-honest
+returns-clause-honest g c = (c.migrate-made.ensures.honest, all_honest c.migrate-made.result c.tell_made.result.1 g.D.Disk.honest c.args.new c.migrate-made.ensures.honest_new c.tell_made.ensures.disk)

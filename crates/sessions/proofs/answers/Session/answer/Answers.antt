@@ -1,5 +1,5 @@
 use Rattle.std.proofs.Common.{rules, ◌≡◌, ◌∙◌, None, Some, sym}
-use Rattle.sessions.proofs.Answered.{nothing_within}
+use Rattle.sessions.proofs.Answered.{end_told, nothing_within}
 use Rattle.sessions.proofs.Drafting.{next_within, none_drafted, some_drafted}
 use Rattle.sessions.proofs.answers.Session.answer.Goals as goal
 
@@ -18,7 +18,7 @@ returns-then-is_end-clause-told g c draft has =
     let told = c.in-Some.ensures.value in
     let some : c.args.self.now.draft ≡ Some c.in-Some.draft = cc in
     let is = some_drafted draft c.in-Some.draft (rw some at has) in
-    rw (is.1, c.is_end.ensures.0 c.if-is_end.true) (c.answer_end.ensures.told is.0 is.2)
+    rw (is.1, c.is_end.ensures.0 c.if-is_end.true) (end_told (g.C.Copies.copying c.args.copies.now) g.N.Naming.origin is.0 _ _ _ _ _ _ _ c.answer_end.result (c.answer_end.ensures.told is.0 is.2))
 
 pub returns-then-is_end-clause-draft : goal.returns-then-is_end-clause-draft
 returns-then-is_end-clause-draft g c draft has =
@@ -33,7 +33,7 @@ returns-clause-told g c draft has =
     let told = c.in-Some.ensures.value in
     let some : c.args.self.now.draft ≡ Some c.in-Some.draft = cc in
     let is = some_drafted draft c.in-Some.draft (rw some at has) in
-    rw is.1 (nothing_within g.N.Naming.origin is.0 c.args.line _ _ _ _ (λ e. let end = sym c.if-is_end.false ∙ c.is_end.ensures.1 e in absurd cc))
+    rw is.1 (nothing_within _ g.N.Naming.origin is.0 c.args.line _ _ _ _ (λ e. let end = sym c.if-is_end.false ∙ c.is_end.ensures.1 e in absurd cc))
 
 pub returns-clause-draft : goal.returns-clause-draft
 returns-clause-draft g c draft has =

@@ -32,3 +32,6 @@ returns-in-Until c draft is = rw c.in-Until.is (c.faulty-in-Until.ensures draft 
 
 pub returns-in-State : goal.returns-in-State
 returns-in-State c draft is = rw c.in-State.is (c.faulty-in-State.ensures draft is)
+
+pub returns-in-Copy : goal.returns-in-Copy
+returns-in-Copy c draft is = rw c.in-Copy.is (c.faulty-in-Copy.ensures draft is)

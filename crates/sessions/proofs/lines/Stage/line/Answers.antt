@@ -1,4 +1,5 @@
 use Rattle.sessions.proofs.Staged.{blank_line, remark_line, unknown_line, word_alone, unknown_alone, whole_line}
+use Rattle.sessions.proofs.Naming.{unnamed_line, naming_line, named_line}
 use Rattle.sessions.proofs.lines.Stage.line.Goals as goal
 
 pub returns-in-Blank : goal.returns-in-Blank
@@ -19,3 +20,12 @@ returns-in-None c front is = unknown_alone front c.in-Beginning.letters c.in-Non
 pub returns-in-Behind : goal.returns-in-Behind
 returns-in-Behind c front is =
     whole_line front c.in-Behind.word c.in-Behind.numbers _ c.in-Behind.field _ c.ended.ensures c.read_line-in-Behind.ensures (rw c.in-Behind.is at is)
+
+pub returns-in-Unnamed : goal.returns-in-Unnamed
+returns-in-Unnamed c front is = unnamed_line front (rw c.in-Unnamed.is at is)
+
+pub returns-in-Naming : goal.returns-in-Naming
+returns-in-Naming c front is = naming_line front c.in-Naming.name (rw c.in-Naming.is at is)
+
+pub returns-in-Named : goal.returns-in-Named
+returns-in-Named c front is = named_line front c.in-Named.name (rw c.in-Named.is at is)

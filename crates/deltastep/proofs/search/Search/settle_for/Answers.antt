@@ -1,0 +1,15 @@
+use Rattle.std.proofs.Common.{◌≡◌, ◌∙◌, ℕ, ◌+◌, ◌/◌, ◌≤◌, length, sym, subst}
+use Rattle.deltastep.proofs.Ending.{beyond_later}
+use Rattle.deltastep.proofs.search.Search.settle_for.Goals as goal
+
+pub is_enough-requires : goal.is_enough-requires
+is_enough-requires g c =
+    let between = c.in_ok-bucket.ensures.state c.requires.state.0 (c.buckets.invariant.state c.requires.state.0 c.requires.state.1) in
+    record { suits = subst (λ (n : ℕ). g.A.Asked.suits c.args.asked.now n) (sym between.search.places) c.requires.suits }
+
+pub returns-then-is_enough-clause-beyond : goal.returns-then-is_enough-clause-beyond
+returns-then-is_enough-clause-beyond g c =
+    beyond_later c.args.snapshot.now.delta c.in-Some.bucket c.last_of-end.result (g.Q.BucketQueue.entries c.settle_next.new.self.buckets) c.delta.ensures.grouped.delta (subst (λ (d : ℕ). c.last_of-end.result / d ≤ c.in-Some.bucket) (c.from-delta.ensures ∙ c.delta.ensures.value) c.last_of-end.ensures) (rw c.in-Some.is at c.in_ok-bucket.ensures.later)
+
+pub returns-clause-beyond : goal.returns-clause-beyond
+returns-clause-beyond g c = rw c.in_default.is at c.in_ok-bucket.ensures.later

@@ -1,0 +1,189 @@
+//! Searches for what is asked of the nodes around a source, which end as soon as it can be answered.
+
+ghost use Rattle.std.specs.Prelude.{◌≡◌, ◌+◌, ◌*◌, ◌-◌, ◌/◌, ◌≤◌, ◌<◌, ◌^◌, ℕ, List, [], Option, None, length, replicate, IfOk, IfSome, OnOk};
+ghost use Rattle.std.specs.Bool.{OnTrue};
+ghost use Rattle.roadnet.specs.Net.{Net};
+ghost use Rattle.snapshot.specs.Groups.{IsSnapshotOf};
+ghost use Rattle.deltastep.specs.declared.known.NodeDistance.{NodeDistance};
+ghost use Rattle.deltastep.specs.Reach.{AreFinal, IsBeyond};
+ghost use Rattle.deltastep.specs.Search.{IsBetweenBuckets, IsSuited, Suits};
+
+use crate::distances::RowError;
+use crate::known::NodeDistance;
+use crate::remembered::Remembered;
+use crate::search::Search;
+use crate::stepping::ring_size;
+use crate::target::drain;
+use crate::workspace::Workspace;
+use buckets::{BucketQueue, OrderedBuckets};
+use relax::{Team, Tentative};
+use snapshot::Snapshot;
+use std::alloc::Global;
+
+/// What is asked of the nodes around a source.
+pub(crate) trait Asked {
+    /// It can be asked where values have so many places.
+    ghost suits: { Self → ℕ → Type 0 };
+
+    /// Values that are final up to a length suffice for an answer.
+    ghost suffices: { Self → List (Option ℕ) → ℕ → Type 0 };
+
+    /// The right answers in a network, from a source.
+    ghost answers: { Self → Net → ℕ → List NodeDistance → Type 0 };
+
+    /// Whether values that are final up to this length suffice.
+    fn is_enough(&self, values: &Tentative, end: u64) -> bool
+        requires suits { suits self.now (length values.now) }
+        ensures { OnTrue result (suffices self.now values.now end) };
+
+    /// The answer out of values that are final up to this length, or where there is none, all of them. The one error is want of memory.
+    fn answer(
+        &self,
+        alloc: Global,
+        values: &Tentative,
+        end: Option<u64>,
+    ) -> Result<Vec<NodeDistance>, RowError>
+        requires suits { suits self.now (length values.now) }
+        requires enough { IfSome end (λ e. suffices self.now values.now e) }
+        ensures { IfOk result (λ told. (net : Net) (source : ℕ) → AreFinal net source end values.now → answers self.now net source told.items) };
+}
+
+/// The last number of a bucket, or the greatest there is where that is above it.
+#[inline(always)]
+fn last_of(bucket: u64, delta: u64) -> u64
+    requires positive { 1 ≤ delta }
+    ensures { result / delta ≤ bucket }
+{
+    bucket.saturating_mul(delta).saturating_add(delta - 1)
+}
+
+impl<Q: BucketQueue> Search<Q> {
+    /// Settles bucket after bucket until what is asked can be answered, or no node is queued any more. Gives up to which length the values
+    /// are final then: to the end of the bucket that was settled last, or where no node is queued, all of them.
+    fn settle_for<A: Asked, T: Team>(
+        &mut self,
+        alloc: Global,
+        snapshot: &Snapshot,
+        asked: &A,
+        team: &T,
+        remembered: &mut Remembered,
+    ) -> Result<Option<u64>, RowError>
+        requires suits { A.suits asked.now (snapshot.now.nodes + 1) }
+        requires state { (source : ℕ) × IsBetweenBuckets snapshot.now source self.old.tentative (Q.entries self.old.buckets) }
+        requires suited { IsSuited snapshot.now (Q.width self.old.buckets) (Q.span self.old.buckets) }
+        requires none { remembered.old ≡ record { limit = snapshot.now.nodes + 1; nodes = [] } }
+        ensures state { OnOk result ((source : ℕ) → IsBetweenBuckets snapshot.now source self.old.tentative (Q.entries self.old.buckets) → IsBetweenBuckets snapshot.now source self.new.tentative (Q.entries self.new.buckets)) }
+        ensures enough { IfOk result (λ end. IfSome end (λ e. A.suffices asked.now self.new.tentative e)) }
+        ensures beyond { IfOk result (λ end. IsBeyond end (Q.entries self.new.buckets)) }
+    {
+        let delta = u64::from(snapshot.delta());
+        let mut taken = Vec::new(alloc);
+        'buckets: while let Some(bucket) = self.settle_next(
+            alloc, snapshot, team, &mut taken, remembered,
+        )? {
+            let end = last_of(bucket, delta);
+            if asked.is_enough(&self.tentative, end) {
+                return Ok(Some(end));
+            }
+        }
+        Ok(None)
+    }
+}
+
+/// The answer to what is asked around `source` with the given team, values of no node, queue and memory of no node, and the values and the
+/// queue as the search leaves them.
+#[inline(always)]
+fn answer_by<Q: BucketQueue + Drop, A: Asked, T: Team>(
+    alloc: Global,
+    snapshot: &Snapshot,
+    source: u32,
+    asked: &A,
+    team: &T,
+    values: Tentative,
+    buckets: Q,
+    remembered: &mut Remembered,
+) -> Result<(Vec<NodeDistance>, Tentative, Q), RowError>
+    requires blank { values ≡ replicate (snapshot.now.nodes + 1) None }
+    requires source { (1 ≤ source) × (source ≤ snapshot.now.nodes) }
+    requires asked { A.suits asked.now (snapshot.now.nodes + 1) }
+    requires suits { Suits snapshot.now (Q.entries buckets) (Q.accepts buckets) (Q.width buckets) (Q.span buckets) }
+    requires none { remembered.old ≡ record { limit = snapshot.now.nodes + 1; nodes = [] } }
+    ensures told { IfOk result (λ found. (net : Net) → IsSnapshotOf net snapshot.now → A.answers asked.now net source found.0.items) }
+{
+    let mut search = Search::begin(snapshot, source, values, buckets)?;
+    let end = search.settle_for(alloc, snapshot, asked, team, remembered)?;
+    let Search { tentative, buckets } = search;
+    let told = asked.answer(alloc, &tentative, end)?;
+    Ok((told, tentative, buckets))
+}
+
+/// The answer to what is asked around `source` with the given team, values of no node and queue; the values are kept for the next search.
+fn answer_with<Q: BucketQueue + Drop, A: Asked, T: Team>(
+    alloc: Global,
+    snapshot: &Snapshot,
+    source: u32,
+    asked: &A,
+    team: &T,
+    values: Tentative,
+    buckets: Q,
+    workspace: &mut Workspace,
+) -> Result<Vec<NodeDistance>, RowError>
+    requires blank { values ≡ replicate (snapshot.now.nodes + 1) None }
+    requires source { (1 ≤ source) × (source ≤ snapshot.now.nodes) }
+    requires asked { A.suits asked.now (snapshot.now.nodes + 1) }
+    requires suits { Suits snapshot.now (Q.entries buckets) (Q.accepts buckets) (Q.width buckets) (Q.span buckets) }
+    ensures told { IfOk result (λ told. (net : Net) → IsSnapshotOf net snapshot.now → A.answers asked.now net source told.items) }
+{
+    let mut remembered = Remembered::new(alloc, snapshot.nodes() as usize + 1)?;
+    let (told, values, _buckets) = answer_by(
+        alloc,
+        snapshot,
+        source,
+        asked,
+        team,
+        values,
+        buckets,
+        &mut remembered,
+    )?;
+    workspace.keep_values(values);
+    Ok(told)
+}
+
+/// The answer to what is asked around `source`, whatever the workspace holds, which the search uses as `distance_to_in` does.
+pub(crate) fn answer_in<A: Asked, T: Team>(
+    alloc: Global,
+    snapshot: &Snapshot,
+    source: u32,
+    asked: &A,
+    team: &T,
+    workspace: &mut Workspace,
+) -> Result<Vec<NodeDistance>, RowError>
+    requires source { (1 ≤ source) × (source ≤ snapshot.now.nodes) }
+    requires asked { A.suits asked.now (snapshot.now.nodes + 1) }
+    ensures told { IfOk result (λ told. (net : Net) → IsSnapshotOf net snapshot.now → A.answers asked.now net source told.items) }
+{
+    let values = workspace.take_values(alloc, snapshot.nodes())?;
+    let Some(size) = ring_size(snapshot) else {
+        let buckets = OrderedBuckets::new(alloc, snapshot.delta());
+        return answer_with(
+            alloc, snapshot, source, asked, team, values, buckets, workspace,
+        );
+    };
+    let ring = workspace.take_ring(alloc, snapshot, size)?;
+    let mut remembered = workspace.take_remembered(alloc, snapshot.nodes() as usize + 1)?;
+    let (told, values, mut ring) = answer_by(
+        alloc,
+        snapshot,
+        source,
+        asked,
+        team,
+        values,
+        ring,
+        &mut remembered,
+    )?;
+    workspace.keep_values(values);
+    if drain(alloc, &mut ring).is_ok() {
+        workspace.keep(ring, remembered);
+    }
+    Ok(told)
+}

@@ -1,7 +1,0 @@
-use Rattle.std.proofs.Common.{◌≡◌, ◌<◌, ℕ, slice_get}
-use Rattle.program.specs.Pipes.{texts}
-use Rattle.program.proofs.pipes.stands_before.Given as goal
-
--- no earlier name so far is the same
-abbrev pub invariant-loop-earlier : goal.invariant-loop-earlier
-invariant-loop-earlier l = (earlier : ℕ) → earlier < l.earlier → slice_get (texts l.names) earlier ≡ slice_get (texts l.names) l.later → ⊥

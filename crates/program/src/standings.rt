@@ -1,0 +1,172 @@
+//! How a server stands, told on standard error where `--verbose` asks for it.
+use desk::{DeskState, Gate, Handle, Naming, Working};
+use disk::Disk;
+use std::alloc::{AllocError, Global};
+use std::fmt::{self, Display};
+use std::sync::{Arc, Mutex, Wait};
+use std::thread::{self, Threads};
+use std::time::{Clock, Duration};
+
+/// How many seconds stand between two lines at least.
+const APART: u64 = 1;
+
+/// How many clients came in by the doors of a server, and how many of them went.
+#[derive(Clone, Copy, Debug, PartialEq, Eq)]
+pub struct Visits {
+    pub came: u64,
+    pub went: u64,
+}
+
+/// The clients of a server, counted where it is told how many there are.
+#[derive(Drop)]
+pub struct Guests {
+    counted: Option<Arc<Mutex<Visits>>>,
+}
+
+impl Guests {
+    /// Nobody has come yet.
+    pub fn new(alloc: Global, are_told: bool) -> Result<Guests, AllocError> {
+        let none = Visits { came: 0, went: 0 };
+        let counted = if are_told {
+            Some(Arc::new(alloc, Mutex::new(none))?)
+        } else {
+            None
+        };
+        Ok(Guests { counted })
+    }
+
+    /// The same count, for another door.
+    pub fn again(&self) -> Result<Guests, AllocError> {
+        let counted = match &self.counted {
+            Some(visits) => Some(Arc::try_clone(visits)?),
+            None => None,
+        };
+        Ok(Guests { counted })
+    }
+
+    /// One more has come.
+    pub fn one_came<R: Wait>(&self, rt: &R) {
+        if let Some(visits) = &self.counted {
+            let mut visits = visits.lock(rt);
+            visits.came = visits.came.saturating_add(1);
+        }
+    }
+
+    /// One of them has gone.
+    pub fn one_went<R: Wait>(&self, rt: &R) {
+        if let Some(visits) = &self.counted {
+            let mut visits = visits.lock(rt);
+            visits.went = visits.went.saturating_add(1);
+        }
+    }
+}
+
+/// How a server stands, and who came and went until then. As it is told: `durable D, shown V`, which versions are durable and shown; `, B behind`, where
+/// that is fewer by B; `, C clients, N came, M went`, once one has come; and what is told of a thread that has ended.
+#[derive(Clone, Copy, Debug, PartialEq, Eq)]
+pub struct Standing {
+    pub desk: DeskState,
+    pub visits: Visits,
+}
+
+/// What is told of a flusher that doesn't go on.
+fn told_of_flusher(flusher: Working) -> &'static str {
+    match flusher {
+        Working::On => "",
+        Working::Ended => ", the flusher has ended",
+        Working::Broken => ", 43 Device: nothing more is written, what is durable stays",
+    }
+}
+
+/// What is told of a builder that doesn't go on.
+fn told_of_builder(builder: Working) -> &'static str {
+    match builder {
+        Working::On => "",
+        Working::Ended | Working::Broken => ", the builder has ended",
+    }
+}
+
+impl Display for Standing {
+    fn fmt<W: fmt::Write>(&self, f: &mut fmt::Formatter<W>) -> fmt::Result {
+        let Standing { desk, visits } = *self;
+        write!(f, "durable {}, shown {}", desk.durable, desk.shown)?;
+        if desk.shown < desk.durable {
+            write!(f, ", {} behind", desk.durable - desk.shown)?;
+        }
+        if visits.came > 0 {
+            let here = visits.came.saturating_sub(visits.went);
+            write!(
+                f,
+                ", {here} clients, {} came, {} went",
+                visits.came, visits.went
+            )?;
+        }
+        write!(f, "{}", told_of_flusher(desk.flusher))?;
+        write!(f, "{}", told_of_builder(desk.builder))
+    }
+}
+
+/// Tells how a server stands, at once and then each second in which that has changed, until its desk is closed.
+fn tell_standings<N: Naming, D: Disk + Drop, G: Gate + Drop, R: Wait + Clock + Eprint + Copy>(
+    rt: &R,
+    desk: &Handle<N, D, G, R>,
+    visits: &Mutex<Visits>,
+) {
+    let mut told = None;
+    for _ in rt.forever() {
+        let Ok(state) = desk.state() else {
+            return;
+        };
+        let standing = Standing {
+            desk: state,
+            visits: *visits.lock(rt),
+        };
+        if told != Some(standing) {
+            let word = if told.is_none() { "ready, " } else { "" };
+            let _ = eprintln!(rt; "note: {word}{standing}");
+            told = Some(standing);
+        }
+        thread::sleep(rt, Duration::from_secs(APART));
+    }
+}
+
+/// Starts a thread that does this work over what it is handed, and lets it go. Where the system gives none, nothing is done.
+fn let_go<
+    R: Threads,
+    T: Send + Drop + 'static,
+    P: Send + Drop + 'static,
+    F: FnOnce(T, P) + Send + Drop + 'static,
+>(rt: &R, desk: T, visits: P, work: F)
+    requires { F.IsAlwaysCallable work }
+{
+    let _ = thread::spawn(
+        rt,
+        move ||
+            requires { F.IsAlwaysCallable work }
+        { work(desk, visits) },
+    );
+}
+
+/// Starts a thread that tells how a server stands, where its clients are counted, and lets it go: it ends once the desk is closed, or is cut off where the
+/// program ends. Where no memory or no thread is given for it, nothing is told.
+pub fn start_telling<
+    N: Naming + Send + Sync + 'static,
+    D: Disk + Drop + Send + 'static,
+    G: Gate + Drop + Send + Sync + 'static,
+    R: Threads + Wait + Clock + Eprint + Copy + Send + Sync + 'static,
+>(rt: R, desk: &Handle<N, D, G, R>, guests: Guests) {
+    let Some(visits) = guests.counted else {
+        return;
+    };
+    let Ok(desk) = desk.again() else {
+        return;
+    };
+    let_go(
+        &rt,
+        desk,
+        visits,
+        move |desk: Handle<N, D, G, R>, visits: Arc<Mutex<Visits>>| tell_standings(
+            &rt, &desk, &visits,
+        ),
+    )
+}

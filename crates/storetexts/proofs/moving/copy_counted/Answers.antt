@@ -1,0 +1,32 @@
+use Rattle.disk.specs.Moments.{StaysSame}
+use Rattle.pages.specs.declared.content.Format.TheVariants.{Two}
+use Rattle.storetexts.proofs.Moved.{all_moved, all_told, all_refused, all_same, all_unwritten, all_counted, all_honest}
+use Rattle.storetexts.proofs.moving.copy_counted.Goals as goal
+
+pub returns-clause-made : goal.returns-clause-made
+returns-clause-made g c old_honest new_honest =
+    all_moved c.copy-made.result c.tell_made.result.0 c.tell_made.result.1 g.D.Disk.content g.D.Disk.left Two (g.O.Disk.content c.args.old.now) c.args.room c.args.journal
+    (c.copy-made.ensures.copied old_honest) c.copy-made.ensures.checkpoint_pages (c.copy-made.ensures.stands new_honest) (c.copy-made.ensures.only new_honest) c.copy-made.ensures.causes c.tell_made.ensures.disk c.tell_made.ensures.refused
+
+pub returns-clause-told : goal.returns-clause-told
+returns-clause-told g c =
+    all_told c.copy-made.result c.tell_made.result.0 (g.O.Disk.honest c.args.old.now) Two (g.O.Disk.content c.args.old.now) c.args.room c.args.journal _ _ c.copy-made.ensures.copied c.tell_made.ensures.told c.tell_made.ensures.refused
+
+pub returns-clause-refused : goal.returns-clause-refused
+returns-clause-refused g c old_honest new_honest =
+    all_refused c.copy-made.result c.tell_made.result.0 Two (g.D.Disk.content c.args.new) (g.O.Disk.content c.args.old.now) c.args.room c.args.journal
+    (c.copy-made.ensures.copied old_honest) (c.copy-made.ensures.refused old_honest new_honest) c.copy-made.ensures.causes c.tell_made.ensures.failed c.tell_made.ensures.refused
+
+pub returns-clause-same : goal.returns-clause-same
+returns-clause-same g c new_honest =
+    all_same c.copy-made.result c.tell_made.result.0 c.tell_made.result.1 (StaysSame g.D.Disk.content g.D.Disk.left g.D.Disk.moment g.D.Disk.left_since c.args.new) (c.copy-made.ensures.same new_honest)
+    c.tell_made.ensures.failed c.tell_made.ensures.disk c.tell_made.ensures.refused
+
+pub returns-clause-unwritten : goal.returns-clause-unwritten
+returns-clause-unwritten g c = all_unwritten c.copy-made.result c.tell_made.result.0 c.args.out.now c.tell_made.new.out c.tell_made.ensures.failed c.tell_made.ensures.untold c.tell_made.ensures.refused
+
+pub returns-clause-writes : goal.returns-clause-writes
+returns-clause-writes g c = all_counted c.copy-made.result c.tell_made.result.0 c.args.out.now c.tell_made.new.out c.tell_made.ensures.writes c.tell_made.ensures.untold c.copy-made.ensures.causes c.tell_made.ensures.refused
+
+pub returns-clause-honest : goal.returns-clause-honest
+returns-clause-honest g c = (c.copy-made.ensures.honest, all_honest c.copy-made.result c.tell_made.result.1 g.D.Disk.honest c.args.new c.copy-made.ensures.honest_new c.tell_made.ensures.disk)

@@ -1,0 +1,9 @@
+pub mod Changing
+pub mod Examples
+pub mod Joining
+pub mod Marking
+pub mod Matching
+pub mod Rising
+pub mod SameMap
+pub mod Sorting
+pub mod Tables

@@ -1,0 +1,6 @@
+pub mod Counterparts
+pub mod Laws
+pub mod Maps
+pub mod Ordered
+pub mod Renewing
+pub mod Upgrading

@@ -1,0 +1,14 @@
+//! A stored network brought to a new map of its roads, so that what was changed in it stays.
+#![tactic(auto)]
+
+mod counterparts;
+mod counts;
+mod laws;
+mod maps;
+mod ordered;
+mod renewing;
+mod upgrading;
+
+pub use counts::Counts;
+pub use laws::laws_of_upgrades;
+pub use upgrading::upgraded;

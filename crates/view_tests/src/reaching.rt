@@ -1,0 +1,181 @@
+//! Nodes within a limit and nearest landmarks, as they were worked out by hand, and beside rows.
+
+use deltastep::{Distances, NodeDistance, RowError, Workspace, plain_row};
+use fixtures::{drawn, six_with};
+use relax::Solo;
+use roadnet::{Command, Network, Refusal};
+use rows::View;
+use std::alloc::Global;
+
+/// Whether just these nodes were told, with these distances and in this order.
+fn are(told: &[NodeDistance], want: &[(u32, u64)]) -> bool {
+    if told.len() != want.len() {
+        return false;
+    }
+    for (index, found) in told.iter().enumerate() {
+        match want.get(index) {
+            Some((node, distance)) => {
+                if found.node != *node || found.distance != *distance {
+                    return false;
+                }
+            }
+            None => return false,
+        }
+    }
+    true
+}
+
+/// What is asked of a view.
+#[derive(Clone, Copy)]
+enum Asked {
+    Reach(u64),
+    Reached(u64),
+    Nearest(u32),
+}
+
+/// What the view tells of the nodes around this one.
+fn ask(
+    alloc: Global,
+    view: &View,
+    node: u32,
+    asked: Asked,
+    workspace: &mut Workspace,
+) -> Result<Vec<NodeDistance>, Refusal> {
+    if node == 0 || node > view.network().nodes() {
+        return Err(Refusal::NoSuchNode);
+    }
+    let told = match asked {
+        Asked::Reach(limit) => view.reach_in(alloc, node, limit, &Solo, workspace),
+        Asked::Reached(limit) => view.reached_in(alloc, node, limit, &Solo, workspace),
+        Asked::Nearest(count) => view.nearest_in(alloc, node, count, &Solo, workspace),
+    };
+    match told {
+        Ok(told) => Ok(told),
+        Err(RowError::OutOfMemory) => Err(Refusal::OutOfMemory),
+    }
+}
+
+#[test]
+fn around_nodes_of_the_worked_network(rt: HostRuntime) -> Result<(), Refusal> {
+    let alloc = rt.alloc();
+    let mut workspace = Workspace::new();
+    for delta in [1, 5, 2147483647] {
+        let view = View::build(
+            alloc,
+            1,
+            six_with(alloc, &[2, 3, 4, 6])?,
+            Some(delta),
+            &Solo,
+        )?;
+        let told = ask(alloc, &view, 1, Asked::Reach(10), &mut workspace)?;
+        assert!(rt; are(&told, &[(1, 0), (2, 10), (3, 10), (5, 10)]));
+        let told = ask(alloc, &view, 3, Asked::Reach(2), &mut workspace)?;
+        assert!(rt; are(&told, &[(2, 0), (3, 0), (4, 2), (5, 0)]));
+        let told = ask(alloc, &view, 3, Asked::Reach(u64::MAX), &mut workspace)?;
+        assert!(rt; are(&told, &[(2, 0), (3, 0), (4, 2), (5, 0), (6, 5)]));
+        let told = ask(alloc, &view, 4, Asked::Reached(1), &mut workspace)?;
+        assert!(rt; are(&told, &[(4, 0)]));
+        let told = ask(alloc, &view, 4, Asked::Reached(2), &mut workspace)?;
+        assert!(rt; are(&told, &[(2, 2), (3, 2), (4, 0), (5, 2)]));
+        let told = ask(alloc, &view, 1, Asked::Reached(2), &mut workspace)?;
+        assert!(rt; are(&told, &[(1, 0)]));
+    }
+    Ok(())
+}
+
+#[test]
+fn nearest_landmarks_of_the_worked_network(rt: HostRuntime) -> Result<(), Refusal> {
+    let alloc = rt.alloc();
+    let mut workspace = Workspace::new();
+    let want = [(2, 10), (3, 10), (4, 12), (6, 15)];
+    for delta in [1, 5, 2147483647] {
+        let view = View::build(
+            alloc,
+            1,
+            six_with(alloc, &[2, 3, 4, 6])?,
+            Some(delta),
+            &Solo,
+        )?;
+        for count in 0..6 {
+            let told = ask(alloc, &view, 1, Asked::Nearest(count), &mut workspace)?;
+            let some = &want[..(count as usize).min(4)];
+            assert!(rt; are(&told, some), "{count} under {delta}");
+        }
+        let told = ask(alloc, &view, 3, Asked::Nearest(2), &mut workspace)?;
+        assert!(rt; are(&told, &[(2, 0), (3, 0)]));
+        let told = ask(alloc, &view, 5, Asked::Nearest(3), &mut workspace)?;
+        assert!(rt; are(&told, &[(2, 0), (3, 2), (4, 2)]));
+        let told = ask(alloc, &view, 6, Asked::Nearest(3), &mut workspace)?;
+        assert!(rt; are(&told, &[(6, 0)]));
+        let bare = View::build(alloc, 1, six_with(alloc, &[])?, Some(delta), &Solo)?;
+        let told = ask(alloc, &bare, 1, Asked::Nearest(3), &mut workspace)?;
+        assert!(rt; told.is_empty());
+    }
+    Ok(())
+}
+
+/// The one of these landmarks that comes next by distance and node, after those that are given.
+fn next(row: &Distances, landmarks: &[u32], told: &[(u32, u64)]) -> Option<(u32, u64)> {
+    let mut best: Option<(u64, u32)> = None;
+    for &landmark in landmarks {
+        let Some(distance) = row.get(u64::from(landmark)) else {
+            continue;
+        };
+        let is_after = match told.last() {
+            Some((node, far)) => (*far, *node) < (distance, landmark),
+            None => true,
+        };
+        let is_better = match best {
+            Some(other) => (distance, landmark) < other,
+            None => true,
+        };
+        if is_after && is_better {
+            best = Some((distance, landmark));
+        }
+    }
+    let (distance, node) = best?;
+    Some((node, distance))
+}
+
+/// How many of the searches for the nearest landmarks tell others than the rows of the plain search.
+fn differences(alloc: Global, network: Network, delta: u32) -> Result<u64, Refusal> {
+    if delta == 0 || delta > 2147483647 {
+        return Err(Refusal::NumberRange);
+    }
+    let view = View::build(alloc, 1, network, Some(delta), &Solo)?;
+    let network = view.network();
+    let mut workspace = Workspace::new();
+    let mut differ: u64 = 0;
+    for source in 1..network.nodes().min(100) + 1 {
+        let Ok(row) = plain_row(alloc, network, source) else {
+            return Err(Refusal::OutOfMemory);
+        };
+        let mut want = Vec::new(alloc);
+        for count in 0..6 {
+            let told = ask(alloc, &view, source, Asked::Nearest(count), &mut workspace)?;
+            if !are(&told, &want) {
+                differ = differ.saturating_add(1);
+            }
+            if let Some(more) = next(&row, network.landmarks(), &want) {
+                if want.push(more).is_err() {
+                    return Err(Refusal::OutOfMemory);
+                }
+            }
+        }
+    }
+    Ok(differ)
+}
+
+#[test]
+fn nearest_beside_rows(rt: HostRuntime) -> Result<(), Refusal> {
+    let alloc = rt.alloc();
+    for seed in 0..6 {
+        let mut network = drawn(alloc, seed)?;
+        for node in [2, 5, 6, 9] {
+            network.apply(Command::Mark { node })?;
+        }
+        assert_eq!(rt; differences(alloc, network.copy()?, 1)?, 0);
+        assert_eq!(rt; differences(alloc, network, 4)?, 0);
+    }
+    Ok(())
+}

@@ -1,0 +1,5 @@
+//! Tests of the program's words.
+#![tactic(auto)]
+
+#[cfg(test)]
+mod asked;

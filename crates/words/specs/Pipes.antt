@@ -1,0 +1,48 @@
+-- Names of pipes, two for each client that may come.
+use Rattle.std.specs.Prelude.{◌≡◌, ◌-◌, ◌%◌, ◌<◌, ◌≤◌, ℕ, Bool, true, List, [], ◌∷◌, Some, map, slice_get, length, unwrap_or, nat_lt, if◌then◌else◌}
+use Rattle.std.specs.Borrow.{Bor}
+use Rattle.words.specs.declared.pipes.PipePair.{PipePair}
+use Rattle.words.specs.declared.pipes.Misfit.{Misfit}
+use Rattle.words.specs.declared.pipes.Misfit.TheVariants.{MissingWord, LonePipe, TooManyPipes, SamePipe, SameInput, OutOfMemory}
+
+-- the words of a list of them
+abbrev pub texts : List (Bor (List ℕ)) → List (List ℕ)
+texts words = map (λ word. word.now) words
+
+-- the names in their order: of each pair the one that is read, and then the one that is written
+abbrev pub names_of : List PipePair → List (List ℕ)
+names_of [] = []
+names_of (pair ∷ pairs) = pair.input.now ∷ pair.output.now ∷ names_of pairs
+
+-- the name at this place stands at an earlier one too
+abbrev pub StandsBefore : List (List ℕ) → ℕ → Type 0
+StandsBefore names later = (earlier : ℕ) × (earlier < later) × (slice_get names earlier ≡ slice_get names later)
+
+-- a name stands at two places
+abbrev pub HasSame : List (List ℕ) → Type 0
+HasSame names = (later : ℕ) × (later < length names) × StandsBefore names later
+
+-- no name does
+abbrev pub AreDifferent : List (List ℕ) → Type 0
+AreDifferent names = (later : ℕ) → later < length names → ¬ StandsBefore names later
+
+-- pairs that may be served: sixty at most, and no pipe stands in them twice
+abbrev pub AreFit : List PipePair → Type 0
+AreFit pairs = (length pairs ≤ 60) × AreDifferent (names_of pairs)
+
+-- these names are for this reason none of pairs; each of the reasons but want of memory is one of the names alone
+abbrev pub AreMisfit : List (List ℕ) → Misfit → Type 0
+AreMisfit names MissingWord = ⊥
+AreMisfit names LonePipe = length names % 2 ≡ 1
+AreMisfit names TooManyPipes = 120 < length names
+AreMisfit names SamePipe = HasSame names
+AreMisfit names SameInput = ⊥
+AreMisfit names OutOfMemory = 0 < length names
+
+-- the name of the pipe of this number, counted from 0 through the pairs, or that of the store
+abbrev pub named : List ℕ → List PipePair → ℕ → List ℕ
+named store pairs which = if nat_lt which 3 then store else unwrap_or (slice_get (names_of pairs) (which - 3)) store
+
+-- each of the first so many names was told to be one of a pipe
+abbrev pub AreTold : (List ℕ → Bool → Type 0) → List (List ℕ) → ℕ → Type 0
+AreTold Tells names count = (place : ℕ) (name : List ℕ) → place < count → slice_get names place ≡ Some name → Tells name true

@@ -1,0 +1,448 @@
+//! The words that the program takes, and their help.
+use clap::{Arg, ArgAction, Command, value_parser};
+use std::alloc::{AllocError, Global};
+
+// Ids of the words and options that a job has.
+pub const NETWORK: &str = "GR";
+
+pub const PAIRS: &str = "P2P";
+
+pub const PIPES: &str = "PIPES";
+
+pub const SCRIPT: &str = "SCRIPT";
+
+pub const STORE: &str = "STORE";
+
+pub const OLD: &str = "OLD";
+
+pub const NEW: &str = "NEW";
+
+pub const FILE: &str = "FILE";
+
+pub const LANDMARKS: &str = "SS";
+
+pub const COMMANDS: &str = "COMMANDS";
+
+pub const FOLDER: &str = "FOLDER";
+
+pub const NUMBER: &str = "K";
+
+pub const HEAD: &str = "H";
+
+pub const SOURCE: &str = "S";
+
+pub const TARGET: &str = "T";
+
+pub const DELTA: &str = "delta";
+
+pub const COPIES: &str = "copies";
+
+pub const JOURNAL: &str = "journal";
+
+pub const ROOM: &str = "room";
+
+pub const WORKERS: &str = "workers";
+
+pub const VERBOSE: &str = "verbose";
+
+/// The greatest width of a search's buckets.
+pub const MOST_WIDTH: u32 = 2147483647;
+
+/// The most pages of a store's journal.
+pub const MOST_JOURNAL_PAGES: u32 = 65536;
+
+/// The most row workers of a desk.
+pub const MOST_WORKERS: u32 = 64;
+
+// The words that name a job.
+pub const ONCE: &str = "once";
+
+pub const BATCH: &str = "batch";
+
+pub const REHEARSE: &str = "rehearse";
+
+pub const CREATE: &str = "create";
+
+pub const APPLY: &str = "apply";
+
+pub const ASK: &str = "ask";
+
+pub const CHECK: &str = "check";
+
+pub const SERVE: &str = "serve";
+
+pub const MIGRATE: &str = "migrate";
+
+pub const UPGRADE: &str = "upgrade";
+
+pub const COPY: &str = "copy";
+
+pub const SHOW: &str = "show";
+
+pub const EXPORT: &str = "export";
+
+const ABOUT: &str =
+    "Exact least distances in a road network, which may be kept in a store: a file that survives a power cut.
+
+Without a word it reads the joint form from standard input: a .gr text, a line `run`, and a script, which it runs on a store in memory.
+
+The exit status is 0 where all was done, 1 after a fault, and 2 where the words were not understood.";
+
+const ABOUT_ONCE: &str =
+    "Prints the least length of a walk from S to T in the network of the file GR: the lines `v 0` and `d S T LENGTH`, `x S T` where no walk leads there, or `no 24` where S or T is no node.";
+
+const ABOUT_BATCH: &str =
+    "Answers the pairs of the file P2P in the network of the file GR: the line `v 0`, then one line a pair, in their order: `d S T LENGTH`, or `x S T` where no walk leads there.";
+
+const ABOUT_REHEARSE: &str =
+    "Makes a store in memory for the network of the file GR, runs the script of the file SCRIPT on it, and prints the lines of its events: commands, groups of them between `begin` and `end`, flushes, checkpoints, queries (`dist S T`, `from X T`, `lower S T`), and stops as a power cut makes them. No file is written.";
+
+const ABOUT_CREATE: &str =
+    "Makes a store in the file STORE, which is absent or empty: it holds the network of the file GR with the landmarks of the file SS, at version 0. It prints `ok 0` once the store is there for good.";
+
+const ABOUT_APPLY: &str =
+    "Applies the commands of the file COMMANDS to the store in the file STORE, and prints one line a group, in their order: `ok N`, once the group is version N of the store for good, or `no CODE` where it is refused. The lines `begin` and `end` enclose the commands of a group, of which all are carried out or none; a command elsewhere is a group of its own.";
+
+const ABOUT_ASK: &str =
+    "Answers the pairs of the file P2P in the network of the store in the file STORE, which stays as it is: the line `v V`, V the store's version, then one line a pair, in their order: `d S T LENGTH`, or `x S T` where no walk leads there.";
+
+const ABOUT_CHECK: &str =
+    "Looks at the store in the file STORE, which stays as it is, and tells how it stands: `v V`, its version; `slot A E` or `slot B E`, the slot that holds its last checkpoint, and that slot's epoch, which rises by one with each checkpoint; `journal U`, how many pages of the journal stand behind that checkpoint. The file is judged first, as each opening judges it: where a page that counts is damaged, the fault line names its number, and the status is 1.";
+
+const ABOUT_SERVE: &str =
+    "Serves the store in the file STORE, on standard input and output: it reads a line, carries it out, prints its answer, and then reads the next, until the line `quit` or the end of the input.
+
+Beside that it serves one client after the other at each pair of named pipes, IN and OUT, all pairs at once: the client writes its lines into IN and reads its answers from OUT. There `quit` ends that client's session alone, and a last line without its end is not carried out. The end of standard input ends the server.
+
+`set K W`, `close K`, `reopen K`, `mark X`, `unmark X` and `lay T H W` change the network: `ok N`, once the command is version N of the store for good, or `no CODE`. The lines `begin` and `end` enclose commands of which all are carried out or none: `end` is answered for all of them. `dist S T`, `from X T` and `lower S T` ask: the line `v V`, V the version that is shown, and the answer line, or `no CODE`. `arc K` and `arcs T H` tell an arc and the arcs from one node to another, `landmarks` and `closed` all of these, in the version V that is shown: the line `v V`, then theirs. `wait` waits until the last command or group that was accepted is shown: `v V`, from which on answers are of that version or a later one; `until N` until version N is. `state` tells how the server stands. With `--copies`, `copy NAME` makes a store in the file NAME of that folder, of the network at the version V that is shown: `copied V`, once it is there for good, or `no CODE`; NAME is 1 to 64 letters, digits, `-` and `_`. Empty lines and those that begin with # have no answer; another line has `no 1` or `no 5`.";
+
+const AFTER_SERVE: &str =
+    "Lines of a session: set, close, reopen, mark, unmark, lay, begin, end, dist, from, lower, arc, arcs, landmarks, closed, wait, until, state, copy, quit; `man roadmark` and docs/PROGRAM.md tell what each takes and how it is answered.
+
+Example: printf 'close 7\\nwait\\ndist 1 6\\n' | roadmark serve six.store";
+
+const ABOUT_MIGRATE: &str =
+    "Makes a store in the file NEW, which is absent or empty, of the store in the file OLD, which an earlier program made and which stays as it is: it holds the same network at the same version. It prints `ok V`, V the version, once the store is there for good.";
+
+const ABOUT_UPGRADE: &str =
+    "Makes a store in the file NEW, which is absent or empty, of the store in the file STORE, which stays as it is, brought to a new map: the network of the file GR. The file OLD is the text that STORE was made of. An arc is the same where its ends and its place among the parallel ones are, and STORE and GR have as many of these. It is closed where it is closed in STORE, and takes the length of GR where its length in STORE is that of OLD, so that nobody changed it, else it keeps that of STORE. Each other arc stands as in GR. A landmark that is no node of GR is dropped. It prints `kept K`, the arcs that are the same; `added A`, those of GR whose ends no arc of STORE has; `gone G`, those of STORE whose ends no arc of GR has; `doubtful D`, those of GR of whose ends STORE has another number; `landmarks gone L`; and `ok 0`, once the store is there for good.";
+
+const ABOUT_COPY: &str =
+    "Makes a store in the file FILE, which is absent or empty, of the store in the file STORE, which stays as it is: it holds the same network at the same version, with as much room and as many pages of the journal, where no others are given. It prints `ok V`, V the version, once the copy is there for good. So a store gets more room, or another journal, and keeps its version.";
+
+const ABOUT_SHOW: &str =
+    "Tells of the arcs in the network of the store in the file STORE, which stays as it is: the line `v V`, V the store's version, then of one number K the arc K, `a K T H W open` or `a K T H W closed`, which leads from node T to node H and is W long, or `no 20` where there is no such arc; of two numbers T and H the line `arcs T H K1 K2 ..`, the numbers of all arcs from node T to node H, ascending, closed ones too, or `no 24` where one of the two is no node.";
+
+const ABOUT_EXPORT: &str =
+    "Writes the network of the store in the file STORE, which stays as it is, into three new files of the folder FOLDER, which is there: `network.gr`, all arcs in the order of their numbers; `landmarks.ss`; and `closed.commands`, which closes the closed arcs. It prints `ok V`, V the store's version, once all three are there for good. `create` with the first two, with the store's room, and then `apply` with the third make a store of the same network. The first line of each tells the version, the room and the pages of the journal. Where one of the three is there already nothing is written.";
+
+const GR_HELP: &str = "File of the network, a .gr text, or - for standard input";
+
+const P2P_HELP: &str = "File of the pairs, a .p2p text, or - for standard input";
+
+const STORE_HELP: &str = "File of the store";
+
+const UNUSED_DELTA: &str =
+    "Width of the search's buckets, 1 to 2147483647. Taken and not used: apply computes no row";
+
+const COPIED_ROOM: &str =
+    "Arcs for which the copy has room: at most 67108864; as many as the store where none are given";
+
+const COPIED_JOURNAL: &str =
+    "Pages of the copy's journal, 1 to 65536; as many as the store has where none are given";
+
+/// An option `--delta D`.
+fn delta_option<'w>(alloc: Global) -> Arg<'w> {
+    Arg::new(alloc, DELTA)
+        .long(DELTA)
+        .value_name("D")
+        .value_parser(value_parser!(u32).range(1..=i64::from(MOST_WIDTH)))
+        .help(
+            "Width of the search's buckets, 1 to 2147483647; every width gives the same answers. Give one, of about a thousandth of a usual long arc, where a few arcs are far longer than the rest",
+        )
+}
+
+/// An option `--journal J`.
+fn journal_option<'w>(alloc: Global) -> Arg<'w> {
+    Arg::new(alloc, JOURNAL)
+        .long(JOURNAL)
+        .value_name("J")
+        .value_parser(value_parser!(u32).range(1..=i64::from(MOST_JOURNAL_PAGES)))
+        .help("Pages of the store's journal, 1 to 65536; 64 where none are given")
+}
+
+/// An option `--room R`.
+fn room_option<'w>(alloc: Global) -> Arg<'w> {
+    Arg::new(alloc, ROOM)
+        .long(ROOM)
+        .value_name("R")
+        .value_parser(value_parser!(u64))
+        .help(
+            "Arcs for which the store has room, those of the network and those that `lay` adds: at most 67108864; as many as the network has where none are given",
+        )
+}
+
+/// An option `--workers W`.
+fn workers_option<'w>(alloc: Global) -> Arg<'w> {
+    Arg::new(alloc, WORKERS)
+        .long(WORKERS)
+        .value_name("W")
+        .value_parser(value_parser!(u32).range(1..=i64::from(MOST_WORKERS)))
+        .help(
+            "Threads that make the landmarks' rows of a new version, 1 to 64; 4 where none are given",
+        )
+}
+
+/// An option `--copies FOLDER`.
+fn copies_option<'w>(alloc: Global) -> Arg<'w> {
+    Arg::new(alloc, COPIES)
+        .long(COPIES)
+        .value_name("FOLDER")
+        .action(ArgAction::Set)
+        .help(
+            "Folder, which is there, in which the line `copy NAME` of a client makes a store of the network; without it no copies are made",
+        )
+}
+
+/// A flag `--verbose`.
+fn verbose_flag<'w>(alloc: Global) -> Arg<'w> {
+    Arg::new(alloc, VERBOSE)
+        .long(VERBOSE)
+        .action(ArgAction::SetTrue)
+        .help(
+            "Tells on standard error how far the work has come, a line a second at most, and why a file can't be opened",
+        )
+}
+
+/// A word that has to stand at its place.
+fn required_word<'w>(alloc: Global, name: &'w str, help: &'w str) -> Arg<'w> {
+    Arg::new(alloc, name)
+        .required(true)
+        .action(ArgAction::Set)
+        .help(help)
+}
+
+/// Names of pipes, two for each client, as many as are given.
+fn pipes_words<'w>(alloc: Global) -> Arg<'w> {
+    Arg::new(alloc, PIPES)
+        .num_args(0..)
+        .value_name("IN OUT")
+        .action(ArgAction::Append)
+        .help(
+            "Named pipes, two for each client that may be there at once, at most 60 pairs: the client writes its lines into IN and reads the answers from OUT",
+        )
+}
+
+/// A node's number that has to stand at its place.
+fn required_node<'w>(alloc: Global, name: &'w str, help: &'w str) -> Arg<'w> {
+    required_word(alloc, name, help).value_parser(value_parser!(u64))
+}
+
+fn once_command<'w>(alloc: Global) -> Result<Command<'w>, AllocError> {
+    Command::new(alloc, ONCE)
+        .about("Prints the least length of a walk between two nodes")
+        .long_about(ABOUT_ONCE)
+        .after_help("Example: roadmark once examples/six.gr 1 6")
+        .arg(required_word(alloc, NETWORK, GR_HELP))?
+        .arg(required_node(alloc, SOURCE, "Node where the walk begins"))?
+        .arg(required_node(alloc, TARGET, "Node where the walk ends"))?
+        .arg(delta_option(alloc))?
+        .arg(verbose_flag(alloc))
+}
+
+fn batch_command<'w>(alloc: Global) -> Result<Command<'w>, AllocError> {
+    Command::new(alloc, BATCH)
+        .about("Prints the least length of a walk for each pair of a file")
+        .long_about(ABOUT_BATCH)
+        .after_help("Example: roadmark batch examples/six.gr examples/six.p2p")
+        .arg(required_word(alloc, NETWORK, GR_HELP))?
+        .arg(required_word(alloc, PAIRS, P2P_HELP))?
+        .arg(delta_option(alloc))?
+        .arg(verbose_flag(alloc))
+}
+
+fn rehearse_command<'w>(alloc: Global) -> Result<Command<'w>, AllocError> {
+    Command::new(alloc, REHEARSE)
+        .about("Runs a script on a store in memory")
+        .long_about(ABOUT_REHEARSE)
+        .after_help("Example: roadmark rehearse examples/six.gr examples/six.script")
+        .arg(required_word(alloc, NETWORK, GR_HELP))?
+        .arg(required_word(alloc, SCRIPT, "File of the script, or - for standard input"))?
+        .arg(journal_option(alloc))?
+        .arg(room_option(alloc))?
+        .arg(delta_option(alloc))?
+        .arg(verbose_flag(alloc))
+}
+
+fn create_command<'w>(alloc: Global) -> Result<Command<'w>, AllocError> {
+    Command::new(alloc, CREATE)
+        .about("Makes a store for a network and its landmarks")
+        .long_about(ABOUT_CREATE)
+        .after_help("Example: roadmark create six.store examples/six.gr examples/six.ss")
+        .arg(required_word(alloc, STORE, "File of the store, absent or empty"))?
+        .arg(required_word(alloc, NETWORK, GR_HELP))?
+        .arg(required_word(
+            alloc,
+            LANDMARKS,
+            "File of the landmarks, a .ss text, or - for standard input",
+        ))?
+        .arg(journal_option(alloc))?
+        .arg(room_option(alloc))?
+        .arg(verbose_flag(alloc))
+}
+
+fn apply_command<'w>(alloc: Global) -> Result<Command<'w>, AllocError> {
+    Command::new(alloc, APPLY)
+        .about("Applies the commands of a file to a store")
+        .long_about(ABOUT_APPLY)
+        .after_help("Example: roadmark apply six.store examples/six.commands")
+        .arg(required_word(alloc, STORE, STORE_HELP))?
+        .arg(required_word(
+            alloc,
+            COMMANDS,
+            "File of the commands, or - for standard input",
+        ))?
+        .arg(delta_option(alloc).help(UNUSED_DELTA))?
+        .arg(verbose_flag(alloc))
+}
+
+fn ask_command<'w>(alloc: Global) -> Result<Command<'w>, AllocError> {
+    Command::new(alloc, ASK)
+        .about("Prints the least length of a walk for each pair of a file, in a store's network")
+        .long_about(ABOUT_ASK)
+        .after_help("Example: roadmark ask six.store examples/six.p2p")
+        .arg(required_word(alloc, STORE, STORE_HELP))?
+        .arg(required_word(alloc, PAIRS, P2P_HELP))?
+        .arg(delta_option(alloc))?
+        .arg(verbose_flag(alloc))
+}
+
+fn check_command<'w>(alloc: Global) -> Result<Command<'w>, AllocError> {
+    Command::new(alloc, CHECK)
+        .about("Judges the file of a store, and tells how it stands")
+        .long_about(ABOUT_CHECK)
+        .after_help("Example: roadmark check six.store")
+        .arg(required_word(alloc, STORE, STORE_HELP))?
+        .arg(verbose_flag(alloc))
+}
+
+fn serve_command<'w>(alloc: Global) -> Result<Command<'w>, AllocError> {
+    Command::new(alloc, SERVE)
+        .about("Takes commands and answers queries on standard input and output, over a store")
+        .long_about(ABOUT_SERVE)
+        .after_help(AFTER_SERVE)
+        .arg(required_word(alloc, STORE, STORE_HELP))?
+        .arg(pipes_words(alloc))?
+        .arg(copies_option(alloc))?
+        .arg(workers_option(alloc))?
+        .arg(delta_option(alloc))?
+        .arg(verbose_flag(alloc))
+}
+
+fn migrate_command<'w>(alloc: Global) -> Result<Command<'w>, AllocError> {
+    Command::new(alloc, MIGRATE)
+        .about("Makes a store of one that an earlier program made")
+        .long_about(ABOUT_MIGRATE)
+        .after_help("Example: roadmark migrate examples/old.store new.store --room 10")
+        .arg(required_word(alloc, OLD, "File of the store that is there"))?
+        .arg(required_word(alloc, NEW, "File of the new store, absent or empty"))?
+        .arg(room_option(alloc))?
+        .arg(verbose_flag(alloc))
+}
+
+fn upgrade_command<'w>(alloc: Global) -> Result<Command<'w>, AllocError> {
+    Command::new(alloc, UPGRADE)
+        .about("Makes a store of another, brought to a new map of the roads")
+        .long_about(ABOUT_UPGRADE)
+        .after_help(
+            "Example: roadmark upgrade six.store examples/six.gr new.gr new.store --room 10",
+        )
+        .arg(required_word(alloc, STORE, "File of the store that is there"))?
+        .arg(required_word(
+            alloc,
+            OLD,
+            "File of the network that the store was made of, a .gr text, or - for standard input",
+        ))?
+        .arg(required_word(
+            alloc,
+            NETWORK,
+            "File of the new network, a .gr text, or - for standard input",
+        ))?
+        .arg(required_word(alloc, NEW, "File of the new store, absent or empty"))?
+        .arg(room_option(alloc))?
+        .arg(verbose_flag(alloc))
+}
+
+fn copy_command<'w>(alloc: Global) -> Result<Command<'w>, AllocError> {
+    Command::new(alloc, COPY)
+        .about("Makes a copy of a store, with more room or another journal if asked for")
+        .long_about(ABOUT_COPY)
+        .after_help("Example: roadmark copy six.store copy.store --room 10")
+        .arg(required_word(alloc, STORE, STORE_HELP))?
+        .arg(required_word(alloc, FILE, "File of the copy, absent or empty"))?
+        .arg(room_option(alloc).help(COPIED_ROOM))?
+        .arg(journal_option(alloc).help(COPIED_JOURNAL))?
+        .arg(verbose_flag(alloc))
+}
+
+fn show_command<'w>(alloc: Global) -> Result<Command<'w>, AllocError> {
+    Command::new(alloc, SHOW)
+        .about("Tells of an arc, or of all arcs from one node to another, in a store's network")
+        .long_about(ABOUT_SHOW)
+        .after_help("Example: roadmark show six.store 7")
+        .arg(required_word(alloc, STORE, STORE_HELP))?
+        .arg(required_node(
+            alloc,
+            NUMBER,
+            "Number of the arc; before H the node where the arcs begin",
+        )
+        .value_name("K|T"))?
+        .arg(
+            Arg::new(alloc, HEAD)
+                .action(ArgAction::Set)
+                .value_parser(value_parser!(u64))
+                .help("Node where the arcs end"),
+        )?
+        .arg(verbose_flag(alloc))
+}
+
+fn export_command<'w>(alloc: Global) -> Result<Command<'w>, AllocError> {
+    Command::new(alloc, EXPORT)
+        .about("Writes a store's network out as texts")
+        .long_about(ABOUT_EXPORT)
+        .after_help("Example: roadmark export six.store .")
+        .arg(required_word(alloc, STORE, STORE_HELP))?
+        .arg(required_word(
+            alloc,
+            FOLDER,
+            "Folder in which the texts are made: network.gr, landmarks.ss and closed.commands",
+        ))?
+        .arg(verbose_flag(alloc))
+}
+
+/// The version of the program, of the format that it writes, and of the kit by which it was proved and built.
+const VERSION: &str = "0.2.0 (format 2, rattle-kit-13f logic dac8208d650f15bf)";
+
+/// The program's words.
+pub fn program<'w>(alloc: Global) -> Result<Command<'w>, AllocError> {
+    Command::new(alloc, "roadmark")
+        .version(VERSION)
+        .about("Exact least distances in a road network")
+        .long_about(ABOUT)
+        .after_help("Example: roadmark < examples/six.txt")
+        .args_conflicts_with_subcommands(true)
+        .arg(delta_option(alloc))?
+        .subcommand(once_command(alloc)?)?
+        .subcommand(batch_command(alloc)?)?
+        .subcommand(rehearse_command(alloc)?)?
+        .subcommand(create_command(alloc)?)?
+        .subcommand(apply_command(alloc)?)?
+        .subcommand(ask_command(alloc)?)?
+        .subcommand(check_command(alloc)?)?
+        .subcommand(serve_command(alloc)?)?
+        .subcommand(migrate_command(alloc)?)?
+        .subcommand(upgrade_command(alloc)?)?
+        .subcommand(copy_command(alloc)?)?
+        .subcommand(show_command(alloc)?)?
+        .subcommand(export_command(alloc)?)
+}

@@ -1,0 +1,122 @@
+//! The pairs of named pipes that words name.
+ghost use Rattle.std.specs.Prelude.{◌≡◌, ◌%◌, ◌<◌, length, slice_get, MatchBool, IfOk, IfErr, option_map};
+ghost use Rattle.words.specs.Pipes.{names_of, texts, StandsBefore, AreDifferent, HasSame, AreFit, AreMisfit};
+ghost use Rattle.words.specs.declared.pipes.Misfit.TheVariants.{OutOfMemory as out_of_memory};
+
+use std::alloc::{AllocFailed, Global};
+use thiserror::Error;
+
+/// A pair of named pipes, as they were written: the one from which a client's lines come, and the one into which its answers go.
+#[derive(Clone, Copy, Debug, PartialEq, Eq)]
+pub struct PipePair<'w> {
+    pub input: &'w str,
+    pub output: &'w str,
+}
+
+/// Why words that were matched are no job.
+#[derive(Clone, Copy, Debug, PartialEq, Eq, Error)]
+pub enum Misfit {
+    /// A word that has to stand at its place is not there.
+    #[error("a word is missing")]
+    MissingWord,
+    /// The names are an odd number.
+    #[error("a pipe is named alone: each client needs two, IN and OUT")]
+    LonePipe,
+    /// There are more than 120 names.
+    #[error("more than 120 pipes are named")]
+    TooManyPipes,
+    /// A name stands twice among them.
+    #[error("a pipe is named twice")]
+    SamePipe,
+    /// Two texts are to be read from standard input.
+    #[error("standard input is named for two texts: of one of them a file is needed")]
+    SameInput,
+    /// There is no memory for the list of pairs.
+    #[error("out of memory")]
+    OutOfMemory,
+}
+
+/// The most names of pipes, two a pair.
+const MOST_PIPES: usize = 120;
+
+impl<T: Drop> From<AllocFailed<T>> for Misfit {
+    ghost from_gives = { λ _ why. why ≡ out_of_memory };
+
+    fn from(_failed: AllocFailed<T>) -> Misfit {
+        Misfit::OutOfMemory
+    }
+}
+
+/// Whether the name at a place stands at an earlier one too.
+fn stands_before(names: &[&str], later: usize) -> bool
+    requires { later < length names.now }
+    ensures { MatchBool result (StandsBefore (texts names.now) later) (¬ StandsBefore (texts names.now) later) }
+{
+    for earlier in 0..later {
+        if names[earlier] == names[later] {
+            return true;
+        }
+    }
+    false
+}
+
+/// Whether a name stands at two places.
+fn have_same(names: &[&str]) -> bool
+    ensures { MatchBool result (HasSame (texts names.now)) (AreDifferent (texts names.now)) }
+{
+    for later in 0..names.len() {
+        if stands_before(names, later) {
+            return true;
+        }
+    }
+    false
+}
+
+/// The names two by two. A last one that stands alone is left out.
+fn two_by_two<'w>(alloc: Global, names: &[&'w str]) -> Result<Vec<PipePair<'w>>, Misfit>
+    requires { length names.now % 2 ≡ 0 }
+    ensures pairs { IfOk result (λ pairs. names_of pairs.items ≡ texts names.now) }
+    ensures causes { IfErr result (λ why. (why ≡ out_of_memory) × (0 < length names.now)) }
+{
+    let mut pairs = Vec::new(alloc);
+    for k in 0..names.len() / 2 {
+        pairs.push(PipePair {
+            input: names[2 * k],
+            output: names[2 * k + 1],
+        })?;
+    }
+    Ok(pairs)
+}
+
+/// The pairs that these names make, of each the one that is read first.
+///
+/// Refused is an odd number of names, then more than 120, then a name that stands twice, then want of memory.
+pub fn pairs_of<'w>(alloc: Global, names: &[&'w str]) -> Result<Vec<PipePair<'w>>, Misfit>
+    ensures pairs { IfOk result (λ pairs. names_of pairs.items ≡ texts names.now) }
+    ensures fit { IfOk result (λ pairs. AreFit pairs.items) }
+    ensures refused { IfErr result (AreMisfit (texts names.now)) }
+{
+    if names.len() % 2 == 1 {
+        return Err(Misfit::LonePipe);
+    }
+    if names.len() > MOST_PIPES {
+        return Err(Misfit::TooManyPipes);
+    }
+    if have_same(names) {
+        return Err(Misfit::SamePipe);
+    }
+    two_by_two(alloc, names)
+}
+
+/// The name of the pipe of this number, counted from 0 through the pairs.
+pub fn pipe_at<'w>(pairs: &[PipePair<'w>], number: usize) -> Option<&'w str>
+    ensures { option_map (λ n. n.now) result ≡ slice_get (names_of pairs.now) number }
+{
+    let place = number / 2;
+    let pair = pairs.get(place)?;
+    Some(if number == 2 * place {
+        pair.input
+    } else {
+        pair.output
+    })
+}

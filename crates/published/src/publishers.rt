@@ -45,8 +45,21 @@ fn show<R: Wait>(rt: &R, writer: Copies) -> (Copies, Result<(), AllocError>)
     requires pending { Follows (Some writer.desk.shown.value.shown) (last_of writer.desk.shown.value (drop writer.behind writer.log.items)).shown }
     ensures seated { seat_view result.0.desk.place ≡ Some result.0.desk.shown.value.shown }
     ensures values { MatchResult result.1 (λ _. result.0.desk.shown.value ≡ last_of writer.desk.shown.value (drop writer.behind writer.log.items)) (λ _. result.0.desk.shown.value ≡ writer.desk.shown.value) }
+    ensures settled { IfOk result.1 (λ _. drop result.0.behind result.0.log.items ≡ []) }
 {
     writer.publish_as::<Sees, R>(rt)
+}
+
+/// Shows what is shown once more, so that both copies have it and neither keeps the view before. It waits for those that read the copy that was shown
+/// until now. Where memory is wanting the view before is kept until the next switch.
+fn show_again<R: Wait>(rt: &R, writer: Copies) -> Copies
+    requires seated { seat_view writer.desk.place ≡ Some writer.desk.shown.value.shown }
+    requires settled { drop writer.behind writer.log.items ≡ [] }
+    ensures seated { seat_view result.desk.place ≡ Some result.desk.shown.value.shown }
+    ensures same { result.desk.shown.value ≡ writer.desk.shown.value }
+{
+    let (writer, _) = show(rt, writer);
+    writer
 }
 
 /// Shows a view behind those that are pending.
@@ -62,7 +75,7 @@ fn show_next<R: Wait>(
 {
     match writer.append(next) {
         Ok(()) => match show(rt, writer) {
-            (writer, Ok(())) => (writer, Ok(())),
+            (writer, Ok(())) => (show_again(rt, writer), Ok(())),
             (writer, Err(_)) => (writer, Err(OutOfMemory)),
         },
         Err(_) => (writer, Err(OutOfMemory)),
@@ -91,7 +104,7 @@ impl Publisher {
         }
     }
 
-    /// Shows the view instead of the one before. It waits for those that still read the view before that one.
+    /// Shows the view instead of the one before, which only those keep who have a share of it. It waits for those that are taking theirs.
     ///
     /// The one error is want of memory. Then readers see what they saw, and the view stays pending: it is passed over by a later switch.
     pub fn switch<R: Wait>(&mut self, rt: &R, next: Published) -> Result<(), OutOfMemory>

@@ -35,7 +35,7 @@ no_device Write P same = tt
 no_device Device P same = tt
 no_device _ P same = same (λ e. cc)
 
-still_unwritten : {W : Type 0} (refusal : Refusal) (old new : W) → new ≡ old → LeavesUnwritten old new (Code refusal)
+pub still_unwritten : {W : Type 0} (refusal : Refusal) (old new : W) → new ≡ old → LeavesUnwritten old new (Code refusal)
 still_unwritten Write old new same = tt
 still_unwritten _ old new same = same
 

@@ -20,7 +20,7 @@ use Rattle.printing.specs.declared.failed.Failed.TheVariants.{Code}
 use Rattle.printing.specs.Failing.{CountsWrites}
 use Rattle.upgrades.specs.declared.counts.Counts.{Counts}
 use Rattle.storetexts.specs.Created.{IsNewStore, IsOfMaking}
-use Rattle.storetexts.specs.Refused.{IfDone}
+use Rattle.storetexts.specs.Refused.{IfDone, IfNoDevice, IfNoMemory, IfNotEmpty}
 use Rattle.storetexts.specs.Upgraded.{AreMapsOf, AreRefusedMaps, IsOfMaps, IsRefusedUpgrade, IsUpgradeBy, IsUpgradeOf, IsUpgradedStore, MayRefuseStored, TellsUpgrade, fit_pages, upgrade_lines}
 
 -- ---- the maps
@@ -57,6 +57,20 @@ pub maps_refused : (Honest : Type 0) (file : List ℕ) (a b : Option (List ℕ))
 maps_refused Honest file None b room before after failed h = tt
 maps_refused Honest file (Some n) None room before after failed h = tt
 maps_refused Honest file (Some n) (Some m) room before after failed h = inl h
+
+-- ---- where only a write failed, nothing is said of the disk
+module _ (X : Type 0) where
+  pub write_not_empty : (r : Result (Unit {0}) Failed) → IfErr r (λ failed. failed ≡ Code Write) → IfErr r (λ failed. IfNotEmpty failed X)
+  write_not_empty (Ok done) is = tt
+  write_not_empty (Err failed) is = rw is tt
+
+  pub write_no_memory : (r : Result (Unit {0}) Failed) → IfErr r (λ failed. failed ≡ Code Write) → IfErr r (λ failed. IfNoMemory failed X)
+  write_no_memory (Ok done) is = tt
+  write_no_memory (Err failed) is = rw is tt
+
+  pub write_no_device : (r : Result (Unit {0}) Failed) → IfErr r (λ failed. failed ≡ Code Write) → IfErr r (λ failed. IfNoDevice failed X)
+  write_no_device (Ok done) is = tt
+  write_no_device (Err failed) is = rw is tt
 
 -- ---- the journal's pages
 opened_so : (r : Result (Stored × Net) Refusal) (x : Standing) → standing_in r ≡ Some x → (y : Stored × Net) × (r ≡ Ok y) × (y.0.header ≡ x.header)

@@ -8,7 +8,7 @@ ghost use Rattle.printing.specs.Counting.{failed_writes, writer_of, IsSameWriter
 ghost use Rattle.printing.specs.Failing.{CountsFirst, CountsSecond, CountsWrites, LeavesUnwritten};
 ghost use Rattle.storetexts.specs.Created.{IsNewStore, IsOfMaking};
 ghost use Rattle.storetexts.specs.Refused.{CountsDevice, IfDone, IfNoDevice, IfNotEmpty, IfNoMemory};
-ghost use Rattle.storetexts.specs.Upgraded.{arc_lines, upgrade_lines, AreMapsOf, AreRefusedMaps, IsOfMaps};
+ghost use Rattle.storetexts.specs.Upgraded.{arc_lines, fit_pages, upgrade_lines, AreMapsOf, AreRefusedMaps, IsOfMaps};
 ghost use Rattle.storetexts.specs.Upgraded.{IsRefusedUpgrade, IsUpgradeBy, IsUpgradedStore, MayRefuseStored, TellsUpgrade};
 
 use dimacs::{Counted, read_gr_counted};

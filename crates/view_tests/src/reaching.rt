@@ -55,61 +55,82 @@ fn ask(
     }
 }
 
+/// Whether just these nodes are told of the nodes around this one.
+fn tells(
+    alloc: Global,
+    view: &View,
+    node: u32,
+    asked: Asked,
+    want: &[(u32, u64)],
+    workspace: &mut Workspace,
+) -> Result<bool, Refusal> {
+    let told = ask(alloc, view, node, asked, workspace)?;
+    Ok(are(&told, want))
+}
+
+/// How many rows of a table a view of the worked network with these landmarks tells otherwise.
+fn told_otherwise(
+    alloc: Global,
+    landmarks: &[u32],
+    delta: u32,
+    table: &[(u32, Asked, &[(u32, u64)])],
+) -> Result<u64, Refusal> {
+    if delta == 0 || delta > 2147483647 {
+        return Err(Refusal::NumberRange);
+    }
+    let six = six_with(alloc, landmarks)?;
+    let view = View::build(alloc, 1, six, Some(delta), &Solo)?;
+    let mut workspace = Workspace::new();
+    let mut others: u64 = 0;
+    for &(node, asked, want) in table {
+        if !tells(alloc, &view, node, asked, want, &mut workspace)? {
+            others = others.saturating_add(1);
+        }
+    }
+    Ok(others)
+}
+
+const AROUND: [(u32, Asked, &[(u32, u64)]); 6] = [
+    (1, Asked::Reach(10), &[(1, 0), (2, 10), (3, 10), (5, 10)]),
+    (3, Asked::Reach(2), &[(2, 0), (3, 0), (4, 2), (5, 0)]),
+    (
+        3,
+        Asked::Reach(u64::MAX),
+        &[(2, 0), (3, 0), (4, 2), (5, 0), (6, 5)],
+    ),
+    (4, Asked::Reached(1), &[(4, 0)]),
+    (4, Asked::Reached(2), &[(2, 2), (3, 2), (4, 0), (5, 2)]),
+    (1, Asked::Reached(2), &[(1, 0)]),
+];
+
+const NEAREST: [(u32, Asked, &[(u32, u64)]); 9] = [
+    (1, Asked::Nearest(0), &[]),
+    (1, Asked::Nearest(1), &[(2, 10)]),
+    (1, Asked::Nearest(2), &[(2, 10), (3, 10)]),
+    (1, Asked::Nearest(3), &[(2, 10), (3, 10), (4, 12)]),
+    (1, Asked::Nearest(4), &[(2, 10), (3, 10), (4, 12), (6, 15)]),
+    (1, Asked::Nearest(5), &[(2, 10), (3, 10), (4, 12), (6, 15)]),
+    (3, Asked::Nearest(2), &[(2, 0), (3, 0)]),
+    (5, Asked::Nearest(3), &[(2, 0), (3, 2), (4, 2)]),
+    (6, Asked::Nearest(3), &[(6, 0)]),
+];
+
 #[test]
 fn around_nodes_of_the_worked_network(rt: HostRuntime) -> Result<(), Refusal> {
-    let alloc = rt.alloc();
-    let mut workspace = Workspace::new();
     for delta in [1, 5, 2147483647] {
-        let view = View::build(
-            alloc,
-            1,
-            six_with(alloc, &[2, 3, 4, 6])?,
-            Some(delta),
-            &Solo,
-        )?;
-        let told = ask(alloc, &view, 1, Asked::Reach(10), &mut workspace)?;
-        assert!(rt; are(&told, &[(1, 0), (2, 10), (3, 10), (5, 10)]));
-        let told = ask(alloc, &view, 3, Asked::Reach(2), &mut workspace)?;
-        assert!(rt; are(&told, &[(2, 0), (3, 0), (4, 2), (5, 0)]));
-        let told = ask(alloc, &view, 3, Asked::Reach(u64::MAX), &mut workspace)?;
-        assert!(rt; are(&told, &[(2, 0), (3, 0), (4, 2), (5, 0), (6, 5)]));
-        let told = ask(alloc, &view, 4, Asked::Reached(1), &mut workspace)?;
-        assert!(rt; are(&told, &[(4, 0)]));
-        let told = ask(alloc, &view, 4, Asked::Reached(2), &mut workspace)?;
-        assert!(rt; are(&told, &[(2, 2), (3, 2), (4, 0), (5, 2)]));
-        let told = ask(alloc, &view, 1, Asked::Reached(2), &mut workspace)?;
-        assert!(rt; are(&told, &[(1, 0)]));
+        let others = told_otherwise(rt.alloc(), &[2, 3, 4, 6], delta, &AROUND)?;
+        assert_eq!(rt; others, 0);
     }
     Ok(())
 }
 
 #[test]
 fn nearest_landmarks_of_the_worked_network(rt: HostRuntime) -> Result<(), Refusal> {
-    let alloc = rt.alloc();
-    let mut workspace = Workspace::new();
-    let want = [(2, 10), (3, 10), (4, 12), (6, 15)];
+    let none = [(1, Asked::Nearest(3), &[][..])];
     for delta in [1, 5, 2147483647] {
-        let view = View::build(
-            alloc,
-            1,
-            six_with(alloc, &[2, 3, 4, 6])?,
-            Some(delta),
-            &Solo,
-        )?;
-        for count in 0..6 {
-            let told = ask(alloc, &view, 1, Asked::Nearest(count), &mut workspace)?;
-            let some = &want[..(count as usize).min(4)];
-            assert!(rt; are(&told, some), "{count} under {delta}");
-        }
-        let told = ask(alloc, &view, 3, Asked::Nearest(2), &mut workspace)?;
-        assert!(rt; are(&told, &[(2, 0), (3, 0)]));
-        let told = ask(alloc, &view, 5, Asked::Nearest(3), &mut workspace)?;
-        assert!(rt; are(&told, &[(2, 0), (3, 2), (4, 2)]));
-        let told = ask(alloc, &view, 6, Asked::Nearest(3), &mut workspace)?;
-        assert!(rt; are(&told, &[(6, 0)]));
-        let bare = View::build(alloc, 1, six_with(alloc, &[])?, Some(delta), &Solo)?;
-        let told = ask(alloc, &bare, 1, Asked::Nearest(3), &mut workspace)?;
-        assert!(rt; told.is_empty());
+        let others = told_otherwise(rt.alloc(), &[2, 3, 4, 6], delta, &NEAREST)?;
+        assert_eq!(rt; others, 0);
+        assert_eq!(rt; told_otherwise(rt.alloc(), &[], delta, &none)?, 0);
     }
     Ok(())
 }

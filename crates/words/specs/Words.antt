@@ -256,6 +256,8 @@ abbrev pub GivesLook : Found → Option Look → Type 0
 GivesLook found None = Gives found (codes "K") IsLong None
 GivesLook found (Some (Arc number)) = Gives found (codes "K") IsLong (Some number) × Gives found (codes "H") IsLong None
 GivesLook found (Some (Between tail head)) = Gives found (codes "K") IsLong (Some tail) × Gives found (codes "H") IsLong (Some head)
+-- landmarks and closed arcs are no word's
+GivesLook found (Some other) = ⊥
 
 -- the words of `show` give this job, or a word is missing
 abbrev pub GivesShow : Found → Option Job → Type 0

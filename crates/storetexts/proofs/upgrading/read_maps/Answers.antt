@@ -16,4 +16,4 @@ pub returns-in-Err-clause-refused : goal.returns-in-Err-clause-refused
 returns-in-Err-clause-refused g c =
     let old_is : IfSome (g.R.Read.remaining (reader_of c.args.before.now)) (λ n. content n ≡ Ok c.in_ok-old.old) = search rules in
     let map_is : IfSome (g.Q.Read.remaining (reader_of c.args.after.now)) (λ n. content n ≡ Ok c.in_ok-map.map) = search rules in
-    room_refused _ _ c.args.room _ _ c.in_ok-old.old c.in_ok-map.map _ old_is map_is c.in-Err.ensures.refused.0 c.in-Err.ensures.refused.2
+    room_refused _ _ c.args.room (OfReader (g.R.Read.remaining (reader_of c.read_gr_counted.new.counted))) (OfReader (g.Q.Read.remaining (reader_of c.read_gr_counted-2.new.counted))) c.in_ok-old.old c.in_ok-map.map _ old_is map_is c.in-Err.ensures.refused.0 c.in-Err.ensures.refused.2

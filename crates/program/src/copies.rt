@@ -129,7 +129,7 @@ pub fn see_folder<R: AllocGlobal + Clock + Eprint + Files<File = File>>(
     progress: &Progress<'_, R>,
     folder: Option<&str>,
 ) -> Result<Option<String>, Failed>
-    ensures named { IfOk result (λ seen. option_map string_bytes seen ≡ option_map (λ name. name.now) folder) }
+    ensures named { IfOk result (λ seen. option_map string_bytes seen ≡ option_map (λ name. name.now) folder.entry) }
     ensures refused { IfErr result (IsUnopened 1) }
 {
     let Some(folder) = folder else {

@@ -100,50 +100,86 @@ fn differences(alloc: Global, network: &Network, delta: u32) -> Result<u64, Refu
     Ok(count)
 }
 
+/// A node, a limit, and the nodes within it.
+type Row = (u32, u64, &'static [(u32, u64)]);
+
+/// Of the network of the worked rows: what nodes reach.
+const REACH: [Row; 9] = [
+    (1, 0, &[(1, 0)]),
+    (1, 9, &[(1, 0)]),
+    (1, 10, &[(1, 0), (2, 10), (3, 10), (5, 10)]),
+    (1, 11, &[(1, 0), (2, 10), (3, 10), (5, 10)]),
+    (1, 12, &[(1, 0), (2, 10), (3, 10), (4, 12), (5, 10)]),
+    (1, 14, &[(1, 0), (2, 10), (3, 10), (4, 12), (5, 10)]),
+    (
+        1,
+        15,
+        &[(1, 0), (2, 10), (3, 10), (4, 12), (5, 10), (6, 15)],
+    ),
+    (
+        1,
+        u64::MAX,
+        &[(1, 0), (2, 10), (3, 10), (4, 12), (5, 10), (6, 15)],
+    ),
+    (6, u64::MAX, &[(6, 0)]),
+];
+
+/// Of the same: from where nodes are reached.
+const REACHED: [Row; 4] = [
+    (4, 1, &[(4, 0)]),
+    (4, 2, &[(2, 2), (3, 2), (4, 0), (5, 2)]),
+    (4, 12, &[(1, 12), (2, 2), (3, 2), (4, 0), (5, 2)]),
+    (1, u64::MAX, &[(1, 0)]),
+];
+
+/// How many of these rows of the worked network are told otherwise.
+fn reach_otherwise(alloc: Global, delta: u32, table: &[Row]) -> Result<u64, Refusal> {
+    if delta == 0 || delta > 2147483647 {
+        return Err(Refusal::NumberRange);
+    }
+    let snapshot = Snapshot::build(alloc, &six(alloc)?, delta)?;
+    let mut workspace = Workspace::new();
+    let mut count: u64 = 0;
+    for &(source, limit, want) in table {
+        if !are(
+            &reach(alloc, &snapshot, source, limit, &mut workspace)?,
+            want,
+        ) {
+            count = count.saturating_add(1);
+        }
+    }
+    Ok(count)
+}
+
+/// How many of these rows, of the worked network the other way round, are told otherwise.
+fn reached_otherwise(alloc: Global, delta: u32, table: &[Row]) -> Result<u64, Refusal> {
+    if delta == 0 || delta > 2147483647 {
+        return Err(Refusal::NumberRange);
+    }
+    let back = Snapshot::build(alloc, &six(alloc)?.reversed()?, delta)?;
+    let mut workspace = Workspace::new();
+    let mut count: u64 = 0;
+    for &(target, limit, want) in table {
+        if !are(&reached(alloc, &back, target, limit, &mut workspace)?, want) {
+            count = count.saturating_add(1);
+        }
+    }
+    Ok(count)
+}
+
 #[test]
 fn reach_of_the_worked_network(rt: HostRuntime) -> Result<(), Refusal> {
-    let alloc = rt.alloc();
-    let six = six(alloc)?;
-    let mut workspace = Workspace::new();
-    let want = [(1, 0), (2, 10), (3, 10), (4, 12), (5, 10), (6, 15)];
-    let near = [(1, 0), (2, 10), (3, 10), (5, 10)];
     for delta in [1, 5, 2147483647] {
-        let snapshot = Snapshot::build(alloc, &six, delta)?;
-        for limit in [0, 9] {
-            let told = reach(alloc, &snapshot, 1, limit, &mut workspace)?;
-            assert!(rt; are(&told, &want[..1]), "within {limit} under {delta}");
-        }
-        for limit in [10, 11] {
-            let told = reach(alloc, &snapshot, 1, limit, &mut workspace)?;
-            assert!(rt; are(&told, &near), "within {limit} under {delta}");
-        }
-        for limit in [12, 14] {
-            let told = reach(alloc, &snapshot, 1, limit, &mut workspace)?;
-            assert!(rt; are(&told, &want[..5]), "within {limit} under {delta}");
-        }
-        for limit in [15, u64::MAX] {
-            let told = reach(alloc, &snapshot, 1, limit, &mut workspace)?;
-            assert!(rt; are(&told, &want), "within {limit} under {delta}");
-        }
-        let told = reach(alloc, &snapshot, 6, u64::MAX, &mut workspace)?;
-        assert!(rt; are(&told, &[(6, 0)]));
+        assert_eq!(rt; reach_otherwise(rt.alloc(), delta, &REACH)?, 0);
     }
     Ok(())
 }
 
 #[test]
 fn reached_in_the_worked_network(rt: HostRuntime) -> Result<(), Refusal> {
-    let alloc = rt.alloc();
-    let back = Snapshot::build(alloc, &six(alloc)?.reversed()?, 5)?;
-    let mut workspace = Workspace::new();
-    let told = reached(alloc, &back, 4, 1, &mut workspace)?;
-    assert!(rt; are(&told, &[(4, 0)]));
-    let told = reached(alloc, &back, 4, 2, &mut workspace)?;
-    assert!(rt; are(&told, &[(2, 2), (3, 2), (4, 0), (5, 2)]));
-    let told = reached(alloc, &back, 4, 12, &mut workspace)?;
-    assert!(rt; are(&told, &[(1, 12), (2, 2), (3, 2), (4, 0), (5, 2)]));
-    let told = reached(alloc, &back, 1, u64::MAX, &mut workspace)?;
-    assert!(rt; are(&told, &[(1, 0)]));
+    for delta in [1, 5, 2147483647] {
+        assert_eq!(rt; reached_otherwise(rt.alloc(), delta, &REACHED)?, 0);
+    }
     Ok(())
 }
 

@@ -171,7 +171,7 @@ fn pipe_name<'w>(store: &'w str, pipes: &[PipePair<'w>], failed: &Failed) -> &'w
 
 /// By what name a fault line of `serve` calls its folder of copies.
 fn folder_name<'w>(store: &'w str, copies: Option<&'w str>) -> &'w str
-    ensures { result.now ≡ folder_name store.now (option_map (λ folder. folder.now) copies) }
+    ensures { result.now ≡ folder_name store.now (option_map (λ folder. folder.now) copies.entry) }
 {
     match copies {
         Some(folder) => folder,

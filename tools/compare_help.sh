@@ -26,7 +26,7 @@ synopsis=$(part SYNOPSIS DESCRIPTION | sed -n 's/^\.B roadmark //p')
 
 words=$("$program" --help | sed -n '/^Commands:/,/^$/ s/^  \([a-z]\+\).*/\1/p')
 compare words "$words" "$(part WORDS OPTIONS | grep -A1 '^\.TP' | sed -n 's/^\.B \([a-z]\+\)$/\1/p')"
-compare options "$(for word in $words; do "$program" help "$word"; done | options)" "$(part OPTIONS ANSWERS | sed -n 's/^\.BI "\(--[a-z]* \)" \([A-Z]\)$/\1\2/p')"
+compare options "$(for word in $words; do "$program" help "$word"; done | options)" "$(part OPTIONS ANSWERS | sed -n 's/^\.BI "\(--[a-z]* \)" \([A-Z]*\)$/\1\2/p')"
 compare 'no word' "$("$program" --help | options)" "$(grep '^\[' <<< "$synopsis" | options)"
 "$program" --help | grep -q '^Example: roadmark' || { wrong=1; echo "help has no example"; }
 

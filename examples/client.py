@@ -47,6 +47,27 @@ class Session:
         answer = self.hear()
         return version, int(answer[3]) if answer[0] == "d" else None
 
+    def lengths(self, count):
+        """So many lines of answers: pairs with their least lengths, or None where there is no walk."""
+        answers = [self.hear() for _ in range(count)]
+        return {(int(answer[1]), int(answer[2])): int(answer[3]) if answer[0] == "d" else None for answer in answers}
+
+    def table(self, sources, targets):
+        """The version, and the least length of each source with each target."""
+        numbers = " ".join(map(str, (len(sources), len(targets), *sources, *targets)))
+        version = int(self.tell(f"table {numbers}")[1])
+        return version, self.lengths(len(sources) * len(targets))
+
+    def reach(self, source, limit):
+        """The version, and all nodes within the limit, each with its least length."""
+        version = int(self.tell(f"reach {source} {limit}")[1])
+        return version, {target: length for (_, target), length in self.lengths(int(self.hear()[2])).items()}
+
+    def nearest(self, source, count):
+        """The version, and so many landmarks nearest to the source, each with its least length, the nearest first."""
+        version = int(self.tell(f"nearest {source} {count}")[1])
+        return version, [(landmark, length) for (_, landmark), length in self.lengths(int(self.hear()[2])).items()]
+
     def quit(self):
         self.server.stdin.close()
         return self.server.wait()

@@ -37,6 +37,7 @@ for stream in 0 1 2; do
   tries serve "$printed" "$stream" serve six.store
   tries once "$printed" "$stream" once six.gr 1 6
   tries batch "$printed" "$stream" batch six.gr six.p2p
+  tries reach "$printed" "$stream" reach six.gr 1
   tries rehearse "$printed" "$stream" rehearse six.gr six.script
   tries help "$printed" "$stream" --help
   tries misuse 2 "$stream" look

@@ -18,9 +18,8 @@ use Rattle.pages.specs.Layout.{Words, EndsOf, page_number, places_in_use, word_p
 use Rattle.storefile.specs.Judging.{spelled_at, arcs_in, words_in}
 use Rattle.storefile.proofs.Sound.{arcs_spelled, words_spelled}
 use Rattle.storefile.proofs.Opening.{both_ends}
-use Rattle.checkpoint.specs.Loading.{EndsArePut, WordsArePut}
+use Rattle.checkpoint.specs.Loading.{EndsArePut, WordsArePut, ends_told, words_of_page, laid_of_page}
 use Rattle.checkpoint.proofs.Ascending.{set_of_ascending}
-use Rattle.checkpoint.proofs.SoFar.{ends_told, words_of_page, laid_of_page}
 
 -- ---- what a page spells is fit
 

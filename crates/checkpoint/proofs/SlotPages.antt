@@ -127,14 +127,6 @@ module _ {D : Type 0} (content : D → List ℕ) (left : D → List ℕ → Type
   going_fails old mid new written going run =
       and_then moment left_since old mid new (IsSlotShut h slot (content old)) (IsSlotShut h slot (content mid)) going.meanwhile run (λ c shut_there. then_shut h slot (content old) (content mid) c going.now_shut shut_there)
 
-  -- the parts, and then the head and the gate
-  pub then_finished : (old mid new : D) (head : Head) → LeavesOnly moment left_since old mid (IsSlotShut h slot (content old)) → IsSlotShut h slot (content old) (content mid)
-      → LeavesOnly moment left_since mid new (IsSlotShutOrWhole h slot head net (content mid)) → LeavesOnly moment left_since old new (IsSlotShutOrWhole h slot head net (content old))
-  then_finished old mid new head first now second =
-      and_then moment left_since old mid new (IsSlotShutOrWhole h slot head net (content old)) (IsSlotShutOrWhole h slot head net (content mid))
-      (weaker moment left_since old mid (IsSlotShut h slot (content old)) (IsSlotShutOrWhole h slot head net (content old)) first (λ c shut. inl shut)) second
-      (λ c way. ⊎_elim (λ shut. inl (then_shut h slot (content old) (content mid) c now shut)) (λ whole. inr (then_whole h slot head net (content old) (content mid) c now whole)) way)
-
 -- ---- a page of the buffer
 
 pub length-part : (places i : ℕ) (arcs : List RoadArc) → length (part places i arcs) ≤ places

@@ -15,7 +15,7 @@ use Rattle.storefile.specs.StoreFile.{page}
 use Rattle.storefile.specs.Judging.{spelled_at, all_spelled, arcs_in, words_in, ends_from, words_from, laid_from}
 use Rattle.storefile.proofs.Decoded.{decoded_arcs, decoded_words}
 use Rattle.pagereader.specs.Outcomes.{MayLack, MayRefuse}
-use Rattle.checkpoint.specs.Loading.{EndsArePut, WordsArePut}
+use Rattle.checkpoint.specs.Loading.{EndsArePut, WordsArePut, ends_told, words_of_page, laid_of_page}
 use Rattle.checkpoint.proofs.Joined.{joined, starts, goes_on, stops, ends}
 
 -- ---- one page
@@ -46,9 +46,6 @@ pub record EndsSoFar (file : List ℕ) (h : Header) (arcs : List RoadArc) (i : �
 
 pub ends_start : (file : List ℕ) (h : Header) → EndsSoFar file h [] 0
 ends_start file h = record { is = starts (ends_at file h) (λ j. page_number h (Arcs j)) (arc_pages h) }
-
-abbrev pub ends_told : Header → ℕ → List ℕ → Result (List Ends) Refusal
-ends_told h i bytes = spelled_at (page_number h (Arcs i)) (arcs_in h.nodes (places_in_use 511 i h.arcs) bytes)
 
 pub ends_more : (file : List ℕ) (h : Header) (old new : List RoadArc) (i : ℕ) (bytes : List ℕ) → EndsSoFar file h old i → i < arc_pages h → bytes ≡ page file (page_number h (Arcs i)) → EndsArePut (ends_told h i bytes) old new
     → EndsSoFar file h new (i + 1)
@@ -83,9 +80,6 @@ words_start file h slot m arcs =
       is = starts (words_at file h slot m) (λ j. page_number h (Words slot j)) (word_pages h)
           ∙ ap (λ (n : ℕ). joined (map word_of (take n arcs)) (all_spelled (words_at file h slot m) (λ j. page_number h (Words slot j)) 0 (word_pages h - 0))) (sym none);
     }
-
-abbrev pub words_of_page : Header → Slot → ℕ → ℕ → List ℕ → Result (List Word) Refusal
-words_of_page h slot m i bytes = spelled_at (page_number h (Words slot i)) (words_in (places_in_use 1023 i m) bytes)
 
 pub words_more : (file : List ℕ) (h : Header) (slot : Slot) (m : ℕ) (old new : List RoadArc) (i : ℕ) (bytes : List ℕ) → WordsSoFar file h slot m old i → i < word_pages h → bytes ≡ page file (page_number h (Words slot i))
     → WordsArePut (words_of_page h slot m i bytes) (take (min (1023 * i) m) old) (take (min (1023 * (i + 1)) m) new) → WordsSoFar file h slot m new (i + 1)
@@ -128,9 +122,6 @@ laid_start file h slot m arcs =
       is = starts (laid_at file h slot m) (λ j. page_number h (EndsOf slot j)) (end_pages h)
           ∙ ap (λ (n : ℕ). joined (map ends_of (take n (drop h.arcs arcs))) (all_spelled (laid_at file h slot m) (λ j. page_number h (EndsOf slot j)) 0 (end_pages h - 0))) (sym none);
     }
-
-abbrev pub laid_of_page : Header → Slot → ℕ → ℕ → List ℕ → Result (List Ends) Refusal
-laid_of_page h slot m i bytes = spelled_at (page_number h (EndsOf slot i)) (arcs_in h.nodes (places_in_use 511 i (m - h.arcs)) bytes)
 
 pub laid_more : (file : List ℕ) (h : Header) (slot : Slot) (m : ℕ) (old new : List RoadArc) (i : ℕ) (bytes : List ℕ) → LaidSoFar file h slot m old i → i < end_pages h → bytes ≡ page file (page_number h (EndsOf slot i))
     → EndsArePut (laid_of_page h slot m i bytes) (take (min (511 * i) (m - h.arcs)) (drop h.arcs old)) (take (min (511 * (i + 1)) (m - h.arcs)) (drop h.arcs new)) → LaidSoFar file h slot m new (i + 1)

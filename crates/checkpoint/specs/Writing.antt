@@ -1,5 +1,5 @@
 -- A slot that is written, while the rest of the file stays.
-use Rattle.std.specs.Prelude.{◌≡◌, ◌⊎◌, ℕ, ◌+◌, ◌-◌, ◌*◌, ◌<◌, nat_lt, if◌then◌else◌, List, length, drop, map, IsTrue}
+use Rattle.std.specs.Prelude.{◌≡◌, ◌⊎◌, ℕ, ◌+◌, ◌-◌, ◌*◌, ◌<◌, nat_lt, if◌then◌else◌, Bool, true, false, List, length, drop, map, IsTrue}
 use Rattle.disk.specs.Gated.{SameOutside, IsShut}
 use Rattle.roadnet.specs.Net.{Net}
 use Rattle.pages.specs.declared.header.Header.{Header}
@@ -49,11 +49,19 @@ slot_page h net i = if nat_lt i (word_pages h) then words_page net i else ends_p
 abbrev pub slot_page_at : Header → Slot → ℕ → ℕ
 slot_page_at h slot i = page_number h (HeadOf slot) + 1 + i
 
+-- its first byte in the file
+abbrev pub slot_byte_at : Header → Slot → ℕ → ℕ
+slot_byte_at h slot i = 4096 * slot_page_at h slot i
+
 -- the first pages behind this slot's head, so many, are those of the network
 abbrev pub HoldsPages : (ℕ → List ℕ) → Header → Slot → Net → ℕ → Type 0
 HoldsPages pages h slot net count = (i : ℕ) → i < count → pages (slot_page_at h slot i) ≡ slot_page h net i
 
 -- ---- what a stop leaves
+
+-- c is old but for the slot's gate, which is closed
+abbrev pub IsGateShut : Header → Slot → List ℕ → List ℕ → Type 0
+IsGateShut h slot old c = IsShut (slot_gate h slot) 1 (slot_gate h slot) old c
 
 -- c is old outside the pages of this slot, and the slot's gate is closed in it
 abbrev pub IsSlotShut : Header → Slot → List ℕ → List ℕ → Type 0
@@ -74,3 +82,17 @@ pub record IsSlotWhole (h : Header) (slot : Slot) (head : Head) (net : Net) (old
 -- What a stop leaves of a closed slot that is finished: the slot is still closed, or it is whole.
 abbrev pub IsSlotShutOrWhole : Header → Slot → Head → Net → List ℕ → List ℕ → Type 0
 IsSlotShutOrWhole h slot head net old c = IsSlotShut h slot old c ⊎ IsSlotWhole h slot head net old c
+
+-- the same of the slot of a checkpoint that is being written, with its head
+abbrev pub IsDraftWhole : Header → Draft → Net → List ℕ → List ℕ → Type 0
+IsDraftWhole h d net old c = IsSlotWhole h d.slot (head_of d net) net old c
+
+abbrev pub IsDraftShutOrWhole : Header → Draft → Net → List ℕ → List ℕ → Type 0
+IsDraftShutOrWhole h d net old c = IsSlotShutOrWhole h d.slot (head_of d net) net old c
+
+-- this holds while the slot is not whole, and this once it is
+abbrev pub WhileGoing : Type 0 → Bool → Type 0
+WhileGoing P whole = whole ≡ false → P
+
+abbrev pub OnceWhole : Type 0 → Bool → Type 0
+OnceWhole P whole = whole ≡ true → P

@@ -1,13 +1,13 @@
 ghost use Rattle.std.specs.Prelude.{◌≡◌, ◌+◌, ◌*◌, ◌<◌, ◌↔◌, ◌++◌, Ok, length, map, min, IfOk, IfErr, OnOk};
 ghost use Rattle.std.specs.List.{AllByRecursion};
-ghost use Rattle.disk.specs.Moments.{StaysSame};
-ghost use Rattle.pages.specs.Spelling.{IsHeader, IsEnds, ends_of};
-ghost use Rattle.pages.specs.Layout.{Arcs, page_number, page_count, arc_pages, places_in_use};
+ghost use Rattle.pages.specs.Spelling.{IsEnds, ends_of};
+ghost use Rattle.pages.specs.Layout.{arc_pages};
 ghost use Rattle.storefile.specs.StoreFile.{page};
-ghost use Rattle.storefile.specs.Judging.{spelled_at, arcs_in, ends_from};
+ghost use Rattle.storefile.specs.Judging.{ends_from};
 ghost use Rattle.pagereader.specs.Runs.{IsRunOf};
-ghost use Rattle.pagereader.specs.Outcomes.{failures_told, IsQuiet, MayLack, MayRefuse, MayEndOpening};
-ghost use Rattle.checkpoint.specs.Loading.{EndsArePut};
+ghost use Rattle.pagereader.specs.Outcomes.{MayLack, MayRefuse};
+ghost use Rattle.pagereader.specs.Reading.{HasFileOf, ReadsToOpen, JudgesToOpen};
+ghost use Rattle.checkpoint.specs.Loading.{EndsArePut, ends_told};
 
 use disk::Disk;
 use pagereader::PageReader;
@@ -25,18 +25,14 @@ pub fn read_arcs<D: Disk>(
     header: &Header,
     reader: &mut PageReader,
 ) -> Result<Vec<RoadArc>, Refusal>
-    requires header { IsHeader header.now }
-    requires whole { D.honest disk.old → length (D.content disk.old) ≡ 4096 * page_count header.now }
+    requires file { HasFileOf D.Disk header.now disk.old }
     requires run { D.honest disk.old → IsRunOf (D.content disk.old) reader.old }
     ensures spelled { D.honest disk.old → IfOk result (λ arcs. ends_from (page (D.content disk.old)) header.now ≡ Ok (map ends_of arcs.items)) }
     ensures count { IfOk result (λ arcs. length arcs.items ≡ header.now.arcs) }
     ensures fits { IfOk result (λ arcs. AllByRecursion (IsEnds header.now.nodes) (map ends_of arcs.items)) }
     ensures refused { D.honest disk.old → IfErr result (λ refusal. MayRefuse (ends_from (page (D.content disk.old)) header.now) refusal) }
     ensures run { D.honest disk.old → IsRunOf (D.content disk.old) reader.new }
-    ensures causes { IfErr result MayEndOpening }
-    ensures same { D.honest disk.old → StaysSame D.content D.left D.moment D.left_since disk.old disk.new }
-    ensures counted { D.failures disk.new ≡ failures_told result (D.failures disk.old) }
-    ensures honest { D.honest disk.new ↔ D.honest disk.old }
+    ensures reads { ReadsToOpen D.Disk result disk.old disk.new }
 {
     let Ok(mut arcs) = Vec::with_capacity(alloc, header.arcs as usize) else {
         return Err(Refusal::OutOfMemory);
@@ -62,11 +58,10 @@ fn take_page(
 ) -> Result<(), Refusal>
     requires within { i < arc_pages header.now }
     requires before { length arcs.old.items ≡ min (511 * i) header.now.arcs }
-    ensures spelled { OnOk result (EndsArePut (spelled_at (page_number header.now (Arcs i)) (arcs_in header.now.nodes (places_in_use 511 i header.now.arcs) page.now)) arcs.old.items arcs.new.items) }
+    ensures spelled { OnOk result (EndsArePut (ends_told header.now i page.now) arcs.old.items arcs.new.items) }
     ensures count { OnOk result (length arcs.new.items ≡ min (511 * (i + 1)) header.now.arcs) }
-    ensures refused { IfErr result (λ refusal. MayLack (spelled_at (page_number header.now (Arcs i)) (arcs_in header.now.nodes (places_in_use 511 i header.now.arcs) page.now)) refusal) }
-    ensures causes { IfErr result MayEndOpening }
-    ensures quiet { IsQuiet result }
+    ensures refused { IfErr result (λ refusal. MayLack (ends_told header.now i page.now) refusal) }
+    ensures judges { JudgesToOpen result }
 {
     let Ok(found) = decode_arc_page(alloc, page, header.nodes, header.arcs_on_page(i)) else {
         return Err(Refusal::OutOfMemory);

@@ -1,14 +1,11 @@
 ghost use Rattle.std.specs.Prelude.{◌≡◌, ◌≢◌, ◌*◌, ◌↔◌, ℕ, List, Ok, length, IfOk, IfErr};
 ghost use Rattle.roadnet.specs.declared.refusals.Refusal.TheVariants.{OutOfMemory as out_of_memory};
-ghost use Rattle.disk.specs.Moments.{StaysSame};
-ghost use Rattle.pages.specs.declared.content.Slot.TheVariants.{A as slot_a, B as slot_b};
 ghost use Rattle.pages.specs.Spelling.{IsHeader, IsHead};
-ghost use Rattle.pages.specs.Layout.{HeadOf, page_number, page_count};
 ghost use Rattle.storefile.specs.StoreFile.{page};
 ghost use Rattle.storefile.specs.Judging.{spelled_at, head_in, current_slot};
-ghost use Rattle.pagereader.specs.Numbers.{open_number};
-ghost use Rattle.pagereader.specs.Outcomes.{failures_told, IsQuiet, MayLack, MayRefuse, MayEndOpening};
-ghost use Rattle.checkpoint.specs.Loading.{head_from};
+ghost use Rattle.pagereader.specs.Outcomes.{MayLack, MayRefuse};
+ghost use Rattle.pagereader.specs.Reading.{HasFileOf, ReadsToOpen, JudgesToOpen};
+ghost use Rattle.checkpoint.specs.Loading.{IsCurrentBy, head_from};
 
 use disk::Disk;
 use pagereader::{read_open_number, read_page};
@@ -19,16 +16,12 @@ use std::alloc::Global;
 /// The current slot: the open one, or of two open ones that of the greater epoch. Damaged is the head of A where none is open, and the
 /// head of B where both have one epoch. Nothing is changed.
 pub fn choose<D: Disk>(disk: &mut D, header: &Header) -> Result<Slot, Refusal>
-    requires header { IsHeader header.now }
-    requires whole { D.honest disk.old → length (D.content disk.old) ≡ 4096 * page_count header.now }
+    requires file { HasFileOf D.Disk header.now disk.old }
     ensures slot { D.honest disk.old → IfOk result (λ slot. current_slot (page (D.content disk.old)) header.now ≡ Ok slot) }
     ensures refused { D.honest disk.old → IfErr result (λ refusal. MayRefuse (current_slot (page (D.content disk.old)) header.now) refusal) }
-    ensures causes { IfErr result MayEndOpening }
+    ensures reads { ReadsToOpen D.Disk result disk.old disk.new }
     // It takes no memory.
     ensures memory { IfErr result (λ refusal. refusal ≢ out_of_memory) }
-    ensures same { D.honest disk.old → StaysSame D.content D.left D.moment D.left_since disk.old disk.new }
-    ensures counted { D.failures disk.new ≡ failures_told result (D.failures disk.old) }
-    ensures honest { D.honest disk.new ↔ D.honest disk.old }
 {
     let Ok(a) = read_open_number(disk, header.head_page(Slot::A)) else {
         return Err(Refusal::Device);
@@ -41,10 +34,9 @@ pub fn choose<D: Disk>(disk: &mut D, header: &Header) -> Result<Slot, Refusal>
 
 // The slot of the greater epoch, of those of the slots that are open.
 fn greater(header: &Header, a: Option<u64>, b: Option<u64>) -> Result<Slot, Refusal>
-    ensures slot { (pages : ℕ → List ℕ) → open_number (pages (page_number header.now (HeadOf slot_a))) ≡ a → open_number (pages (page_number header.now (HeadOf slot_b))) ≡ b → current_slot pages header.now ≡ result }
-    ensures causes { IfErr result MayEndOpening }
+    ensures slot { IsCurrentBy header.now a b result }
+    ensures judges { JudgesToOpen result }
     ensures memory { IfErr result (λ refusal. refusal ≢ out_of_memory) }
-    ensures quiet { IsQuiet result }
 {
     match (a, b) {
         (Some(a), Some(b)) if a == b => Err(Refusal::Damaged {
@@ -66,15 +58,11 @@ pub fn read_head<D: Disk>(
     header: &Header,
     slot: Slot,
 ) -> Result<SlotHead, Refusal>
-    requires header { IsHeader header.now }
-    requires whole { D.honest disk.old → length (D.content disk.old) ≡ 4096 * page_count header.now }
+    requires file { HasFileOf D.Disk header.now disk.old }
     ensures spelled { D.honest disk.old → IfOk result (λ head. head_from (page (D.content disk.old)) header.now slot ≡ Ok head) }
     ensures fits { IfOk result (λ head. IsHead header.now head) }
     ensures refused { D.honest disk.old → IfErr result (λ refusal. MayRefuse (head_from (page (D.content disk.old)) header.now slot) refusal) }
-    ensures causes { IfErr result MayEndOpening }
-    ensures same { D.honest disk.old → StaysSame D.content D.left D.moment D.left_since disk.old disk.new }
-    ensures counted { D.failures disk.new ≡ failures_told result (D.failures disk.old) }
-    ensures honest { D.honest disk.new ↔ D.honest disk.old }
+    ensures reads { ReadsToOpen D.Disk result disk.old disk.new }
 {
     let number = header.head_page(slot);
     let mut page = [0; PAGE_SIZE];
@@ -95,8 +83,7 @@ fn judge_head(
     ensures spelled { IfOk result (λ head. spelled_at number (head_in header.now page.now) ≡ Ok head) }
     ensures fits { IfOk result (λ head. IsHead header.now head) }
     ensures refused { IfErr result (λ refusal. MayLack (spelled_at number (head_in header.now page.now)) refusal) }
-    ensures causes { IfErr result MayEndOpening }
-    ensures quiet { IsQuiet result }
+    ensures judges { JudgesToOpen result }
 {
     let Ok(found) = decode_slot_head(alloc, page, header) else {
         return Err(Refusal::OutOfMemory);

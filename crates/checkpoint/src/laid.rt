@@ -1,13 +1,13 @@
 ghost use Rattle.std.specs.Prelude.{◌≡◌, ◌+◌, ◌-◌, ◌*◌, ◌<◌, ◌≤◌, ◌↔◌, ◌++◌, Ok, length, map, min, take, drop, IfErr, OnOk};
 ghost use Rattle.std.specs.List.{AllByRecursion};
-ghost use Rattle.disk.specs.Moments.{StaysSame};
 ghost use Rattle.pages.specs.Spelling.{IsHeader, IsEnds, ends_of, word_of};
-ghost use Rattle.pages.specs.Layout.{EndsOf, page_number, page_count, end_pages, places_in_use};
+ghost use Rattle.pages.specs.Layout.{end_pages};
 ghost use Rattle.storefile.specs.StoreFile.{page};
-ghost use Rattle.storefile.specs.Judging.{spelled_at, arcs_in, laid_from};
+ghost use Rattle.storefile.specs.Judging.{laid_from};
 ghost use Rattle.pagereader.specs.Runs.{IsRunOf};
-ghost use Rattle.pagereader.specs.Outcomes.{failures_told, IsQuiet, MayLack, MayRefuse, MayEndOpening};
-ghost use Rattle.checkpoint.specs.Loading.{EndsArePut};
+ghost use Rattle.pagereader.specs.Outcomes.{MayLack, MayRefuse};
+ghost use Rattle.pagereader.specs.Reading.{HasFileOf, ReadsToOpen, JudgesToOpen};
+ghost use Rattle.checkpoint.specs.Loading.{HasLaid, PutsLaid, laid_of_page};
 
 use disk::Disk;
 use pagereader::PageReader;
@@ -25,23 +25,19 @@ pub fn read_laid<D: Disk>(
     reader: &mut PageReader,
     arcs: &mut [RoadArc],
 ) -> Result<(), Refusal>
-    requires header { IsHeader header.now }
-    requires whole { D.honest disk.old → length (D.content disk.old) ≡ 4096 * page_count header.now }
+    requires file { HasFileOf D.Disk header.now disk.old }
     requires run { D.honest disk.old → IsRunOf (D.content disk.old) reader.old }
     requires from { header.now.arcs ≤ length arcs.old }
     requires count { length arcs.old ≤ header.now.room }
     requires ends { AllByRecursion (IsEnds header.now.nodes) (map ends_of (take header.now.arcs arcs.old)) }
-    ensures spelled { D.honest disk.old → OnOk result (laid_from (page (D.content disk.old)) header.now slot (length arcs.old) ≡ Ok (map ends_of (drop header.now.arcs arcs.new))) }
+    ensures spelled { D.honest disk.old → OnOk result (HasLaid (page (D.content disk.old)) header.now slot arcs.old arcs.new) }
     ensures fits { OnOk result (AllByRecursion (IsEnds header.now.nodes) (map ends_of arcs.new)) }
     ensures first { map ends_of (take header.now.arcs arcs.new) ≡ map ends_of (take header.now.arcs arcs.old) }
     ensures words { map word_of arcs.new ≡ map word_of arcs.old }
     ensures count { length arcs.new ≡ length arcs.old }
     ensures refused { D.honest disk.old → IfErr result (λ refusal. MayRefuse (laid_from (page (D.content disk.old)) header.now slot (length arcs.old)) refusal) }
     ensures run { D.honest disk.old → IsRunOf (D.content disk.old) reader.new }
-    ensures causes { IfErr result MayEndOpening }
-    ensures same { D.honest disk.old → StaysSame D.content D.left D.moment D.left_since disk.old disk.new }
-    ensures counted { D.failures disk.new ≡ failures_told result (D.failures disk.old) }
-    ensures honest { D.honest disk.new ↔ D.honest disk.old }
+    ensures reads { ReadsToOpen D.Disk result disk.old disk.new }
 {
     let mut page = [0; PAGE_SIZE];
     let end = header.head_page(slot) + 1 + header.slot_pages();
@@ -70,10 +66,9 @@ fn take_page(
     ensures count { length arcs.new ≡ length arcs.old }
     ensures first { map ends_of (take header.now.arcs arcs.new) ≡ map ends_of (take header.now.arcs arcs.old) }
     ensures words { map word_of arcs.new ≡ map word_of arcs.old }
-    ensures spelled { OnOk result (EndsArePut (spelled_at (page_number header.now (EndsOf slot i)) (arcs_in header.now.nodes (places_in_use 511 i (length arcs.old - header.now.arcs)) page.now)) (take (min (511 * i) (length arcs.old - header.now.arcs)) (drop header.now.arcs arcs.old)) (take (min (511 * (i + 1)) (length arcs.old - header.now.arcs)) (drop header.now.arcs arcs.new))) }
-    ensures refused { IfErr result (λ refusal. MayLack (spelled_at (page_number header.now (EndsOf slot i)) (arcs_in header.now.nodes (places_in_use 511 i (length arcs.old - header.now.arcs)) page.now)) refusal) }
-    ensures causes { IfErr result MayEndOpening }
-    ensures quiet { IsQuiet result }
+    ensures spelled { OnOk result (PutsLaid header.now slot i page.now arcs.old arcs.new) }
+    ensures refused { IfErr result (λ refusal. MayLack (laid_of_page header.now slot (length arcs.old) i page.now) refusal) }
+    ensures judges { JudgesToOpen result }
 {
     let count = header.ends_on_page(i, arcs.len() as u32);
     let Ok(found) = decode_arc_page(alloc, page, header.nodes, count) else {

@@ -1,11 +1,12 @@
 // The pages of a slot that is written.
 ghost use Rattle.std.specs.Prelude.{◌≡◌, ◌≢◌, ◌+◌, ◌*◌, ◌<◌, ◌≤◌, ◌^◌, ◌↔◌, ℕ, length, drop, OnOk};
-ghost use Rattle.disk.specs.Contents.{overwritten, failures_after};
-ghost use Rattle.disk.specs.Moments.{LeavesOnly};
+ghost use Rattle.disk.specs.Calling.{WritesUnsynced};
+ghost use Rattle.disk.specs.Contents.{overwritten};
 ghost use Rattle.pages.specs.Spelling.{IsHeader, body};
-ghost use Rattle.pages.specs.Layout.{slot_pages, page_count};
+ghost use Rattle.pages.specs.Layout.{slot_pages};
+ghost use Rattle.pagereader.specs.Reading.{HasFileOf};
 ghost use Rattle.storefile.specs.StoreFile.{page, part};
-ghost use Rattle.checkpoint.specs.Writing.{slot_at, slot_gate, words_page, ends_page, slot_page, slot_page_at, IsSlotShut, LeavesSlotShut};
+ghost use Rattle.checkpoint.specs.Writing.{slot_at, slot_gate, words_page, ends_page, slot_page, slot_page_at, slot_byte_at, IsSlotShut, LeavesSlotShut};
 
 use disk::{Disk, DiskError};
 use pages::{
@@ -97,17 +98,14 @@ pub fn write_pages<D: Disk>(
     first: u64,
     pages: &[u8],
 ) -> Result<(), DiskError>
-    requires header { IsHeader header.now }
+    requires file { HasFileOf D.Disk header.now disk.old }
     requires within { first < slot_pages header.now }
     requires room { 4096 * first + length pages.now ≤ 4096 * slot_pages header.now }
-    requires whole { D.honest disk.old → length (D.content disk.old) ≡ 4096 * page_count header.now }
     requires shut { D.honest disk.old → LeavesSlotShut header.now slot (D.content disk.old) (D.left disk.old) }
-    ensures written { D.honest disk.old → OnOk result (D.content disk.new ≡ overwritten (D.content disk.old) (4096 * slot_page_at header.now slot first) pages.now) }
+    ensures written { D.honest disk.old → OnOk result (D.content disk.new ≡ overwritten (D.content disk.old) (slot_byte_at header.now slot first) pages.now) }
     ensures content { D.honest disk.old → IsSlotShut header.now slot (D.content disk.old) (D.content disk.new) }
     ensures shut { D.honest disk.old → LeavesSlotShut header.now slot (D.content disk.new) (D.left disk.new) }
-    ensures any_moment { D.honest disk.old → LeavesOnly D.moment D.left_since disk.old disk.new (IsSlotShut header.now slot (D.content disk.old)) }
-    ensures counted { D.failures disk.new ≡ failures_after result (D.failures disk.old) }
-    ensures honest { D.honest disk.new ↔ D.honest disk.old }
+    ensures writes { WritesUnsynced D.Disk (IsSlotShut header.now slot (D.content disk.old)) result disk.old disk.new }
 {
     let number = slot_page_at(header, slot, first);
     disk.write_at(PAGE_SIZE as u64 * number, pages)
@@ -129,15 +127,12 @@ pub fn write_head<D: Disk>(
     slot: Slot,
     page: &[u8; PAGE_SIZE],
 ) -> Result<(), DiskError>
-    requires header { IsHeader header.now }
-    requires whole { D.honest disk.old → length (D.content disk.old) ≡ 4096 * page_count header.now }
+    requires file { HasFileOf D.Disk header.now disk.old }
     requires shut { D.honest disk.old → LeavesSlotShut header.now slot (D.content disk.old) (D.left disk.old) }
     ensures written { D.honest disk.old → OnOk result (D.content disk.new ≡ overwritten (D.content disk.old) (slot_at header.now slot) (body page.now)) }
     ensures content { D.honest disk.old → IsSlotShut header.now slot (D.content disk.old) (D.content disk.new) }
     ensures shut { D.honest disk.old → LeavesSlotShut header.now slot (D.content disk.new) (D.left disk.new) }
-    ensures any_moment { D.honest disk.old → LeavesOnly D.moment D.left_since disk.old disk.new (IsSlotShut header.now slot (D.content disk.old)) }
-    ensures counted { D.failures disk.new ≡ failures_after result (D.failures disk.old) }
-    ensures honest { D.honest disk.new ↔ D.honest disk.old }
+    ensures writes { WritesUnsynced D.Disk (IsSlotShut header.now slot (D.content disk.old)) result disk.old disk.new }
 {
     let at = PAGE_SIZE as u64 * header.head_page(slot);
     disk.write_at(at, &page[..GATE_AT])

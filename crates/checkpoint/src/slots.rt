@@ -1,15 +1,14 @@
 ghost use Rattle.std.specs.Prelude.{◌≡◌, ◌*◌, ◌≤◌, ◌↔◌, Ok, length, take, drop, map, IfOk, IfErr, OnOk};
 ghost use Rattle.std.specs.List.{AllByRecursion};
 ghost use Rattle.roadnet.specs.declared.refusals.Refusal.TheVariants.{OutOfMemory as out_of_memory};
-ghost use Rattle.disk.specs.Moments.{StaysSame};
 ghost use Rattle.pages.specs.Spelling.{IsHeader, IsHead, IsEnds, IsWord, ends_of, word_of};
-ghost use Rattle.pages.specs.Layout.{page_count};
 ghost use Rattle.storefile.specs.StoreFile.{page};
 ghost use Rattle.pagereader.specs.Runs.{IsRunOf};
-ghost use Rattle.pagereader.specs.Outcomes.{failures_told, MayRefuse, MayEndOpening};
+ghost use Rattle.pagereader.specs.Outcomes.{MayRefuse};
+ghost use Rattle.pagereader.specs.Reading.{HasFileOf, ReadsToOpen};
 ghost use Rattle.roadnet.specs.Net.{IsRoomFor};
-ghost use Rattle.storefile.specs.Judging.{words_from, laid_from};
-ghost use Rattle.checkpoint.specs.Loading.{head_of, loaded_from, parts_from};
+ghost use Rattle.storefile.specs.Judging.{words_from};
+ghost use Rattle.checkpoint.specs.Loading.{head_of, loaded_from, parts_from, IsLoaded, HasLaid, net_of};
 
 use crate::heads::read_head;
 use crate::laid::read_laid;
@@ -39,18 +38,14 @@ pub fn load<D: Disk>(
     reader: &mut PageReader,
     arcs: Vec<RoadArc>,
 ) -> Result<Checkpoint, Refusal>
-    requires header { IsHeader header.now }
-    requires whole { D.honest disk.old → length (D.content disk.old) ≡ 4096 * page_count header.now }
+    requires file { HasFileOf D.Disk header.now disk.old }
     requires run { D.honest disk.old → IsRunOf (D.content disk.old) reader.old }
     requires count { length arcs.items ≡ header.now.arcs }
     requires ends { AllByRecursion (IsEnds header.now.nodes) (map ends_of arcs.items) }
-    ensures loaded { D.honest disk.old → IfOk result (λ c. loaded_from (page (D.content disk.old)) header.now slot (map ends_of arcs.items) ≡ Ok (head_of c, c.network)) }
+    ensures loaded { D.honest disk.old → IfOk result (IsLoaded (page (D.content disk.old)) header.now slot arcs.items) }
     ensures fits { IfOk result (λ c. IsHead header.now (head_of c)) }
-    ensures refused { D.honest disk.old → IfErr result (λ refusal. MayRefuse (loaded_from (page (D.content disk.old)) header.now slot (map ends_of arcs.items)) refusal) }
-    ensures causes { IfErr result MayEndOpening }
-    ensures same { D.honest disk.old → StaysSame D.content D.left D.moment D.left_since disk.old disk.new }
-    ensures counted { D.failures disk.new ≡ failures_told result (D.failures disk.old) }
-    ensures honest { D.honest disk.new ↔ D.honest disk.old }
+    ensures refused { D.honest disk.old → IfErr result (MayRefuse (loaded_from (page (D.content disk.old)) header.now slot (map ends_of arcs.items))) }
+    ensures reads { ReadsToOpen D.Disk result disk.old disk.new }
 {
     let mut arcs = arcs;
     let head = read_head(alloc, disk, header, slot)?;
@@ -77,23 +72,19 @@ fn read_parts<D: Disk>(
     reader: &mut PageReader,
     arcs: &mut [RoadArc],
 ) -> Result<(), Refusal>
-    requires header { IsHeader header.now }
-    requires whole { D.honest disk.old → length (D.content disk.old) ≡ 4096 * page_count header.now }
+    requires file { HasFileOf D.Disk header.now disk.old }
     requires run { D.honest disk.old → IsRunOf (D.content disk.old) reader.old }
     requires from { header.now.arcs ≤ length arcs.old }
     requires count { length arcs.old ≤ header.now.room }
     requires ends { AllByRecursion (IsEnds header.now.nodes) (map ends_of (take header.now.arcs arcs.old)) }
     ensures words { D.honest disk.old → OnOk result (words_from (page (D.content disk.old)) header.now slot (length arcs.old) ≡ Ok (map word_of arcs.new)) }
-    ensures laid { D.honest disk.old → OnOk result (laid_from (page (D.content disk.old)) header.now slot (length arcs.old) ≡ Ok (map ends_of (drop header.now.arcs arcs.new))) }
+    ensures laid { D.honest disk.old → OnOk result (HasLaid (page (D.content disk.old)) header.now slot arcs.old arcs.new) }
     ensures first { OnOk result (map ends_of (take header.now.arcs arcs.new) ≡ map ends_of (take header.now.arcs arcs.old)) }
     ensures word_fits { OnOk result (AllByRecursion IsWord (map word_of arcs.new)) }
     ensures ends_fit { OnOk result (AllByRecursion (IsEnds header.now.nodes) (map ends_of arcs.new)) }
     ensures count { length arcs.new ≡ length arcs.old }
-    ensures refused { D.honest disk.old → IfErr result (λ refusal. MayRefuse (parts_from (page (D.content disk.old)) header.now slot (length arcs.old)) refusal) }
-    ensures causes { IfErr result MayEndOpening }
-    ensures same { D.honest disk.old → StaysSame D.content D.left D.moment D.left_since disk.old disk.new }
-    ensures counted { D.failures disk.new ≡ failures_told result (D.failures disk.old) }
-    ensures honest { D.honest disk.new ↔ D.honest disk.old }
+    ensures refused { D.honest disk.old → IfErr result (MayRefuse (parts_from (page (D.content disk.old)) header.now slot (length arcs.old))) }
+    ensures reads { ReadsToOpen D.Disk result disk.old disk.new }
 {
     read_words(alloc, disk, header, slot, reader, arcs)?;
     read_laid(alloc, disk, header, slot, reader, arcs)
@@ -111,7 +102,7 @@ fn network_of(
     requires count { length arcs.items ≡ head.now.arcs }
     requires ends { AllByRecursion (IsEnds header.now.nodes) (map ends_of arcs.items) }
     requires words { AllByRecursion IsWord (map word_of arcs.items) }
-    ensures network { IfOk result (λ net. net ≡ record { nodes = header.now.nodes; arcs = arcs.items; landmarks = head.now.landmarks; room = header.now.room }) }
+    ensures network { IfOk result (λ net. net ≡ net_of header.now arcs.items head.now header.now.room) }
     ensures refused { IfErr result (λ refusal. refusal ≡ out_of_memory) }
 {
     let network = made_of(alloc, header, arcs, head)?;
@@ -130,7 +121,7 @@ fn made_of(
     requires count { length arcs.items ≡ head.now.arcs }
     requires ends { AllByRecursion (IsEnds header.now.nodes) (map ends_of arcs.items) }
     requires words { AllByRecursion IsWord (map word_of arcs.items) }
-    ensures network { IfOk result (λ net. net ≡ record { nodes = header.now.nodes; arcs = arcs.items; landmarks = head.now.landmarks; room = length arcs.items }) }
+    ensures network { IfOk result (λ net. net ≡ net_of header.now arcs.items head.now (length arcs.items)) }
     ensures refused { IfErr result (λ refusal. refusal ≡ out_of_memory) }
 {
     Network::new(alloc, header.nodes, arcs, head.landmarks())

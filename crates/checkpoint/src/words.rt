@@ -1,13 +1,13 @@
 ghost use Rattle.std.specs.Prelude.{◌≡◌, ◌+◌, ◌*◌, ◌<◌, ◌≤◌, ◌↔◌, ◌++◌, Ok, length, map, min, take, IfErr, OnOk};
 ghost use Rattle.std.specs.List.{AllByRecursion};
-ghost use Rattle.disk.specs.Moments.{StaysSame};
 ghost use Rattle.pages.specs.Spelling.{IsHeader, IsWord, ends_of, word_of};
-ghost use Rattle.pages.specs.Layout.{Words, page_number, page_count, word_pages, places_in_use};
+ghost use Rattle.pages.specs.Layout.{word_pages};
 ghost use Rattle.storefile.specs.StoreFile.{page};
-ghost use Rattle.storefile.specs.Judging.{spelled_at, words_in, words_from};
+ghost use Rattle.storefile.specs.Judging.{words_from};
 ghost use Rattle.pagereader.specs.Runs.{IsRunOf};
-ghost use Rattle.pagereader.specs.Outcomes.{failures_told, IsQuiet, MayLack, MayRefuse, MayEndOpening};
-ghost use Rattle.checkpoint.specs.Loading.{WordsArePut};
+ghost use Rattle.pagereader.specs.Outcomes.{MayLack, MayRefuse};
+ghost use Rattle.pagereader.specs.Reading.{HasFileOf, ReadsToOpen, JudgesToOpen};
+ghost use Rattle.checkpoint.specs.Loading.{PutsWords, words_of_page};
 
 use disk::Disk;
 use pagereader::PageReader;
@@ -25,20 +25,16 @@ pub fn read_words<D: Disk>(
     reader: &mut PageReader,
     arcs: &mut [RoadArc],
 ) -> Result<(), Refusal>
-    requires header { IsHeader header.now }
-    requires whole { D.honest disk.old → length (D.content disk.old) ≡ 4096 * page_count header.now }
+    requires file { HasFileOf D.Disk header.now disk.old }
     requires run { D.honest disk.old → IsRunOf (D.content disk.old) reader.old }
     requires count { length arcs.old ≤ header.now.room }
     ensures spelled { D.honest disk.old → OnOk result (words_from (page (D.content disk.old)) header.now slot (length arcs.old) ≡ Ok (map word_of arcs.new)) }
     ensures fits { OnOk result (AllByRecursion IsWord (map word_of arcs.new)) }
     ensures ends { map ends_of arcs.new ≡ map ends_of arcs.old }
     ensures count { length arcs.new ≡ length arcs.old }
-    ensures refused { D.honest disk.old → IfErr result (λ refusal. MayRefuse (words_from (page (D.content disk.old)) header.now slot (length arcs.old)) refusal) }
+    ensures refused { D.honest disk.old → IfErr result (MayRefuse (words_from (page (D.content disk.old)) header.now slot (length arcs.old))) }
     ensures run { D.honest disk.old → IsRunOf (D.content disk.old) reader.new }
-    ensures causes { IfErr result MayEndOpening }
-    ensures same { D.honest disk.old → StaysSame D.content D.left D.moment D.left_since disk.old disk.new }
-    ensures counted { D.failures disk.new ≡ failures_told result (D.failures disk.old) }
-    ensures honest { D.honest disk.new ↔ D.honest disk.old }
+    ensures reads { ReadsToOpen D.Disk result disk.old disk.new }
 {
     let mut page = [0; PAGE_SIZE];
     let end = header.head_page(slot) + 1 + header.word_pages();
@@ -64,11 +60,10 @@ fn take_page(
     requires header { IsHeader header.now }
     requires count { length arcs.old ≤ header.now.room }
     ensures count { length arcs.new ≡ length arcs.old }
-    ensures spelled { OnOk result (WordsArePut (spelled_at (page_number header.now (Words slot i)) (words_in (places_in_use 1023 i (length arcs.old)) page.now)) (take (min (1023 * i) (length arcs.old)) arcs.old) (take (min (1023 * (i + 1)) (length arcs.old)) arcs.new)) }
+    ensures spelled { OnOk result (PutsWords header.now slot i page.now arcs.old arcs.new) }
     ensures ends { map ends_of arcs.new ≡ map ends_of arcs.old }
-    ensures refused { IfErr result (λ refusal. MayLack (spelled_at (page_number header.now (Words slot i)) (words_in (places_in_use 1023 i (length arcs.old)) page.now)) refusal) }
-    ensures causes { IfErr result MayEndOpening }
-    ensures quiet { IsQuiet result }
+    ensures refused { IfErr result (λ refusal. MayLack (words_of_page header.now slot (length arcs.old) i page.now) refusal) }
+    ensures judges { JudgesToOpen result }
 {
     let Ok(found) = decode_word_page(alloc, page, words_on_page(i, arcs.len() as u32)) else {
         return Err(Refusal::OutOfMemory);

@@ -1,12 +1,12 @@
 // Writing a checkpoint, part by part.
 ghost use Rattle.std.specs.Prelude.{◌≡◌, ◌+◌, ◌-◌, ◌*◌, ◌<◌, ◌≤◌, ◌^◌, ◌↔◌, min, nat_lt, not, true, false, length, IfOk, OnOk, OnErr};
-ghost use Rattle.disk.specs.Contents.{Only, failures_after};
-ghost use Rattle.disk.specs.Moments.{LeavesOnly};
-ghost use Rattle.disk.specs.Gated.{IsOpen, IsShut, IsOldOrShut};
-ghost use Rattle.pages.specs.Spelling.{IsHeader};
-ghost use Rattle.pages.specs.Layout.{other, slot_pages, page_count};
+ghost use Rattle.disk.specs.Calling.{Writes, WritesUnsynced};
+ghost use Rattle.disk.specs.Contents.{Only};
+ghost use Rattle.disk.specs.Gated.{IsOpen, IsOldOrShut};
+ghost use Rattle.pages.specs.Layout.{other, slot_pages};
+ghost use Rattle.pagereader.specs.Reading.{HasFileOf};
 ghost use Rattle.storefile.specs.StoreFile.{page};
-ghost use Rattle.checkpoint.specs.Writing.{head_of, slot_gate, HoldsPages, IsSlotShut, LeavesSlotShut, IsSlotWhole, IsSlotShutOrWhole};
+ghost use Rattle.checkpoint.specs.Writing.{slot_gate, HoldsPages, IsGateShut, IsSlotShut, LeavesSlotShut, IsDraftWhole, IsDraftShutOrWhole, WhileGoing, OnceWhole};
 
 use crate::slot_pages::{gate_at, put_pages, write_head, write_pages};
 use disk::{Disk, DiskError, close_gate, open_gate, settle};
@@ -103,16 +103,12 @@ impl NextCheckpoint {
     ///
     /// A sync stands before it: the content is all that a stop may leave.
     pub fn begin<D: Disk>(&self, disk: &mut D, header: &Header) -> Result<(), DiskError>
-        requires header { IsHeader header.now }
+        requires file { HasFileOf D.Disk header.now disk.old }
         requires at_rest { D.honest disk.old → Only (D.content disk.old) (D.left disk.old) }
-        requires whole { D.honest disk.old → length (D.content disk.old) ≡ 4096 * page_count header.now }
         // Of the content the gate alone may have changed, and it is closed.
-        ensures shut { D.honest disk.old → OnOk result (IsShut (slot_gate header.now self.now.slot) 1 (slot_gate header.now self.now.slot) (D.content disk.old) (D.content disk.new)) }
-        ensures at_rest { D.honest disk.old → OnOk result (Only (D.content disk.new) (D.left disk.new)) }
+        ensures shut { D.honest disk.old → OnOk result (IsGateShut header.now self.now.slot (D.content disk.old) (D.content disk.new)) }
         // A stop at any moment of the call leaves the content as it was, or with that gate closed.
-        ensures any_moment { D.honest disk.old → LeavesOnly D.moment D.left_since disk.old disk.new (IsOldOrShut (D.content disk.old) (slot_gate header.now self.now.slot)) }
-        ensures counted { D.failures disk.new ≡ failures_after result (D.failures disk.old) }
-        ensures honest { D.honest disk.new ↔ D.honest disk.old }
+        ensures writes { Writes D.Disk (IsOldOrShut (D.content disk.old) (slot_gate header.now self.now.slot)) result disk.old disk.new }
     {
         close_gate(disk, gate_at(header, self.slot))
     }
@@ -126,11 +122,10 @@ impl NextCheckpoint {
         network: &Network,
         max_pages: u32,
     ) -> Result<(), DiskError>
-        requires header { IsHeader header.now }
+        requires file { HasFileOf D.Disk header.now disk.old }
         requires some { 1 ≤ max_pages }
         requires few { max_pages ≤ 64 }
         requires left { self.old.written < slot_pages header.now }
-        requires whole { D.honest disk.old → length (D.content disk.old) ≡ 4096 * page_count header.now }
         requires shut { D.honest disk.old → LeavesSlotShut header.now self.old.slot (D.content disk.old) (D.left disk.old) }
         requires pages { D.honest disk.old → HoldsPages (page (D.content disk.old)) header.now self.old.slot network.now self.old.written }
         ensures written { OnOk result (self.new ≡ record self.old { written = min (self.old.written + max_pages) (slot_pages header.now) }) }
@@ -141,9 +136,7 @@ impl NextCheckpoint {
         ensures shut { D.honest disk.old → OnOk result (LeavesSlotShut header.now self.old.slot (D.content disk.new) (D.left disk.new)) }
         // Where pages are left, the content is all that a stop may leave.
         ensures at_rest { D.honest disk.old → OnOk result (self.new.written < slot_pages header.now → Only (D.content disk.new) (D.left disk.new)) }
-        ensures any_moment { D.honest disk.old → LeavesOnly D.moment D.left_since disk.old disk.new (IsSlotShut header.now self.old.slot (D.content disk.old)) }
-        ensures counted { D.failures disk.new ≡ failures_after result (D.failures disk.old) }
-        ensures honest { D.honest disk.new ↔ D.honest disk.old }
+        ensures writes { WritesUnsynced D.Disk (IsSlotShut header.now self.old.slot (D.content disk.old)) result disk.old disk.new }
     {
         let left = self.pages_left(header);
         let count = left.min(u64::from(max_pages));
@@ -171,17 +164,13 @@ impl NextCheckpoint {
         header: &Header,
         network: &Network,
     ) -> Result<(), DiskError>
-        requires header { IsHeader header.now }
+        requires file { HasFileOf D.Disk header.now disk.old }
         requires none_left { self.now.written ≡ slot_pages header.now }
-        requires whole { D.honest disk.old → length (D.content disk.old) ≡ 4096 * page_count header.now }
         requires shut { D.honest disk.old → LeavesSlotShut header.now self.now.slot (D.content disk.old) (D.left disk.old) }
         requires pages { D.honest disk.old → HoldsPages (page (D.content disk.old)) header.now self.now.slot network.now self.now.written }
-        ensures content { D.honest disk.old → OnOk result (IsSlotWhole header.now self.now.slot (head_of self.now network.now) network.now (D.content disk.old) (D.content disk.new)) }
-        ensures at_rest { D.honest disk.old → OnOk result (Only (D.content disk.new) (D.left disk.new)) }
+        ensures content { D.honest disk.old → OnOk result (IsDraftWhole header.now self.now network.now (D.content disk.old) (D.content disk.new)) }
         // A stop at any moment of the call leaves the slot with a closed gate, or whole, and the rest of the content as it was.
-        ensures any_moment { D.honest disk.old → LeavesOnly D.moment D.left_since disk.old disk.new (IsSlotShutOrWhole header.now self.now.slot (head_of self.now network.now) network.now (D.content disk.old)) }
-        ensures counted { D.failures disk.new ≡ failures_after result (D.failures disk.old) }
-        ensures honest { D.honest disk.new ↔ D.honest disk.old }
+        ensures writes { Writes D.Disk (IsDraftShutOrWhole header.now self.now network.now (D.content disk.old)) result disk.old disk.new }
     {
         let page = encode_slot_head(
             header.format,
@@ -208,11 +197,10 @@ impl NextCheckpoint {
         network: &Network,
         max_pages: u32,
     ) -> Result<bool, DiskError>
-        requires header { IsHeader header.now }
+        requires file { HasFileOf D.Disk header.now disk.old }
         requires some { 1 ≤ max_pages }
         requires few { max_pages ≤ 64 }
         requires within { self.old.written ≤ slot_pages header.now }
-        requires whole { D.honest disk.old → length (D.content disk.old) ≡ 4096 * page_count header.now }
         requires at_rest { D.honest disk.old → Only (D.content disk.old) (D.left disk.old) }
         requires closed { D.honest disk.old → IsOpen (slot_gate header.now self.old.slot) (D.content disk.old) → ⊥ }
         requires pages { D.honest disk.old → HoldsPages (page (D.content disk.old)) header.now self.old.slot network.now self.old.written }
@@ -222,14 +210,11 @@ impl NextCheckpoint {
         ensures own { self.new ≡ record self.old { written = self.new.written } }
         ensures same { OnErr result (self.new ≡ self.old) }
         // While it goes on, the slot holds the pages so far and its gate is closed.
-        ensures pages { D.honest disk.old → IfOk result (λ whole. whole ≡ false → HoldsPages (page (D.content disk.new)) header.now self.old.slot network.now self.new.written) }
-        ensures shut { D.honest disk.old → IfOk result (λ whole. whole ≡ false → IsSlotShut header.now self.old.slot (D.content disk.old) (D.content disk.new)) }
-        ensures content { D.honest disk.old → IfOk result (λ whole. whole ≡ true → IsSlotWhole header.now self.old.slot (head_of self.old network.now) network.now (D.content disk.old) (D.content disk.new)) }
-        ensures at_rest { D.honest disk.old → OnOk result (Only (D.content disk.new) (D.left disk.new)) }
+        ensures pages { D.honest disk.old → IfOk result (WhileGoing (HoldsPages (page (D.content disk.new)) header.now self.old.slot network.now self.new.written)) }
+        ensures shut { D.honest disk.old → IfOk result (WhileGoing (IsSlotShut header.now self.old.slot (D.content disk.old) (D.content disk.new))) }
+        ensures content { D.honest disk.old → IfOk result (OnceWhole (IsDraftWhole header.now self.old network.now (D.content disk.old) (D.content disk.new))) }
         // A stop at any moment of the call leaves the slot with a closed gate, or whole, and the rest of the content as it was.
-        ensures any_moment { D.honest disk.old → LeavesOnly D.moment D.left_since disk.old disk.new (IsSlotShutOrWhole header.now self.old.slot (head_of self.old network.now) network.now (D.content disk.old)) }
-        ensures counted { D.failures disk.new ≡ failures_after result (D.failures disk.old) }
-        ensures honest { D.honest disk.new ↔ D.honest disk.old }
+        ensures writes { Writes D.Disk (IsDraftShutOrWhole header.now self.old network.now (D.content disk.old)) result disk.old disk.new }
     {
         if self.pages_left(header) > u64::from(max_pages) {
             self.write_part(disk, header, network, max_pages)?;
@@ -247,11 +232,10 @@ impl NextCheckpoint {
         network: &Network,
         max_pages: u32,
     ) -> Result<(), DiskError>
-        requires header { IsHeader header.now }
+        requires file { HasFileOf D.Disk header.now disk.old }
         requires some { 1 ≤ max_pages }
         requires few { max_pages ≤ 64 }
         requires within { self.old.written ≤ slot_pages header.now }
-        requires whole { D.honest disk.old → length (D.content disk.old) ≡ 4096 * page_count header.now }
         requires shut { D.honest disk.old → LeavesSlotShut header.now self.old.slot (D.content disk.old) (D.left disk.old) }
         requires pages { D.honest disk.old → HoldsPages (page (D.content disk.old)) header.now self.old.slot network.now self.old.written }
         ensures written { OnOk result (self.new ≡ record self.old { written = slot_pages header.now }) }
@@ -259,9 +243,7 @@ impl NextCheckpoint {
         ensures pages { D.honest disk.old → OnOk result (HoldsPages (page (D.content disk.new)) header.now self.old.slot network.now (slot_pages header.now)) }
         ensures content { D.honest disk.old → OnOk result (IsSlotShut header.now self.old.slot (D.content disk.old) (D.content disk.new)) }
         ensures shut { D.honest disk.old → OnOk result (LeavesSlotShut header.now self.old.slot (D.content disk.new) (D.left disk.new)) }
-        ensures any_moment { D.honest disk.old → LeavesOnly D.moment D.left_since disk.old disk.new (IsSlotShut header.now self.old.slot (D.content disk.old)) }
-        ensures counted { D.failures disk.new ≡ failures_after result (D.failures disk.old) }
-        ensures honest { D.honest disk.new ↔ D.honest disk.old }
+        ensures writes { WritesUnsynced D.Disk (IsSlotShut header.now self.old.slot (D.content disk.old)) result disk.old disk.new }
     {
         while self.pages_left(header) > 0 {
             self.write_part(disk, header, network, max_pages)?;
@@ -277,20 +259,16 @@ impl NextCheckpoint {
         network: &Network,
         max_pages: u32,
     ) -> Result<(), DiskError>
-        requires header { IsHeader header.now }
+        requires file { HasFileOf D.Disk header.now disk.old }
         requires some { 1 ≤ max_pages }
         requires few { max_pages ≤ 64 }
         requires within { self.old.written ≤ slot_pages header.now }
-        requires whole { D.honest disk.old → length (D.content disk.old) ≡ 4096 * page_count header.now }
         requires shut { D.honest disk.old → LeavesSlotShut header.now self.old.slot (D.content disk.old) (D.left disk.old) }
         requires pages { D.honest disk.old → HoldsPages (page (D.content disk.old)) header.now self.old.slot network.now self.old.written }
         ensures same { self.new ≡ record self.old { written = self.new.written } }
-        ensures content { D.honest disk.old → OnOk result (IsSlotWhole header.now self.old.slot (head_of self.old network.now) network.now (D.content disk.old) (D.content disk.new)) }
-        ensures at_rest { D.honest disk.old → OnOk result (Only (D.content disk.new) (D.left disk.new)) }
+        ensures content { D.honest disk.old → OnOk result (IsDraftWhole header.now self.old network.now (D.content disk.old) (D.content disk.new)) }
         // A stop at any moment of the call leaves the slot with a closed gate, or whole, and the rest of the content as it was.
-        ensures any_moment { D.honest disk.old → LeavesOnly D.moment D.left_since disk.old disk.new (IsSlotShutOrWhole header.now self.old.slot (head_of self.old network.now) network.now (D.content disk.old)) }
-        ensures counted { D.failures disk.new ≡ failures_after result (D.failures disk.old) }
-        ensures honest { D.honest disk.new ↔ D.honest disk.old }
+        ensures writes { Writes D.Disk (IsDraftShutOrWhole header.now self.old network.now (D.content disk.old)) result disk.old disk.new }
     {
         self.write_parts(disk, header, network, max_pages)?;
         self.finish(disk, header, network)
@@ -305,22 +283,18 @@ impl NextCheckpoint {
         network: &Network,
         max_pages: u32,
     ) -> Result<(), DiskError>
-        requires header { IsHeader header.now }
+        requires file { HasFileOf D.Disk header.now disk.old }
         requires some { 1 ≤ max_pages }
         requires few { max_pages ≤ 64 }
         requires within { self.old.written ≤ slot_pages header.now }
-        requires whole { D.honest disk.old → length (D.content disk.old) ≡ 4096 * page_count header.now }
         requires shut { D.honest disk.old → LeavesSlotShut header.now self.old.slot (D.content disk.old) (D.left disk.old) }
         requires pages { D.honest disk.old → HoldsPages (page (D.content disk.old)) header.now self.old.slot network.now self.old.written }
         ensures same { self.new ≡ record self.old { written = self.new.written } }
         // After a failure it is as far as it was.
         ensures back { OnErr result (self.new ≡ self.old) }
-        ensures content { D.honest disk.old → OnOk result (IsSlotWhole header.now self.old.slot (head_of self.old network.now) network.now (D.content disk.old) (D.content disk.new)) }
-        ensures at_rest { D.honest disk.old → OnOk result (Only (D.content disk.new) (D.left disk.new)) }
+        ensures content { D.honest disk.old → OnOk result (IsDraftWhole header.now self.old network.now (D.content disk.old) (D.content disk.new)) }
         // A stop at any moment of the call leaves the slot with a closed gate, or whole, and the rest of the content as it was.
-        ensures any_moment { D.honest disk.old → LeavesOnly D.moment D.left_since disk.old disk.new (IsSlotShutOrWhole header.now self.old.slot (head_of self.old network.now) network.now (D.content disk.old)) }
-        ensures counted { D.failures disk.new ≡ failures_after result (D.failures disk.old) }
-        ensures honest { D.honest disk.new ↔ D.honest disk.old }
+        ensures writes { Writes D.Disk (IsDraftShutOrWhole header.now self.old network.now (D.content disk.old)) result disk.old disk.new }
     {
         let written = self.written;
         let Ok(()) = self.write_all(disk, header, network, max_pages) else {

@@ -12,7 +12,7 @@ use Rattle.buckets.specs.Queue.{Entries, TakesLeast}
 use Rattle.snapshot.specs.declared.legs.Leg.{Leg}
 use Rattle.snapshot.specs.declared.legs.Part.{Part}
 use Rattle.snapshot.specs.declared.legs.Part.TheVariants.{Light, Heavy}
-use Rattle.deltastep.specs.Search.{top_of, Trip, trip_length, Reaches, AreReached, IsRelaxed, IsRelaxedBut, IsBetweenBuckets, IsFinal, IsSuited, weight}
+use Rattle.deltastep.specs.Search.{top_of, Trip, trip_length, Reaches, AreReached, IsRelaxed, IsRelaxedBut, IsBetweenBuckets, IsFinal, weight}
 use Rattle.deltastep.specs.Guided.{ConsistentIsLowerBound, IsConsistent, IsLowerBound, IsKey, IsGuided, IsDone, IsLoweredTo, GoesOn, IsBest}
 use Rattle.deltastep.proofs.Division.{div-le_div}
 use Rattle.deltastep.proofs.Lowering.{value_or-some, value_or-set_same, value_or-set_other, value_or-set-le}
@@ -334,9 +334,6 @@ value_at_most groups t v most within test passed =
       | None ↦ λ none no. absurd (let absurdity : ⊥ = cc in absurdity)
       | Some value ↦ λ some here. omega (arith, here.0 passed, value_or-some (top_of groups) t v value some)
     ] refl test
-
-pub IsSuited-same : (groups : Groups) (width span width' span' : ℕ) → width' ≡ width → span' ≡ span → IsSuited groups width span → IsSuited groups width' span'
-IsSuited-same groups width span width' span' e e' suited = record { width = e ∙ suited.width; window = omega (arith, e', suited.window) }
 
 -- each value is below 2 ^ 56
 pub top_small : (groups : Groups) → IsGrouped groups → top_of groups ≤ 2 ^ 56

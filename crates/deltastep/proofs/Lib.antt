@@ -20,6 +20,7 @@ pub mod Resuming
 pub mod Rounds
 pub mod SomeWalk
 pub mod Starting
+pub mod Staying
 pub mod Telling
 pub mod Thinning
 pub mod Turning

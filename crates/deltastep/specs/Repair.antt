@@ -6,7 +6,8 @@
 --     AreGoneLost before after ..        each tight leg of node u is still there, or its head is lost
 --     IsSpread groups source row tentative u     the tight legs of node u lead to lost nodes
 --     IsClosedBut groups .. lost         so it is at each node that has no value and is not on the list
-use Rattle.std.specs.Prelude.{◌≡◌, ℕ, ◌+◌, ◌⊎◌, suc, true, List, length, All, IsSome, Contains, Option, None, Some}
+--     IsUntouched before after row u     the tight legs of node u are still there, and no leg of it leads to less than the row has
+use Rattle.std.specs.Prelude.{◌≡◌, ℕ, ◌+◌, ◌≤◌, ◌⊎◌, suc, true, List, length, All, IsSome, Contains, Option, None, Some, unwrap_or}
 use Rattle.relax.specs.Values.{value_at}
 use Rattle.std.specs.FinMap as map
 use Rattle.buckets.specs.Queue.{Entries}
@@ -49,6 +50,18 @@ IsSpread groups source row tentative u = (value : ℕ) → distance_at row u ≡
 
 abbrev pub IsClosedBut : Groups → ℕ → List (Option ℕ) → List (Option ℕ) → List ℕ → Type 0
 IsClosedBut groups source row tentative lost = (u : ℕ) → value_at tentative u ≡ None → Contains lost u ⊎ IsSpread groups source row tentative u
+
+-- the tight ones of these legs of node u, of this distance, are still there
+abbrev pub AreThere : Groups → List (Option ℕ) → ℕ → ℕ → List Leg → Type 0
+AreThere after row u value legs = All (λ leg. distance_at row leg.head ≡ Some (value + leg.length) → HasLeg after u leg) legs
+
+-- none of these legs, of a tail with this distance, leads to less than the row has, whatever number stands for no distance
+abbrev pub AreFeasible : List (Option ℕ) → ℕ → List Leg → Type 0
+AreFeasible row value legs = (none : ℕ) → All (λ leg. unwrap_or (distance_at row leg.head) none ≤ value + leg.length) legs
+
+abbrev pub IsUntouched : Groups → Groups → List (Option ℕ) → ℕ → Type 0
+IsUntouched before after row u =
+    (value : ℕ) → distance_at row u ≡ Some value → (part : Part) → AreThere after row u value (legs_of before part u) × AreFeasible row value (legs_of after part u)
 
 -- each queued node has its tentative value
 abbrev pub AreQueued : List (Option ℕ) → Entries → Type 0

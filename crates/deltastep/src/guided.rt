@@ -1,13 +1,14 @@
 //! The distance to one target, by a search that lower bounds of the ways to it lead there.
 
-ghost use Rattle.std.specs.Prelude.{◌≡◌, ◌+◌, ◌*◌, ◌/◌, ◌≤◌, ◌<◌, ◌^◌, ◌↔◌, ℕ, List, Contains, None, false, length, replicate, IfOk, IfSome, IsTrue, OnOk, MatchOption};
+ghost use Rattle.std.specs.Prelude.{◌≡◌, ◌+◌, ◌*◌, ◌/◌, ◌≤◌, ◌<◌, ◌^◌, ◌↔◌, ℕ, List, Contains, None, false, length, max, replicate, IfOk, IfSome, IsTrue, OnOk, MatchOption};
+ghost use Rattle.std.specs.FinMap as map;
 ghost use Rattle.relax.specs.Values.{value_at, value_or};
 ghost use Rattle.roadnet.specs.Net.{Net};
 ghost use Rattle.roadnet.specs.Walks.{Least, NoWalk};
 ghost use Rattle.snapshot.specs.Groups.{Groups, IsGrouped, IsSnapshotOf};
 ghost use Rattle.snapshot.specs.declared.legs.Leg.{Leg};
 ghost use Rattle.snapshot.specs.declared.legs.Part.{Part};
-ghost use Rattle.deltastep.specs.Search.{AreReached, IsSuited, Suits, Trip, trip_length};
+ghost use Rattle.deltastep.specs.Search.{AreReached, IsBetweenBuckets, Trip, trip_length};
 ghost use Rattle.deltastep.specs.Guided.{ConsistentIsLowerBound, GoesOn, IsBest, IsDone, IsGuided, IsKey, IsLowerBound, IsLoweredTo};
 
 use crate::distances::RowError;
@@ -63,7 +64,38 @@ fn end_of(bucket: u64, window: u64, delta: u64) -> u64
     bucket.saturating_add(window - 1).saturating_mul(delta)
 }
 
+/// The width of the buckets of keys: an eighth of that of the snapshot, at least 1. Along a least way keys hardly grow, so that of a bucket as
+/// wide as those of values many nodes would be relaxed more than once.
+fn width_of_keys(snapshot: &Snapshot) -> u32
+    ensures { result ≡ max (snapshot.now.delta / 8) 1 }
+{
+    (snapshot.delta() / 8).max(1)
+}
+
 impl<Q: BucketQueue> Search<Q> {
+    /// A search by keys that knows the source alone, with values of no node and a queue of no node, of whatever width.
+    fn begin_guided(
+        snapshot: &Snapshot,
+        source: u32,
+        tentative: Tentative,
+        buckets: Q,
+    ) -> Result<Search<Q>, RowError>
+    where
+        Q: Drop,
+        requires node { (1 ≤ source) × (source ≤ snapshot.now.nodes) }
+        requires blank { tentative ≡ replicate (snapshot.now.nodes + 1) None }
+        requires empty { Q.entries buckets ≡ map.empty }
+        requires first { Q.accepts buckets 0 }
+        ensures state { IfOk result (λ search. IsBetweenBuckets snapshot.now source search.tentative (Q.entries search.buckets)) }
+        ensures grouped { OnOk result (IsGrouped snapshot.now) }
+        ensures width { IfOk result (λ search. Q.width search.buckets ≡ Q.width buckets) }
+        ensures span { IfOk result (λ search. Q.span search.buckets ≡ Q.span buckets) }
+    {
+        let mut search = Search { tentative, buckets };
+        search.lower(top(snapshot), source, 0)?;
+        Ok(search)
+    }
+
     /// Lowers a node's value to the given one, if that is below `top` and the value so far, and queues the node by a key from `start` to
     /// `end`, which it gives.
     #[inline(always)]
@@ -210,12 +242,13 @@ impl<Q: BucketQueue> Search<Q> {
         requires knows { G.knows guide.now snapshot.now }
         requires state { (source : ℕ) × IsGuided snapshot.now source (G.target guide.now) self.old.tentative (Q.entries self.old.buckets) }
         requires done { (part : Part) (u : ℕ) → IsDone snapshot.now part self.old.tentative (Q.entries self.old.buckets) u }
-        requires suited { IsSuited snapshot.now (Q.width self.old.buckets) (Q.span self.old.buckets) }
+        requires wide { 1 ≤ Q.width self.old.buckets }
+        requires window { 1 ≤ Q.span self.old.buckets }
         ensures places { OnOk result (length self.new.tentative ≡ snapshot.now.nodes + 1) }
         ensures reached { OnOk result ((source : ℕ) → IsGuided snapshot.now source (G.target guide.now) self.old.tentative (Q.entries self.old.buckets) → AreReached snapshot.now source self.new.tentative) }
         ensures best { OnOk result (IsBest snapshot.now self.new.tentative (G.target guide.now)) }
     {
-        let delta = u64::from(snapshot.delta());
+        let delta = u64::from(self.buckets.delta());
         let window = self.buckets.window();
         let mut taken = Vec::new(alloc);
         'buckets: while let Some(bucket) = self.buckets.take_least_into(&mut taken)? {
@@ -246,10 +279,13 @@ fn guided_by<Q: BucketQueue + Drop, G: Guide>(
     requires target { (1 ≤ target) × (target ≤ snapshot.now.nodes) }
     requires leads { G.target guide.now ≡ target }
     requires knows { G.knows guide.now snapshot.now }
-    requires suits { Suits snapshot.now (Q.entries buckets) (Q.accepts buckets) (Q.width buckets) (Q.span buckets) }
+    requires empty { Q.entries buckets ≡ map.empty }
+    requires first { Q.accepts buckets 0 }
+    requires wide { 1 ≤ Q.width buckets }
+    requires window { 1 ≤ Q.span buckets }
     ensures distance { IfOk result (λ found. (net : Net) → IsSnapshotOf net snapshot.now → MatchOption found.0 (NoWalk net source target) (Least net source target)) }
 {
-    let mut search = Search::begin(snapshot, source, values, buckets)?;
+    let mut search = Search::begin_guided(snapshot, source, values, buckets)?;
     search.settle_guided(alloc, snapshot, target, guide)?;
     let Search { tentative, buckets } = search;
     Ok((tentative.get(target), tentative, buckets))
@@ -283,7 +319,8 @@ pub fn distance_guided<G: Guide>(
     )
 }
 
-/// The same distance, whatever the workspace holds, which the search uses as `distance_to_in` does.
+/// The same distance, whatever the workspace holds, which the search uses as `distance_to_in` does, but for the ring, which it has of
+/// narrower buckets and leaves to the next such search.
 pub fn distance_guided_in<G: Guide>(
     alloc: Global,
     snapshot: &Snapshot,
@@ -299,15 +336,16 @@ pub fn distance_guided_in<G: Guide>(
     ensures distance { IfOk result (λ distance. (net : Net) → IsSnapshotOf net snapshot.now → MatchOption distance (NoWalk net source target) (Least net source target)) }
 {
     let values = workspace.take_values(alloc, snapshot.nodes())?;
+    let delta = width_of_keys(snapshot);
     let Some(size) = ring_size(snapshot) else {
-        let buckets = OrderedBuckets::new(alloc, snapshot.delta());
+        let buckets = OrderedBuckets::new(alloc, delta);
         let (distance, values, _buckets) = guided_by(
             alloc, snapshot, source, target, guide, values, buckets,
         )?;
         workspace.keep_values(values);
         return Ok(distance);
     };
-    let ring = workspace.take_ring(alloc, snapshot, size)?;
+    let ring = workspace.take_ring_of(alloc, delta, size)?;
     let (distance, values, mut ring) = guided_by(
         alloc, snapshot, source, target, guide, values, ring,
     )?;

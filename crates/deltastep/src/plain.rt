@@ -22,7 +22,7 @@ pub fn plain_row(alloc: Global, network: &Network, source: u32) -> Result<Distan
     let mut words = vec![in alloc; NO_WALK; nodes]?;
     words[source as usize - 1] = 0;
     'rounds: while relax_all(network, &mut words) {}
-    Ok(Distances::from_words(words))
+    Distances::from_words(words)
 }
 
 /// Relaxes each arc once. Says whether some node came nearer.

@@ -17,6 +17,7 @@ use crate::near::queue_near;
 use crate::remembered::Remembered;
 use crate::search::Search;
 use crate::stepping::{ring_size, row_in};
+use crate::untouched::untouched_row;
 use crate::workspace::Workspace;
 use buckets::{BucketQueue, OrderedBuckets, RingBuckets};
 use relax::{Team, Tentative};
@@ -39,7 +40,7 @@ fn is_among(legs: &[Leg], leg: &Leg) -> bool
 }
 
 /// Whether the node has the leg.
-fn has_leg(snapshot: &Snapshot, node: u32, leg: &Leg) -> bool
+pub(crate) fn has_leg(snapshot: &Snapshot, node: u32, leg: &Leg) -> bool
     ensures { OnTrue result (HasLeg snapshot.now node leg.now) }
 {
     if is_among(snapshot.legs(node, Part::Light), leg) {
@@ -49,7 +50,7 @@ fn has_leg(snapshot: &Snapshot, node: u32, leg: &Leg) -> bool
 }
 
 /// Whether the distance is the sum of the value and the length.
-fn is_sum(distance: Option<u64>, value: u64, length: u32) -> bool
+pub(crate) fn is_sum(distance: Option<u64>, value: u64, length: u32) -> bool
     ensures { IsTrue result ↔ (distance ≡ Some (value + length)) }
 {
     match distance {
@@ -478,7 +479,7 @@ fn goes_on<Q: BucketQueue + Drop, T: Team>(
     let mut search = Search { tentative, buckets };
     search.settle_all(alloc, snapshot, team, remembered)?;
     let Search { tentative, buckets } = search;
-    Ok((Distances::from_words(tentative.into_words()), buckets))
+    Ok((Distances::from_words(tentative.into_words())?, buckets))
 }
 
 /// The row of `source` in a network, made out of its row in the network before a change. It is the row that `row` makes.
@@ -513,8 +514,8 @@ pub fn row_after<T: Team>(
     )
 }
 
-/// The same row, whatever the workspace holds. The search takes what an earlier one left there and leaves its own, as that of `row_in` does.
-pub fn row_after_in<T: Team>(
+/// The row of `source` by a search that goes on from what is left of its row before a change, after a pass over all legs.
+fn repaired_in<T: Team>(
     alloc: Global,
     snapshot: &Snapshot,
     source: u32,
@@ -566,9 +567,33 @@ pub fn row_after_in<T: Team>(
     row_in(alloc, snapshot, source, team, workspace)
 }
 
-/// The same row, where `back` has for each leg of the new snapshot one from its head to its tail: beside the copy of the row and one look at each node, it
-/// takes time for what was lost and changed alone, with the legs around it.
-pub fn row_after_near<T: Team>(
+/// The same row, whatever the workspace holds. The search takes what an earlier one left there and leaves its own, as that of `row_in` does.
+pub fn row_after_in<T: Team>(
+    alloc: Global,
+    snapshot: &Snapshot,
+    source: u32,
+    before: &Snapshot,
+    old: &Distances,
+    changed: &[u32],
+    team: &T,
+    workspace: &mut Workspace,
+) -> Result<Distances, RowError>
+    requires node { (1 ≤ source) × (source ≤ snapshot.now.nodes) }
+    requires nodes { before.now.nodes ≡ snapshot.now.nodes }
+    requires old { (net : Net) × IsSnapshotOf net before.now × RowOf net source old.now }
+    requires changed { AreChanged before.now snapshot.now changed.now }
+    ensures row { IfOk result (λ row. (net : Net) → IsSnapshotOf net snapshot.now → RowOf net source row) }
+{
+    if let Some(row) = untouched_row(before, snapshot, source, old, changed) {
+        return Ok(row);
+    }
+    repaired_in(
+        alloc, snapshot, source, before, old, changed, team, workspace,
+    )
+}
+
+/// The row of `source` by a search that goes on from what is left of its row before a change, found by way of the legs back.
+fn repaired_near<T: Team>(
     alloc: Global,
     snapshot: &Snapshot,
     source: u32,
@@ -632,4 +657,33 @@ pub fn row_after_near<T: Team>(
         return Ok(row);
     }
     row_in(alloc, snapshot, source, team, workspace)
+}
+
+/// The same row, where `back` has for each leg of the new snapshot one from its head to its tail: beside the copy of the row and one look at each node, it
+/// takes time for what was lost and changed alone, with the legs around it.
+pub fn row_after_near<T: Team>(
+    alloc: Global,
+    snapshot: &Snapshot,
+    source: u32,
+    before: &Snapshot,
+    old: &Distances,
+    changed: &[u32],
+    back: &Snapshot,
+    team: &T,
+    workspace: &mut Workspace,
+) -> Result<Distances, RowError>
+    requires node { (1 ≤ source) × (source ≤ snapshot.now.nodes) }
+    requires nodes { before.now.nodes ≡ snapshot.now.nodes }
+    requires old { (net : Net) × IsSnapshotOf net before.now × RowOf net source old.now }
+    requires changed { AreChanged before.now snapshot.now changed.now }
+    requires back_nodes { back.now.nodes ≡ snapshot.now.nodes }
+    requires tails { AreTails back.now snapshot.now }
+    ensures row { IfOk result (λ row. (net : Net) → IsSnapshotOf net snapshot.now → RowOf net source row) }
+{
+    if let Some(row) = untouched_row(before, snapshot, source, old, changed) {
+        return Ok(row);
+    }
+    repaired_near(
+        alloc, snapshot, source, before, old, changed, back, team, workspace,
+    )
 }

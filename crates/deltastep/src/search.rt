@@ -464,7 +464,7 @@ impl<Q: BucketQueue> Search<Q> {
 
     /// Lowers a node's value to the given one, if that is below `top` and the value so far, and queues the node. Tells whether it did.
     #[inline(always)]
-    fn lower(&mut self, top: u64, node: u32, value: u64) -> Result<bool, RowError>
+    pub(crate) fn lower(&mut self, top: u64, node: u32, value: u64) -> Result<bool, RowError>
         requires node { (1 ≤ node) × (node < length self.old.tentative) }
         requires fits { Q.accepts self.old.buckets value }
         requires small { top ≤ 2 ^ 56 }

@@ -56,7 +56,7 @@ fn row_by<Q: BucketQueue + Drop, T: Team>(
     let mut search = Search::start(alloc, snapshot, source, buckets)?;
     search.settle_all(alloc, snapshot, team, remembered)?;
     let Search { tentative, buckets } = search;
-    Ok((Distances::from_words(tentative.into_words()), buckets))
+    Ok((Distances::from_words(tentative.into_words())?, buckets))
 }
 
 /// Whether a search of this snapshot can begin with this queue: no node is queued, a node of value 0 fits, its buckets are as wide as

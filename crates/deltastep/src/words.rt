@@ -38,6 +38,16 @@ impl Words {
         }
     }
 
+    /// The words of 4 bytes, where it is kept in such.
+    pub(crate) fn short(&self) -> Option<&[u32]>
+        ensures { IfSome result (λ words. distances_of self.now ≡ map distance_of_short words.now) }
+    {
+        match self {
+            Words::Short(words) => Some(words),
+            Words::Long(_words) => None,
+        }
+    }
+
     /// The same distances in words of 8 bytes. The one error is want of memory.
     pub(crate) fn to_long(&self) -> Result<Vec<u64>, RowError>
         ensures { IfOk result (λ long. map distance_of_word long.items ≡ distances_of self.now) }

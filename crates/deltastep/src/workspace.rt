@@ -13,7 +13,7 @@ use snapshot::Snapshot;
 use std::alloc::Global;
 
 /// The memory that a search takes beside its row, left to the next search, of the same snapshot or another: what does not suit that is made
-/// anew. It takes none before a search has left some, and then 14 to 27 bytes a node, 24 a list of the ring, and what these lists hold; after a search for
+/// anew, such as a ring after a search that was led to its target, whose buckets are narrower. It takes none before a search has left some, and then 14 to 27 bytes a node, 24 a list of the ring, and what these lists hold; after a search for
 /// one distance 8 bytes a node more, and 4 for each node that any of them reached.
 #[derive(Drop)]
 pub struct Workspace {
@@ -33,6 +33,23 @@ fn suited<Q: BucketQueue + Drop>(left: Option<Q>, snapshot: &Snapshot) -> Option
         }
     }
     None
+}
+
+/// The queue that was left, if there is one, no node is queued, a node of value 0 fits, its buckets are of this width, and as many fit.
+fn fresh<Q: BucketQueue + Drop>(left: Option<Q>, delta: u32, size: u32) -> Option<Q>
+    ensures empty { IfSome result (λ q. Q.entries q ≡ map.empty) }
+    ensures first { IfSome result (λ q. Q.accepts q 0) }
+    ensures width { IfSome result (λ q. Q.width q ≡ delta) }
+    ensures span { IfSome result (λ q. size ≤ Q.span q) }
+{
+    let queue = left?;
+    if !queue.is_empty() || !queue.fits(0) {
+        return None;
+    }
+    if queue.delta() != delta || queue.window() < u64::from(size) {
+        return None;
+    }
+    Some(queue)
 }
 
 impl Workspace {
@@ -62,6 +79,28 @@ impl Workspace {
             return Ok(ring);
         }
         let buckets = RingBuckets::new(alloc, snapshot.delta(), size)?;
+        Ok(buckets)
+    }
+
+    /// A ring of no node, of buckets of this width: the one that was left, where it is so and has as many lists, else a new one.
+    pub(crate) fn take_ring_of(
+        &mut self,
+        alloc: Global,
+        delta: u32,
+        size: u32,
+    ) -> Result<RingBuckets, RowError>
+        requires width { 1 ≤ delta }
+        requires some { 1 ≤ size }
+        requires few { size ≤ most_lists }
+        ensures empty { IfOk result (λ q. ⟦<RingBuckets as BucketQueue>⟧.entries q ≡ map.empty) }
+        ensures first { IfOk result (λ q. ⟦<RingBuckets as BucketQueue>⟧.accepts q 0) }
+        ensures width { IfOk result (λ q. ⟦<RingBuckets as BucketQueue>⟧.width q ≡ delta) }
+        ensures span { IfOk result (λ q. size ≤ ⟦<RingBuckets as BucketQueue>⟧.span q) }
+    {
+        if let Some(ring) = fresh(self.ring.take(), delta, size) {
+            return Ok(ring);
+        }
+        let buckets = RingBuckets::new(alloc, delta, size)?;
         Ok(buckets)
     }
 

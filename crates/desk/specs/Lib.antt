@@ -1,4 +1,5 @@
 pub mod Leaves
+pub mod Nearby
 pub mod Openings
 pub mod Readings
 pub mod Repairs

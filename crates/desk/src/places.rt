@@ -141,6 +141,13 @@ impl<N: Naming> Glance<N> {
         self.view.network()
     }
 
+    /// The view.
+    pub(crate) fn view(&self) -> &View
+        ensures { result.now ≡ self.now.view }
+    {
+        &self.view
+    }
+
     /// The reply to `From`, by the landmark's row. It takes no memory.
     pub fn from_landmark(&self, landmark: u64, target: u64) -> Reply
         ensures { IsRight self.now.view.network (From landmark target) result }

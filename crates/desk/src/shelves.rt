@@ -155,6 +155,18 @@ impl<N: Naming> Shelf<N> {
         Some(reply)
     }
 
+    /// Takes out the row of this source in this view, if it is kept: who took it may put it back.
+    pub(crate) fn take(&mut self, glance: &Glance<N>, source: u32) -> Option<Distances>
+        ensures { IfSome result (RowOf glance.now.view.network source) }
+    {
+        if !self.turn_to(glance) {
+            return None;
+        }
+        let place = place_of(&self.rows, source)?;
+        let kept = self.rows.remove(place);
+        Some(kept.distances)
+    }
+
     /// Has a place for one more row: where it is full, the first one gives way.
     fn make_room(&mut self)
         ensures groups { self.new.groups ≡ self.old.groups }
@@ -205,16 +217,19 @@ impl<N: Naming> Shelf<N> {
         false
     }
 
+    /// The memory of a search: what an earlier one left, if one did.
+    pub(crate) fn workspace(&mut self) -> Workspace {
+        match self.workspaces.pop() {
+            Some(workspace) => workspace,
+            None => Workspace::new(),
+        }
+    }
+
     /// What a search for this source in a view of this version gets, of which no row is kept: what an earlier search left, if one did.
     pub(crate) fn missed(&mut self, version: u64, source: u32) -> Missed {
         let again = self.is_asked_again(version, source);
-        match self.workspaces.pop() {
-            Some(workspace) => Missed { workspace, again },
-            None => Missed {
-                workspace: Workspace::new(),
-                again,
-            },
-        }
+        let workspace = self.workspace();
+        Missed { workspace, again }
     }
 
     /// Keeps what a search left, where four searches left no more.

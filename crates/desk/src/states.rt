@@ -41,6 +41,8 @@ pub struct DeskState {
     pub pages: u64,
     /// How many landmarks the network of the shown version has.
     pub landmarks: u64,
+    /// How many places among the readers are taken, of 64. They are given back without the lock, so a moment later there may be fewer.
+    pub readers: u64,
     /// How many more commands may be accepted before the store is to be opened again: 16,777,216 less those of this life.
     pub left: u64,
     pub flusher: Working,
@@ -77,6 +79,7 @@ impl<N: Naming, D: Disk> Locked<Office<N, D>> {
             unchecked: u64::from(self.office.unchecked()),
             pages: u64::from(self.office.journal_pages()),
             landmarks: self.office.network().landmarks().len() as u64,
+            readers: self.office.readers(),
             left: MOST_OF_LIFE as u64 - self.office.of_life(),
             flusher: self.flusher_state(),
             builder: working_of(self.builder_ended),

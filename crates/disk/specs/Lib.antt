@@ -1,3 +1,5 @@
+pub mod Arming
+pub mod Calling
 pub mod Calls
 pub mod Contents
 pub mod Gated

@@ -1,7 +1,7 @@
 // The steps by which gated bytes are written, over any disk.
 ghost use Rattle.std.specs.Prelude.{◌≡◌, ◌+◌, ◌≤◌, ◌<◌, ◌^◌, ◌↔◌, [], ◌∷◌, length, slice_range, IsTrue, IfOk, OnOk};
-ghost use Rattle.disk.specs.Contents.{overwritten, Torn, Only, failures_after};
-ghost use Rattle.disk.specs.Moments.{LeavesOnly, StaysSame};
+ghost use Rattle.disk.specs.Calling.{Reads, Writes};
+ghost use Rattle.disk.specs.Contents.{overwritten, Torn, Only};
 ghost use Rattle.disk.specs.Gated.{open_byte, IsOpen, IsShut, IsOldOrShut, IsShutOrOpened, IsWholeOrShut, with_page};
 
 use crate::{Disk, DiskError};
@@ -16,11 +16,8 @@ pub fn write_synced<D: Disk>(disk: &mut D, at: u64, bytes: &[u8]) -> Result<(), 
     requires at_rest { D.honest disk.old → Only (D.content disk.old) (D.left disk.old) }
     requires within { D.honest disk.old → at ≤ length (D.content disk.old) }
     ensures written { D.honest disk.old → OnOk result (D.content disk.new ≡ overwritten (D.content disk.old) at bytes.now) }
-    ensures at_rest { D.honest disk.old → OnOk result (Only (D.content disk.new) (D.left disk.new)) }
     // A stop at any moment of the call leaves the content with any bytes in the range.
-    ensures any_moment { D.honest disk.old → LeavesOnly D.moment D.left_since disk.old disk.new (Torn at (length bytes.now) (D.content disk.old)) }
-    ensures counted { D.failures disk.new ≡ failures_after result (D.failures disk.old) }
-    ensures honest { D.honest disk.new ↔ D.honest disk.old }
+    ensures writes { Writes D.Disk (Torn at (length bytes.now) (D.content disk.old)) result disk.old disk.new }
 {
     disk.write_at(at, bytes)?;
     disk.sync()
@@ -28,10 +25,8 @@ pub fn write_synced<D: Disk>(disk: &mut D, at: u64, bytes: &[u8]) -> Result<(), 
 
 /// Syncs, as at an opening. Nothing is changed by it, and after it a stop leaves the content.
 pub fn settle<D: Disk>(disk: &mut D) -> Result<(), DiskError>
-    ensures same { D.honest disk.old → StaysSame D.content D.left D.moment D.left_since disk.old disk.new }
+    ensures reads { Reads D.Disk result disk.old disk.new }
     ensures at_rest { D.honest disk.old → OnOk result (Only (D.content disk.new) (D.left disk.new)) }
-    ensures counted { D.failures disk.new ≡ failures_after result (D.failures disk.old) }
-    ensures honest { D.honest disk.new ↔ D.honest disk.old }
 {
     disk.sync()
 }
@@ -39,9 +34,7 @@ pub fn settle<D: Disk>(disk: &mut D) -> Result<(), DiskError>
 /// The content's length. Nothing is changed.
 pub fn length_of<D: Disk>(disk: &mut D) -> Result<u64, DiskError>
     ensures length { D.honest disk.old → IfOk result (λ n. n ≡ length (D.content disk.old)) }
-    ensures same { D.honest disk.old → StaysSame D.content D.left D.moment D.left_since disk.old disk.new }
-    ensures counted { D.failures disk.new ≡ failures_after result (D.failures disk.old) }
-    ensures honest { D.honest disk.new ↔ D.honest disk.old }
+    ensures reads { Reads D.Disk result disk.old disk.new }
 {
     disk.len()
 }
@@ -50,9 +43,7 @@ pub fn length_of<D: Disk>(disk: &mut D) -> Result<u64, DiskError>
 pub fn read_at<D: Disk>(disk: &mut D, at: u64, into: &mut [u8]) -> Result<(), DiskError>
     requires { D.honest disk.old → at + length into.old ≤ length (D.content disk.old) }
     ensures bytes { D.honest disk.old → OnOk result (into.new ≡ slice_range (D.content disk.old) at (at + length into.old)) }
-    ensures same { D.honest disk.old → StaysSame D.content D.left D.moment D.left_since disk.old disk.new }
-    ensures counted { D.failures disk.new ≡ failures_after result (D.failures disk.old) }
-    ensures honest { D.honest disk.new ↔ D.honest disk.old }
+    ensures reads { Reads D.Disk result disk.old disk.new }
 {
     disk.read(at, into)
 }
@@ -61,9 +52,7 @@ pub fn read_at<D: Disk>(disk: &mut D, at: u64, into: &mut [u8]) -> Result<(), Di
 pub fn is_open<D: Disk>(disk: &mut D, gate_at: u64) -> Result<bool, DiskError>
     requires { D.honest disk.old → gate_at < length (D.content disk.old) }
     ensures answer { D.honest disk.old → IfOk result (λ answer. IsTrue answer ↔ IsOpen gate_at (D.content disk.old)) }
-    ensures same { D.honest disk.old → StaysSame D.content D.left D.moment D.left_since disk.old disk.new }
-    ensures counted { D.failures disk.new ≡ failures_after result (D.failures disk.old) }
-    ensures honest { D.honest disk.new ↔ D.honest disk.old }
+    ensures reads { Reads D.Disk result disk.old disk.new }
 {
     let mut gate = [0];
     read_at(disk, gate_at, &mut gate)?;
@@ -76,10 +65,7 @@ pub fn close_gate<D: Disk>(disk: &mut D, gate_at: u64) -> Result<(), DiskError>
     requires at_rest { D.honest disk.old → Only (D.content disk.old) (D.left disk.old) }
     requires within { D.honest disk.old → gate_at < length (D.content disk.old) }
     ensures shut { D.honest disk.old → OnOk result (IsShut gate_at 1 gate_at (D.content disk.old) (D.content disk.new)) }
-    ensures at_rest { D.honest disk.old → OnOk result (Only (D.content disk.new) (D.left disk.new)) }
-    ensures any_moment { D.honest disk.old → LeavesOnly D.moment D.left_since disk.old disk.new (IsOldOrShut (D.content disk.old) gate_at) }
-    ensures counted { D.failures disk.new ≡ failures_after result (D.failures disk.old) }
-    ensures honest { D.honest disk.new ↔ D.honest disk.old }
+    ensures writes { Writes D.Disk (IsOldOrShut (D.content disk.old) gate_at) result disk.old disk.new }
 {
     if !is_open(disk, gate_at)? {
         return Ok(());
@@ -92,10 +78,7 @@ pub fn open_gate<D: Disk>(disk: &mut D, gate_at: u64) -> Result<(), DiskError>
     requires at_rest { D.honest disk.old → Only (D.content disk.old) (D.left disk.old) }
     requires within { D.honest disk.old → gate_at < length (D.content disk.old) }
     ensures opened { D.honest disk.old → OnOk result (D.content disk.new ≡ overwritten (D.content disk.old) gate_at (open_byte ∷ [])) }
-    ensures at_rest { D.honest disk.old → OnOk result (Only (D.content disk.new) (D.left disk.new)) }
-    ensures any_moment { D.honest disk.old → LeavesOnly D.moment D.left_since disk.old disk.new (IsShutOrOpened (D.content disk.old) gate_at) }
-    ensures counted { D.failures disk.new ≡ failures_after result (D.failures disk.old) }
-    ensures honest { D.honest disk.new ↔ D.honest disk.old }
+    ensures writes { Writes D.Disk (IsShutOrOpened (D.content disk.old) gate_at) result disk.old disk.new }
 {
     write_synced(disk, gate_at, &[OPEN])
 }
@@ -107,11 +90,8 @@ pub fn write_gated<D: Disk>(disk: &mut D, at: u64, body: &[u8]) -> Result<(), Di
     requires within { D.honest disk.old → at + length body.now + 1 ≤ length (D.content disk.old) }
     requires fits { at + length body.now < 2 ^ 64 }
     ensures written { D.honest disk.old → OnOk result (D.content disk.new ≡ with_page (D.content disk.old) at body.now) }
-    ensures at_rest { D.honest disk.old → OnOk result (Only (D.content disk.new) (D.left disk.new)) }
     // A stop at any moment of the call leaves the old page whole, the new one whole, or a closed gate.
-    ensures any_moment { D.honest disk.old → LeavesOnly D.moment D.left_since disk.old disk.new (IsWholeOrShut (D.content disk.old) at body.now) }
-    ensures counted { D.failures disk.new ≡ failures_after result (D.failures disk.old) }
-    ensures honest { D.honest disk.new ↔ D.honest disk.old }
+    ensures writes { Writes D.Disk (IsWholeOrShut (D.content disk.old) at body.now) result disk.old disk.new }
 {
     let gate_at = at + body.len() as u64;
     close_gate(disk, gate_at)?;

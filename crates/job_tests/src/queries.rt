@@ -4,7 +4,10 @@ use crate::outcomes::is_done;
 use crate::streams::{FailingReader, FailingWriter, sending_writer};
 use dimacs::{Code, Counted, Fault, Pair, parse_gr, parse_p2p};
 use printing::{CountedWriter, Done, Failed};
-use querytexts::{answer_by, answer_pairs, batch_counted, batch_text, once_counted, once_text};
+use querytexts::{
+    Reach, answer_by, answer_pairs, batch_counted, batch_text, once_counted, once_text, reach_text,
+    table_text,
+};
 use roadnet::{Network, Refusal};
 use rows::{Query, Reply, Searches, answer_plain};
 use std::alloc::Global;
@@ -53,6 +56,63 @@ fn one_query_of_a_text(rt: HostRuntime) {
     );
     assert!(rt; outcome == Err(Failed::Text { which: 0, fault }));
     assert!(rt; unwritten.is_empty());
+}
+
+/// The rows of a table follow the lines of its texts, doubles too; a fault of the targets is told of the third text, and nothing is written.
+#[test]
+fn a_table_of_two_texts(rt: HostRuntime) {
+    let sources = b"p aux sp ss 3\ns 5\ns 1\ns 5\n".as_slice();
+    let targets = b"p aux sp ss 2\ns 6\ns 4\n".as_slice();
+    let mut out = Vec::new(rt.alloc());
+    let outcome = table_text(&rt, rt.alloc(), SIX, sources, targets, Some(5), &mut out);
+    assert!(rt; is_done(&outcome, Some(5)));
+    let rows = b"v 0\nd 5 6 5\nd 5 4 2\nd 1 6 15\nd 1 4 12\nd 5 6 5\nd 5 4 2\n";
+    assert!(rt; out.as_slice() == rows.as_slice());
+    let fault = Fault {
+        line: 2,
+        code: Code::NodeRange,
+    };
+    let mut unwritten = Vec::new(rt.alloc());
+    let faulty = b"p aux sp ss 1\ns 7\n".as_slice();
+    let outcome = table_text(&rt, rt.alloc(), SIX, sources, faulty, None, &mut unwritten);
+    assert!(rt; outcome == Err(Failed::Text { which: 2, fault }));
+    assert!(rt; unwritten.is_empty());
+}
+
+/// What is reached from a node, or reaches one, within a limit.
+const REACHES: [(Reach, Option<u64>, &str); 6] = [
+    (
+        Reach::From { source: 1 },
+        Some(10),
+        "v 0\nd 1 1 0\nd 1 2 10\nd 1 3 10\nd 1 5 10\n",
+    ),
+    (Reach::From { source: 1 }, Some(9), "v 0\nd 1 1 0\n"),
+    (
+        Reach::From { source: 5 },
+        None,
+        "v 0\nd 5 2 0\nd 5 3 2\nd 5 4 2\nd 5 5 0\nd 5 6 5\n",
+    ),
+    (
+        Reach::To { target: 4 },
+        Some(2),
+        "v 0\nd 2 4 2\nd 3 4 2\nd 4 4 0\nd 5 4 2\n",
+    ),
+    (
+        Reach::To { target: 6 },
+        None,
+        "v 0\nd 1 6 15\nd 2 6 5\nd 3 6 5\nd 4 6 3\nd 5 6 5\nd 6 6 0\n",
+    ),
+    (Reach::To { target: 7 }, None, "v 0\nno 24\n"),
+];
+
+#[test]
+fn nodes_that_are_reached(rt: HostRuntime) {
+    for (reach, limit, want) in REACHES {
+        let mut out = Vec::new(rt.alloc());
+        let outcome = reach_text(&rt, rt.alloc(), SIX, reach, limit, None, &mut out);
+        assert!(rt; is_done(&outcome, None), "{want}");
+        assert!(rt; out.as_slice() == want.as_bytes(), "{want}");
+    }
 }
 
 #[test]

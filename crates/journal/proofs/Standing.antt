@@ -3,7 +3,7 @@ use Rattle.std.proofs.Common.{◌≡◌, ℕ, ◌+◌, ◌<◌, Bool, true, fals
 use Rattle.std.specs.Prelude.{◌&&◌, ◌==◌}
 use Rattle.pages.specs.declared.header.Header.{Header}
 use Rattle.storefile.specs.StoreFile.{page, is_open, first_field, journal_page_at, is_standing}
-use Rattle.pagereader.specs.Numbers.{open_number}
+use Rattle.pages.specs.Gates.{open_number}
 
 -- so many pages of the file stand from this sequence on
 pub record Stand (file : List ℕ) (h : Header) (from count : ℕ) : Type 0 where

@@ -1,11 +1,11 @@
 ghost use Rattle.std.specs.Prelude.{◌≡◌, ◌*◌, ◌≤◌, ◌↔◌, All, length, OnOk};
-ghost use Rattle.disk.specs.Contents.{Only, failures_after};
-ghost use Rattle.disk.specs.Moments.{LeavesOnly};
+ghost use Rattle.disk.specs.Calling.{Writes};
+ghost use Rattle.disk.specs.Contents.{Only};
 ghost use Rattle.disk.specs.Gated.{IsWholeOrShut, with_page};
-ghost use Rattle.pages.specs.Spelling.{IsHeader, FitsRecord, body, entry_page};
+ghost use Rattle.pages.specs.Spelling.{FitsRecord, body, entry_page};
 ghost use Rattle.pages.specs.declared.content.Format.TheVariants.{Two as two};
 ghost use Rattle.roadnet.specs.Groups.{commands_of, count_of};
-ghost use Rattle.pages.specs.Layout.{page_count};
+ghost use Rattle.pagereader.specs.Reading.{HasFileOf};
 ghost use Rattle.storefile.specs.StoreFile.{journal_page_at};
 ghost use Rattle.pages.specs.Limits.{most_commands};
 
@@ -33,18 +33,14 @@ pub fn append_page<D: Disk>(
     first_number: u64,
     groups: &[Group],
 ) -> Result<(), DiskError>
-    requires header { IsHeader header.now }
+    requires file { HasFileOf D.Disk header.now disk.old }
     requires some { 1 ≤ length groups.now }
     requires few { count_of groups.now ≤ most_commands }
     requires fits { All (FitsRecord two) (commands_of groups.now) }
     requires at_rest { D.honest disk.old → Only (D.content disk.old) (D.left disk.old) }
-    requires whole { D.honest disk.old → length (D.content disk.old) ≡ 4096 * page_count header.now }
     ensures written { D.honest disk.old → OnOk result (D.content disk.new ≡ with_page (D.content disk.old) (4096 * journal_page_at header.now sequence) (body (entry_page (record { sequence = sequence; first_number = first_number; groups = groups.now })))) }
-    ensures at_rest { D.honest disk.old → OnOk result (Only (D.content disk.new) (D.left disk.new)) }
     // A stop at any moment of the call leaves the old page whole, the new one whole, or a closed gate.
-    ensures any_moment { D.honest disk.old → LeavesOnly D.moment D.left_since disk.old disk.new (IsWholeOrShut (D.content disk.old) (4096 * journal_page_at header.now sequence) (body (entry_page (record { sequence = sequence; first_number = first_number; groups = groups.now })))) }
-    ensures counted { D.failures disk.new ≡ failures_after result (D.failures disk.old) }
-    ensures honest { D.honest disk.new ↔ D.honest disk.old }
+    ensures writes { Writes D.Disk (IsWholeOrShut (D.content disk.old) (4096 * journal_page_at header.now sequence) (body (entry_page (record { sequence = sequence; first_number = first_number; groups = groups.now })))) result disk.old disk.new }
 {
     let page = encode_journal_page(sequence, first_number, groups);
     let body = body_of(&page);

@@ -1,8 +1,7 @@
 ghost use Rattle.std.specs.Prelude.{◌≡◌, ◌+◌, ◌-◌, ◌*◌, ◌<◌, ◌≤◌, ◌↔◌, length, IfOk};
-ghost use Rattle.disk.specs.Contents.{failures_after};
-ghost use Rattle.disk.specs.Moments.{StaysSame};
+ghost use Rattle.disk.specs.Calling.{Reads};
 ghost use Rattle.pages.specs.Spelling.{IsHeader};
-ghost use Rattle.pages.specs.Layout.{page_count};
+ghost use Rattle.pagereader.specs.Reading.{HasFileOf};
 ghost use Rattle.storefile.specs.StoreFile.{page, is_standing};
 ghost use Rattle.journal.specs.Places.{IsLongest};
 ghost use Rattle.pages.specs.Limits.{most_versions};
@@ -32,12 +31,9 @@ impl Model for Ring {
 
 // Whether the page at the place of this sequence is open and has it.
 fn is_standing<D: Disk>(disk: &mut D, header: &Header, sequence: u64) -> Result<bool, DiskError>
-    requires header { IsHeader header.now }
-    requires whole { D.honest disk.old → length (D.content disk.old) ≡ 4096 * page_count header.now }
+    requires file { HasFileOf D.Disk header.now disk.old }
     ensures answer { D.honest disk.old → IfOk result (λ answer. answer ≡ is_standing (page (D.content disk.old)) header.now sequence) }
-    ensures same { D.honest disk.old → StaysSame D.content D.left D.moment D.left_since disk.old disk.new }
-    ensures counted { D.failures disk.new ≡ failures_after result (D.failures disk.old) }
-    ensures honest { D.honest disk.new ↔ D.honest disk.old }
+    ensures reads { Reads D.Disk result disk.old disk.new }
 {
     match read_open_number(disk, header.journal_page(sequence))? {
         Some(found) => Ok(found == sequence),
@@ -49,16 +45,13 @@ impl Ring {
     /// Finds the pages that stand one after the other from this sequence on, by their gates and sequences alone: they are unchecked, and the
     /// page that is written next follows them. Nothing is changed.
     pub fn collect<D: Disk>(disk: &mut D, header: &Header, from: u64) -> Result<Ring, DiskError>
-        requires header { IsHeader header.now }
+        requires file { HasFileOf D.Disk header.now disk.old }
         requires from { from ≤ most_versions }
-        requires whole { D.honest disk.old → length (D.content disk.old) ≡ 4096 * page_count header.now }
         ensures longest { D.honest disk.old → IfOk result (λ ring. IsLongest (page (D.content disk.old)) header.now from (ring.next_sequence - from)) }
         ensures first { IfOk result (λ ring. ring.first_unchecked ≡ from) }
         ensures order { IfOk result (λ ring. from ≤ ring.next_sequence) }
         ensures journal_pages { IfOk result (λ ring. ring.journal_pages ≡ header.now.journal_pages) }
-        ensures same { D.honest disk.old → StaysSame D.content D.left D.moment D.left_since disk.old disk.new }
-        ensures counted { D.failures disk.new ≡ failures_after result (D.failures disk.old) }
-        ensures honest { D.honest disk.new ↔ D.honest disk.old }
+        ensures reads { Reads D.Disk result disk.old disk.new }
     {
         for count in 0..header.journal_pages {
             if !is_standing(disk, header, from + u64::from(count))? {

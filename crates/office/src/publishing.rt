@@ -169,4 +169,9 @@ impl<N: Naming, D: Disk> Office<N, D> {
     {
         self.publisher.reader()
     }
+
+    /// How many readers there are at this moment. They are let go without the office, so a moment later there may be fewer.
+    pub fn readers(&self) -> u64 {
+        self.publisher.readers()
+    }
 }

@@ -1,3 +1,4 @@
+pub mod Calls
 pub mod Outcomes
 pub mod Runs
 pub mod Unchanged

@@ -1,6 +1,5 @@
 ghost use Rattle.std.specs.Prelude.{◌≡◌, ◌+◌, ◌-◌, ◌*◌, ◌<◌, ◌≤◌, ◌^◌, ◌↔◌, [], IsTrue, length, take, drop, IfOk, OnOk};
-ghost use Rattle.disk.specs.Contents.{failures_after};
-ghost use Rattle.disk.specs.Moments.{StaysSame};
+ghost use Rattle.disk.specs.Calling.{Reads};
 ghost use Rattle.storefile.specs.StoreFile.{page};
 ghost use Rattle.pagereader.specs.Runs.{IsRunOf, Holds};
 
@@ -16,9 +15,7 @@ pub fn read_page<D: Disk>(disk: &mut D, k: u64, into: &mut [u8; PAGE_SIZE]) -> R
     requires fits { k < 2 ^ 52 }
     requires within { D.honest disk.old → 4096 * (k + 1) ≤ length (D.content disk.old) }
     ensures bytes { D.honest disk.old → OnOk result (into.new ≡ page (D.content disk.old) k) }
-    ensures same { D.honest disk.old → StaysSame D.content D.left D.moment D.left_since disk.old disk.new }
-    ensures counted { D.failures disk.new ≡ failures_after result (D.failures disk.old) }
-    ensures honest { D.honest disk.new ↔ D.honest disk.old }
+    ensures reads { Reads D.Disk result disk.old disk.new }
 {
     read_at(disk, k * PAGE_SIZE as u64, into)
 }
@@ -29,9 +26,7 @@ fn read_run<D: Disk>(disk: &mut D, k: u64, count: u64, buffer: &mut [u8]) -> Res
     requires room { 4096 * count ≤ length buffer.old }
     requires within { D.honest disk.old → 4096 * (k + count) ≤ length (D.content disk.old) }
     ensures bytes { D.honest disk.old → OnOk result (take (4096 * count) buffer.new ≡ take (4096 * count) (drop (4096 * k) (D.content disk.old))) }
-    ensures same { D.honest disk.old → StaysSame D.content D.left D.moment D.left_since disk.old disk.new }
-    ensures counted { D.failures disk.new ≡ failures_after result (D.failures disk.old) }
-    ensures honest { D.honest disk.new ↔ D.honest disk.old }
+    ensures reads { Reads D.Disk result disk.old disk.new }
 {
     read_at(
         disk,
@@ -99,9 +94,7 @@ impl PageReader {
         ensures from { OnOk result (self.new.first ≤ k) }
         ensures to { OnOk result (4096 * (k - self.new.first + 1) ≤ length self.new.bytes) }
         ensures run { D.honest disk.old → IsRunOf (D.content disk.old) self.new }
-        ensures same { D.honest disk.old → StaysSame D.content D.left D.moment D.left_since disk.old disk.new }
-        ensures counted { D.failures disk.new ≡ failures_after result (D.failures disk.old) }
-        ensures honest { D.honest disk.new ↔ D.honest disk.old }
+        ensures reads { Reads D.Disk result disk.old disk.new }
     {
         if self.holds(k) {
             return Ok(());
@@ -117,9 +110,7 @@ impl PageReader {
         ensures from { OnOk result (self.new.first ≤ k) }
         ensures to { OnOk result (4096 * (k - self.new.first + 1) ≤ length self.new.bytes) }
         ensures run { D.honest disk.old → IsRunOf (D.content disk.old) self.new }
-        ensures same { D.honest disk.old → StaysSame D.content D.left D.moment D.left_since disk.old disk.new }
-        ensures counted { D.failures disk.new ≡ failures_after result (D.failures disk.old) }
-        ensures honest { D.honest disk.new ↔ D.honest disk.old }
+        ensures reads { Reads D.Disk result disk.old disk.new }
     {
         let count = (end - k).min(PAGES_AT_ONCE as u64);
         self.first = k;
@@ -146,9 +137,7 @@ impl PageReader {
         ensures run { D.honest disk.old → IsRunOf (D.content disk.old) self.new }
         // The page stays held, so that it isn't read from the disk again.
         ensures kept { OnOk result (Holds self.new k) }
-        ensures same { D.honest disk.old → StaysSame D.content D.left D.moment D.left_since disk.old disk.new }
-        ensures counted { D.failures disk.new ≡ failures_after result (D.failures disk.old) }
-        ensures honest { D.honest disk.new ↔ D.honest disk.old }
+        ensures reads { Reads D.Disk result disk.old disk.new }
     {
         self.hold(disk, k, end)?;
         self.copy(k, into);

@@ -1,5 +1,6 @@
 -- Gates: the last byte of a header, of a slot's head and of a journal page.
-use Rattle.std.specs.Prelude.{◌≡◌, ℕ, ◌==◌, if◌then◌else◌}
+use Rattle.std.specs.Prelude.{◌≡◌, ℕ, ◌==◌, if◌then◌else◌, List, slice_index, Option, Some, None}
+use Rattle.byteorder.specs.Endian.{big_number}
 use Rattle.disk.specs.Gated.{open_byte}
 use Rattle.pages.specs.declared.gate.Gate.{Gate}
 use Rattle.pages.specs.declared.gate.Gate.TheVariants.{Open, Closed}
@@ -12,6 +13,10 @@ gate_of byte = if byte == open_byte then Open else Closed
 abbrev pub gate_byte : Gate → ℕ
 gate_byte Open = open_byte
 gate_byte Closed = 0
+
+-- the number at the front of a page, where its gate is open: the epoch of a slot's head, the sequence of a journal page
+abbrev pub open_number : List ℕ → Option ℕ
+open_number page = if slice_index page 4095 == open_byte then Some (big_number 8 page) else None
 
 -- A written gate is read again.
 abbrev pub GatesReadBack : Type 0

@@ -1,7 +1,8 @@
 ghost use Rattle.std.specs.Prelude.{◌≡◌, slice_index};
-ghost use Rattle.pages.specs.Gates.{gate_of, gate_byte};
+ghost use Rattle.pages.specs.Gates.{gate_of, gate_byte, open_number};
 
 use crate::writer::PAGE_SIZE;
+use byteorder::{BigEndian, ByteOrder};
 use disk::OPEN;
 
 /// The last byte of a header, of a slot's head or of a journal page: what stands before it counts only while its gate is open.
@@ -42,4 +43,14 @@ pub fn gate_of(page: &[u8; PAGE_SIZE]) -> Gate
     ensures { result ≡ gate_of (slice_index page.now 4095) }
 {
     Gate::of(page[GATE_AT])
+}
+
+/// The first eight bytes of a page as a number, where the page's gate is open: the epoch of a slot's head, the sequence of a journal page.
+pub fn open_number(page: &[u8; PAGE_SIZE]) -> Option<u64>
+    ensures { result ≡ open_number page.now }
+{
+    match gate_of(page) {
+        Gate::Open => Some(BigEndian::read_u64(page)),
+        Gate::Closed => None,
+    }
 }

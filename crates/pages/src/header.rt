@@ -1,7 +1,10 @@
-ghost use Rattle.std.specs.Prelude.{◌≡◌, IsTrue, ◌↔◌};
+ghost use Rattle.std.specs.Prelude.{◌≡◌, IsTrue, ◌↔◌, take, drop};
+ghost use Rattle.std.specs.Str.{bytes_eq};
+ghost use Rattle.byteorder.specs.Endian.{big_number};
 ghost use Rattle.pages.specs.Spelling.{body, header_page, Decodes, IsHeader, SpelledHeader};
 ghost use Rattle.pages.specs.Reading.{read_header};
 ghost use Rattle.pages.specs.Formats.{IsRoomFor, room_field, room_read};
+ghost use Rattle.pages.specs.Limits.{magic};
 
 use crate::content::Format;
 use crate::writer::{PAGE_SIZE, PageWriter, have_same_body};
@@ -10,6 +13,20 @@ use roadnet::{MOST_ARCS, MOST_NODES};
 
 /// The first bytes of a store.
 pub const MAGIC: [u8; 8] = *b"ROADMRK1";
+
+/// Whether the page begins as the first one of a store does, of whatever format.
+pub fn has_magic(page: &[u8; PAGE_SIZE]) -> bool
+    ensures { result ≡ bytes_eq (take 8 page.now) magic }
+{
+    page[..8] == MAGIC[..]
+}
+
+/// The number of the format, where the page is the first one of a store.
+pub fn format_of(page: &[u8; PAGE_SIZE]) -> u32
+    ensures { result ≡ big_number 4 (drop 8 page.now) }
+{
+    BigEndian::read_u32(&page[8..])
+}
 
 /// The format of a store, and its sizes: the nodes, the arcs that it was made with, for how many arcs there is room, and the pages of its
 /// journal.

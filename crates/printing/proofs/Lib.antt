@@ -8,3 +8,4 @@ pub mod PrintedLandmarks
 pub mod PrintedClosings
 pub mod ExportedTexts
 pub mod Restored
+pub mod Noded

@@ -6,3 +6,4 @@ pub mod Widths
 pub mod Chosen
 pub mod Looks
 pub mod Exports
+pub mod Nodes

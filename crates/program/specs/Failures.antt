@@ -9,8 +9,10 @@ use Rattle.printing.specs.declared.failed.Failed.{Failed}
 use Rattle.printing.specs.declared.failed.Failed.TheVariants.{Text, Code}
 use Rattle.words.specs.declared.pipes.PipePair.{PipePair}
 use Rattle.words.specs.Pipes.{named, AreTold}
+use Rattle.words.specs.declared.words.PairTexts.{PairTexts}
+use Rattle.words.specs.declared.words.PairTexts.TheVariants.{Listed, Table}
 use Rattle.words.specs.declared.words.Job.{Job}
-use Rattle.words.specs.declared.words.Job.TheVariants.{Joint, Once, Batch, Rehearse, Create, Apply, Ask, Check, Serve, Migrate, Copy, Upgrade, Show, Export}
+use Rattle.words.specs.declared.words.Job.TheVariants.{Joint, Once, Batch, Reach, Reached, Rehearse, Create, Apply, Ask, Check, Serve, Migrate, Copy, Upgrade, Show, Export}
 
 -- the failure is one of the call's first text
 abbrev pub is_of_first : Failed → Bool
@@ -22,7 +24,7 @@ abbrev pub is_of_second : Failed → Bool
 is_of_second (Text which fault) = which == 1
 is_of_second (Code refusal) = false
 
--- the failure is one of the call's third name: the file of a store that is made
+-- the failure is one of the call's third name: the file of a store, or of a third text
 abbrev pub is_of_third : Failed → Bool
 is_of_third (Text which fault) = which == 2
 is_of_third (Code refusal) = false
@@ -36,16 +38,23 @@ pipe_name store pairs (Code refusal) = store
 abbrev pub folder_name : List ℕ → Option (List ℕ) → List ℕ
 folder_name store copies = unwrap_or copies store
 
+-- the name of the text of pairs of which a failure is: that of the targets of a table where they are told of, else that of its sources
+abbrev pub pairs_name : PairTexts → Bool → List ℕ
+pairs_name (Listed pairs) of_targets = pairs.now
+pairs_name (Table sources targets) of_targets = if of_targets then targets.now else sources.now
+
 -- by what name a fault line calls the text of a failure
 abbrev pub text_name : Job → Failed → List ℕ
 text_name (Joint delta) failed = if is_of_first failed then codes "net" else codes "script"
 text_name (Once network source target delta) failed = network.now
-text_name (Batch network pairs delta) failed = if is_of_first failed then network.now else pairs.now
+text_name (Batch network pairs delta) failed = if is_of_first failed then network.now else pairs_name pairs (is_of_third failed)
+text_name (Reach network source within delta) failed = network.now
+text_name (Reached network target within delta) failed = network.now
 text_name (Rehearse network script journal_pages room delta) failed = if is_of_first failed then network.now else script.now
 text_name (Create store network landmarks journal_pages room) failed =
     if is_of_first failed then network.now else if is_of_second failed then landmarks.now else store.now
 text_name (Apply store commands delta) failed = if is_of_first failed then commands.now else store.now
-text_name (Ask store pairs delta) failed = if is_of_first failed then pairs.now else store.now
+text_name (Ask store pairs delta) failed = if is_of_third failed then store.now else pairs_name pairs (is_of_second failed)
 text_name (Check store) failed = store.now
 text_name (Serve store pipes copies delta workers) failed =
     if is_of_second failed then folder_name store.now (option_map (λ folder. folder.now) copies) else pipe_name store.now pipes.items failed
@@ -102,10 +111,24 @@ IsUnopened which failed = (failed ≡ unopened which) ⊎ (failed ≡ Code OutOf
 abbrev pub IsFaultOrUnopened : Failed → Type 0
 IsFaultOrUnopened failed = (is_of_first failed ≡ true) ⊎ IsUnopened 1 failed
 
+-- the failure is one of this text
+abbrev pub IsFaultOf : ℕ → Failed → Type 0
+IsFaultOf which (Text text fault) = text ≡ which
+IsFaultOf which (Code refusal) = ⊥
+
+-- the third text's file is not read, or one of the first two has a fault or is not read
+abbrev pub IsTableUnread : Failed → Type 0
+IsTableUnread failed = IsFaultOrUnopened failed ⊎ (IsFaultOf 1 failed ⊎ IsUnopened 2 failed)
+
 -- what is told of a store in this file, and of a text that is not read: that failure where the store opens, else a refusal of the store
 abbrev pub IsToldAfterOpening : List ℕ → Failed → Failed → Type 0
 IsToldAfterOpening file failed told =
     (StandsForSome file × (told ≡ failed)) ⊎ ((refusal : Refusal) × (told ≡ Code refusal) × MayRefuseToOpen file refusal)
+
+-- the same where a text stands before it, which is read for the store: its fault is told first
+abbrev pub IsToldAfterSources : List ℕ → Failed → Failed → Type 0
+IsToldAfterSources file failed told =
+    (StandsForSome file × (IsFaultOf 0 told ⊎ (told ≡ failed))) ⊎ ((refusal : Refusal) × (told ≡ Code refusal) × MayRefuseToOpen file refusal)
 
 -- there is no file for a new store: it can't be opened, its name can't be made durable, or memory ran out
 abbrev pub IsFileUnmade : Failed → Type 0

@@ -1,19 +1,19 @@
 //! The files of the program's jobs.
-ghost use Rattle.std.specs.Prelude.{◌≡◌, [], IfOk, IfErr};
+ghost use Rattle.std.specs.Prelude.{◌≡◌, ◌⊎◌, true, [], IfOk, IfErr};
 ghost use Rattle.std.specs.Io.Buffered.{reader_inner, reader_buffer, writer_inner, writer_buffer};
-ghost use Rattle.program.specs.Failures.{unopened, IsUnopened, IsFaultOrUnopened, IsFileUnmade};
+ghost use Rattle.program.specs.Failures.{unopened, is_of_first, IsFaultOf, IsUnopened, IsFaultOrUnopened, IsTableUnread, IsFileUnmade};
 
 use crate::patient::Patient;
-use dimacs::{Code, Fault, read_gr};
+use dimacs::{Code, Counted, Fault, read_gr, read_nodes_counted};
 use filedisk::{
     FileDisk, MadeFile, OpenError, SystemFile, create_file, open_file, open_to_read, why_unopened,
 };
-use printing::Failed;
+use printing::{Failed, of_text};
 use progress::{Progress, TellingDisk, TellingReader, TellingWriter};
 use roadnet::Refusal;
 use std::alloc::Global;
 use std::fs::{self, File, OpenFile};
-use std::io::{self, BufReader, BufWriter, Printer, Read, Write};
+use std::io::{self, BufRead, BufReader, BufWriter, Printer, Read, Write};
 use std::rt::Files;
 use std::time::Clock;
 use words::is_input;
@@ -182,6 +182,60 @@ pub fn open_texts<'a, R: AllocGlobal + Clock + Eprint + Files + Input>(
             Ok(_) => Err(failed),
             Err(fault) => Err(Failed::Text { which: 0, fault }),
         },
+    }
+}
+
+/// The first fault of the network and of the text of sources that follows it, or else that a third text can't be opened.
+fn fault_before<R: BufRead, Q: BufRead>(
+    alloc: Global,
+    gr: &mut R,
+    sources: &mut Q,
+    failed: Failed,
+) -> Failed
+    ensures { (is_of_first result ≡ true) ⊎ (IsFaultOf 1 result ⊎ (result ≡ failed)) }
+{
+    let network = match of_text(0, read_gr(alloc, gr)) {
+        Ok(network) => network,
+        Err(fault) => return fault,
+    };
+    fault_of_sources(alloc, network.nodes(), 1, sources, failed)
+}
+
+/// The first fault of the text `which`, of sources, or else that the text behind it can't be opened.
+pub fn fault_of_sources<Q: BufRead>(
+    alloc: Global,
+    nodes: u32,
+    which: u8,
+    sources: &mut Q,
+    failed: Failed,
+) -> Failed
+    ensures { IsFaultOf which result ⊎ (result ≡ failed) }
+{
+    let mut sources = Counted::new(sources);
+    match of_text(which, read_nodes_counted(alloc, &mut sources, nodes)) {
+        Ok(_) => failed,
+        Err(fault) => fault,
+    }
+}
+
+/// The files of a network, and of the sources and the targets of a table.
+type TableReaders<'a, R> = (TextReader<'a, R>, TextReader<'a, R>, TextReader<'a, R>);
+
+/// The files of a network, and of the sources and the targets of a table. Where one of the last two can't be opened, a fault of a text before it is
+/// still told first.
+pub fn open_table<'a, R: AllocGlobal + Clock + Eprint + Files + Input>(
+    rt: &'a R,
+    progress: &'a Progress<'a, R>,
+    network: &'a str,
+    sources: &'a str,
+    targets: &'a str,
+) -> Result<TableReaders<'a, R>, Failed>
+    ensures { IfErr result IsTableUnread }
+{
+    let (mut gr, mut sources) = open_texts(rt, progress, network, sources)?;
+    match open_text(rt, progress, 2, targets) {
+        Ok(targets) => Ok((gr, sources, targets)),
+        Err(failed) => Err(fault_before(rt.alloc(), &mut gr, &mut sources, failed)),
     }
 }
 

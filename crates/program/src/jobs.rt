@@ -5,15 +5,18 @@ ghost use Rattle.rows.specs.Kept.{IsWidth};
 ghost use Rattle.words.specs.Words.{IsJournal};
 ghost use Rattle.printing.specs.Widths.{told_width};
 
-use crate::files::{open_text, open_texts, standard_input, standard_output, told_output};
+use crate::files::{
+    open_table, open_text, open_texts, standard_input, standard_output, told_output,
+};
 use dimacs::Counted;
 use printing::{CountedWriter, Done, Failed};
 use progress::Progress;
-use querytexts::{batch_counted, once_counted};
+use querytexts::{Reach, batch_counted, once_counted, reach_counted, table_counted};
 use rehearsals::{joint_text, rehearse_counted};
 use std::rt::Files;
 use std::thread::Threads;
 use std::time::Clock;
+use words::PairTexts;
 
 /// The joint form on standard input.
 pub fn run_joint<R: AllocGlobal + Clock + Input + Print + Threads>(
@@ -55,8 +58,35 @@ pub fn run_once<R: AllocGlobal + Clock + Eprint + Files + Input + Print + Thread
     )
 }
 
+/// The nodes that walks from a node reach, or from which they reach it, in the network of a file.
+pub fn run_reach<R: AllocGlobal + Clock + Eprint + Files + Input + Print + Threads>(
+    rt: &R,
+    progress: &Progress<'_, R>,
+    network: &str,
+    reach: Reach,
+    within: Option<u64>,
+    delta: Option<u32>,
+) -> Result<Done, Failed>
+    requires { ForSome delta IsWidth }
+    ensures { IfOk result (λ done. told_width done ≡ delta) }
+{
+    let mut reader = open_text(rt, progress, 0, network)?;
+    let mut writer = told_output(rt, progress)?;
+    let mut reader = Counted::new(&mut reader);
+    let mut writer = CountedWriter::new(&mut writer);
+    reach_counted(
+        rt,
+        rt.alloc(),
+        &mut reader,
+        reach,
+        within,
+        delta,
+        &mut writer,
+    )
+}
+
 /// The pairs of a file in the network of another.
-pub fn run_batch<R: AllocGlobal + Clock + Eprint + Files + Input + Print + Threads>(
+fn run_pairs<R: AllocGlobal + Clock + Eprint + Files + Input + Print + Threads>(
     rt: &R,
     progress: &Progress<'_, R>,
     network: &str,
@@ -72,6 +102,54 @@ pub fn run_batch<R: AllocGlobal + Clock + Eprint + Files + Input + Print + Threa
     let mut p2p = Counted::new(&mut p2p);
     let mut writer = CountedWriter::new(&mut writer);
     batch_counted(rt, rt.alloc(), &mut gr, &mut p2p, delta, &mut writer)
+}
+
+/// The pairs between the nodes of two files in the network of another.
+fn run_table<R: AllocGlobal + Clock + Eprint + Files + Input + Print + Threads>(
+    rt: &R,
+    progress: &Progress<'_, R>,
+    network: &str,
+    sources: &str,
+    targets: &str,
+    delta: Option<u32>,
+) -> Result<Done, Failed>
+    requires { ForSome delta IsWidth }
+    ensures { IfOk result (λ done. told_width done ≡ delta) }
+{
+    let (mut gr, mut sources, mut targets) = open_table(rt, progress, network, sources, targets)?;
+    let mut writer = told_output(rt, progress)?;
+    let mut gr = Counted::new(&mut gr);
+    let mut sources = Counted::new(&mut sources);
+    let mut targets = Counted::new(&mut targets);
+    let mut writer = CountedWriter::new(&mut writer);
+    table_counted(
+        rt,
+        rt.alloc(),
+        &mut gr,
+        &mut sources,
+        &mut targets,
+        delta,
+        &mut writer,
+    )
+}
+
+/// Pairs in the network of a file.
+pub fn run_batch<R: AllocGlobal + Clock + Eprint + Files + Input + Print + Threads>(
+    rt: &R,
+    progress: &Progress<'_, R>,
+    network: &str,
+    pairs: PairTexts<'_>,
+    delta: Option<u32>,
+) -> Result<Done, Failed>
+    requires { ForSome delta IsWidth }
+    ensures { IfOk result (λ done. told_width done ≡ delta) }
+{
+    match pairs {
+        PairTexts::Listed { pairs } => run_pairs(rt, progress, network, pairs, delta),
+        PairTexts::Table { sources, targets } => {
+            run_table(rt, progress, network, sources, targets, delta)
+        }
+    }
 }
 
 /// The script of a file, on a store in memory for the network of another, with room for so many arcs.

@@ -10,7 +10,7 @@ ghost use Rattle.std.specs.Prelude.{◌≡◌, ◌≢◌, ◌≤◌, Some, is_ok
 ghost use Rattle.std.specs.Option.{ForSome};
 ghost use Rattle.std.specs.IoError.{error_kind};
 ghost use Rattle.rows.specs.Kept.{IsWidth};
-ghost use Rattle.program.specs.Failures.{text_name, folder_name, pipe_name, opened_store, made_store, refused_file};
+ghost use Rattle.program.specs.Failures.{text_name, folder_name, pairs_name, pipe_name, opened_store, made_store, refused_file};
 ghost use Rattle.words.specs.Pipes.{AreFit};
 ghost use Rattle.words.specs.Words.{IsJournal, IsWorkers, delta_of, journal_of, pipes_of, workers_of, searched_width};
 ghost use Rattle.printing.specs.Widths.{told_width, told_workers};
@@ -30,10 +30,10 @@ pub use copies::copy_store;
 pub use doors::{FileNames, doors_of, see_pipes};
 pub use filedisk::FileDisk;
 use files::FIRST_PIPE;
-use jobs::{run_batch, run_joint, run_once, run_rehearse};
+use jobs::{run_batch, run_joint, run_once, run_reach, run_rehearse};
 pub use printing::{Done, Failed, Look, fault_line, status};
 use progress::Progress;
-pub use querytexts::{batch_text, once_text};
+pub use querytexts::{Reach, batch_text, once_text, reach_text, table_text};
 pub use rehearsals::{joint_text, rehearse_text};
 use roadnet::Refusal;
 pub use scripts::parse_script;
@@ -53,11 +53,12 @@ use store_jobs::{
     run_upgrade,
 };
 pub use storetexts::{
-    apply_text, ask_text, check_text, copy_text, create_text, export_text, migrate_text, show_text,
+    apply_text, ask_table_text, ask_text, check_text, copy_text, create_text, export_text,
+    migrate_text, show_text,
 };
 use streams::{Streams, hold_streams};
 use words::pipe_at;
-pub use words::{Asked, Job, MISUSE, Misfit, PipePair, Usage, read_words};
+pub use words::{Asked, Job, MISUSE, Misfit, PairTexts, PipePair, Usage, read_words};
 
 /// The pairs of pipes by which clients of a server may come; of another job none.
 fn pipes_of<'a, 'w>(job: &'a Job<'w>) -> &'a [PipePair<'w>]
@@ -106,6 +107,18 @@ where
             pairs,
             delta,
         } => run_batch(rt, progress, network, pairs, delta),
+        Job::Reach {
+            network,
+            source,
+            within,
+            delta,
+        } => run_reach(rt, progress, network, Reach::From { source }, within, delta),
+        Job::Reached {
+            network,
+            target,
+            within,
+            delta,
+        } => run_reach(rt, progress, network, Reach::To { target }, within, delta),
         Job::Rehearse {
             network,
             script,
@@ -179,6 +192,16 @@ fn folder_name<'w>(store: &'w str, copies: Option<&'w str>) -> &'w str
     }
 }
 
+/// The name of the text of pairs of which a failure is.
+fn pairs_name<'w>(pairs: PairTexts<'w>, of_targets: bool) -> &'w str
+    ensures { result.now ≡ pairs_name pairs of_targets }
+{
+    match pairs {
+        PairTexts::Listed { pairs } => pairs,
+        PairTexts::Table { sources, targets } => { if of_targets { targets } else { sources } }
+    }
+}
+
 /// By what name a fault line calls the text of a failure.
 fn text_name<'w>(job: &Job<'w>, failed: &Failed) -> &'w str
     ensures { result.now ≡ text_name job.now failed.now }
@@ -188,8 +211,15 @@ fn text_name<'w>(job: &Job<'w>, failed: &Failed) -> &'w str
     let is_third = matches!(failed, Failed::Text { which: 2, fault: _ });
     match *job {
         Job::Joint { delta: _ } => { if is_first { "net" } else { "script" } }
-        Job::Once { network, .. } => network,
-        Job::Batch { network, pairs, .. } => { if is_first { network } else { pairs } }
+        Job::Once { network, .. } | Job::Reach { network, .. } | Job::Reached { network, .. } =>
+            network,
+        Job::Batch { network, pairs, .. } => {
+            if is_first {
+                network
+            } else {
+                pairs_name(pairs, is_third)
+            }
+        }
         Job::Rehearse {
             network,
             script,
@@ -214,7 +244,13 @@ fn text_name<'w>(job: &Job<'w>, failed: &Failed) -> &'w str
             commands,
             ..
         } => { if is_first { commands } else { store } }
-        Job::Ask { store, pairs, .. } => { if is_first { pairs } else { store } }
+        Job::Ask { store, pairs, .. } => {
+            if is_third {
+                store
+            } else {
+                pairs_name(pairs, is_second)
+            }
+        }
         Job::Check { store } => store,
         Job::Serve {
             store,
@@ -269,6 +305,8 @@ fn opened_store<'w>(job: &Job<'w>) -> Option<&'w str>
         Job::Joint { .. }
         | Job::Once { .. }
         | Job::Batch { .. }
+        | Job::Reach { .. }
+        | Job::Reached { .. }
         | Job::Rehearse { .. }
         | Job::Create { .. } => None,
     }

@@ -3,14 +3,14 @@ ghost use Rattle.std.specs.Prelude.{◌≡◌, None, IfOk};
 ghost use Rattle.std.specs.Option.{ForSome};
 ghost use Rattle.rows.specs.Kept.{IsWidth};
 ghost use Rattle.std.specs.Bool.{Decides};
-ghost use Rattle.program.specs.Failures.{IsStoreMade, IsToldAfterOpening};
+ghost use Rattle.program.specs.Failures.{IsStoreMade, IsToldAfterOpening, IsToldAfterSources};
 ghost use Rattle.words.specs.Words.{IsJournal};
 ghost use Rattle.printing.specs.Widths.{told_width};
 
 use crate::exports::{TextFiles, open_folder};
 use crate::files::{
-    create_store_file, open_base_store, open_old_store, open_store, open_store_to_read, open_text,
-    open_texts, standard_output, told_output,
+    create_store_file, fault_of_sources, open_base_store, open_old_store, open_store,
+    open_store_to_read, open_text, open_texts, standard_output, told_output,
 };
 use dimacs::Counted;
 use disk::Disk;
@@ -21,15 +21,16 @@ use progress::Progress;
 use roadnet::Refusal;
 use std::alloc::Global;
 use std::fs::File;
-use std::io::Write;
+use std::io::{BufRead, Write};
 use std::rt::Files;
 use std::thread::Threads;
 use std::time::Clock;
 use store::{Store, open};
 use storetexts::{
-    apply_counted, ask_counted, check_counted, copy_counted, create_store, make_upgraded,
-    migrate_counted, read_maps, read_planned, show_counted, upgrade_stored,
+    apply_counted, ask_counted, ask_table_counted, check_counted, copy_counted, create_store,
+    make_upgraded, migrate_counted, read_maps, read_planned, show_counted, upgrade_stored,
 };
+use words::PairTexts;
 
 /// Whether a store that was to be made is there: all was done, or only its line could not be told.
 fn is_store_made(outcome: &Result<(), Failed>) -> bool
@@ -206,9 +207,63 @@ pub fn run_apply<R: AllocGlobal + Clock + Eprint + Files<File = File> + Input + 
     Ok(Done::without_search())
 }
 
+/// The failure of a text that stands behind another in a call on a store: a refusal of the store is told before it, and then a fault of the text of
+/// sources.
+fn after_sources<D: Disk + Drop, R: BufRead>(
+    alloc: Global,
+    disk: D,
+    sources: &mut R,
+    failed: Failed,
+) -> Failed
+    ensures { D.honest disk → IsToldAfterSources (D.content disk) failed result }
+{
+    match open(alloc, disk) {
+        Ok(store) => fault_of_sources(alloc, store.network().nodes(), 0, sources, failed),
+        Err((refusal, _)) => Failed::Code(refusal),
+    }
+}
+
+/// The pairs between the nodes of two files in the network of a store, which is read alone and stays as it is. A fault of the store is told before one of
+/// the texts, and one of the sources before one of the targets.
+fn run_ask_table<R: AllocGlobal + Clock + Eprint + Files<File = File> + Input + Print + Threads>(
+    rt: &R,
+    progress: &Progress<'_, R>,
+    store: &str,
+    sources: &str,
+    targets: &str,
+    delta: Option<u32>,
+) -> Result<Done, Failed>
+    requires { ForSome delta IsWidth }
+    ensures { IfOk result (λ done. told_width done ≡ delta) }
+{
+    let disk = open_store_to_read(rt, progress, store)?;
+    let mut from = match open_text(rt, progress, 0, sources) {
+        Ok(from) => from,
+        Err(failed) => return Err(after_opening(rt.alloc(), disk, failed)),
+    };
+    let mut to = match open_text(rt, progress, 1, targets) {
+        Ok(to) => to,
+        Err(failed) => return Err(after_sources(rt.alloc(), disk, &mut from, failed)),
+    };
+    let mut writer = told_output(rt, progress)?;
+    let mut from = Counted::new(&mut from);
+    let mut to = Counted::new(&mut to);
+    let mut writer = CountedWriter::new(&mut writer);
+    let (outcome, _disk) = ask_table_counted(
+        rt,
+        rt.alloc(),
+        disk,
+        &mut from,
+        &mut to,
+        delta,
+        &mut writer,
+    );
+    outcome
+}
+
 /// The pairs of a file in the network of a store, which is read alone and stays as it is. A fault of the store is told before one of the
 /// pairs.
-pub fn run_ask<R: AllocGlobal + Clock + Eprint + Files<File = File> + Input + Print + Threads>(
+fn run_ask_pairs<R: AllocGlobal + Clock + Eprint + Files<File = File> + Input + Print + Threads>(
     rt: &R,
     progress: &Progress<'_, R>,
     store: &str,
@@ -228,6 +283,25 @@ pub fn run_ask<R: AllocGlobal + Clock + Eprint + Files<File = File> + Input + Pr
     let mut writer = CountedWriter::new(&mut writer);
     let (outcome, _disk) = ask_counted(rt, rt.alloc(), disk, &mut p2p, delta, &mut writer);
     outcome
+}
+
+/// Pairs in the network of a store, which is read alone and stays as it is.
+pub fn run_ask<R: AllocGlobal + Clock + Eprint + Files<File = File> + Input + Print + Threads>(
+    rt: &R,
+    progress: &Progress<'_, R>,
+    store: &str,
+    pairs: PairTexts<'_>,
+    delta: Option<u32>,
+) -> Result<Done, Failed>
+    requires { ForSome delta IsWidth }
+    ensures { IfOk result (λ done. told_width done ≡ delta) }
+{
+    match pairs {
+        PairTexts::Listed { pairs } => run_ask_pairs(rt, progress, store, pairs, delta),
+        PairTexts::Table { sources, targets } => {
+            run_ask_table(rt, progress, store, sources, targets, delta)
+        }
+    }
 }
 
 /// How the store of a file stands. The file is read alone and stays as it is.

@@ -46,7 +46,7 @@ fn copies_of_a_served_store(rt: HostRuntime) -> Result<(), Fail> {
     let told = "v 1\nd 1 6 22\nx 6 1\n";
     is_done(&rt, folder.as_str(), "ask copies/empty six.p2p", told);
     let told =
-        "state shown 1 durable 1 accepted 1 pending 0 unchecked 0 pages 1 landmarks 2 left 16777216 flusher on builder on\nno 1\nok 2\n";
+        "state shown 1 durable 1 accepted 1 pending 0 unchecked 0 pages 1 landmarks 2 readers 0 left 16777216 flusher on builder on\nno 1\nok 2\n";
     let lines = "state\ncopy a\nreopen 7\n";
     ends(
         &rt,

@@ -121,6 +121,7 @@ fn words_on_texts(rt: HostRuntime) -> Result<(), Fail> {
     let name = format!(in rt.alloc(); "roadmark-texts-{id}")?;
     let folder = new_folder(&rt, name.as_str())?;
     let pairs = "v 0\nd 1 6 15\nx 6 1\n";
+    let table_of_six = "v 0\nd 6 6 0\nx 6 3\nd 3 6 5\nd 3 3 0\n";
     let rehearsed = "t 1\nok 1\nt 2\nok 2\nt 3\nok 3\n";
     let full = "t 1\nok 1\nt 2\nok 2\nt 3\nno 44\n";
     let table = [
@@ -129,6 +130,17 @@ fn words_on_texts(rt: HostRuntime) -> Result<(), Fail> {
         ("once six.gr 1 7 --delta 3", "v 0\nno 24\n"),
         ("batch six.gr six.p2p", pairs),
         ("batch --delta=2147483647 six.gr six.p2p", pairs),
+        ("batch six.gr --from six.ss --to six.ss", table_of_six),
+        (
+            "reach six.gr 1 --within 10",
+            "v 0\nd 1 1 0\nd 1 2 10\nd 1 3 10\nd 1 5 10\n",
+        ),
+        (
+            "reached six.gr 4 --within 2 --delta 3",
+            "v 0\nd 2 4 2\nd 3 4 2\nd 4 4 0\nd 5 4 2\n",
+        ),
+        ("reach six.gr 6", "v 0\nd 6 6 0\n"),
+        ("reached six.gr 7", "v 0\nno 24\n"),
         ("rehearse six.gr six.script", rehearsed),
         ("rehearse six.gr six.script --journal 2 --delta=1", full),
         (
@@ -178,6 +190,14 @@ fn texts_on_standard_input(rt: HostRuntime) -> Result<(), Fail> {
             "p aux sp p2p 1\nq 1 6\n",
             (0, "v 1\nd 1 6 22\n", ""),
         ),
+        (
+            "batch six.gr --from six.ss --to -",
+            "p aux sp ss 1\ns 6\n",
+            (0, "v 0\nd 6 6 0\nd 3 6 5\n", ""),
+        ),
+        ("reached - 1", SIX, (0, "v 0\nd 1 1 0\n", "")),
+        ("batch six.gr --from - --to none", "x\n", (1, "", faulty)),
+        ("ask six.store --from - --to none", "x\n", (1, "", faulty)),
         ("once - 1 6", "x\n", (1, "", faulty)),
         ("batch six.gr -", "x\n", (1, "", faulty)),
         ("apply six.store -", "x\n", (1, "", faulty)),
@@ -210,6 +230,10 @@ fn words_on_stores(rt: HostRuntime) -> Result<(), Fail> {
         (ask, "v 2\nd 1 6 14\nx 6 1\n"),
         (apply, "no 22\nno 20\nok 3\n"),
         ("ask --delta 1 six.store six.p2p", "v 3\nd 1 6 14\nx 6 1\n"),
+        (
+            "ask six.store --from six.ss --to six.ss",
+            "v 3\nd 6 6 0\nx 6 3\nd 3 6 4\nd 3 3 0\n",
+        ),
         ("create --journal 2 small.store six.gr six.ss", "ok 0\n"),
     ];
     for (words, out) in table {
@@ -244,7 +268,7 @@ const NO_FILE: &str = "roadmark: .: line 0: 10 Read\n";
 const DEVICE: &str = "roadmark: /dev/null: line 0: 10 Read\n";
 
 /// Words on files that are absent or at fault, and what is told of them.
-const FAULTS: [(&str, &str); 26] = [
+const FAULTS: [(&str, &str); 32] = [
     ("once none 1 6", ABSENT),
     ("once bad.gr 1 6", BAD_NETWORK),
     ("once . 1 6", UNREAD),
@@ -252,6 +276,12 @@ const FAULTS: [(&str, &str); 26] = [
     ("batch bad.gr none", BAD_NETWORK),
     ("batch six.gr none", ABSENT),
     ("batch six.gr .", UNREAD),
+    ("batch bad.gr --from bad.ss --to none", BAD_NETWORK),
+    ("batch six.gr --from bad.ss --to none", BAD_LANDMARKS),
+    ("batch six.gr --from six.ss --to bad.ss", BAD_LANDMARKS),
+    ("batch six.gr --from six.ss --to none", ABSENT),
+    ("reach none 1", ABSENT),
+    ("reached bad.gr 1", BAD_NETWORK),
     ("rehearse six.gr bad.script", BAD_SCRIPT),
     ("rehearse bad.gr bad.script", BAD_NETWORK),
     ("rehearse six.gr .", UNREAD),

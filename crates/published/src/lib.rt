@@ -6,6 +6,7 @@ mod published;
 mod publishers;
 mod readers;
 mod rules;
+mod seats;
 mod shown;
 
 pub use published::Published;

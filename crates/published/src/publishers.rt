@@ -7,6 +7,7 @@ ghost use Rattle.published.specs.Rules.{Follows, last_of};
 use crate::published::Published;
 use crate::readers::Reader;
 use crate::rules::{Names, Sees, Shows};
+use crate::seats::Seat;
 use crate::shown::Shown;
 use core::mem::replace_with;
 use history::Front;
@@ -15,11 +16,14 @@ use roadnet::{OutOfMemory, Refusal};
 use std::alloc::{AllocError, Global};
 use std::marker::Model;
 use std::mem::ManuallyDrop;
+use std::sync::atomic::{AtomicU64, Ordering};
 use std::sync::{Arc, Wait};
 
 /// What shows views to readers. Contracts see it as the groups of what is shown, with its view.
 pub struct Publisher {
     writer: Copies,
+    /// How many readers there are.
+    taken: Arc<AtomicU64>,
 }
 
 impl Model for Publisher {
@@ -90,13 +94,16 @@ impl Publisher {
         let Ok(view) = Arc::try_clone(&first.view) else {
             return Err(OutOfMemory);
         };
+        let Ok(taken) = Arc::new(alloc, AtomicU64::new(0)) else {
+            return Err(OutOfMemory);
+        };
         let second = Published::new(view, first.groups.again());
         let Ok(writer) = Writer::new(alloc, first, second, READERS) else {
             return Err(OutOfMemory);
         };
         let (writer, seen) = writer.publish_as::<Sees, R>(rt);
         match seen {
-            Ok(()) => Ok(Publisher { writer }),
+            Ok(()) => Ok(Publisher { writer, taken }),
             Err(_) => {
                 writer.take(rt);
                 Err(OutOfMemory)
@@ -134,6 +141,9 @@ impl Publisher {
         ensures reader { IfOk result (λ reader. (reader.origin ≡ self.old.shown.origin) × (reader.groups ≡ [])) }
         ensures causes { IfErr result (λ refusal. refusal ≡ no_reader_place) }
     {
+        let Ok(seat) = Seat::take(&self.taken) else {
+            return Err(Refusal::NoReaderPlace);
+        };
         let Ok(mut reader) = self.writer.factory().reader() else {
             return Err(Refusal::NoReaderPlace);
         };
@@ -142,12 +152,18 @@ impl Publisher {
             reader,
             seen: self.writer.published().groups.first(0),
             learned: None,
+            _seat: seat,
         })
+    }
+
+    /// How many readers there are at this moment. They come and go without the publisher, so a moment later there may be others.
+    pub fn readers(&self) -> u64 {
+        self.taken.load(Ordering::SeqCst)
     }
 
     /// Ends the copy, once its readers have left it. They can't enter it any more.
     pub fn close<R: Wait>(self, rt: &R) {
-        let Publisher { writer } = self;
+        let Publisher { writer, taken: _ } = self;
         writer.take(rt);
     }
 }
@@ -155,7 +171,7 @@ impl Publisher {
 /// A publisher that is let go without `close` leaks its copies: only `close` may wait for their readers.
 impl Drop for Publisher {
     fn drop(self) {
-        let Publisher { writer } = self;
+        let Publisher { writer, taken: _ } = self;
         let _leaked = unsafe { ManuallyDrop::new_unchecked(writer) };
     }
 }

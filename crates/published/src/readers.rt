@@ -8,6 +8,7 @@ ghost use Rattle.published.specs.Rules.{Follows};
 
 use crate::published::Published;
 use crate::rules::{Sees, Shows};
+use crate::seats::Seat;
 use crate::shown::Shown;
 use core::mem::replace_with;
 use history::Front;
@@ -27,6 +28,8 @@ pub struct Reader {
     pub(crate) seen: Front,
     /// What it has learned since, where that is longer.
     pub(crate) learned: Option<Front>,
+    /// Its place, as long as it is there.
+    pub(crate) _seat: Seat,
 }
 
 impl Model for Reader {

@@ -1,2 +1,4 @@
 pub mod Batched
 pub mod Unanswered
+pub mod Tabled
+pub mod Reached

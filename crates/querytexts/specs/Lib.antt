@@ -1,2 +1,4 @@
 pub mod Once
 pub mod Batch
+pub mod Table
+pub mod Reach

@@ -1,10 +1,12 @@
 -- The potential of landmarks: what their rows tell of the ways from each node to a target.
-use Rattle.std.specs.Prelude.{◌≡◌, ℕ, List, Option, max, fold, map, unwrap_or, All}
+use Rattle.std.specs.Prelude.{◌≡◌, ℕ, List, Option, Some, max, fold, map, unwrap_or, All}
 use Rattle.roadnet.specs.Net.{Net, IsNode}
-use Rattle.roadnet.specs.Walks.{RowOf}
+use Rattle.roadnet.specs.Walks.{RowOf, distance_at}
 use Rattle.snapshot.specs.Groups.{Groups, IsSnapshotOf, IsGrouped}
 use Rattle.deltastep.specs.Guided.{IsConsistent}
-use Rattle.rows.specs.Bounds.{told_by}
+use Rattle.deltastep.specs.Words.{distance_of_short}
+use Rattle.rows.specs.Bounds.{difference_of, told_by}
+use Rattle.rows.specs.declared.guides.Toward.{Toward}
 use Rattle.rows.specs.declared.landmark_rows.Row.{Row}
 
 -- by how much the landmark's way to the target is longer than its way to u, or 0 where it is not, or where it leads to one of them alone
@@ -14,6 +16,17 @@ potential_by row target u = unwrap_or (told_by row u target) 0
 -- the greatest of these, or 0 where there is no row
 abbrev pub potential_of : List Row → ℕ → ℕ → ℕ
 potential_of rows target u = fold max 0 (map (λ row. potential_by row.distances target u) rows)
+
+-- the same by the words of a row, and the length of the way to the target
+abbrev pub told_toward : Toward → ℕ → ℕ
+told_toward toward u = unwrap_or (difference_of (distance_at (map distance_of_short toward.words.now) u) (Some toward.to_target)) 0
+
+abbrev pub potential_toward : List Toward → ℕ → ℕ
+potential_toward towards u = fold max 0 (map (λ toward. told_toward toward u) towards)
+
+-- these tell of each node what the rows tell
+abbrev pub AreAlike : List Toward → List Row → ℕ → Type 0
+AreAlike towards rows target = (u : ℕ) → potential_toward towards u ≡ potential_of rows target u
 
 -- each is the row of its landmark
 abbrev pub AreRowsOf : Net → List Row → Type 0

@@ -123,7 +123,13 @@ fn repaired_rows_are_plain(rt: HostRuntime) -> Result<(), Refusal> {
     Ok(())
 }
 
-/// Three nodes in a round of zeros, to which arc 1 leads, lose their walk when it is closed, and get another one by an arc that is laid.
+/// The command that gives an arc another length.
+fn set(arc: u64, length: u64) -> Command {
+    Command::Set { arc, length }
+}
+
+/// Three nodes in a round of zeros, to which arc 1 leads, lose their walk when it is closed, and get another one by an arc that is laid. Then an arc
+/// on no least walk changes, which leaves the row as it is, one on some, and one that opens a shorter way.
 #[test]
 fn a_round_of_zeros_keeps_nothing(rt: HostRuntime) -> Result<(), Refusal> {
     let alloc = rt.alloc();
@@ -137,7 +143,8 @@ fn a_round_of_zeros_keeps_nothing(rt: HostRuntime) -> Result<(), Refusal> {
         head: 3,
         length: 1,
     };
-    for command in [Command::Close { arc: 1 }, lay, Command::Reopen { arc: 1 }] {
+    let (close, reopen) = (Command::Close { arc: 1 }, Command::Reopen { arc: 1 });
+    for command in [close, lay, reopen, set(6, 2), set(1, 20), set(1, 3)] {
         let before = now.copy()?;
         now.apply(command)?;
         assert!(rt;

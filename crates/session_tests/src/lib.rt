@@ -16,4 +16,8 @@ mod many;
 #[cfg(test)]
 mod memory;
 #[cfg(test)]
+mod nearby;
+#[cfg(test)]
 mod serving;
+#[cfg(test)]
+mod supposing;

@@ -27,7 +27,7 @@ const LOOKS: [(&[u8], Found, &[u8]); 8] = [
     (
         b"until 0\nclose 7\nuntil 1\ndist 1 6\nstate\n",
         Found::Serving,
-        b"v 0\nok 1\nv 1\nv 1\nd 1 6 22\nstate shown 1 durable 1 accepted 1 pending 0 unchecked 1 pages 64 landmarks 0 left 16777215 flusher on builder on\n",
+        b"v 0\nok 1\nv 1\nv 1\nd 1 6 22\nstate shown 1 durable 1 accepted 1 pending 0 unchecked 1 pages 64 landmarks 0 readers 1 left 16777215 flusher on builder on\n",
     ),
     (
         b"arc\narc 1 2\narc x\narc -1\narcs 1\nlandmarks 1\nclosed 7\nuntil\nuntil 9223372036854775808\nstate 1\nlandmark\nlandmarkss\n",

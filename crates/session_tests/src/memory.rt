@@ -93,10 +93,11 @@ fn a_desk_that_finds_no_memory(rt: HostRuntime) -> Result<(), Fail> {
     Ok(())
 }
 
-const LINES: &[u8] = b"dist 1 6\ndist 2 6\nclose\ndist 5 1\nwait\ndist 3 4\nlower 1 6\ndist 1 6\n";
+const LINES: &[u8] =
+    b"dist 1 6\ndist 2 6\nclose\ndist 5 1\nwait\ndist 3 4\nlower 1 6\ndist 1 6\ntable 1 2 1 6 4\nreach 1 9\nreached 1 3\nnearest 1 1\n";
 
 /// The answers to these lines, where memory is there for each.
-const ANSWERS: [&[u8]; 8] = [
+const ANSWERS: [&[u8]; 12] = [
     b"v 0\nd 1 6 15\n",
     b"v 0\nd 2 6 5\n",
     b"no 1\n",
@@ -105,6 +106,10 @@ const ANSWERS: [&[u8]; 8] = [
     b"v 0\nd 3 4 2\n",
     b"v 0\nb 1 6 0\n",
     b"v 0\nd 1 6 15\n",
+    b"v 0\nd 1 6 15\nd 1 4 12\n",
+    b"v 0\nreach 1 1\nd 1 1 0\n",
+    b"v 0\nreached 1 1\nd 1 1 0\n",
+    b"v 0\nnearest 1 0\n",
 ];
 
 /// How many answers are that no memory was there, where all others are right.

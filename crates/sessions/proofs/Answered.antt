@@ -18,26 +18,36 @@ use Rattle.history.proofs.Beginnings.{at_more, at_less, acknowledged_more, prefi
 use Rattle.machine.specs.declared.calls.Ticket.{Ticket}
 use Rattle.machine.specs.Laws.{IsAt}
 use Rattle.desk.specs.Readings.{Reading, IsViewAfter, IsNoReader}
+use Rattle.desk.specs.declared.nearby.Near.{Near}
 use Rattle.desk.specs.declared.states.DeskState.{DeskState}
 use Rattle.desk.specs.States.{StoodSo}
-use Rattle.rows.specs.Views.{Viewed}
+use Rattle.rows.specs.Views.{AreRight, Viewed}
+use Rattle.roadnet.specs.Step.{is_node}
+use Rattle.deltastep.specs.declared.known.NodeDistance.{NodeDistance}
+use Rattle.desk.specs.Nearby.{IsNear, IsUntold, are_pairs, node_of}
+use Rattle.roadnet.specs.Net.{Net}
 use Rattle.roadnet.specs.Numbers.{number_of}
 use Rattle.dimacs.specs.declared.fault.Code.{Code}
 use Rattle.machine.specs.declared.events.Replied.{Replied}
 use Rattle.machine.specs.declared.events.Replied.TheVariants.{Durable, Refused as told_refused}
 use Rattle.roadnet.specs.declared.refusals.Refusal.TheVariants.{OutOfMemory, Closed}
 use Rattle.dimacs.specs.declared.fault.Code.TheVariants.{BadLine}
-use Rattle.printing.specs.Printed.{refusal_line}
+use Rattle.printing.specs.Nodes.{pair_lines}
+use Rattle.printing.specs.Printed.{refusal_line, version_line}
 use Rattle.printing.specs.Replied.{printed_reply}
 use Rattle.sessions.specs.declared.answers.Accepted.{Accepted}
 use Rattle.sessions.specs.declared.lines.Line.{Line}
-use Rattle.sessions.specs.declared.lines.Line.TheVariants.{Ignored, Command as a_command, Query as a_query, Look as a_look, Copy as a_copy, Wait, Until, State, Quit, Begin, End, Refused as a_fault}
+use Rattle.sessions.specs.declared.lines.Line.TheVariants.{Ignored, Command as a_command, Query as a_query, Look as a_look, Near as a_near, Table as a_table, Unkept, Copy as a_copy, Wait, Until, State, Quit, Begin, End, Refused as a_fault, Suppose, Forget}
 use Rattle.printing.specs.declared.looks.Look.{Look}
 use Rattle.printing.specs.Looks.{look_lines}
 use Rattle.sessions.specs.Stated.{state_or_refusal}
 use Rattle.sessions.specs.Copying.{Copying, IsUnmade, no_copying}
 use Rattle.sessions.specs.declared.names.Name.{Name}
+use Rattle.sessions.specs.declared.tables.Table.{Table}
+use Rattle.sessions.specs.Listings.{sources_of, targets_of}
+use Rattle.sessions.specs.Nearby.{IsNearAnswer, IsTableAnswer, IsToldAfter, WritesSo, near_lines, untold_lines}
 use Rattle.sessions.specs.SessionLines.{name_of}
+use Rattle.sessions.specs.Tables.{pairs_of}
 use Rattle.sessions.specs.Drafts.{Drafted, IsWhole, fault_of}
 use Rattle.sessions.specs.Told.{AnswersAfter, LooksAfter, CopiesAfter, copied_line, copied_or_refusal, IsReached, HaveReceipts, HasMore, HasShown, ShowsLast, Settles, Replies, IsUnshown, claim_of, known_to, told_durable}
 use Rattle.sessions.specs.Turns.{Tells, Standing, IsEndAnswer, IsSessionAt, IsKept, fault_number, version_or_refusal}
@@ -123,13 +133,15 @@ kept_in origin whole shown place (Some front) last same held seen is = record {
 
 -- ---- what a line is told
 
-pub nothing_told : (copying : Copying) (origin : Origin) (line : Line) (last : Option Accepted) (known : List Group) (has : Option Beginning) (written : Option (List ℕ)) → (line ≡ Ignored) ⊎ ((line ≡ Quit) ⊎ (line ≡ Begin))
+pub nothing_told : (copying : Copying) (origin : Origin) (line : Line) (last : Option Accepted) (known : List Group) (has : Option Beginning) (written : Option (List ℕ)) → (line ≡ Ignored) ⊎ ((line ≡ Quit) ⊎ ((line ≡ Begin) ⊎ (line ≡ Suppose)))
     → Tells copying origin None line last last known has has written written
 nothing_told copying origin line last known has written (inl is) =
     rw is (record { told = []; durable = []; is_answer = (refl, refl, refl); kept = nothing_more origin has has refl; written = Appends-nil written })
 nothing_told copying origin line last known has written (inr (inl is)) =
     rw is (record { told = []; durable = []; is_answer = (refl, refl, refl); kept = nothing_more origin has has refl; written = Appends-nil written })
-nothing_told copying origin line last known has written (inr (inr is)) =
+nothing_told copying origin line last known has written (inr (inr (inl is))) =
+    rw is (record { told = []; durable = []; is_answer = (refl, refl, refl); kept = nothing_more origin has has refl; written = Appends-nil written })
+nothing_told copying origin line last known has written (inr (inr (inr is))) =
     rw is (record { told = []; durable = []; is_answer = (refl, refl, refl); kept = nothing_more origin has has refl; written = Appends-nil written })
 
 -- within a group nothing is told before its end
@@ -187,6 +199,92 @@ pub end_told : {X E : Type 0} (copying : Copying) (origin : Origin) (draft : Dra
     → OnOk result (Tells no_copying origin (Some draft) End before last known had has old new) → OnOk result (Tells copying origin (Some draft) End before last known had has old new)
 end_told copying origin draft before last known had has old new (Ok x) t = record { told = t.told; durable = t.durable; is_answer = t.is_answer; kept = t.kept; written = t.written }
 end_told copying origin draft before last known had has old new (Err e) t = tt
+
+-- ---- the nodes near one, and tables
+-- what is found near a node is written, or for what it is not told
+pub wrote_near : {X E : Type 0} (near : Near) (view : Viewed) (version : ℕ) (found : List NodeDistance) (old new : Option (List ℕ)) (result : Result X E) → version ≡ view.version → is_node view.network (node_of near) ≡ true
+    → IsNear view.network near found → OnOk result (Appends old new (version_line version ++ near_lines near found)) → OnOk result (WritesSo (IsNearAnswer near) view.network view.version old new)
+wrote_near near view version found old new (Ok x) at there is appends = (version_line version ++ near_lines near found, inl (found, there, is, ap (λ (v : ℕ). version_line v ++ near_lines near found) at), appends)
+wrote_near near view version found old new (Err e) at there is appends = tt
+
+pub wrote_no_near : {X E : Type 0} (near : Near) (view : Viewed) (version : ℕ) (refusal : Refusal) (old new : Option (List ℕ)) (result : Result X E) → version ≡ view.version → IsUntold (is_node view.network (node_of near)) refusal
+    → OnOk result (Appends old new (untold_lines version refusal)) → OnOk result (WritesSo (IsNearAnswer near) view.network view.version old new)
+wrote_no_near near view version refusal old new (Ok x) at cause appends = (untold_lines version refusal, inr (refusal, cause, ap (λ (v : ℕ). untold_lines v refusal) at), appends)
+wrote_no_near near view version refusal old new (Err e) at cause appends = tt
+
+-- the replies to pairs are written, or for what they are not told
+pub wrote_table : {X E : Type 0} (pairs : List (ℕ × ℕ)) (view : Viewed) (version : ℕ) (replies : List Reply) (old new : Option (List ℕ)) (result : Result X E) → version ≡ view.version → are_pairs view.network pairs ≡ true
+    → AreRight view.network pairs replies → OnOk result (Appends old new (version_line version ++ pair_lines pairs replies)) → OnOk result (WritesSo (IsTableAnswer pairs) view.network view.version old new)
+wrote_table pairs view version replies old new (Ok x) at there right appends = (version_line version ++ pair_lines pairs replies, inl (replies, there, right, ap (λ (v : ℕ). version_line v ++ pair_lines pairs replies) at), appends)
+wrote_table pairs view version replies old new (Err e) at there right appends = tt
+
+pub wrote_no_table : {X E : Type 0} (pairs : List (ℕ × ℕ)) (view : Viewed) (version : ℕ) (refusal : Refusal) (old new : Option (List ℕ)) (result : Result X E) → version ≡ view.version → IsUntold (are_pairs view.network pairs) refusal
+    → OnOk result (Appends old new (untold_lines version refusal)) → OnOk result (WritesSo (IsTableAnswer pairs) view.network view.version old new)
+wrote_no_table pairs view version refusal old new (Ok x) at cause appends = (untold_lines version refusal, inr (refusal, cause, ap (λ (v : ℕ). untold_lines v refusal) at), appends)
+wrote_no_table pairs view version refusal old new (Err e) at cause appends = tt
+
+-- what was written so of a view that was seen
+pub told_after : (origin : Origin) (groups : List Group) (view : Viewed) (IsTold : Net → ℕ → List ℕ → Type 0) (told : List ℕ) → IsViewAfter origin groups view → IsTold view.network view.version told → IsToldAfter origin groups IsTold told
+told_after origin groups view IsTold told is answer = inl (view.network, is.network, subst (λ (v : ℕ). IsTold view.network v told) is.version answer)
+
+pub told_near : {X E : Type 0} (origin : Origin) (near : Near) (before last : Option Accepted) (known groups : List Group) (view : Viewed) (had has : Option Beginning) (old new : Option (List ℕ)) (result : Result X E)
+    → groups ≡ known → IsViewAfter origin groups view → last ≡ before → has ≡ had → OnOk result (WritesSo (IsNearAnswer near) view.network view.version old new)
+    → OnOk result (Tells no_copying origin None (a_near near) before last known had has old new)
+told_near origin near before last known groups view had has old new (Ok x) seen is same kept writes = record {
+  told = writes.0;
+  durable = [];
+  is_answer = (told_after origin known view (IsNearAnswer near) writes.0 (subst (λ (gs : List Group). IsViewAfter origin gs view) seen is) writes.1, refl, same);
+  kept = nothing_more origin had has kept;
+  written = writes.2;
+}
+told_near origin near before last known groups view had has old new (Err e) seen is same kept writes = tt
+
+pub told_no_near : {X E : Type 0} (origin : Origin) (near : Near) (before last : Option Accepted) (known : List Group) (had has : Option Beginning) (old new : Option (List ℕ)) (result : Result X E) (refusal : Refusal)
+    → IsNoReader refusal → last ≡ before → has ≡ had → OnOk result (Appends old new (refusal_line (number_of refusal))) → OnOk result (Tells no_copying origin None (a_near near) before last known had has old new)
+told_no_near origin near before last known had has old new (Ok x) refusal cause same kept appends =
+    record { told = refusal_line (number_of refusal); durable = []; is_answer = (inr (refusal, cause, refl), refl, same); kept = nothing_more origin had has kept; written = appends }
+told_no_near origin near before last known had has old new (Err e) refusal cause same kept appends = tt
+
+pub told_table : {X E : Type 0} (origin : Origin) (table : Table) (pairs : List (ℕ × ℕ)) (before last : Option Accepted) (known groups : List Group) (view : Viewed) (had has : Option Beginning) (old new : Option (List ℕ)) (result : Result X E)
+    → pairs ≡ pairs_of (sources_of table) (targets_of table) → groups ≡ known → IsViewAfter origin groups view → last ≡ before → has ≡ had → OnOk result (WritesSo (IsTableAnswer pairs) view.network view.version old new)
+    → OnOk result (Tells no_copying origin None (a_table table) before last known had has old new)
+told_table origin table pairs before last known groups view had has old new (Ok x) pairs_are seen is same kept writes = record {
+  told = writes.0;
+  durable = [];
+  is_answer = (
+    told_after origin known view (IsTableAnswer (pairs_of (sources_of table) (targets_of table))) writes.0 (subst (λ (gs : List Group). IsViewAfter origin gs view) seen is)
+        (subst (λ (ps : List (ℕ × ℕ)). IsTableAnswer ps view.network view.version writes.0) pairs_are writes.1),
+    refl,
+    same,
+  );
+  kept = nothing_more origin had has kept;
+  written = writes.2;
+}
+told_table origin table pairs before last known groups view had has old new (Err e) pairs_are seen is same kept writes = tt
+
+pub told_no_table : {X E : Type 0} (origin : Origin) (table : Table) (before last : Option Accepted) (known : List Group) (had has : Option Beginning) (old new : Option (List ℕ)) (result : Result X E) (refusal : Refusal)
+    → IsNoReader refusal → last ≡ before → has ≡ had → OnOk result (Appends old new (refusal_line (number_of refusal))) → OnOk result (Tells no_copying origin None (a_table table) before last known had has old new)
+told_no_table origin table before last known had has old new (Ok x) refusal cause same kept appends =
+    record { told = refusal_line (number_of refusal); durable = []; is_answer = (inr (refusal, cause, refl), refl, same); kept = nothing_more origin had has kept; written = appends }
+told_no_table origin table before last known had has old new (Err e) refusal cause same kept appends = tt
+
+-- a table for whose numbers no memory was given
+pub told_unkept : {X E : Type 0} (copying : Copying) (origin : Origin) (before last : Option Accepted) (known : List Group) (had has : Option Beginning) (old new : Option (List ℕ)) (result : Result X E)
+    → last ≡ before → has ≡ had → OnOk result (Appends old new (refusal_line (number_of OutOfMemory))) → OnOk result (Tells copying origin None Unkept before last known had has old new)
+told_unkept copying origin before last known had has old new (Ok x) same kept appends =
+    record { told = refusal_line (number_of OutOfMemory); durable = []; is_answer = (refl, refl, same); kept = nothing_more origin had has kept; written = appends }
+told_unkept copying origin before last known had has old new (Err e) same kept appends = tt
+
+-- whoever makes copies, these are told the same
+pub near_told : {X E : Type 0} (copying : Copying) (origin : Origin) (near : Near) (before last : Option Accepted) (known : List Group) (had has : Option Beginning) (old new : Option (List ℕ)) (result : Result X E)
+    → OnOk result (Tells no_copying origin None (a_near near) before last known had has old new) → OnOk result (Tells copying origin None (a_near near) before last known had has old new)
+near_told copying origin near before last known had has old new (Ok x) t = record { told = t.told; durable = t.durable; is_answer = t.is_answer; kept = t.kept; written = t.written }
+near_told copying origin near before last known had has old new (Err e) t = tt
+
+pub table_told : {X E : Type 0} (copying : Copying) (origin : Origin) (table : Table) (before last : Option Accepted) (known : List Group) (had has : Option Beginning) (old new : Option (List ℕ)) (result : Result X E)
+    → OnOk result (Tells no_copying origin None (a_table table) before last known had has old new) → OnOk result (Tells copying origin None (a_table table) before last known had has old new)
+table_told copying origin table before last known had has old new (Ok x) t = record { told = t.told; durable = t.durable; is_answer = t.is_answer; kept = t.kept; written = t.written }
+table_told copying origin table before last known had has old new (Err e) t = tt
 
 -- the copy that was made of what was seen
 copied_after : (copying : Copying) (origin : Origin) (groups : List Group) (view : Viewed) (name : List ℕ) (version : ℕ) → IsViewAfter origin groups view → version ≡ view.version
@@ -278,6 +376,13 @@ pub told_no_end : {X E : Type 0} (copying : Copying) (origin : Origin) (before l
 told_no_end copying origin before last known had has old new (Ok x) same kept appends =
     record { told = refusal_line (fault_number BadLine); durable = []; is_answer = (refl, refl, same); kept = nothing_more origin had has kept; written = appends }
 told_no_end copying origin before last known had has old new (Err e) same kept appends = tt
+
+-- a line `forget` where nothing is supposed
+pub told_nothing_supposed : {X E : Type 0} (copying : Copying) (origin : Origin) (before last : Option Accepted) (known : List Group) (had has : Option Beginning) (old new : Option (List ℕ)) (result : Result X E)
+    → last ≡ before → has ≡ had → OnOk result (Appends old new (refusal_line (fault_number BadLine))) → OnOk result (Tells copying origin None Forget before last known had has old new)
+told_nothing_supposed copying origin before last known had has old new (Ok x) same kept appends =
+    record { told = refusal_line (fault_number BadLine); durable = []; is_answer = (refl, refl, same); kept = nothing_more origin had has kept; written = appends }
+told_nothing_supposed copying origin before last known had has old new (Err e) same kept appends = tt
 
 -- ---- the end of a group
 end_answer : (origin : Origin) (fault found : Option Code) (group : Group) (before last : Option Accepted) (told : List ℕ) (durable : List Ticket) → fault ≡ found

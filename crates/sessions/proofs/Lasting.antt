@@ -53,7 +53,7 @@ pub kept_of : (origin : Origin) (whole shown : Beginning) (receipts seen : Optio
     → IfSome receipts (λ front. IsPrefix front.groups whole.groups × (front.acknowledged ≤ whole.acknowledged)) → IsPrefix (known_to seen) shown.groups
     → HaveReceipts origin receipts last.durable × IsPrefix last.known (known_to seen) → IsKept whole shown last
 kept_of origin whole shown receipts seen last same holds was_shown has =
-    let unseen : Standing = record { left = []; told = []; durable = last.durable; known = []; last = None; draft = None } in
+    let unseen : Standing = record { left = []; told = []; durable = last.durable; known = []; last = None; draft = None; supposing = None; supposed = None } in
     let receipted = kept_in origin whole shown None receipts unseen same holds (shown.groups, refl) (record { known = refl; durable = has.0 }) in
     record {
       durable = receipted.durable;

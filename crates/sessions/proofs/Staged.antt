@@ -1,5 +1,6 @@
 -- What is known of a line with one more byte.
-use Rattle.std.proofs.Common.{◌≡◌, ◌≢◌, ◌∙◌, ℕ, ◌<◌, Bool, true, false, ◌||◌, List, [], ◌∷◌, ◌++◌, None, Some, length, refl, sym, ap, subst, arith, append_assoc}
+use Rattle.std.proofs.Common.{◌≡◌, ◌≢◌, ◌∙◌, ℕ, ◌<◌, Bool, true, false, ◌||◌, List, [], ◌∷◌, ◌++◌, None, Some, length, refl, sym, ap, subst, inl, inr, arith, append_assoc}
+use Rattle.std.proofs.lemmas.Bool.{cases_Bool}
 use Rattle.std.proofs.lemmas.List.{append-nil, length-append, length-take}
 use Rattle.dimacs.specs.declared.fault.Code.TheVariants.{BadLine}
 use Rattle.dimacs.specs.Faults.{Row, is_empty, is_remark}
@@ -24,7 +25,7 @@ use Rattle.sessions.proofs.Fieldwise.{blank_first, ended_by_blank, ended_by_line
 use Rattle.std.specs.Str.{bytes_eq}
 use lib.Chars.{codes}
 use Rattle.sessions.specs.Names.{copy_of}
-use Rattle.sessions.proofs.Worded.{unknown_row, long_field, not_copy, long_not_copy, copy_alone}
+use Rattle.sessions.proofs.Worded.{unknown_row, long_field, not_copy, long_not_copy, long_not_table, copy_alone}
 
 -- ---- blanks and the first byte behind them
 pub more_blanks : (front : List ℕ) (b : ℕ) → is_blank b ≡ true → IsStage front Blank → IsStage (front ++ b ∷ []) Blank
@@ -74,6 +75,7 @@ too_long front b letters plain nine is more =
     let count : length (is.first ∷ is.others) ≡ 9 = sym (ap length is.letters_are) ∙ nine in
     let long : 9 < length (is.first ∷ (w ++ found.tail)) = omega (arith, count, length-append w found.tail, length-append is.others (b ∷ [])) in
     ap session_code row ∙ unknown_row is.first (w ++ found.tail) found.others is.no_remark (long_field (is.first ∷ (w ++ found.tail)) long) (long_not_copy (is.first ∷ (w ++ found.tail)) found.others long)
+    (long_not_table (is.first ∷ (w ++ found.tail)) long)
 
 some_letters : (letters : List ℕ) (first : ℕ) (others : List ℕ) → letters ≡ first ∷ others → as_row letters ≡ letters ∷ []
 some_letters letters first others e = rw e refl
@@ -85,12 +87,14 @@ first_whole front b letters more blank is =
     ∙ ap (λ (l : Row). l ++ fields more) (some_letters (letters_of letters) is.first is.others is.letters_are)
     )
 
-pub unknown_ended : (front : List ℕ) (b : ℕ) (letters : Letters) → is_blank b ≡ true → None ≡ word_from (letters_of letters) → bytes_eq (letters_of letters) (codes "copy") ≡ false → IsStage front (Beginning letters) → IsStage (front ++ b ∷ []) Unknown
-unknown_ended front b letters blank none other is more =
+pub unknown_ended : (front : List ℕ) (b : ℕ) (letters : Letters) → is_blank b ≡ true → None ≡ word_from (letters_of letters) → bytes_eq (letters_of letters) (codes "copy") ≡ false
+    → bytes_eq (letters_of letters) (codes "table") ≡ false → IsStage front (Beginning letters) → IsStage (front ++ b ∷ []) Unknown
+unknown_ended front b letters blank none other no_table is more =
     let row : fields ((front ++ b ∷ []) ++ more) ≡ (is.first ∷ is.others) ∷ fields more = first_whole front b letters more blank is ∙ ap (λ (l : List ℕ). l ∷ fields more) is.letters_are in
     let no : word_from (is.first ∷ is.others) ≡ None = sym (ap word_from is.letters_are) ∙ sym none in
     let no_copy : copy_of ((is.first ∷ is.others) ∷ fields more) ≡ None = not_copy (is.first ∷ is.others) (fields more) (sym (ap (λ (l : List ℕ). bytes_eq l (codes "copy")) is.letters_are) ∙ other) in
-    ap session_code row ∙ unknown_row is.first is.others (fields more) is.no_remark no no_copy
+    let none_of_table : bytes_eq (is.first ∷ is.others) (codes "table") ≡ false = sym (ap (λ (l : List ℕ). bytes_eq l (codes "table")) is.letters_are) ∙ no_table in
+    ap session_code row ∙ unknown_row is.first is.others (fields more) is.no_remark no no_copy none_of_table
 
 pub no_bytes : IsOneField []
 no_bytes k d l = absurd (omega (arith, l))
@@ -154,10 +158,18 @@ first_alone : (front : List ℕ) (letters : Letters) → IsStage front (Beginnin
 first_alone front letters is =
     ap fields (sym (append-nil front)) ∙ is.goes_on [] ∙ ended_by_line (letters_of letters) is.no_blank ∙ some_letters (letters_of letters) is.first is.others is.letters_are
 
+-- a field alone that is no word: `table` has numbers behind it
+no_line : (first : ℕ) (w : List ℕ) → first ≢ 35 → word_from (first ∷ w) ≡ None → session_code ((first ∷ w) ∷ []) ≡ Some BadLine
+no_line first w plain none =
+    elim (cases_Bool (bytes_eq (first ∷ w) (codes "table"))) [
+      | inl yes ↦ rw (copy_alone (first ∷ w), yes) refl
+      | inr other ↦ unknown_row first w [] plain none (copy_alone (first ∷ w)) other
+    ]
+
 pub unknown_alone : (front : List ℕ) (letters : Letters) → None ≡ word_from (letters_of letters) → IsStage front (Beginning letters) → IsLine (fields front) (Refused BadLine)
 unknown_alone front letters none is =
     let no : word_from (is.first ∷ is.others) ≡ None = sym (ap word_from is.letters_are) ∙ sym none in
-    ap session_code (first_alone front letters is ∙ ap (λ (l : List ℕ). l ∷ []) is.letters_are) ∙ unknown_row is.first is.others [] is.no_remark no (copy_alone (is.first ∷ is.others))
+    ap session_code (first_alone front letters is ∙ ap (λ (l : List ℕ). l ∷ []) is.letters_are) ∙ no_line is.first is.others is.no_remark no
 
 pub word_alone : (front : List ℕ) (letters : Letters) (word : Word) (line : Line) → Some word ≡ word_from (letters_of letters)
     → ((row : Row) → IsNumbers row Nothing → IsLine (spelling word ∷ row) line) → IsStage front (Beginning letters) → IsLine (fields front) line

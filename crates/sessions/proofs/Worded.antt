@@ -18,11 +18,11 @@ use Rattle.dimacs.proofs.CommandRows.{kept_refused, kept_number}
 use Rattle.dimacs.proofs.Items.{known, or-false}
 use Rattle.dimacs.proofs.Spelled.{unformed}
 use Rattle.sessions.specs.declared.words.Bare.{Bare}
-use Rattle.sessions.specs.declared.words.Bare.TheVariants.{Wait, Quit, Begin, End, Landmarks, Closed, State}
+use Rattle.sessions.specs.declared.words.Bare.TheVariants.{Wait, Quit, Begin, End, Landmarks, Closed, State, Suppose, Forget}
 use Rattle.sessions.specs.declared.words.One.{One as OneWord}
 use Rattle.sessions.specs.declared.words.One.TheVariants.{Common as one_common, Arc, Until}
 use Rattle.sessions.specs.declared.words.Two.{Two as TwoWord}
-use Rattle.sessions.specs.declared.words.Two.TheVariants.{Common as two_common, Arcs}
+use Rattle.sessions.specs.declared.words.Two.TheVariants.{Common as two_common, Arcs, Reach, Reached, Nearest}
 use Rattle.sessions.specs.declared.words.Word.TheVariants.{WithNone, WithOne, WithTwo, Lay}
 use Rattle.sessions.specs.declared.lines.Line.{Line}
 use Rattle.sessions.specs.declared.lines.Line.TheVariants.{Command as a_command, Refused}
@@ -36,12 +36,13 @@ use Rattle.sessions.specs.Words.{bare_line, one_line, two_line}
 
 -- ---- the word of a field
 -- a field that is no word and begins no comment
-pub unknown_row : (first : ℕ) (w : List ℕ) (others : Row) → first ≢ 35 → word_from (first ∷ w) ≡ None → copy_of ((first ∷ w) ∷ others) ≡ None → session_code ((first ∷ w) ∷ others) ≡ Some BadLine
+pub unknown_row : (first : ℕ) (w : List ℕ) (others : Row) → first ≢ 35 → word_from (first ∷ w) ≡ None → copy_of ((first ∷ w) ∷ others) ≡ None → bytes_eq (first ∷ w) (codes "table") ≡ false
+    → session_code ((first ∷ w) ∷ others) ≡ Some BadLine
 unfolding command_code
-unknown_row first w others plain none no_copy =
+unknown_row first w others plain none no_copy no_table =
     let some : ltb 0 (length (first ∷ w)) ≡ true = lt-ltb _ _ (omega arith) in
     let mark : eqb first 35 ≡ false = ne_eqb first 35 plain in
-    rw (no_copy, some, mark, unformed spelling words (first ∷ w) others forms none refl) refl
+    rw (no_copy, no_table, some, mark, unformed spelling words (first ∷ w) others forms none refl) refl
 
 -- more bytes than a word has
 other_bytes : (field word : List ℕ) → length word < length field → bytes_eq field word ≡ false
@@ -61,6 +62,9 @@ long_field field long =
       other_bytes field (codes "from") (omega (arith, long)),
       other_bytes field (codes "lower") (omega (arith, long)),
       other_bytes field (codes "arcs") (omega (arith, long)),
+      other_bytes field (codes "reach") (omega (arith, long)),
+      other_bytes field (codes "reached") (omega (arith, long)),
+      other_bytes field (codes "nearest") (omega (arith, long)),
       other_bytes field (codes "wait") (omega (arith, long)),
       other_bytes field (codes "quit") (omega (arith, long)),
       other_bytes field (codes "begin") (omega (arith, long)),
@@ -68,6 +72,8 @@ long_field field long =
       other_bytes field (codes "landmarks") (omega (arith, long)),
       other_bytes field (codes "closed") (omega (arith, long)),
       other_bytes field (codes "state") (omega (arith, long)),
+      other_bytes field (codes "suppose") (omega (arith, long)),
+      other_bytes field (codes "forget") (omega (arith, long)),
       other_bytes field (codes "lay") (omega (arith, long)),
     ) refl
 
@@ -77,6 +83,9 @@ not_copy field others other = rw other refl
 
 pub long_not_copy : (field : List ℕ) (others : Row) → 9 < length field → copy_of (field ∷ others) ≡ None
 long_not_copy field others long = not_copy field others (other_bytes field (codes "copy") (omega (arith, long)))
+
+pub long_not_table : (field : List ℕ) → 9 < length field → bytes_eq field (codes "table") ≡ false
+long_not_table field long = other_bytes field (codes "table") (omega (arith, long))
 
 -- `copy` without a name
 pub copy_alone : (field : List ℕ) → copy_of (field ∷ []) ≡ None
@@ -91,33 +100,39 @@ record IsForm (word : List ℕ) (n : ℕ) : Type 0 where
   plain : (numbers : Row) → (is_empty (word ∷ numbers) || is_remark 35 (word ∷ numbers)) ≡ false
   formed : (numbers : Row) → form_of forms (word ∷ numbers) ≡ Some (form word n)
   no_copy : (numbers : Row) → copy_of (word ∷ numbers) ≡ None
+  no_table : bytes_eq word (codes "table") ≡ false
 
 bare_form : (word : Bare) → IsForm (spelling (WithNone word)) 0
-bare_form Wait = record { plain = λ numbers. refl; formed = λ numbers. refl; no_copy = λ numbers. refl }
-bare_form Quit = record { plain = λ numbers. refl; formed = λ numbers. refl; no_copy = λ numbers. refl }
-bare_form Begin = record { plain = λ numbers. refl; formed = λ numbers. refl; no_copy = λ numbers. refl }
-bare_form End = record { plain = λ numbers. refl; formed = λ numbers. refl; no_copy = λ numbers. refl }
-bare_form Landmarks = record { plain = λ numbers. refl; formed = λ numbers. refl; no_copy = λ numbers. refl }
-bare_form Closed = record { plain = λ numbers. refl; formed = λ numbers. refl; no_copy = λ numbers. refl }
-bare_form State = record { plain = λ numbers. refl; formed = λ numbers. refl; no_copy = λ numbers. refl }
+bare_form Wait = record { plain = λ numbers. refl; formed = λ numbers. refl; no_copy = λ numbers. refl; no_table = refl }
+bare_form Quit = record { plain = λ numbers. refl; formed = λ numbers. refl; no_copy = λ numbers. refl; no_table = refl }
+bare_form Begin = record { plain = λ numbers. refl; formed = λ numbers. refl; no_copy = λ numbers. refl; no_table = refl }
+bare_form End = record { plain = λ numbers. refl; formed = λ numbers. refl; no_copy = λ numbers. refl; no_table = refl }
+bare_form Landmarks = record { plain = λ numbers. refl; formed = λ numbers. refl; no_copy = λ numbers. refl; no_table = refl }
+bare_form Closed = record { plain = λ numbers. refl; formed = λ numbers. refl; no_copy = λ numbers. refl; no_table = refl }
+bare_form State = record { plain = λ numbers. refl; formed = λ numbers. refl; no_copy = λ numbers. refl; no_table = refl }
+bare_form Suppose = record { plain = λ numbers. refl; formed = λ numbers. refl; no_copy = λ numbers. refl; no_table = refl }
+bare_form Forget = record { plain = λ numbers. refl; formed = λ numbers. refl; no_copy = λ numbers. refl; no_table = refl }
 
 one_form : (word : OneWord) → IsForm (spelling (WithOne word)) 1
-one_form (one_common Close) = record { plain = λ numbers. refl; formed = λ numbers. refl; no_copy = λ numbers. refl }
-one_form (one_common Reopen) = record { plain = λ numbers. refl; formed = λ numbers. refl; no_copy = λ numbers. refl }
-one_form (one_common Mark) = record { plain = λ numbers. refl; formed = λ numbers. refl; no_copy = λ numbers. refl }
-one_form (one_common Unmark) = record { plain = λ numbers. refl; formed = λ numbers. refl; no_copy = λ numbers. refl }
-one_form Arc = record { plain = λ numbers. refl; formed = λ numbers. refl; no_copy = λ numbers. refl }
-one_form Until = record { plain = λ numbers. refl; formed = λ numbers. refl; no_copy = λ numbers. refl }
+one_form (one_common Close) = record { plain = λ numbers. refl; formed = λ numbers. refl; no_copy = λ numbers. refl; no_table = refl }
+one_form (one_common Reopen) = record { plain = λ numbers. refl; formed = λ numbers. refl; no_copy = λ numbers. refl; no_table = refl }
+one_form (one_common Mark) = record { plain = λ numbers. refl; formed = λ numbers. refl; no_copy = λ numbers. refl; no_table = refl }
+one_form (one_common Unmark) = record { plain = λ numbers. refl; formed = λ numbers. refl; no_copy = λ numbers. refl; no_table = refl }
+one_form Arc = record { plain = λ numbers. refl; formed = λ numbers. refl; no_copy = λ numbers. refl; no_table = refl }
+one_form Until = record { plain = λ numbers. refl; formed = λ numbers. refl; no_copy = λ numbers. refl; no_table = refl }
 
 two_form : (word : TwoWord) → IsForm (spelling (WithTwo word)) 2
-two_form (two_common Set) = record { plain = λ numbers. refl; formed = λ numbers. refl; no_copy = λ numbers. refl }
-two_form (two_common Dist) = record { plain = λ numbers. refl; formed = λ numbers. refl; no_copy = λ numbers. refl }
-two_form (two_common From) = record { plain = λ numbers. refl; formed = λ numbers. refl; no_copy = λ numbers. refl }
-two_form (two_common Lower) = record { plain = λ numbers. refl; formed = λ numbers. refl; no_copy = λ numbers. refl }
-two_form Arcs = record { plain = λ numbers. refl; formed = λ numbers. refl; no_copy = λ numbers. refl }
+two_form (two_common Set) = record { plain = λ numbers. refl; formed = λ numbers. refl; no_copy = λ numbers. refl; no_table = refl }
+two_form (two_common Dist) = record { plain = λ numbers. refl; formed = λ numbers. refl; no_copy = λ numbers. refl; no_table = refl }
+two_form (two_common From) = record { plain = λ numbers. refl; formed = λ numbers. refl; no_copy = λ numbers. refl; no_table = refl }
+two_form (two_common Lower) = record { plain = λ numbers. refl; formed = λ numbers. refl; no_copy = λ numbers. refl; no_table = refl }
+two_form Arcs = record { plain = λ numbers. refl; formed = λ numbers. refl; no_copy = λ numbers. refl; no_table = refl }
+two_form Reach = record { plain = λ numbers. refl; formed = λ numbers. refl; no_copy = λ numbers. refl; no_table = refl }
+two_form Reached = record { plain = λ numbers. refl; formed = λ numbers. refl; no_copy = λ numbers. refl; no_table = refl }
+two_form Nearest = record { plain = λ numbers. refl; formed = λ numbers. refl; no_copy = λ numbers. refl; no_table = refl }
 
 lay_form : IsForm (spelling Lay) 3
-lay_form = record { plain = λ numbers. refl; formed = λ numbers. refl; no_copy = λ numbers. refl }
+lay_form = record { plain = λ numbers. refl; formed = λ numbers. refl; no_copy = λ numbers. refl; no_table = refl }
 
 bare_made : (word : Bare) (numbers : Row) → line_of (spelling (WithNone word) ∷ numbers) ≡ Some (bare_line word)
 bare_made Wait numbers = refl
@@ -127,6 +142,8 @@ bare_made End numbers = refl
 bare_made Landmarks numbers = refl
 bare_made Closed numbers = refl
 bare_made State numbers = refl
+bare_made Suppose numbers = refl
+bare_made Forget numbers = refl
 
 one_made : (word : OneWord) (numbers : Row) → line_of (spelling (WithOne word) ∷ numbers) ≡ Some (one_line word (size_at numbers 0))
 one_made (one_common Close) numbers = refl
@@ -142,31 +159,34 @@ two_made (two_common Dist) numbers = refl
 two_made (two_common From) numbers = refl
 two_made (two_common Lower) numbers = refl
 two_made Arcs numbers = refl
+two_made Reach numbers = refl
+two_made Reached numbers = refl
+two_made Nearest numbers = refl
 
 lay_made : (numbers : Row) → line_of (spelling Lay ∷ numbers) ≡ Some (a_command (lay_arc (size_at numbers 0) (size_at numbers 1) (size_at numbers 2)))
 lay_made numbers = refl
 
 malformed : (word : List ℕ) (n : ℕ) (numbers : Row) → IsForm word n → is_malformed n numbers ≡ true → session_code (word ∷ numbers) ≡ Some BadLine
 unfolding command_code
-malformed word n numbers f e = rw (f.no_copy numbers, f.plain numbers, f.formed numbers, e) refl
+malformed word n numbers f e = rw (f.no_copy numbers, f.no_table, f.plain numbers, f.formed numbers, e) refl
 
 code_alone : (word : List ℕ) → IsForm word 0 → session_code (word ∷ []) ≡ None
 unfolding command_code
-code_alone word f = rw (f.no_copy [], f.plain [], f.formed []) refl
+code_alone word f = rw (f.no_copy [], f.no_table, f.plain [], f.formed []) refl
 
 code_of_one : (word u : List ℕ) (a : Numeral) → IsForm word 1 → numeral u ≡ Some a → session_code (word ∷ u ∷ []) ≡ cond (is_refused a) (Some NumberRange) None
 unfolding command_code
-code_of_one word u a f e = rw (f.no_copy (u ∷ []), f.plain (u ∷ []), f.formed (u ∷ []), e) (simp or-false)
+code_of_one word u a f e = rw (f.no_copy (u ∷ []), f.no_table, f.plain (u ∷ []), f.formed (u ∷ []), e) (simp or-false)
 
 code_of_two : (word u v : List ℕ) (a b : Numeral) → IsForm word 2 → numeral u ≡ Some a → numeral v ≡ Some b
     → session_code (word ∷ u ∷ v ∷ []) ≡ cond (is_refused a || is_refused b) (Some NumberRange) None
 unfolding command_code
-code_of_two word u v a b f d e = rw (f.no_copy (u ∷ v ∷ []), f.plain (u ∷ v ∷ []), f.formed (u ∷ v ∷ []), d, e) (simp or-false)
+code_of_two word u v a b f d e = rw (f.no_copy (u ∷ v ∷ []), f.no_table, f.plain (u ∷ v ∷ []), f.formed (u ∷ v ∷ []), d, e) (simp or-false)
 
 code_of_three : (word u v w : List ℕ) (a b d : Numeral) → IsForm word 3 → numeral u ≡ Some a → numeral v ≡ Some b → numeral w ≡ Some d
     → session_code (word ∷ u ∷ v ∷ w ∷ []) ≡ cond (is_refused a || (is_refused b || is_refused d)) (Some NumberRange) None
 unfolding command_code
-code_of_three word u v w a b d f e g h = rw (f.no_copy (u ∷ v ∷ w ∷ []), f.plain (u ∷ v ∷ w ∷ []), f.formed (u ∷ v ∷ w ∷ []), e, g, h) (simp or-false)
+code_of_three word u v w a b d f e g h = rw (f.no_copy (u ∷ v ∷ w ∷ []), f.no_table, f.plain (u ∷ v ∷ w ∷ []), f.formed (u ∷ v ∷ w ∷ []), e, g, h) (simp or-false)
 
 -- ---- what stands behind a word
 -- not so many fields
@@ -201,6 +221,8 @@ bare_asks End row asks = asks
 bare_asks Landmarks row asks = asks
 bare_asks Closed row asks = asks
 bare_asks State row asks = asks
+bare_asks Suppose row asks = asks
+bare_asks Forget row asks = asks
 
 one_asks : (word : OneWord) (n : ℕ) (row : Row) → AsksFor row (one_line word n) → IsLine row (one_line word n)
 one_asks (one_common Close) n row asks = asks
@@ -216,6 +238,9 @@ two_asks (two_common Dist) n m row asks = asks
 two_asks (two_common From) n m row asks = asks
 two_asks (two_common Lower) n m row asks = asks
 two_asks Arcs n m row asks = asks
+two_asks Reach n m row asks = asks
+two_asks Reached n m row asks = asks
+two_asks Nearest n m row asks = asks
 
 -- a word that stands alone
 pub bare_reads : (word : Bare) (row : Row) → IsNumbers row Nothing → IsLine (spelling (WithNone word) ∷ row) (bare_line word)
@@ -229,19 +254,19 @@ bare_fault word row (Three a b c) are some = bad_bare word row (λ e. absurd (om
 bare_fault word row TooMany are some = bad_bare word row (λ e. absurd (omega (arith, e, are)))
 
 -- what a field is whose numeral is kept
-record KeptAs (field : List ℕ) (n : Numeral) : Type 0 where
-  a : Numeral
-  is : numeral field ≡ Some a
-  kept_as : n ≡ kept a
+pub record KeptAs (field : List ℕ) (n : Numeral) : Type 0 where
+  pub a : Numeral
+  pub is : numeral field ≡ Some a
+  pub kept_as : n ≡ kept a
 
-kept_as : (field : List ℕ) (n : Numeral) → Some n ≡ number_of field → KeptAs field n
+pub kept_as : (field : List ℕ) (n : Numeral) → Some n ≡ number_of field → KeptAs field n
 kept_as field n e =
     elim (known (numeral field)) [
       | inl none ↦ absurd (let clash : Some n ≡ None = e ∙ rw none refl in let absurdity : ⊥ = cc in absurdity)
       | inr (a, is) ↦ let same : Some n ≡ Some (kept a) = e ∙ rw is refl in record { a = a; is = is; kept_as = cc }
     ]
 
-no_numeral : (field : List ℕ) → None ≡ number_of field → numeral field ≡ None
+pub no_numeral : (field : List ℕ) → None ≡ number_of field → numeral field ≡ None
 no_numeral field e =
     elim (known (numeral field)) [
       | inl none ↦ none

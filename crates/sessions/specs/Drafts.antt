@@ -10,7 +10,7 @@ use Rattle.sessions.specs.declared.drafts.Draft.TheVariants.{Whole, Unkept, Faul
 use Rattle.sessions.specs.declared.drafts.NoGroup.{NoGroup}
 use Rattle.sessions.specs.declared.drafts.NoGroup.TheVariants.{Fault, NoMemory}
 use Rattle.sessions.specs.declared.lines.Line.{Line}
-use Rattle.sessions.specs.declared.lines.Line.TheVariants.{Ignored, Command as a_command, Begin, End, Refused}
+use Rattle.sessions.specs.declared.lines.Line.TheVariants.{Ignored, Command as a_command, Suppose, Begin, End, Refused}
 
 -- the commands, at most 253, and the code of the first line that has a fault there
 pub record Drafted : Type 0 where
@@ -40,6 +40,18 @@ next_draft None Begin = Some no_draft
 next_draft None other = None
 next_draft (Some draft) End = None
 next_draft (Some draft) other = Some (with_line draft other)
+
+-- the group that is to be supposed and that lines are in, if they are in one, behind one line more: `suppose` begins it where they are in none
+abbrev pub next_supposing : Option Drafted → Option Drafted → Line → Option Drafted
+next_supposing (Some group) draft End = None
+next_supposing (Some group) draft other = Some (with_line group other)
+next_supposing None None Suppose = Some no_draft
+next_supposing None draft other = None
+
+-- the group that is to be carried out: lines of one that is to be supposed are none of it
+abbrev pub next_draft_beside : Option Drafted → Option Drafted → Line → Option Drafted
+next_draft_beside (Some group) draft line = draft
+next_draft_beside None draft line = next_draft draft line
 
 -- the code of the first line that has a fault, or else that of a group without a command
 abbrev pub fault_of : Drafted → Option Code

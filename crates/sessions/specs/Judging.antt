@@ -7,13 +7,15 @@ use Rattle.dimacs.specs.Faults.{Row, is_remark}
 use Rattle.dimacs.specs.Lines.{is_blank, fields}
 use Rattle.sessions.specs.declared.fields.Field.{Field}
 use Rattle.sessions.specs.declared.fields.Numbers.{Numbers}
+use Rattle.sessions.specs.declared.tables.Listing.{Listing}
 use Rattle.sessions.specs.declared.words.Word.{Word}
 use Rattle.sessions.specs.declared.letters.Letters.{Letters}
 use Rattle.sessions.specs.declared.names.Name.{Name}
 use Rattle.sessions.specs.declared.lines.Stage.{Stage}
-use Rattle.sessions.specs.declared.lines.Stage.TheVariants.{Blank, Beginning, Remark, Unknown, Behind, Unnamed, Naming, Named}
+use Rattle.sessions.specs.declared.lines.Stage.TheVariants.{Blank, Beginning, Remark, Unknown, Behind, Listing as a_listing, Unnamed, Naming, Named}
 use Rattle.sessions.specs.declared.lines.LineSoFar.{LineSoFar}
 use Rattle.sessions.specs.Fields.{IsField, IsNumbers}
+use Rattle.sessions.specs.Listings.{IsListing}
 use Rattle.sessions.specs.SessionLines.{session_code, name_of}
 use Rattle.sessions.specs.Spelled.{spelling}
 
@@ -43,6 +45,15 @@ pub record GoesOnBehind (front : List ℕ) (word : Word) (numbers : Numbers) (fi
   pub no_blank : IsOneField last
   pub goes_on : (more : List ℕ) → fields (front ++ more) ≡ spelling word ∷ (whole ++ fields (last ++ more))
 
+-- the line begins with `table`, then has whole fields and one that may go on
+pub record GoesOnListing (front : List ℕ) (listing : Listing) (field : Field) : Type 0 where
+  pub whole : Row
+  pub last : List ℕ
+  pub listing_is : IsListing whole listing
+  pub field_is : IsField last field
+  pub no_blank : IsOneField last
+  pub goes_on : (more : List ℕ) → fields (front ++ more) ≡ codes "table" ∷ (whole ++ fields (last ++ more))
+
 -- the line begins with `copy`, then has a field that begins with this name, and may go on
 pub record GoesOnNaming (front name : List ℕ) : Type 0 where
   pub no_blank : IsOneField name
@@ -55,6 +66,7 @@ IsStage front (Beginning letters) = BeginsWith front (letters_of letters)
 IsStage front Remark = (more : List ℕ) → is_remark 35 (fields (front ++ more)) ≡ true
 IsStage front Unknown = (more : List ℕ) → session_code (fields (front ++ more)) ≡ Some BadLine
 IsStage front (Behind word numbers field) = GoesOnBehind front word numbers field
+IsStage front (a_listing listing field) = GoesOnListing front listing field
 IsStage front Unnamed = (more : List ℕ) → fields (front ++ more) ≡ codes "copy" ∷ fields more
 IsStage front (Naming name) = GoesOnNaming front (name_of name)
 IsStage front (Named name) = (more : List ℕ) → fields (front ++ more) ≡ codes "copy" ∷ name_of name ∷ fields more

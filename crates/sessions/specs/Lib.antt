@@ -3,12 +3,16 @@ pub mod Names
 pub mod Copying
 pub mod Words
 pub mod Fields
+pub mod Tables
+pub mod Listings
 pub mod SessionLines
 pub mod Judging
 pub mod Reads
 pub mod Drafts
 pub mod Stated
 pub mod Told
+pub mod Nearby
+pub mod Supposing
 pub mod Turns
 pub mod Clients
 pub mod Past

@@ -3,11 +3,11 @@ use Rattle.std.specs.Prelude.{ℕ, List, [], ◌∷◌, ◌++◌, map, Option}
 use lib.Chars.{codes}
 use Rattle.dimacs.specs.Spelling.{spelled_word, one_spelling as common_one, one_words as common_ones, two_spelling as common_two, two_words as common_twos}
 use Rattle.sessions.specs.declared.words.Bare.{Bare}
-use Rattle.sessions.specs.declared.words.Bare.TheVariants.{Wait, Quit, Begin, End, Landmarks, Closed, State}
+use Rattle.sessions.specs.declared.words.Bare.TheVariants.{Wait, Quit, Begin, End, Landmarks, Closed, State, Suppose, Forget}
 use Rattle.sessions.specs.declared.words.One.{One}
 use Rattle.sessions.specs.declared.words.One.TheVariants.{Common as one_common, Arc, Until}
 use Rattle.sessions.specs.declared.words.Two.{Two}
-use Rattle.sessions.specs.declared.words.Two.TheVariants.{Common as two_common, Arcs}
+use Rattle.sessions.specs.declared.words.Two.TheVariants.{Common as two_common, Arcs, Reach, Reached, Nearest}
 use Rattle.sessions.specs.declared.words.Word.{Word}
 use Rattle.sessions.specs.declared.words.Word.TheVariants.{WithNone, WithOne, WithTwo, Lay}
 
@@ -20,9 +20,11 @@ bare_spelling End = codes "end"
 bare_spelling Landmarks = codes "landmarks"
 bare_spelling Closed = codes "closed"
 bare_spelling State = codes "state"
+bare_spelling Suppose = codes "suppose"
+bare_spelling Forget = codes "forget"
 
 abbrev pub bare_words : List Bare
-bare_words = Wait ∷ Quit ∷ Begin ∷ End ∷ Landmarks ∷ Closed ∷ State ∷ []
+bare_words = Wait ∷ Quit ∷ Begin ∷ End ∷ Landmarks ∷ Closed ∷ State ∷ Suppose ∷ Forget ∷ []
 
 -- words with one number behind them: those of commands, and two more
 abbrev pub one_spelling : One → List ℕ
@@ -33,13 +35,16 @@ one_spelling Until = codes "until"
 abbrev pub one_words : List One
 one_words = map one_common common_ones ++ Arc ∷ Until ∷ []
 
--- words with two: those of commands and queries, and one more
+-- words with two: those of commands and queries, and four more
 abbrev pub two_spelling : Two → List ℕ
 two_spelling (two_common word) = common_two word
 two_spelling Arcs = codes "arcs"
+two_spelling Reach = codes "reach"
+two_spelling Reached = codes "reached"
+two_spelling Nearest = codes "nearest"
 
 abbrev pub two_words : List Two
-two_words = map two_common common_twos ++ Arcs ∷ []
+two_words = map two_common common_twos ++ Arcs ∷ Reach ∷ Reached ∷ Nearest ∷ []
 
 abbrev pub spelling : Word → List ℕ
 spelling (WithNone word) = bare_spelling word

@@ -32,13 +32,13 @@ journal_part state = named (codes " unchecked ") state.unchecked ++ named (codes
 
 -- its landmarks, and how many commands it may still take
 abbrev pub life_part : DeskState → List ℕ
-life_part state = named (codes " landmarks ") state.landmarks ++ named (codes " left ") state.left
+life_part state = named (codes " landmarks ") state.landmarks ++ named (codes " readers ") state.readers ++ named (codes " left ") state.left
 
 -- its threads
 abbrev pub threads_part : DeskState → List ℕ
 threads_part state = (codes " flusher " ++ working_word state.flusher) ++ (codes " builder " ++ working_word state.builder) ++ codes "\n"
 
--- `state shown V durable D accepted A pending P unchecked U pages J landmarks L left C flusher F builder B`
+-- `state shown V durable D accepted A pending P unchecked U pages J landmarks L readers R left C flusher F builder B`
 abbrev pub state_line : DeskState → List ℕ
 state_line state = versions_part state ++ waiting_part state ++ journal_part state ++ life_part state ++ threads_part state
 

@@ -23,12 +23,17 @@ use Rattle.printing.specs.Replied.{printed_reply}
 use Rattle.sessions.specs.declared.answers.Accepted.{Accepted}
 use Rattle.sessions.specs.declared.lines.Line.{Line}
 use Rattle.sessions.specs.declared.reading.LastLine.{LastLine}
-use Rattle.sessions.specs.declared.lines.Line.TheVariants.{Ignored, Command as a_command, Query, Look as a_look, Copy, Wait, Until, State, Quit, Begin, End, Refused}
+use Rattle.sessions.specs.declared.lines.Line.TheVariants.{Ignored, Command as a_command, Query, Look as a_look, Near as a_near, Table as a_table, Unkept, Copy, Wait, Until, State, Quit, Begin, End, Refused, Suppose, Forget}
 use Rattle.sessions.specs.Copying.{Copying}
+use Rattle.sessions.specs.Listings.{sources_of, targets_of}
+use Rattle.sessions.specs.Nearby.{IsNearAnswer, IsTableAnswer, IsToldAfter}
 use Rattle.sessions.specs.SessionLines.{name_of}
-use Rattle.sessions.specs.Drafts.{Drafted, fault_of, next_draft}
+use Rattle.sessions.specs.Tables.{pairs_of}
+use Rattle.sessions.specs.Drafts.{Drafted, fault_of, next_draft, next_draft_beside, next_supposing}
 use Rattle.sessions.specs.Reads.{ReadsOne, FailsInLine, ReadsLine}
 use Rattle.sessions.specs.Stated.{state_or_refusal}
+use Rattle.sessions.specs.Supposing.{SupposesAfter, IsUnsupposed, IsSupposedAnswer, suppose_line, forgotten_line}
+use Rattle.suppositions.specs.Supposing.{Supposition}
 use Rattle.sessions.specs.Told.{HaveReceipts, HasMore, Settles, Replies, IsLooked, IsCopied, IsReached, ShowsLast, IsUnshown, known_to, told_durable}
 
 -- the number by which the fault of a line or of a group is told
@@ -58,6 +63,10 @@ IsAnswer copying origin None (Query query) before last known told durable =
 IsAnswer copying origin None Wait before last known told durable =
     (shown : Result ℕ Refusal) × IfOk shown (ShowsLast origin last known) × IfErr shown IsUnshown × (told ≡ version_or_refusal shown) × (durable ≡ []) × (last ≡ before)
 IsAnswer copying origin None (a_look look) before last known told durable = IsLooked origin known look told × (durable ≡ []) × (last ≡ before)
+IsAnswer copying origin None (a_near near) before last known told durable = IsToldAfter origin known (IsNearAnswer near) told × (durable ≡ []) × (last ≡ before)
+IsAnswer copying origin None (a_table table) before last known told durable =
+    IsToldAfter origin known (IsTableAnswer (pairs_of (sources_of table) (targets_of table))) told × (durable ≡ []) × (last ≡ before)
+IsAnswer copying origin None Unkept before last known told durable = (told ≡ refusal_line (number_of OutOfMemory)) × (durable ≡ []) × (last ≡ before)
 IsAnswer copying origin None (Copy name) before last known told durable = IsCopied copying origin known (name_of name) told × (durable ≡ []) × (last ≡ before)
 IsAnswer copying origin None (Until number) before last known told durable =
     (shown : Result ℕ Refusal) × IfOk shown (IsReached origin number known) × IfErr shown IsUnshown × (told ≡ version_or_refusal shown) × (durable ≡ []) × (last ≡ before)
@@ -68,10 +77,40 @@ IsAnswer copying origin None End before last known told durable = (told ≡ refu
 IsAnswer copying origin None Ignored before last known told durable = (told ≡ []) × (durable ≡ []) × (last ≡ before)
 IsAnswer copying origin None Quit before last known told durable = (told ≡ []) × (durable ≡ []) × (last ≡ before)
 IsAnswer copying origin None Begin before last known told durable = (told ≡ []) × (durable ≡ []) × (last ≡ before)
+IsAnswer copying origin None Suppose before last known told durable = (told ≡ []) × (durable ≡ []) × (last ≡ before)
+IsAnswer copying origin None Forget before last known told durable = (told ≡ refusal_line (fault_number BadLine)) × (durable ≡ []) × (last ≡ before)
 IsAnswer copying origin (Some draft) End before last known told durable = IsEndAnswer origin (fault_of draft) draft.commands before last told durable
 IsAnswer copying origin (Some draft) other before last known told durable = (told ≡ []) × (durable ≡ []) × (last ≡ before)
 
+-- What the end of a group is told that is to be supposed, and what is supposed then: its fault, and nothing is; or the version that it is made of; or why
+-- nothing is.
+abbrev pub IsSupposedEnd : Origin → List Group → Option Code → Group → Option Supposition → List ℕ → Type 0
+IsSupposedEnd origin known (Some code) group supposed told = (supposed ≡ None) × (told ≡ refusal_line (fault_number code))
+IsSupposedEnd origin known None group (Some supposed) told = SupposesAfter origin known group supposed × (told ≡ suppose_line supposed.version)
+IsSupposedEnd origin known None group None told = (refusal : Refusal) × IsUnsupposed origin known group refusal × (told ≡ refusal_line (number_of refusal))
+
+-- What a line is told, where these lines are to be supposed and this is supposed, and what is supposed then. Lines of a group that is to be supposed are
+-- told nothing before its end, and nothing of it is accepted. What is supposed stays until `forget` or another `suppose`; queries are answered in it, and
+-- each other line as if nothing were supposed.
+abbrev pub IsSaid : Copying → Origin → Option Drafted → Option Supposition → Option Supposition → Option Drafted → Line → Option Accepted → Option Accepted → List Group → List ℕ → List Ticket → Type 0
+IsSaid copying origin (Some group) was is draft End before last known told durable = IsSupposedEnd origin known (fault_of group) group.commands is told × (durable ≡ []) × (last ≡ before)
+IsSaid copying origin (Some group) was is draft other before last known told durable = (is ≡ was) × (told ≡ []) × (durable ≡ []) × (last ≡ before)
+IsSaid copying origin None was is (Some draft) line before last known told durable = (is ≡ was) × IsAnswer copying origin (Some draft) line before last known told durable
+IsSaid copying origin None was is None Suppose before last known told durable = (is ≡ None) × (told ≡ []) × (durable ≡ []) × (last ≡ before)
+IsSaid copying origin None (Some supposed) is None Forget before last known told durable = (is ≡ None) × (told ≡ forgotten_line) × (durable ≡ []) × (last ≡ before)
+IsSaid copying origin None (Some supposed) is None (Query query) before last known told durable =
+    (is ≡ Some supposed) × IsSupposedAnswer supposed query told × (durable ≡ []) × (last ≡ before)
+IsSaid copying origin None was is None line before last known told durable = (is ≡ was) × IsAnswer copying origin None line before last known told durable
+
 -- The writer has this answer and no more. The beginning of the history that the session has goes on to one with what is told to be durable.
+pub record Says (copying : Copying) (origin : Origin) (supposing : Option Drafted) (was is : Option Supposition) (draft : Option Drafted) (line : Line) (before last : Option Accepted) (known : List Group) (had has : Option Beginning) (old new : Option (List ℕ)) : Type 0 where
+  pub told : List ℕ
+  pub durable : List Ticket
+  pub is_said : IsSaid copying origin supposing was is draft line before last known told durable
+  pub kept : HasMore origin had has durable
+  pub written : Appends old new told
+
+-- The same where nothing is supposed.
 pub record Tells (copying : Copying) (origin : Origin) (draft : Option Drafted) (line : Line) (before last : Option Accepted) (known : List Group) (had has : Option Beginning) (old new : Option (List ℕ)) : Type 0 where
   pub told : List ℕ
   pub durable : List Ticket
@@ -80,7 +119,7 @@ pub record Tells (copying : Copying) (origin : Origin) (draft : Option Drafted) 
   pub written : Appends old new told
 
 -- how far a session is: the bytes that are left of its lines, what it told, the groups that it told to be durable, those that it has seen or was told
--- of, its last accepted group, and the group that its lines are in, if they are in one
+-- of, its last accepted group, the group that its lines are in, if they are in one, or that which is to be supposed, and what is supposed
 pub record Standing : Type 0 where
   pub left : List ℕ
   pub told : List ℕ
@@ -88,6 +127,8 @@ pub record Standing : Type 0 where
   pub known : List Group
   pub last : Option Accepted
   pub draft : Option Drafted
+  pub supposing : Option Drafted
+  pub supposed : Option Supposition
 
 -- the line `quit`, which ends a session
 abbrev pub is_quit : Line → Bool
@@ -101,8 +142,9 @@ pub record IsTurn (copying : Copying) (last_line : LastLine) (origin : Origin) (
   pub read : ReadsOne last_line old.left (Some new.left) line
   pub answer : List ℕ
   pub receipts : List Ticket
-  pub answers : IsAnswer copying origin old.draft line old.last new.last new.known answer receipts
-  pub draft : new.draft ≡ next_draft old.draft line
+  pub answers : IsSaid copying origin old.supposing old.supposed new.supposed old.draft line old.last new.last new.known answer receipts
+  pub draft : new.draft ≡ next_draft_beside old.supposing old.draft line
+  pub supposing : new.supposing ≡ next_supposing old.supposing old.draft line
   pub told : new.told ≡ old.told ++ answer
   pub durable : new.durable ≡ old.durable ++ receipts
   pub begins : IsPrefix old.known new.known
@@ -114,7 +156,7 @@ AreTurns copying last_line origin first (next ∷ others) last = IsTurn copying 
 
 -- a session over this text that has just begun
 abbrev pub beginning : List ℕ → Standing
-beginning text = record { left = text; told = []; durable = []; known = []; last = None; draft = None }
+beginning text = record { left = text; told = []; durable = []; known = []; last = None; draft = None; supposing = None; supposed = None }
 
 -- the lines of the text up to here were answered in their order, and the writer has the answers and no more
 pub record HasServed (copying : Copying) (last_line : LastLine) (origin : Origin) (text : List ℕ) (old new : Option (List ℕ)) (last : Standing) : Type 0 where

@@ -1,5 +1,5 @@
 //! What a session answers, by its desk.
-ghost use Rattle.std.specs.Prelude.{◌≡◌, ◌<◌, ◌≤◌, ◌+◌, ◌∷◌, [], length, true, false, Option, None, Some, IfOk, IfErr, IfSome, IsOk, IsSome, OnOk};
+ghost use Rattle.std.specs.Prelude.{◌≡◌, ◌<◌, ◌≤◌, ◌+◌, ◌∷◌, [], length, true, false, Option, None, Some, IfOk, IfErr, IfSome, IsOk, IsSome, OnFalse, OnOk, OnTrue};
 ghost use Rattle.std.specs.Option.{ForSome};
 ghost use mathlib.Core.List.{IsPrefix};
 ghost use Rattle.published.specs.Showing.{IsUnseen};
@@ -196,6 +196,17 @@ impl<N: Naming> Session<N> {
         }
     }
 
+    /// Whether its lines are in a group that is to be carried out.
+    pub(crate) fn is_within_group(&self) -> bool
+        ensures within { OnTrue result (IsSome self.now.draft) }
+        ensures outside { OnFalse result (self.now.draft ≡ None) }
+    {
+        match &self.draft {
+            Some(_) => true,
+            None => false,
+        }
+    }
+
     /// Finds a place among the readers, where the session has none. Refused is what `Handle::place` refuses, several times in a row.
     fn take_place<D: Disk + Drop, G: Gate + Drop, R: Threads + Wait + Copy>(
         &mut self,
@@ -291,7 +302,7 @@ impl<N: Naming> Session<N> {
 
     /// What is shown at this moment, at the session's place among the readers: the groups after which it stands begin with all that the session has seen
     /// and learned. Refused is a place or a view that is not found.
-    fn see<D: Disk + Drop, G: Gate + Drop, R: Threads + Wait + Copy>(
+    pub(crate) fn see<D: Disk + Drop, G: Gate + Drop, R: Threads + Wait + Copy>(
         &mut self,
         desk: &Handle<N, D, G, R>,
     ) -> Result<Glance<N>, Refusal>
@@ -472,10 +483,15 @@ impl<N: Naming> Session<N> {
             }
             Line::Query(query) => tell_reply(out, &self.ask(desk, query)),
             Line::Look(look) => self.look(desk, look, out),
+            Line::Near(near) => self.near(desk, near, out),
+            Line::Table(table) => self.table(alloc, desk, &table, out),
+            Line::Unkept => tell_refusal(out, Refusal::OutOfMemory),
             Line::Copy(name) => self.copy(alloc, desk, copies, &name, out),
             Line::Wait => tell_version(out, self.wait(desk)),
             Line::Until(number) => tell_version(out, self.wait_until(desk, number)),
             Line::State => tell_state(out, desk.state()),
+            Line::Suppose => Ok(()),
+            Line::Forget => tell_fault(out, Code::BadLine),
             Line::Refused(code) => tell_fault(out, code),
         }
     }
@@ -505,7 +521,7 @@ impl<N: Naming> Session<N> {
         let Some(draft) = self.draft.take() else {
             return self.answer_alone(alloc, desk, copies, line, out);
         };
-        if is_end(line) {
+        if is_end(&line) {
             return self.answer_end(desk, draft, out);
         }
         self.draft = Some(draft.with(line));

@@ -4,7 +4,7 @@ ghost use Rattle.std.specs.Str.{bytes_eq};
 ghost use lib.Chars.{codes};
 ghost use Rattle.sessions.specs.Spelled.{word_from};
 
-use crate::words::{Word, is_copy, word_of};
+use crate::words::{Word, is_copy, is_table, word_of};
 
 /// The most bytes that a word has.
 const LONGEST_WORD: usize = 9;
@@ -54,5 +54,12 @@ impl Letters {
         ensures { result ≡ bytes_eq (take self.now.count self.now.bytes) (codes "copy") }
     {
         is_copy(&self.bytes[..self.count])
+    }
+
+    /// Whether they spell `table`, behind which as many numbers stand as the first two of them say.
+    pub(crate) fn are_table(&self) -> bool
+        ensures { result ≡ bytes_eq (take self.now.count self.now.bytes) (codes "table") }
+    {
+        is_table(&self.bytes[..self.count])
     }
 }

@@ -8,6 +8,7 @@ mod copies;
 mod doors;
 mod drafts;
 mod fields;
+mod finding;
 mod letters;
 mod lines;
 mod names;
@@ -15,7 +16,10 @@ mod past;
 mod reading;
 mod serving;
 mod stating;
+mod tables;
+mod supposing;
 mod telling;
+mod told_supposed;
 mod words;
 
 pub use answering::Answering;

@@ -1,4 +1,4 @@
-//! The lines of a session, judged byte by byte: of the bytes of a line none is kept but those of a word and of a name.
+//! The lines of a session, judged byte by byte: of the bytes of a line none is kept but those of a word and of a name, and the numbers of a table.
 ghost use Rattle.std.specs.Prelude.{◌≡◌, ◌||◌, ◌∷◌, ◌++◌, [], List, ℕ, true, false};
 ghost use Rattle.std.specs.Bool.{Decides};
 ghost use Rattle.std.specs.Io.BufRead.{strip_last};
@@ -15,14 +15,17 @@ ghost use Rattle.sessions.specs.Turns.{is_quit};
 use crate::fields::{Field, Numbers, one_of, three_of, two_of};
 use crate::letters::Letters;
 use crate::names::{Name, is_name_byte};
+use crate::tables::{Listing, Table};
 use crate::words::{Bare, One, Two, Word};
+use desk::Near;
 use dimacs::{Code, Numeral, TwoNumbers};
 use printing::Look;
 use roadnet::Command;
 use rows::Query;
+use std::alloc::Global;
 
 /// What a line asks for.
-#[derive(Clone, Copy)]
+#[derive(Drop)]
 pub(crate) enum Line {
     /// Nothing: a line with no field, or a comment.
     Ignored,
@@ -30,6 +33,12 @@ pub(crate) enum Line {
     Query(Query),
     /// What the network has.
     Look(Look),
+    /// The nodes near one.
+    Near(Near),
+    /// The lengths of all pairs of sources and targets.
+    Table(Table),
+    /// A table, for whose numbers no memory was given.
+    Unkept,
     /// A copy of the network is to be made under this name.
     Copy(Name),
     /// The session's last accepted command is to be shown.
@@ -38,6 +47,10 @@ pub(crate) enum Line {
     Until(u64),
     /// How the desk stands.
     State,
+    /// A group begins that is to be supposed.
+    Suppose,
+    /// What is supposed is given up.
+    Forget,
     Quit,
     /// A group begins.
     Begin,
@@ -48,21 +61,28 @@ pub(crate) enum Line {
 }
 
 /// Whether a line ends the session.
-pub(crate) fn is_quit(line: Line) -> bool
-    ensures { result ≡ is_quit line }
+pub(crate) fn is_quit(line: &Line) -> bool
+    ensures { result ≡ is_quit line.now }
 {
     matches!(line, Line::Quit)
 }
 
 /// Whether a line ends a group.
-pub(crate) fn is_end(line: Line) -> bool
-    ensures { Decides result (line ≡ Line.End) }
+pub(crate) fn is_end(line: &Line) -> bool
+    ensures { Decides result (line.now ≡ Line.End) }
 {
     matches!(line, Line::End)
 }
 
+/// Whether with a line a group begins that is to be supposed.
+pub(crate) fn is_suppose(line: Line) -> bool
+    ensures { Decides result (line ≡ Line.Suppose) }
+{
+    matches!(line, Line::Suppose)
+}
+
 /// How far a line came, by what it asks for.
-#[derive(Clone, Copy)]
+#[derive(Drop)]
 pub(crate) enum Stage {
     /// Blanks alone.
     Blank,
@@ -76,6 +96,11 @@ pub(crate) enum Stage {
     Behind {
         word: Word,
         numbers: Numbers,
+        field: Field,
+    },
+    /// Behind `table`: the numbers that are whole, and the one that may go on.
+    Listing {
+        listing: Listing,
         field: Field,
     },
     /// Behind `copy`, and no byte of a name came.
@@ -104,6 +129,8 @@ fn bare_line(word: Bare) -> Line
         Bare::Landmarks => Line::Look(Look::Landmarks),
         Bare::Closed => Line::Look(Look::Closed),
         Bare::State => Line::State,
+        Bare::Suppose => Line::Suppose,
+        Bare::Forget => Line::Forget,
     }
 }
 
@@ -142,6 +169,18 @@ fn two_line(word: Two, first: u64, second: u64) -> Line
         Two::Arcs => Line::Look(Look::Between {
             tail: first,
             head: second,
+        }),
+        Two::Reach => Line::Near(Near::Reach {
+            source: first,
+            limit: second,
+        }),
+        Two::Reached => Line::Near(Near::Reached {
+            target: first,
+            limit: second,
+        }),
+        Two::Nearest => Line::Near(Near::Nearest {
+            source: first,
+            count: second,
         }),
     }
 }
@@ -244,12 +283,18 @@ fn going_on(letters: Letters, byte: u8) -> Stage
 }
 
 /// A line whose first field is whole.
-fn behind(letters: Letters, blank: u8) -> Stage
+fn behind(alloc: Global, letters: Letters, blank: u8) -> Stage
     requires { is_blank blank ≡ true }
     ensures { (front : List ℕ) → IsStage front (Stage.Beginning letters) → IsStage (front ++ blank ∷ []) result }
 {
     if letters.are_copy() {
         return Stage::Unnamed;
+    }
+    if letters.are_table() {
+        return Stage::Listing {
+            listing: Listing::new(alloc),
+            field: Field::Unbegun,
+        };
     }
     match letters.word() {
         Some(word) => Stage::Behind {
@@ -277,6 +322,30 @@ fn with_field(word: Word, numbers: Numbers, field: Field, byte: u8) -> Stage
         numbers,
         field: field.with(byte),
     }
+}
+
+/// A line `table` that goes on behind its word.
+fn with_number(listing: Listing, field: Field, byte: u8) -> Stage
+    ensures { (front : List ℕ) → IsStage front (Stage.Listing listing field) → IsStage (front ++ byte ∷ []) result }
+{
+    if is_blank(byte) {
+        return Stage::Listing {
+            listing: listing.ended(field),
+            field: Field::Unbegun,
+        };
+    }
+    Stage::Listing {
+        listing,
+        field: field.with(byte),
+    }
+}
+
+/// What a line `table` asks for that ends here.
+fn listed_line(listing: Listing, field: Field) -> Line
+    ensures { (front : List ℕ) → IsStage front (Stage.Listing listing field) → IsLine (fields front) result }
+{
+    let listing = listing.ended(field);
+    listing.line()
 }
 
 /// A line `copy` whose name begins with this byte, which is no blank.
@@ -325,8 +394,8 @@ fn behind_name(name: Name, byte: u8) -> Stage
 }
 
 impl Stage {
-    /// The line with one more byte.
-    fn with(self, byte: u8) -> Stage
+    /// The line with one more byte. It takes memory for the numbers of a table alone.
+    fn with(self, alloc: Global, byte: u8) -> Stage
         ensures { (front : List ℕ) → IsStage front self → IsStage (front ++ byte ∷ []) result }
     {
         match self {
@@ -339,7 +408,7 @@ impl Stage {
             }
             Stage::Beginning(letters) => {
                 if is_blank(byte) {
-                    behind(letters, byte)
+                    behind(alloc, letters, byte)
                 } else {
                     going_on(letters, byte)
                 }
@@ -351,6 +420,7 @@ impl Stage {
                 numbers,
                 field,
             } => with_field(word, numbers, field, byte),
+            Stage::Listing { listing, field } => with_number(listing, field, byte),
             Stage::Unnamed => {
                 if is_blank(byte) {
                     Stage::Unnamed
@@ -380,6 +450,7 @@ impl Stage {
                 numbers,
                 field,
             } => read_line(word, numbers.ended(field)),
+            Stage::Listing { listing, field } => listed_line(listing, field),
             Stage::Unnamed => Line::Refused(Code::BadLine),
             Stage::Naming(name) => Line::Copy(name),
             Stage::Named(name) => Line::Copy(name),
@@ -387,8 +458,8 @@ impl Stage {
     }
 }
 
-/// A line as far as it came: however long it is, it takes a few bytes and no memory.
-#[derive(Clone, Copy)]
+/// A line as far as it came: however long it is, it takes a few bytes and no memory, but for the numbers of a table.
+#[derive(Drop)]
 pub(crate) struct LineSoFar {
     stage: Stage,
     /// A carriage return came last, which is no part of the line where the line ends behind it.
@@ -407,20 +478,20 @@ impl LineSoFar {
     }
 
     /// How far the line came with all its bytes, also with a carriage return at their end.
-    fn settled(self) -> Stage
+    fn settled(self, alloc: Global) -> Stage
         ensures { (front : List ℕ) → IsSoFar front self → IsStage front result }
     {
         if self.after_return {
-            return self.stage.with(b'\r');
+            return self.stage.with(alloc, b'\r');
         }
         self.stage
     }
 
     /// The line with one more byte, which is no line feed.
-    pub(crate) fn with(self, byte: u8) -> LineSoFar
+    pub(crate) fn with(self, alloc: Global, byte: u8) -> LineSoFar
         ensures { (front : List ℕ) → IsSoFar front self → IsSoFar (front ++ byte ∷ []) result }
     {
-        let stage = self.settled();
+        let stage = self.settled(alloc);
         if byte == b'\r' {
             return LineSoFar {
                 stage,
@@ -428,7 +499,7 @@ impl LineSoFar {
             };
         }
         LineSoFar {
-            stage: stage.with(byte),
+            stage: stage.with(alloc, byte),
             after_return: false,
         }
     }

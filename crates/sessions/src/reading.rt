@@ -5,6 +5,7 @@ ghost use Rattle.sessions.specs.Reads.{ReadsLine};
 
 use crate::lines::{Line, LineSoFar};
 use dimacs::{Code, Counted};
+use std::alloc::Global;
 use std::io::BufRead;
 use std::sync::Wait;
 
@@ -17,9 +18,11 @@ pub enum LastLine {
     Dropped,
 }
 
-/// What the next line asks for; none where there is no more line. The one error is a failed call of the reader. No memory is taken.
+/// What the next line asks for; none where there is no more line. The one error is a failed call of the reader. Memory is taken
+/// for the numbers of a table alone.
 pub(crate) fn next_line<R: Wait, I: BufRead>(
     rt: &R,
+    alloc: Global,
     reader: &mut Counted<'_, I>,
     last_line: LastLine,
 ) -> Result<Option<Line>, Code>
@@ -40,7 +43,7 @@ pub(crate) fn next_line<R: Wait, I: BufRead>(
             }
             Some(b'\n') => return Ok(Some(line.line())),
             Some(byte) => {
-                line = line.with(byte);
+                line = line.with(alloc, byte);
                 is_empty = false;
             }
         }

@@ -11,6 +11,7 @@ use crate::answers::Session;
 use crate::copies::Copies;
 use crate::lines::is_quit;
 use crate::reading::{LastLine, next_line};
+use crate::supposing::Supposing;
 use desk::{Gate, Handle, Naming};
 use dimacs::Counted;
 use disk::Disk;
@@ -37,11 +38,12 @@ pub struct Terms<'a, C> {
 ///
 /// The lines are the six commands (`ok N` once the command is durable, or `no CODE`), `dist S T`, `from X T` and `lower S T` (`v V` and an
 /// answer line, from a glance of that moment, or `no CODE`), `arc K`, `arcs T H`, `landmarks` and `closed` (`v V` and lines of the network that is
-/// shown, from a glance too, which is held until they are written), `wait` (`v V` once the session's last accepted group is shown, or `no CODE`),
+/// shown, from a glance too, which is held until they are written), `reach S L`, `reached T L`, `nearest S K` and `table A B S.. T..` (`v V` and lines of
+/// lengths, all in the network of that version, or `no CODE`), `wait` (`v V` once the session's last accepted group is shown, or `no CODE`),
 /// `until N` (`v V` once version N is shown), `state` (how the desk stands, in a line), `copy NAME` (`copied V` once a copy of the network that is shown
 /// is made under this name, of 1 to 64 letters, digits, `-` and `_`, or `no CODE`; `no 1` where no copies are made) and `quit`. The lines `begin` and `end` enclose the commands of a group: nothing is answered before its end, which answers for the whole, `ok N` once it
 /// is durable, or the code of its first line that has a fault, or `no CODE`. A group that `quit` or the end of the input cuts off is dropped. Lines with no field and comments, which begin with `#`, have no answer; any other line has `no 1` or `no 5`. No line is too long:
-/// a line takes no memory; a group takes 32 bytes a command. A last line that no line feed ends is a line, or is dropped, as the terms say: what is
+/// a line takes no memory, but a table 8 bytes a number; a group takes 32 bytes a command. A last line that no line feed ends is a line, or is dropped, as the terms say: what is
 /// carried out are whole lines alone then.
 ///
 /// Between two lines the session holds no view of the desk and keeps no row: rows are kept by the desk for all sessions.
@@ -74,17 +76,18 @@ pub fn serve<
     ensures same_writer { IsSameWriter writer.old writer.new }
 {
     let mut session = Session::new();
+    let mut supposing = Supposing::new();
     for _ in rt.forever() {
-        let line = match next_line(rt, reader, terms.last_line) {
+        let line = match next_line(rt, alloc, reader, terms.last_line) {
             Ok(None) => return (Ok(()), session),
             Ok(Some(line)) => line,
             Err(_) => return (Err(Failed::Code(Refusal::Read)), session),
         };
-        if is_quit(line) {
+        if is_quit(&line) {
             return (Ok(()), session);
         }
         let is_counted = terms.answering.begin();
-        let told = session.answer(alloc, desk, terms.copies, line, writer);
+        let told = supposing.answer(rt, alloc, desk, terms.copies, &mut session, line, writer);
         terms.answering.end(is_counted);
         if let Err(failed) = told {
             return (Err(failed), session);

@@ -58,7 +58,7 @@ fn put_journal<W: Write>(out: &mut CountedWriter<'_, W>, state: &DeskState) -> R
     put_named(out, b" pages ", state.pages)
 }
 
-/// ` landmarks L left C`
+/// ` landmarks L readers R left C`
 fn put_life<W: Write>(out: &mut CountedWriter<'_, W>, state: &DeskState) -> Result<(), Failed>
     ensures ok { OnOk result (Appends (W.contents (writer_of out.old)) (W.contents (writer_of out.new)) (life_part state.now)) }
     ensures refused { IfErr result (λ failed. failed ≡ Failed.Code Refusal.Write) }
@@ -66,6 +66,7 @@ fn put_life<W: Write>(out: &mut CountedWriter<'_, W>, state: &DeskState) -> Resu
     ensures same { IsSameWriter out.old out.new }
 {
     put_named(out, b" landmarks ", state.landmarks)?;
+    put_named(out, b" readers ", state.readers)?;
     put_named(out, b" left ", state.left)
 }
 

@@ -17,6 +17,8 @@ pub(crate) enum Bare {
     Landmarks,
     Closed,
     State,
+    Suppose,
+    Forget,
 }
 
 /// A word with one number behind it.
@@ -34,6 +36,9 @@ pub(crate) enum Two {
     /// That of a command or of a query.
     Common(TwoNumbers),
     Arcs,
+    Reach,
+    Reached,
+    Nearest,
 }
 
 /// A word by the numbers that stand behind it.
@@ -72,6 +77,15 @@ fn two_of_session(field: &[u8]) -> Option<Two>
     if field == b"arcs".as_slice() {
         return Some(Two::Arcs);
     }
+    if field == b"reach".as_slice() {
+        return Some(Two::Reach);
+    }
+    if field == b"reached".as_slice() {
+        return Some(Two::Reached);
+    }
+    if field == b"nearest".as_slice() {
+        return Some(Two::Nearest);
+    }
     None
 }
 
@@ -100,6 +114,12 @@ fn bare_of_session(field: &[u8]) -> Option<Bare>
     if field == b"state".as_slice() {
         return Some(Bare::State);
     }
+    if field == b"suppose".as_slice() {
+        return Some(Bare::Suppose);
+    }
+    if field == b"forget".as_slice() {
+        return Some(Bare::Forget);
+    }
     None
 }
 
@@ -110,7 +130,14 @@ pub(crate) fn is_copy(field: &[u8]) -> bool
     field == b"copy".as_slice()
 }
 
-/// The word that a field spells, behind which numbers stand.
+/// Whether a field spells `table`, behind which as many numbers stand as the first two of them say.
+pub(crate) fn is_table(field: &[u8]) -> bool
+    ensures { result ≡ bytes_eq field.now (codes "table") }
+{
+    field == b"table".as_slice()
+}
+
+/// The word that a field spells, behind which a certain count of numbers stands.
 pub(crate) fn word_of(field: &[u8]) -> Option<Word>
     ensures { result ≡ word_from field.now }
 {

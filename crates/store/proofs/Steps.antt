@@ -21,9 +21,9 @@ use Rattle.checkpoint.specs.Loading.{head_from, loaded_from}
 use Rattle.store.specs.Opening.{header_from, Current, current_from}
 
 -- what holds of an answer that is handed on
-pub of_found : {X Y : Type 0} (r : Result X Y) (A B C D E Z : X → Type 0) → IfOk r A → IfOk r B → IfOk r C → IfOk r D → IfOk r E → ((x : X) → A x → B x → C x → D x → E x → Z x) → IfOk r Z
-of_found (Ok x) A B C D E Z a b c d e f = f x a b c d e
-of_found (Err y) A B C D E Z a b c d e f = tt
+pub of_found : {X Y : Type 0} (r : Result X Y) (A B Z : X → Type 0) → IfOk r A → IfOk r B → ((x : X) → A x → B x → Z x) → IfOk r Z
+of_found (Ok x) A B Z a b f = f x a b
+of_found (Err y) A B Z a b f = tt
 
 bind_same : {X Y : Type 0} (r : Result X Refusal) (f f' : X → Result Y Refusal) → ((x : X) → f x ≡ f' x) → (r >>= f) ≡ (r >>= f')
 bind_same (Ok x) f f' e = e x

@@ -1,5 +1,5 @@
 -- What a commit answers, and what it asks of a store's content.
-use Rattle.std.specs.Prelude.{◌≡◌, ◌⊎◌, ℕ, ◌+◌, Bool, List, [], ◌∷◌, length, map, Option, Some, None, nat_lt, nat_le, if◌then◌else◌}
+use Rattle.std.specs.Prelude.{◌≡◌, ◌⊎◌, ℕ, ◌+◌, Bool, List, [], ◌∷◌, length, map, Option, Some, None, Result, MatchResult, nat_lt, nat_le, if◌then◌else◌}
 use Rattle.roadnet.specs.declared.refusals.Refusal.{Refusal}
 use Rattle.roadnet.specs.declared.refusals.Refusal.TheVariants.{Broken, VersionsExhausted, JournalFull, OutOfMemory, Device}
 use Rattle.roadnet.specs.declared.commands.Command.{Command}
@@ -24,6 +24,10 @@ refusal_of_commit broken version unchecked journal_pages net groups =
 -- With what a commit may refuse that has this cause: with the cause; and where there is none, for want of memory or since the disk failed.
 abbrev pub MayRefuseCommit : Option Refusal → Refusal → Type 0
 MayRefuseCommit cause refusal = (cause ≡ Some refusal) ⊎ ((cause ≡ None) × ((refusal ≡ OutOfMemory) ⊎ (refusal ≡ Device)))
+
+-- It refuses exactly where there is a cause; and where there is none, for want of memory or since the disk failed.
+abbrev pub RefusesCommit : {T : Type 0} → Option Refusal → Result T Refusal → Type 0
+RefusesCommit cause result = MatchResult result (λ _. cause ≡ None) (MayRefuseCommit cause)
 
 -- The content stands for this, and no page of its journal is of the next sequence or a later one.
 abbrev pub StandsTidily : List ℕ → Standing → Type 0

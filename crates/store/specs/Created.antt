@@ -5,7 +5,7 @@ use Rattle.pages.specs.declared.header.Header.{Header}
 use Rattle.pages.specs.declared.content.Slot.TheVariants.{A, B}
 use Rattle.pages.specs.Contents.{Head}
 use Rattle.pages.specs.Spelling.{page_of, header_page, arc_page, word_page, head_page, ends_of, word_of}
-use Rattle.pages.specs.Layout.{Part, Front, Arcs, HeadOf, Words, EndsOf, Journal, IsPart, page_number, page_count}
+use Rattle.pages.specs.Layout.{Part, Front, Arcs, HeadOf, Words, EndsOf, Journal, IsPart, arc_pages, word_pages, page_number, page_count}
 use Rattle.pages.specs.declared.content.Format.TheVariants.{Two}
 use Rattle.storefile.specs.StoreFile.{page, part}
 use Rattle.disk.specs.Contents.{overwritten}
@@ -51,9 +51,23 @@ unfoldable pub first_pages : (ℕ → List ℕ) → ℕ → List ℕ
 first_pages pages zero = []
 first_pages pages (suc n) = first_pages pages n ++ pages n
 
+-- those of the arc pages, of a slot's word pages, and of so many blank ones
+abbrev pub arc_bytes : Header → Net → List ℕ
+arc_bytes h net = first_pages (page_of_arcs net) (arc_pages h)
+
+abbrev pub word_bytes : Header → Net → List ℕ
+word_bytes h net = first_pages (page_of_words net) (word_pages h)
+
+abbrev pub blank_bytes : ℕ → List ℕ
+blank_bytes count = first_pages (λ _. blank_page) count
+
 -- the file with the gate of this page open
 abbrev pub with_gate : List ℕ → ℕ → List ℕ
 with_gate file k = overwritten file (4096 * k + 4095) (open_byte ∷ [])
+
+-- with those of slot A's head and of the header open
+abbrev pub with_both_gates : Header → List ℕ → List ℕ
+with_both_gates h file = with_gate (with_gate file (page_number h (HeadOf A))) 0
 
 -- ---- pages that are written one behind the other
 
@@ -65,6 +79,10 @@ pub record Waiting : Type 0 where
 -- the file as far as it goes, the pages that wait among it
 abbrev pub so_far : List ℕ → Waiting → List ℕ
 so_far content waiting = content ++ waiting.bytes
+
+-- these bytes are added to it
+abbrev pub Adds : List ℕ → List ℕ → Waiting → List ℕ → Waiting → Type 0
+Adds bytes content waiting content' waiting' = so_far content' waiting' ≡ so_far content waiting ++ bytes
 
 -- the next page comes behind all these
 abbrev pub IsInStep : List ℕ → Waiting → Type 0

@@ -6,5 +6,6 @@ pub mod Going
 pub mod Inspecting
 pub mod Migrating
 pub mod Opening
+pub mod PagedCalls
 pub mod Resting
 pub mod State

@@ -1,13 +1,15 @@
 -- What a store that is made of another one is, and why there is none: a copy, or one of format 1 that is migrated.
-use Rattle.std.specs.Prelude.{◌≡◌, ◌≢◌, ◌⊎◌, ℕ, Bool, true, IsTrue, List, [], Option, Some, None, unwrap_or}
+use Rattle.std.specs.Prelude.{◌≡◌, ◌≢◌, ◌⊎◌, ℕ, Bool, true, IsTrue, List, [], Option, Some, None, unwrap_or, Result, MatchResult}
 use Rattle.roadnet.specs.declared.refusals.Refusal.{Refusal}
-use Rattle.roadnet.specs.declared.refusals.Refusal.TheVariants.{NotEmpty, TooLarge}
+use Rattle.roadnet.specs.declared.refusals.Refusal.TheVariants.{NotEmpty, TooLarge, Device}
 use Rattle.roadnet.specs.Net.{Net, IsRoomFor}
 use Rattle.pages.specs.declared.content.Format.{Format}
 use Rattle.pages.specs.declared.content.Format.TheVariants.{One, Two}
 use Rattle.pagereader.specs.Outcomes.{ends_opening}
 use Rattle.storefile.specs.StoreFile.{Stored, StandsBy}
+use Rattle.disk.specs.Contents.{Rose}
 use Rattle.store.specs.Opening.{IsPassing}
+use Rattle.store.specs.State.{StoreState}
 use Rattle.storefile.specs.Judging.{judged_in}
 
 -- the room that is given, or that which the network has
@@ -61,6 +63,15 @@ MayRefuseToCopy new old room refusal = MayRefuseToCopyIn Two new old room refusa
 
 abbrev pub MayRefuseToMigrate : List ℕ → List ℕ → Option ℕ → Refusal → Type 0
 MayRefuseToMigrate new old room refusal = MayRefuseToCopyIn One new old room refusal
+
+-- the count of failures of one of two disks rose: of this one, or of that one
+abbrev pub OneRose : {O D : Type 0} → (O → ℕ) → (D → ℕ) → O → O → D → D → Type 0
+OneRose of_old of_new old old' new new' = Rose (of_old old) (of_old old') ⊎ Rose (of_new new) (of_new new')
+
+-- no failure of either disk is counted, unless 43 is told
+abbrev pub CountsCopy : {O D : Type 0} → (O → ℕ) → (D → ℕ) → O → O → D → Result (StoreState D) (Refusal × D) → Type 0
+CountsCopy of_old of_new old old' new result =
+    MatchResult result (λ store. (of_old old' ≡ of_old old) × (of_new store.disk ≡ of_new new)) (λ refused. refused.0 ≢ Device → (of_old old' ≡ of_old old) × (of_new refused.1 ≡ of_new new))
 
 -- the refusals with which a copy may end, whatever the disks: those of an opening, a disk that is not empty, a room that is none
 abbrev pub ends_copying : Refusal → Bool

@@ -1,6 +1,8 @@
 -- The parts of opening a file.
 use Rattle.std.specs.Prelude.{◌≡◌, ◌⊎◌, Some, ℕ, ◌+◌, ◌*◌, nat_le, ◌==◌, List, length, Result, Ok}
-use Rattle.storefile.specs.StoreFile.{page, joined, StandsFor}
+use Rattle.storefile.specs.StoreFile.{page, joined, journal_page_at, StandsFor}
+use Rattle.storefile.specs.Standing.{Standing}
+use Rattle.store.specs.declared.found.Found.{Found}
 use Rattle.roadnet.specs.declared.commands.Command.{Command}
 use Rattle.roadnet.specs.declared.refusals.Refusal.{Refusal}
 use Rattle.roadnet.specs.declared.refusals.Refusal.TheVariants.{NotAStore, WrongFormat, Damaged, OutOfMemory, Device}
@@ -10,8 +12,9 @@ use Rattle.pages.specs.declared.header.Header.{Header}
 use Rattle.pages.specs.declared.content.Slot.{Slot}
 use Rattle.pages.specs.Contents.{Head}
 use Rattle.pages.specs.Layout.{page_count}
-use Rattle.storefile.specs.Judging.{◌>>=◌, unless_so, spelled_at, begins_as_store, format_of, header_in, entry_in, ends_from, current_slot, judged_in}
-use Rattle.checkpoint.specs.Loading.{loaded_from}
+use Rattle.storefile.specs.Judging.{◌>>=◌, unless_so, spelled_at, begins_as_store, format_of, header_in, entry_in, ends_from, current_slot, journal_from, judged_in}
+use Rattle.checkpoint.specs.declared.slots.Checkpoint.{Checkpoint}
+use Rattle.checkpoint.specs.Loading.{head_of, loaded_from}
 use Rattle.pages.specs.Limits.{most_versions}
 use Rattle.pages.specs.declared.content.Format.{Format}
 use Rattle.pages.specs.declared.content.Format.TheVariants.{Two}
@@ -25,6 +28,10 @@ header_from format size page = do
   h ← spelled_at 0 (header_in page)
   _ ← unless_so (size == 4096 * page_count h) (Damaged 0)
   Ok h
+
+-- what is found there, as the file's standing
+abbrev pub standing_by : Found → Standing
+standing_by found = record { header = found.header; slot = found.slot; epoch = found.epoch; network = found.network; version = found.version; next = found.next_sequence; unchecked = found.unchecked }
 
 -- the file begins with the header of a store of this format, and is as long as the header announces
 abbrev pub HeaderFitsIn : Format → List ℕ → Type 0
@@ -47,6 +54,17 @@ current_from pages h = do
   loaded ← loaded_from pages h slot ends
   Ok (record { slot = slot; head = loaded.0; network = loaded.1 })
 
+abbrev pub current_of : (Slot × Checkpoint) → Current
+current_of x = record { slot = x.0; head = head_of x.1; network = x.1.network }
+
+-- the groups of the journal from this sequence on, page by page, and the network after them; that before is net, at version v
+abbrev pub journal_of : (ℕ → List ℕ) → Header → ℕ → ℕ → Net → Result (List (List (List Command)) × Net) Refusal
+journal_of pages h from v net = journal_from pages h h.journal_pages from v net
+
+-- those behind a checkpoint
+abbrev pub journal_behind : (ℕ → List ℕ) → Header → Checkpoint → Result (List (List (List Command)) × Net) Refusal
+journal_behind pages h c = journal_of pages h c.next_sequence c.version c.network
+
 -- the groups of the journal page of this number, and the network after them; that before is net, at version v
 abbrev pub entry_from : Format → ℕ → List ℕ → ℕ → Net → Result (List (List Command) × Net) Refusal
 entry_from format k page v net = do
@@ -55,6 +73,10 @@ entry_from format k page v net = do
   _ ← unless_so (nat_le (v + length e.groups) most_versions) (Damaged k)
   next ← spelled_at k (after net e.groups)
   Ok (e.groups, next)
+
+-- the same of the page at the place of this sequence
+abbrev pub entry_at : (ℕ → List ℕ) → Header → ℕ → ℕ → Net → Result (List (List Command) × Net) Refusal
+entry_at pages h sequence v net = entry_from h.format (journal_page_at h sequence) (pages (journal_page_at h sequence)) v net
 
 -- the groups of a page, and the network and version after them
 pub record IsCarriedOut (said : Result (List (List Command) × Net) Refusal) (old : ℕ) (net : Net) (new : ℕ) : Type 0 where
@@ -68,6 +90,25 @@ pub record AreCarriedOut (said : Result (List (List (List Command)) × Net) Refu
   pub said_is : said ≡ Ok (groups, net)
   pub count_is : length groups ≡ count
   pub version_is : new ≡ old + length (joined groups)
+
+-- the page at the place of this sequence leads from one network, at this version, to another
+abbrev pub ReplaysPage : (ℕ → List ℕ) → Header → ℕ → ℕ → Net → Net → ℕ → Type 0
+ReplaysPage pages h sequence version old net new = IsCarriedOut (entry_at pages h sequence version old) version net new
+
+-- so do so many pages from this sequence on, which are the whole journal
+abbrev pub ReplaysJournal : (ℕ → List ℕ) → Header → ℕ → ℕ → ℕ → Net → Net → ℕ → Type 0
+ReplaysJournal pages h from count version old net new = AreCarriedOut (journal_of pages h from version old) count version net new
+
+-- what is found has this header and this slot, and the numbers that follow from the slot's checkpoint
+pub record IsFoundBehind (h : Header) (slot : Slot) (c : Checkpoint) (found : Found) : Type 0 where
+  pub header : found.header ≡ h
+  pub slot_is : found.slot ≡ slot
+  pub epoch : found.epoch ≡ c.epoch
+  pub next : found.next_sequence ≡ c.next_sequence + found.unchecked
+
+-- it has the network and the version after the journal behind that checkpoint
+abbrev pub HasJournalOf : (ℕ → List ℕ) → Header → Checkpoint → Found → Type 0
+HasJournalOf pages h c found = AreCarriedOut (journal_behind pages h c) found.unchecked c.version found.network found.version
 
 -- a refusal that says nothing of the file: no memory was given, or the disk failed
 abbrev pub IsPassing : Refusal → Type 0

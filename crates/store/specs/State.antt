@@ -1,13 +1,15 @@
 -- What a store is to those who call it: numbers and a network, and nothing of its pages but how many are unchecked, how many there are, and which slot
 -- is current.
-use Rattle.std.specs.Prelude.{◌≡◌, ℕ, Bool, not, ◌&&◌, ◌==◌, ◌+◌, ◌-◌, ◌≤◌, is_none, unwrap_or, List, length, Option, Some}
+use Rattle.std.specs.Prelude.{◌≡◌, ℕ, Bool, false, not, ◌&&◌, ◌==◌, ◌+◌, ◌-◌, ◌≤◌, is_none, unwrap_or, List, length, Option, Some}
 use Rattle.disk.specs.declared.disk.Disk.{Ghosts}
+use Rattle.disk.specs.Moments.{LeavesOnly}
 use Rattle.roadnet.specs.declared.commands.Command.{Command}
 use Rattle.roadnet.specs.declared.refusals.Refusal.{Refusal}
 use Rattle.roadnet.specs.Net.{Net}
 use Rattle.pages.specs.declared.content.Slot.{Slot}
 use Rattle.pages.specs.Layout.{slot_pages, pages_for}
 use Rattle.pages.specs.Limits.{most_versions}
+use Rattle.pagereader.specs.Outcomes.{failures_with}
 use Rattle.storefile.specs.StoreFile.{StandsFor, StandsTidyFor}
 use Rattle.storefile.specs.Standing.{Standing, standing_of, IsBeforeOrAfter}
 use Rattle.store.specs.declared.paged.Paged.{Paged}
@@ -118,7 +120,27 @@ IsDurable s content = StandsTidyFor s.journal_pages s.checkpoint_pages content s
 abbrev pub IsDurableOrAfter : {D : Type 0} → StoreState D → List (List Command) → List ℕ → Type 0
 IsDurableOrAfter s commands content = IsBeforeOrAfter s.journal_pages s.checkpoint_pages s.network s.version commands content
 
+-- the content stands, tidily, for this network at this version, with so many journal pages and a slot for the network's room
+abbrev pub IsNewFor : ℕ → Net → ℕ → List ℕ → Type 0
+IsNewFor journal_pages net version content = StandsTidyFor journal_pages (checkpoint_pages_of (length net.arcs) net) content net version
+
+-- this holds while the store, which came tidy, is not broken
+abbrev pub WhileTidy : {D : Type 0} → (D → Type 0) → (D → List ℕ) → StoreState D → Type 0 → Type 0
+WhileTidy honest content s P = CameTidy honest content s.given → s.broken ≡ false → P
+
+-- this holds until the first commit, while the store is not broken
+abbrev pub BeforeCommit : {D : Type 0} → (D → Type 0) → (D → List ℕ) → StoreState D → Type 0 → Type 0
+BeforeCommit honest content s P = HasCommittedNothing honest content s → s.broken ≡ false → P
+
+-- a stop at any moment of a call leaves what stands for the network and version of the store, or for those after these groups
+abbrev pub LeavesDurableOrAfter : {D : Type 0} → (D → ℕ) → (D → ℕ → List ℕ → Type 0) → List (List Command) → StoreState D → StoreState D → Type 0
+LeavesDurableOrAfter moment left_since groups old new = LeavesOnly moment left_since old.disk new.disk (IsDurableOrAfter old groups)
+
 -- ---- what calls refuse and do
+
+-- the count of failures rises by one where 43 is told, and else not at all
+abbrev pub IsCountedBy : {D : Type 0} → (D → ℕ) → D → (Refusal × D) → Type 0
+IsCountedBy failures before refused = failures refused.1 ≡ failures_with refused.0 (failures before)
 
 -- why a commit of these commands is refused whatever memory and the disk give
 abbrev pub commit_refusal : {D : Type 0} → StoreState D → List (List Command) → Option Refusal

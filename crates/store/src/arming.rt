@@ -1,6 +1,7 @@
 // A store over a disk that a test can stop.
 ghost use Rattle.std.specs.Prelude.{◌≡◌, ◌↔◌, ◌≤◌, List, ℕ};
-ghost use Rattle.store.specs.Durable.{going_of};
+ghost use Rattle.disk.specs.Arming.{Arms};
+ghost use Rattle.store.specs.Durable.{told_by, going_of};
 ghost use Rattle.store.specs.State.{told};
 ghost use Rattle.disk.specs.Stop.{armed_at};
 
@@ -12,22 +13,8 @@ impl<D: Stoppable> Paged<D> {
     // Arms the disk. Nothing else is changed.
     pub fn arm(&mut self, k: u64)
         requires { 1 ≤ k }
-        ensures armed { D.armed self.new.disk ≡ armed_at k (D.armed self.old.disk) }
-        ensures content { D.content self.new.disk ≡ D.content self.old.disk }
-        ensures synced { D.synced self.new.disk ≡ D.synced self.old.disk }
-        ensures unsynced { (i : ℕ) → D.is_unsynced self.new.disk i ≡ D.is_unsynced self.old.disk i }
-        ensures left { (c : List ℕ) → D.left self.new.disk c ↔ D.left self.old.disk c }
-        ensures moment { D.moment self.new.disk ≡ D.moment self.old.disk }
-        ensures left_since { (t : ℕ) (c : List ℕ) → D.left_since self.new.disk t c ↔ D.left_since self.old.disk t c }
-        ensures failures { D.failures self.new.disk ≡ D.failures self.old.disk }
-        ensures honest { D.honest self.new.disk ↔ D.honest self.old.disk }
-        ensures network { self.new.network ≡ self.old.network }
-        ensures version { self.new.version ≡ self.old.version }
-        ensures header { self.new.header ≡ self.old.header }
-        ensures slot { self.new.slot ≡ self.old.slot }
-        ensures epoch { self.new.epoch ≡ self.old.epoch }
-        ensures next { self.new.next_sequence ≡ self.old.next_sequence }
-        ensures unchecked { self.new.unchecked ≡ self.old.unchecked }
+        ensures arms { Arms D.Disk D.Stoppable k self.old.disk self.new.disk }
+        ensures told { told_by self.new ≡ told_by self.old }
         ensures going { going_of self.new ≡ going_of self.old }
         ensures broken { self.new.broken ≡ self.old.broken }
     {

@@ -1,6 +1,6 @@
 // Pages that are written one behind the other, many at a time.
 ghost use Rattle.std.specs.Prelude.{◌≡◌, ◌+◌, ◌*◌, ◌≤◌, ◌<◌, ◌^◌, ◌↔◌, [], ◌++◌, length, take, IfOk, OnOk, OnErr};
-ghost use Rattle.disk.specs.Contents.{failures_after};
+ghost use Rattle.disk.specs.Calling.{Counts};
 ghost use Rattle.store.specs.Created.{Waiting, so_far, IsInStep};
 
 use disk::{Disk, DiskError};
@@ -48,8 +48,7 @@ impl Batch {
         ensures written { D.honest disk.old → OnOk result (D.content disk.new ≡ so_far (D.content disk.old) self.old) }
         ensures emptied { OnOk result (self.new ≡ record { next = self.old.next; bytes = [] }) }
         ensures kept { OnErr result (self.new ≡ self.old) }
-        ensures counted { D.failures disk.new ≡ failures_after result (D.failures disk.old) }
-        ensures honest { D.honest disk.new ↔ D.honest disk.old }
+        ensures counts { Counts D.Disk result disk.old disk.new }
     {
         let at = PAGE_SIZE as u64 * (self.next - self.count as u64);
         disk.write_at(at, &self.bytes[..PAGE_SIZE * self.count])?;
@@ -63,8 +62,7 @@ impl Batch {
         requires in_step { D.honest disk.old → IsInStep (D.content disk.old) self.old }
         ensures written { D.honest disk.old → OnOk result (so_far (D.content disk.new) self.new ≡ so_far (D.content disk.old) self.old ++ page.now) }
         ensures next { OnOk result (self.new.next ≡ self.old.next + 1) }
-        ensures counted { D.failures disk.new ≡ failures_after result (D.failures disk.old) }
-        ensures honest { D.honest disk.new ↔ D.honest disk.old }
+        ensures counts { Counts D.Disk result disk.old disk.new }
     {
         let from = PAGE_SIZE * self.count;
         self.bytes[from..from + PAGE_SIZE].copy_from_slice(page);

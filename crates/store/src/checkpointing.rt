@@ -21,10 +21,7 @@ impl<D: Disk> Paged<D> {
     fn complete_checkpoint(&mut self) -> Result<u64, Refusal>
         requires works { self.old.broken ≡ false }
         requires going { IsSome self.old.going }
-        ensures network { self.new.network ≡ self.old.network }
-        ensures version { self.new.version ≡ self.old.version }
-        ensures header { self.new.header ≡ self.old.header }
-        ensures next { self.new.next_sequence ≡ self.old.next_sequence }
+        ensures keeps { KeepsDurable self.old self.new }
         ensures answers { IfOk result (λ version. version ≡ (parts_of self.old).version) }
         ensures going { OnOk result (going_of self.new ≡ None) }
         ensures unchecked { OnOk result (self.new.unchecked ≡ (parts_of self.old).committed) }
@@ -32,14 +29,11 @@ impl<D: Disk> Paged<D> {
         ensures slot { OnOk result (self.new.slot ≡ other self.old.slot) }
         ensures epoch { OnOk result (self.new.epoch ≡ self.old.epoch + 1) }
         ensures refused { IfErr result (λ refusal. refusal ≡ device) }
-        ensures counted { D.failures self.new.disk ≡ failures_told result (D.failures self.old.disk) }
-        ensures failed { OnErr result (Rose (D.failures self.old.disk) (D.failures self.new.disk)) }
-        ensures breaks { OnErr result (self.new.broken ≡ true) }
+        ensures tells { TellsFailures result self.old self.new }
         ensures kept { OnErr result ((told_by self.new ≡ told_by self.old) × (going_of self.new ≡ going_of self.old)) }
-        ensures any_moment { D.honest self.old.disk → StandsTidily (D.content self.old.disk) (told_by self.old) → LeavesOnly D.moment D.left_since self.old.disk self.new.disk (λ c. StandsTidyFor self.old.header.journal_pages (slot_pages self.old.header) c self.old.network self.old.version) }
-        ensures stands { D.honest self.old.disk → StandsTidily (D.content self.old.disk) (told_by self.old) → OnOk result (StandsTidily (D.content self.new.disk) (told_by self.new)) }
-        ensures as_told { D.honest self.old.disk → standing_of (D.content self.old.disk) ≡ Some (told_by self.old) → OnOk result (standing_of (D.content self.new.disk) ≡ Some (told_by self.new)) }
-        ensures honest { D.honest self.new.disk ↔ D.honest self.old.disk }
+        ensures any_moment { LeavesFor self.old self.new }
+        ensures stands { KeepsStanding result self.old self.new }
+        ensures as_told { KeepsAsTold result self.old self.new }
     {
         let Some(going) = self.going.take() else {
             return Err(Refusal::Device);
@@ -65,10 +59,7 @@ impl<D: Disk> Paged<D> {
     // `Store::checkpoint`, by its pages.
     pub fn checkpoint(&mut self) -> Result<u64, Refusal>
         // Network and version stay, also after a refusal.
-        ensures network { self.new.network ≡ self.old.network }
-        ensures version { self.new.version ≡ self.old.version }
-        ensures header { self.new.header ≡ self.old.header }
-        ensures next { self.new.next_sequence ≡ self.old.next_sequence }
+        ensures keeps { KeepsDurable self.old self.new }
         // Where none is going and no page is unchecked, nothing is changed, the disk neither.
         ensures nothing { self.old.broken ≡ false → has_all_checked self.old ≡ true → (result ≡ Ok self.old.version) × (self.new ≡ self.old) }
         ensures answers { IfOk result (λ version. version ≡ (parts_of self.old).version) }
@@ -78,24 +69,16 @@ impl<D: Disk> Paged<D> {
         // Else the other slot is current at Ok, with the epoch that follows.
         ensures slot { has_all_checked self.old ≡ false → OnOk result (self.new.slot ≡ other self.old.slot) }
         ensures epoch { has_all_checked self.old ≡ false → OnOk result (self.new.epoch ≡ self.old.epoch + 1) }
-        // It refuses where the store is broken; and where it is not, for want of memory where a checkpoint would begin, or where the disk failed in this call.
-        ensures refused { MatchResult result (λ version. refusal_of_checkpoint self.old.broken ≡ None) (MayRefuseCheckpoint (refusal_of_checkpoint self.old.broken)) }
-        ensures memory { IfErr result (λ refusal. refusal ≡ out_of_memory → going_of self.old ≡ None) }
-        ensures same { IfErr result (λ refusal. refusal ≢ device → self.new ≡ self.old) }
-        // The count of failures rises by one where a failure of the disk is told, and else not at all: none is passed over.
-        ensures counted { D.failures self.new.disk ≡ failures_told result (D.failures self.old.disk) }
-        ensures failed { IfErr result (λ refusal. refusal ≡ device → Rose (D.failures self.old.disk) (D.failures self.new.disk)) }
-        ensures breaks { IfErr result (λ refusal. refusal ≡ device → self.new.broken ≡ true) }
+        ensures refuses { RefusesCheckpoint result self.old self.new }
+        ensures tells { TellsFailures result self.old self.new }
         ensures kept { OnErr result ((told_by self.new ≡ told_by self.old) × (going_of self.new ≡ going_of self.old)) }
-        ensures adds_nothing { self.old.broken ≡ true → AddsNothing D.moment D.left_since self.old.disk self.new.disk }
         // A stop at any moment of the call, or after it, leaves what stands for this network and version.
-        ensures any_moment { self.old.broken ≡ false → D.honest self.old.disk → StandsTidily (D.content self.old.disk) (told_by self.old) → LeavesOnly D.moment D.left_since self.old.disk self.new.disk (λ c. StandsTidyFor self.old.header.journal_pages (slot_pages self.old.header) c self.old.network self.old.version) }
-        ensures left { self.old.broken ≡ false → D.honest self.old.disk → StandsTidily (D.content self.old.disk) (told_by self.old) → (c : List ℕ) → D.left self.new.disk c → StandsTidyFor self.old.header.journal_pages (slot_pages self.old.header) c self.old.network self.old.version }
+        ensures any_moment { self.old.broken ≡ false → LeavesFor self.old self.new }
+        ensures left { self.old.broken ≡ false → StaysFor self.old self.new }
         // After Ok it leaves the content alone, which stands for it, by the fields as they are now.
         ensures only { D.honest self.old.disk → OnOk result (Only (D.content self.new.disk) (D.left self.new.disk)) }
-        ensures stands { D.honest self.old.disk → StandsTidily (D.content self.old.disk) (told_by self.old) → OnOk result (StandsTidily (D.content self.new.disk) (told_by self.new)) }
-        ensures as_told { D.honest self.old.disk → standing_of (D.content self.old.disk) ≡ Some (told_by self.old) → OnOk result (standing_of (D.content self.new.disk) ≡ Some (told_by self.new)) }
-        ensures honest { D.honest self.new.disk ↔ D.honest self.old.disk }
+        ensures stands { KeepsStanding result self.old self.new }
+        ensures as_told { KeepsAsTold result self.old self.new }
     {
         if self.broken {
             return Err(Refusal::Broken);

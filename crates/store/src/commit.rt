@@ -49,22 +49,18 @@ impl<D: Disk> Paged<D> {
         ensures slot { self.new.slot ≡ self.old.slot }
         ensures epoch { self.new.epoch ≡ self.old.epoch }
         // It refuses exactly where there is a cause; and where there is none, for want of memory, or where the disk failed in this call.
-        ensures refused { MatchResult result (λ version. refusal_of_commit self.old.broken self.old.version self.old.unchecked self.old.header.journal_pages self.old.network groups.now ≡ None) (MayRefuseCommit (refusal_of_commit self.old.broken self.old.version self.old.unchecked self.old.header.journal_pages self.old.network groups.now)) }
+        ensures refused { RefusesCommit (commit_refusal_by self.old groups.now) result }
         ensures same { IfErr result (λ refusal. refusal ≢ device → self.new ≡ self.old) }
-        ensures failed { IfErr result (λ refusal. refusal ≡ device → Rose (D.failures self.old.disk) (D.failures self.new.disk)) }
-        // The count rises by one where that is told, and else not at all: no failure is passed over.
-        ensures counted { D.failures self.new.disk ≡ failures_told result (D.failures self.old.disk) }
-        ensures breaks { IfErr result (λ refusal. refusal ≡ device → self.new.broken ≡ true) }
-        ensures kept { OnErr result ((self.new.network ≡ self.old.network) × (self.new.version ≡ self.old.version) × (self.new.unchecked ≡ self.old.unchecked) × (self.new.next_sequence ≡ self.old.next_sequence)) }
+        ensures tells { TellsFailures result self.old self.new }
+        ensures kept { OnErr result (KeepsNumbers self.old self.new) }
         ensures adds_nothing { self.old.broken ≡ true → AddsNothing D.moment D.left_since self.old.disk self.new.disk }
         // A stop at any moment of the call leaves what stands for the network before the groups, or after them.
-        ensures any_moment { self.old.broken ≡ false → D.honest self.old.disk → StandsTidily (D.content self.old.disk) (told_by self.old) → LeavesOnly D.moment D.left_since self.old.disk self.new.disk (IsBeforeOrAfter self.old.header.journal_pages (slot_pages self.old.header) self.old.network self.old.version groups.now) }
+        ensures any_moment { self.old.broken ≡ false → LeavesForOrAfter groups.now self.old self.new }
         // So does one after the call; and after Ok, what stands for the network after them.
-        ensures in_flight { self.old.broken ≡ false → D.honest self.old.disk → StandsTidily (D.content self.old.disk) (told_by self.old) → (c : List ℕ) → D.left self.new.disk c → IsBeforeOrAfter self.old.header.journal_pages (slot_pages self.old.header) self.old.network self.old.version groups.now c }
-        ensures durable { D.honest self.old.disk → StandsTidily (D.content self.old.disk) (told_by self.old) → OnOk result ((c : List ℕ) → D.left self.new.disk c → StandsTidyFor self.new.header.journal_pages (slot_pages self.new.header) c self.new.network self.new.version) }
+        ensures in_flight { self.old.broken ≡ false → StaysForOrAfter groups.now self.old self.new }
+        ensures durable { D.honest self.old.disk → StandsAsTold self.old → OnOk result ((c : List ℕ) → D.left self.new.disk c → IsFor self.new c) }
         ensures only { D.honest self.old.disk → OnOk result (Only (D.content self.new.disk) (D.left self.new.disk)) }
-        ensures stands { D.honest self.old.disk → StandsTidily (D.content self.old.disk) (told_by self.old) → OnOk result (StandsTidily (D.content self.new.disk) (told_by self.new)) }
-        ensures honest { D.honest self.new.disk ↔ D.honest self.old.disk }
+        ensures stands { KeepsStanding result self.old self.new }
     {
         if self.broken {
             return Err(Refusal::Broken);

@@ -1,18 +1,18 @@
 // Making a store on an empty disk.
 ghost use Rattle.std.specs.Prelude.{◌≡◌, ◌≢◌, ◌⊎◌, ◌+◌, ◌*◌, ◌≤◌, ◌<◌, ◌^◌, ◌↔◌, false, Some, [], ◌++◌, length, IfOk, OnOk, IfErr, MatchResult};
 ghost use Rattle.roadnet.specs.declared.refusals.Refusal.TheVariants.{OutOfMemory as out_of_memory, Device as device, NotEmpty as not_empty};
-ghost use Rattle.disk.specs.Contents.{Only, Rose, failures_after};
+ghost use Rattle.disk.specs.Calling.{Counts};
+ghost use Rattle.disk.specs.Contents.{Only, Rose};
 ghost use Rattle.disk.specs.Moments.{StaysSame};
 ghost use Rattle.pages.specs.declared.content.Slot.TheVariants.{A as slot_a};
 ghost use Rattle.pages.specs.Spelling.{IsHeader};
-ghost use Rattle.pages.specs.Layout.{HeadOf, arc_pages, word_pages, slot_pages, page_number, page_count};
+ghost use Rattle.pages.specs.Layout.{arc_pages, word_pages, slot_pages};
 ghost use Rattle.pages.specs.Limits.{most_versions};
-ghost use Rattle.pagereader.specs.Outcomes.{failures_with};
-ghost use Rattle.storefile.specs.StoreFile.{StandsTidyFor};
+ghost use Rattle.pagereader.specs.Reading.{HasFileOf};
 ghost use Rattle.storefile.specs.Standing.{IsTidyAt, standing_of};
 ghost use Rattle.store.specs.Durable.{told_by, going_of};
-ghost use Rattle.store.specs.State.{checkpoint_pages_of};
-ghost use Rattle.store.specs.Created.{blank_page, page_of_arcs, page_of_words, IsLaidOut, first_pages, with_gate, so_far, IsInStep};
+ghost use Rattle.store.specs.State.{checkpoint_pages_of, IsNewFor, IsCountedBy};
+ghost use Rattle.store.specs.Created.{IsLaidOut, arc_bytes, word_bytes, blank_bytes, with_both_gates, Adds, IsInStep};
 
 use crate::batch::Batch;
 use crate::paged::Paged;
@@ -33,11 +33,10 @@ fn put_arcs<D: Disk>(
 ) -> Result<(), DiskError>
     requires few { batch.old.next + arc_pages header.now ≤ 2 ^ 32 }
     requires in_step { D.honest disk.old → IsInStep (D.content disk.old) batch.old }
-    ensures written { D.honest disk.old → OnOk result (so_far (D.content disk.new) batch.new ≡ so_far (D.content disk.old) batch.old ++ first_pages (page_of_arcs network.now) (arc_pages header.now)) }
+    ensures written { D.honest disk.old → OnOk result (Adds (arc_bytes header.now network.now) (D.content disk.old) batch.old (D.content disk.new) batch.new) }
     ensures in_step { D.honest disk.new → OnOk result (IsInStep (D.content disk.new) batch.new) }
     ensures next { OnOk result (batch.new.next ≡ batch.old.next + arc_pages header.now) }
-    ensures counted { D.failures disk.new ≡ failures_after result (D.failures disk.old) }
-    ensures honest { D.honest disk.new ↔ D.honest disk.old }
+    ensures counts { Counts D.Disk result disk.old disk.new }
 {
     for i in 0..header.arc_pages() {
         let page = encode_arc_page(part_of(network.arcs(), i, ARCS_A_PAGE));
@@ -54,11 +53,10 @@ fn put_words<D: Disk>(
 ) -> Result<(), DiskError>
     requires few { batch.old.next + word_pages header.now ≤ 2 ^ 32 }
     requires in_step { D.honest disk.old → IsInStep (D.content disk.old) batch.old }
-    ensures written { D.honest disk.old → OnOk result (so_far (D.content disk.new) batch.new ≡ so_far (D.content disk.old) batch.old ++ first_pages (page_of_words network.now) (word_pages header.now)) }
+    ensures written { D.honest disk.old → OnOk result (Adds (word_bytes header.now network.now) (D.content disk.old) batch.old (D.content disk.new) batch.new) }
     ensures in_step { D.honest disk.new → OnOk result (IsInStep (D.content disk.new) batch.new) }
     ensures next { OnOk result (batch.new.next ≡ batch.old.next + word_pages header.now) }
-    ensures counted { D.failures disk.new ≡ failures_after result (D.failures disk.old) }
-    ensures honest { D.honest disk.new ↔ D.honest disk.old }
+    ensures counts { Counts D.Disk result disk.old disk.new }
 {
     for i in 0..header.word_pages() {
         let page = encode_word_page(part_of(network.arcs(), i, WORDS_A_PAGE));
@@ -70,11 +68,10 @@ fn put_words<D: Disk>(
 fn put_blank<D: Disk>(disk: &mut D, batch: &mut Batch, count: u64) -> Result<(), DiskError>
     requires few { batch.old.next + count ≤ 2 ^ 32 }
     requires in_step { D.honest disk.old → IsInStep (D.content disk.old) batch.old }
-    ensures written { D.honest disk.old → OnOk result (so_far (D.content disk.new) batch.new ≡ so_far (D.content disk.old) batch.old ++ first_pages (λ _. blank_page) count) }
+    ensures written { D.honest disk.old → OnOk result (Adds (blank_bytes count) (D.content disk.old) batch.old (D.content disk.new) batch.new) }
     ensures in_step { D.honest disk.new → OnOk result (IsInStep (D.content disk.new) batch.new) }
     ensures next { OnOk result (batch.new.next ≡ batch.old.next + count) }
-    ensures counted { D.failures disk.new ≡ failures_after result (D.failures disk.old) }
-    ensures honest { D.honest disk.new ↔ D.honest disk.old }
+    ensures counts { Counts D.Disk result disk.old disk.new }
 {
     for _ in 0..count {
         batch.put(disk, &[0; PAGE_SIZE])?;
@@ -94,8 +91,7 @@ fn lay_out<D: Disk>(
     requires start { batch.old ≡ record { next = 0; bytes = [] } }
     requires empty { D.honest disk.old → D.content disk.old ≡ [] }
     ensures laid_out { D.honest disk.old → OnOk result (IsLaidOut (D.content disk.new) header.now network.now version) }
-    ensures counted { D.failures disk.new ≡ failures_after result (D.failures disk.old) }
-    ensures honest { D.honest disk.new ↔ D.honest disk.old }
+    ensures counts { Counts D.Disk result disk.old disk.new }
 {
     batch.put(disk, &encode_header(header))?;
     put_arcs(disk, batch, header, network)?;
@@ -119,12 +115,10 @@ fn lay_out<D: Disk>(
 
 /// Opens the gate of slot A and then that of the header, with a sync before and behind each.
 fn open_gates<D: Disk>(disk: &mut D, header: &Header) -> Result<(), DiskError>
-    requires header { IsHeader header.now }
-    requires size { D.honest disk.old → length (D.content disk.old) ≡ 4096 * page_count header.now }
-    ensures opened { D.honest disk.old → OnOk result (D.content disk.new ≡ with_gate (with_gate (D.content disk.old) (page_number header.now (HeadOf slot_a))) 0) }
+    requires file { HasFileOf D.Disk header.now disk.old }
+    ensures opened { D.honest disk.old → OnOk result (D.content disk.new ≡ with_both_gates header.now (D.content disk.old)) }
     ensures at_rest { D.honest disk.old → OnOk result (Only (D.content disk.new) (D.left disk.new)) }
-    ensures counted { D.failures disk.new ≡ failures_after result (D.failures disk.old) }
-    ensures honest { D.honest disk.new ↔ D.honest disk.old }
+    ensures counts { Counts D.Disk result disk.old disk.new }
 {
     settle(disk)?;
     let head = header.head_page(Slot::A);
@@ -152,7 +146,7 @@ pub fn create_paged<D: Disk>(
     ensures works { IfOk result (λ store. store.broken ≡ false) }
     ensures none_going { IfOk result (λ store. going_of store ≡ None) }
     // The content stands for the network at this version, is tidy, has so many journal pages and a slot for the network's room, and is all that a stop may leave.
-    ensures stands { D.honest disk → IfOk result (λ store. StandsTidyFor journal_pages (checkpoint_pages_of (length network.now.arcs) network.now) (D.content store.disk) network.now version) }
+    ensures stands { D.honest disk → IfOk result (λ store. IsNewFor journal_pages network.now version (D.content store.disk)) }
     ensures only { D.honest disk → IfOk result (λ store. Only (D.content store.disk) (D.left store.disk)) }
     ensures tidy { D.honest disk → IfOk result (λ store. IsTidyAt (D.content store.disk) store.header store.next_sequence) }
     ensures standing { D.honest disk → IfOk result (λ store. standing_of (D.content store.disk) ≡ Some (told_by store)) }
@@ -161,7 +155,7 @@ pub fn create_paged<D: Disk>(
     ensures not_empty { D.honest disk → IfErr result (λ refused. refused.0 ≡ not_empty → D.content disk ≢ []) }
     ensures order { D.honest disk → IfErr result (λ refused. refused.0 ≡ out_of_memory → D.content disk ≡ []) }
     // The count of failures rises by one where 43 is told, and else not at all.
-    ensures counted { MatchResult result (λ store. D.failures store.disk ≡ D.failures disk) (λ refused. D.failures refused.1 ≡ failures_with refused.0 (D.failures disk)) }
+    ensures counted { MatchResult result (λ store. D.failures store.disk ≡ D.failures disk) (IsCountedBy D.failures disk) }
     ensures failed { IfErr result (λ refused. refused.0 ≡ device → Rose (D.failures disk) (D.failures refused.1)) }
     ensures same { D.honest disk → IfErr result (λ refused. refused.0 ≢ device → StaysSame D.content D.left D.moment D.left_since disk refused.1) }
     ensures honest { (IfOk result (λ store. D.honest store.disk ↔ D.honest disk)) × (IfErr result (λ refused. D.honest refused.1 ↔ D.honest disk)) }

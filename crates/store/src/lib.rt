@@ -9,6 +9,7 @@ mod checkpointing;
 mod commit;
 mod copying;
 mod creation;
+mod found;
 mod going;
 mod header;
 mod in_flight;

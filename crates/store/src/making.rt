@@ -3,12 +3,11 @@ ghost use Rattle.std.specs.Prelude.{◌≡◌, ◌≢◌, ◌⊎◌, ◌≤◌, 
 ghost use Rattle.roadnet.specs.declared.refusals.Refusal.TheVariants.{OutOfMemory as out_of_memory, Device as device, NotEmpty as not_empty};
 ghost use Rattle.disk.specs.Contents.{Only, Rose};
 ghost use Rattle.disk.specs.Moments.{StaysSame};
-ghost use Rattle.pagereader.specs.Outcomes.{failures_with, MayEndOpening};
-ghost use Rattle.storefile.specs.StoreFile.{StandsTidyFor};
+ghost use Rattle.pagereader.specs.Outcomes.{MayEndOpening};
 ghost use Rattle.pages.specs.declared.content.Slot.TheVariants.{A as slot_a};
 ghost use Rattle.pages.specs.Limits.{most_versions};
 ghost use Rattle.store.specs.Opening.{HeaderFits, IsPassing, MayRefuseToOpen, StandsForSome};
-ghost use Rattle.store.specs.State.{checkpoint_pages_of, IsTidy, StandsAs, StandsAt, told};
+ghost use Rattle.store.specs.State.{checkpoint_pages_of, IsCountedBy, IsNewFor, IsTidy, StandsAs, StandsAt, told};
 
 use crate::creation::create_paged;
 use crate::in_flight::InFlight;
@@ -45,7 +44,7 @@ pub fn create_at<D: Disk>(
     ensures none_in_flight { IfOk result (λ store. store.in_flight ≡ []) }
     ensures given { IfOk result (λ store. store.given ≡ store.disk) }
     // The content stands for the network at this version, is tidy, has so many journal pages and a slot for the network's room, and is all that a stop may leave.
-    ensures stands { D.honest disk → IfOk result (λ store. StandsTidyFor journal_pages (checkpoint_pages_of (length network.now.arcs) network.now) (D.content store.disk) network.now version) }
+    ensures stands { D.honest disk → IfOk result (λ store. IsNewFor journal_pages network.now version (D.content store.disk)) }
     ensures only { D.honest disk → IfOk result (λ store. Only (D.content store.disk) (D.left store.disk)) }
     ensures tidy { D.honest disk → IfOk result (λ store. IsTidy (D.content store.disk)) }
     ensures told { D.honest disk → IfOk result (λ store. StandsAs (D.content store.disk) (told store)) }
@@ -54,7 +53,7 @@ pub fn create_at<D: Disk>(
     ensures not_empty { D.honest disk → IfErr result (λ refused. refused.0 ≡ not_empty → D.content disk ≢ []) }
     ensures order { D.honest disk → IfErr result (λ refused. refused.0 ≡ out_of_memory → D.content disk ≡ []) }
     // The count of failures rises by one where 43 is told, and else not at all.
-    ensures counted { MatchResult result (λ store. D.failures store.disk ≡ D.failures disk) (λ refused. D.failures refused.1 ≡ failures_with refused.0 (D.failures disk)) }
+    ensures counted { MatchResult result (λ store. D.failures store.disk ≡ D.failures disk) (IsCountedBy D.failures disk) }
     ensures failed { IfErr result (λ refused. refused.0 ≡ device → Rose (D.failures disk) (D.failures refused.1)) }
     ensures same { D.honest disk → IfErr result (λ refused. refused.0 ≢ device → StaysSame D.content D.left D.moment D.left_since disk refused.1) }
     ensures honest { (IfOk result (λ store. D.honest store.disk ↔ D.honest disk)) × (IfErr result (λ refused. D.honest refused.1 ↔ D.honest disk)) }
@@ -96,7 +95,7 @@ pub fn create<D: Disk>(
     ensures none_in_flight { IfOk result (λ store. store.in_flight ≡ []) }
     ensures given { IfOk result (λ store. store.given ≡ store.disk) }
     // The content stands for the network at version 0, is tidy, has so many journal pages and a slot for the network's room, and is all that a stop may leave.
-    ensures stands { D.honest disk → IfOk result (λ store. StandsTidyFor journal_pages (checkpoint_pages_of (length network.now.arcs) network.now) (D.content store.disk) network.now 0) }
+    ensures stands { D.honest disk → IfOk result (λ store. IsNewFor journal_pages network.now 0 (D.content store.disk)) }
     ensures only { D.honest disk → IfOk result (λ store. Only (D.content store.disk) (D.left store.disk)) }
     ensures tidy { D.honest disk → IfOk result (λ store. IsTidy (D.content store.disk)) }
     ensures told { D.honest disk → IfOk result (λ store. StandsAs (D.content store.disk) (told store)) }
@@ -105,7 +104,7 @@ pub fn create<D: Disk>(
     ensures not_empty { D.honest disk → IfErr result (λ refused. refused.0 ≡ not_empty → D.content disk ≢ []) }
     ensures order { D.honest disk → IfErr result (λ refused. refused.0 ≡ out_of_memory → D.content disk ≡ []) }
     // The count of failures rises by one where 43 is told, and else not at all.
-    ensures counted { MatchResult result (λ store. D.failures store.disk ≡ D.failures disk) (λ refused. D.failures refused.1 ≡ failures_with refused.0 (D.failures disk)) }
+    ensures counted { MatchResult result (λ store. D.failures store.disk ≡ D.failures disk) (IsCountedBy D.failures disk) }
     ensures failed { IfErr result (λ refused. refused.0 ≡ device → Rose (D.failures disk) (D.failures refused.1)) }
     ensures same { D.honest disk → IfErr result (λ refused. refused.0 ≢ device → StaysSame D.content D.left D.moment D.left_since disk refused.1) }
     ensures honest { (IfOk result (λ store. D.honest store.disk ↔ D.honest disk)) × (IfErr result (λ refused. D.honest refused.1 ↔ D.honest disk)) }
@@ -139,7 +138,7 @@ pub fn open<D: Disk>(alloc: Global, disk: D) -> Result<Store<D>, (Refusal, D)>
     ensures order { D.honest disk → IfErr result (λ refused. refused.0 ≡ out_of_memory → HeaderFits (D.content disk)) }
     // Whatever the disk, it refuses with 11 or 40 to 43. Its count of failures rises by one where 43 is told, and else not at all.
     ensures causes { IfErr result (λ refused. MayEndOpening refused.0) }
-    ensures counted { MatchResult result (λ store. D.failures store.disk ≡ D.failures disk) (λ refused. D.failures refused.1 ≡ failures_with refused.0 (D.failures disk)) }
+    ensures counted { MatchResult result (λ store. D.failures store.disk ≡ D.failures disk) (IsCountedBy D.failures disk) }
     ensures failed { IfErr result (λ refused. refused.0 ≡ device → Rose (D.failures disk) (D.failures refused.1)) }
     ensures opens { D.honest disk → ((c : List ℕ) → D.left disk c → StandsForSome c) → IfErr result (λ refused. IsPassing refused.0) }
     ensures honest { (IfOk result (λ store. D.honest store.disk ↔ D.honest disk)) × (IfErr result (λ refused. D.honest refused.1 ↔ D.honest disk)) }

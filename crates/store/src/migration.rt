@@ -1,12 +1,11 @@
 // A store made from one of the format before.
 ghost use Rattle.std.specs.Prelude.{◌≡◌, ◌≢◌, ◌⊎◌, ◌↔◌, List, ℕ, [], false, None, IfOk, IfErr, MatchResult, length};
 ghost use Rattle.roadnet.specs.declared.refusals.Refusal.TheVariants.{Device as device};
-ghost use Rattle.disk.specs.Contents.{Only, Rose};
+ghost use Rattle.disk.specs.Contents.{Only};
 ghost use Rattle.disk.specs.Moments.{StaysSame};
 ghost use Rattle.pages.specs.declared.content.Slot.TheVariants.{A as slot_a};
-ghost use Rattle.storefile.specs.StoreFile.{StandsTidyFor};
-ghost use Rattle.store.specs.State.{checkpoint_pages_of, IsTidy, StandsAs, told};
-ghost use Rattle.store.specs.Migrating.{IsMigrated, MayEndCopying, MayRefuseToMigrate};
+ghost use Rattle.store.specs.State.{checkpoint_pages_of, IsDurable, IsTidy, StandsAs, told};
+ghost use Rattle.store.specs.Migrating.{CountsCopy, OneRose, IsMigrated, MayEndCopying, MayRefuseToMigrate};
 
 use crate::copying::copy_in;
 use crate::store::Store;
@@ -32,9 +31,9 @@ pub fn migrate<O: Disk, D: Disk>(
     // The old content stands, in format 1, for the network at this version, but for its room; each content that a stop may leave of the new
     // disk stands, tidy, for the network with its room at that version.
     ensures migrated { O.honest old.old → IfOk result (λ store. IsMigrated (O.content old.old) store.network store.version store.journal_pages room) }
-    ensures stands { D.honest new → IfOk result (λ store. StandsTidyFor store.journal_pages store.checkpoint_pages (D.content store.disk) store.network store.version) }
+    ensures stands { D.honest new → IfOk result (λ store. IsDurable store (D.content store.disk)) }
     ensures only { D.honest new → IfOk result (λ store. Only (D.content store.disk) (D.left store.disk)) }
-    ensures left { D.honest new → IfOk result (λ store. (c : List ℕ) → D.left store.disk c → StandsTidyFor store.journal_pages store.checkpoint_pages c store.network store.version) }
+    ensures left { D.honest new → IfOk result (λ store. (c : List ℕ) → D.left store.disk c → IsDurable store c) }
     ensures tidy { D.honest new → IfOk result (λ store. IsTidy (D.content store.disk)) }
     ensures told { D.honest new → IfOk result (λ store. StandsAs (D.content store.disk) (told store)) }
     ensures checkpoint_pages { IfOk result (λ store. store.checkpoint_pages ≡ checkpoint_pages_of (length store.network.arcs) store.network) }
@@ -47,8 +46,8 @@ pub fn migrate<O: Disk, D: Disk>(
     ensures refused { O.honest old.old → D.honest new → IfErr result (λ refused. MayRefuseToMigrate (D.content new) (O.content old.old) room refused.0) }
     ensures causes { IfErr result (λ refused. MayEndCopying refused.0) }
     // Where 43 is told, a disk failed in this call; and else none did.
-    ensures failed { IfErr result (λ refused. refused.0 ≡ device → Rose (O.failures old.old) (O.failures old.new) ⊎ Rose (D.failures new) (D.failures refused.1)) }
-    ensures counted { MatchResult result (λ store. (O.failures old.new ≡ O.failures old.old) × (D.failures store.disk ≡ D.failures new)) (λ refused. refused.0 ≢ device → (O.failures old.new ≡ O.failures old.old) × (D.failures refused.1 ≡ D.failures new)) }
+    ensures failed { IfErr result (λ refused. refused.0 ≡ device → OneRose O.failures D.failures old.old old.new new refused.1) }
+    ensures counted { CountsCopy O.failures D.failures old.old old.new new result }
     // The old store is untouched; at each refusal but 43 the new disk is too.
     ensures untouched { O.honest old.old → StaysSame O.content O.left O.moment O.left_since old.old old.new }
     ensures same { D.honest new → IfErr result (λ refused. refused.0 ≢ device → StaysSame D.content D.left D.moment D.left_since new refused.1) }

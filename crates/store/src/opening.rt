@@ -2,17 +2,18 @@ ghost use Rattle.std.specs.Prelude.{◌≡◌, ◌≤◌, ◌+◌, ◌*◌, ◌�
 ghost use Rattle.roadnet.specs.declared.refusals.Refusal.TheVariants.{OutOfMemory as out_of_memory, Device as device};
 ghost use Rattle.disk.specs.Contents.{Only, Rose};
 ghost use Rattle.disk.specs.Moments.{StaysSame};
-ghost use Rattle.pages.specs.declared.content.Format.TheVariants.{Two as two};
-ghost use Rattle.pages.specs.Spelling.{IsHeader, IsHead};
-ghost use Rattle.pages.specs.Layout.{page_count};
+ghost use Rattle.pages.specs.Spelling.{IsHead};
 ghost use Rattle.storefile.specs.StoreFile.{page, StandsFor};
-ghost use Rattle.storefile.specs.Judging.{journal_from, opened, opened_in};
-ghost use Rattle.storefile.specs.Standing.{HasFitNumbers, standing_in, standing_of};
-ghost use Rattle.pagereader.specs.Outcomes.{failures_told, MayRefuse, MayEndOpening, failures_with};
+ghost use Rattle.storefile.specs.Judging.{opened_in};
+ghost use Rattle.storefile.specs.Standing.{standing_in, standing_of};
+ghost use Rattle.pagereader.specs.Outcomes.{MayRefuse, MayEndOpening};
+ghost use Rattle.pagereader.specs.Reading.{HasFileOf, ReadsToOpen};
 ghost use Rattle.checkpoint.specs.Loading.{head_of};
 ghost use Rattle.store.specs.Durable.{told_by, going_of};
-ghost use Rattle.store.specs.Opening.{header_from, HeaderFits, HeaderFitsIn, current_from, AreCarriedOut, IsPassing, MayRefuseToOpen, StandsForSome};
+ghost use Rattle.store.specs.Opening.{header_from, standing_by, HeaderFits, HeaderFitsIn, current_from, current_of, journal_behind, IsFoundBehind, HasJournalOf, IsPassing, MayRefuseToOpen, StandsForSome};
+ghost use Rattle.store.specs.State.{IsCountedBy};
 
+use crate::found::Found;
 use crate::header::read_header;
 use crate::paged::Paged;
 use crate::replay::replay;
@@ -21,20 +22,8 @@ use disk::{Disk, settle};
 use journal::Ring;
 use pagereader::PageReader;
 use pages::{Format, Header, Slot};
-use roadnet::{Network, Refusal};
+use roadnet::Refusal;
 use std::alloc::Global;
-
-/// What opening finds on a disk: the fields of a store.
-#[derive(Debug, Drop)]
-pub struct Found {
-    pub header: Header,
-    pub slot: Slot,
-    pub epoch: u64,
-    pub network: Network,
-    pub version: u64,
-    pub next_sequence: u64,
-    pub unchecked: u32,
-}
 
 // The current slot and what it holds: the arc pages, the choice of the slot, its head and its word pages are judged in this order.
 fn read_current<D: Disk>(
@@ -42,15 +31,11 @@ fn read_current<D: Disk>(
     disk: &mut D,
     header: &Header,
 ) -> Result<(Slot, Checkpoint), Refusal>
-    requires header { IsHeader header.now }
-    requires whole { D.honest disk.old → length (D.content disk.old) ≡ 4096 * page_count header.now }
-    ensures current { D.honest disk.old → IfOk result (λ x. current_from (page (D.content disk.old)) header.now ≡ Ok (record { slot = x.0; head = head_of x.1; network = x.1.network })) }
+    requires file { HasFileOf D.Disk header.now disk.old }
+    ensures current { D.honest disk.old → IfOk result (λ x. current_from (page (D.content disk.old)) header.now ≡ Ok (current_of x)) }
     ensures fits { IfOk result (λ x. IsHead header.now (head_of x.1)) }
     ensures refused { D.honest disk.old → IfErr result (λ refusal. MayRefuse (current_from (page (D.content disk.old)) header.now) refusal) }
-    ensures causes { IfErr result MayEndOpening }
-    ensures same { D.honest disk.old → StaysSame D.content D.left D.moment D.left_since disk.old disk.new }
-    ensures counted { D.failures disk.new ≡ failures_told result (D.failures disk.old) }
-    ensures honest { D.honest disk.new ↔ D.honest disk.old }
+    ensures reads { ReadsToOpen D.Disk result disk.old disk.new }
 {
     let Ok(mut reader) = PageReader::new(alloc) else {
         return Err(Refusal::OutOfMemory);
@@ -69,21 +54,12 @@ fn read_journal<D: Disk>(
     slot: Slot,
     checkpoint: Checkpoint,
 ) -> Result<Found, Refusal>
-    requires header { IsHeader header.now }
+    requires file { HasFileOf D.Disk header.now disk.old }
     requires fits { IsHead header.now (head_of checkpoint) }
-    requires whole { D.honest disk.old → length (D.content disk.old) ≡ 4096 * page_count header.now }
-    ensures carried_out { D.honest disk.old → IfOk result (λ found. AreCarriedOut (journal_from (page (D.content disk.old)) header.now header.now.journal_pages checkpoint.next_sequence checkpoint.version checkpoint.network) found.unchecked checkpoint.version found.network found.version) }
-    ensures header { IfOk result (λ found. found.header ≡ header.now) }
-    ensures slot { IfOk result (λ found. found.slot ≡ slot) }
-    ensures epoch { IfOk result (λ found. found.epoch ≡ checkpoint.epoch) }
-    ensures next { IfOk result (λ found. found.next_sequence ≡ checkpoint.next_sequence + found.unchecked) }
-    ensures numbers { IfOk result (λ found. HasFitNumbers found.header found.epoch found.version found.next_sequence found.unchecked) }
-    ensures arcs_from { IfOk result (λ found. found.header.arcs ≤ length found.network.arcs) }
-    ensures refused { D.honest disk.old → IfErr result (λ refusal. MayRefuse (journal_from (page (D.content disk.old)) header.now header.now.journal_pages checkpoint.next_sequence checkpoint.version checkpoint.network) refusal) }
-    ensures causes { IfErr result MayEndOpening }
-    ensures same { D.honest disk.old → StaysSame D.content D.left D.moment D.left_since disk.old disk.new }
-    ensures counted { D.failures disk.new ≡ failures_told result (D.failures disk.old) }
-    ensures honest { D.honest disk.new ↔ D.honest disk.old }
+    ensures carried_out { D.honest disk.old → IfOk result (HasJournalOf (page (D.content disk.old)) header.now checkpoint) }
+    ensures found { IfOk result (IsFoundBehind header.now slot checkpoint) }
+    ensures refused { D.honest disk.old → IfErr result (MayRefuse (journal_behind (page (D.content disk.old)) header.now checkpoint)) }
+    ensures reads { ReadsToOpen D.Disk result disk.old disk.new }
 {
     let Checkpoint {
         epoch,
@@ -118,18 +94,12 @@ fn read_journal<D: Disk>(
 
 // The same of a file with this header.
 fn read_behind<D: Disk>(alloc: Global, disk: &mut D, header: &Header) -> Result<Found, Refusal>
-    requires header { IsHeader header.now }
+    requires file { HasFileOf D.Disk header.now disk.old }
     requires spelled { D.honest disk.old → header_from header.now.format (length (D.content disk.old)) (page (D.content disk.old) 0) ≡ Ok header.now }
-    requires whole { D.honest disk.old → length (D.content disk.old) ≡ 4096 * page_count header.now }
-    ensures standing { D.honest disk.old → IfOk result (λ found. standing_in (opened_in header.now.format (D.content disk.old)) ≡ Some (record { header = found.header; slot = found.slot; epoch = found.epoch; network = found.network; version = found.version; next = found.next_sequence; unchecked = found.unchecked })) }
-    ensures numbers { IfOk result (λ found. HasFitNumbers found.header found.epoch found.version found.next_sequence found.unchecked) }
-    ensures arcs_from { IfOk result (λ found. found.header.arcs ≤ length found.network.arcs) }
+    ensures standing { D.honest disk.old → IfOk result (λ found. standing_in (opened_in header.now.format (D.content disk.old)) ≡ Some (standing_by found)) }
     ensures header { IfOk result (λ found. found.header ≡ header.now) }
     ensures refused { D.honest disk.old → IfErr result (λ refusal. MayRefuse (opened_in header.now.format (D.content disk.old)) refusal) }
-    ensures causes { IfErr result MayEndOpening }
-    ensures same { D.honest disk.old → StaysSame D.content D.left D.moment D.left_since disk.old disk.new }
-    ensures counted { D.failures disk.new ≡ failures_told result (D.failures disk.old) }
-    ensures honest { D.honest disk.new ↔ D.honest disk.old }
+    ensures reads { ReadsToOpen D.Disk result disk.old disk.new }
 {
     let (slot, checkpoint) = read_current(alloc, disk, header)?;
     read_journal(alloc, disk, header, slot, checkpoint)
@@ -137,16 +107,11 @@ fn read_behind<D: Disk>(alloc: Global, disk: &mut D, header: &Header) -> Result<
 
 // The same of a file of this format that is synced.
 fn read_synced<D: Disk>(alloc: Global, disk: &mut D, format: Format) -> Result<Found, Refusal>
-    ensures standing { D.honest disk.old → IfOk result (λ found. standing_in (opened_in format (D.content disk.old)) ≡ Some (record { header = found.header; slot = found.slot; epoch = found.epoch; network = found.network; version = found.version; next = found.next_sequence; unchecked = found.unchecked })) }
-    ensures numbers { IfOk result (λ found. HasFitNumbers found.header found.epoch found.version found.next_sequence found.unchecked) }
-    ensures arcs_from { IfOk result (λ found. found.header.arcs ≤ length found.network.arcs) }
+    ensures standing { D.honest disk.old → IfOk result (λ found. standing_in (opened_in format (D.content disk.old)) ≡ Some (standing_by found)) }
     ensures format { IfOk result (λ found. found.header.format ≡ format) }
     ensures refused { D.honest disk.old → IfErr result (λ refusal. MayRefuse (opened_in format (D.content disk.old)) refusal) }
     ensures order { D.honest disk.old → IfErr result (λ refusal. refusal ≡ out_of_memory → HeaderFitsIn format (D.content disk.old)) }
-    ensures causes { IfErr result MayEndOpening }
-    ensures same { D.honest disk.old → StaysSame D.content D.left D.moment D.left_since disk.old disk.new }
-    ensures counted { D.failures disk.new ≡ failures_told result (D.failures disk.old) }
-    ensures honest { D.honest disk.new ↔ D.honest disk.old }
+    ensures reads { ReadsToOpen D.Disk result disk.old disk.new }
 {
     let header = read_header(disk, format)?;
     read_behind(alloc, disk, &header)
@@ -154,40 +119,18 @@ fn read_synced<D: Disk>(alloc: Global, disk: &mut D, format: Format) -> Result<F
 
 /// Syncs, and then judges and reads the whole file of this format, in its order. Nothing is written. The first refusal ends it: no store (40),
 /// another format (41), a damaged page (42). That the disk failed (43) may come at each step, that no memory was given (11) behind the header.
-pub fn find_in<D: Disk>(alloc: Global, disk: &mut D, format: Format) -> Result<Found, Refusal>
-    ensures standing { D.honest disk.old → IfOk result (λ found. standing_in (opened_in format (D.content disk.old)) ≡ Some (record { header = found.header; slot = found.slot; epoch = found.epoch; network = found.network; version = found.version; next = found.next_sequence; unchecked = found.unchecked })) }
-    ensures numbers { IfOk result (λ found. HasFitNumbers found.header found.epoch found.version found.next_sequence found.unchecked) }
-    ensures arcs_from { IfOk result (λ found. found.header.arcs ≤ length found.network.arcs) }
+pub fn find<D: Disk>(alloc: Global, disk: &mut D, format: Format) -> Result<Found, Refusal>
+    ensures standing { D.honest disk.old → IfOk result (λ found. standing_in (opened_in format (D.content disk.old)) ≡ Some (standing_by found)) }
     ensures format { IfOk result (λ found. found.header.format ≡ format) }
     ensures refused { D.honest disk.old → IfErr result (λ refusal. MayRefuse (opened_in format (D.content disk.old)) refusal) }
     ensures at_rest { D.honest disk.old → OnOk result (Only (D.content disk.new) (D.left disk.new)) }
     ensures order { D.honest disk.old → IfErr result (λ refusal. refusal ≡ out_of_memory → HeaderFitsIn format (D.content disk.old)) }
-    ensures causes { IfErr result MayEndOpening }
-    ensures same { D.honest disk.old → StaysSame D.content D.left D.moment D.left_since disk.old disk.new }
-    ensures counted { D.failures disk.new ≡ failures_told result (D.failures disk.old) }
-    ensures honest { D.honest disk.new ↔ D.honest disk.old }
+    ensures reads { ReadsToOpen D.Disk result disk.old disk.new }
 {
     let Ok(()) = settle(disk) else {
         return Err(Refusal::Device);
     };
     read_synced(alloc, disk, format)
-}
-
-/// The same in the format in which stores are opened.
-pub fn find<D: Disk>(alloc: Global, disk: &mut D) -> Result<Found, Refusal>
-    ensures standing { D.honest disk.old → IfOk result (λ found. standing_of (D.content disk.old) ≡ Some (record { header = found.header; slot = found.slot; epoch = found.epoch; network = found.network; version = found.version; next = found.next_sequence; unchecked = found.unchecked })) }
-    ensures numbers { IfOk result (λ found. HasFitNumbers found.header found.epoch found.version found.next_sequence found.unchecked) }
-    ensures arcs_from { IfOk result (λ found. found.header.arcs ≤ length found.network.arcs) }
-    ensures today { IfOk result (λ found. found.header.format ≡ two) }
-    ensures refused { D.honest disk.old → IfErr result (λ refusal. MayRefuse (opened (D.content disk.old)) refusal) }
-    ensures at_rest { D.honest disk.old → OnOk result (Only (D.content disk.new) (D.left disk.new)) }
-    ensures order { D.honest disk.old → IfErr result (λ refusal. refusal ≡ out_of_memory → HeaderFits (D.content disk.old)) }
-    ensures causes { IfErr result MayEndOpening }
-    ensures same { D.honest disk.old → StaysSame D.content D.left D.moment D.left_since disk.old disk.new }
-    ensures counted { D.failures disk.new ≡ failures_told result (D.failures disk.old) }
-    ensures honest { D.honest disk.new ↔ D.honest disk.old }
-{
-    find_in(alloc, disk, Format::Two)
 }
 
 /// The pages of the store on a disk, as `open` finds them.
@@ -207,13 +150,13 @@ pub fn open_paged<D: Disk>(alloc: Global, disk: D) -> Result<Paged<D>, (Refusal,
     ensures order { D.honest disk → IfErr result (λ refused. refused.0 ≡ out_of_memory → HeaderFits (D.content disk)) }
     // Whatever the disk, it refuses with 11 or 40 to 43. Its count of failures rises by one where 43 is told, and else not at all.
     ensures causes { IfErr result (λ refused. MayEndOpening refused.0) }
-    ensures counted { MatchResult result (λ store. D.failures store.disk ≡ D.failures disk) (λ refused. D.failures refused.1 ≡ failures_with refused.0 (D.failures disk)) }
+    ensures counted { MatchResult result (λ store. D.failures store.disk ≡ D.failures disk) (IsCountedBy D.failures disk) }
     ensures failed { IfErr result (λ refused. refused.0 ≡ device → Rose (D.failures disk) (D.failures refused.1)) }
     ensures opens { D.honest disk → ((c : List ℕ) → D.left disk c → StandsForSome c) → IfErr result (λ refused. IsPassing refused.0) }
     ensures honest { (IfOk result (λ store. D.honest store.disk ↔ D.honest disk)) × (IfErr result (λ refused. D.honest refused.1 ↔ D.honest disk)) }
 {
     let mut disk = disk;
-    let found = match find(alloc, &mut disk) {
+    let found = match find(alloc, &mut disk, Format::Two) {
         Ok(found) => found,
         Err(refusal) => return Err((refusal, disk)),
     };

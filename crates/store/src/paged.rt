@@ -45,24 +45,6 @@ impl<D: Disk> Paged<D> {
         &self.network
     }
 
-    pub fn version(&self) -> u64
-        ensures { result ≡ self.now.version }
-    {
-        self.version
-    }
-
-    pub fn unchecked(&self) -> u32
-        ensures { result ≡ self.now.unchecked }
-    {
-        self.unchecked
-    }
-
-    pub fn journal_pages(&self) -> u32
-        ensures { result ≡ self.now.header.journal_pages }
-    {
-        self.header.journal_pages
-    }
-
     pub fn close(self) -> D
         ensures { result ≡ self.disk }
     {

@@ -1,13 +1,10 @@
 ghost use Rattle.std.specs.Prelude.{◌≡◌, ◌+◌, ◌*◌, ◌≤◌, ◌↔◌, true, false, None, Some, length, map, IfOk, IfErr, OnOk, OnErr};
-ghost use Rattle.disk.specs.Moments.{StaysSame};
 ghost use Rattle.roadnet.specs.Step.{refusal_of, step, step_group};
-ghost use Rattle.pages.specs.Spelling.{IsHeader};
-ghost use Rattle.pages.specs.Layout.{page_count};
-ghost use Rattle.storefile.specs.StoreFile.{page, journal_page_at};
-ghost use Rattle.storefile.specs.Judging.{journal_from};
+ghost use Rattle.storefile.specs.StoreFile.{page};
 ghost use Rattle.journal.specs.Places.{IsLongest};
-ghost use Rattle.pagereader.specs.Outcomes.{failures_told, IsQuiet, MayLack, MayRefuse, MayEndOpening};
-ghost use Rattle.store.specs.Opening.{entry_from, IsCarriedOut, AreCarriedOut};
+ghost use Rattle.pagereader.specs.Outcomes.{MayLack, MayRefuse};
+ghost use Rattle.pagereader.specs.Reading.{HasFileOf, ReadsToOpen, JudgesToOpen};
+ghost use Rattle.store.specs.Opening.{entry_from, entry_at, journal_of, IsCarriedOut, ReplaysPage, ReplaysJournal};
 ghost use Rattle.pages.specs.Limits.{most_versions};
 
 use disk::Disk;
@@ -63,8 +60,7 @@ fn judge_page(
     ensures later { IfOk result (λ new. version + 1 ≤ new) }
     ensures grows { OnOk result (length network.old.arcs ≤ length network.new.arcs) }
     ensures refused { IfErr result (λ refusal. MayLack (entry_from format number page.now version network.old) refusal) }
-    ensures causes { IfErr result MayEndOpening }
-    ensures quiet { IsQuiet result }
+    ensures judges { JudgesToOpen result }
 {
     let damaged = Refusal::Damaged { page: number };
     let Ok(found) = decode_journal_page(alloc, page, format) else {
@@ -98,18 +94,14 @@ fn replay_page<D: Disk>(
     version: u64,
     network: &mut Network,
 ) -> Result<u64, Refusal>
-    requires header { IsHeader header.now }
+    requires file { HasFileOf D.Disk header.now disk.old }
     requires version { version ≤ most_versions }
-    requires whole { D.honest disk.old → length (D.content disk.old) ≡ 4096 * page_count header.now }
-    ensures carried_out { D.honest disk.old → IfOk result (λ new. IsCarriedOut (entry_from header.now.format (journal_page_at header.now sequence) (page (D.content disk.old) (journal_page_at header.now sequence)) version network.old) version network.new new) }
+    ensures carried_out { D.honest disk.old → IfOk result (ReplaysPage (page (D.content disk.old)) header.now sequence version network.old network.new) }
     ensures fits { IfOk result (λ new. new ≤ most_versions) }
     ensures later { IfOk result (λ new. version + 1 ≤ new) }
     ensures grows { OnOk result (length network.old.arcs ≤ length network.new.arcs) }
-    ensures refused { D.honest disk.old → IfErr result (λ refusal. MayRefuse (entry_from header.now.format (journal_page_at header.now sequence) (page (D.content disk.old) (journal_page_at header.now sequence)) version network.old) refusal) }
-    ensures causes { IfErr result MayEndOpening }
-    ensures same { D.honest disk.old → StaysSame D.content D.left D.moment D.left_since disk.old disk.new }
-    ensures counted { D.failures disk.new ≡ failures_told result (D.failures disk.old) }
-    ensures honest { D.honest disk.new ↔ D.honest disk.old }
+    ensures refused { D.honest disk.old → IfErr result (MayRefuse (entry_at (page (D.content disk.old)) header.now sequence version network.old)) }
+    ensures reads { ReadsToOpen D.Disk result disk.old disk.new }
 {
     let number = header.journal_page(sequence);
     let mut page = [0; PAGE_SIZE];
@@ -131,20 +123,16 @@ pub fn replay<D: Disk>(
     version: u64,
     network: &mut Network,
 ) -> Result<u64, Refusal>
-    requires header { IsHeader header.now }
+    requires file { HasFileOf D.Disk header.now disk.old }
     requires from { from ≤ most_versions }
     requires version { version ≤ most_versions }
-    requires whole { D.honest disk.old → length (D.content disk.old) ≡ 4096 * page_count header.now }
     requires longest { D.honest disk.old → IsLongest (page (D.content disk.old)) header.now from count }
-    ensures carried_out { D.honest disk.old → IfOk result (λ new. AreCarriedOut (journal_from (page (D.content disk.old)) header.now header.now.journal_pages from version network.old) count version network.new new) }
+    ensures carried_out { D.honest disk.old → IfOk result (ReplaysJournal (page (D.content disk.old)) header.now from count version network.old network.new) }
     ensures fits { IfOk result (λ new. new ≤ most_versions) }
     ensures later { IfOk result (λ new. version + count ≤ new) }
     ensures grows { OnOk result (length network.old.arcs ≤ length network.new.arcs) }
-    ensures refused { D.honest disk.old → IfErr result (λ refusal. MayRefuse (journal_from (page (D.content disk.old)) header.now header.now.journal_pages from version network.old) refusal) }
-    ensures causes { IfErr result MayEndOpening }
-    ensures same { D.honest disk.old → StaysSame D.content D.left D.moment D.left_since disk.old disk.new }
-    ensures counted { D.failures disk.new ≡ failures_told result (D.failures disk.old) }
-    ensures honest { D.honest disk.new ↔ D.honest disk.old }
+    ensures refused { D.honest disk.old → IfErr result (MayRefuse (journal_of (page (D.content disk.old)) header.now from version network.old)) }
+    ensures reads { ReadsToOpen D.Disk result disk.old disk.new }
 {
     let mut reached = version;
     for i in 0..count {

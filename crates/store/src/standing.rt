@@ -7,12 +7,12 @@ ghost use Rattle.roadnet.specs.Net.{Net};
 ghost use Rattle.pagereader.specs.Outcomes.{failures_told, MayEndOpening};
 ghost use Rattle.store.specs.Inspecting.{StandsThus};
 ghost use Rattle.store.specs.Opening.{HeaderFits, MayRefuseToOpen};
-ghost use Rattle.store.specs.State.{CameTidy, HasCommittedNothing};
+ghost use Rattle.store.specs.State.{WhileTidy, BeforeCommit};
 
 use crate::opening::find;
 use crate::store::Store;
 use disk::Disk;
-use pages::Slot;
+use pages::{Format, Slot};
 use roadnet::Refusal;
 use std::alloc::Global;
 
@@ -43,8 +43,8 @@ impl<D: Disk> Store<D> {
         ensures slot { result.slot ≡ self.now.slot }
         ensures epoch { result.epoch ≡ self.now.epoch }
         ensures unchecked { result.unchecked ≡ self.now.unchecked }
-        ensures stands { CameTidy D.honest D.content self.now.given → self.now.broken ≡ false → StandsThus (D.content self.now.disk) self.now.network self.now.version result }
-        ensures before_commit { HasCommittedNothing D.honest D.content self.now → self.now.broken ≡ false → StandsThus (D.content self.now.disk) self.now.network self.now.version result }
+        ensures stands { WhileTidy D.honest D.content self.now (StandsThus (D.content self.now.disk) self.now.network self.now.version result) }
+        ensures before_commit { BeforeCommit D.honest D.content self.now (StandsThus (D.content self.now.disk) self.now.network self.now.version result) }
     {
         Standing {
             slot: self.pages.slot,
@@ -75,7 +75,7 @@ pub fn inspect<D: Disk>(alloc: Global, disk: &mut D) -> Result<Inspected, Refusa
     ensures at_rest { D.honest disk.old → OnOk result (Only (D.content disk.new) (D.left disk.new)) }
     ensures honest { D.honest disk.new ↔ D.honest disk.old }
 {
-    let found = find(alloc, disk)?;
+    let found = find(alloc, disk, Format::Two)?;
     Ok(Inspected {
         version: found.version,
         standing: Standing {

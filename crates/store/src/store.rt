@@ -7,11 +7,11 @@ ghost use Rattle.roadnet.specs.Step.{after};
 ghost use Rattle.roadnet.specs.declared.refusals.Refusal.TheVariants.{Device as device, OutOfMemory as out_of_memory};
 ghost use Rattle.pages.specs.Limits.{most_commands};
 ghost use Rattle.pagereader.specs.Outcomes.{failures_told};
-ghost use Rattle.store.specs.Committing.{alone, MayRefuseCommit};
+ghost use Rattle.store.specs.Committing.{alone, MayRefuseCommit, RefusesCommit};
 ghost use Rattle.store.specs.Checkpointing.{refusal_of_checkpoint, MayRefuseCheckpoint};
 ghost use Rattle.pages.specs.Layout.{other, slot_pages};
 ghost use Rattle.store.specs.Going.{part_by, progress_by, slot_by, epoch_by, unchecked_by, with_page_committed};
-ghost use Rattle.store.specs.State.{CameTidy, HasCommittedNothing, HasRoom, HasCheckpointPages, IsDurable, IsDurableOrAfter, StandsAs, told, commit_refusal, is_calm, checkpoint_of, has_all_checked};
+ghost use Rattle.store.specs.State.{CameTidy, WhileTidy, LeavesDurableOrAfter, HasCommittedNothing, HasRoom, HasCheckpointPages, IsDurable, IsDurableOrAfter, StandsAs, told, commit_refusal, is_calm, checkpoint_of, has_all_checked};
 
 use crate::alone::groups_of;
 use crate::in_flight::{InFlight, Made, has_failed};
@@ -80,7 +80,7 @@ impl<D: Disk> Store<D> {
         ensures none_in_flight { self.now.broken ≡ false → self.now.in_flight ≡ [] }
         ensures checkpoint_pages { CameTidy D.honest D.content self.now.given → self.now.broken ≡ false → HasCheckpointPages self.now }
     {
-        self.pages.version()
+        self.pages.version
     }
 
     /// How many pages of the journal stand behind the current checkpoint. Where the store came tidy, or nothing was committed since, over a disk
@@ -90,14 +90,14 @@ impl<D: Disk> Store<D> {
         ensures stands { CameTidy D.honest D.content self.now.given → self.now.broken ≡ false → StandsAs (D.content self.now.disk) (told self.now) }
         ensures before_commit { HasCommittedNothing D.honest D.content self.now → self.now.broken ≡ false → StandsAs (D.content self.now.disk) (told self.now) }
     {
-        self.pages.unchecked()
+        self.pages.unchecked
     }
 
     /// How many pages the journal has.
     pub fn journal_pages(&self) -> u32
         ensures { result ≡ self.now.journal_pages }
     {
-        self.pages.journal_pages()
+        self.pages.header.journal_pages
     }
 
     /// Whether the store is neither broken nor has a checkpoint going.
@@ -156,8 +156,8 @@ impl<D: Disk> Store<D> {
         ensures kept_pages { OnErr result ((self.new.unchecked ≡ self.old.unchecked) × (self.new.going ≡ self.old.going)) }
         ensures adds_nothing { self.old.broken ≡ true → AddsNothing D.moment D.left_since self.old.disk self.new.disk }
         // A stop at any moment of the call, or after it, leaves what stands for the network before the groups, or after them.
-        ensures any_moment { CameTidy D.honest D.content self.old.given → self.old.broken ≡ false → LeavesOnly D.moment D.left_since self.old.disk self.new.disk (IsDurableOrAfter self.old groups.now) }
-        ensures in_flight { CameTidy D.honest D.content self.old.given → self.old.broken ≡ false → (c : List ℕ) → D.left self.new.disk c → IsDurableOrAfter self.old groups.now c }
+        ensures any_moment { WhileTidy D.honest D.content self.old (LeavesDurableOrAfter D.moment D.left_since groups.now self.old self.new) }
+        ensures in_flight { WhileTidy D.honest D.content self.old ((c : List ℕ) → D.left self.new.disk c → IsDurableOrAfter self.old groups.now c) }
         // Where the disk failed in it, these groups are in flight.
         ensures failed_in_flight { IfErr result (λ refusal. refusal ≡ device → self.new.in_flight ≡ groups.now) }
         ensures none_in_flight { OnOk result (self.new.in_flight ≡ []) }
@@ -189,7 +189,7 @@ impl<D: Disk> Store<D> {
         ensures given { self.new.given ≡ self.old.given }
         ensures sizes { (self.new.journal_pages ≡ self.old.journal_pages) × (self.new.checkpoint_pages ≡ self.old.checkpoint_pages) }
         // It refuses exactly where there is a cause; and where there is none, for want of memory, or where the disk failed in this call.
-        ensures refused { MatchResult result (λ _. commit_refusal self.old (alone commands.now) ≡ None) (MayRefuseCommit (commit_refusal self.old (alone commands.now))) }
+        ensures refused { RefusesCommit (commit_refusal self.old (alone commands.now)) result }
         ensures same { IfErr result (λ refusal. refusal ≢ device → self.new ≡ self.old) }
         ensures failed { IfErr result (λ refusal. refusal ≡ device → Rose (D.failures self.old.disk) (D.failures self.new.disk)) }
         // The count rises by one where that is told, and else not at all: no failure is passed over.
@@ -199,8 +199,8 @@ impl<D: Disk> Store<D> {
         ensures kept_pages { OnErr result ((self.new.unchecked ≡ self.old.unchecked) × (self.new.going ≡ self.old.going)) }
         ensures adds_nothing { self.old.broken ≡ true → AddsNothing D.moment D.left_since self.old.disk self.new.disk }
         // A stop at any moment of the call, or after it, leaves what stands for the network before the commands, or after them.
-        ensures any_moment { CameTidy D.honest D.content self.old.given → self.old.broken ≡ false → LeavesOnly D.moment D.left_since self.old.disk self.new.disk (IsDurableOrAfter self.old (alone commands.now)) }
-        ensures in_flight { CameTidy D.honest D.content self.old.given → self.old.broken ≡ false → (c : List ℕ) → D.left self.new.disk c → IsDurableOrAfter self.old (alone commands.now) c }
+        ensures any_moment { WhileTidy D.honest D.content self.old (LeavesDurableOrAfter D.moment D.left_since (alone commands.now) self.old self.new) }
+        ensures in_flight { WhileTidy D.honest D.content self.old ((c : List ℕ) → D.left self.new.disk c → IsDurableOrAfter self.old (alone commands.now) c) }
         // Where the disk failed in it, these commands are in flight.
         ensures failed_in_flight { IfErr result (λ refusal. refusal ≡ device → self.new.in_flight ≡ (alone commands.now)) }
         ensures none_in_flight { OnOk result (self.new.in_flight ≡ []) }
@@ -256,7 +256,7 @@ impl<D: Disk> Store<D> {
         ensures kept_slot { OnErr result ((self.new.slot ≡ self.old.slot) × (self.new.epoch ≡ self.old.epoch)) }
         ensures adds_nothing { self.old.broken ≡ true → AddsNothing D.moment D.left_since self.old.disk self.new.disk }
         // A stop at any moment of the call, or after it, leaves what stands for this network and version.
-        ensures any_moment { CameTidy D.honest D.content self.old.given → self.old.broken ≡ false → LeavesOnly D.moment D.left_since self.old.disk self.new.disk (IsDurable self.old) }
+        ensures any_moment { WhileTidy D.honest D.content self.old (LeavesOnly D.moment D.left_since self.old.disk self.new.disk (IsDurable self.old)) }
         ensures left { CameTidy D.honest D.content self.old.given → self.old.broken ≡ false → (c : List ℕ) → D.left self.new.disk c → IsDurable self.old c }
         // Tidy or not, before a commit the content stands, after Ok, as the store tells then.
         ensures before_commit { HasCommittedNothing D.honest D.content self.old → OnOk result (StandsAs (D.content self.new.disk) (told self.new)) }
@@ -299,7 +299,7 @@ impl<D: Disk> Store<D> {
         ensures kept_slot { OnErr result ((self.new.slot ≡ self.old.slot) × (self.new.epoch ≡ self.old.epoch)) }
         ensures adds_nothing { self.old.broken ≡ true → AddsNothing D.moment D.left_since self.old.disk self.new.disk }
         // A stop at any moment of the call, or after it, leaves what stands for this network and version.
-        ensures any_moment { CameTidy D.honest D.content self.old.given → self.old.broken ≡ false → LeavesOnly D.moment D.left_since self.old.disk self.new.disk (IsDurable self.old) }
+        ensures any_moment { WhileTidy D.honest D.content self.old (LeavesOnly D.moment D.left_since self.old.disk self.new.disk (IsDurable self.old)) }
         ensures left { CameTidy D.honest D.content self.old.given → self.old.broken ≡ false → (c : List ℕ) → D.left self.new.disk c → IsDurable self.old c }
         // Tidy or not, before a commit the content stands, after Ok, as the store tells then.
         ensures before_commit { HasCommittedNothing D.honest D.content self.old → OnOk result (StandsAs (D.content self.new.disk) (told self.new)) }

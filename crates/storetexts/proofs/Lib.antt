@@ -19,3 +19,4 @@ pub mod Read
 pub mod Fitting
 pub mod Shown
 pub mod Exported
+pub mod Tabled

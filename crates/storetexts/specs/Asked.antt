@@ -1,9 +1,10 @@
--- What the pairs of a text are answered with by a store, and for what they are refused.
-use Rattle.std.specs.Prelude.{◌≡◌, ◌⊎◌, ℕ, zero, List, Option, Some, Ok, ⊤}
+-- What the pairs of a text, or those between the nodes of two texts, are answered with by a store, and for what they are refused.
+use Rattle.std.specs.Prelude.{◌≡◌, ◌⊎◌, ℕ, zero, suc, List, Option, Some, Ok, ⊤}
 use Rattle.roadnet.specs.declared.refusals.Refusal.{Refusal}
 use Rattle.roadnet.specs.declared.refusals.Refusal.TheVariants.{Write}
 use Rattle.roadnet.specs.Net.{Net}
 use Rattle.dimacs.specs.declared.pairs.Pair.{Pair}
+use Rattle.dimacs.specs.Landmarks.{nodes_text}
 use Rattle.dimacs.specs.Pairs.{p2p_text}
 use Rattle.dimacs.specs.Texts.{Source, InMemory, OfReader, FaultOf}
 use Rattle.pagereader.specs.Outcomes.{MayEndOpening}
@@ -12,6 +13,7 @@ use Rattle.store.specs.Opening.{MayRefuseToOpen}
 use Rattle.printing.specs.declared.failed.Failed.{Failed}
 use Rattle.printing.specs.declared.failed.Failed.TheVariants.{Text, Code}
 use Rattle.querytexts.specs.Batch.{pairs_in, AnswersAll}
+use Rattle.querytexts.specs.Table.{GivesTable, HasTargetFault}
 
 -- A store was opened, of this network at this version: where the disk keeps the disk model, its file stands for them. Of them this holds.
 pub record OfStore (Honest : Type 0) (file : List ℕ) (Holds : Net → ℕ → Type 0) : Type 0 where
@@ -50,3 +52,28 @@ IsRefusedAsk Honest file text source (Text zero fault) = OfStore Honest file (λ
 IsRefusedAsk Honest file text source (Code Write) = OfStore Honest file (GivesPairs text)
 IsRefusedAsk Honest file text source (Code refusal) = IsUnopened Honest file refusal × (IsUnread text source ⊎ OfStore Honest file (GivesPairs text))
 IsRefusedAsk Honest file text source failed = ⊥
+
+-- ---- the pairs between the nodes of two texts
+
+-- what is written are the lines of right answers to the pairs between the nodes of the texts, in this network at this version, and nothing else
+abbrev pub AnswersTable : List ℕ → List ℕ → Option (List ℕ) → Option (List ℕ) → Net → ℕ → Type 0
+AnswersTable sources targets old new net version = GivesTable net sources targets (λ pairs. AnswersAll net version pairs old new)
+
+-- the same in the network and at the version of the store
+abbrev pub IsTableAsked : Type 0 → List ℕ → List ℕ → List ℕ → Option (List ℕ) → Option (List ℕ) → Type 0
+IsTableAsked Honest file sources targets old new = OfStore Honest file (AnswersTable sources targets old new)
+
+-- neither text has a fault, judged by this network
+abbrev pub GivesNodes : List ℕ → List ℕ → Net → ℕ → Type 0
+GivesNodes sources targets net version = GivesTable net sources targets (λ pairs. ⊤)
+
+-- The store was opened and the text of sources has its fault told, judged by the network of the store, or its reader failed in it; or that of targets,
+-- where the one of sources has none. Where the store was opened and neither has one, the writer failed, or memory ran out. Or opening is refused, and
+-- neither text is read.
+abbrev pub IsRefusedTable : Type 0 → List ℕ → List ℕ → List ℕ → Source → Source → Failed → Type 0
+IsRefusedTable Honest file sources targets sources_from targets_from (Text zero fault) = OfStore Honest file (λ net version. FaultOf (nodes_text net.nodes) sources sources_from fault)
+IsRefusedTable Honest file sources targets sources_from targets_from (Text (suc zero) fault) = OfStore Honest file (λ net version. HasTargetFault net sources targets targets_from fault)
+IsRefusedTable Honest file sources targets sources_from targets_from (Code Write) = OfStore Honest file (GivesNodes sources targets)
+IsRefusedTable Honest file sources targets sources_from targets_from (Code refusal) =
+    IsUnopened Honest file refusal × ((IsUnread sources sources_from × IsUnread targets targets_from) ⊎ OfStore Honest file (GivesNodes sources targets))
+IsRefusedTable Honest file sources targets sources_from targets_from failed = ⊥

@@ -1,5 +1,5 @@
 -- What texts and disks say where a call failed.
-use Rattle.std.specs.Prelude.{◌≡◌, ℕ, Result, Ok, Err, ⊤}
+use Rattle.std.specs.Prelude.{◌≡◌, ◌≤◌, ℕ, Result, Ok, Err, ⊤}
 use Rattle.roadnet.specs.declared.refusals.Refusal.TheVariants.{Write, Device, NotEmpty, OutOfMemory, TooManyLandmarks}
 use Rattle.pagereader.specs.Outcomes.{failures_with, MayEndOpening}
 use Rattle.printing.specs.declared.failed.Failed.{Failed}
@@ -38,6 +38,12 @@ abbrev pub IsOfStore : Failed → Type 0
 IsOfStore (Text which fault) = which ≡ 0
 IsOfStore (Code Write) = ⊤
 IsOfStore (Code refusal) = MayEndOpening refusal
+
+-- the same of a call with two texts
+abbrev pub IsOfTwoTexts : Failed → Type 0
+IsOfTwoTexts (Text which fault) = which ≤ 1
+IsOfTwoTexts (Code Write) = ⊤
+IsOfTwoTexts (Code refusal) = MayEndOpening refusal
 
 -- The disk's count of failures rose by one where 43 is told, and is else as it was. A failed write may be told in place of 43.
 abbrev pub CountsDevice : {X : Type 0} → ℕ → ℕ → Result X Failed → Type 0

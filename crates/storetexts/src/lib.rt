@@ -1,4 +1,4 @@
-//! Texts that run on a store: made from a network and its landmarks, changed by commands, asked for pairs. A store that is only
+//! Texts that run on a store: made from a network and its landmarks, changed by commands, asked for pairs and for tables of them. A store that is only
 //! looked at, or written out as texts. And one that is made of another store, of this format or the one before.
 #![tactic(auto)]
 
@@ -10,6 +10,7 @@ mod exporting;
 mod moving;
 mod outcomes;
 mod showing;
+mod tabling;
 mod upgrading;
 
 pub use applying::{apply_counted, apply_text};
@@ -20,4 +21,5 @@ pub use exporting::{export_counted, export_text, laws_of_exports};
 pub use moving::{copy_counted, copy_text, migrate_counted, migrate_text};
 pub use outcomes::Outcome;
 pub use showing::{show_counted, show_text};
+pub use tabling::{ask_table_counted, ask_table_text};
 pub use upgrading::{make_upgraded, read_maps, upgrade_counted, upgrade_stored};

@@ -3,7 +3,7 @@ use printing::Look;
 use std::alloc::{AllocError, Global};
 use std::process::Abort;
 use std::test::Fail;
-use words::{Asked, Job, PipePair, Usage, read_words};
+use words::{Asked, Job, PairTexts, PipePair, Usage, read_words};
 
 /// These words, with blanks between them, ask for this job.
 fn ask_for<R: Abort + AllocGlobal>(rt: &R, words: &str, job: Job<'_>) -> Result<(), Fail> {
@@ -25,7 +25,7 @@ fn usage_of<R: Abort + AllocGlobal>(rt: &R, words: &str) -> Result<Usage, Fail> 
 }
 
 /// Words with the job for which they ask.
-const JOBS: [(&str, Job<'static>); 23] = [
+const JOBS: [(&str, Job<'static>); 28] = [
     (
         "roadmark once a.gr 1 18446744073709551615",
         Job::Once {
@@ -39,7 +39,7 @@ const JOBS: [(&str, Job<'static>); 23] = [
         "roadmark batch a.gr b.p2p --delta 2147483647",
         Job::Batch {
             network: "a.gr",
-            pairs: "b.p2p",
+            pairs: PairTexts::Listed { pairs: "b.p2p" },
             delta: Some(2147483647),
         },
     ),
@@ -47,8 +47,46 @@ const JOBS: [(&str, Job<'static>); 23] = [
         "roadmark batch --delta 2147483647 -- a.gr b.p2p",
         Job::Batch {
             network: "a.gr",
-            pairs: "b.p2p",
+            pairs: PairTexts::Listed { pairs: "b.p2p" },
             delta: Some(2147483647),
+        },
+    ),
+    (
+        "roadmark batch a.gr --from b.ss --to c.ss",
+        Job::Batch {
+            network: "a.gr",
+            pairs: PairTexts::Table {
+                sources: "b.ss",
+                targets: "c.ss",
+            },
+            delta: None,
+        },
+    ),
+    (
+        "roadmark reach a.gr 1",
+        Job::Reach {
+            network: "a.gr",
+            source: 1,
+            within: None,
+            delta: None,
+        },
+    ),
+    (
+        "roadmark reach --within 0 a.gr 18446744073709551615 --delta 3",
+        Job::Reach {
+            network: "a.gr",
+            source: u64::MAX,
+            within: Some(0),
+            delta: Some(3),
+        },
+    ),
+    (
+        "roadmark reached a.gr 4 --within=18446744073709551615",
+        Job::Reached {
+            network: "a.gr",
+            target: 4,
+            within: Some(u64::MAX),
+            delta: None,
         },
     ),
     (
@@ -170,8 +208,19 @@ const JOBS: [(&str, Job<'static>); 23] = [
         "roadmark ask s b.p2p",
         Job::Ask {
             store: "s",
-            pairs: "b.p2p",
+            pairs: PairTexts::Listed { pairs: "b.p2p" },
             delta: None,
+        },
+    ),
+    (
+        "roadmark ask --to=- s --from b.ss --delta 3",
+        Job::Ask {
+            store: "s",
+            pairs: PairTexts::Table {
+                sources: "b.ss",
+                targets: "-",
+            },
+            delta: Some(3),
         },
     ),
     ("roadmark check s", Job::Check { store: "s" }),
@@ -286,9 +335,10 @@ fn ask_to_serve<R: Abort + AllocGlobal>(rt: &R, row: Served) -> Result<(), Fail>
 }
 
 /// Words that ask to be told how far the work has come.
-const VERBOSE: [&str; 14] = [
+const VERBOSE: [&str; 15] = [
     "roadmark once a.gr 1 2 --verbose",
     "roadmark batch --verbose a.gr b.p2p",
+    "roadmark reach a.gr --verbose 1",
     "roadmark rehearse a.gr --verbose c",
     "roadmark create s a.gr b.ss --verbose --room 9",
     "roadmark apply s d --verbose",
@@ -386,6 +436,21 @@ fn misuses_of_words(rt: HostRuntime) -> Result<(), Fail> {
         "roadmark batch a.gr b.p2p c",
         "roadmark batch a.gr b.p2p --delta 0",
         "roadmark batch - -",
+        "roadmark batch a.gr --from b.ss",
+        "roadmark batch a.gr --to b.ss",
+        "roadmark batch a.gr b.p2p --from b.ss",
+        "roadmark batch a.gr b.p2p --from b.ss --to c.ss",
+        "roadmark batch - --from b.ss --to -",
+        "roadmark batch a.gr --from - --to -",
+        "roadmark ask s --from b.ss",
+        "roadmark ask s --to b.ss",
+        "roadmark ask s b.p2p --to b.ss",
+        "roadmark ask s --from - --to -",
+        "roadmark reach a.gr",
+        "roadmark reach a.gr 1 2",
+        "roadmark reach a.gr 1 --within -1",
+        "roadmark reached a.gr one",
+        "roadmark once a.gr 1 2 --within 3",
         "roadmark rehearse - -",
         "roadmark create s - -",
         "roadmark --delta 2147483648",
@@ -474,15 +539,16 @@ fn has_help<R: Abort + AllocGlobal>(rt: &R, words: &str, parts: &str) -> Result<
 #[test]
 fn help_of_words(rt: HostRuntime) -> Result<(), Fail> {
     let words =
-        "once|batch|rehearse|create|apply|ask|check|serve|migrate|upgrade|copy|show|export|--delta <D>|Example: roadmark <";
+        "once|batch|reach|reached|rehearse|create|apply|ask|check|serve|migrate|upgrade|copy|show|export|--delta <D>|Example: roadmark <";
     let once = "least length|<GR>|<S>|<T>|--delta <D>|Example: roadmark once";
-    let batch = "pairs|<GR>|<P2P>|--delta <D>|Example: roadmark batch";
+    let batch = "pairs|<GR>|[P2P]|--from <SS>|--to <SS>|--delta <D>|Example: roadmark batch";
+    let reached = "<GR>|<T>|--within <L>|--delta <D>|Example: roadmark reached";
     let rehearse =
         "script|<GR>|<SCRIPT>|--journal <J>|--room <R>|--delta <D>|Example: roadmark rehearse";
     let create = "landmarks|<STORE>|<GR>|<SS>|--journal <J>|--room <R>|Example: roadmark create";
     let apply =
         "commands|<STORE>|<COMMANDS>|--delta <D>|Taken and not used|Example: roadmark apply";
-    let ask = "pairs|<STORE>|<P2P>|--delta <D>|Example: roadmark ask";
+    let ask = "pairs|<STORE>|[P2P]|--from <SS>|--to <SS>|--delta <D>|Example: roadmark ask";
     let check = "<STORE>|journal U|Example: roadmark check";
     let migrate = "<OLD>|<NEW>|--room <R>|Example: roadmark migrate";
     let copy = "same version|<STORE>|<FILE>|--room <R>|--journal <J>|Example: roadmark copy";
@@ -495,6 +561,7 @@ fn help_of_words(rt: HostRuntime) -> Result<(), Fail> {
         ("roadmark --help", words),
         ("roadmark once --help", once),
         ("roadmark help batch", batch),
+        ("roadmark reached --help", reached),
         ("roadmark rehearse --help", rehearse),
         ("roadmark create --help", create),
         ("roadmark apply --help", apply),

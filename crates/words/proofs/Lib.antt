@@ -1,2 +1,3 @@
-mod PipeNames
+mod InputTwice
+pub mod PipeNames
 mod WordsRead

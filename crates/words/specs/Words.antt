@@ -7,8 +7,10 @@ use lib.Chars.{codes}
 use Rattle.clap.specs.declared.parser.matches.Found.{Found}
 use Rattle.clap.specs.Words.{first_value, matched_of, one_text, raw_values}
 use Rattle.rows.specs.Kept.{IsWidth}
+use Rattle.words.specs.declared.words.PairTexts.{PairTexts}
+use Rattle.words.specs.declared.words.PairTexts.TheVariants.{Listed, Table}
 use Rattle.words.specs.declared.words.Job.{Job}
-use Rattle.words.specs.declared.words.Job.TheVariants.{Joint, Once, Batch, Rehearse, Create, Apply, Ask, Check, Serve, Migrate, Copy, Upgrade, Show, Export}
+use Rattle.words.specs.declared.words.Job.TheVariants.{Joint, Once, Batch, Reach, Reached, Rehearse, Create, Apply, Ask, Check, Serve, Migrate, Copy, Upgrade, Show, Export}
 use Rattle.printing.specs.declared.looks.Look.{Look}
 use Rattle.printing.specs.declared.looks.Look.TheVariants.{Arc, Between}
 use Rattle.words.specs.declared.words.Usage.{Usage}
@@ -22,6 +24,8 @@ abbrev pub delta_of : Job → Option ℕ
 delta_of (Joint delta) = delta
 delta_of (Once network source target delta) = delta
 delta_of (Batch network pairs delta) = delta
+delta_of (Reach network source within delta) = delta
+delta_of (Reached network target within delta) = delta
 delta_of (Rehearse network script journal_pages room delta) = delta
 delta_of (Create store network landmarks journal_pages room) = None
 delta_of (Apply store commands delta) = delta
@@ -39,6 +43,8 @@ abbrev pub searched_width : Job → Option ℕ
 searched_width (Joint delta) = delta
 searched_width (Once network source target delta) = delta
 searched_width (Batch network pairs delta) = delta
+searched_width (Reach network source within delta) = delta
+searched_width (Reached network target within delta) = delta
 searched_width (Rehearse network script journal_pages room delta) = delta
 searched_width (Create store network landmarks journal_pages room) = None
 searched_width (Apply store commands delta) = None
@@ -56,6 +62,8 @@ abbrev pub journal_of : Job → Option ℕ
 journal_of (Joint delta) = None
 journal_of (Once network source target delta) = None
 journal_of (Batch network pairs delta) = None
+journal_of (Reach network source within delta) = None
+journal_of (Reached network target within delta) = None
 journal_of (Rehearse network script journal_pages room delta) = Some journal_pages
 journal_of (Create store network landmarks journal_pages room) = Some journal_pages
 journal_of (Apply store commands delta) = None
@@ -73,6 +81,8 @@ abbrev pub workers_of : Job → Option ℕ
 workers_of (Joint delta) = None
 workers_of (Once network source target delta) = None
 workers_of (Batch network pairs delta) = None
+workers_of (Reach network source within delta) = None
+workers_of (Reached network target within delta) = None
 workers_of (Rehearse network script journal_pages room delta) = None
 workers_of (Create store network landmarks journal_pages room) = None
 workers_of (Apply store commands delta) = None
@@ -90,6 +100,8 @@ abbrev pub pipes_of : Job → List PipePair
 pipes_of (Joint delta) = []
 pipes_of (Once network source target delta) = []
 pipes_of (Batch network pairs delta) = []
+pipes_of (Reach network source within delta) = []
+pipes_of (Reached network target within delta) = []
 pipes_of (Rehearse network script journal_pages room delta) = []
 pipes_of (Create store network landmarks journal_pages room) = []
 pipes_of (Apply store commands delta) = []
@@ -119,6 +131,8 @@ abbrev pub subcommand_of : Job → Option (List ℕ)
 subcommand_of (Joint delta) = None
 subcommand_of (Once network source target delta) = Some (codes "once")
 subcommand_of (Batch network pairs delta) = Some (codes "batch")
+subcommand_of (Reach network source within delta) = Some (codes "reach")
+subcommand_of (Reached network target within delta) = Some (codes "reached")
 subcommand_of (Rehearse network script journal_pages room delta) = Some (codes "rehearse")
 subcommand_of (Create store network landmarks journal_pages room) = Some (codes "create")
 subcommand_of (Apply store commands delta) = Some (codes "apply")
@@ -152,12 +166,43 @@ GivesOnce found (Some (Once network source target delta)) =
     × Gives found (codes "T") IsLong (Some target) × Gives found (codes "delta") IsWidth delta
 GivesOnce found (Some job) = ⊥
 
--- the words of `batch` give this job, or a word is missing
+-- the names of the texts that give pairs
+abbrev pub pair_names : PairTexts → List (List ℕ)
+pair_names (Listed pairs) = pairs.now ∷ []
+pair_names (Table sources targets) = sources.now ∷ targets.now ∷ []
+
+-- a list of pairs alone, or sources and targets and no list; nothing else names pairs
+abbrev pub names_given : Option (List ℕ) → Option (List ℕ) → Option (List ℕ) → Option (List (List ℕ))
+names_given (Some pairs) None None = Some (pairs ∷ [])
+names_given None (Some sources) (Some targets) = Some (sources ∷ targets ∷ [])
+names_given pairs sources targets = None
+
+-- the names of the texts that the words give for pairs
+abbrev pub given_pairs : Found → Option (List (List ℕ))
+given_pairs found = names_given (first_value found (codes "P2P")) (first_value found (codes "from")) (first_value found (codes "to"))
+
+-- the words of `batch` give this job, or a word is missing, or is one too many
 abbrev pub GivesBatch : Found → Option Job → Type 0
-GivesBatch found None = (first_value found (codes "GR") ≡ None) ⊎ (first_value found (codes "P2P") ≡ None)
+GivesBatch found None = (first_value found (codes "GR") ≡ None) ⊎ (given_pairs found ≡ None)
 GivesBatch found (Some (Batch network pairs delta)) =
-    (first_value found (codes "GR") ≡ Some network.now) × (first_value found (codes "P2P") ≡ Some pairs.now) × Gives found (codes "delta") IsWidth delta
+    (first_value found (codes "GR") ≡ Some network.now) × (given_pairs found ≡ Some (pair_names pairs)) × Gives found (codes "delta") IsWidth delta
 GivesBatch found (Some job) = ⊥
+
+-- the words of `reach` give this job, or a word is missing
+abbrev pub GivesReach : Found → Option Job → Type 0
+GivesReach found None = (first_value found (codes "GR") ≡ None) ⊎ Gives found (codes "S") IsLong None
+GivesReach found (Some (Reach network source within delta)) =
+    (first_value found (codes "GR") ≡ Some network.now) × Gives found (codes "S") IsLong (Some source)
+    × Gives found (codes "within") IsLong within × Gives found (codes "delta") IsWidth delta
+GivesReach found (Some job) = ⊥
+
+-- the words of `reached` give this job, or a word is missing
+abbrev pub GivesReached : Found → Option Job → Type 0
+GivesReached found None = (first_value found (codes "GR") ≡ None) ⊎ Gives found (codes "T") IsLong None
+GivesReached found (Some (Reached network target within delta)) =
+    (first_value found (codes "GR") ≡ Some network.now) × Gives found (codes "T") IsLong (Some target)
+    × Gives found (codes "within") IsLong within × Gives found (codes "delta") IsWidth delta
+GivesReached found (Some job) = ⊥
 
 -- the journal pages that the words give; 64 where they give none
 abbrev pub GivesJournal : Found → ℕ → Type 0
@@ -189,11 +234,11 @@ GivesApply found (Some (Apply store commands delta)) =
     × Gives found (codes "delta") IsWidth delta
 GivesApply found (Some job) = ⊥
 
--- the words of `ask` give this job, or a word is missing
+-- the words of `ask` give this job, or a word is missing, or is one too many
 abbrev pub GivesAsk : Found → Option Job → Type 0
-GivesAsk found None = (first_value found (codes "STORE") ≡ None) ⊎ (first_value found (codes "P2P") ≡ None)
+GivesAsk found None = (first_value found (codes "STORE") ≡ None) ⊎ (given_pairs found ≡ None)
 GivesAsk found (Some (Ask store pairs delta)) =
-    (first_value found (codes "STORE") ≡ Some store.now) × (first_value found (codes "P2P") ≡ Some pairs.now)
+    (first_value found (codes "STORE") ≡ Some store.now) × (given_pairs found ≡ Some (pair_names pairs))
     × Gives found (codes "delta") IsWidth delta
 GivesAsk found (Some job) = ⊥
 
@@ -280,9 +325,17 @@ GivesJoint found job = ⊤
 abbrev pub IsInput : List ℕ → Type 0
 IsInput name = name ≡ codes "-"
 
--- both texts of a job that has two are the standard input
+-- the texts of pairs are the standard input twice, or once where another text is it too
+abbrev pub ComesTwice : Bool → PairTexts → Type 0
+ComesTwice true (Listed pairs) = IsInput pairs.now
+ComesTwice true (Table sources targets) = IsInput sources.now ⊎ IsInput targets.now
+ComesTwice false (Listed pairs) = ⊥
+ComesTwice false (Table sources targets) = IsInput sources.now × IsInput targets.now
+
+-- two texts of a job are the standard input
 abbrev pub NamesInputTwice : Job → Type 0
-NamesInputTwice (Batch network pairs delta) = IsInput network.now × IsInput pairs.now
+NamesInputTwice (Batch network pairs delta) = (IsInput network.now × ComesTwice true pairs) ⊎ ComesTwice false pairs
+NamesInputTwice (Ask store pairs delta) = ComesTwice false pairs
 NamesInputTwice (Rehearse network script journal_pages room delta) = IsInput network.now × IsInput script.now
 NamesInputTwice (Create store network landmarks journal_pages room) = IsInput network.now × IsInput landmarks.now
 NamesInputTwice (Upgrade store old network new room) = IsInput old.now × IsInput network.now

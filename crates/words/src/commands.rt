@@ -33,6 +33,12 @@ pub const SOURCE: &str = "S";
 
 pub const TARGET: &str = "T";
 
+pub const SOURCES: &str = "from";
+
+pub const TARGETS: &str = "to";
+
+pub const WITHIN: &str = "within";
+
 pub const DELTA: &str = "delta";
 
 pub const COPIES: &str = "copies";
@@ -58,6 +64,10 @@ pub const MOST_WORKERS: u32 = 64;
 pub const ONCE: &str = "once";
 
 pub const BATCH: &str = "batch";
+
+pub const REACH: &str = "reach";
+
+pub const REACHED: &str = "reached";
 
 pub const REHEARSE: &str = "rehearse";
 
@@ -92,7 +102,13 @@ const ABOUT_ONCE: &str =
     "Prints the least length of a walk from S to T in the network of the file GR: the lines `v 0` and `d S T LENGTH`, `x S T` where no walk leads there, or `no 24` where S or T is no node.";
 
 const ABOUT_BATCH: &str =
-    "Answers the pairs of the file P2P in the network of the file GR: the line `v 0`, then one line a pair, in their order: `d S T LENGTH`, or `x S T` where no walk leads there.";
+    "Answers the pairs of the file P2P in the network of the file GR: the line `v 0`, then one line a pair, in their order: `d S T LENGTH`, or `x S T` where no walk leads there. With --from and --to, and without P2P, the pairs are a table: each node that the one file lists with each that the other lists, source by source, in the order of their lines.";
+
+const ABOUT_REACH: &str =
+    "Prints which nodes walks from S reach in the network of the file GR: the line `v 0`, then one line a node, ascending: `d S T LENGTH`, the least length of a walk from S to that node T. S itself is one of them. With --within those alone whose length is at most L, else all to which a walk leads. Where S is no node it prints `v 0` and `no 24`.";
+
+const ABOUT_REACHED: &str =
+    "Prints from which nodes walks reach T in the network of the file GR: the line `v 0`, then one line a node, ascending: `d S T LENGTH`, the least length of a walk from that node S to T. T itself is one of them. With --within those alone whose length is at most L, else all from which a walk leads there. Where T is no node it prints `v 0` and `no 24`.";
 
 const ABOUT_REHEARSE: &str =
     "Makes a store in memory for the network of the file GR, runs the script of the file SCRIPT on it, and prints the lines of its events: commands, groups of them between `begin` and `end`, flushes, checkpoints, queries (`dist S T`, `from X T`, `lower S T`), and stops as a power cut makes them. No file is written.";
@@ -104,7 +120,7 @@ const ABOUT_APPLY: &str =
     "Applies the commands of the file COMMANDS to the store in the file STORE, and prints one line a group, in their order: `ok N`, once the group is version N of the store for good, or `no CODE` where it is refused. The lines `begin` and `end` enclose the commands of a group, of which all are carried out or none; a command elsewhere is a group of its own.";
 
 const ABOUT_ASK: &str =
-    "Answers the pairs of the file P2P in the network of the store in the file STORE, which stays as it is: the line `v V`, V the store's version, then one line a pair, in their order: `d S T LENGTH`, or `x S T` where no walk leads there.";
+    "Answers the pairs of the file P2P in the network of the store in the file STORE, which stays as it is: the line `v V`, V the store's version, then one line a pair, in their order: `d S T LENGTH`, or `x S T` where no walk leads there. With --from and --to, and without P2P, the pairs are a table: each node that the one file lists with each that the other lists, source by source, in the order of their lines.";
 
 const ABOUT_CHECK: &str =
     "Looks at the store in the file STORE, which stays as it is, and tells how it stands: `v V`, its version; `slot A E` or `slot B E`, the slot that holds its last checkpoint, and that slot's epoch, which rises by one with each checkpoint; `journal U`, how many pages of the journal stand behind that checkpoint. The file is judged first, as each opening judges it: where a page that counts is damaged, the fault line names its number, and the status is 1.";
@@ -114,10 +130,10 @@ const ABOUT_SERVE: &str =
 
 Beside that it serves one client after the other at each pair of named pipes, IN and OUT, all pairs at once: the client writes its lines into IN and reads its answers from OUT. There `quit` ends that client's session alone, and a last line without its end is not carried out. The end of standard input ends the server.
 
-`set K W`, `close K`, `reopen K`, `mark X`, `unmark X` and `lay T H W` change the network: `ok N`, once the command is version N of the store for good, or `no CODE`. The lines `begin` and `end` enclose commands of which all are carried out or none: `end` is answered for all of them. `dist S T`, `from X T` and `lower S T` ask: the line `v V`, V the version that is shown, and the answer line, or `no CODE`. `arc K` and `arcs T H` tell an arc and the arcs from one node to another, `landmarks` and `closed` all of these, in the version V that is shown: the line `v V`, then theirs. `wait` waits until the last command or group that was accepted is shown: `v V`, from which on answers are of that version or a later one; `until N` until version N is. `state` tells how the server stands. With `--copies`, `copy NAME` makes a store in the file NAME of that folder, of the network at the version V that is shown: `copied V`, once it is there for good, or `no CODE`; NAME is 1 to 64 letters, digits, `-` and `_`. Empty lines and those that begin with # have no answer; another line has `no 1` or `no 5`.";
+`set K W`, `close K`, `reopen K`, `mark X`, `unmark X` and `lay T H W` change the network: `ok N`, once the command is version N of the store for good, or `no CODE`. The lines `begin` and `end` enclose commands of which all are carried out or none: `end` is answered for all of them. `dist S T`, `from X T` and `lower S T` ask: the line `v V`, V the version that is shown, and the answer line, or `no CODE`. `arc K` and `arcs T H` tell an arc and the arcs from one node to another, `landmarks` and `closed` all of these, in the version V that is shown: the line `v V`, then theirs. `reach S L` tells the nodes within the length L of S, `reached T L` those from which T is within it, `nearest S K` the K landmarks nearest to S, and `table A B S1 .. SA T1 .. TB` the lengths from A sources to B targets, all in that version. `wait` waits until the last command or group that was accepted is shown: `v V`, from which on answers are of that version or a later one; `until N` until version N is. `state` tells how the server stands. With `--copies`, `copy NAME` makes a store in the file NAME of that folder, of the network at the version V that is shown: `copied V`, once it is there for good, or `no CODE`; NAME is 1 to 64 letters, digits, `-` and `_`. Empty lines and those that begin with # have no answer; another line has `no 1` or `no 5`.";
 
 const AFTER_SERVE: &str =
-    "Lines of a session: set, close, reopen, mark, unmark, lay, begin, end, dist, from, lower, arc, arcs, landmarks, closed, wait, until, state, copy, quit; `man roadmark` and docs/PROGRAM.md tell what each takes and how it is answered.
+    "Lines of a session: set, close, reopen, mark, unmark, lay, begin, end, dist, from, lower, arc, arcs, landmarks, closed, table, reach, reached, nearest, wait, until, state, copy, quit; `man roadmark` and docs/PROGRAM.md tell what each takes and how it is answered.
 
 Example: printf 'close 7\\nwait\\ndist 1 6\\n' | roadmark serve six.store";
 
@@ -214,6 +230,48 @@ fn verbose_flag<'w>(alloc: Global) -> Arg<'w> {
         )
 }
 
+/// The word for the pairs, which stands at its place where no sources and targets are given.
+fn pairs_word<'w>(alloc: Global) -> Result<Arg<'w>, AllocError> {
+    Arg::new(alloc, PAIRS)
+        .action(ArgAction::Set)
+        .help(P2P_HELP)
+        .required_unless_present(SOURCES)?
+        .conflicts_with_all(&[SOURCES, TARGETS])
+}
+
+/// An option `--from SS`.
+fn sources_option<'w>(alloc: Global) -> Result<Arg<'w>, AllocError> {
+    Arg::new(alloc, SOURCES)
+        .long(SOURCES)
+        .value_name("SS")
+        .action(ArgAction::Set)
+        .help(
+            "File of the sources of a table, a .ss text, or - for standard input; with --to, and without P2P",
+        )
+        .requires_arg(TARGETS)
+}
+
+/// An option `--to SS`.
+fn targets_option<'w>(alloc: Global) -> Result<Arg<'w>, AllocError> {
+    Arg::new(alloc, TARGETS)
+        .long(TARGETS)
+        .value_name("SS")
+        .action(ArgAction::Set)
+        .help(
+            "File of the targets of a table, a .ss text, or - for standard input; with --from, and without P2P",
+        )
+        .requires_arg(SOURCES)
+}
+
+/// An option `--within L`.
+fn within_option<'w>(alloc: Global) -> Arg<'w> {
+    Arg::new(alloc, WITHIN)
+        .long(WITHIN)
+        .value_name("L")
+        .value_parser(value_parser!(u64))
+        .help("The greatest length of a walk that is told; without it each is told")
+}
+
 /// A word that has to stand at its place.
 fn required_word<'w>(alloc: Global, name: &'w str, help: &'w str) -> Arg<'w> {
     Arg::new(alloc, name)
@@ -252,11 +310,37 @@ fn once_command<'w>(alloc: Global) -> Result<Command<'w>, AllocError> {
 
 fn batch_command<'w>(alloc: Global) -> Result<Command<'w>, AllocError> {
     Command::new(alloc, BATCH)
-        .about("Prints the least length of a walk for each pair of a file")
+        .about("Prints the least length of a walk for each pair of a file, or of a table")
         .long_about(ABOUT_BATCH)
         .after_help("Example: roadmark batch examples/six.gr examples/six.p2p")
         .arg(required_word(alloc, NETWORK, GR_HELP))?
-        .arg(required_word(alloc, PAIRS, P2P_HELP))?
+        .arg(pairs_word(alloc)?)?
+        .arg(sources_option(alloc)?)?
+        .arg(targets_option(alloc)?)?
+        .arg(delta_option(alloc))?
+        .arg(verbose_flag(alloc))
+}
+
+fn reach_command<'w>(alloc: Global) -> Result<Command<'w>, AllocError> {
+    Command::new(alloc, REACH)
+        .about("Prints which nodes walks from a node reach, and the least lengths")
+        .long_about(ABOUT_REACH)
+        .after_help("Example: roadmark reach examples/six.gr 1 --within 10")
+        .arg(required_word(alloc, NETWORK, GR_HELP))?
+        .arg(required_node(alloc, SOURCE, "Node where the walks begin"))?
+        .arg(within_option(alloc))?
+        .arg(delta_option(alloc))?
+        .arg(verbose_flag(alloc))
+}
+
+fn reached_command<'w>(alloc: Global) -> Result<Command<'w>, AllocError> {
+    Command::new(alloc, REACHED)
+        .about("Prints from which nodes walks reach a node, and the least lengths")
+        .long_about(ABOUT_REACHED)
+        .after_help("Example: roadmark reached examples/six.gr 4 --within 2")
+        .arg(required_word(alloc, NETWORK, GR_HELP))?
+        .arg(required_node(alloc, TARGET, "Node where the walks end"))?
+        .arg(within_option(alloc))?
         .arg(delta_option(alloc))?
         .arg(verbose_flag(alloc))
 }
@@ -308,11 +392,15 @@ fn apply_command<'w>(alloc: Global) -> Result<Command<'w>, AllocError> {
 
 fn ask_command<'w>(alloc: Global) -> Result<Command<'w>, AllocError> {
     Command::new(alloc, ASK)
-        .about("Prints the least length of a walk for each pair of a file, in a store's network")
+        .about(
+            "Prints the least length of a walk for each pair of a file, or of a table, in a store's network",
+        )
         .long_about(ABOUT_ASK)
         .after_help("Example: roadmark ask six.store examples/six.p2p")
         .arg(required_word(alloc, STORE, STORE_HELP))?
-        .arg(required_word(alloc, PAIRS, P2P_HELP))?
+        .arg(pairs_word(alloc)?)?
+        .arg(sources_option(alloc)?)?
+        .arg(targets_option(alloc)?)?
         .arg(delta_option(alloc))?
         .arg(verbose_flag(alloc))
 }
@@ -434,6 +522,8 @@ pub fn program<'w>(alloc: Global) -> Result<Command<'w>, AllocError> {
         .arg(delta_option(alloc))?
         .subcommand(once_command(alloc)?)?
         .subcommand(batch_command(alloc)?)?
+        .subcommand(reach_command(alloc)?)?
+        .subcommand(reached_command(alloc)?)?
         .subcommand(rehearse_command(alloc)?)?
         .subcommand(create_command(alloc)?)?
         .subcommand(apply_command(alloc)?)?

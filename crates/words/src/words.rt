@@ -1,5 +1,5 @@
 //! The program's words.
-ghost use Rattle.std.specs.Prelude.{◌≡◌, ◌≢◌, ℕ, ◌≤◌, [], None, false, IsSome, IsOk, IfOk, IfErr, IfSome};
+ghost use Rattle.std.specs.Prelude.{◌≡◌, ◌≢◌, ℕ, ◌≤◌, [], None, false, IsSome, IsOk, IfOk, IfErr, IfSome, option_map};
 ghost use Rattle.std.specs.Bool.{Decides};
 ghost use Rattle.std.specs.Option.{ForSome};
 ghost use Rattle.std.specs.Result.{ForOk};
@@ -7,13 +7,13 @@ ghost use lib.Chars.{codes};
 ghost use Rattle.clap.specs.Words.{found_of, kind_of, subcommand_name_of};
 ghost use Rattle.rows.specs.Kept.{IsWidth};
 ghost use Rattle.words.specs.Pipes.{names_of, AreFit, AreMisfit};
-ghost use Rattle.words.specs.Words.{delta_of, journal_of, workers_of, pipes_of, all_values, subcommand_of, HasFitNumbers, Gives, GivesOnce, GivesBatch, GivesRehearse, GivesCreate, GivesApply, GivesAsk, GivesCheck, GivesServe, GivesMigrate, GivesCopy, GivesUpgrade, GivesLook, GivesShow, GivesExport, GivesJoint, GivesJournal, GivesVerbose, GivesWorkers, IsJournal, IsWorkers, IsLong, IsUsage, IsInput, NamesInputTwice};
+ghost use Rattle.words.specs.Words.{delta_of, journal_of, workers_of, pipes_of, pair_names, names_given, given_pairs, all_values, subcommand_of, ComesTwice, HasFitNumbers, Gives, GivesOnce, GivesBatch, GivesReach, GivesReached, GivesRehearse, GivesCreate, GivesApply, GivesAsk, GivesCheck, GivesServe, GivesMigrate, GivesCopy, GivesUpgrade, GivesLook, GivesShow, GivesExport, GivesJoint, GivesJournal, GivesVerbose, GivesWorkers, IsJournal, IsWorkers, IsLong, IsUsage, IsInput, NamesInputTwice};
 
 use crate::commands::{
     APPLY, ASK, BATCH, CHECK, COMMANDS, COPIES, COPY, CREATE, DELTA, EXPORT, FILE, FOLDER, HEAD,
     JOURNAL, LANDMARKS, MIGRATE, MOST_JOURNAL_PAGES, MOST_WIDTH, MOST_WORKERS, NETWORK, NEW,
-    NUMBER, OLD, ONCE, PAIRS, PIPES, REHEARSE, ROOM, SCRIPT, SERVE, SHOW, SOURCE, STORE, TARGET,
-    UPGRADE, VERBOSE, WORKERS, program,
+    NUMBER, OLD, ONCE, PAIRS, PIPES, REACH, REACHED, REHEARSE, ROOM, SCRIPT, SERVE, SHOW, SOURCE,
+    SOURCES, STORE, TARGET, TARGETS, UPGRADE, VERBOSE, WITHIN, WORKERS, program,
 };
 use crate::pipes::{Misfit, PipePair, pairs_of};
 use clap::error::ErrorKind;
@@ -21,6 +21,15 @@ use clap::{ArgMatches, Error};
 use printing::Look;
 use std::alloc::Global;
 use std::convert::AsStr;
+
+/// The texts that give pairs of nodes. A name of a file is as it was written.
+#[derive(Clone, Copy, Debug, PartialEq, Eq)]
+pub enum PairTexts<'w> {
+    /// One that lists them.
+    Listed { pairs: &'w str },
+    /// One that lists sources, and one that lists targets: each source with each target.
+    Table { sources: &'w str, targets: &'w str },
+}
 
 /// What the program is asked to do. A name of a file is as it was written.
 #[derive(Debug, Drop, PartialEq, Eq)]
@@ -36,10 +45,26 @@ pub enum Job<'w> {
         target: u64,
         delta: Option<u32>,
     },
-    /// The pairs of one file, in the network of another.
+    /// Pairs, in the network of a file.
     Batch {
         network: &'w str,
-        pairs: &'w str,
+        pairs: PairTexts<'w>,
+        delta: Option<u32>,
+    },
+    /// The nodes that walks from a node reach, in the network of a file.
+    Reach {
+        network: &'w str,
+        source: u64,
+        /// The greatest length that is told, if there is one.
+        within: Option<u64>,
+        delta: Option<u32>,
+    },
+    /// The nodes from which walks reach a node, in the network of a file.
+    Reached {
+        network: &'w str,
+        target: u64,
+        /// The greatest length that is told, if there is one.
+        within: Option<u64>,
         delta: Option<u32>,
     },
     /// The script of one file, on a store in memory for the network of another.
@@ -64,10 +89,10 @@ pub enum Job<'w> {
         commands: &'w str,
         delta: Option<u32>,
     },
-    /// The pairs of a file, in the network of a store.
+    /// Pairs, in the network of a store.
     Ask {
         store: &'w str,
-        pairs: &'w str,
+        pairs: PairTexts<'w>,
         delta: Option<u32>,
     },
     /// How a store stands.
@@ -270,15 +295,69 @@ fn once_in<'w>(matches: &ArgMatches<'w>) -> Option<Job<'w>>
     })
 }
 
+/// The texts of pairs by these names: a list alone, or sources and targets together and no list.
+fn named_pairs<'w>(
+    pairs: Option<&'w str>,
+    sources: Option<&'w str>,
+    targets: Option<&'w str>,
+) -> Option<PairTexts<'w>>
+    ensures { option_map pair_names result ≡ names_given (option_map (λ name. name.now) pairs) (option_map (λ name. name.now) sources) (option_map (λ name. name.now) targets) }
+{
+    match (pairs, sources, targets) {
+        (Some(pairs), None, None) => Some(PairTexts::Listed { pairs }),
+        (None, Some(sources), Some(targets)) => Some(PairTexts::Table { sources, targets }),
+        _ => None,
+    }
+}
+
+/// The texts of pairs that these words name.
+fn pairs_in<'w>(matches: &ArgMatches<'w>) -> Option<PairTexts<'w>>
+    ensures { option_map pair_names result ≡ given_pairs (found_of matches.now) }
+{
+    named_pairs(
+        matches.get_str(PAIRS),
+        matches.get_str(SOURCES),
+        matches.get_str(TARGETS),
+    )
+}
+
 fn batch_in<'w>(matches: &ArgMatches<'w>) -> Option<Job<'w>>
     ensures numbers { ForSome result HasFitNumbers }
     ensures given { GivesBatch (found_of matches.now) result }
 {
     let network = matches.get_str(NETWORK)?;
-    let pairs = matches.get_str(PAIRS)?;
+    let pairs = pairs_in(matches)?;
     Some(Job::Batch {
         network,
         pairs,
+        delta: width_in(matches),
+    })
+}
+
+fn reach_in<'w>(matches: &ArgMatches<'w>) -> Option<Job<'w>>
+    ensures numbers { ForSome result HasFitNumbers }
+    ensures given { GivesReach (found_of matches.now) result }
+{
+    let network = matches.get_str(NETWORK)?;
+    let source = number_in(matches, SOURCE)?;
+    Some(Job::Reach {
+        network,
+        source,
+        within: number_in(matches, WITHIN),
+        delta: width_in(matches),
+    })
+}
+
+fn reached_in<'w>(matches: &ArgMatches<'w>) -> Option<Job<'w>>
+    ensures numbers { ForSome result HasFitNumbers }
+    ensures given { GivesReached (found_of matches.now) result }
+{
+    let network = matches.get_str(NETWORK)?;
+    let target = number_in(matches, TARGET)?;
+    Some(Job::Reached {
+        network,
+        target,
+        within: number_in(matches, WITHIN),
         delta: width_in(matches),
     })
 }
@@ -332,7 +411,7 @@ fn ask_in<'w>(matches: &ArgMatches<'w>) -> Option<Job<'w>>
     ensures given { GivesAsk (found_of matches.now) result }
 {
     let store = matches.get_str(STORE)?;
-    let pairs = matches.get_str(PAIRS)?;
+    let pairs = pairs_in(matches)?;
     Some(Job::Ask {
         store,
         pairs,
@@ -467,6 +546,8 @@ fn plain_job_in<'w>(matches: &ArgMatches<'w>) -> Option<Job<'w>>
         }),
         Some((ONCE, inner)) => once_in(inner),
         Some((BATCH, inner)) => batch_in(inner),
+        Some((REACH, inner)) => reach_in(inner),
+        Some((REACHED, inner)) => reached_in(inner),
         Some((REHEARSE, inner)) => rehearse_in(inner),
         Some((CREATE, inner)) => create_in(inner),
         Some((APPLY, inner)) => apply_in(inner),
@@ -491,17 +572,30 @@ pub fn is_input(name: &str) -> bool
     name == INPUT
 }
 
-/// Whether a job names the standard input for both its texts.
+/// Whether texts of pairs, or the text of a network beside them, are twice the standard input.
+fn pairs_name_input_twice(pairs: PairTexts<'_>, has_input: bool) -> bool
+    ensures { Decides result (ComesTwice has_input pairs) }
+{
+    match pairs {
+        PairTexts::Listed { pairs } => has_input && is_input(pairs),
+        PairTexts::Table { sources, targets } => {
+            if has_input {
+                is_input(sources) || is_input(targets)
+            } else {
+                is_input(sources) && is_input(targets)
+            }
+        }
+    }
+}
+
+/// Whether a job names the standard input for two of its texts.
 fn names_input_twice(job: &Job<'_>) -> bool
     ensures { Decides result (NamesInputTwice job.now) }
 {
     match *job {
-        Job::Batch {
-            network,
-            pairs: second,
-            ..
-        }
-        | Job::Rehearse {
+        Job::Batch { network, pairs, .. } => pairs_name_input_twice(pairs, is_input(network)),
+        Job::Ask { pairs, .. } => pairs_name_input_twice(pairs, false),
+        Job::Rehearse {
             network,
             script: second,
             ..
@@ -518,8 +612,9 @@ fn names_input_twice(job: &Job<'_>) -> bool
         } => is_input(network) && is_input(second),
         Job::Joint { .. }
         | Job::Once { .. }
+        | Job::Reach { .. }
+        | Job::Reached { .. }
         | Job::Apply { .. }
-        | Job::Ask { .. }
         | Job::Check { .. }
         | Job::Serve { .. }
         | Job::Migrate { .. }

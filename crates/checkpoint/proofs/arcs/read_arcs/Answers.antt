@@ -20,7 +20,7 @@ loop-i-init g c = record {
       subst (λ (xs : List RoadArc). AllByRecursion (IsEnds c.args.header.now.nodes) (map ends_of xs)) none tt;
   count = omega (arith, ap length c.in-Ok.ensures.items);
   run = c.requires.run;
-  read = nothing_read g.D.Disk.content g.D.Disk.left g.D.Disk.moment g.D.Disk.left_since g.D.Disk.failures g.D.Disk.honest c.args.disk.now;
+  read = nothing_read g.D.Disk c.args.disk.now;
 }
 
 pub returns-in_err-take_page-clause-refused : goal.returns-in_err-take_page-clause-refused
@@ -43,6 +43,6 @@ loop-i-preserved g c = record {
   fits = more_ends c.args.header.now c.loop-i.i c.read.new.into c.loop-i.arcs.items c.take_page.new.arcs.items c.in_ok-take_page.ensures.spelled c.loop-i.invariant.fits;
   count = c.in_ok-take_page.ensures.count;
   run = λ h. subst (λ (file : List ℕ). IsRunOf file c.read.new.self) (c.loop-i.invariant.read.stays h).same_content (c.in-Ok-read.ensures.run (c.loop-i.invariant.read.honest_then.1 h));
-  read = read_more g.D.Disk.content g.D.Disk.left g.D.Disk.moment g.D.Disk.left_since g.D.Disk.failures g.D.Disk.honest c.args.disk.now c.loop-i.disk c.read.new.disk c.loop-i.invariant.read
-      (record { stays = c.in-Ok-read.ensures.same; honest_then = c.in-Ok-read.ensures.honest; counted = c.in-Ok-read.ensures.counted });
+  read = read_more g.D.Disk c.args.disk.now c.loop-i.disk c.read.new.disk c.loop-i.invariant.read
+      (record { stays = c.in-Ok-read.ensures.reads.same; honest_then = c.in-Ok-read.ensures.reads.honest; counted = c.in-Ok-read.ensures.reads.counted });
 }

@@ -13,5 +13,5 @@ invariant-loop-i g l = record {
   fits : AllByRecursion (IsEnds l.header.nodes) (map ends_of l.arcs.items);
   count : length l.arcs.items ≡ min (511 * l.i) l.header.arcs;
   run : g.D.Disk.honest l.fn.disk → IsRunOf (g.D.Disk.content l.fn.disk) l.reader;
-  read : HasRead g.D.Disk.content g.D.Disk.left g.D.Disk.moment g.D.Disk.left_since g.D.Disk.failures g.D.Disk.honest l.fn.disk l.disk;
+  read : HasRead g.D.Disk l.fn.disk l.disk;
 }

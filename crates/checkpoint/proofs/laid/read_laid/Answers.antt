@@ -8,8 +8,8 @@ use Rattle.storefile.specs.StoreFile.{page}
 use Rattle.pagereader.specs.Runs.{IsRunOf}
 use Rattle.pagereader.proofs.Unchanged.{nothing_read, read_more}
 use Rattle.checkpoint.proofs.Flawless.{none_laid, more_laid, all_ends}
-use Rattle.checkpoint.proofs.SoFar.{laid_of_page, laid_start, laid_more, laid_stop_as, laid_done}
-use Rattle.checkpoint.specs.Loading.{EndsArePut}
+use Rattle.checkpoint.proofs.SoFar.{laid_start, laid_more, laid_stop_as, laid_done}
+use Rattle.checkpoint.specs.Loading.{EndsArePut, laid_of_page}
 use Rattle.checkpoint.proofs.laid.read_laid.Goals as goal
 
 pub loop-i-init : goal.loop-i-init
@@ -20,7 +20,7 @@ loop-i-init g c = record {
   first = refl;
   words = refl;
   run = c.requires.run;
-  read = nothing_read g.D.Disk.content g.D.Disk.left g.D.Disk.moment g.D.Disk.left_since g.D.Disk.failures g.D.Disk.honest c.args.disk.now;
+  read = nothing_read g.D.Disk c.args.disk.now;
 }
 
 pub returns-in_err-take_page-clause-refused : goal.returns-in_err-take_page-clause-refused
@@ -46,8 +46,8 @@ loop-i-preserved g c = record {
   first = c.take_page.ensures.first ∙ c.loop-i.invariant.first;
   words = c.take_page.ensures.words ∙ c.loop-i.invariant.words;
   run = λ h. subst (λ (file : List ℕ). IsRunOf file c.read.new.self) (c.loop-i.invariant.read.stays h).same_content (c.in-Ok.ensures.run (c.loop-i.invariant.read.honest_then.1 h));
-  read = read_more g.D.Disk.content g.D.Disk.left g.D.Disk.moment g.D.Disk.left_since g.D.Disk.failures g.D.Disk.honest c.args.disk.now c.loop-i.disk c.read.new.disk c.loop-i.invariant.read
-      (record { stays = c.in-Ok.ensures.same; honest_then = c.in-Ok.ensures.honest; counted = c.in-Ok.ensures.counted });
+  read = read_more g.D.Disk c.args.disk.now c.loop-i.disk c.read.new.disk c.loop-i.invariant.read
+      (record { stays = c.in-Ok.ensures.reads.same; honest_then = c.in-Ok.ensures.reads.honest; counted = c.in-Ok.ensures.reads.counted });
 }
 
 pub returns-clause-spelled : goal.returns-clause-spelled

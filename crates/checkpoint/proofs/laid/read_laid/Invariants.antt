@@ -15,5 +15,5 @@ invariant-loop-i g l = record {
   first : map ends_of (take l.header.arcs l.arcs) ≡ map ends_of (take l.header.arcs l.fn.arcs);
   words : map word_of l.arcs ≡ map word_of l.fn.arcs;
   run : g.D.Disk.honest l.fn.disk → IsRunOf (g.D.Disk.content l.fn.disk) l.reader;
-  read : HasRead g.D.Disk.content g.D.Disk.left g.D.Disk.moment g.D.Disk.left_since g.D.Disk.failures g.D.Disk.honest l.fn.disk l.disk;
+  read : HasRead g.D.Disk l.fn.disk l.disk;
 }

@@ -1,4 +1,4 @@
-use Rattle.std.proofs.Common.{◌≡◌, ◌∙◌, inl, ℕ, List, ◌++◌, Ok, length, take, drop, ap, sym, subst, arith}
+use Rattle.std.proofs.Common.{◌≡◌, ◌∙◌, inl, ℕ, List, ◌++◌, Ok, length, take, drop, refl, ap, sym, subst, arith}
 use Rattle.std.specs.Prelude.{map}
 use Rattle.std.proofs.lemmas.List.{take_at}
 use Rattle.std.proofs.lemmas.Result.{err_from_is_err_and}
@@ -11,7 +11,7 @@ use Rattle.storefile.specs.Judging.{words_from, laid_from}
 use Rattle.pagereader.proofs.Outcomes.{may_refuse_whole}
 use Rattle.checkpoint.specs.Loading.{head_of, loaded_from, parts_from}
 use Rattle.checkpoint.proofs.Loaded.{loaded_is, loaded_stop}
-use Rattle.disk.proofs.Steps.{same_twice}
+use Rattle.pagereader.proofs.Calls.{reads_then, reads_then_refuses}
 use Rattle.checkpoint.proofs.slots.load.Goals as goal
 
 pub add_blank-requires : goal.add_blank-requires
@@ -20,25 +20,29 @@ add_blank-requires g c = let a = c.in_ok-head.ensures.fits.arcs.0 in omega (arit
 pub returns-in_err-read_parts-clause-refused : goal.returns-in_err-read_parts-clause-refused
 returns-in_err-read_parts-clause-refused g c h =
     let p = err_from_is_err_and c.from_residual-in_err-read_parts.result c.from_residual-in_err-read_parts.ensures.1 in
-    let there = c.in_ok-head.ensures.same h in
+    let there = c.in_ok-head.ensures.reads.same h in
     let count : length c.deref_mut.result.now ≡ c.in_ok-head.head.arcs = ap length c.deref_mut.ensures.value ∙ c.in-Ok.ensures.count ∙ c.arcs.ensures in
     rw (p.1, p.2) (may_refuse_whole (parts_from (page (g.D.Disk.content c.read_head.new.disk)) c.args.header.now c.args.slot (length c.deref_mut.result.now)) (loaded_from (page (g.D.Disk.content c.args.disk.now)) c.args.header.now c.args.slot (map ends_of c.args.arcs.items)) _
     (λ e. loaded_stop (page (g.D.Disk.content c.args.disk.now)) c.args.header.now c.args.slot (map ends_of c.args.arcs.items) c.in_ok-head.head _ (c.in_ok-head.ensures.spelled h)
     (ap (λ (file : List ℕ). parts_from (page file) c.args.header.now c.args.slot c.in_ok-head.head.arcs) (sym there.same_content)
     ∙ ap (parts_from (page (g.D.Disk.content c.read_head.new.disk)) c.args.header.now c.args.slot) (sym count) ∙ e))
-    (c.in_err-read_parts.ensures.refused (c.in_ok-head.ensures.honest.1 h)))
+    (c.in_err-read_parts.ensures.refused (c.in_ok-head.ensures.reads.honest.1 h)))
 
-pub returns-in_err-read_parts-clause-same : goal.returns-in_err-read_parts-clause-same
-returns-in_err-read_parts-clause-same g c h =
-    same_twice g.D.Disk.moment g.D.Disk.left_since g.D.Disk.content g.D.Disk.left c.args.disk.now c.read_head.new.disk c.read_parts.new.disk (c.in_ok-head.ensures.same h) (c.read_parts.ensures.same (c.in_ok-head.ensures.honest.1 h))
+pub returns-in_err-read_parts-clause-reads : goal.returns-in_err-read_parts-clause-reads
+returns-in_err-read_parts-clause-reads g c =
+    let p = err_from_is_err_and c.from_residual-in_err-read_parts.result c.from_residual-in_err-read_parts.ensures.1 in
+    rw (p.1, p.2) (reads_then_refuses g.D.Disk c.in_ok-head.head _ c.args.disk.now c.read_head.new.disk c.read_parts.new.disk c.in_ok-head.ensures.reads c.in_err-read_parts.ensures.reads)
 
-pub returns-in_err-network-clause-same : goal.returns-in_err-network-clause-same
-returns-in_err-network-clause-same g c h =
-    same_twice g.D.Disk.moment g.D.Disk.left_since g.D.Disk.content g.D.Disk.left c.args.disk.now c.read_head.new.disk c.read_parts.new.disk (c.in_ok-head.ensures.same h) (c.read_parts.ensures.same (c.in_ok-head.ensures.honest.1 h))
+pub returns-in_err-network-clause-reads : goal.returns-in_err-network-clause-reads
+returns-in_err-network-clause-reads g c =
+    let p = err_from_is_err_and c.from_residual-in_err-network.result c.from_residual-in_err-network.ensures.1 in
+    let both = reads_then g.D.Disk c.in_ok-head.head _ c.args.disk.now c.read_head.new.disk c.read_parts.new.disk c.in_ok-head.ensures.reads c.in_ok-read_parts.ensures.reads in
+    rw (p.1, p.2, c.in_err-network.ensures.refused) (record { causes = refl; same = both.same; counted = both.counted; honest = both.honest })
 
-pub returns-clause-same : goal.returns-clause-same
-returns-clause-same g c h =
-    same_twice g.D.Disk.moment g.D.Disk.left_since g.D.Disk.content g.D.Disk.left c.args.disk.now c.read_head.new.disk c.read_parts.new.disk (c.in_ok-head.ensures.same h) (c.read_parts.ensures.same (c.in_ok-head.ensures.honest.1 h))
+pub returns-clause-reads : goal.returns-clause-reads
+returns-clause-reads g c =
+    let both = reads_then g.D.Disk c.in_ok-head.head _ c.args.disk.now c.read_head.new.disk c.read_parts.new.disk c.in_ok-head.ensures.reads c.in_ok-read_parts.ensures.reads in
+    record { causes = tt; same = both.same; counted = both.counted; honest = both.honest }
 
 pub returns-in_err-network-clause-refused : goal.returns-in_err-network-clause-refused
 returns-in_err-network-clause-refused g c h =
@@ -47,8 +51,8 @@ returns-in_err-network-clause-refused g c h =
 
 pub returns-clause-loaded : goal.returns-clause-loaded
 returns-clause-loaded g c h =
-    let there = c.in_ok-head.ensures.same h in
-    let then_honest = c.in_ok-head.ensures.honest.1 h in
+    let there = c.in_ok-head.ensures.reads.same h in
+    let then_honest = c.in_ok-head.ensures.reads.honest.1 h in
     let head = c.in_ok-head.head in
     let arcs = c.read_parts.new.arcs in
     let count : length c.deref_mut.result.now ≡ c.in_ok-head.head.arcs = ap length c.deref_mut.ensures.value ∙ c.in-Ok.ensures.count ∙ c.arcs.ensures in

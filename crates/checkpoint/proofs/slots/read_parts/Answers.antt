@@ -16,11 +16,11 @@ read_laid-requires-clause-ends g c =
 
 pub returns-clause-laid : goal.returns-clause-laid
 returns-clause-laid g c h =
-    let there = c.in_ok-read_words.ensures.same h in
+    let there = c.in_ok-read_words.ensures.reads.same h in
     on_ok_weaker c.read_laid.result
     (λ e. ap (λ (file : List ℕ). laid_from (page file) c.args.header.now c.args.slot (length c.args.arcs.now)) (sym there.same_content)
     ∙ ap (laid_from (page (g.D.Disk.content c.read_words.new.disk)) c.args.header.now c.args.slot) (sym c.read_words.ensures.count) ∙ e)
-    (c.read_laid.ensures.spelled (c.in_ok-read_words.ensures.honest.1 h))
+    (c.read_laid.ensures.spelled (c.in_ok-read_words.ensures.reads.honest.1 h))
 
 pub returns-clause-first : goal.returns-clause-first
 returns-clause-first g c =
@@ -28,11 +28,11 @@ returns-clause-first g c =
 
 pub returns-clause-refused : goal.returns-clause-refused
 returns-clause-refused g c h =
-    let there = c.in_ok-read_words.ensures.same h in
+    let there = c.in_ok-read_words.ensures.reads.same h in
     IfErr-weaker c.read_laid.result _ _
     (λ refusal may. may_refuse_whole (laid_from (page (g.D.Disk.content c.read_words.new.disk)) c.args.header.now c.args.slot (length c.read_words.new.arcs)) (parts_from (page (g.D.Disk.content c.args.disk.now)) c.args.header.now c.args.slot (length c.args.arcs.now)) refusal
     (λ e. parts_stop (page (g.D.Disk.content c.args.disk.now)) c.args.header.now c.args.slot (length c.args.arcs.now) (map word_of c.read_words.new.arcs) refusal (c.in_ok-read_words.ensures.spelled h)
     (ap (λ (file : List ℕ). laid_from (page file) c.args.header.now c.args.slot (length c.args.arcs.now)) (sym there.same_content)
     ∙ ap (laid_from (page (g.D.Disk.content c.read_words.new.disk)) c.args.header.now c.args.slot) (sym c.read_words.ensures.count) ∙ e))
     may)
-    (c.read_laid.ensures.refused (c.in_ok-read_words.ensures.honest.1 h))
+    (c.read_laid.ensures.refused (c.in_ok-read_words.ensures.reads.honest.1 h))

@@ -6,8 +6,8 @@ use Rattle.storefile.specs.StoreFile.{page}
 use Rattle.pagereader.specs.Runs.{IsRunOf}
 use Rattle.pagereader.proofs.Unchanged.{nothing_read, read_more}
 use Rattle.checkpoint.proofs.Flawless.{none_yet, more_words, whole_fits}
-use Rattle.checkpoint.proofs.SoFar.{words_of_page, words_start, words_more, words_stop_as, words_done}
-use Rattle.checkpoint.specs.Loading.{WordsArePut}
+use Rattle.checkpoint.proofs.SoFar.{words_start, words_more, words_stop_as, words_done}
+use Rattle.checkpoint.specs.Loading.{WordsArePut, words_of_page}
 use Rattle.checkpoint.proofs.words.read_words.Goals as goal
 
 pub loop-i-init : goal.loop-i-init
@@ -17,7 +17,7 @@ loop-i-init g c = record {
   count = refl;
   ends = refl;
   run = c.requires.run;
-  read = nothing_read g.D.Disk.content g.D.Disk.left g.D.Disk.moment g.D.Disk.left_since g.D.Disk.failures g.D.Disk.honest c.args.disk.now;
+  read = nothing_read g.D.Disk c.args.disk.now;
 }
 
 pub returns-in_err-take_page-clause-refused : goal.returns-in_err-take_page-clause-refused
@@ -42,8 +42,8 @@ loop-i-preserved g c = record {
   count = c.take_page.ensures.count ∙ c.loop-i.invariant.count;
   ends = c.take_page.ensures.ends ∙ c.loop-i.invariant.ends;
   run = λ h. subst (λ (file : List ℕ). IsRunOf file c.read.new.self) (c.loop-i.invariant.read.stays h).same_content (c.in-Ok.ensures.run (c.loop-i.invariant.read.honest_then.1 h));
-  read = read_more g.D.Disk.content g.D.Disk.left g.D.Disk.moment g.D.Disk.left_since g.D.Disk.failures g.D.Disk.honest c.args.disk.now c.loop-i.disk c.read.new.disk c.loop-i.invariant.read
-      (record { stays = c.in-Ok.ensures.same; honest_then = c.in-Ok.ensures.honest; counted = c.in-Ok.ensures.counted });
+  read = read_more g.D.Disk c.args.disk.now c.loop-i.disk c.read.new.disk c.loop-i.invariant.read
+      (record { stays = c.in-Ok.ensures.reads.same; honest_then = c.in-Ok.ensures.reads.honest; counted = c.in-Ok.ensures.reads.counted });
 }
 
 pub returns-clause-spelled : goal.returns-clause-spelled

@@ -14,5 +14,5 @@ invariant-loop-i g l = record {
   count : length l.arcs ≡ length l.fn.arcs;
   ends : map ends_of l.arcs ≡ map ends_of l.fn.arcs;
   run : g.D.Disk.honest l.fn.disk → IsRunOf (g.D.Disk.content l.fn.disk) l.reader;
-  read : HasRead g.D.Disk.content g.D.Disk.left g.D.Disk.moment g.D.Disk.left_since g.D.Disk.failures g.D.Disk.honest l.fn.disk l.disk;
+  read : HasRead g.D.Disk l.fn.disk l.disk;
 }

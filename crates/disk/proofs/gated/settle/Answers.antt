@@ -1,7 +1,11 @@
 use Rattle.disk.proofs.Steps.{same_call}
 use Rattle.disk.proofs.gated.settle.Goals as goal
 
-pub returns-clause-same : goal.returns-clause-same
-returns-clause-same g c h =
-    same_call g.D.Disk.moment g.D.Disk.left_since g.D.Disk.content g.D.Disk.left c.args.disk.now c.sync.new.self (c.sync.ensures.content h) (c.sync.ensures.stop h) (c.sync.ensures.time h)
-    (λ t x le left. g.met.D.Disk.counts_now c.args.disk.now t x h le left)
+pub returns-clause-reads : goal.returns-clause-reads
+returns-clause-reads g c = record {
+  same = λ h.
+      same_call g.D.Disk.moment g.D.Disk.left_since g.D.Disk.content g.D.Disk.left c.args.disk.now c.sync.new.self (c.sync.ensures.content h) (c.sync.ensures.stop h) (c.sync.ensures.time h)
+      (λ t x le left. g.met.D.Disk.counts_now c.args.disk.now t x h le left);
+  counted = c.sync.ensures.counted;
+  honest = c.sync.ensures.honest;
+}

@@ -1,6 +1,6 @@
 use Rattle.std.proofs.Common.{◌≡◌, ◌∙◌, ℕ, None, Some, ap, sym}
 use Rattle.storefile.specs.StoreFile.{page, journal_page_at}
-use Rattle.pagereader.specs.Numbers.{open_number}
+use Rattle.pages.specs.Gates.{open_number}
 use Rattle.journal.proofs.Standing.{stands_by, stands_not}
 use Rattle.journal.proofs.ring.is_standing.Goals as goal
 

@@ -4,7 +4,7 @@ use Rattle.sessions.proofs.serving.serve.Goals as goal
 
 pub loop-init : goal.loop-init
 loop-init g c = record {
-  far = far_begun (g.C.Copies.copying c.args.terms.copies.now) c.args.terms.last_line g.N.Naming.origin _ _ _ _ _ _ c.new-session.ensures.place c.new-session.ensures.receipts c.new-session.ensures.last c.new-session.ensures.draft;
+  far = far_begun (g.C.Copies.copying c.args.terms.copies.now) c.args.terms.last_line g.N.Naming.origin _ _ _ _ _ _ _ _ c.new-session.ensures.place c.new-session.ensures.receipts c.new-session.ensures.last c.new-session.ensures.draft c.new-supposing.ensures.group c.new-supposing.ensures.supposed;
   failed_reads = refl;
   same_reader = refl;
   failed_writes = refl;
@@ -13,7 +13,8 @@ loop-init g c = record {
 
 pub loop-preserved : goal.loop-preserved
 loop-preserved g c = record {
-  far = far_turned (g.C.Copies.copying c.args.terms.copies.now) c.args.terms.last_line g.N.Naming.origin _ _ _ _ _ _ _ _ _ _ _ _ _ _ c.in-Ok-Some.line (search rules) c.loop.invariant.far (search rules) (λ draft has. rw c.in_default.is at (c.answer-told.ensures.told draft has)) c.answer-told.ensures.draft c.answer-told.ensures.begins;
+  far = far_turned (g.C.Copies.copying c.args.terms.copies.now) c.args.terms.last_line g.N.Naming.origin _ _ _ _ _ _ _ _ _ _ _ _ _ _ _ _ _ _ c.in-Ok-Some.line (search rules) c.loop.invariant.far (search rules)
+      (λ supposing draft has_group has. rw c.in_default.is at (c.answer-told.ensures.told supposing draft has_group has)) c.answer-told.ensures.draft c.answer-told.ensures.group c.answer-told.ensures.begins;
   failed_reads = search rules;
   same_reader = search rules;
   failed_writes = search rules;

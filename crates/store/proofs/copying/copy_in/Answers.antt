@@ -5,34 +5,34 @@ use Rattle.store.proofs.copying.copy_in.Goals as goal
 
 pub returns-in-Err-with_given_room-clause-refused : goal.returns-in-Err-with_given_room-clause-refused
 returns-in-Err-with_given_room-clause-refused g c h h_new =
-    let found = c.in-Ok-find_in.found in
+    let found = c.in-Ok-find.found in
     let x : Standing = record { header = found.header; slot = found.slot; epoch = found.epoch; network = found.network; version = found.version; next = found.next_sequence; unchecked = found.unchecked } in
     let none : length (g.D.Disk.content c.args.new) ≡ 0 = omega (arith, c.in-Ok.ensures.length h_new, c.if-length-ne0.false) in
     inr (inr (inr (
       c.in-Err-with_given_room.ensures.refused.0,
       no_bytes (g.D.Disk.content c.args.new) none,
-      no_such_room c.args.format (g.O.Disk.content c.args.old.now) x c.args.room (c.in-Ok-find_in.ensures.standing h) c.in-Err-with_given_room.ensures.refused.2,
+      no_such_room c.args.format (g.O.Disk.content c.args.old.now) x c.args.room (c.in-Ok-find.ensures.standing h) c.in-Err-with_given_room.ensures.refused.2,
     )))
 
 pub returns-clause-copied : goal.returns-clause-copied
 returns-clause-copied g c h =
-    let found = c.in-Ok-find_in.found in
+    let found = c.in-Ok-find.found in
     let x : Standing = record { header = found.header; slot = found.slot; epoch = found.epoch; network = found.network; version = found.version; next = found.next_sequence; unchecked = found.unchecked } in
-    all_copied c.create_at.result c.args.format (g.O.Disk.content c.args.old.now) x c.in-Ok-with_given_room.network c.unwrap_or-journal_pages.result c.args.room c.args.journal (c.in-Ok-find_in.ensures.standing h) c.in-Ok-with_given_room.ensures.ok
+    all_copied c.create_at.result c.args.format (g.O.Disk.content c.args.old.now) x c.in-Ok-with_given_room.network c.unwrap_or-journal_pages.result c.args.room c.args.journal (c.in-Ok-find.ensures.standing h) c.in-Ok-with_given_room.ensures.ok
     c.unwrap_or-journal_pages.ensures c.create_at.ensures.network c.create_at.ensures.version c.create_at.ensures.journal_pages
 
 pub returns-clause-stands : goal.returns-clause-stands
 returns-clause-stands g c h =
-    let honest = c.length_of.ensures.honest.1 h in
-    all_stand c.create_at.result g.D.Disk.content c.in-Ok-with_given_room.network c.in-Ok-find_in.found.version c.unwrap_or-journal_pages.result
+    let honest = c.length_of.ensures.reads.honest.1 h in
+    all_stand c.create_at.result g.D.Disk.content c.in-Ok-with_given_room.network c.in-Ok-find.found.version c.unwrap_or-journal_pages.result
     c.create_at.ensures.network c.create_at.ensures.version c.create_at.ensures.journal_pages c.create_at.ensures.checkpoint_pages (c.create_at.ensures.stands honest)
 
 pub returns-clause-left : goal.returns-clause-left
 returns-clause-left g c h =
-    let honest = c.length_of.ensures.honest.1 h in
+    let honest = c.length_of.ensures.reads.honest.1 h in
     all_left c.create_at.result g.D.Disk.content g.D.Disk.left (c.create_at.ensures.only honest)
-    (all_stand c.create_at.result g.D.Disk.content c.in-Ok-with_given_room.network c.in-Ok-find_in.found.version c.unwrap_or-journal_pages.result
+    (all_stand c.create_at.result g.D.Disk.content c.in-Ok-with_given_room.network c.in-Ok-find.found.version c.unwrap_or-journal_pages.result
     c.create_at.ensures.network c.create_at.ensures.version c.create_at.ensures.journal_pages c.create_at.ensures.checkpoint_pages (c.create_at.ensures.stands honest))
 
 pub returns-clause-honest_new : goal.returns-clause-honest_new
-returns-clause-honest_new g c = all_honest c.create_at.result g.D.Disk.honest c.args.new c.length_of.new.disk c.length_of.ensures.honest c.create_at.ensures.honest
+returns-clause-honest_new g c = all_honest c.create_at.result g.D.Disk.honest c.args.new c.length_of.new.disk c.length_of.ensures.reads.honest c.create_at.ensures.honest

@@ -20,8 +20,8 @@ invariant_of-result g c =
       today = refl;
       arcs_from = omega (arith, ap length c.arcs.ensures.value);
       rests = λ works honest.
-          let laid = c.open_gates.ensures.honest.0 honest in
-          let begun = c.lay_out.ensures.honest.0 laid in
+          let laid = c.open_gates.ensures.counts.honest.0 honest in
+          let begun = c.lay_out.ensures.counts.honest.0 laid in
           let made = created (g.D.Disk.content c.open_gates.new.disk) (g.D.Disk.content c.lay_out.new.disk) (record { format = Two; nodes = c.nodes.result; arcs = length c.arcs.result.now; room = c.room.result; journal_pages = c.args.journal_pages }) net c.args.version c.args.journal_pages c.requires.versions
           c.nodes.ensures.network fits is (c.in-Ok-lay_out.ensures.laid_out begun) (c.in-Ok-open_gates.ensures.opened laid) in
           (c.in-Ok-open_gates.ensures.at_rest laid, size_told (g.D.Disk.content c.open_gates.new.disk) _ made.standing_is);
@@ -39,23 +39,23 @@ returns-clause-stands g c = λ h.
     let net : Net = c.in-Ok-copy.copy in
     let is = same_header net c.args.journal_pages c.nodes.result c.room.result c.arcs.result.now c.nodes.ensures.value c.arcs.ensures.value c.room.ensures.value in
     let fits = sizes_fit net c.args.journal_pages c.nodes.ensures.network c.requires.some c.requires.few in
-    let begun = c.length_of.ensures.honest.1 h in
-    let laid = c.lay_out.ensures.honest.1 begun in
+    let begun = c.length_of.ensures.reads.honest.1 h in
+    let laid = c.lay_out.ensures.counts.honest.1 begun in
     let made = created (g.D.Disk.content c.open_gates.new.disk) (g.D.Disk.content c.lay_out.new.disk) (record { format = Two; nodes = c.nodes.result; arcs = length c.arcs.result.now; room = c.room.result; journal_pages = c.args.journal_pages }) net c.args.version c.args.journal_pages c.requires.versions
     c.nodes.ensures.network fits is (c.in-Ok-lay_out.ensures.laid_out begun) (c.in-Ok-open_gates.ensures.opened laid) in
     let sized = subst (λ (x : Header). StandsTidyFor x.journal_pages (slot_pages x) (g.D.Disk.content c.open_gates.new.disk) net c.args.version) is made.stands in
     subst (λ (n : Net). StandsTidyFor c.args.journal_pages (checkpoint_pages_of (length n.arcs) n) (g.D.Disk.content c.open_gates.new.disk) n c.args.version) c.in-Ok-copy.ensures.same sized
 
 pub returns-clause-only : goal.returns-clause-only
-returns-clause-only g c = λ h. c.in-Ok-open_gates.ensures.at_rest (c.lay_out.ensures.honest.1 (c.length_of.ensures.honest.1 h))
+returns-clause-only g c = λ h. c.in-Ok-open_gates.ensures.at_rest (c.lay_out.ensures.counts.honest.1 (c.length_of.ensures.reads.honest.1 h))
 
 pub returns-clause-tidy : goal.returns-clause-tidy
 returns-clause-tidy g c = λ h.
     let net : Net = c.in-Ok-copy.copy in
     let is = same_header net c.args.journal_pages c.nodes.result c.room.result c.arcs.result.now c.nodes.ensures.value c.arcs.ensures.value c.room.ensures.value in
     let fits = sizes_fit net c.args.journal_pages c.nodes.ensures.network c.requires.some c.requires.few in
-    let begun = c.length_of.ensures.honest.1 h in
-    let laid = c.lay_out.ensures.honest.1 begun in
+    let begun = c.length_of.ensures.reads.honest.1 h in
+    let laid = c.lay_out.ensures.counts.honest.1 begun in
     let made = created (g.D.Disk.content c.open_gates.new.disk) (g.D.Disk.content c.lay_out.new.disk) (record { format = Two; nodes = c.nodes.result; arcs = length c.arcs.result.now; room = c.room.result; journal_pages = c.args.journal_pages }) net c.args.version c.args.journal_pages c.requires.versions
     c.nodes.ensures.network fits is (c.in-Ok-lay_out.ensures.laid_out begun) (c.in-Ok-open_gates.ensures.opened laid) in
     made.tidy_at
@@ -65,8 +65,8 @@ returns-clause-standing g c = λ h.
     let net : Net = c.in-Ok-copy.copy in
     let is = same_header net c.args.journal_pages c.nodes.result c.room.result c.arcs.result.now c.nodes.ensures.value c.arcs.ensures.value c.room.ensures.value in
     let fits = sizes_fit net c.args.journal_pages c.nodes.ensures.network c.requires.some c.requires.few in
-    let begun = c.length_of.ensures.honest.1 h in
-    let laid = c.lay_out.ensures.honest.1 begun in
+    let begun = c.length_of.ensures.reads.honest.1 h in
+    let laid = c.lay_out.ensures.counts.honest.1 begun in
     let made = created (g.D.Disk.content c.open_gates.new.disk) (g.D.Disk.content c.lay_out.new.disk) (record { format = Two; nodes = c.nodes.result; arcs = length c.arcs.result.now; room = c.room.result; journal_pages = c.args.journal_pages }) net c.args.version c.args.journal_pages c.requires.versions
     c.nodes.ensures.network fits is (c.in-Ok-lay_out.ensures.laid_out begun) (c.in-Ok-open_gates.ensures.opened laid) in
     made.standing_is

@@ -10,18 +10,18 @@ use Rattle.store.proofs.creation.lay_out.Goals as goal
 
 pub put_words-requires-clause-in_step : goal.put_words-requires-clause-in_step
 put_words-requires-clause-in_step g c = λ h.
-    let before = c.put-2.ensures.honest.0 h in
+    let before = c.put-2.ensures.counts.honest.0 h in
     next_step (g.D.Disk.content c.put_arcs.new.disk) (g.D.Disk.content c.put-2.new.disk) c.put_arcs.new.batch c.put-2.new.self c.encode_slot_head-head.result
     (c.in_ok-put_arcs.ensures.in_step before) (c.in_ok-put-2.ensures.written before) c.in_ok-put-2.ensures.next (omega arith)
 
 pub returns-clause-laid_out : goal.returns-clause-laid_out
 returns-clause-laid_out g c = λ h.
     let content = g.D.Disk.content in
-    let first = c.put.ensures.honest.1 h in
-    let second = c.put_arcs.ensures.honest.1 first in
-    let third = c.put-2.ensures.honest.1 second in
-    let fourth = c.put_words.ensures.honest.1 third in
-    let fifth = c.put_blank.ensures.honest.1 fourth in
+    let first = c.put.ensures.counts.honest.1 h in
+    let second = c.put_arcs.ensures.counts.honest.1 first in
+    let third = c.put-2.ensures.counts.honest.1 second in
+    let fourth = c.put_words.ensures.counts.honest.1 third in
+    let fifth = c.put_blank.ensures.counts.honest.1 fourth in
     let none : so_far (g.D.Disk.content c.args.disk.now) c.args.batch.now ≡ [] = ap (λ (w : Waiting). so_far (g.D.Disk.content c.args.disk.now) w) c.requires.start ∙ ap (λ (xs : List ℕ). xs ++ []) (c.requires.empty h) in
     let whole = written_is c.args.header.now c.args.network.now c.args.version
     (so_far (g.D.Disk.content c.args.disk.now) c.args.batch.now) (so_far (g.D.Disk.content c.put.new.disk) c.put.new.self) (so_far (g.D.Disk.content c.put_arcs.new.disk) c.put_arcs.new.batch)

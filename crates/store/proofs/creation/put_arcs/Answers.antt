@@ -17,4 +17,4 @@ pub loop-i-preserved : goal.loop-i-preserved
 loop-i-preserved g c =
     let which : c.encode_arc_page-page.result ≡ page_of_arcs c.args.network.now c.loop-i.i = c.encode_arc_page-page.ensures ∙ ap (λ (xs : List RoadArc). arc_page (map ends_of xs)) (c.part_of.ensures ∙ ap (part 511 c.loop-i.i) c.arcs.ensures.value) in
     one_more g.D.Disk.content g.D.Disk.failures g.D.Disk.honest c.args.disk.now c.loop-i.disk c.put.new.disk c.args.batch.now c.loop-i.batch c.put.new.self (page_of_arcs c.args.network.now) c.loop-i.i c.encode_arc_page-page.result c.loop-i.invariant
-    c.in_ok-put.ensures.written c.in_ok-put.ensures.next c.in_ok-put.ensures.counted c.put.ensures.honest.1 c.put.ensures.honest.0 which (ap length which ∙ arcs_size c.args.network.now c.loop-i.i)
+    c.in_ok-put.ensures.written c.in_ok-put.ensures.next c.in_ok-put.ensures.counts.counted c.put.ensures.counts.honest.1 c.put.ensures.counts.honest.0 which (ap length which ∙ arcs_size c.args.network.now c.loop-i.i)

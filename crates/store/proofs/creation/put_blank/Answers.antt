@@ -10,4 +10,4 @@ loop-init g c = begun g.D.Disk.content g.D.Disk.failures g.D.Disk.honest c.args.
 pub loop-preserved : goal.loop-preserved
 loop-preserved g c =
     one_more g.D.Disk.content g.D.Disk.failures g.D.Disk.honest c.args.disk.now c.loop.disk c.put.new.disk c.args.batch.now c.loop.batch c.put.new.self (λ x. blank_page) c.loop.counter (replicate 4096 0) c.loop.invariant
-    c.in_ok-put.ensures.written c.in_ok-put.ensures.next c.in_ok-put.ensures.counted c.put.ensures.honest.1 c.put.ensures.honest.0 zeros_page (ap length zeros_page ∙ blank_size)
+    c.in_ok-put.ensures.written c.in_ok-put.ensures.next c.in_ok-put.ensures.counts.counted c.put.ensures.counts.honest.1 c.put.ensures.counts.honest.0 zeros_page (ap length zeros_page ∙ blank_size)

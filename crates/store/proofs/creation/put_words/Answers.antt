@@ -24,4 +24,4 @@ pub loop-i-preserved : goal.loop-i-preserved
 loop-i-preserved g c =
     let which : c.encode_word_page-page.result ≡ page_of_words c.args.network.now c.loop-i.i = c.encode_word_page-page.ensures ∙ ap (λ (xs : List RoadArc). word_page (map word_of xs)) (c.part_of.ensures ∙ ap (part 1023 c.loop-i.i) c.arcs.ensures.value) in
     one_more g.D.Disk.content g.D.Disk.failures g.D.Disk.honest c.args.disk.now c.loop-i.disk c.put.new.disk c.args.batch.now c.loop-i.batch c.put.new.self (page_of_words c.args.network.now) c.loop-i.i c.encode_word_page-page.result c.loop-i.invariant
-    c.in_ok-put.ensures.written c.in_ok-put.ensures.next c.in_ok-put.ensures.counted c.put.ensures.honest.1 c.put.ensures.honest.0 which (ap length which ∙ words_size c.args.network.now c.loop-i.i)
+    c.in_ok-put.ensures.written c.in_ok-put.ensures.next c.in_ok-put.ensures.counts.counted c.put.ensures.counts.honest.1 c.put.ensures.counts.honest.0 which (ap length which ∙ words_size c.args.network.now c.loop-i.i)

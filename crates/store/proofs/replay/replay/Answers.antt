@@ -14,7 +14,7 @@ loop-i-init g c = record {
   fits = c.requires.version;
   later = omega arith;
   grows = omega arith;
-  read = nothing_read g.D.Disk.content g.D.Disk.left g.D.Disk.moment g.D.Disk.left_since g.D.Disk.failures g.D.Disk.honest c.args.disk.now;
+  read = nothing_read g.D.Disk c.args.disk.now;
 }
 
 pub returns-in_err-reached-clause-refused : goal.returns-in_err-reached-clause-refused
@@ -53,8 +53,8 @@ loop-i-preserved g c = record {
   fits = c.in_ok-reached.ensures.fits;
   later = omega (arith, c.in_ok-reached.ensures.later, c.loop-i.invariant.later);
   grows = omega (arith, c.in_ok-reached.ensures.grows, c.loop-i.invariant.grows);
-  read = read_more g.D.Disk.content g.D.Disk.left g.D.Disk.moment g.D.Disk.left_since g.D.Disk.failures g.D.Disk.honest c.args.disk.now c.loop-i.disk c.replay_page.new.disk c.loop-i.invariant.read
-      (record { stays = c.in_ok-reached.ensures.same; honest_then = c.in_ok-reached.ensures.honest; counted = c.in_ok-reached.ensures.counted });
+  read = read_more g.D.Disk c.args.disk.now c.loop-i.disk c.replay_page.new.disk c.loop-i.invariant.read
+      (record { stays = c.in_ok-reached.ensures.reads.same; honest_then = c.in_ok-reached.ensures.reads.honest; counted = c.in_ok-reached.ensures.reads.counted });
 }
 
 pub returns-clause-carried_out : goal.returns-clause-carried_out

@@ -11,5 +11,5 @@ invariant-loop-i g l = record {
   fits : l.reached ≤ 2 ^ 48;
   later : l.version + l.i ≤ l.reached;
   grows : length l.fn.network.arcs ≤ length l.network.arcs;
-  read : HasRead g.D.Disk.content g.D.Disk.left g.D.Disk.moment g.D.Disk.left_since g.D.Disk.failures g.D.Disk.honest l.fn.disk l.disk;
+  read : HasRead g.D.Disk l.fn.disk l.disk;
 }

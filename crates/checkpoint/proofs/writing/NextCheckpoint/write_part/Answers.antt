@@ -14,9 +14,9 @@ returns-clause-pages g c h =
     let header = c.args.header.now in
     let net = c.args.network.now in
     let buffer = c.put_pages.new.buffer in
-    let then_honest = c.write_pages.ensures.honest.1 h in
+    let then_honest = c.write_pages.ensures.writes.honest.1 h in
     let stays : g.D.Disk.content c.if-count-left.disk ≡ g.D.Disk.content c.write_pages.new.disk = elim c.if-count-left.branch [
-      | then-count-left+in_ok-settle w ↦ ap g.D.Disk.content w.disk-is ∙ (w.settle.ensures.same then_honest).same_content
+      | then-count-left+in_ok-settle w ↦ ap g.D.Disk.content w.disk-is ∙ (w.settle.ensures.reads.same then_honest).same_content
       | else-count-left w ↦ ap g.D.Disk.content w.disk-is
     ] in
     let whole_buffer : length c.put_pages.new.buffer ≡ 262144 = omega (arith, c.put_pages.ensures.size, ap length c.deref_mut.ensures.value, c.self.invariant) in
@@ -31,4 +31,4 @@ returns-clause-pages g c h =
     let few : c.self.inside.written + c.min-count.result ≤ slot_pages header = omega (arith, left_is, written_is, left) in
     let room : 4096 * c.min-count.result ≤ length c.put_pages.new.buffer = omega arith in
     subst (λ (x : Draft). HoldsPages (page (g.D.Disk.content c.if-count-left.disk)) header x.slot net (c.self.inside.written + c.min-count.result)) c.self.view_is
-    (more_words header c.self.inside.slot net old (g.D.Disk.content c.if-count-left.disk) c.put_pages.new.buffer c.self.inside.written c.min-count.result (c.requires.whole h) few room held c.put_pages.ensures.pages is)
+    (more_words header c.self.inside.slot net old (g.D.Disk.content c.if-count-left.disk) c.put_pages.new.buffer c.self.inside.written c.min-count.result (c.requires.file.whole h) few room held c.put_pages.ensures.pages is)

@@ -5,14 +5,14 @@ use Rattle.deltastep.specs.Search.{top_of}
 use Rattle.deltastep.specs.Guided.{IsGuided, IsDone}
 use Rattle.deltastep.proofs.Finishing.{IsFinal-over}
 use Rattle.deltastep.proofs.Phases.{weight-taken}
-use Rattle.deltastep.proofs.Guiding.{IsBest-final, IsGuided-taken, IsKey-taken, IsFinal-taken, IsDone-taken, IsDone-kept, IsSuited-same, start_small, value_at_most, window_fits}
+use Rattle.deltastep.proofs.Guiding.{IsBest-final, IsGuided-taken, IsKey-taken, IsFinal-taken, IsDone-taken, IsDone-kept, start_small, value_at_most, window_fits}
 use Rattle.deltastep.proofs.search.Search.settle_guided.Given.{Over}
 use Rattle.deltastep.proofs.search.Search.settle_guided.Goals as goal
 use Rattle.deltastep.proofs.search.Search.settle_guided.Goals.{In-Some}
 
 takes : (g : Over) (c : In-Some g) → TakesLeast c.from-delta.result (g.Q.BucketQueue.entries c.buckets.self.buckets) c.in-Some.bucket c.take_least_into.new.nodes.items (g.Q.BucketQueue.entries c.take_least_into.new.self)
 takes g c =
-    let same : g.Q.BucketQueue.width c.buckets.self.buckets ≡ c.from-delta.result = c.buckets.invariant.suited.width ∙ sym (c.from-delta.ensures ∙ c.delta.ensures.value) in
+    let same : g.Q.BucketQueue.width c.buckets.self.buckets ≡ c.from-delta.result = sym c.buckets.invariant.width in
     subst (λ w. TakesLeast w (g.Q.BucketQueue.entries c.buckets.self.buckets) c.in-Some.bucket c.take_least_into.new.nodes.items (g.Q.BucketQueue.entries c.take_least_into.new.self)) same (rw c.in-Some.is at c.in_ok-bucket.ensures.taken)
 
 guided : (g : Over) (c : In-Some g) → IsGuided c.args.snapshot.now c.requires.state.0 (g.G.Guide.target c.args.guide.now) c.buckets.self.tentative (g.Q.BucketQueue.entries c.buckets.self.buckets)
@@ -47,11 +47,11 @@ relax_all-requires-clause-keys g c u among =
 
 pub relax_all-requires-clause-fits : goal.relax_all-requires-clause-fits
 relax_all-requires-clause-fits g c =
-    let same : g.Q.BucketQueue.width c.buckets.self.buckets ≡ c.from-delta.result = c.buckets.invariant.suited.width ∙ sym (c.from-delta.ensures ∙ c.delta.ensures.value) in
+    let same : g.Q.BucketQueue.width c.buckets.self.buckets ≡ c.from-delta.result = sym c.buckets.invariant.width in
     let Fits : ℕ → ℕ → Type 0 = λ width span. (v : ℕ) → c.in-Some.bucket ≤ v / width → v / width < c.in-Some.bucket + span → g.Q.BucketQueue.accepts c.take_least_into.new.self v in
     let fits : Fits (g.Q.BucketQueue.width c.buckets.self.buckets) (g.Q.BucketQueue.span c.buckets.self.buckets) = rw c.in-Some.is at c.in_ok-bucket.ensures.window in
     let fits' : Fits c.from-delta.result c.window-window.result = subst (λ n. Fits c.from-delta.result n) (sym c.buckets.invariant.span) (subst (λ n. Fits n (g.Q.BucketQueue.span c.buckets.self.buckets)) same fits) in
-    let positive : 1 ≤ c.from-delta.result = omega (arith, c.delta.ensures.grouped.delta, c.delta.ensures.value, c.from-delta.ensures) in
+    let positive : 1 ≤ c.from-delta.result = omega (arith, c.requires.wide, c.delta.ensures.value, c.from-delta.ensures) in
     window_fits (g.Q.BucketQueue.accepts c.take_least_into.new.self) c.in-Some.bucket c.window-window.result c.from-delta.result c.end_of-end.result positive c.end_of-end.ensures.to fits'
 
 pub buckets-smaller : goal.buckets-smaller
@@ -72,7 +72,7 @@ buckets-preserved g c =
         | inl among ↦ next.done part u (subst (λ (l : List ℕ). Contains l u) (sym c.deref.ensures.value) among)
         | inr done ↦ IsDone-kept groups target _ c.buckets.self.tentative (E c.take_least_into.new.self) c.relax_all.new.self.tentative (E c.relax_all.new.self.buckets) next.goes_on part u done
       ];
-      suited = IsSuited-same groups _ _ _ _ (next.width ∙ c.take_least_into.ensures.width) (next.span ∙ c.take_least_into.ensures.span) c.buckets.invariant.suited;
+      width = c.buckets.invariant.width ∙ sym (next.width ∙ c.take_least_into.ensures.width);
       span = c.buckets.invariant.span ∙ sym (next.span ∙ c.take_least_into.ensures.span);
     }
 

@@ -1,6 +1,6 @@
 use Rattle.std.proofs.Common.{◌≡◌, ℕ}
 use Rattle.snapshot.specs.declared.legs.Part.{Part}
-use Rattle.deltastep.specs.Search.{IsSuited, top_of, weight}
+use Rattle.deltastep.specs.Search.{top_of, weight}
 use Rattle.deltastep.specs.Guided.{IsGuided, IsDone}
 use Rattle.deltastep.proofs.search.Search.settle_guided.Given as goal
 
@@ -10,7 +10,7 @@ invariant-buckets g l =
     record {
       state : (source : ℕ) → IsGuided l.snapshot source (g.G.Guide.target l.guide) l.fn.self.tentative (queue.entries l.fn.self.buckets) → IsGuided l.snapshot source (g.G.Guide.target l.guide) l.self.tentative (queue.entries l.self.buckets);
       done : (part : Part) (u : ℕ) → IsDone l.snapshot part l.self.tentative (queue.entries l.self.buckets) u;
-      suited : IsSuited l.snapshot (queue.width l.self.buckets) (queue.span l.self.buckets);
+      width : l.delta ≡ queue.width l.self.buckets;
       span : l.window ≡ queue.span l.self.buckets;
     }
 

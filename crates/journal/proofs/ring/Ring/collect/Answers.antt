@@ -27,6 +27,6 @@ loop-count-preserved g c = record {
       ∙ ap (λ (file : List ℕ). is_standing (page file) c.args.header.now (c.args.from + c.from.result)) (sym (c.loop-count.invariant.read.stays h).same_content)
       ∙ sym (c.in_ok-is_standing.ensures.answer then_honest) ∙ c.if-not-branch.false in
       one_more_stands (g.D.Disk.content c.args.disk.now) c.args.header.now c.args.from c.loop-count.count (c.loop-count.invariant.stand h) here;
-  read = read_more g.D.Disk.content g.D.Disk.left g.D.Disk.moment g.D.Disk.left_since g.D.Disk.failures g.D.Disk.honest c.args.disk.now c.loop-count.disk c.is_standing.new.disk c.loop-count.invariant.read
-      (record { stays = c.in_ok-is_standing.ensures.same; honest_then = c.in_ok-is_standing.ensures.honest; counted = c.in_ok-is_standing.ensures.counted });
+  read = read_more g.D.Disk c.args.disk.now c.loop-count.disk c.is_standing.new.disk c.loop-count.invariant.read
+      (record { stays = c.in_ok-is_standing.ensures.reads.same; honest_then = c.in_ok-is_standing.ensures.reads.honest; counted = c.in_ok-is_standing.ensures.reads.counted });
 }

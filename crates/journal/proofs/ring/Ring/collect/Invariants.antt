@@ -5,5 +5,5 @@ use Rattle.journal.proofs.ring.Ring.collect.Given as goal
 abbrev pub invariant-loop-count : goal.invariant-loop-count
 invariant-loop-count g l = record {
   stand : g.D.Disk.honest l.fn.disk → Stand (g.D.Disk.content l.fn.disk) l.header l.from l.count;
-  read : HasRead g.D.Disk.content g.D.Disk.left g.D.Disk.moment g.D.Disk.left_since g.D.Disk.failures g.D.Disk.honest l.fn.disk l.disk;
+  read : HasRead g.D.Disk l.fn.disk l.disk;
 }

@@ -1,5 +1,5 @@
 use Rattle.std.proofs.Common.{inl, inr}
-use Rattle.sessions.proofs.Answered.{look_told, nothing_told, told_command}
+use Rattle.sessions.proofs.Answered.{look_told, near_told, nothing_told, table_told, told_command, told_unkept}
 use Rattle.sessions.proofs.answers.Session.answer_alone.Goals as goal
 
 pub returns-in-Ignored-clause-told : goal.returns-in-Ignored-clause-told
@@ -9,7 +9,10 @@ pub returns-in-Quit-clause-told : goal.returns-in-Quit-clause-told
 returns-in-Quit-clause-told g c = nothing_told _ g.N.Naming.origin c.args.line _ _ _ _ (inr (inl c.in-Quit.is))
 
 pub returns-in-Begin-clause-told : goal.returns-in-Begin-clause-told
-returns-in-Begin-clause-told g c = nothing_told _ g.N.Naming.origin c.args.line _ _ _ _ (inr (inr c.in-Begin.is))
+returns-in-Begin-clause-told g c = nothing_told _ g.N.Naming.origin c.args.line _ _ _ _ (inr (inr (inl c.in-Begin.is)))
+
+pub returns-in-Suppose-clause-told : goal.returns-in-Suppose-clause-told
+returns-in-Suppose-clause-told g c = nothing_told _ g.N.Naming.origin c.args.line _ _ _ _ (inr (inr (inr c.in-Suppose.is)))
 
 pub returns-in-Command-clause-told : goal.returns-in-Command-clause-told
 returns-in-Command-clause-told g c =
@@ -18,3 +21,12 @@ returns-in-Command-clause-told g c =
 
 pub returns-in-Look-clause-told : goal.returns-in-Look-clause-told
 returns-in-Look-clause-told g c = rw c.in-Look.is (look_told (g.C.Copies.copying c.args.copies.now) g.N.Naming.origin c.in-Look.look _ _ _ _ _ _ _ c.look.result c.look.ensures.told)
+
+pub returns-in-Near-clause-told : goal.returns-in-Near-clause-told
+returns-in-Near-clause-told g c = rw c.in-Near.is (near_told (g.C.Copies.copying c.args.copies.now) g.N.Naming.origin c.in-Near.near _ _ _ _ _ _ _ c.near.result c.near.ensures.told)
+
+pub returns-in-Table-clause-told : goal.returns-in-Table-clause-told
+returns-in-Table-clause-told g c = rw c.in-Table.is (table_told (g.C.Copies.copying c.args.copies.now) g.N.Naming.origin c.in-Table.table _ _ _ _ _ _ _ c.table.result c.table.ensures.told)
+
+pub returns-in-Unkept-clause-told : goal.returns-in-Unkept-clause-told
+returns-in-Unkept-clause-told g c = rw c.in-Unkept.is (told_unkept _ g.N.Naming.origin _ _ _ _ _ _ c.tell_refusal.result c.tell_refusal.ensures.ok)

@@ -35,3 +35,16 @@ returns-in-State c draft is = rw c.in-State.is (c.faulty-in-State.ensures draft 
 
 pub returns-in-Copy : goal.returns-in-Copy
 returns-in-Copy c draft is = rw c.in-Copy.is (c.faulty-in-Copy.ensures draft is)
+
+pub returns-in-Near : goal.returns-in-Near
+returns-in-Near c draft is = rw c.in-Near.is (c.faulty-in-Near.ensures draft is)
+
+pub returns-in-Table : goal.returns-in-Table
+returns-in-Table c draft is = rw c.in-Table.is (c.faulty-in-Table.ensures draft is)
+
+pub returns-in-Unkept : goal.returns-in-Unkept
+returns-in-Unkept c draft is = rw c.in-Unkept.is (c.faulty-in-Unkept.ensures draft is)
+pub returns-in-Suppose : goal.returns-in-Suppose
+returns-in-Suppose c draft is = rw c.in-Suppose.is (c.faulty-in-Suppose.ensures draft is)
+pub returns-in-Forget : goal.returns-in-Forget
+returns-in-Forget c draft is = rw c.in-Forget.is (c.faulty-in-Forget.ensures draft is)

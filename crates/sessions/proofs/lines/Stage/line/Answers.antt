@@ -29,3 +29,6 @@ returns-in-Naming c front is = naming_line front c.in-Naming.name (rw c.in-Namin
 
 pub returns-in-Named : goal.returns-in-Named
 returns-in-Named c front is = named_line front c.in-Named.name (rw c.in-Named.is at is)
+
+pub returns-in-Listing : goal.returns-in-Listing
+returns-in-Listing c front is = c.listed_line.ensures front (rw c.in-Listing.is at is)

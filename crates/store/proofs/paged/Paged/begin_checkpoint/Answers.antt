@@ -23,13 +23,13 @@ pub returns-in_default-begin-clause-any_moment : goal.returns-in_default-begin-c
 returns-in_default-begin-clause-any_moment g c h stands =
     let s = c.args.self.now in
     let x : Standing = record { header = s.header; slot = s.slot; epoch = s.epoch; network = s.network; version = s.version; next = s.next_sequence; unchecked = s.unchecked } in
-    moments_of_beginning g.D.Disk.content g.D.Disk.moment g.D.Disk.left_since s.disk c.begin.new.disk x c.in-Ok-new.next.slot (ap (λ (d : Draft). d.slot) c.in-Ok-new.ensures) stands (c.begin.ensures.any_moment h)
+    moments_of_beginning g.D.Disk.content g.D.Disk.moment g.D.Disk.left_since s.disk c.begin.new.disk x c.in-Ok-new.next.slot (ap (λ (d : Draft). d.slot) c.in-Ok-new.ensures) stands (c.begin.ensures.writes.any_moment h)
 
 pub returns-clause-any_moment : goal.returns-clause-any_moment
 returns-clause-any_moment g c h stands =
     let s = c.args.self.now in
     let x : Standing = record { header = s.header; slot = s.slot; epoch = s.epoch; network = s.network; version = s.version; next = s.next_sequence; unchecked = s.unchecked } in
-    moments_of_beginning g.D.Disk.content g.D.Disk.moment g.D.Disk.left_since s.disk c.begin.new.disk x c.in-Ok-new.next.slot (ap (λ (d : Draft). d.slot) c.in-Ok-new.ensures) stands (c.begin.ensures.any_moment h)
+    moments_of_beginning g.D.Disk.content g.D.Disk.moment g.D.Disk.left_since s.disk c.begin.new.disk x c.in-Ok-new.next.slot (ap (λ (d : Draft). d.slot) c.in-Ok-new.ensures) stands (c.begin.ensures.writes.any_moment h)
 
 pub returns-clause-stands : goal.returns-clause-stands
 returns-clause-stands g c h stands =
@@ -43,7 +43,7 @@ invariant_of-self-2-clause-today g c = c.args.self.now.today
 pub invariant_of-self-2-clause-goes_on : goal.invariant_of-self-2-clause-goes_on
 invariant_of-self-2-clause-goes_on g c works now =
     let s = c.args.self.now in
-    let h = c.begin.ensures.honest.0 now in
+    let h = c.begin.ensures.writes.honest.0 now in
     let from : c.args.self.now.header.arcs ≤ length c.in-Ok.frozen.arcs = omega (arith, c.args.self.now.arcs_from, ap (λ (n : Net). length n.arcs) c.in-Ok.ensures.same) in
     ∣ subst (λ (n : Net). GoesOn (g.D.Disk.content c.begin.new.disk) c.args.self.now.header c.in-Ok-new.next c.in-Ok.frozen 0 n c.args.self.now.version c.args.self.now.next_sequence) c.in-Ok.ensures.same
     (begins (g.D.Disk.content c.begin.new.disk) s.header c.in-Ok-new.next c.in-Ok.frozen s.version s.next_sequence (ap (λ (d : Draft). d.written) c.in-Ok-new.ensures) (ap (λ (d : Draft). d.version) c.in-Ok-new.ensures)

@@ -54,13 +54,13 @@ returns-in_default-clause-any_moment g c works h stands =
     let follow : Follow x c.carry_out.new.self c.args.groups.now =
     record { today = s.today; numbers = s.numbers; room = c.if-self-2.false; versions = omega (arith, c.if-self-count-gt-MOST_VERSIONS.false); some = c.requires.some; each = c.none_is_empty.ensures; few = c.requires.few; fit = c.in_ok-undo.ensures.fits; goes = c.in_ok-undo.ensures.ok } in
     weaker g.D.Disk.moment g.D.Disk.left_since s.disk c.append_page.new.disk (IsWholeOrShut (g.D.Disk.content s.disk) (4096 * journal_page_at s.header s.next_sequence) (page_body x c.args.groups.now)) (IsBeforeOrAfter s.header.journal_pages (slot_pages s.header) s.network s.version c.args.groups.now)
-    (c.append_page.ensures.any_moment h)
+    (c.append_page.ensures.writes.any_moment h)
     (λ d way. meanwhile (g.D.Disk.content s.disk) x c.carry_out.new.self c.args.groups.now follow stands d way)
 
 pub returns-in_default-clause-in_flight : goal.returns-in_default-clause-in_flight
 returns-in_default-clause-in_flight g c works h stands d was =
     let run = returns-in_default-clause-any_moment g c works h stands in
-    run.each d (g.met.D.Disk.counts_now c.append_page.new.disk (g.D.Disk.moment c.args.self.now.disk) d (c.append_page.ensures.honest.1 h) run.later was)
+    run.each d (g.met.D.Disk.counts_now c.append_page.new.disk (g.D.Disk.moment c.args.self.now.disk) d (c.append_page.ensures.writes.honest.1 h) run.later was)
 
 pub returns-clause-any_moment : goal.returns-clause-any_moment
 returns-clause-any_moment g c works h stands =
@@ -69,13 +69,13 @@ returns-clause-any_moment g c works h stands =
     let follow : Follow x c.carry_out.new.self c.args.groups.now =
     record { today = s.today; numbers = s.numbers; room = c.if-self-2.false; versions = omega (arith, c.if-self-count-gt-MOST_VERSIONS.false); some = c.requires.some; each = c.none_is_empty.ensures; few = c.requires.few; fit = c.in_ok-undo.ensures.fits; goes = c.in_ok-undo.ensures.ok } in
     weaker g.D.Disk.moment g.D.Disk.left_since s.disk c.append_page.new.disk (IsWholeOrShut (g.D.Disk.content s.disk) (4096 * journal_page_at s.header s.next_sequence) (page_body x c.args.groups.now)) (IsBeforeOrAfter s.header.journal_pages (slot_pages s.header) s.network s.version c.args.groups.now)
-    (c.append_page.ensures.any_moment h)
+    (c.append_page.ensures.writes.any_moment h)
     (λ d way. meanwhile (g.D.Disk.content s.disk) x c.carry_out.new.self c.args.groups.now follow stands d way)
 
 pub returns-clause-in_flight : goal.returns-clause-in_flight
 returns-clause-in_flight g c works h stands d was =
     let run = returns-clause-any_moment g c works h stands in
-    run.each d (g.met.D.Disk.counts_now c.append_page.new.disk (g.D.Disk.moment c.args.self.now.disk) d (c.append_page.ensures.honest.1 h) run.later was)
+    run.each d (g.met.D.Disk.counts_now c.append_page.new.disk (g.D.Disk.moment c.args.self.now.disk) d (c.append_page.ensures.writes.honest.1 h) run.later was)
 
 pub invariant_of-self-2 : goal.invariant_of-self-2
 invariant_of-self-2 g c =
@@ -88,11 +88,11 @@ invariant_of-self-2 g c =
       arcs_from = omega (arith, s.arcs_from, arcs_grow s.network c.carry_out.new.self c.args.groups.now c.in_ok-undo.ensures.ok);
       numbers = numbers_more (g.D.Disk.content s.disk) x c.carry_out.new.self c.args.groups.now follow;
       rests = λ works now.
-          let h = c.append_page.ensures.honest.0 now in
-          (c.in-Ok.ensures.at_rest h, size_kept (g.D.Disk.content s.disk) x c.carry_out.new.self c.args.groups.now follow (g.D.Disk.content c.append_page.new.disk) (s.rests c.if-self.false h).1 (c.in-Ok.ensures.written h));
+          let h = c.append_page.ensures.writes.honest.0 now in
+          (c.in-Ok.ensures.writes.at_rest h, size_kept (g.D.Disk.content s.disk) x c.carry_out.new.self c.args.groups.now follow (g.D.Disk.content c.append_page.new.disk) (s.rests c.if-self.false h).1 (c.in-Ok.ensures.written h));
       fits = rw c.count_page.ensures (fits_committed (g.D.Disk.content s.disk) (g.D.Disk.content c.append_page.new.disk) x c.carry_out.new.self c.args.groups.now follow s.going s.fits);
       goes_on = λ works now.
-          let h = c.append_page.ensures.honest.0 now in
+          let h = c.append_page.ensures.writes.honest.0 now in
           rw c.count_page.ensures (going_committed (g.D.Disk.content s.disk) (g.D.Disk.content c.append_page.new.disk) x c.carry_out.new.self c.args.groups.now follow (s.rests c.if-self.false h).1 (c.in-Ok.ensures.written h) s.going s.fits (s.goes_on c.if-self.false h));
     }
 
@@ -110,23 +110,18 @@ returns-clause-durable g c h stands =
     let x : Standing = record { header = s.header; slot = s.slot; epoch = s.epoch; network = s.network; version = s.version; next = s.next_sequence; unchecked = s.unchecked } in
     let follow : Follow x c.carry_out.new.self c.args.groups.now =
     record { today = s.today; numbers = s.numbers; room = c.if-self-2.false; versions = omega (arith, c.if-self-count-gt-MOST_VERSIONS.false); some = c.requires.some; each = c.none_is_empty.ensures; few = c.requires.few; fit = c.in_ok-undo.ensures.fits; goes = c.in_ok-undo.ensures.ok } in
-    left_stands (g.D.Disk.content c.append_page.new.disk) (g.D.Disk.left c.append_page.new.disk) (more x c.carry_out.new.self c.args.groups.now) (c.in-Ok.ensures.at_rest h)
+    left_stands (g.D.Disk.content c.append_page.new.disk) (g.D.Disk.left c.append_page.new.disk) (more x c.carry_out.new.self c.args.groups.now) (c.in-Ok.ensures.writes.at_rest h)
     (stands_more_tidily (g.D.Disk.content s.disk) x c.carry_out.new.self c.args.groups.now follow stands (g.D.Disk.content c.append_page.new.disk) (c.in-Ok.ensures.written h))
 
-pub returns-in_err-undo-clause-failed : goal.returns-in_err-undo-clause-failed
-returns-in_err-undo-clause-failed g c =
+pub returns-in_err-undo-clause-tells : goal.returns-in_err-undo-clause-tells
+returns-in_err-undo-clause-tells g c =
     let p = err_from_is_err_and c.from_residual.result c.from_residual.ensures.1 in
-    rw (p.1, p.2) (λ is. absurd (not_device c.args.self.now.network c.args.groups.now _ c.in_err-undo.ensures.refused is))
-
-pub returns-in_err-undo-clause-breaks : goal.returns-in_err-undo-clause-breaks
-returns-in_err-undo-clause-breaks g c =
-    let p = err_from_is_err_and c.from_residual.result c.from_residual.ensures.1 in
-    rw (p.1, p.2) (λ is. absurd (not_device c.args.self.now.network c.args.groups.now _ c.in_err-undo.ensures.refused is))
-
-pub returns-in_err-undo-clause-counted : goal.returns-in_err-undo-clause-counted
-returns-in_err-undo-clause-counted g c =
-    let p = err_from_is_err_and c.from_residual.result c.from_residual.ensures.1 in
-    rw (p.1, p.2) (not_told _ (g.D.Disk.failures c.args.self.now.disk) (not_device c.args.self.now.network c.args.groups.now _ c.in_err-undo.ensures.refused))
+    rw (p.1, p.2) (record {
+      counted = not_told _ (g.D.Disk.failures c.args.self.now.disk) (not_device c.args.self.now.network c.args.groups.now _ c.in_err-undo.ensures.refused);
+      failed = λ is. absurd (not_device c.args.self.now.network c.args.groups.now _ c.in_err-undo.ensures.refused is);
+      breaks = λ is. absurd (not_device c.args.self.now.network c.args.groups.now _ c.in_err-undo.ensures.refused is);
+      honest = (λ h. h, λ h. h);
+    })
 
 pub returns-in_err-undo-clause-same : goal.returns-in_err-undo-clause-same
 returns-in_err-undo-clause-same g c =

@@ -20,7 +20,7 @@ returns-in_default-complete-clause-any_moment g c h stands =
     let x : Standing = record { header = s.header; slot = s.slot; epoch = s.epoch; network = s.network; version = s.version; next = s.next_sequence; unchecked = s.unchecked } in
     let fits = from_some (λ (y : GoingCheckpoint). FitsStore s.header s.slot s.epoch s.version s.next_sequence s.unchecked y.next y.committed) s.going p c.in-Some.ensures.value s.fits in
     let goes = some_goes (λ (y : GoingCheckpoint). GoesOn (g.D.Disk.content s.disk) s.header y.next y.frozen y.committed s.network s.version s.next_sequence) s.going p c.in-Some.ensures.value (s.goes_on c.requires.works h) in
-    moments_of_part g.D.Disk.content g.D.Disk.moment g.D.Disk.left_since s.disk c.complete.new.disk x p.next p.frozen p.committed s.numbers fits stands goes (c.complete.ensures.any_moment h)
+    moments_of_part g.D.Disk.content g.D.Disk.moment g.D.Disk.left_since s.disk c.complete.new.disk x p.next p.frozen p.committed s.numbers fits stands goes (c.complete.ensures.writes.any_moment h)
 
 pub returns-clause-any_moment : goal.returns-clause-any_moment
 returns-clause-any_moment g c h stands =
@@ -29,7 +29,7 @@ returns-clause-any_moment g c h stands =
     let x : Standing = record { header = s.header; slot = s.slot; epoch = s.epoch; network = s.network; version = s.version; next = s.next_sequence; unchecked = s.unchecked } in
     let fits = from_some (λ (y : GoingCheckpoint). FitsStore s.header s.slot s.epoch s.version s.next_sequence s.unchecked y.next y.committed) s.going p c.in-Some.ensures.value s.fits in
     let goes = some_goes (λ (y : GoingCheckpoint). GoesOn (g.D.Disk.content s.disk) s.header y.next y.frozen y.committed s.network s.version s.next_sequence) s.going p c.in-Some.ensures.value (s.goes_on c.requires.works h) in
-    moments_of_part g.D.Disk.content g.D.Disk.moment g.D.Disk.left_since s.disk c.complete.new.disk x p.next p.frozen p.committed s.numbers fits stands goes (c.complete.ensures.any_moment h)
+    moments_of_part g.D.Disk.content g.D.Disk.moment g.D.Disk.left_since s.disk c.complete.new.disk x p.next p.frozen p.committed s.numbers fits stands goes (c.complete.ensures.writes.any_moment h)
 
 pub returns-clause-stands : goal.returns-clause-stands
 returns-clause-stands g c h stands =

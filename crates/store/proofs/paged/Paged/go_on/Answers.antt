@@ -23,7 +23,7 @@ returns-in_default-go_on-clause-any_moment g c h stands =
     let x : Standing = record { header = s.header; slot = s.slot; epoch = s.epoch; network = s.network; version = s.version; next = s.next_sequence; unchecked = s.unchecked } in
     let fits = from_some (λ (y : GoingCheckpoint). FitsStore s.header s.slot s.epoch s.version s.next_sequence s.unchecked y.next y.committed) s.going p c.in-Some.ensures.value s.fits in
     let goes = some_goes (λ (y : GoingCheckpoint). GoesOn (g.D.Disk.content s.disk) s.header y.next y.frozen y.committed s.network s.version s.next_sequence) s.going p c.in-Some.ensures.value (s.goes_on c.requires.works h) in
-    moments_of_part g.D.Disk.content g.D.Disk.moment g.D.Disk.left_since s.disk c.go_on.new.disk x p.next p.frozen p.committed s.numbers fits stands goes (c.go_on.ensures.any_moment h)
+    moments_of_part g.D.Disk.content g.D.Disk.moment g.D.Disk.left_since s.disk c.go_on.new.disk x p.next p.frozen p.committed s.numbers fits stands goes (c.go_on.ensures.writes.any_moment h)
 
 pub returns-then-not-whole-clause-any_moment : goal.returns-then-not-whole-clause-any_moment
 returns-then-not-whole-clause-any_moment g c h stands =
@@ -32,7 +32,7 @@ returns-then-not-whole-clause-any_moment g c h stands =
     let x : Standing = record { header = s.header; slot = s.slot; epoch = s.epoch; network = s.network; version = s.version; next = s.next_sequence; unchecked = s.unchecked } in
     let fits = from_some (λ (y : GoingCheckpoint). FitsStore s.header s.slot s.epoch s.version s.next_sequence s.unchecked y.next y.committed) s.going p c.in-Some.ensures.value s.fits in
     let goes = some_goes (λ (y : GoingCheckpoint). GoesOn (g.D.Disk.content s.disk) s.header y.next y.frozen y.committed s.network s.version s.next_sequence) s.going p c.in-Some.ensures.value (s.goes_on c.requires.works h) in
-    moments_of_part g.D.Disk.content g.D.Disk.moment g.D.Disk.left_since s.disk c.go_on.new.disk x p.next p.frozen p.committed s.numbers fits stands goes (c.go_on.ensures.any_moment h)
+    moments_of_part g.D.Disk.content g.D.Disk.moment g.D.Disk.left_since s.disk c.go_on.new.disk x p.next p.frozen p.committed s.numbers fits stands goes (c.go_on.ensures.writes.any_moment h)
 
 pub returns-clause-any_moment : goal.returns-clause-any_moment
 returns-clause-any_moment g c h stands =
@@ -41,7 +41,7 @@ returns-clause-any_moment g c h stands =
     let x : Standing = record { header = s.header; slot = s.slot; epoch = s.epoch; network = s.network; version = s.version; next = s.next_sequence; unchecked = s.unchecked } in
     let fits = from_some (λ (y : GoingCheckpoint). FitsStore s.header s.slot s.epoch s.version s.next_sequence s.unchecked y.next y.committed) s.going p c.in-Some.ensures.value s.fits in
     let goes = some_goes (λ (y : GoingCheckpoint). GoesOn (g.D.Disk.content s.disk) s.header y.next y.frozen y.committed s.network s.version s.next_sequence) s.going p c.in-Some.ensures.value (s.goes_on c.requires.works h) in
-    moments_of_part g.D.Disk.content g.D.Disk.moment g.D.Disk.left_since s.disk c.go_on.new.disk x p.next p.frozen p.committed s.numbers fits stands goes (c.go_on.ensures.any_moment h)
+    moments_of_part g.D.Disk.content g.D.Disk.moment g.D.Disk.left_since s.disk c.go_on.new.disk x p.next p.frozen p.committed s.numbers fits stands goes (c.go_on.ensures.writes.any_moment h)
 
 pub invariant_of-self-then-not-whole : goal.invariant_of-self-then-not-whole
 invariant_of-self-then-not-whole g c =
@@ -54,12 +54,12 @@ invariant_of-self-then-not-whole g c =
       today = s.today;
       arcs_from = s.arcs_from;
       rests = λ works now.
-          let h = c.go_on.ensures.honest.0 now in
-          (c.in-Ok.ensures.at_rest h, (c.in-Ok.ensures.shut h c.if-not-whole.true).outside.same_length ∙ (s.rests c.requires.works h).1);
+          let h = c.go_on.ensures.writes.honest.0 now in
+          (c.in-Ok.ensures.writes.at_rest h, (c.in-Ok.ensures.shut h c.if-not-whole.true).outside.same_length ∙ (s.rests c.requires.works h).1);
       fits = fits_part s.header s.slot s.epoch s.version s.next_sequence s.unchecked p.next c.go_on.new.self p.committed (p.next.written + c.args.pages) written
           (grind (arith, nat_tests, c.in-Ok.ensures.answers, c.if-not-whole.true)) fits;
       goes_on = λ works now.
-          let h = c.go_on.ensures.honest.0 now in
+          let h = c.go_on.ensures.writes.honest.0 now in
           goes_part (g.D.Disk.content s.disk) (g.D.Disk.content c.go_on.new.disk) s.header s.slot p.next c.go_on.new.self (p.next.written + c.args.pages) p.frozen p.committed s.network s.version s.next_sequence fits.slot_is written
           (c.in-Ok.ensures.shut h c.if-not-whole.true) (c.in-Ok.ensures.pages h c.if-not-whole.true)
           (some_goes (λ (y : GoingCheckpoint). GoesOn (g.D.Disk.content s.disk) s.header y.next y.frozen y.committed s.network s.version s.next_sequence) s.going p c.in-Some.ensures.value (s.goes_on c.requires.works h));

@@ -1,7 +1,8 @@
-use Rattle.std.proofs.Common.{◌≡◌, ℕ, List, ◌∙◌, sym, subst}
+use Rattle.std.proofs.Common.{◌≡◌, ℕ, List, ◌∙◌, sym, ap, subst}
 use Rattle.storefile.specs.Standing.{Standing}
 use Rattle.store.specs.Committing.{StandsTidily}
 use Rattle.store.specs.Durable.{told_by}
+use Rattle.store.specs.State.{told_of}
 use Rattle.store.proofs.InFlight.{stands_still}
 use Rattle.store.proofs.StateKept.{told_armed}
 use Rattle.store.proofs.store.Store.arm.Goals as goal
@@ -11,17 +12,23 @@ invariant_of-self g c =
     let p = c.self.inside.pages in
     let n = c.arm.new.self in
     let e = c.arm.ensures in
-    let told : told_by n ≡ told_by p = cc (e.header, e.slot, e.epoch, e.network, e.version, e.next, e.unchecked) in (
+    let told : told_by n ≡ told_by p = e.told in
+    let header : n.header ≡ p.header = ap (λ (x : Standing). x.header) told in
+    let network : n.network ≡ p.network = ap (λ (x : Standing). x.network) told in
+    let version : n.version ≡ p.version = ap (λ (x : Standing). x.version) told in (
       λ works. c.self.invariant.0 (sym e.broken ∙ works),
       λ came.
           let held = c.self.invariant.1 came in (
-            e.honest.1 held.0,
+            e.arms.honest.1 held.0,
             λ works.
                 let rests = held.1 (sym e.broken ∙ works) in (
-                  λ d was. rests.0 d ((e.left d).0 was) ∙ sym e.content,
-                  subst (λ (x : Standing). StandsTidily (g.D.Disk.content n.disk) x) (sym told) (subst (λ (d : List ℕ). StandsTidily d (told_by p)) (sym e.content) rests.1),
+                  λ d was. rests.0 d ((e.arms.left d).0 was) ∙ sym e.arms.content,
+                  subst (λ (x : Standing). StandsTidily (g.D.Disk.content n.disk) x) (sym told) (subst (λ (d : List ℕ). StandsTidily d (told_by p)) (sym e.arms.content) rests.1),
                 ),
-            λ broke d was. stands_still p n c.self.inside.in_flight.groups e.header e.network e.version d (held.2 (sym e.broken ∙ broke) d ((e.left d).0 was)),
+            λ broke d was. stands_still p n c.self.inside.in_flight.groups header network version d (held.2 (sym e.broken ∙ broke) d ((e.arms.left d).0 was)),
           ),
-      told_armed c.self.inside.given.value p n told e.broken e.content e.honest c.self.invariant.2,
+      told_armed c.self.inside.given.value p n told e.broken e.arms.content e.arms.honest c.self.invariant.2,
     )
+
+pub returns-clause-told : goal.returns-clause-told
+returns-clause-told g c = rw (← c.self.view_is) (ap told_of c.arm.ensures.told)

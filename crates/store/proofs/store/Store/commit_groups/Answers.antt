@@ -15,14 +15,14 @@ invariant_of-self g c =
     let after = c.after-self-inside.result.groups in
     let worked = worked_at_commit result p.broken p.version p.unchecked p.header.journal_pages p.network commands e.refused in
     let are : AreInFlight result failed commands before after = (c.has_failed-failed.ensures, c.after-self-inside.ensures) in (
-      λ works. in_flight_still result failed n commands before after are e.breaks works ∙ c.self.invariant.0 (worked_before result p n e.same e.breaks worked works),
+      λ works. in_flight_still result failed n commands before after are e.tells.breaks works ∙ c.self.invariant.0 (worked_before result p n e.same e.tells.breaks worked works),
       λ came.
           let held = c.self.invariant.1 came in (
-            e.honest.1 held.0,
-            rests_after result p n e.same e.breaks worked (e.only held.0) (e.stands held.0) held.1,
+            e.tells.honest.1 held.0,
+            rests_after result p n e.same e.tells.breaks worked (e.only held.0) (e.stands held.0) held.1,
             left_after_commit result failed p n commands before after e.refused are e.same e.works e.header e.kept (λ works. e.in_flight works held.0 (held.1 works).1) held.2,
           ),
-      told_after_commit result c.self.inside.given.value p n (length commands) c.requires.some e.honest e.version (kept_version result p n e.kept) e.same e.breaks c.self.invariant.2,
+      told_after_commit result c.self.inside.given.value p n (length commands) c.requires.some e.tells.honest e.version (kept_version result p n e.kept) e.same e.tells.breaks c.self.invariant.2,
     )
 
 pub returns-clause-any_moment : goal.returns-clause-any_moment

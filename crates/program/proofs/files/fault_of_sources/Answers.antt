@@ -1,0 +1,15 @@
+-- A fault that is told of a text is told by its number.
+use Rattle.std.proofs.Common.{◌≡◌, ◌⊎◌, ℕ, Result, Ok, Err, refl, inl, sym, subst}
+use Rattle.dimacs.specs.declared.fault.Fault.{Fault}
+use Rattle.printing.specs.Failing.{told_of}
+use Rattle.printing.specs.declared.failed.Failed.{Failed}
+use Rattle.printing.specs.declared.failed.Failed.TheVariants.{Text}
+use Rattle.program.specs.Failures.{IsFaultOf}
+use Rattle.program.proofs.files.fault_of_sources.Goals as goal
+
+told : {X : Type 0} (which : ℕ) (r : Result X Fault) (failed : Failed) → ◌≡◌ {A = Result X Failed} (Err failed) (told_of which r) → IsFaultOf which failed
+told which (Ok x) failed is = absurd cc
+told which (Err fault) failed is = let same : failed ≡ Text which fault = cc in subst (IsFaultOf which) (sym same) refl
+
+pub returns : goal.returns
+returns g c = inl (told c.args.which c.read_nodes_counted.result c.in-Err.fault c.in-Err.ensures)

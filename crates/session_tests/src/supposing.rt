@@ -1,0 +1,57 @@
+// What a session supposes.
+use crate::serving::{Found, answers_of};
+use std::test::Fail;
+
+/// Lines, how the desk is found, and what a session with them writes.
+const SUPPOSED: [(&[u8], Found, &[u8]); 9] = [
+    (
+        b"suppose\nclose 7\nend\ndist 1 6\ndist 1 6\ndist 6 1\ndist 1 7\nfrom 3 4\nlower 1 6\nforget\ndist 1 6\nforget\n",
+        Found::Serving,
+        b"suppose 0\ns 0\nd 1 6 22\ns 0\nd 1 6 22\ns 0\nx 6 1\ns 0\nno 24\ns 0\nno 26\nno 1\nforgotten\nv 0\nd 1 6 15\nno 1\n",
+    ),
+    (
+        b"suppose\nclose 7\nend\nclose 6\nwait\ndist 1 6\nclosed\nforget\ndist 1 6\n",
+        Found::Serving,
+        b"suppose 0\nok 1\nv 1\ns 0\nd 1 6 22\nv 1\nclosed 1\nclose 6\nforgotten\nv 1\nd 1 6 30\n",
+    ),
+    (
+        b"suppose\nmark 3\nset 3 1\nend\nfrom 3 4\nlandmarks\nlower 3 4\n",
+        Found::Serving,
+        b"suppose 0\ns 0\nd 3 4 1\nv 0\nlandmarks 0\nno 1\n",
+    ),
+    (
+        b"suppose\nclose 7\nclose 7\nend\ndist 1 6\nsuppose\nclose 9\nend\nsuppose\nend\nsuppose\ndist 1 6\nclose 7\nend\nsuppose\nbegin\nend\nforget\n",
+        Found::Serving,
+        b"no 22\nv 0\nd 1 6 15\nno 20\nno 13\nno 1\nno 1\nno 1\n",
+    ),
+    (
+        b"suppose\nclose 7\nend\nsuppose\nset 6 1\nend\ndist 1 6\n",
+        Found::Serving,
+        b"suppose 0\nsuppose 0\ns 0\nd 1 6 13\n",
+    ),
+    (
+        b"suppose\nclose 7\nend\nsuppose\nclose 9\nend\ndist 1 6\nforget\n",
+        Found::Serving,
+        b"suppose 0\nno 20\nv 0\nd 1 6 15\nno 1\n",
+    ),
+    (
+        b"begin\nsuppose\nend\nbegin\nclose 7\nforget\nend\nsuppose 1\nforget 2\n",
+        Found::Serving,
+        b"no 1\nno 1\nno 1\nno 1\n",
+    ),
+    (
+        b"suppose\nclose 7\nend\ndist 1 6\n",
+        Found::Crowded,
+        b"no 60\nno 60\n",
+    ),
+    (b"suppose\nclose 7\n", Found::Serving, b""),
+];
+
+#[test]
+fn supposes_what_the_lines_say(rt: HostRuntime) -> Result<(), Fail> {
+    for (lines, found, want) in SUPPOSED {
+        let answers = answers_of(rt, rt.alloc(), found, lines)?;
+        assert!(rt; answers.as_slice() == want, "{lines:?}");
+    }
+    Ok(())
+}

@@ -1,0 +1,9 @@
+use Rattle.std.proofs.Common.{rules}
+use Rattle.sessions.proofs.Answered.{wrote_near, wrote_no_near}
+use Rattle.sessions.proofs.finding.answer_near.Goals as goal
+
+pub returns-in-Ok-clause-told : goal.returns-in-Ok-clause-told
+returns-in-Ok-clause-told g c = wrote_near c.args.near c.args.glance.view _ _ _ _ c.tell_near.result (search rules) (search rules) (search rules) c.tell_near.ensures.ok
+
+pub returns-in-Err-clause-told : goal.returns-in-Err-clause-told
+returns-in-Err-clause-told g c = wrote_no_near c.args.near c.args.glance.view _ c.in-Err.refusal _ _ c.tell_untold.result (search rules) (search rules) c.tell_untold.ensures.ok

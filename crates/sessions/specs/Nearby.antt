@@ -1,0 +1,53 @@
+-- What lines about the nodes near one, and about tables, are told.
+use Rattle.std.specs.Prelude.{◌≡◌, ◌⊎◌, ℕ, ◌+◌, true, List, ◌++◌, length, Option, Some}
+use Rattle.std.specs.Io.KnownBytes.{Appends}
+use Rattle.roadnet.specs.declared.groups.Group.{Group}
+use Rattle.roadnet.specs.declared.refusals.Refusal.{Refusal}
+use Rattle.roadnet.specs.declared.refusals.Refusal.TheVariants.{NoSuchNode}
+use Rattle.roadnet.specs.Net.{Net}
+use Rattle.roadnet.specs.Numbers.{number_of}
+use Rattle.roadnet.specs.Step.{after, is_node}
+use Rattle.deltastep.specs.declared.known.NodeDistance.{NodeDistance}
+use Rattle.rows.specs.declared.queries.Reply.{Reply}
+use Rattle.rows.specs.Views.{AreRight}
+use Rattle.history.specs.Origins.{Origin}
+use Rattle.desk.specs.declared.nearby.Near.{Near}
+use Rattle.desk.specs.declared.nearby.Near.TheVariants.{Reach, Reached, Nearest}
+use Rattle.desk.specs.Nearby.{are_pairs, node_of, IsNear, IsUntold}
+use Rattle.desk.specs.Readings.{IsNoReader}
+use Rattle.printing.specs.Nodes.{nearest_lines, pair_lines, reach_lines, reached_lines}
+use Rattle.printing.specs.Printed.{refusal_line, version_line}
+use Rattle.sessions.specs.Tables.{pairs_of}
+
+-- the lines of what is found near a node
+abbrev pub near_lines : Near → List NodeDistance → List ℕ
+near_lines (Reach source limit) found = reach_lines source found
+near_lines (Reached target limit) found = reached_lines target found
+near_lines (Nearest source count) found = nearest_lines source found
+
+-- for what nothing is told: a node that is not there in this version, which is named as for a query; or want of memory
+abbrev pub untold_lines : ℕ → Refusal → List ℕ
+untold_lines version NoSuchNode = version_line version ++ refusal_line (number_of NoSuchNode)
+untold_lines version other = refusal_line (number_of other)
+
+-- what is near a node in this network, all of it, behind its version; or for what it is not told
+abbrev pub IsNearAnswer : Near → Net → ℕ → List ℕ → Type 0
+IsNearAnswer near net version told =
+    ((found : List NodeDistance) × (is_node net (node_of near) ≡ true) × IsNear net near found × (told ≡ version_line version ++ near_lines near found))
+    ⊎ ((refusal : Refusal) × IsUntold (is_node net (node_of near)) refusal × (told ≡ untold_lines version refusal))
+
+-- a right reply to each pair in this network, source by source, behind its version; or for what they are not told
+abbrev pub IsTableAnswer : List (ℕ × ℕ) → Net → ℕ → List ℕ → Type 0
+IsTableAnswer pairs net version told =
+    ((replies : List Reply) × (are_pairs net pairs ≡ true) × AreRight net pairs replies × (told ≡ version_line version ++ pair_lines pairs replies))
+    ⊎ ((refusal : Refusal) × IsUntold (are_pairs net pairs) refusal × (told ≡ untold_lines version refusal))
+
+-- An answer in the desk's network after these groups, at the version after them; or that there is no view to ask, or no memory (60, 11, 61).
+abbrev pub IsToldAfter : Origin → List Group → (Net → ℕ → List ℕ → Type 0) → List ℕ → Type 0
+IsToldAfter origin groups IsAnswer told =
+    ((network : Net) × (after origin.base groups ≡ Some network) × IsAnswer network (origin.version + length groups) told)
+    ⊎ ((refusal : Refusal) × IsNoReader refusal × (told ≡ refusal_line (number_of refusal)))
+
+-- the writer has such an answer in this network at this version, and no more
+abbrev pub WritesSo : (Net → ℕ → List ℕ → Type 0) → Net → ℕ → Option (List ℕ) → Option (List ℕ) → Type 0
+WritesSo IsAnswer net version old new = (told : List ℕ) × IsAnswer net version told × Appends old new told

@@ -1,0 +1,297 @@
+//! What a session supposes: groups of commands carried out on a network that it alone has.
+ghost use Rattle.std.specs.Prelude.{◌≡◌, ◌≢◌, Option, None, Some, IfOk, IfErr, OnOk};
+ghost use mathlib.Core.List.{IsPrefix};
+ghost use Rattle.printing.specs.Counting.{failed_writes, writer_of, IsSameWriter, CountsFailure};
+ghost use Rattle.sessions.specs.Drafts.{Drafted, HasDraft, IsDraft, fault_of, next_draft, next_draft_beside, next_supposing};
+ghost use Rattle.sessions.specs.Supposing.{SupposesAfter, IsUnsupposed, IsSupposedAnswer, IsToldSo};
+ghost use Rattle.sessions.specs.Told.{known_to};
+ghost use Rattle.sessions.specs.Turns.{IsSupposedEnd, Says};
+
+use crate::answers::Session;
+use crate::copies::Copies;
+use crate::drafts::{Draft, NoGroup};
+use crate::lines::{Line, is_end, is_suppose};
+use crate::telling::{tell_fault, tell_refusal};
+use crate::told_supposed::{tell_forgotten, tell_found, tell_supposed};
+use desk::{Gate, Handle, Naming};
+use dimacs::Code;
+use disk::Disk;
+use printing::{CountedWriter, Failed};
+use relax::{CHUNK, Crew};
+use roadnet::{Group, Refusal};
+use rows::Query;
+use std::alloc::Global;
+use std::io::Write;
+use std::sync::Wait;
+use std::thread::Threads;
+use suppositions::Supposed;
+
+/// What a session supposes, if it supposes something, and the lines of a group that it is to suppose, if it is in one. Nothing of it reaches the desk.
+#[derive(Drop)]
+pub(crate) struct Supposing {
+    group: Option<Draft>,
+    supposed: Option<Supposed>,
+}
+
+/// Supposes the group on top of what is shown at this moment. Refused is a place or a view that is not found, and what the network refuses.
+fn suppose<N: Naming, D: Disk + Drop, G: Gate + Drop, R: Threads + Wait + Copy>(
+    alloc: Global,
+    desk: &Handle<N, D, G, R>,
+    session: &mut Session<N>,
+    group: &Group,
+) -> Result<Supposed, Refusal>
+    ensures supposed { IfOk result (SupposesAfter N.origin (known_to session.new.place) group.now) }
+    ensures causes { IfErr result (IsUnsupposed N.origin (known_to session.new.place) group.now) }
+    ensures begins { IsPrefix (known_to session.old.place) (known_to session.new.place) }
+    ensures last { session.new.last ≡ session.old.last }
+    ensures receipts { session.new.receipts ≡ session.old.receipts }
+    ensures draft { session.new.draft ≡ session.old.draft }
+{
+    let glance = session.see(desk)?;
+    Supposed::new(
+        alloc,
+        glance.version(),
+        glance.network(),
+        glance.width(),
+        group,
+    )
+}
+
+/// Writes the answer to a query in what is supposed, and sends it out.
+fn answer_in<R: Threads, W: Write>(
+    rt: &R,
+    alloc: Global,
+    supposed: &mut Supposed,
+    query: Query,
+    out: &mut CountedWriter<'_, W>,
+) -> Result<(), Failed>
+    ensures told { OnOk result (IsToldSo (IsSupposedAnswer supposed.old query) (W.contents (writer_of out.old)) (W.contents (writer_of out.new))) }
+    ensures supposed { supposed.new ≡ supposed.old }
+    ensures refused { IfErr result (λ failed. failed ≡ Failed.Code Refusal.Write) }
+    ensures counts { CountsFailure (failed_writes out.old) (failed_writes out.new) result }
+    ensures same { IsSameWriter out.old out.new }
+{
+    let crew = Crew::new(rt, CHUNK);
+    let version = supposed.version();
+    match query {
+        Query::Dist { source, target } => {
+            let found = supposed.dist(alloc, source, target, &crew);
+            tell_found(out, version, &query, found)
+        }
+        Query::From { landmark, target } => {
+            let found = supposed.from_landmark(alloc, landmark, target, &crew);
+            tell_found(out, version, &query, found)
+        }
+        Query::Lower {
+            source: _,
+            target: _,
+        } => tell_fault(out, Code::BadLine),
+    }
+}
+
+impl Supposing {
+    /// Nothing is supposed.
+    pub(crate) fn new() -> Supposing
+        ensures group { result.group ≡ None }
+        ensures supposed { result.supposed ≡ None }
+    {
+        Supposing {
+            group: None,
+            supposed: None,
+        }
+    }
+
+    /// Writes the answer to the end of a group that is to be supposed, and sends it out: the code of the first line that has a fault, else the version that it is made
+    /// of, or why nothing is supposed.
+    fn answer_end<N: Naming, D: Disk + Drop, G: Gate + Drop, R: Threads + Wait + Copy, W: Write>(
+        &mut self,
+        alloc: Global,
+        desk: &Handle<N, D, G, R>,
+        session: &mut Session<N>,
+        draft: Draft,
+        out: &mut CountedWriter<'_, W>,
+    ) -> Result<(), Failed>
+        ensures told { (drafted : Drafted) → IsDraft drafted draft → OnOk result (IsToldSo (IsSupposedEnd N.origin (known_to session.new.place) (fault_of drafted) drafted.commands self.new.supposed) (W.contents (writer_of out.old)) (W.contents (writer_of out.new))) }
+        ensures group { self.new.group ≡ self.old.group }
+        ensures begins { IsPrefix (known_to session.old.place) (known_to session.new.place) }
+        ensures last { session.new.last ≡ session.old.last }
+        ensures receipts { session.new.receipts ≡ session.old.receipts }
+        ensures draft { session.new.draft ≡ session.old.draft }
+        ensures refused { IfErr result (λ failed. failed ≡ Failed.Code Refusal.Write) }
+        ensures counts { CountsFailure (failed_writes out.old) (failed_writes out.new) result }
+        ensures same { IsSameWriter out.old out.new }
+    {
+        self.supposed = None;
+        let group = match draft.end() {
+            Ok(group) => group,
+            Err(NoGroup::Fault(code)) => return tell_fault(out, code),
+            Err(NoGroup::NoMemory) => return tell_refusal(out, Refusal::OutOfMemory),
+        };
+        match suppose(alloc, desk, session, &group) {
+            Ok(supposed) => {
+                let version = supposed.version();
+                self.supposed = Some(supposed);
+                tell_supposed(out, version)
+            }
+            Err(refusal) => tell_refusal(out, refusal),
+        }
+    }
+
+    /// Writes the answer to a line that stands in no group while this is supposed, and sends it out.
+    fn answer_beside<
+        N: Naming,
+        D: Disk + Drop,
+        G: Gate + Drop,
+        R: Threads + Wait + Copy,
+        C: Copies,
+        W: Write,
+    >(
+        &mut self,
+        rt: &R,
+        alloc: Global,
+        desk: &Handle<N, D, G, R>,
+        copies: &C,
+        session: &mut Session<N>,
+        mut supposed: Supposed,
+        line: Line,
+        out: &mut CountedWriter<'_, W>,
+    ) -> Result<(), Failed>
+        requires group { self.old.group ≡ None }
+        requires alone { session.old.draft ≡ None }
+        requires line { line ≢ Line.Suppose }
+        ensures told { OnOk result (Says (C.copying copies.now) N.origin None (Some supposed) self.new.supposed None line session.old.last session.new.last (known_to session.new.place) session.old.receipts session.new.receipts (W.contents (writer_of out.old)) (W.contents (writer_of out.new))) }
+        ensures group { self.new.group ≡ None }
+        ensures draft { HasDraft (next_draft None line) session.new.draft }
+        ensures begins { IsPrefix (known_to session.old.place) (known_to session.new.place) }
+        ensures refused { IfErr result (λ failed. failed ≡ Failed.Code Refusal.Write) }
+        ensures counts { CountsFailure (failed_writes out.old) (failed_writes out.new) result }
+        ensures same { IsSameWriter out.old out.new }
+    {
+        match line {
+            Line::Forget => {
+                self.supposed = None;
+                tell_forgotten(out)
+            }
+            Line::Query(query) => {
+                let told = answer_in(rt, alloc, &mut supposed, query, out);
+                self.supposed = Some(supposed);
+                told
+            }
+            _ => {
+                self.supposed = Some(supposed);
+                session.answer(alloc, desk, copies, line, out)
+            }
+        }
+    }
+
+    /// Writes the answer to a line that stands in no group, and sends it out.
+    fn answer_alone<
+        N: Naming,
+        D: Disk + Drop,
+        G: Gate + Drop,
+        R: Threads + Wait + Copy,
+        C: Copies,
+        W: Write,
+    >(
+        &mut self,
+        rt: &R,
+        alloc: Global,
+        desk: &Handle<N, D, G, R>,
+        copies: &C,
+        session: &mut Session<N>,
+        line: Line,
+        out: &mut CountedWriter<'_, W>,
+    ) -> Result<(), Failed>
+        requires group { self.old.group ≡ None }
+        requires alone { session.old.draft ≡ None }
+        ensures told { OnOk result (Says (C.copying copies.now) N.origin None self.old.supposed self.new.supposed None line session.old.last session.new.last (known_to session.new.place) session.old.receipts session.new.receipts (W.contents (writer_of out.old)) (W.contents (writer_of out.new))) }
+        ensures group { HasDraft (next_supposing None None line) self.new.group }
+        ensures draft { HasDraft (next_draft None line) session.new.draft }
+        ensures begins { IsPrefix (known_to session.old.place) (known_to session.new.place) }
+        ensures refused { IfErr result (λ failed. failed ≡ Failed.Code Refusal.Write) }
+        ensures counts { CountsFailure (failed_writes out.old) (failed_writes out.new) result }
+        ensures same { IsSameWriter out.old out.new }
+    {
+        if is_suppose(line) {
+            self.supposed = None;
+            self.group = Some(Draft::new(alloc));
+            return Ok(());
+        }
+        match self.supposed.take() {
+            None => session.answer(alloc, desk, copies, line, out),
+            Some(supposed) => {
+                self.answer_beside(rt, alloc, desk, copies, session, supposed, line, out)
+            }
+        }
+    }
+
+    /// Writes the answer to a line that stands in no group that is to be supposed, if it has one, and sends it out.
+    fn answer_without<
+        N: Naming,
+        D: Disk + Drop,
+        G: Gate + Drop,
+        R: Threads + Wait + Copy,
+        C: Copies,
+        W: Write,
+    >(
+        &mut self,
+        rt: &R,
+        alloc: Global,
+        desk: &Handle<N, D, G, R>,
+        copies: &C,
+        session: &mut Session<N>,
+        line: Line,
+        out: &mut CountedWriter<'_, W>,
+    ) -> Result<(), Failed>
+        requires { self.old.group ≡ None }
+        ensures told { (draft : Option Drafted) → HasDraft draft session.old.draft → OnOk result (Says (C.copying copies.now) N.origin None self.old.supposed self.new.supposed draft line session.old.last session.new.last (known_to session.new.place) session.old.receipts session.new.receipts (W.contents (writer_of out.old)) (W.contents (writer_of out.new))) }
+        ensures group { (draft : Option Drafted) → HasDraft draft session.old.draft → HasDraft (next_supposing None draft line) self.new.group }
+        ensures draft { (draft : Option Drafted) → HasDraft draft session.old.draft → HasDraft (next_draft draft line) session.new.draft }
+        ensures begins { IsPrefix (known_to session.old.place) (known_to session.new.place) }
+        ensures refused { IfErr result (λ failed. failed ≡ Failed.Code Refusal.Write) }
+        ensures counts { CountsFailure (failed_writes out.old) (failed_writes out.new) result }
+        ensures same { IsSameWriter out.old out.new }
+    {
+        if session.is_within_group() {
+            return session.answer(alloc, desk, copies, line, out);
+        }
+        self.answer_alone(rt, alloc, desk, copies, session, line, out)
+    }
+
+    /// Writes the answer to a line, if it has one, and sends it out: what lines of a group that is to be supposed say stays here, and nothing is written before its
+    /// end; queries are answered in what is supposed, if something is; and all else is the session's. The one error is a failed write.
+    pub(crate) fn answer<
+        N: Naming,
+        D: Disk + Drop,
+        G: Gate + Drop,
+        R: Threads + Wait + Copy,
+        C: Copies,
+        W: Write,
+    >(
+        &mut self,
+        rt: &R,
+        alloc: Global,
+        desk: &Handle<N, D, G, R>,
+        copies: &C,
+        session: &mut Session<N>,
+        line: Line,
+        out: &mut CountedWriter<'_, W>,
+    ) -> Result<(), Failed>
+        ensures told { (supposing draft : Option Drafted) → HasDraft supposing self.old.group → HasDraft draft session.old.draft → OnOk result (Says (C.copying copies.now) N.origin supposing self.old.supposed self.new.supposed draft line session.old.last session.new.last (known_to session.new.place) session.old.receipts session.new.receipts (W.contents (writer_of out.old)) (W.contents (writer_of out.new))) }
+        ensures group { (supposing draft : Option Drafted) → HasDraft supposing self.old.group → HasDraft draft session.old.draft → HasDraft (next_supposing supposing draft line) self.new.group }
+        ensures draft { (supposing draft : Option Drafted) → HasDraft supposing self.old.group → HasDraft draft session.old.draft → HasDraft (next_draft_beside supposing draft line) session.new.draft }
+        ensures begins { IsPrefix (known_to session.old.place) (known_to session.new.place) }
+        ensures refused { IfErr result (λ failed. failed ≡ Failed.Code Refusal.Write) }
+        ensures counts { CountsFailure (failed_writes out.old) (failed_writes out.new) result }
+        ensures same { IsSameWriter out.old out.new }
+    {
+        let Some(group) = self.group.take() else {
+            return self.answer_without(rt, alloc, desk, copies, session, line, out);
+        };
+        if is_end(line) {
+            return self.answer_end(alloc, desk, session, group, out);
+        }
+        self.group = Some(group.with(line));
+        Ok(())
+    }
+}

@@ -1,9 +1,16 @@
 use Rattle.std.proofs.Common.{◌≡◌, ℕ, ◌≤◌, ◌<◌, length, arith}
 use Rattle.deltastep.specs.Repair.{IsUntouched}
 use Rattle.deltastep.proofs.Remaining.{IsRowIn, IsRowIn-of}
-use Rattle.deltastep.proofs.Thinning.{All-of_take}
+use Rattle.deltastep.proofs.Phases.{on_true}
+use Rattle.deltastep.proofs.Thinning.{All-take_more, All-of_take}
 use Rattle.deltastep.proofs.Staying.{RowOf-untouched}
 use Rattle.deltastep.proofs.untouched.is_untouched.Goals as goal
+
+pub loop-node-preserved : goal.loop-node-preserved
+loop-node-preserved c =
+    let changed = c.args.changed.now in
+    let lt : c.loop-node.node-index < length changed = omega arith in
+    All-take_more (IsUntouched c.args.before.now c.args.after.now c.args.row.now) changed c.loop-node.node-index _ lt c.loop-node.invariant (on_true c.is_node_untouched.result _ c.if-not-is_node_untouched.false c.is_node_untouched.ensures)
 
 pub returns : goal.returns
 returns c =

@@ -46,6 +46,22 @@ fn first_other(
     Ok(None)
 }
 
+/// The same of a batch by a cache of so many rows, and how many rows it leaves.
+fn asked_together<R: Threads>(
+    rt: &R,
+    alloc: Global,
+    view: &View,
+    pairs: &[(u64, u64)],
+    capacity: u32,
+) -> Result<(Option<usize>, usize), OutOfMemory>
+    requires { (1 ≤ capacity) × (capacity ≤ 64) }
+{
+    let mut cache = RowCache::new(alloc, capacity);
+    let replies = view.pinned(&mut cache).batch(rt, alloc, pairs)?;
+    let other = first_other(alloc, view, pairs, &replies)?;
+    Ok((other, cache.len()))
+}
+
 /// The same of a batch in a network of ten nodes that is drawn by the seed, by a cache of four rows. The number 11 is that of no node.
 fn batch_differs_at<R: Threads>(
     rt: &R,
@@ -57,12 +73,10 @@ fn batch_differs_at<R: Threads>(
     requires sources { 1 ≤ sources }
     requires targets { 1 ≤ targets }
 {
-    let view = View::build(alloc, 0, drawn(alloc, seed)?, None, &Solo)?;
     let pairs = drawn_pairs(alloc, seed, sources, targets)?;
-    let mut cache = RowCache::new(alloc, 4);
-    let mut pinned = view.pinned(&mut cache);
-    let replies = pinned.batch(rt, alloc, &pairs)?;
-    Ok(first_other(alloc, &view, &pairs, &replies)?)
+    let view = View::build(alloc, 0, drawn(alloc, seed)?, None, &Solo)?;
+    let (other, _) = asked_together(rt, alloc, &view, &pairs, 4)?;
+    Ok(other)
 }
 
 /// A seed, and up to which numbers sources and targets go: as many, one of either, fewer of either, more sources than rows are kept.
@@ -85,34 +99,30 @@ fn batches_in_any_order(rt: HostRuntime) -> Result<(), Refusal> {
     Ok(())
 }
 
-/// How many rows a batch leaves, of the network of the worked rows.
+/// How many rows a batch leaves, of the network of the worked rows, and whether it is answered right.
 fn rows_behind<R: Threads>(
     rt: &R,
     alloc: Global,
     pairs: &[(u64, u64)],
 ) -> Result<(usize, bool), Refusal> {
     let view = View::build(alloc, 0, six(alloc)?, None, &Solo)?;
-    let mut cache = RowCache::new(alloc, 16);
-    let mut pinned = view.pinned(&mut cache);
-    let replies = pinned.batch(rt, alloc, pairs)?;
-    let right = first_other(alloc, &view, pairs, &replies)?.is_none();
-    Ok((cache.len(), right))
+    let (other, rows) = asked_together(rt, alloc, &view, pairs, 16)?;
+    Ok((rows, other.is_none()))
 }
+
+/// Pairs, and how many rows their batch leaves.
+const SIDES: [([(u64, u64); 3], usize); 4] = [
+    ([(1, 6), (1, 4), (1, 2)], 1),
+    ([(1, 6), (2, 4), (1, 2)], 2),
+    ([(1, 6), (2, 6), (3, 6)], 0),
+    ([(4, 6), (7, 6), (4, 0)], 1),
+];
 
 /// Rows are made of sources, and kept; where the targets are fewer, rows are made of these, and none is kept.
 #[test]
 fn fewer_side_of_a_batch(rt: HostRuntime) -> Result<(), Refusal> {
-    let alloc = rt.alloc();
-    let (one, two) = ([(1, 6), (1, 4), (1, 2)], [(1, 6), (2, 4), (1, 2)]);
-    assert_eq!(rt; rows_behind(&rt, alloc, &one)?, (1, true));
-    assert_eq!(rt; rows_behind(&rt, alloc, &two)?, (2, true));
-    assert_eq!(rt;
-        rows_behind(&rt, alloc, &[(1, 6), (2, 6), (3, 6)])?,
-        (0, true)
-    );
-    assert_eq!(rt;
-        rows_behind(&rt, alloc, &[(4, 6), (7, 6), (4, 0)])?,
-        (1, true)
-    );
+    for (pairs, rows) in SIDES {
+        assert_eq!(rt; rows_behind(&rt, rt.alloc(), &pairs)?, (rows, true));
+    }
     Ok(())
 }

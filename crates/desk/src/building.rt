@@ -44,26 +44,14 @@ impl<N: Naming, D: Disk + Drop, G: Gate + Drop + Sync> Shared<Office<N, D>, G> {
         }
     }
 
-    /// Builds the view of a work and shows it, or gives its task up. A work whose view is shown is kept until the next one's is: it has the view
-    /// before, which readers may take up to then, and so that view is let go by nobody under the lock.
-    fn carry_out<R: Threads + Wait + Sync>(
-        &self,
-        rt: &R,
-        plan: &Plan,
-        work: Work,
-        kept: &mut Option<Work>,
-    ) -> Attempt
+    /// Builds the view of a work and shows it, or gives its task up. The work is let go behind the lock, once its view is shown: it has the view
+    /// before, and so that view is let go by nobody under the lock, and is there no longer than readers hold it.
+    fn carry_out<R: Threads + Wait + Sync>(&self, rt: &R, plan: &Plan, work: Work) -> Attempt
         requires { work.origin ≡ N.origin }
     {
         let version = work.version();
         let unbuilt = match plan.build(rt, &self.gate, &self.last, &work) {
-            Ok(view) => {
-                let attempt = self.show(rt, version, work.built(view));
-                if attempt == Attempt::Done {
-                    *kept = Some(work);
-                }
-                return attempt;
-            }
+            Ok(view) => return self.show(rt, version, work.built(view)),
             Err(unbuilt) => unbuilt,
         };
         if let Some(locked) = &mut self.lock(rt).locked {
@@ -76,13 +64,7 @@ impl<N: Naming, D: Disk + Drop, G: Gate + Drop + Sync> Shared<Office<N, D>, G> {
     }
 
     /// Takes a work, unless the gate holds it up, and carries it out.
-    fn build<R: Threads + Wait + Sync>(
-        &self,
-        rt: &R,
-        plan: &Plan,
-        durable: u64,
-        kept: &mut Option<Work>,
-    ) -> Attempt {
+    fn build<R: Threads + Wait + Sync>(&self, rt: &R, plan: &Plan, durable: u64) -> Attempt {
         if !self.gate.before_task(durable) {
             return Attempt::NoMemory;
         }
@@ -91,7 +73,7 @@ impl<N: Naming, D: Disk + Drop, G: Gate + Drop + Sync> Shared<Office<N, D>, G> {
             None => return Attempt::Done,
         };
         match taken {
-            Ok(Some(work)) => self.carry_out(rt, plan, work, kept),
+            Ok(Some(work)) => self.carry_out(rt, plan, work),
             Ok(None) => Attempt::Done,
             Err(_) => Attempt::NoMemory,
         }
@@ -105,13 +87,12 @@ pub(crate) fn build_views<
     G: Gate + Drop + Sync,
     R: Threads + Wait + Clock + Sync,
 >(rt: &R, shared: &Shared<Office<N, D>, G>, plan: &Plan) {
-    let mut kept = None;
     let mut misses = Misses::none();
     for _ in rt.forever() {
         let attempt = match shared.next_builder_turn(rt) {
             BuilderTurn::End => break,
             BuilderTurn::Rest => Attempt::Done,
-            BuilderTurn::Build { durable } => shared.build(rt, plan, durable, &mut kept),
+            BuilderTurn::Build { durable } => shared.build(rt, plan, durable),
         };
         if !misses.goes_on(attempt) {
             shared.gate.builder_gave_up();

@@ -14,14 +14,14 @@ use Rattle.checkpoint.proofs.writing.NextCheckpoint.finish.Goals as goal
 
 pub returns-in_err-write_head-clause-writes : goal.returns-in_err-write_head-clause-writes
 returns-in_err-write_head-clause-writes g c =
-    let p = err_from_is_err_and c.from_residual-in_err-write_head.result c.from_residual-in_err-write_head.ensures.1 in
+    let p = err_from_is_err_and c.from_residual.result c.from_residual.ensures.1 in
     let old = g.D.Disk.content c.args.disk.now in
     let d : Draft = record { slot = c.self.inside.slot; epoch = c.self.inside.epoch; version = c.self.inside.version; next_sequence = c.self.inside.next_sequence; written = c.self.inside.written } in
     let header = c.args.header.now in
     let net = c.args.network.now in
     let P : List ℕ → Type 0 = IsDraftShutOrWhole header d net old in
-    subst (λ (x : Draft). Writes g.D.Disk (IsDraftShutOrWhole header x net old) c.from_residual-in_err-write_head.result c.args.disk.now c.write_head.new.disk) c.self.view_is
-    (unsynced_fails g.D.Disk P _ p.0 c.from_residual-in_err-write_head.result c.args.disk.now c.write_head.new.disk p.1
+    subst (λ (x : Draft). Writes g.D.Disk (IsDraftShutOrWhole header x net old) c.from_residual.result c.args.disk.now c.write_head.new.disk) c.self.view_is
+    (unsynced_fails g.D.Disk P _ p.0 c.from_residual.result c.args.disk.now c.write_head.new.disk p.1
     (unsynced_weaker g.D.Disk (IsSlotShut header c.self.inside.slot old) P _ c.args.disk.now c.write_head.new.disk
     c.in_err-write_head.ensures.writes (λ x shut. inl shut)))
 

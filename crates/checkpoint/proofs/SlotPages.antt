@@ -8,7 +8,7 @@ use Rattle.disk.specs.Gated.{SameOutside, IsShutOrOpened}
 use Rattle.disk.specs.Moments.{Elapses, LeavesOnly}
 use Rattle.disk.proofs.Gates.{outside_torn, outside_wider, outside_twice, shut_twice, body_torn}
 use Rattle.disk.proofs.Overwritten.{length-overwritten, overwritten_inside, overwritten_torn}
-use Rattle.disk.proofs.Steps.{started, goes_on, and_then, weaker}
+use Rattle.disk.proofs.Steps.{started, goes_on, and_then}
 use Rattle.roadnet.specs.declared.arcs.RoadArc.{RoadArc}
 use Rattle.roadnet.specs.Net.{Net}
 use Rattle.pages.specs.declared.header.Header.{Header}

@@ -1,7 +1,7 @@
 use Rattle.std.proofs.Common.{◌≡◌, take}
 use Rattle.rows.specs.Views.{AreRight}
 use Rattle.suppositions.specs.Supposing.{pairs_of}
-use Rattle.suppositions.proofs.tables.Supposed.table.Given as goal
+use Rattle.suppositions.proofs.supposed.Supposed.table.Given as goal
 
 abbrev pub invariant-loop-source : goal.invariant-loop-source
 invariant-loop-source g l = record {

@@ -225,6 +225,7 @@ fn stood(durable: u64, shown: u64, flusher: Working, builder: Working) -> DeskSt
         pages: 64,
         landmarks: 2,
         left: 16777216,
+        readers: 1,
         flusher,
         builder,
     }

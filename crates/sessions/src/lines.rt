@@ -75,8 +75,8 @@ pub(crate) fn is_end(line: &Line) -> bool
 }
 
 /// Whether with a line a group begins that is to be supposed.
-pub(crate) fn is_suppose(line: Line) -> bool
-    ensures { Decides result (line ≡ Line.Suppose) }
+pub(crate) fn is_suppose(line: &Line) -> bool
+    ensures { Decides result (line.now ≡ Line.Suppose) }
 {
     matches!(line, Line::Suppose)
 }

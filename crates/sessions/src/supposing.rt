@@ -212,7 +212,7 @@ impl Supposing {
         ensures counts { CountsFailure (failed_writes out.old) (failed_writes out.new) result }
         ensures same { IsSameWriter out.old out.new }
     {
-        if is_suppose(line) {
+        if is_suppose(&line) {
             self.supposed = None;
             self.group = Some(Draft::new(alloc));
             return Ok(());
@@ -288,7 +288,7 @@ impl Supposing {
         let Some(group) = self.group.take() else {
             return self.answer_without(rt, alloc, desk, copies, session, line, out);
         };
-        if is_end(line) {
+        if is_end(&line) {
             return self.answer_end(alloc, desk, session, group, out);
         }
         self.group = Some(group.with(line));

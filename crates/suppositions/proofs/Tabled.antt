@@ -1,8 +1,10 @@
 -- Tables of replies, one reply and one source after the other.
-use Rattle.std.proofs.Common.{◌≡◌, ◌∙◌, ℕ, ◌+◌, ◌<◌, Bool, true, List, [], ◌∷◌, ◌++◌, length, get_or, take, map, None, refl, ap, sym, subst, arith, append_assoc}
+use Rattle.std.proofs.Common.{◌≡◌, ◌∙◌, ℕ, ◌+◌, ◌<◌, Bool, true, false, true≢false, List, [], ◌∷◌, ◌++◌, All, length, drop, get_or, take, map, None, refl, ap, sym, subst, arith, append_assoc}
 use Rattle.std.specs.List.{flat_map}
 use Rattle.std.proofs.lemmas.Bool.Decides.{nat_tests}
+use Rattle.std.proofs.Math.Seq.{take-append_seam, drop-append_seam}
 use Rattle.std.proofs.lemmas.List.{append-nil, flat_map_more, map-append, take_more}
+use Rattle.std.proofs.lemmas.List.Elements.{All-take, All-drop}
 use Rattle.std.proofs.lemmas.Slice.Zip.{all_zipped_more}
 use Rattle.roadnet.specs.Net.{Net, IsNode}
 use Rattle.roadnet.specs.Step.{is_node}
@@ -47,3 +49,12 @@ pub one_sourced : (sources targets : List ℕ) (i d : ℕ) → i < length source
 one_sourced sources targets i d lt =
     flat_map_more (λ (s : ℕ). pairs_from s targets) [] (take i sources) (get_or sources i d)
     ∙ ap (λ (ss : List ℕ). pairs_of ss targets) (sym (take_more sources i d lt))
+
+-- where all of the first are not, all of both are not, and so with the second
+pub none_before : (P : ℕ → Type 0) (xs ys : List ℕ) (are : Bool) → (All P xs → are ≡ true) → are ≡ false → ¬ All P (xs ++ ys)
+none_before P xs ys are only fails all =
+    true≢false (sym (only (subst (All P) (take-append_seam xs ys) (All-take P (length xs) (xs ++ ys) all))) ∙ fails)
+
+pub none_behind : (P : ℕ → Type 0) (xs ys : List ℕ) (are : Bool) → (All P ys → are ≡ true) → are ≡ false → ¬ All P (xs ++ ys)
+none_behind P xs ys are only fails all =
+    true≢false (sym (only (subst (All P) (drop-append_seam xs ys) (All-drop P (length xs) (xs ++ ys) all))) ∙ fails)

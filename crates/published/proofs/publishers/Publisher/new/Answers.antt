@@ -8,6 +8,6 @@ use Rattle.published.proofs.publishers.Publisher.new.Goals as goal
 
 pub publish_as-writer-requires : goal.publish_as-writer-requires
 publish_as-writer-requires g c next is =
-    let now = c.in-Ok-new.writer.desk.shown.value in
-    let same : next ≡ now = is ∙ ap (λ l. last_of now l) c.in-Ok-new.ensures.1 in
+    let now = c.in-Ok-new-2.writer.desk.shown.value in
+    let same : next ≡ now = is ∙ ap (λ l. last_of now l) c.in-Ok-new-2.ensures.1 in
     sees _ _ now next (ap (λ (x : Showing). x.shown.origin) (sym same)) (subst (λ (x : Showing). IsPrefix now.shown.groups x.shown.groups) (sym same) (prefix_self now.shown.groups))

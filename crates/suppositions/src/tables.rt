@@ -95,7 +95,15 @@ impl Supposed {
         }
         let mut replies = Vec::new(alloc);
         for source in sources {
-            self.add_source(alloc, *source as u32, targets, team, &mut replies)?;
+            if let Err(OutOfMemory) = self.add_source(
+                alloc,
+                *source as u32,
+                targets,
+                team,
+                &mut replies,
+            ) {
+                return Err(Refusal::OutOfMemory);
+            }
         }
         Ok(replies)
     }

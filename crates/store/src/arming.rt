@@ -13,7 +13,7 @@ impl<D: Stoppable> Paged<D> {
     // Arms the disk. Nothing else is changed.
     pub fn arm(&mut self, k: u64)
         requires { 1 ≤ k }
-        ensures arms { Arms D.Disk D.Stoppable k self.old.disk self.new.disk }
+        ensures arms { Arms D.Disk (record { synced = D.synced; is_unsynced = D.is_unsynced; armed = D.armed }) k self.old.disk self.new.disk }
         ensures told { told_by self.new ≡ told_by self.old }
         ensures going { going_of self.new ≡ going_of self.old }
         ensures broken { self.new.broken ≡ self.old.broken }

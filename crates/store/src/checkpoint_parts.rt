@@ -1,16 +1,11 @@
 // A checkpoint that goes part by part, with commits between the parts.
-ghost use Rattle.std.specs.Prelude.{◌≡◌, ◌≢◌, ◌≤◌, ◌↔◌, true, false, List, ℕ, None, Some, Ok, IfOk, OnOk, OnErr, IfErr, MatchResult, IsSome};
-ghost use Rattle.disk.specs.Contents.{Only, Rose};
-ghost use Rattle.disk.specs.Moments.{LeavesOnly, AddsNothing};
-ghost use Rattle.roadnet.specs.declared.refusals.Refusal.TheVariants.{Device as device, OutOfMemory as out_of_memory};
-ghost use Rattle.pagereader.specs.Outcomes.{failures_told};
-ghost use Rattle.pages.specs.Layout.{slot_pages};
-ghost use Rattle.storefile.specs.StoreFile.{StandsTidyFor};
-ghost use Rattle.storefile.specs.Standing.{standing_of};
-ghost use Rattle.store.specs.Committing.{StandsTidily};
-ghost use Rattle.store.specs.Checkpointing.{refusal_of_checkpoint, MayRefuseCheckpoint};
+ghost use Rattle.std.specs.Prelude.{◌≡◌, ◌≢◌, ◌≤◌, ◌↔◌, true, false, None, Some, Ok, IfOk, OnOk, OnErr, IfErr, IsSome};
+ghost use Rattle.disk.specs.Contents.{Only};
+ghost use Rattle.roadnet.specs.declared.refusals.Refusal.TheVariants.{Device as device};
+ghost use Rattle.store.specs.Checkpointing.{MayRefuseCheckpoint};
 ghost use Rattle.store.specs.Durable.{told_by, going_of, begun_by, parts_of, has_all_checked, is_calm};
 ghost use Rattle.store.specs.Going.{part_by, progress_by, unchecked_by, slot_by, epoch_by};
+ghost use Rattle.store.specs.PagedCalls.{KeepsDurable, TellsFailures, RefusesCheckpoint, KeepsStanding, KeepsAsTold, LeavesFor, StaysFor};
 
 use crate::going::GoingCheckpoint;
 use crate::paged::Paged;

@@ -1,15 +1,10 @@
 // All of a checkpoint, or all that is left of the one that is going.
-ghost use Rattle.std.specs.Prelude.{◌≡◌, ◌≢◌, ◌+◌, ◌↔◌, true, false, List, ℕ, None, Some, Ok, IfOk, OnOk, OnErr, IfErr, MatchResult, IsSome};
-ghost use Rattle.disk.specs.Contents.{Only, Rose};
-ghost use Rattle.disk.specs.Moments.{LeavesOnly, AddsNothing};
-ghost use Rattle.roadnet.specs.declared.refusals.Refusal.TheVariants.{Device as device, OutOfMemory as out_of_memory};
-ghost use Rattle.pages.specs.Layout.{other, slot_pages};
-ghost use Rattle.pagereader.specs.Outcomes.{failures_told};
-ghost use Rattle.storefile.specs.StoreFile.{StandsTidyFor};
-ghost use Rattle.storefile.specs.Standing.{standing_of};
-ghost use Rattle.store.specs.Committing.{StandsTidily};
-ghost use Rattle.store.specs.Checkpointing.{refusal_of_checkpoint, MayRefuseCheckpoint};
+ghost use Rattle.std.specs.Prelude.{◌≡◌, ◌≢◌, ◌+◌, ◌↔◌, true, false, None, Some, Ok, IfOk, OnOk, OnErr, IfErr, IsSome};
+ghost use Rattle.disk.specs.Contents.{Only};
+ghost use Rattle.roadnet.specs.declared.refusals.Refusal.TheVariants.{Device as device};
+ghost use Rattle.pages.specs.Layout.{other};
 ghost use Rattle.store.specs.Durable.{told_by, going_of, parts_of, has_all_checked};
+ghost use Rattle.store.specs.PagedCalls.{KeepsDurable, TellsFailures, RefusesCheckpoint, KeepsStanding, KeepsAsTold, LeavesFor, StaysFor};
 
 use crate::paged::Paged;
 use disk::Disk;

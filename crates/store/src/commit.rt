@@ -1,19 +1,16 @@
 // Groups of commands made durable, all of them or none.
-ghost use Rattle.std.specs.Prelude.{◌≡◌, ◌≢◌, ◌+◌, ◌≤◌, ◌↔◌, true, false, List, ℕ, length, Some, None, IfOk, OnOk, OnErr, IfErr, MatchResult, option_map};
+ghost use Rattle.std.specs.Prelude.{◌≡◌, ◌≢◌, ◌+◌, ◌≤◌, ◌↔◌, true, false, List, ℕ, length, Some, IfOk, OnOk, OnErr, IfErr, option_map};
 ghost use Rattle.std.specs.List.{AllByRecursion};
-ghost use Rattle.disk.specs.Contents.{Only, Rose};
-ghost use Rattle.disk.specs.Moments.{LeavesOnly, AddsNothing};
+ghost use Rattle.disk.specs.Contents.{Only};
+ghost use Rattle.disk.specs.Moments.{AddsNothing};
 ghost use Rattle.roadnet.specs.Groups.{count_of};
 ghost use Rattle.roadnet.specs.Step.{after};
 ghost use Rattle.roadnet.specs.declared.refusals.Refusal.TheVariants.{Device as device};
-ghost use Rattle.pagereader.specs.Outcomes.{failures_told};
-ghost use Rattle.pages.specs.Layout.{slot_pages};
-ghost use Rattle.storefile.specs.StoreFile.{StandsTidyFor};
-ghost use Rattle.storefile.specs.Standing.{IsBeforeOrAfter};
-ghost use Rattle.store.specs.Durable.{told_by, going_of};
-ghost use Rattle.store.specs.Committing.{refusal_of_commit, MayRefuseCommit, StandsTidily};
+ghost use Rattle.store.specs.Durable.{going_of};
+ghost use Rattle.store.specs.Committing.{RefusesCommit};
 ghost use Rattle.pages.specs.Limits.{most_commands};
 ghost use Rattle.store.specs.Going.{with_page_committed};
+ghost use Rattle.store.specs.PagedCalls.{commit_refusal_by, TellsFailures, KeepsNumbers, KeepsStanding, StandsAsTold, IsFor, LeavesForOrAfter, StaysForOrAfter};
 
 use crate::going::count_page;
 use crate::paged::Paged;

@@ -1,5 +1,5 @@
 // A store made from one of the format before.
-ghost use Rattle.std.specs.Prelude.{◌≡◌, ◌≢◌, ◌⊎◌, ◌↔◌, List, ℕ, [], false, None, IfOk, IfErr, MatchResult, length};
+ghost use Rattle.std.specs.Prelude.{◌≡◌, ◌≢◌, ◌⊎◌, ◌↔◌, List, ℕ, [], false, None, IfOk, IfErr, length};
 ghost use Rattle.roadnet.specs.declared.refusals.Refusal.TheVariants.{Device as device};
 ghost use Rattle.disk.specs.Contents.{Only};
 ghost use Rattle.disk.specs.Moments.{StaysSame};

@@ -4,8 +4,9 @@
     tools/measure_shown.py [PROGRAM] [SIDE] [ROUNDS]
 
 Network: a grid of SIDE by SIDE nodes (1,000 where none is given) of which two roads in three are there, each both ways, with 16 landmarks. A view that is made
-anew is the first one: from the start of `serve` to its first answer, less opening alone (`ask` of no pair). Needs the built program, 4 GB of memory for a million
-nodes, and a machine that has nothing else to do."""
+anew is the first one: from the start of `serve` to its first answer, less opening alone (`ask` of no pair). What memory `serve` holds is told too: before the first
+change, between changes, and at its peak; run it once more with MALLOC_MMAP_THRESHOLD_=1048576 in the environment, by which the C library gives large pieces back.
+Needs the built program, 4 GB of memory for a million nodes, and a machine that has nothing else to do."""
 import pathlib
 import random
 import statistics
@@ -51,6 +52,11 @@ def changes(draw, arcs, count):
     lines = [b"set %d %d\n" % (draw.randint(1, arcs), draw.randint(100, 10000)) for _ in range(count)]
     return lines[0] if count == 1 else b"begin\n" + b"".join(lines) + b"end\n"
 
+def tell_memory(session, nodes, workers, when, field):
+    """Tells a figure of the server's memory: VmRSS is what it holds, VmHWM the most that it held."""
+    held = next(int(line.split()[1]) * 1024 for line in open(f"/proc/{session.server.pid}/status") if line.startswith(field + ":"))
+    print(f"{workers} workers: {when} {held / 2**20:.0f} MB, {held / nodes:.0f} bytes a node", flush=True)
+
 def measure(program, folder, workers, nodes, arcs, marks, rounds):
     store, draw = str(folder / "grid.store"), random.Random(workers)
     began = time.perf_counter()
@@ -61,6 +67,7 @@ def measure(program, folder, workers, nodes, arcs, marks, rounds):
     session.server.stdout.readline()
     anew = time.perf_counter() - began - opening
     print(f"{workers} workers: a view anew: {anew:.2f} s, {anew / opening:.1f} of opening", flush=True)
+    tell_memory(session, nodes, workers, "before the first change", "VmRSS")
     for count in COUNTS:
         times = []
         for _ in range(rounds):
@@ -71,8 +78,8 @@ def measure(program, folder, workers, nodes, arcs, marks, rounds):
             times.append((shown - durable) / anew)
             time.sleep(0.05)
         print(f"{workers} workers: {count} arcs: median {statistics.median(times):.3f} of it ({min(times):.3f} to {max(times):.3f})", flush=True)
-    peak = next(int(line.split()[1]) * 1024 for line in open(f"/proc/{session.server.pid}/status") if line.startswith("VmHWM:"))
-    print(f"{workers} workers: peak {peak / 2**20:.0f} MB, {peak / nodes:.0f} bytes a node", flush=True)
+    tell_memory(session, nodes, workers, "between changes", "VmRSS")
+    tell_memory(session, nodes, workers, "peak", "VmHWM")
     session.end()
 
 def main():

@@ -2,3 +2,4 @@ pub mod Batched
 pub mod Unanswered
 pub mod Tabled
 pub mod Reached
+pub mod Refusing

@@ -33,12 +33,11 @@ length_below net (From source) node d ok least = bound_below net.nodes d (omega 
 length_below net (To target) node d ok least = bound_below net.nodes d (omega (arith, ok.nodes_to)) (least_is_bounded net node target d ok least)
 
 within_if : (limit : Option ℕ) (d : ℕ) → d ≤ unwrap_or limit most → IsWithin limit d
-within_if None d le = tt
-within_if (Some l) d le = le
+within_if limit d le = λ l is. let same : unwrap_or limit most ≡ l = ap (λ o. unwrap_or o most) is in omega (arith, same, le)
 
 within_only : (limit : Option ℕ) (d : ℕ) → d ≤ most → IsWithin limit d → d ≤ unwrap_or limit most
 within_only None d below within = below
-within_only (Some l) d below within = within
+within_only (Some l) d below within = within l refl
 
 -- what is told within the limit, or within the greatest number where there is none
 pub reach_within : (net : Net) (reach : Reach) (limit : Option ℕ) (told : List NodeDistance) → IsNetwork net → AreWithin net (IsLength net reach) (unwrap_or limit most) told → IsReach net reach limit told

@@ -16,13 +16,13 @@ pub reach_in-requires : goal.reach_in-requires
 reach_in-requires g c =
     let of = subst (λ (r : Reach). AreGroupsFor c.args.network.now r c.in_ok-groups.groups) c.in-From.is c.in_ok-groups.ensures in
     let node = subst (λ (r : Reach). IsNode c.args.network.now (center_of r)) c.in-From.is c.requires.node in
-    (node.0, subst (λ (n : ℕ). c.in-From.source ≤ n) (sym of.nodes) node.1)
+    record { source = (node.0, subst (λ (n : ℕ). c.in-From.source ≤ n) (sym of.nodes) node.1) }
 
 pub reached_in-requires : goal.reached_in-requires
 reached_in-requires g c =
     let of = subst (λ (r : Reach). AreGroupsFor c.args.network.now r c.in_ok-groups.groups) c.in-To.is c.in_ok-groups.ensures in
     let node = subst (λ (r : Reach). IsNode c.args.network.now (center_of r)) c.in-To.is c.requires.node in
-    (node.0, subst (λ (n : ℕ). c.in-To.target ≤ n) (sym of.nodes) node.1)
+    record { target = (node.0, subst (λ (n : ℕ). c.in-To.target ≤ n) (sym of.nodes) node.1) }
 
 pub returns-in-From : goal.returns-in-From
 returns-in-From g c =

@@ -3,11 +3,16 @@ use crate::serving::{Found, answers_of};
 use std::test::Fail;
 
 /// Lines, how the desk is found, and what a session with them writes.
-const SUPPOSED: [(&[u8], Found, &[u8]); 9] = [
+const SUPPOSED: [(&[u8], Found, &[u8]); 10] = [
     (
         b"suppose\nclose 7\nend\ndist 1 6\ndist 1 6\ndist 6 1\ndist 1 7\nfrom 3 4\nlower 1 6\nforget\ndist 1 6\nforget\n",
         Found::Serving,
         b"suppose 0\ns 0\nd 1 6 22\ns 0\nd 1 6 22\ns 0\nx 6 1\ns 0\nno 24\ns 0\nno 26\nno 1\nforgotten\nv 0\nd 1 6 15\nno 1\n",
+    ),
+    (
+        b"suppose\nclose 7\nmark 3\nmark 2\nend\nreach 1 10\nreached 4 2\nnearest 1 2\ntable 2 2 1 6 6 4\ntable 1 1 1 7\nreach 0 1\nforget\nreach 1 10\nnearest 1 2\n",
+        Found::Serving,
+        b"suppose 0\ns 0\nreach 1 3\nd 1 1 0\nd 1 3 10\nd 1 5 10\ns 0\nreached 4 2\nd 2 4 2\nd 4 4 0\ns 0\nnearest 1 2\nd 1 3 10\nd 1 2 17\ns 0\nd 1 6 22\nd 1 4 19\nd 6 6 0\nx 6 4\ns 0\nno 24\ns 0\nno 24\nforgotten\nv 0\nreach 1 4\nd 1 1 0\nd 1 2 10\nd 1 3 10\nd 1 5 10\nv 0\nnearest 1 0\n",
     ),
     (
         b"suppose\nclose 7\nend\nclose 6\nwait\ndist 1 6\nclosed\nforget\ndist 1 6\n",

@@ -1,5 +1,5 @@
 -- What a session supposes, and what it is told of that.
-use Rattle.std.proofs.Common.{◌≡◌, ◌∙◌, inl, inr, ℕ, ◌+◌, List, [], ◌∷◌, ◌++◌, length, Option, None, Some, refl, sym, subst}
+use Rattle.std.proofs.Common.{◌≡◌, ◌∙◌, inl, inr, ℕ, ◌+◌, List, [], ◌∷◌, ◌++◌, All, length, Option, None, Some, refl, sym, subst}
 use Rattle.std.proofs.KnownBytes.{Appends-nil}
 use Rattle.std.specs.Prelude.{Result, Ok, Err, IfOk, IfErr, OnOk}
 use Rattle.std.specs.Io.KnownBytes.{Appends}
@@ -8,25 +8,33 @@ use Rattle.roadnet.specs.declared.refusals.OutOfMemory.{OutOfMemory as NoMemory}
 use Rattle.roadnet.specs.declared.refusals.Refusal.{Refusal}
 use Rattle.roadnet.specs.declared.refusals.Refusal.TheVariants.{OutOfMemory}
 use Rattle.roadnet.specs.Batches.{MayRefuseBatch}
-use Rattle.roadnet.specs.Net.{Net}
+use Rattle.roadnet.specs.Net.{Net, IsNode}
 use Rattle.roadnet.specs.Numbers.{number_of}
 use Rattle.rows.specs.declared.queries.Query.{Query}
 use Rattle.rows.specs.declared.queries.Reply.{Reply}
 use Rattle.rows.specs.Replies.{IsRight}
-use Rattle.rows.specs.Views.{Viewed}
+use Rattle.rows.specs.Views.{AreRight, Viewed}
+use Rattle.deltastep.specs.declared.known.NodeDistance.{NodeDistance}
 use Rattle.history.specs.Origins.{Origin, Beginning}
 use Rattle.machine.specs.declared.calls.Ticket.{Ticket}
+use Rattle.desk.specs.declared.nearby.Near.{Near}
+use Rattle.desk.specs.Nearby.{node_of, IsNear}
 use Rattle.desk.specs.Readings.{IsViewAfter}
 use Rattle.dimacs.specs.declared.fault.Code.{Code}
+use Rattle.printing.specs.Nodes.{pair_lines}
 use Rattle.printing.specs.Printed.{refusal_line}
-use Rattle.suppositions.specs.Supposing.{Supposition, Supposes}
+use Rattle.suppositions.specs.Supposing.{Supposition, Supposes, IsUnanswered}
 use Rattle.sessions.specs.declared.answers.Accepted.{Accepted}
 use Rattle.sessions.specs.declared.lines.Line.{Line}
-use Rattle.sessions.specs.declared.lines.Line.TheVariants.{Query as a_query, Suppose, Forget, End}
+use Rattle.sessions.specs.declared.lines.Line.TheVariants.{Query as a_query, Near as a_near, Table as a_table, Suppose, Forget, End}
 use Rattle.sessions.specs.Copying.{Copying}
 use Rattle.sessions.specs.declared.drafts.Draft.{Draft}
 use Rattle.sessions.specs.Drafts.{Drafted, HasDraft, IsDraft, IsWhole, fault_of, next_supposing, with_line}
-use Rattle.sessions.specs.Supposing.{SupposesAfter, RefusesAfter, IsUnsupposed, IsToldSo, IsReplyIn, IsSupposedAnswer, supposed_lines, supposed_or_refusal, suppose_line, forgotten_line}
+use Rattle.sessions.specs.declared.tables.Table.{Table}
+use Rattle.sessions.specs.Listings.{sources_of, targets_of}
+use Rattle.sessions.specs.Nearby.{near_lines}
+use Rattle.sessions.specs.Supposing.{SupposesAfter, RefusesAfter, IsNearIn, IsUnsupposed, IsTableIn, IsToldSo, IsReplyIn, IsSupposedAnswer, supposed_line, supposed_lines, supposed_or_refusal, suppose_line, forgotten_line, untold_in}
+use Rattle.sessions.specs.Tables.{pairs_of}
 use Rattle.sessions.specs.Turns.{IsAnswer, IsSaid, IsSupposedEnd, Says, Tells, fault_number}
 use Rattle.sessions.proofs.Answered.{nothing_more}
 
@@ -53,6 +61,37 @@ found_told supposed query version (Ok reply) old new (Ok x) is right appends =
     (supposed_lines supposed.version query reply, inl (reply, right, refl), subst (λ (v : ℕ). Appends old new (supposed_lines v query reply)) is appends)
 found_told supposed query version (Err error) old new (Ok x) is right appends = (refusal_line (number_of OutOfMemory), inr refl, appends)
 found_told supposed query version found old new (Err e) is right appends = tt
+
+-- ---- what is told of the nodes near one
+pub found_near : {X E : Type 0} (supposed : Supposition) (near : Near) (version : ℕ) (found : List NodeDistance) (old new : Option (List ℕ)) (result : Result X E) → version ≡ supposed.version
+    → IsNode supposed.network (node_of near) → IsNear supposed.network near found → OnOk result (Appends old new (supposed_line version ++ near_lines near found)) → OnOk result (IsToldSo (IsNearIn supposed near) old new)
+found_near supposed near version found old new (Ok x) is there near_is appends =
+    (supposed_line supposed.version ++ near_lines near found, inl (found, there, near_is, refl), subst (λ (v : ℕ). Appends old new (supposed_line v ++ near_lines near found)) is appends)
+found_near supposed near version found old new (Err e) is there near_is appends = tt
+
+pub found_no_near : {X E : Type 0} (supposed : Supposition) (near : Near) (version : ℕ) (refusal : Refusal) (old new : Option (List ℕ)) (result : Result X E) → version ≡ supposed.version
+    → IsUnanswered (IsNode supposed.network (node_of near)) refusal → OnOk result (Appends old new (untold_in version refusal)) → OnOk result (IsToldSo (IsNearIn supposed near) old new)
+found_no_near supposed near version refusal old new (Ok x) is cause appends =
+    (untold_in supposed.version refusal, inr (refusal, cause, refl), subst (λ (v : ℕ). Appends old new (untold_in v refusal)) is appends)
+found_no_near supposed near version refusal old new (Err e) is cause appends = tt
+
+-- ---- what is told of a table
+pub found_table : {X E : Type 0} (supposed : Supposition) (sources targets : List ℕ) (version : ℕ) (pairs : List (ℕ × ℕ)) (replies : List Reply) (old new : Option (List ℕ)) (result : Result X E) → version ≡ supposed.version
+    → All (IsNode supposed.network) (sources ++ targets) → pairs ≡ pairs_of sources targets → AreRight supposed.network (pairs_of sources targets) replies
+    → OnOk result (Appends old new (supposed_line version ++ pair_lines pairs replies)) → OnOk result (IsToldSo (IsTableIn supposed sources targets) old new)
+found_table supposed sources targets version pairs replies old new (Ok x) is there pairs_are right appends =
+    let at : Appends old new (supposed_line supposed.version ++ pair_lines pairs replies) = subst (λ (v : ℕ). Appends old new (supposed_line v ++ pair_lines pairs replies)) is appends in (
+      supposed_line supposed.version ++ pair_lines (pairs_of sources targets) replies,
+      inl (replies, there, right, refl),
+      subst (λ (ps : List (ℕ × ℕ)). Appends old new (supposed_line supposed.version ++ pair_lines ps replies)) pairs_are at,
+    )
+found_table supposed sources targets version pairs replies old new (Err e) is there pairs_are right appends = tt
+
+pub found_no_table : {X E : Type 0} (supposed : Supposition) (sources targets : List ℕ) (version : ℕ) (refusal : Refusal) (old new : Option (List ℕ)) (result : Result X E) → version ≡ supposed.version
+    → IsUnanswered (All (IsNode supposed.network) (sources ++ targets)) refusal → OnOk result (Appends old new (untold_in version refusal)) → OnOk result (IsToldSo (IsTableIn supposed sources targets) old new)
+found_no_table supposed sources targets version refusal old new (Ok x) is cause appends =
+    (untold_in supposed.version refusal, inr (refusal, cause, refl), subst (λ (v : ℕ). Appends old new (untold_in v refusal)) is appends)
+found_no_table supposed sources targets version refusal old new (Err e) is cause appends = tt
 
 -- ---- what is told of the end of a group
 module _ {X E : Type 0} (origin : Origin) (known : List Group) (drafted : Drafted) (old new : Option (List ℕ)) where
@@ -111,6 +150,20 @@ query_said copying origin supposed query before last known had has old new (Ok x
     record { told = so.0; durable = []; is_said = (refl, so.1, refl, same); kept = nothing_more origin had has kept; written = so.2 }
 query_said copying origin supposed query before last known had has old new (Err e) same kept so = tt
 
+pub near_said : {X E : Type 0} (copying : Copying) (origin : Origin) (supposed : Supposition) (near : Near) (before last : Option Accepted) (known : List Group) (had has : Option Beginning) (old new : Option (List ℕ)) (result : Result X E)
+    → last ≡ before → has ≡ had → OnOk result (IsToldSo (IsNearIn supposed near) old new)
+    → OnOk result (Says copying origin None (Some supposed) (Some supposed) None (a_near near) before last known had has old new)
+near_said copying origin supposed near before last known had has old new (Ok x) same kept so =
+    record { told = so.0; durable = []; is_said = (refl, so.1, refl, same); kept = nothing_more origin had has kept; written = so.2 }
+near_said copying origin supposed near before last known had has old new (Err e) same kept so = tt
+
+pub table_said : {X E : Type 0} (copying : Copying) (origin : Origin) (supposed : Supposition) (table : Table) (before last : Option Accepted) (known : List Group) (had has : Option Beginning) (old new : Option (List ℕ)) (result : Result X E)
+    → last ≡ before → has ≡ had → OnOk result (IsToldSo (IsTableIn supposed (sources_of table) (targets_of table)) old new)
+    → OnOk result (Says copying origin None (Some supposed) (Some supposed) None (a_table table) before last known had has old new)
+table_said copying origin supposed table before last known had has old new (Ok x) same kept so =
+    record { told = so.0; durable = []; is_said = (refl, so.1, refl, same); kept = nothing_more origin had has kept; written = so.2 }
+table_said copying origin supposed table before last known had has old new (Err e) same kept so = tt
+
 -- a line that doesn't end the group
 pub next_held : (group : Drafted) (draft : Option Drafted) (line : Line) (new : Draft) → (line ≡ End → ⊥) → IsDraft (with_line group line) new → HasDraft (next_supposing (Some group) draft line) (Some new)
 next_held group draft End new other is = absurd (other refl)
@@ -125,12 +178,14 @@ alone copying origin (a_query query) before last known told durable other is = (
 alone copying origin _ before last known told durable other is = (refl, is)
 
 beside : (copying : Copying) (origin : Origin) (supposed : Supposition) (line : Line) (before last : Option Accepted) (known : List Group) (told : List ℕ) (durable : List Ticket) → (line ≡ Suppose → ⊥) → (line ≡ Forget → ⊥)
-    → ((query : Query) → line ≡ a_query query → ⊥) → IsAnswer copying origin None line before last known told durable
+    → ((query : Query) → line ≡ a_query query → ⊥) → ((near : Near) → line ≡ a_near near → ⊥) → ((table : Table) → line ≡ a_table table → ⊥) → IsAnswer copying origin None line before last known told durable
     → IsSaid copying origin None (Some supposed) (Some supposed) None line before last known told durable
-beside copying origin supposed Suppose before last known told durable other stays none is = absurd (other refl)
-beside copying origin supposed Forget before last known told durable other stays none is = absurd (stays refl)
-beside copying origin supposed (a_query query) before last known told durable other stays none is = absurd (none query refl)
-beside copying origin supposed _ before last known told durable other stays none is = (refl, is)
+beside copying origin supposed Suppose before last known told durable other stays none far sole is = absurd (other refl)
+beside copying origin supposed Forget before last known told durable other stays none far sole is = absurd (stays refl)
+beside copying origin supposed (a_query query) before last known told durable other stays none far sole is = absurd (none query refl)
+beside copying origin supposed (a_near near) before last known told durable other stays none far sole is = absurd (far near refl)
+beside copying origin supposed (a_table table) before last known told durable other stays none far sole is = absurd (sole table refl)
+beside copying origin supposed _ before last known told durable other stays none far sole is = (refl, is)
 
 module _ {X E : Type 0} (copying : Copying) (origin : Origin) (line : Line) (before last : Option Accepted) (known : List Group) (had has : Option Beginning) (old new : Option (List ℕ)) where
   pub group_as_ever : (was : Option Supposition) (draft : Drafted) (result : Result X E) → OnOk result (Tells copying origin (Some draft) line before last known had has old new)
@@ -143,8 +198,8 @@ module _ {X E : Type 0} (copying : Copying) (origin : Origin) (line : Line) (bef
   alone_as_ever (Ok x) other t = record { told = t.told; durable = t.durable; is_said = alone copying origin line before last known t.told t.durable other t.is_answer; kept = t.kept; written = t.written }
   alone_as_ever (Err e) other t = tt
 
-  pub beside_as_ever : (supposed : Supposition) (result : Result X E) → (line ≡ Suppose → ⊥) → (line ≡ Forget → ⊥) → ((query : Query) → line ≡ a_query query → ⊥)
+  pub beside_as_ever : (supposed : Supposition) (result : Result X E) → (line ≡ Suppose → ⊥) → (line ≡ Forget → ⊥) → ((query : Query) → line ≡ a_query query → ⊥) → ((near : Near) → line ≡ a_near near → ⊥) → ((table : Table) → line ≡ a_table table → ⊥)
       → OnOk result (Tells copying origin None line before last known had has old new) → OnOk result (Says copying origin None (Some supposed) (Some supposed) None line before last known had has old new)
-  beside_as_ever supposed (Ok x) other stays none t =
-      record { told = t.told; durable = t.durable; is_said = beside copying origin supposed line before last known t.told t.durable other stays none t.is_answer; kept = t.kept; written = t.written }
-  beside_as_ever supposed (Err e) other stays none t = tt
+  beside_as_ever supposed (Ok x) other stays none far sole t =
+      record { told = t.told; durable = t.durable; is_said = beside copying origin supposed line before last known t.told t.durable other stays none far sole t.is_answer; kept = t.kept; written = t.written }
+  beside_as_ever supposed (Err e) other stays none far sole t = tt

@@ -32,7 +32,7 @@ use Rattle.sessions.specs.Tables.{pairs_of}
 use Rattle.sessions.specs.Drafts.{Drafted, fault_of, next_draft, next_draft_beside, next_supposing}
 use Rattle.sessions.specs.Reads.{ReadsOne, FailsInLine, ReadsLine}
 use Rattle.sessions.specs.Stated.{state_or_refusal}
-use Rattle.sessions.specs.Supposing.{SupposesAfter, IsUnsupposed, IsSupposedAnswer, suppose_line, forgotten_line}
+use Rattle.sessions.specs.Supposing.{SupposesAfter, IsUnsupposed, IsNearIn, IsSupposedAnswer, IsTableIn, suppose_line, forgotten_line}
 use Rattle.suppositions.specs.Supposing.{Supposition}
 use Rattle.sessions.specs.Told.{HaveReceipts, HasMore, Settles, Replies, IsLooked, IsCopied, IsReached, ShowsLast, IsUnshown, known_to, told_durable}
 
@@ -90,8 +90,8 @@ IsSupposedEnd origin known None group (Some supposed) told = SupposesAfter origi
 IsSupposedEnd origin known None group None told = (refusal : Refusal) × IsUnsupposed origin known group refusal × (told ≡ refusal_line (number_of refusal))
 
 -- What a line is told, where these lines are to be supposed and this is supposed, and what is supposed then. Lines of a group that is to be supposed are
--- told nothing before its end, and nothing of it is accepted. What is supposed stays until `forget` or another `suppose`; queries are answered in it, and
--- each other line as if nothing were supposed.
+-- told nothing before its end, and nothing of it is accepted. What is supposed stays until `forget` or another `suppose`; queries, nodes near one and tables
+-- are answered in it, and each other line as if nothing were supposed.
 abbrev pub IsSaid : Copying → Origin → Option Drafted → Option Supposition → Option Supposition → Option Drafted → Line → Option Accepted → Option Accepted → List Group → List ℕ → List Ticket → Type 0
 IsSaid copying origin (Some group) was is draft End before last known told durable = IsSupposedEnd origin known (fault_of group) group.commands is told × (durable ≡ []) × (last ≡ before)
 IsSaid copying origin (Some group) was is draft other before last known told durable = (is ≡ was) × (told ≡ []) × (durable ≡ []) × (last ≡ before)
@@ -100,6 +100,10 @@ IsSaid copying origin None was is None Suppose before last known told durable = 
 IsSaid copying origin None (Some supposed) is None Forget before last known told durable = (is ≡ None) × (told ≡ forgotten_line) × (durable ≡ []) × (last ≡ before)
 IsSaid copying origin None (Some supposed) is None (Query query) before last known told durable =
     (is ≡ Some supposed) × IsSupposedAnswer supposed query told × (durable ≡ []) × (last ≡ before)
+IsSaid copying origin None (Some supposed) is None (a_near near) before last known told durable =
+    (is ≡ Some supposed) × IsNearIn supposed near told × (durable ≡ []) × (last ≡ before)
+IsSaid copying origin None (Some supposed) is None (a_table table) before last known told durable =
+    (is ≡ Some supposed) × IsTableIn supposed (sources_of table) (targets_of table) told × (durable ≡ []) × (last ≡ before)
 IsSaid copying origin None was is None line before last known told durable = (is ≡ was) × IsAnswer copying origin None line before last known told durable
 
 -- The writer has this answer and no more. The beginning of the history that the session has goes on to one with what is told to be durable.

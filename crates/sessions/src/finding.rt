@@ -33,7 +33,7 @@ use std::sync::Wait;
 use std::thread::Threads;
 
 /// The lines of what is found near a node.
-fn put_near<W: Write>(
+pub(crate) fn put_near<W: Write>(
     out: &mut CountedWriter<'_, W>,
     near: Near,
     found: &[NodeDistance],

@@ -3,6 +3,7 @@
 
 mod answering;
 mod answers;
+mod around;
 mod clients;
 mod copies;
 mod doors;
@@ -16,8 +17,8 @@ mod past;
 mod reading;
 mod serving;
 mod stating;
-mod tables;
 mod supposing;
+mod tables;
 mod telling;
 mod told_supposed;
 mod words;

@@ -41,7 +41,8 @@ pub struct Terms<'a, C> {
 /// shown, from a glance too, which is held until they are written), `reach S L`, `reached T L`, `nearest S K` and `table A B S.. T..` (`v V` and lines of
 /// lengths, all in the network of that version, or `no CODE`), `wait` (`v V` once the session's last accepted group is shown, or `no CODE`),
 /// `until N` (`v V` once version N is shown), `state` (how the desk stands, in a line), `copy NAME` (`copied V` once a copy of the network that is shown
-/// is made under this name, of 1 to 64 letters, digits, `-` and `_`, or `no CODE`; `no 1` where no copies are made) and `quit`. The lines `begin` and `end` enclose the commands of a group: nothing is answered before its end, which answers for the whole, `ok N` once it
+/// is made under this name, of 1 to 64 letters, digits, `-` and `_`, or `no CODE`; `no 1` where no copies are made), `suppose`, behind which the commands of a group and `end` stand (`suppose V`: from then on queries, nodes near one and tables are answered in the
+/// network of version V with the group carried out, behind `s V`, or `no CODE`), `forget` (`forgotten`: what was supposed is no more; or `no 1`) and `quit`. The lines `begin` and `end` enclose the commands of a group: nothing is answered before its end, which answers for the whole, `ok N` once it
 /// is durable, or the code of its first line that has a fault, or `no CODE`. A group that `quit` or the end of the input cuts off is dropped. Lines with no field and comments, which begin with `#`, have no answer; any other line has `no 1` or `no 5`. No line is too long:
 /// a line takes no memory, but a table 8 bytes a number; a group takes 32 bytes a command. A last line that no line feed ends is a line, or is dropped, as the terms say: what is
 /// carried out are whole lines alone then.

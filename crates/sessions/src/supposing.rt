@@ -8,6 +8,7 @@ ghost use Rattle.sessions.specs.Told.{known_to};
 ghost use Rattle.sessions.specs.Turns.{IsSupposedEnd, Says};
 
 use crate::answers::Session;
+use crate::around::{answer_near, answer_table};
 use crate::copies::Copies;
 use crate::drafts::{Draft, NoGroup};
 use crate::lines::{Line, is_end, is_suppose};
@@ -177,6 +178,16 @@ impl Supposing {
                 self.supposed = Some(supposed);
                 told
             }
+            Line::Near(near) => {
+                let told = answer_near(rt, alloc, &mut supposed, near, out);
+                self.supposed = Some(supposed);
+                told
+            }
+            Line::Table(table) => {
+                let told = answer_table(rt, alloc, &mut supposed, &table, out);
+                self.supposed = Some(supposed);
+                told
+            }
             _ => {
                 self.supposed = Some(supposed);
                 session.answer(alloc, desk, copies, line, out)
@@ -259,7 +270,7 @@ impl Supposing {
     }
 
     /// Writes the answer to a line, if it has one, and sends it out: what lines of a group that is to be supposed say stays here, and nothing is written before its
-    /// end; queries are answered in what is supposed, if something is; and all else is the session's. The one error is a failed write.
+    /// end; queries, nodes near one and tables are answered in what is supposed, if something is; and all else is the session's. The one error is a failed write.
     pub(crate) fn answer<
         N: Naming,
         D: Disk + Drop,

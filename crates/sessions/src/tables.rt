@@ -29,7 +29,7 @@ pub(crate) struct Table {
 
 impl Table {
     /// Its sources, and its targets.
-    fn halves(&self) -> (&[u64], &[u64])
+    pub(crate) fn halves(&self) -> (&[u64], &[u64])
         ensures sources { result.0.now ≡ sources_of self.now }
         ensures targets { result.1.now ≡ targets_of self.now }
     {

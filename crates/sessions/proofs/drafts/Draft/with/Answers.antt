@@ -44,7 +44,9 @@ returns-in-Table c draft is = rw c.in-Table.is (c.faulty-in-Table.ensures draft 
 
 pub returns-in-Unkept : goal.returns-in-Unkept
 returns-in-Unkept c draft is = rw c.in-Unkept.is (c.faulty-in-Unkept.ensures draft is)
+
 pub returns-in-Suppose : goal.returns-in-Suppose
 returns-in-Suppose c draft is = rw c.in-Suppose.is (c.faulty-in-Suppose.ensures draft is)
+
 pub returns-in-Forget : goal.returns-in-Forget
 returns-in-Forget c draft is = rw c.in-Forget.is (c.faulty-in-Forget.ensures draft is)

@@ -59,8 +59,8 @@ sources_refused {X = X} items a b c left first third net nodes r failed same e n
     let told = told_err 1 r failed e in
     if_three a b c (λ x. content x ≡ Ok net) (λ y. Reads (nodes_text nodes) y left (map_ok items r)) (λ z. ⊤) (λ x y z. IsRefusedTable x y z first (OfReader left) third failed)
     (λ x y z is read any.
-      let fault = subst (λ n. FaultOf (nodes_text n) y (OfReader left) told.0) same (subst (λ (q : Result X Fault). Reads (nodes_text nodes) y left (map_ok items q)) told.1 read) in
-      subst (λ f. IsRefusedTable x y z first (OfReader left) third f) (sym told.2) (record { net = net; network_is = is; holds = fault }))
+    let fault = subst (λ n. FaultOf (nodes_text n) y (OfReader left) told.0) same (subst (λ (q : Result X Fault). Reads (nodes_text nodes) y left (map_ok items q)) told.1 read) in
+    subst (λ f. IsRefusedTable x y z first (OfReader left) third f) (sym told.2) (record { net = net; network_is = is; holds = fault }))
     network reads (if_any c)
 
 -- or of the targets
@@ -71,8 +71,8 @@ targets_refused {X = X} items a b c left first second net list nodes r failed sa
     let told = told_err 2 r failed e in
     if_three a b c (λ x. content x ≡ Ok net) (λ y. nodes_in net y ≡ Ok list) (λ z. Reads (nodes_text nodes) z left (map_ok items r)) (λ x y z. IsRefusedTable x y z first second (OfReader left) failed)
     (λ x y z is listed read.
-      let fault = subst (λ n. FaultOf (nodes_text n) z (OfReader left) told.0) same (subst (λ (q : Result X Fault). Reads (nodes_text nodes) z left (map_ok items q)) told.1 read) in
-      subst (λ f. IsRefusedTable x y z first second (OfReader left) f) (sym told.2) (record { net = net; network_is = is; holds = (list, listed, fault) }))
+    let fault = subst (λ n. FaultOf (nodes_text n) z (OfReader left) told.0) same (subst (λ (q : Result X Fault). Reads (nodes_text nodes) z left (map_ok items q)) told.1 read) in
+    subst (λ f. IsRefusedTable x y z first second (OfReader left) f) (sym told.2) (record { net = net; network_is = is; holds = (list, listed, fault) }))
     network sources reads
 
 -- none has a fault
@@ -90,7 +90,7 @@ pub table_unanswered : {X : Type 0} (a b c : Option (List ℕ)) (first second th
 table_unanswered a b c first second third net list list' r network sources targets =
     kind_of (λ failed. IfSome a (λ network. IfSome b (λ from. IfSome c (λ to. IsRefusedTable network from to first second third failed)))) r
     (λ refusal h. if_three a b c (λ x. content x ≡ Ok net) (λ y. nodes_in net y ≡ Ok list) (λ z. nodes_in net z ≡ Ok list') (λ x y z. IsRefusedTable x y z first second third (Code refusal))
-      (λ x y z is listed listed'. given_refused x y z first second third refusal h (gives net x y z list list' is listed listed')) network sources targets)
+    (λ x y z is listed listed'. given_refused x y z first second third refusal h (gives net x y z list list' is listed listed')) network sources targets)
 
 -- ---- of texts in memory
 

@@ -236,7 +236,8 @@ fn pairs_word<'w>(alloc: Global) -> Result<Arg<'w>, AllocError> {
         .action(ArgAction::Set)
         .help(P2P_HELP)
         .required_unless_present(SOURCES)?
-        .conflicts_with_all(&[SOURCES, TARGETS])
+        .conflicts_with(SOURCES)?
+        .conflicts_with(TARGETS)
 }
 
 /// An option `--from SS`.

@@ -301,7 +301,7 @@ fn named_pairs<'w>(
     sources: Option<&'w str>,
     targets: Option<&'w str>,
 ) -> Option<PairTexts<'w>>
-    ensures { option_map pair_names result ≡ names_given (option_map (λ name. name.now) pairs) (option_map (λ name. name.now) sources) (option_map (λ name. name.now) targets) }
+    ensures { option_map pair_names result ≡ names_given (option_map (λ name. name.now) pairs.entry) (option_map (λ name. name.now) sources.entry) (option_map (λ name. name.now) targets.entry) }
 {
     match (pairs, sources, targets) {
         (Some(pairs), None, None) => Some(PairTexts::Listed { pairs }),
@@ -574,7 +574,7 @@ pub fn is_input(name: &str) -> bool
 
 /// Whether texts of pairs, or the text of a network beside them, are twice the standard input.
 fn pairs_name_input_twice(pairs: PairTexts<'_>, has_input: bool) -> bool
-    ensures { Decides result (ComesTwice has_input pairs) }
+    ensures { Decides result (ComesTwice has_input pairs.entry) }
 {
     match pairs {
         PairTexts::Listed { pairs } => has_input && is_input(pairs),

@@ -77,12 +77,12 @@ found_no_near supposed near version refusal old new (Err e) is cause appends = t
 
 -- ---- what is told of a table
 pub found_table : {X E : Type 0} (supposed : Supposition) (sources targets : List ℕ) (version : ℕ) (pairs : List (ℕ × ℕ)) (replies : List Reply) (old new : Option (List ℕ)) (result : Result X E) → version ≡ supposed.version
-    → All (IsNode supposed.network) (sources ++ targets) → pairs ≡ pairs_of sources targets → AreRight supposed.network (pairs_of sources targets) replies
+    → All (IsNode supposed.network) (sources ++ targets) → pairs ≡ pairs_of sources targets → AreRight supposed.network pairs replies
     → OnOk result (Appends old new (supposed_line version ++ pair_lines pairs replies)) → OnOk result (IsToldSo (IsTableIn supposed sources targets) old new)
 found_table supposed sources targets version pairs replies old new (Ok x) is there pairs_are right appends =
     let at : Appends old new (supposed_line supposed.version ++ pair_lines pairs replies) = subst (λ (v : ℕ). Appends old new (supposed_line v ++ pair_lines pairs replies)) is appends in (
       supposed_line supposed.version ++ pair_lines (pairs_of sources targets) replies,
-      inl (replies, there, right, refl),
+      inl (replies, there, subst (λ (ps : List (ℕ × ℕ)). AreRight supposed.network ps replies) pairs_are right, refl),
       subst (λ (ps : List (ℕ × ℕ)). Appends old new (supposed_line supposed.version ++ pair_lines ps replies)) pairs_are at,
     )
 found_table supposed sources targets version pairs replies old new (Err e) is there pairs_are right appends = tt

@@ -157,7 +157,7 @@ fn find_table<R: Threads>(
     table: &Table,
 ) -> Result<Told, Refusal>
     ensures pairs { IfOk result (λ told. told.pairs.items ≡ pairs_of (sources_of table.now) (targets_of table.now)) }
-    ensures right { IfOk result (λ told. AreRight supposed.old.network (pairs_of (sources_of table.now) (targets_of table.now)) told.replies.items) }
+    ensures right { IfOk result (λ told. AreRight supposed.old.network told.pairs.items told.replies.items) }
     ensures nodes { OnOk result (All (IsNode supposed.old.network) (sources_of table.now ++ targets_of table.now)) }
     ensures refused { IfErr result (IsUnanswered (All (IsNode supposed.old.network) (sources_of table.now ++ targets_of table.now))) }
     ensures same { supposed.new ≡ supposed.old }

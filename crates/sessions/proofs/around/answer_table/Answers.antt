@@ -1,0 +1,13 @@
+use Rattle.std.proofs.Common.{rules}
+use Rattle.sessions.specs.Listings.{sources_of, targets_of}
+use Rattle.sessions.proofs.Supposed.{found_table, found_no_table}
+use Rattle.sessions.proofs.around.answer_table.Goals as goal
+
+pub returns-in-Ok-clause-told : goal.returns-in-Ok-clause-told
+returns-in-Ok-clause-told g c =
+    found_table _ (sources_of c.args.table.now) (targets_of c.args.table.now) c.version-version.result c.in-Ok.told.pairs.items c.in-Ok.told.replies.items _ _ c.tell_pairs.result (search rules) (search rules) (search rules) (search rules)
+    c.tell_pairs.ensures.ok
+
+pub returns-in-Err-clause-told : goal.returns-in-Err-clause-told
+returns-in-Err-clause-told g c =
+    found_no_table _ (sources_of c.args.table.now) (targets_of c.args.table.now) c.version-version.result c.in-Err.refusal _ _ c.tell_untold.result (search rules) (search rules) c.tell_untold.ensures.ok

@@ -52,7 +52,7 @@ returns-in-Err-of_text-2-clause-refused g c =
     let read = value_of vec_items 0 c.read_nodes_counted-sources_read.result c.in-Ok-of_text.from c.in-Ok-of_text.ensures (λ r. IfSome first (λ text. Reads (nodes_text c.nodes-count.result) text left r)) c.read_nodes_counted-sources_read.ensures.read in
     fault_of vec_items 1 c.read_nodes_counted-targets_read.result c.in-Err-of_text-2.failed c.in-Err-of_text-2.ensures (λ r. IfSome second (λ text. Reads (nodes_text c.nodes-count.result) text left' r)) c.read_nodes_counted-targets_read.ensures.read
     (λ failed. IfSome first (λ from. IfSome second (λ to. IsRefusedTable (g.D.Disk.honest c.args.disk) (g.D.Disk.content c.args.disk) from to (OfReader left) (OfReader left') failed)))
-    (target_fault_known _ _ c.in-Ok.store.network c.in-Ok.store.version c.nodes-count.result c.in-Ok.ensures.stands nodes c.in-Ok-of_text.from.items first second left left' read)
+    (λ fault said. target_fault_known _ _ c.in-Ok.store.network c.in-Ok.store.version c.nodes-count.result c.in-Ok.ensures.stands nodes c.in-Ok-of_text.from.items first second left left' fault read said)
 
 pub returns-clause-answered : goal.returns-clause-answered
 returns-clause-answered g c =

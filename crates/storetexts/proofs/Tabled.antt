@@ -1,5 +1,5 @@
 -- The pairs between the nodes of two texts, answered by a store that was opened.
-use Rattle.std.proofs.Common.{◌≡◌, ◌≤◌, ℕ, List, Option, None, Some, Result, Ok, Err, refl, subst, inl, inr, false, true, arith}
+use Rattle.std.proofs.Common.{◌≡◌, ℕ, List, Option, None, Some, Result, Ok, Err, refl, subst, inl, inr, false, true}
 use Rattle.std.specs.Prelude.{IfSome, OnOk, IfErr, ⊤}
 use Rattle.roadnet.specs.declared.refusals.Refusal.{Refusal}
 use Rattle.roadnet.specs.declared.refusals.Refusal.TheVariants.{Write, OutOfMemory}

@@ -1,6 +1,4 @@
-use Rattle.std.proofs.Common.{inl, inr, ap, ◌∙◌}
-use Rattle.roadnet.specs.Net.{Net}
-use Rattle.store.specs.Migrating.{roomed}
+use Rattle.std.proofs.Common.{inl, inr}
 use Rattle.storetexts.proofs.Made.{marked_room, room_fits, no_room}
 use Rattle.storetexts.proofs.creating.planned.Goals as goal
 

@@ -43,7 +43,7 @@ use Rattle.printing.specs.Looks.{look_lines}
 use Rattle.sessions.specs.Stated.{state_or_refusal}
 use Rattle.sessions.specs.Copying.{Copying, IsUnmade, no_copying}
 use Rattle.sessions.specs.declared.names.Name.{Name}
-use Rattle.sessions.specs.declared.tables.Table.{Table}
+use Rattle.sessions.specs.declared.asked_tables.Table.{Table}
 use Rattle.sessions.specs.Listings.{sources_of, targets_of}
 use Rattle.sessions.specs.Nearby.{IsNearAnswer, IsTableAnswer, IsToldAfter, WritesSo, near_lines, untold_lines}
 use Rattle.sessions.specs.SessionLines.{name_of}

@@ -30,7 +30,7 @@ use Rattle.sessions.specs.declared.lines.Line.TheVariants.{Query as a_query, Nea
 use Rattle.sessions.specs.Copying.{Copying}
 use Rattle.sessions.specs.declared.drafts.Draft.{Draft}
 use Rattle.sessions.specs.Drafts.{Drafted, HasDraft, IsDraft, IsWhole, fault_of, next_supposing, with_line}
-use Rattle.sessions.specs.declared.tables.Table.{Table}
+use Rattle.sessions.specs.declared.asked_tables.Table.{Table}
 use Rattle.sessions.specs.Listings.{sources_of, targets_of}
 use Rattle.sessions.specs.Nearby.{near_lines}
 use Rattle.sessions.specs.Supposing.{SupposesAfter, RefusesAfter, IsNearIn, IsUnsupposed, IsTableIn, IsToldSo, IsReplyIn, IsSupposedAnswer, supposed_line, supposed_lines, supposed_or_refusal, suppose_line, forgotten_line, untold_in}

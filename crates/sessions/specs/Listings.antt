@@ -7,7 +7,7 @@ use Rattle.dimacs.specs.Faults.{Row, size_of, some_numeral}
 use Rattle.dimacs.specs.Numerals.{numeral}
 use Rattle.sessions.specs.declared.tables.Listing.{Listing}
 use Rattle.sessions.specs.declared.tables.Listing.TheVariants.{Numbers, Faulty, Unkept}
-use Rattle.sessions.specs.declared.tables.Table.{Table}
+use Rattle.sessions.specs.declared.asked_tables.Table.{Table}
 use Rattle.sessions.specs.Tables.{is_table_size, table_code}
 
 -- a size as the program keeps it

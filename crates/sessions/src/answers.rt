@@ -1,5 +1,6 @@
 //! What a session answers, by its desk.
-ghost use Rattle.std.specs.Prelude.{◌≡◌, ◌<◌, ◌≤◌, ◌+◌, ◌∷◌, [], length, true, false, Option, None, Some, IfOk, IfErr, IfSome, IsOk, IsSome, OnFalse, OnOk, OnTrue};
+ghost use Rattle.std.specs.Prelude.{◌≡◌, ◌<◌, ◌≤◌, ◌+◌, ◌∷◌, [], length, true, false, Option, None, Some, IfOk, IfErr, IfSome, IsOk, IsSome, OnOk};
+ghost use Rattle.std.specs.Bool.{OnFalse, OnTrue};
 ghost use Rattle.std.specs.Option.{ForSome};
 ghost use mathlib.Core.List.{IsPrefix};
 ghost use Rattle.published.specs.Showing.{IsUnseen};

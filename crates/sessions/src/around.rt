@@ -12,8 +12,8 @@ ghost use Rattle.sessions.specs.Nearby.{near_lines};
 ghost use Rattle.sessions.specs.Supposing.{supposed_line, untold_in, IsNearIn, IsTableIn, IsToldSo};
 ghost use Rattle.sessions.specs.Tables.{pairs_of};
 
+use crate::asked_tables::Table;
 use crate::finding::put_near;
-use crate::tables::Table;
 use deltastep::NodeDistance;
 use desk::Near;
 use printing::{CountedWriter, Failed, put_numbered, put_pairs, put_refusal};

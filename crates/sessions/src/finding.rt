@@ -17,7 +17,7 @@ ghost use Rattle.sessions.specs.Told.{known_to};
 ghost use Rattle.sessions.specs.Turns.{Tells};
 
 use crate::answers::Session;
-use crate::tables::Table;
+use crate::asked_tables::Table;
 use crate::telling::tell_refusal;
 use deltastep::NodeDistance;
 use desk::{Gate, Glance, Handle, Naming, Near};

@@ -4,6 +4,7 @@
 mod answering;
 mod answers;
 mod around;
+mod asked_tables;
 mod clients;
 mod copies;
 mod doors;

@@ -12,10 +12,11 @@ ghost use Rattle.sessions.specs.SessionLines.{IsLine};
 ghost use Rattle.sessions.specs.Judging.{IsStage, IsSoFar};
 ghost use Rattle.sessions.specs.Turns.{is_quit};
 
+use crate::asked_tables::Table;
 use crate::fields::{Field, Numbers, one_of, three_of, two_of};
 use crate::letters::Letters;
 use crate::names::{Name, is_name_byte};
-use crate::tables::{Listing, Table};
+use crate::tables::Listing;
 use crate::words::{Bare, One, Two, Word};
 use desk::Near;
 use dimacs::{Code, Numeral, TwoNumbers};

@@ -1,4 +1,4 @@
-//! The numbers of a line `table`, taken one by one, and what the line asks for.
+//! The numbers of a line `table`, taken one by one, and the pairs that they ask for.
 ghost use Rattle.std.specs.Prelude.{◌≡◌, ◌||◌, ◌+◌, ◌≤◌, ◌++◌, ◌∷◌, [], List, ℕ, Some, length, map, min, slice_index_or, IfOk, OnOk};
 ghost use lib.Chars.{codes};
 ghost use Rattle.dimacs.specs.Commands.{is_refused};
@@ -8,6 +8,7 @@ ghost use Rattle.sessions.specs.Listings.{AreListed, IsListing, has_room, is_siz
 ghost use Rattle.sessions.specs.SessionLines.{IsLine};
 ghost use Rattle.sessions.specs.Tables.{is_table_size, pairs_of};
 
+use crate::asked_tables::Table;
 use crate::fields::Field;
 use crate::lines::Line;
 use dimacs::{Code, Numeral};
@@ -16,16 +17,6 @@ use std::alloc::Global;
 
 /// The most pairs that a table has.
 const MOST_PAIRS: u64 = 16_777_216;
-
-/// What a line `table` asks for: the lengths of all pairs of its sources and its targets. It takes 8 bytes a number.
-#[derive(Drop)]
-pub(crate) struct Table {
-    /// All numbers of the line: how many sources and how many targets, the sources, the targets.
-    numbers: Vec<u64>,
-    /// How many sources.
-    sources: usize,
-    ghost fits: { sources + 2 ≤ length numbers.items },
-}
 
 impl Table {
     /// Its sources, and its targets.

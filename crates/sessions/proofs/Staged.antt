@@ -162,7 +162,7 @@ first_alone front letters is =
 no_line : (first : ℕ) (w : List ℕ) → first ≢ 35 → word_from (first ∷ w) ≡ None → session_code ((first ∷ w) ∷ []) ≡ Some BadLine
 no_line first w plain none =
     elim (cases_Bool (bytes_eq (first ∷ w) (codes "table"))) [
-      | inl yes ↦ rw (copy_alone (first ∷ w), yes) refl
+      | inl spelled ↦ rw (copy_alone (first ∷ w), spelled) refl
       | inr other ↦ unknown_row first w [] plain none (copy_alone (first ∷ w)) other
     ]
 

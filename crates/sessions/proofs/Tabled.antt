@@ -48,28 +48,31 @@ small a b is =
     let one : 1 ≤ a = leb-true 1 a parts.0 in
     let two : 1 ≤ b = leb-true 1 b others.0 in
     let product : a * b ≤ 16777216 = leb-true (a * b) 16777216 others.1 in
-    let left : a ≤ a * b = le-mul_of_pos_right a (omega (arith, two)) in
-    let right : b ≤ a * b = rw (mul_comm b a) at (le-mul_of_pos_right b (omega (arith, one))) in
+    let some : 0 < a = omega (arith, one) in
+    let more : 0 < b = omega (arith, two) in
+    let left : a ≤ a * b = le-mul_of_pos_right a more in
+    let turned : b ≤ b * a = le-mul_of_pos_right b some in
+    let right : b ≤ a * b = rw (mul_comm b a) at turned in
     (omega (arith, product, left), omega (arith, product, right))
 
 -- whether counts are those of a table is told by what is kept of them
 size_kept : (a b : ℕ) → is_table_size (min a (2 ^ 64 - 1)) (min b (2 ^ 64 - 1)) ≡ is_table_size a b
 size_kept a b =
     elim (cases_Bool (is_table_size a b)) [
-      | inl yes ↦
-          let s = small a b yes in
+      | inl sized ↦
+          let s = small a b sized in
           let a_is : min a (2 ^ 64 - 1) ≡ a = omega (arith, s.0) in
           let b_is : min b (2 ^ 64 - 1) ≡ b = omega (arith, s.1) in
           rw (a_is, b_is) refl
-      | inr no ↦
-          false_from_ne_true _ (λ yes.
-          let s = small (min a (2 ^ 64 - 1)) (min b (2 ^ 64 - 1)) yes in
+      | inr amiss ↦
+          false_from_ne_true _ (λ sized.
+          let s = small (min a (2 ^ 64 - 1)) (min b (2 ^ 64 - 1)) sized in
           let a_is : min a (2 ^ 64 - 1) ≡ a = omega (arith, s.0) in
           let b_is : min b (2 ^ 64 - 1) ≡ b = omega (arith, s.1) in
-          let still : is_table_size a b ≡ true = rw (a_is, b_is) at yes in
+          let still : is_table_size a b ≡ true = rw (a_is, b_is) at sized in
           let absurdity : ⊥ = cc in
           absurdity)
-          ∙ sym no
+          ∙ sym amiss
     ]
 
 -- of fields of which none is refused the sizes are as they are kept
@@ -119,14 +122,14 @@ module _ (row : Row) (sizes : List ℕ) (refused : Bool) (are : AreListed row si
   pub other_table : is_whole sizes ≡ false → is_no_table row ≡ true
   other_table other =
       elim (cases_Bool (is_table_size (size_at row 0) (size_at row 1))) [
-        | inr no ↦ rw no refl
+        | inr amiss ↦ rw amiss refl
         | inl sized ↦
             let differs : length row ≢ numbers_of_table row = λ same.
             let whole : is_whole sizes ≡ true = rw (sized_is ∙ sized, eq-eqb (length sizes) (numbers_by sizes) (count_is ∙ same ∙ sym (numbers_is sized))) refl in
             let absurdity : ⊥ = cc in
             absurdity in
-            let no : eqb (length row) (numbers_of_table row) ≡ false = ne_eqb _ _ differs in
-            rw (sized, no) refl
+            let amiss : eqb (length row) (numbers_of_table row) ≡ false = ne_eqb _ _ differs in
+            rw (sized, amiss) refl
       ]
 
   -- its sources and its targets
@@ -139,14 +142,14 @@ module _ (row : Row) (sizes : List ℕ) (refused : Bool) (are : AreListed row si
   -- no number may follow
   pub full_table : has_room sizes ≡ false → (field : List ℕ) (more : Row) → is_no_table (row ++ field ∷ more) ≡ true
   full_table full field more =
-      let parts = or_parts _ _ full in
+      let parts : (nat_lt (length sizes) 2 ≡ false) × ((is_sized sizes && nat_lt (length sizes) (numbers_by sizes)) ≡ false) = or_parts _ _ full in
       let two : 2 ≤ length row = omega (arith, ltb-false (length sizes) 2 parts.0, count_is) in
       let first : size_at (row ++ field ∷ more) 0 ≡ size_at row 0 = ap size_of (get_or-append row (field ∷ more) [] 0 (omega (arith, two))) in
       let second : size_at (row ++ field ∷ more) 1 ≡ size_at row 1 = ap size_of (get_or-append row (field ∷ more) [] 1 (omega (arith, two))) in
       let numbers : numbers_of_table (row ++ field ∷ more) ≡ numbers_of_table row = rw (first, second) refl in
       let size : is_table_size (size_at (row ++ field ∷ more) 0) (size_at (row ++ field ∷ more) 1) ≡ is_table_size (size_at row 0) (size_at row 1) = rw (first, second) refl in
       elim (cases_Bool (is_table_size (size_at row 0) (size_at row 1))) [
-        | inr no ↦ let none = size ∙ no in rw none refl
+        | inr amiss ↦ let none = size ∙ amiss in rw none refl
         | inl sized ↦
             let some = size ∙ sized in
             let last : (is_sized sizes && nat_lt (length sizes) (numbers_by sizes)) ≡ false = parts.1 in
@@ -154,8 +157,8 @@ module _ (row : Row) (sizes : List ℕ) (refused : Bool) (are : AreListed row si
             let long : numbers_by sizes ≤ length sizes = ltb-false (length sizes) (numbers_by sizes) beyond in
             let least : numbers_of_table row ≤ length row = omega (arith, long, count_is, numbers_is sized) in
             let longer : length (row ++ field ∷ more) ≡ length row + length (field ∷ more) = length-append row (field ∷ more) in
-            let no : eqb (length (row ++ field ∷ more)) (numbers_of_table (row ++ field ∷ more)) ≡ false = ne_eqb _ _ (λ same. omega (arith, same, numbers, least, longer)) in
-            rw (some, no) refl
+            let amiss : eqb (length (row ++ field ∷ more)) (numbers_of_table (row ++ field ∷ more)) ≡ false = ne_eqb _ _ (λ same. omega (arith, same, numbers, least, longer)) in
+            rw (some, amiss) refl
       ]
 
 -- a field that is no numeral
@@ -175,13 +178,13 @@ no_number_row row field more e =
     let here : list_any test (field ∷ []) ≡ true = rw none refl in
     let front : list_any test (row ++ field ∷ []) ≡ true = list_any-append test row (field ∷ []) ∙ or_first (list_any test row) _ here in
     let all : list_any test ((row ++ field ∷ []) ++ more) ≡ true = list_any-append test (row ++ field ∷ []) more ∙ rw front refl in
-    let no : is_no_table ((row ++ field ∷ []) ++ more) ≡ true = or_last _ _ _ all in
-    rw no refl
+    let amiss : is_no_table ((row ++ field ∷ []) ++ more) ≡ true = or_last _ _ _ all in
+    rw amiss refl
 
 pub full_row : (row : Row) (sizes : List ℕ) (refused : Bool) → AreListed row sizes refused → has_room sizes ≡ false → (field : List ℕ) (more : Row) → table_code ((row ++ field ∷ []) ++ more) ≡ Some BadLine
 full_row row sizes refused are full field more =
-    let no : is_no_table ((row ++ field ∷ []) ++ more) ≡ true = subst (λ (r : Row). is_no_table r ≡ true) (sym (append_assoc row (field ∷ []) more)) (full_table row sizes refused are full field more) in
-    rw no refl
+    let amiss : is_no_table ((row ++ field ∷ []) ++ more) ≡ true = subst (λ (r : Row). is_no_table r ≡ true) (sym (append_assoc row (field ∷ []) more)) (full_table row sizes refused are full field more) in
+    rw amiss refl
 
 pub still_faulty : (row : Row) (field : List ℕ) → IsListing row Faulty → IsListing (row ++ field ∷ []) Faulty
 still_faulty row field is more = rw (append_assoc row (field ∷ []) more) (is (field ∷ more))
@@ -233,7 +236,7 @@ pub faulty_line : (row : Row) → IsListing row Faulty → IsLine (codes "table"
 faulty_line row is = let code : table_code row ≡ Some BadLine = rw (append-nil row) at (is []) in code
 
 pub no_table_line : (row : Row) → is_no_table row ≡ true → IsLine (codes "table" ∷ row) (Refused BadLine)
-no_table_line row no = rw no refl
+no_table_line row amiss = rw amiss refl
 
 pub range_line : (row : Row) → is_no_table row ≡ false → some_numeral is_refused row ≡ true → IsLine (codes "table" ∷ row) (Refused NumberRange)
 range_line row whole bad = rw (whole, bad) refl
@@ -257,7 +260,7 @@ table_asked row sizes refused are sources whole none sources_are =
 
 pub whole_fits : (sizes : List ℕ) → is_whole sizes ≡ true → slice_index_or sizes 0 0 + 2 ≤ length sizes
 whole_fits sizes whole =
-    let parts = and_parts _ _ whole in
+    let parts : (is_sized sizes ≡ true) × (eqb (length sizes) (numbers_by sizes) ≡ true) = and_parts _ _ whole in
     let count : length sizes ≡ numbers_by sizes = eqb-true (length sizes) (numbers_by sizes) parts.1 in
     omega (arith, count)
 

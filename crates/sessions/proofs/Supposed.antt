@@ -94,23 +94,23 @@ found_no_table supposed sources targets version refusal old new (Ok x) is cause 
 found_no_table supposed sources targets version refusal old new (Err e) is cause appends = tt
 
 -- ---- what is told of the end of a group
-module _ {X E : Type 0} (origin : Origin) (known : List Group) (drafted : Drafted) (old new : Option (List ℕ)) where
+module _ (origin : Origin) (known : List Group) (drafted : Drafted) (old new : Option (List ℕ)) where
   end_so : (fault found : Option Code) (supposed : Option Supposition) (told : List ℕ) → fault ≡ found → IsSupposedEnd origin known found drafted.commands supposed told → Appends old new told
       → IsToldSo (IsSupposedEnd origin known fault drafted.commands supposed) old new
   end_so fault found supposed told e is appends = (told, rw e is, appends)
 
-  pub fault_end : (code : Code) (result : Result X E) → fault_of drafted ≡ Some code → OnOk result (Appends old new (refusal_line (fault_number code)))
+  pub fault_end : {X E : Type 0} (code : Code) (result : Result X E) → fault_of drafted ≡ Some code → OnOk result (Appends old new (refusal_line (fault_number code)))
       → OnOk result (IsToldSo (IsSupposedEnd origin known (fault_of drafted) drafted.commands None) old new)
   fault_end code (Ok x) fault appends = end_so (fault_of drafted) (Some code) None _ fault (refl, refl) appends
   fault_end code (Err e) fault appends = tt
 
-  pub refused_end : (refusal : Refusal) (group : Group) (result : Result X E) → fault_of drafted ≡ None → group ≡ drafted.commands → IsUnsupposed origin known group refusal
+  pub refused_end : {X E : Type 0} (refusal : Refusal) (group : Group) (result : Result X E) → fault_of drafted ≡ None → group ≡ drafted.commands → IsUnsupposed origin known group refusal
       → OnOk result (Appends old new (refusal_line (number_of refusal))) → OnOk result (IsToldSo (IsSupposedEnd origin known (fault_of drafted) drafted.commands None) old new)
   refused_end refusal group (Ok x) none is cause appends =
       end_so (fault_of drafted) None None _ none (refusal, subst (λ (g : Group). IsUnsupposed origin known g refusal) is cause, refl) appends
   refused_end refusal group (Err e) none is cause appends = tt
 
-  pub supposed_end : (supposed : Supposition) (group : Group) (version : ℕ) (result : Result X E) → fault_of drafted ≡ None → group ≡ drafted.commands → version ≡ supposed.version
+  pub supposed_end : {X E : Type 0} (supposed : Supposition) (group : Group) (version : ℕ) (result : Result X E) → fault_of drafted ≡ None → group ≡ drafted.commands → version ≡ supposed.version
       → SupposesAfter origin known group supposed → OnOk result (Appends old new (suppose_line version)) → OnOk result (IsToldSo (IsSupposedEnd origin known (fault_of drafted) drafted.commands (Some supposed)) old new)
   supposed_end supposed group version (Ok x) none is version_is supposes appends =
       end_so (fault_of drafted) None (Some supposed) _ none (subst (λ (g : Group). SupposesAfter origin known g supposed) is supposes, refl)

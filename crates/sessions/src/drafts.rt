@@ -87,7 +87,7 @@ impl Draft {
             Line::Query(_) => self.faulty(Code::BadLine),
             Line::Look(_) => self.faulty(Code::BadLine),
             Line::Near(_) => self.faulty(Code::BadLine),
-            Line::Table(_) => self.faulty(Code::BadLine),
+            Line::Table(_table) => self.faulty(Code::BadLine),
             Line::Unkept => self.faulty(Code::BadLine),
             Line::Copy(_) => self.faulty(Code::BadLine),
             Line::Wait => self.faulty(Code::BadLine),

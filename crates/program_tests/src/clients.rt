@@ -1,5 +1,6 @@
 //! Clients at pairs of pipes, beside a session on standard input.
-use crate::runs::{is_done, is_refused, new_folder};
+use crate::folders::{folder_of, remove};
+use crate::runs::{is_done, is_refused};
 use desk::Setup;
 use dimacs::Counted;
 use filedisk::{FileDisk, SystemFile, open_file};
@@ -9,12 +10,12 @@ use std::alloc::{AllocError, Global};
 use std::fs::File;
 use std::io::{self, BufReader, ErrorKind, PipeReader, PipeWriter, Read, Write};
 use std::os::fd::AsRawFd;
+use std::process::Abort;
 use std::rt::Files;
 use std::sync::Wait;
 use std::test::Fail;
 use std::thread::Threads;
 use std::time::Clock;
-use std::{fs, process};
 
 /// A client's side of a pair of pipes, both ends of each of which are open.
 #[derive(Drop)]
@@ -99,18 +100,18 @@ where
     if pipes.len() > 60 {
         return Ok(false);
     }
-    let setup = Setup {
-        delta: None,
-        workers: 1,
-    };
-    let mut reader = BufReader::new(rt.alloc(), behind)?;
-    let mut output = Vec::new(rt.alloc());
-    let mut reader = Counted::new(&mut reader);
-    let mut writer = CountedWriter::new(&mut output);
     let Ok(pipes) = see_pipes(&FileNames { rt: &rt }, pipes) else {
         return Ok(false);
     };
     let doors = doors_of(rt, rt.alloc(), pipes, false)?;
+    let mut reader = BufReader::new(rt.alloc(), behind)?;
+    let mut output = Vec::new(rt.alloc());
+    let mut reader = Counted::new(&mut reader);
+    let mut writer = CountedWriter::new(&mut output);
+    let setup = Setup {
+        delta: None,
+        workers: 1,
+    };
     let gate = Teller { rt };
     let served = serve_disk(
         rt,
@@ -131,36 +132,46 @@ where
     Ok(told && output.as_slice() == answers)
 }
 
-/// Two clients are served at their pipes beside the session on standard input, by one desk: what one changes the others see. A line that is cut off at a pipe, also one that would end a group,
-/// is not carried out. Refused is a body that serves no door, one pair alone, or takes such a line.
-#[test]
-fn clients_at_pipes(rt: HostRuntime) -> Result<(), Fail> {
-    let id = process::id(rt.process());
-    let name = format!(in rt.alloc(); "roadmark-clients-{id}")?;
-    let folder = new_folder(&rt, name.as_str())?;
-    is_done(
-        &rt,
-        folder.as_str(),
-        "create new.store six.gr six.ss",
-        "ok 0\n",
-    );
-    let path = format!(in rt.alloc(); "{}/new.store", folder.as_str())?;
-    let one = client(&rt, b"close 7\nwait\ndist 1 6\nset 1 9")?;
-    let two = client(&rt, b"hello\nclose 9\nbegin\nset 3 1\nend")?;
-    let in_one = name_of(rt.alloc(), &one.lines)?;
-    let out_one = name_of(rt.alloc(), &one.answers)?;
-    let in_two = name_of(rt.alloc(), &two.lines)?;
-    let out_two = name_of(rt.alloc(), &two.answers)?;
-    let pipes = [
-        PipePair {
-            input: in_one.as_str(),
-            output: out_one.as_str(),
-        },
-        PipePair {
-            input: in_two.as_str(),
-            output: out_two.as_str(),
-        },
-    ];
+/// The names of a client's pipes.
+#[derive(Drop)]
+struct Names {
+    input: String,
+    output: String,
+}
+
+/// The names of this client's pipes.
+fn names_of(alloc: Global, side: &Side) -> Result<Names, AllocError> {
+    let input = name_of(alloc, &side.lines)?;
+    let output = name_of(alloc, &side.answers)?;
+    Ok(Names { input, output })
+}
+
+/// A pair by its pipes' names.
+fn pair_of(names: &Names) -> PipePair<'_> {
+    PipePair {
+        input: names.input.as_str(),
+        output: names.output.as_str(),
+    }
+}
+
+/// The sessions of these two clients, and the lines of a standard input behind them.
+fn serve_clients<
+    R: AllocGlobal
+        + Files<File = File>
+        + Threads
+        + Wait
+        + Clock
+        + Eprint
+        + Copy
+        + Send
+        + Sync
+        + 'static,
+>(rt: R, disk: FileDisk<SystemFile>, one: Side, two: Side) -> Result<bool, Fail>
+where
+    R::Dir: Send + 'static,
+{
+    let names = [names_of(rt.alloc(), &one)?, names_of(rt.alloc(), &two)?];
+    let pipes = [pair_of(&names[0]), pair_of(&names[1])];
     let behind = Behind {
         alloc: rt.alloc(),
         first: one.answers,
@@ -169,60 +180,141 @@ fn clients_at_pipes(rt: HostRuntime) -> Result<(), Fail> {
         are_told: false,
         lines: b"dist 1 6\nset 8 4",
     };
-    let Ok(disk) = open_file(&rt, path.as_str()) else {
+    serve_two(rt, disk, &pipes, behind, b"v 1\nd 1 6 22\nok 2\n")
+}
+
+/// The same over the store of this path.
+fn serve_store<
+    R: AllocGlobal
+        + Files<File = File>
+        + Threads
+        + Wait
+        + Clock
+        + Eprint
+        + Copy
+        + Send
+        + Sync
+        + 'static,
+>(rt: R, path: &str) -> Result<bool, Fail>
+where
+    R::Dir: Send + 'static,
+{
+    let one = client(&rt, b"close 7\nwait\ndist 1 6\nset 1 9")?;
+    let two = client(&rt, b"hello\nclose 9\nbegin\nset 3 1\nend")?;
+    let Ok(disk) = open_file(&rt, path) else {
         return Err(Fail::from(io::Error::from(ErrorKind::Other)));
     };
-    assert!(rt; serve_two(rt, disk, &pipes, behind, b"v 1\nd 1 6 22\nok 2\n")?);
-    is_done(
-        &rt,
-        folder.as_str(),
-        "check new.store",
-        "v 2\nslot A 1\njournal 2\n",
-    );
-    fs::remove_dir_all(&rt, folder.as_str())?;
+    serve_clients(rt, disk, one, two)
+}
+
+/// Two clients are served at their pipes beside the session on standard input, by one desk: what one changes the others see. A line that is cut off at a pipe, also one that would end a group,
+/// is not carried out. Refused is a body that serves no door, one pair alone, or takes such a line.
+#[test]
+fn clients_at_pipes(rt: HostRuntime) -> Result<(), Fail> {
+    let folder = folder_of(&rt, rt.process(), "clients")?;
+    let create = "create new.store six.gr six.ss";
+    is_done(&rt, folder.as_str(), create, "ok 0\n");
+    let path = format!(in rt.alloc(); "{}/new.store", folder.as_str())?;
+    assert!(rt; serve_store(rt, path.as_str())?);
+    let looked = "v 2\nslot A 1\njournal 2\n";
+    is_done(&rt, folder.as_str(), "check new.store", looked);
+    remove(&rt, folder.as_str())
+}
+
+/// The two names of a pair, of which an empty one stands for that of a pipe, and the name that is told.
+const NO_PIPES: [(&str, &str, &str); 6] = [
+    ("six.gr", "six.ss", "six.gr"),
+    ("", "six.ss", "six.ss"),
+    ("none", "", "none"),
+    ("", ".", "."),
+    ("/dev/null", "", "/dev/null"),
+    ("", "new.store", "new.store"),
+];
+
+/// The name, or that of a pipe where it is empty.
+fn or_pipe<'a>(name: &'a str, pipe: &'a str) -> &'a str {
+    if name.is_empty() { pipe } else { name }
+}
+
+/// A server at these names of pipes tells of this one that it is no pipe.
+fn is_no_pipe<
+    R: Abort
+        + AllocGlobal
+        + Files<File = File>
+        + Threads
+        + Wait
+        + Clock
+        + Eprint
+        + Copy
+        + Send
+        + Sync
+        + 'static,
+>(rt: &R, folder: &str, input: &str, output: &str, named: &str) -> Result<(), Fail>
+where
+    R::Dir: Send + 'static,
+{
+    let words = format!(in rt.alloc(); "serve new.store {input} {output}")?;
+    let told = format!(in rt.alloc(); "roadmark: {named}: line 0: 10 Read\n")?;
+    is_refused(rt, folder, words.as_str(), told.as_str());
     Ok(())
+}
+
+/// The same of each pair of the table, and of a second pair.
+fn are_no_pipes<
+    R: Abort
+        + AllocGlobal
+        + Files<File = File>
+        + Threads
+        + Wait
+        + Clock
+        + Eprint
+        + Copy
+        + Send
+        + Sync
+        + 'static,
+>(rt: &R, folder: &str, pipe: &str, other: &str) -> Result<(), Fail>
+where
+    R::Dir: Send + 'static,
+{
+    for (input, output, named) in NO_PIPES {
+        let (input, output) = (or_pipe(input, pipe), or_pipe(output, pipe));
+        is_no_pipe(rt, folder, input, output, named)?;
+    }
+    let more = format!(in rt.alloc(); "{other} none six.gr")?;
+    is_no_pipe(rt, folder, pipe, more.as_str(), "none")
+}
+
+/// The same with the names of a client's pipes.
+fn pipes_of_a_client<
+    R: Abort
+        + AllocGlobal
+        + Files<File = File>
+        + Threads
+        + Wait
+        + Clock
+        + Eprint
+        + Copy
+        + Send
+        + Sync
+        + 'static,
+>(rt: &R, folder: &str) -> Result<(), Fail>
+where
+    R::Dir: Send + 'static,
+{
+    let side = client(rt, b"")?;
+    let names = names_of(rt.alloc(), &side)?;
+    are_no_pipes(rt, folder, names.input.as_str(), names.output.as_str())
 }
 
 /// A name that is none of a pipe is told, the first such one, and nothing is served: not even that the store is none is told behind it. Refused is a body that takes files, folders or nothing
 /// for pipes, that looks at one pipe of a pair alone, or that tells another name.
 #[test]
 fn names_of_no_pipes(rt: HostRuntime) -> Result<(), Fail> {
-    let id = process::id(rt.process());
-    let name = format!(in rt.alloc(); "roadmark-no-pipes-{id}")?;
-    let folder = new_folder(&rt, name.as_str())?;
-    is_done(
-        &rt,
-        folder.as_str(),
-        "create new.store six.gr six.ss",
-        "ok 0\n",
-    );
-    let side = client(&rt, b"")?;
-    let pipe = name_of(rt.alloc(), &side.lines)?;
-    let other = name_of(rt.alloc(), &side.answers)?;
-    let pipe = pipe.as_str();
-    let other = other.as_str();
-    let table = [
-        ("six.gr", "six.ss", "six.gr"),
-        (pipe, "six.ss", "six.ss"),
-        ("none", pipe, "none"),
-        (pipe, ".", "."),
-        ("/dev/null", pipe, "/dev/null"),
-        (pipe, "new.store", "new.store"),
-    ];
-    for (input, output, named) in table {
-        let words = format!(in rt.alloc(); "serve new.store {input} {output}")?;
-        let told = format!(in rt.alloc(); "roadmark: {named}: line 0: 10 Read\n")?;
-        is_refused(&rt, folder.as_str(), words.as_str(), told.as_str());
-    }
-    let words = format!(in rt.alloc(); "serve new.store {pipe} {other} none six.gr")?;
-    let told = "roadmark: none: line 0: 10 Read\n";
-    is_refused(&rt, folder.as_str(), words.as_str(), told);
-    is_done(
-        &rt,
-        folder.as_str(),
-        "check new.store",
-        "v 0\nslot A 1\njournal 0\n",
-    );
-    fs::remove_dir_all(&rt, folder.as_str())?;
-    Ok(())
+    let folder = folder_of(&rt, rt.process(), "no-pipes")?;
+    let create = "create new.store six.gr six.ss";
+    is_done(&rt, folder.as_str(), create, "ok 0\n");
+    pipes_of_a_client(&rt, folder.as_str())?;
+    let looked = "v 0\nslot A 1\njournal 0\n";
+    is_done(&rt, folder.as_str(), "check new.store", looked);
+    remove(&rt, folder.as_str())
 }

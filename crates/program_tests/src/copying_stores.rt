@@ -1,7 +1,7 @@
 //! The word `copy`, on files.
-use crate::runs::{is_done, is_refused, new_folder};
+use crate::folders::{folder_of, remove, size_in, write_in};
+use crate::runs::{are_done, is_done, is_refused};
 use std::test::Fail;
-use std::{fs, process};
 
 /// What each word prints, one behind the other: a store is copied, also with more room or another journal, and keeps its version; the copy goes on by
 /// itself, and is copied as any store is.
@@ -22,45 +22,48 @@ const COPIED: [(&str, &str); 12] = [
 
 #[test]
 fn copies_of_a_store(rt: HostRuntime) -> Result<(), Fail> {
-    let alloc = rt.alloc();
-    let id = process::id(rt.process());
-    let name = format!(in alloc; "roadmark-copied-{id}")?;
-    let folder = new_folder(&rt, name.as_str())?;
-    let folder = folder.as_str();
-    let path = format!(in alloc; "{folder}/new.commands")?;
-    fs::write(&rt, path.as_str(), "lay 6 1 7\nlay 1 6 20\n")?;
-    for (words, told) in COPIED {
-        is_done(&rt, folder, words, told);
-    }
-    fs::remove_dir_all(&rt, folder)?;
-    Ok(())
+    let folder = folder_of(&rt, rt.process(), "copied")?;
+    let commands = b"lay 6 1 7\nlay 1 6 20\n";
+    write_in(&rt, folder.as_str(), "new.commands", commands)?;
+    are_done(&rt, folder.as_str(), &COPIED);
+    remove(&rt, folder.as_str())
 }
 
 /// What `copy` is refused for, in its order.
 const REFUSED: [(&str, &str); 6] = [
-    ("copy none.store new.store", "none.store: line 0: 10 Read"),
-    ("copy six.store six.store", "six.store: line 0: 10 Read"),
-    ("copy six.gr six.store --room 1", "46 NotEmpty"),
-    ("copy six.gr new.store --room 1", "40 NotAStore"),
-    ("copy six.store new.store --room 7", "9 TooLarge"),
-    ("copy six.store new.store --room 67108865", "9 TooLarge"),
+    (
+        "copy none.store new.store",
+        "roadmark: none.store: line 0: 10 Read\n",
+    ),
+    (
+        "copy six.store six.store",
+        "roadmark: six.store: line 0: 10 Read\n",
+    ),
+    ("copy six.gr six.store --room 1", "roadmark: 46 NotEmpty\n"),
+    ("copy six.gr new.store --room 1", "roadmark: 40 NotAStore\n"),
+    (
+        "copy six.store new.store --room 7",
+        "roadmark: 9 TooLarge\n",
+    ),
+    (
+        "copy six.store new.store --room 67108865",
+        "roadmark: 9 TooLarge\n",
+    ),
 ];
 
 /// The new file is not there behind that.
 #[test]
 fn refused_copies(rt: HostRuntime) -> Result<(), Fail> {
-    let alloc = rt.alloc();
-    let id = process::id(rt.process());
-    let name = format!(in alloc; "roadmark-uncopied-{id}")?;
-    let folder = new_folder(&rt, name.as_str())?;
-    let folder = folder.as_str();
-    is_done(&rt, folder, "create six.store six.gr six.ss", "ok 0\n");
-    let new = format!(in alloc; "{folder}/new.store")?;
+    let folder = folder_of(&rt, rt.process(), "uncopied")?;
+    let six = "create six.store six.gr six.ss";
+    is_done(&rt, folder.as_str(), six, "ok 0\n");
     for (words, told) in REFUSED {
-        let line = format!(in alloc; "roadmark: {told}\n")?;
-        is_refused(&rt, folder, words, line.as_str());
-        assert!(rt; fs::read(&rt, new.as_str()).is_err(), "{words}");
+        is_refused(&rt, folder.as_str(), words, told);
+        assert_eq!(rt;
+            size_in(&rt, folder.as_str(), "new.store")?,
+            None,
+            "{words}"
+        );
     }
-    fs::remove_dir_all(&rt, folder)?;
-    Ok(())
+    remove(&rt, folder.as_str())
 }

@@ -12,6 +12,8 @@ mod copying_stores;
 #[cfg(test)]
 mod exporting;
 #[cfg(test)]
+mod folders;
+#[cfg(test)]
 mod migrating;
 #[cfg(test)]
 mod runs;

@@ -1,6 +1,7 @@
 //! A session's file: how long it is locked. And what the session tells of a builder that ended.
 
-use crate::runs::{is_done, new_folder};
+use crate::folders::{folder_of, remove};
+use crate::runs::is_done;
 use crate::shell::{Shell, is_kept};
 use desk::{Gate, Setup};
 use dimacs::Counted;
@@ -8,14 +9,13 @@ use filedisk::{FileDisk, SystemFile, open_file};
 use printing::CountedWriter;
 use program::{FileNames, Teller, doors_of, see_pipes, serve_disk};
 use std::fs::File;
-use std::io::ErrorKind;
+use std::io::{self, ErrorKind};
 use std::rt::Files;
 use std::sync::atomic::{AtomicU64, Ordering};
 use std::sync::{Arc, Wait};
 use std::test::Fail;
 use std::thread::{self, Threads};
 use std::time::{Clock, Duration};
-use std::{fs, io, process};
 
 /// What is seen of a file that a session has locked.
 #[derive(Drop)]
@@ -95,13 +95,14 @@ fn serve_one<
 where
     R::Dir: Send + 'static,
 {
+    let Ok(no_pipes) = see_pipes(&FileNames { rt: &rt }, &[]) else {
+        return Ok(false);
+    };
+    let doors = doors_of(rt, rt.alloc(), no_pipes, false)?;
     let lock = disk.lock()?;
     let setup = Setup {
         delta: None,
         workers: 1,
-    };
-    let Ok(no_pipes) = see_pipes(&FileNames { rt: &rt }, &[]) else {
-        return Ok(false);
     };
     let mut input = b"set 8 5\n".as_slice();
     let mut output = Vec::new(rt.alloc());
@@ -114,7 +115,7 @@ where
         gate,
         setup,
         Some(lock),
-        doors_of(rt, rt.alloc(), no_pipes, false)?,
+        doors,
         None,
         &mut reader,
         &mut writer,
@@ -126,17 +127,46 @@ where
     Ok(told && output.as_slice() == b"ok 1\n".as_slice())
 }
 
-/// A session's file is locked until nothing more is written, and the lock is let go before the last view is built. The journal has one page, so a
-/// checkpoint follows the flush: while the session ends its step is held up, and then the two rows of the view. Refused is a body that never lets
-/// the lock go, one that does so behind the desk's close, and one that does so before all is written.
-#[test]
-fn the_lock_of_a_session(rt: HostRuntime) -> Result<(), Fail> {
-    let id = process::id(rt.process());
-    let name = format!(in rt.alloc(); "roadmark-lock-{id}")?;
-    let folder = new_folder(&rt, name.as_str())?;
-    let create = "create --journal 1 new.store six.gr six.ss";
-    is_done(&rt, folder.as_str(), create, "ok 0\n");
-    let path = format!(in rt.alloc(); "{}/new.store", folder.as_str())?;
+/// The same over the store of this path, whose lock is watched.
+fn serve_watched<
+    R: AllocGlobal
+        + Files<File = File>
+        + Threads
+        + Wait
+        + Clock
+        + Eprint
+        + Copy
+        + Send
+        + Sync
+        + 'static,
+>(rt: R, path: &str, seen: Arc<Seen>) -> Result<bool, Fail>
+where
+    R::Dir: Send + 'static,
+{
+    let other = File::open(&rt, path)?;
+    let gate = Watch { rt, other, seen };
+    let Ok(disk) = open_file(&rt, path) else {
+        return Err(Fail::from(io::Error::from(ErrorKind::Other)));
+    };
+    serve_one(rt, disk, gate)
+}
+
+/// What is seen: whether the session was done, how many steps were made, before how many of them the file was free, and before how many rows.
+fn watched<
+    R: AllocGlobal
+        + Files<File = File>
+        + Threads
+        + Wait
+        + Clock
+        + Eprint
+        + Copy
+        + Send
+        + Sync
+        + 'static,
+>(rt: R, path: &str) -> Result<(bool, [u64; 3]), Fail>
+where
+    R::Dir: Send + 'static,
+{
     let seen = Arc::new(
         rt.alloc(),
         Seen {
@@ -145,20 +175,26 @@ fn the_lock_of_a_session(rt: HostRuntime) -> Result<(), Fail> {
             rows: AtomicU64::new(0),
         },
     )?;
-    let gate = Watch {
-        rt,
-        other: File::open(&rt, path.as_str())?,
-        seen: Arc::try_clone(&seen)?,
-    };
-    let Ok(disk) = open_file(&rt, path.as_str()) else {
-        return Err(Fail::from(io::Error::from(ErrorKind::Other)));
-    };
-    assert!(rt; serve_one(rt, disk, gate)?);
-    assert!(rt; seen.steps.load(Ordering::SeqCst) > 0);
-    assert_eq!(rt; seen.early.load(Ordering::SeqCst), 0);
-    assert_eq!(rt; seen.rows.load(Ordering::SeqCst), 2);
-    fs::remove_dir_all(&rt, folder.as_str())?;
-    Ok(())
+    let is_done = serve_watched(rt, path, Arc::try_clone(&seen)?)?;
+    let steps = seen.steps.load(Ordering::SeqCst);
+    let early = seen.early.load(Ordering::SeqCst);
+    let rows = seen.rows.load(Ordering::SeqCst);
+    Ok((is_done, [steps, early, rows]))
+}
+
+/// A session's file is locked until nothing more is written, and the lock is let go before the last view is built. The journal has one page, so a
+/// checkpoint follows the flush: while the session ends its step is held up, and then the two rows of the view. Refused is a body that never lets
+/// the lock go, one that does so behind the desk's close, and one that does so before all is written.
+#[test]
+fn the_lock_of_a_session(rt: HostRuntime) -> Result<(), Fail> {
+    let folder = folder_of(&rt, rt.process(), "lock")?;
+    let create = "create --journal 1 new.store six.gr six.ss";
+    is_done(&rt, folder.as_str(), create, "ok 0\n");
+    let path = format!(in rt.alloc(); "{}/new.store", folder.as_str())?;
+    let (is_done, [steps, early, rows]) = watched(rt, path.as_str())?;
+    assert!(rt; is_done && steps > 0);
+    assert_eq!(rt; (early, rows), (0, 2));
+    remove(&rt, folder.as_str())
 }
 
 /// A builder that ended is told on standard error, in one line, and nothing is held up. Refused is a body that tells nothing, and one that

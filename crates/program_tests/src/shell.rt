@@ -114,6 +114,28 @@ impl<'a, R: AllocGlobal> Shell<'a, R> {
     }
 }
 
+/// What fails a run.
+#[derive(Clone, Copy)]
+pub enum Trouble {
+    /// This file can't be opened.
+    Absent(&'static str),
+    /// New files are opened for reading alone.
+    Blunt,
+    /// This write to the standard output fails, counted from 1.
+    CutAt(usize),
+}
+
+impl<'a, R> Shell<'a, R> {
+    /// The run is failed so.
+    pub fn beset(&mut self, trouble: Trouble) {
+        match trouble {
+            Trouble::Absent(file) => self.absent = file,
+            Trouble::Blunt => self.blunt = true,
+            Trouble::CutAt(write) => self.fails_at = write,
+        }
+    }
+}
+
 impl<'a, R: AllocGlobal> Shell<'a, R> {
     /// The whole name of a file.
     fn at(&self, path: &str) -> io::Result<PathBuf> {
@@ -135,6 +157,17 @@ fn append(to: &RefCell<String>, text: &str) -> io::Result<()> {
 pub fn is_kept(kept: &RefCell<String>, text: &str) -> bool {
     match kept.try_borrow() {
         Ok(kept) => kept.as_str() == text,
+        Err(_) => false,
+    }
+}
+
+/// Whether the text that is kept is the first of these, and behind it the second.
+pub fn is_kept_behind(kept: &RefCell<String>, first: &str, second: &str) -> bool {
+    match kept.try_borrow() {
+        Ok(kept) => match kept.as_str().strip_prefix(first) {
+            Some(rest) => rest == second,
+            None => false,
+        },
         Err(_) => false,
     }
 }

@@ -1,18 +1,20 @@
 //! What `--verbose` tells on standard error, and that nothing else depends on it.
-use crate::runs::{is_done, new_folder};
-use crate::shell::{Shell, is_kept};
+use crate::folders::{folder_of, remove};
+use crate::runs::{ends_with, is_done};
+use crate::shell::Shell;
 use desk::{DeskState, Working};
 use filedisk::open_file;
-use program::{Standing, Visits, run_program};
+use program::{Standing, Visits};
+use std::alloc::{AllocError, Global};
 use std::fs::File;
-use std::io::{self, ErrorKind};
 use std::process::Abort;
 use std::rt::Files;
 use std::sync::Wait;
 use std::test::Fail;
 use std::thread::Threads;
 use std::time::Clock;
-use std::{fs, process};
+
+const CREATE: &str = "create six.store six.gr six.ss";
 
 /// What is written to the standard error of a run.
 #[derive(Clone, Copy)]
@@ -49,13 +51,11 @@ where
     shell.absent = "six.script";
     shell.has_clock = matches!(told, Told::Each(_) | Told::Mute);
     shell.is_mute = matches!(told, Told::Mute);
-    assert!(rt; run_program(&shell, *rt) == ends.0, "{words}");
-    assert!(rt; is_kept(&shell.out, ends.1), "{words}");
     let err = match told {
         Told::Each(err) | Told::Untimed(err) => err,
         Told::Mute => "",
     };
-    assert!(rt; is_kept(&shell.err, err), "{words}");
+    ends_with(rt, &shell, words, (ends.0, ends.1, err));
 }
 
 /// Words, the status with which they end and what they print, and what is told.
@@ -85,22 +85,14 @@ const DONE: [Row; 6] = [
 /// Progress is told where `--verbose` asks for it, and elsewhere it is not. Refused is a body that tells nothing, or tells where nobody asked.
 #[test]
 fn progress_is_told(rt: HostRuntime) -> Result<(), Fail> {
-    let id = process::id(rt.process());
-    let name = format!(in rt.alloc(); "roadmark-progress-{id}")?;
-    let folder = new_folder(&rt, name.as_str())?;
-    is_done(
-        &rt,
-        folder.as_str(),
-        "create six.store six.gr six.ss",
-        "ok 0\n",
-    );
+    let folder = folder_of(&rt, rt.process(), "progress")?;
+    is_done(&rt, folder.as_str(), CREATE, "ok 0\n");
     for (words, ends, told) in DONE {
         tells(&rt, folder.as_str(), words, ends, Told::Each(told));
         tells(&rt, folder.as_str(), words, ends, Told::Untimed(""));
         tells(&rt, folder.as_str(), words, ends, Told::Mute);
     }
-    fs::remove_dir_all(&rt, folder.as_str())?;
-    Ok(())
+    remove(&rt, folder.as_str())
 }
 
 const UNDONE: [Row; 11] = [
@@ -185,33 +177,64 @@ const SERVED: [Row; 4] = [
     ),
 ];
 
+/// Each of these rows, with a clock that tells no time, and where nothing can be written.
+fn each_tells<
+    'a,
+    R: Abort
+        + AllocGlobal
+        + Files<File = File>
+        + Threads
+        + Wait
+        + Clock
+        + Eprint
+        + Copy
+        + Send
+        + Sync
+        + 'static,
+>(rt: &'a R, folder: &str, rows: &[Row])
+where
+    R::Dir: Send + 'static,
+{
+    for &(words, ends, told) in rows {
+        tells(rt, folder, words, ends, Told::Untimed(told));
+        tells(rt, folder, words, ends, Told::Mute);
+    }
+}
+
+/// The same beside one who has the store of this path to change it.
+fn each_tells_beside<
+    'a,
+    R: Abort
+        + AllocGlobal
+        + Files<File = File>
+        + Threads
+        + Wait
+        + Clock
+        + Eprint
+        + Copy
+        + Send
+        + Sync
+        + 'static,
+>(rt: &'a R, folder: &str, path: &str, rows: &[Row])
+where
+    R::Dir: Send + 'static,
+{
+    let Ok(held) = open_file(rt, path) else {
+        return assert!(rt; false, "the store is not opened");
+    };
+    each_tells(rt, folder, rows);
+    drop(held);
+}
+
 /// Why a file is not opened, and of which file a refusal is, is told before the fault line, which stays as it is. Refused is a body that tells the same of each.
 #[test]
 fn reasons_are_told(rt: HostRuntime) -> Result<(), Fail> {
-    let id = process::id(rt.process());
-    let name = format!(in rt.alloc(); "roadmark-reasons-{id}")?;
-    let folder = new_folder(&rt, name.as_str())?;
-    is_done(
-        &rt,
-        folder.as_str(),
-        "create six.store six.gr six.ss",
-        "ok 0\n",
-    );
+    let folder = folder_of(&rt, rt.process(), "reasons")?;
+    is_done(&rt, folder.as_str(), CREATE, "ok 0\n");
     let path = format!(in rt.alloc(); "{}/six.store", folder.as_str())?;
-    let Ok(held) = open_file(&rt, path.as_str()) else {
-        return Err(Fail::from(io::Error::from(ErrorKind::Other)));
-    };
-    for (words, ends, told) in UNDONE {
-        tells(&rt, folder.as_str(), words, ends, Told::Untimed(told));
-        tells(&rt, folder.as_str(), words, ends, Told::Mute);
-    }
-    drop(held);
-    for (words, ends, told) in SERVED {
-        tells(&rt, folder.as_str(), words, ends, Told::Untimed(told));
-        tells(&rt, folder.as_str(), words, ends, Told::Mute);
-    }
-    fs::remove_dir_all(&rt, folder.as_str())?;
-    Ok(())
+    each_tells_beside(&rt, folder.as_str(), path.as_str(), &UNDONE);
+    each_tells(&rt, folder.as_str(), &SERVED);
+    remove(&rt, folder.as_str())
 }
 
 /// How a desk stands of which these versions are durable and shown, and whose threads go on so.
@@ -231,35 +254,34 @@ fn stood(durable: u64, shown: u64, flusher: Working, builder: Working) -> DeskSt
     }
 }
 
+/// Whether a server is told to stand so, of which this many clients came and went.
+fn is_told(
+    alloc: Global,
+    desk: DeskState,
+    came: u64,
+    went: u64,
+    told: &str,
+) -> Result<bool, AllocError> {
+    let visits = Visits { came, went };
+    let line = format!(in alloc; "{}", Standing { desk, visits })?;
+    Ok(line.as_str() == told)
+}
+
 /// How a server stands is told in one line.
 #[test]
 fn standings_are_told(rt: HostRuntime) -> Result<(), Fail> {
-    let table = [
-        (
-            stood(0, 0, Working::On, Working::On),
-            (0, 0),
-            "durable 0, shown 0",
-        ),
-        (
-            stood(12, 9, Working::On, Working::On),
-            (5, 3),
-            "durable 12, shown 9, 3 behind, 2 clients, 5 came, 3 went",
-        ),
-        (
-            stood(7, 7, Working::Broken, Working::On),
-            (1, 1),
-            "durable 7, shown 7, 0 clients, 1 came, 1 went, 43 Device: nothing more is written, what is durable stays",
-        ),
-        (
-            stood(7, 6, Working::Ended, Working::Ended),
-            (0, 0),
-            "durable 7, shown 6, 1 behind, the flusher has ended, the builder has ended",
-        ),
-    ];
-    for (desk, (came, went), told) in table {
-        let visits = Visits { came, went };
-        let line = format!(in rt.alloc(); "{}", Standing { desk, visits })?;
-        assert!(rt; line.as_str() == told, "{line}");
-    }
+    let alloc = rt.alloc();
+    let new = stood(0, 0, Working::On, Working::On);
+    assert!(rt; is_told(alloc, new, 0, 0, "durable 0, shown 0")?);
+    let behind = stood(12, 9, Working::On, Working::On);
+    let told = "durable 12, shown 9, 3 behind, 2 clients, 5 came, 3 went";
+    assert!(rt; is_told(alloc, behind, 5, 3, told)?);
+    let broken = stood(7, 7, Working::Broken, Working::On);
+    let told =
+        "durable 7, shown 7, 0 clients, 1 came, 1 went, 43 Device: nothing more is written, what is durable stays";
+    assert!(rt; is_told(alloc, broken, 1, 1, told)?);
+    let ended = stood(7, 6, Working::Ended, Working::Ended);
+    let told = "durable 7, shown 6, 1 behind, the flusher has ended, the builder has ended";
+    assert!(rt; is_told(alloc, ended, 0, 0, told)?);
     Ok(())
 }

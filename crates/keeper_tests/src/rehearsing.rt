@@ -127,7 +127,8 @@ fn keeps<R: Threads>(
     pick: Pick,
     kept: u64,
 ) -> Result<bool, Refusal> {
-    let events = [close(7), stop_within(alloc, call, pick, Writing::Flush)?];
+    let stop = stop_within(alloc, call, pick, Writing::Flush)?;
+    let events = [close(7), stop];
     let run = rehearsed(rt, alloc, 64, &events)?;
     let is_told = if call < 5 {
         run.replies.as_slice() == [accepted(1), opened(kept)].as_slice()
@@ -190,14 +191,9 @@ fn head_of_second_slot(disk: &mut MemDisk) -> Result<[u8; 4096], Refusal> {
 
 // A run in which two checkpoints are cut.
 fn cut_checkpoints<R: Threads>(rt: &R, alloc: Global) -> Result<Rehearsal<MemDisk>, Refusal> {
-    let events = [
-        close(7),
-        Event::Flush,
-        stop_within(alloc, 4, Pick::Old, Writing::Checkpoint)?,
-        dist(1, 6),
-        stop_within(alloc, 4, Pick::New, Writing::Checkpoint)?,
-        dist(1, 6),
-    ];
+    let old = stop_within(alloc, 4, Pick::Old, Writing::Checkpoint)?;
+    let new = stop_within(alloc, 4, Pick::New, Writing::Checkpoint)?;
+    let events = [close(7), Event::Flush, old, dist(1, 6), new, dist(1, 6)];
     rehearsed(rt, alloc, 64, &events)
 }
 
@@ -233,20 +229,26 @@ fn found(alloc: Global, disk: MemDisk) -> Result<(u64, u32), Refusal> {
     }
 }
 
+// The disk of that run, once it has its replies.
+fn disk_behind_stops<R: Threads>(rt: &R, alloc: Global) -> Result<MemDisk, Refusal> {
+    let run = cut_checkpoints(rt, alloc)?;
+    if !has_replies(&run) {
+        return Err(Refusal::OtherNetwork);
+    }
+    Ok(run.disk)
+}
+
 // The slot that the last stop left is the second one.
 #[test]
 fn stop_within_checkpoint(rt: HostRuntime) -> Result<(), Refusal> {
-    let run = cut_checkpoints(&rt, rt.alloc())?;
-    assert!(rt; has_replies(&run));
-    let mut disk = run.disk;
+    let mut disk = disk_behind_stops(&rt, rt.alloc())?;
     assert!(rt; has_second_slot(&mut disk)?);
     assert!(rt; found(rt.alloc(), disk)? == (1, 0));
     Ok(())
 }
 
-// A stop forgets the view that is kept aside, and what is pending.
-#[test]
-fn a_stop_forgets(rt: HostRuntime) -> Result<(), Refusal> {
+// A stop behind a view that is kept aside and a command that is pending.
+fn stopped_aside<R: Threads>(rt: &R, alloc: Global) -> Result<Rehearsal<MemDisk>, Refusal> {
     let events = [
         close(7),
         Event::Flush,
@@ -258,7 +260,13 @@ fn a_stop_forgets(rt: HostRuntime) -> Result<(), Refusal> {
         dist(1, 6),
         Event::Stop,
     ];
-    let run = rehearsed(&rt, rt.alloc(), 64, &events)?;
+    rehearsed(rt, alloc, 64, &events)
+}
+
+// A stop forgets the view that is kept aside, and what is pending.
+#[test]
+fn a_stop_forgets(rt: HostRuntime) -> Result<(), Refusal> {
+    let run = stopped_aside(&rt, rt.alloc())?;
     let replies = [
         accepted(1),
         durable(1),

@@ -4,8 +4,11 @@ use crate::serving::{Found, answers_with};
 use roadnet::{Network, Refusal};
 use sessions::{Copies, NoCopies};
 use std::alloc::Global;
+use std::sync::Wait;
 use std::sync::atomic::{AtomicU64, Ordering};
 use std::test::Fail;
+use std::thread::Threads;
+use std::time::Clock;
 
 /// Copies that are looked at and not kept: how many were asked for, and of them at how many the network had as many closed arcs as its version says.
 #[derive(Drop)]
@@ -92,18 +95,30 @@ const COPIES: [(&[u8], Found, &[u8], u64); 8] = [
     (b"copy a\ncopy a.b\n", Found::Crowded, b"no 60\nno 1\n", 0),
 ];
 
+/// Whether a session with these lines, by a desk that is found so, writes this; how many copies are asked for, and how many of them fit their version.
+fn looked_at<R: Threads + Wait + Clock + Copy + Send + Sync + 'static>(
+    rt: R,
+    alloc: Global,
+    found: Found,
+    lines: &[u8],
+    want: &[u8],
+) -> Result<(bool, u64, u64), Refusal> {
+    let looked = Looked {
+        asked: AtomicU64::new(0),
+        fit: AtomicU64::new(0),
+    };
+    let answers = answers_with(rt, alloc, found, &looked, lines)?;
+    let asked = looked.asked.load(Ordering::SeqCst);
+    let fit = looked.fit.load(Ordering::SeqCst);
+    Ok((answers.as_slice() == want, asked, fit))
+}
+
 /// Each copy is made of the network of the version that is told.
 #[test]
 fn copies_of_the_network(rt: HostRuntime) -> Result<(), Fail> {
     for (lines, found, want, count) in COPIES {
-        let looked = Looked {
-            asked: AtomicU64::new(0),
-            fit: AtomicU64::new(0),
-        };
-        let answers = answers_with(rt, rt.alloc(), found, &looked, lines)?;
-        assert!(rt; answers.as_slice() == want, "{lines:?}");
-        assert_eq!(rt; looked.asked.load(Ordering::SeqCst), count);
-        assert_eq!(rt; looked.fit.load(Ordering::SeqCst), count);
+        let told = looked_at(rt, rt.alloc(), found, lines, want)?;
+        assert!(rt; told == (true, count, count), "{lines:?}");
     }
     Ok(())
 }

@@ -152,7 +152,27 @@ fn all_agree(
     Ok(told.iter().all(|told| *told))
 }
 
-/// Whether so many sessions at once are answered right, and the store that they leave has all that they told.
+/// The network of a new store.
+fn first_network(alloc: Global) -> Result<Network, Refusal> {
+    let store = store_of_six(alloc)?;
+    Ok(store.network().copy()?)
+}
+
+/// Whether sessions of these lines and texts at once are answered right, and the store that they leave has all that they told.
+fn agree_on<R: Threads + Wait + Clock + Copy + Send + Sync + 'static>(
+    rt: R,
+    alloc: Global,
+    lines: &[Vec<Sent>],
+    texts: &[Vec<u8>],
+) -> Result<bool, Refusal> {
+    let first = first_network(alloc)?;
+    let (answers, closed) = at_once(rt, alloc, texts, LastLine::Dropped)?;
+    let right = all_agree(alloc, first, &closed.history, lines, &answers)?;
+    let (accepted, version) = left_by(alloc, closed)?;
+    Ok(right && accepted == version)
+}
+
+/// The same of so many sessions.
 fn agree<R: Threads + Wait + Clock + Copy + Send + Sync + 'static>(
     rt: R,
     alloc: Global,
@@ -160,11 +180,7 @@ fn agree<R: Threads + Wait + Clock + Copy + Send + Sync + 'static>(
 ) -> Result<bool, Refusal> {
     let lines = lines_of(alloc, count)?;
     let texts = texts_of(alloc, &lines)?;
-    let (answers, closed) = at_once(rt, alloc, &texts, LastLine::Dropped)?;
-    let first = store_of_six(alloc)?.network().copy()?;
-    let right = all_agree(alloc, first, &closed.history, &lines, &answers)?;
-    let (accepted, version) = left_by(alloc, closed)?;
-    Ok(right && accepted == version)
+    agree_on(rt, alloc, &lines, &texts)
 }
 
 #[test]

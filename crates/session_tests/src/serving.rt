@@ -72,6 +72,25 @@ pub(crate) enum Found {
     Crowded,
 }
 
+/// As many readers of the desk as it may have, where a session finds it crowded, and else none.
+fn others_of<
+    N: Naming + Send + Sync + 'static,
+    D: Disk + Drop + Send + 'static,
+    G: Gate + Drop + Send + Sync + 'static,
+    R: Threads + Wait + Clock + Copy + Send + Sync + 'static,
+>(alloc: Global, desk: &Desk<N, D, G, R>, found: Found) -> Result<Vec<Reader<N>>, Refusal> {
+    let mut others = Vec::new(alloc);
+    if found != Found::Crowded {
+        return Ok(others);
+    }
+    for _ in 0..64u32 {
+        if others.push(desk.reader()?).is_err() {
+            return Err(Refusal::OutOfMemory);
+        }
+    }
+    Ok(others)
+}
+
 /// A session over a store. The desk is closed behind it.
 pub(crate) fn session_over<
     N: Naming + Send + Sync + 'static,
@@ -101,14 +120,7 @@ pub(crate) fn session_over<
         workers: 2,
     };
     let desk: Desk<N, D, G, R> = Desk::start(rt, alloc, history, store, gate, setup)?;
-    let mut others: Vec<Reader<N>> = Vec::new(alloc);
-    if found == Found::Crowded {
-        for _ in 0..64u32 {
-            if others.push(desk.reader()?).is_err() {
-                return Err(Refusal::OutOfMemory);
-            }
-        }
-    }
+    let _others = others_of(alloc, &desk, found)?;
     if found == Found::Halted {
         desk.halt();
     }
@@ -181,11 +193,23 @@ pub(crate) fn answers_with<R: Threads + Wait + Clock + Copy + Send + Sync + 'sta
     Ok(output)
 }
 
+/// Whether a session with these lines, by a desk that is found so, writes this and ends without a fault.
+fn is_answered<R: Threads + Wait + Clock + Copy + Send + Sync + 'static>(
+    rt: R,
+    alloc: Global,
+    found: Found,
+    lines: &[u8],
+    want: &[u8],
+) -> Result<bool, Refusal> {
+    let answers = answers_of(rt, alloc, found, lines)?;
+    Ok(answers.as_slice() == want)
+}
+
 #[test]
 fn one_session(rt: HostRuntime) -> Result<(), Fail> {
     let lines = b"close 7\nwait\ndist 1 6\nhello\nquit\n";
-    let answers = answers_of(rt, rt.alloc(), Found::Serving, lines)?;
-    assert!(rt; answers.as_slice() == b"ok 1\nv 1\nv 1\nd 1 6 22\nno 1\n".as_slice());
+    let want = b"ok 1\nv 1\nv 1\nd 1 6 22\nno 1\n";
+    assert!(rt; is_answered(rt, rt.alloc(), Found::Serving, lines, want)?);
     Ok(())
 }
 
@@ -249,35 +273,40 @@ const KINDS: [(&[u8], &[u8]); 18] = [
 #[test]
 fn each_kind_of_line(rt: HostRuntime) -> Result<(), Fail> {
     for (lines, want) in KINDS {
-        let answers = answers_of(rt, rt.alloc(), Found::Serving, lines)?;
-        assert!(rt; answers.as_slice() == want, "{lines:?}");
+        assert!(rt;
+            is_answered(rt, rt.alloc(), Found::Serving, lines, want)?,
+            "{lines:?}"
+        );
     }
     Ok(())
 }
 
-/// Line ends and bytes as no one writes them.
+/// Line ends and bytes as no one writes them: lines, and what a session with them writes.
+const ODD: [(&[u8], &[u8]); 6] = [
+    (b"close 7\r\nwait\r\nquit\r\n", b"ok 1\nv 1\n"),
+    (b"\tclose \t 7 \r", b"ok 1\n"),
+    (b"close 7\r\r\nclose 7 \r \n\rwait\n", b"no 1\nno 1\nno 1\n"),
+    (
+        b"close\x007\nclose 7\x00\n\x00\n\x00wait\n",
+        b"no 1\nno 1\nno 1\nno 1\n",
+    ),
+    (
+        b"\xffclose 7\n\xc3\xa9\nclose \xb27\n",
+        b"no 1\nno 1\nno 1\n",
+    ),
+    (
+        b"close 0000000000000000000000000000000007\nwait\ndist 01 006\n",
+        b"ok 1\nv 1\nv 1\nd 1 6 22\n",
+    ),
+];
+
 #[test]
 fn odd_bytes(rt: HostRuntime) -> Result<(), Fail> {
-    let table: [(&[u8], &[u8]); 6] = [
-        (b"close 7\r\nwait\r\nquit\r\n", b"ok 1\nv 1\n"),
-        (b"\tclose \t 7 \r", b"ok 1\n"),
-        (b"close 7\r\r\nclose 7 \r \n\rwait\n", b"no 1\nno 1\nno 1\n"),
-        (
-            b"close\x007\nclose 7\x00\n\x00\n\x00wait\n",
-            b"no 1\nno 1\nno 1\nno 1\n",
-        ),
-        (
-            b"\xffclose 7\n\xc3\xa9\nclose \xb27\n",
-            b"no 1\nno 1\nno 1\n",
-        ),
-        (
-            b"close 0000000000000000000000000000000007\nwait\ndist 01 006\n",
-            b"ok 1\nv 1\nv 1\nd 1 6 22\n",
-        ),
-    ];
-    for (lines, want) in table {
-        let answers = answers_of(rt, rt.alloc(), Found::Serving, lines)?;
-        assert!(rt; answers.as_slice() == want, "{lines:?}");
+    for (lines, want) in ODD {
+        assert!(rt;
+            is_answered(rt, rt.alloc(), Found::Serving, lines, want)?,
+            "{lines:?}"
+        );
     }
     Ok(())
 }
@@ -303,23 +332,38 @@ fn long_line(
     Ok(text)
 }
 
+/// A front, a byte, how often it stands there, a back, and what a session with that text writes.
+const LONG: [(&[u8], u8, usize, &[u8], &[u8]); 8] = [
+    (b"close ", b'0', 10_000_000, b"7\nwait\n", b"ok 1\nv 1\n"),
+    (b"close", b' ', 10_000_000, b"7\nwait\n", b"ok 1\nv 1\n"),
+    (b"", b'x', 10_000_000, b"\nwait\n", b"no 1\nv 0\n"),
+    (b"", b'\t', 100_000, b"\nwait\n", b"v 0\n"),
+    (b"close ", b'9', 100_000, b"\nwait\n", b"no 5\nv 0\n"),
+    (b"close ", b'9', 100_000, b"x\nwait\n", b"no 1\nv 0\n"),
+    (b"#", b'x', 100_000, b"\nwait\n", b"v 0\n"),
+    (b"close 7", b'\0', 100_000, b"\nwait\n", b"no 1\nv 0\n"),
+];
+
+/// Whether a session with a text of a front, so many times one byte, and a back writes this.
+fn is_long_answered<R: Threads + Wait + Clock + Copy + Send + Sync + 'static>(
+    rt: R,
+    alloc: Global,
+    (front, byte, count, back): (&[u8], u8, usize, &[u8]),
+    want: &[u8],
+) -> Result<bool, Refusal> {
+    let text = long_line(alloc, front, byte, count, back)?;
+    is_answered(rt, alloc, Found::Serving, &text, want)
+}
+
 /// No line is too long: zeros, blanks and nonsense.
 #[test]
 fn lines_of_ten_million_bytes(rt: HostRuntime) -> Result<(), Fail> {
-    let table: [(&[u8], u8, usize, &[u8], &[u8]); 8] = [
-        (b"close ", b'0', 10_000_000, b"7\nwait\n", b"ok 1\nv 1\n"),
-        (b"close", b' ', 10_000_000, b"7\nwait\n", b"ok 1\nv 1\n"),
-        (b"", b'x', 10_000_000, b"\nwait\n", b"no 1\nv 0\n"),
-        (b"", b'\t', 100_000, b"\nwait\n", b"v 0\n"),
-        (b"close ", b'9', 100_000, b"\nwait\n", b"no 5\nv 0\n"),
-        (b"close ", b'9', 100_000, b"x\nwait\n", b"no 1\nv 0\n"),
-        (b"#", b'x', 100_000, b"\nwait\n", b"v 0\n"),
-        (b"close 7", b'\0', 100_000, b"\nwait\n", b"no 1\nv 0\n"),
-    ];
-    for (front, byte, count, back, want) in table {
-        let text = long_line(rt.alloc(), front, byte, count, back)?;
-        let answers = answers_of(rt, rt.alloc(), Found::Serving, &text)?;
-        assert!(rt; answers.as_slice() == want, "{front:?} {byte}");
+    for (front, byte, count, back, want) in LONG {
+        let text = (front, byte, count, back);
+        assert!(rt;
+            is_long_answered(rt, rt.alloc(), text, want)?,
+            "{front:?} {byte}"
+        );
     }
     Ok(())
 }
@@ -328,8 +372,8 @@ fn lines_of_ten_million_bytes(rt: HostRuntime) -> Result<(), Fail> {
 #[test]
 fn a_halted_desk(rt: HostRuntime) -> Result<(), Fail> {
     let lines = b"close 7\nwait\ndist 1 6\n";
-    let answers = answers_of(rt, rt.alloc(), Found::Halted, lines)?;
-    assert!(rt; answers.as_slice() == b"no 61\nv 0\nv 0\nd 1 6 15\n".as_slice());
+    let want = b"no 61\nv 0\nv 0\nd 1 6 15\n";
+    assert!(rt; is_answered(rt, rt.alloc(), Found::Halted, lines, want)?);
     Ok(())
 }
 
@@ -337,8 +381,8 @@ fn a_halted_desk(rt: HostRuntime) -> Result<(), Fail> {
 #[test]
 fn no_place_for_a_reader(rt: HostRuntime) -> Result<(), Fail> {
     let lines = b"dist 1 6\nclose 7\nwait\nlower 1 6\n";
-    let answers = answers_of(rt, rt.alloc(), Found::Crowded, lines)?;
-    assert!(rt; answers.as_slice() == b"no 60\nok 1\nno 60\nno 60\n".as_slice());
+    let want = b"no 60\nok 1\nno 60\nno 60\n";
+    assert!(rt; is_answered(rt, rt.alloc(), Found::Crowded, lines, want)?);
     Ok(())
 }
 
@@ -500,90 +544,136 @@ pub(crate) fn left_by(alloc: Global, closed: Closed<MemDisk>) -> Result<(u64, u6
     }
 }
 
+/// What came of a session: its outcome, how many calls of the reader and of the writer failed, how many commands were accepted, and the version that the next
+/// opening finds.
+#[derive(Clone, Copy)]
+struct Came {
+    outcome: Result<(), Failed>,
+    failed_reads: u64,
+    failed_writes: u64,
+    accepted: u64,
+    version: u64,
+}
+
+/// What came of this one.
+fn came_of(alloc: Global, ended: Ended<MemDisk>) -> Result<Came, Refusal> {
+    let Ended {
+        outcome,
+        failed_reads,
+        failed_writes,
+        is_kept: _,
+        closed,
+    } = ended;
+    let (accepted, version) = left_by(alloc, closed)?;
+    Ok(Came {
+        outcome,
+        failed_reads,
+        failed_writes,
+        accepted,
+        version,
+    })
+}
+
+/// What comes of a session by this reader, and how many commands it is told to be durable.
+fn read_by<R: Threads + Wait + Clock + Copy + Send + Sync + 'static, I: BufRead>(
+    rt: R,
+    alloc: Global,
+    input: &mut I,
+) -> Result<(Came, u64), Refusal> {
+    let mut output = Vec::new(alloc);
+    let ended = session(rt, alloc, Found::Serving, &NoCopies, input, &mut output)?;
+    let came = came_of(alloc, ended)?;
+    Ok((came, settled_in(&output)))
+}
+
+/// The same of a session whose reader fails at this read.
+fn failing_read<R: Threads + Wait + Clock + Copy + Send + Sync + 'static>(
+    rt: R,
+    alloc: Global,
+    reads: u32,
+) -> Result<(Came, u64), Refusal> {
+    let bytes = LINES;
+    let Ok(mut input) = BufReader::with_capacity(alloc, 3, FailingReader { bytes, reads }) else {
+        return Err(Refusal::OutOfMemory);
+    };
+    read_by(rt, alloc, &mut input)
+}
+
+/// Whether a session's reader failed, and whether it ended as it has to: what was told is there, and where a read failed it ended with 10.
+fn is_right_by_reads(came: Came, settled: u64) -> (bool, bool) {
+    let are_there = came.accepted == settled && came.version == settled;
+    let ended = if came.failed_reads == 0 {
+        came.outcome == Ok(())
+    } else {
+        came.failed_reads == 1 && came.outcome == Err(Failed::Code(Refusal::Read))
+    };
+    let right = are_there && ended && came.failed_writes == 0;
+    (came.failed_reads > 0, right)
+}
+
 /// The reader fails at each of its calls in turn: the session ends with 10, and what was told is there.
 #[test]
 fn reader_fails_at_each_call(rt: HostRuntime) -> Result<(), Fail> {
-    let alloc = rt.alloc();
     let mut failed = 0u32;
     for reads in 1..40 {
-        let failing = FailingReader {
-            bytes: LINES,
-            reads,
-        };
-        let mut input = BufReader::with_capacity(alloc, 3, failing)?;
-        let mut output = Vec::new(alloc);
-        let Ended {
-            outcome,
-            failed_reads,
-            failed_writes,
-            is_kept: _,
-            closed,
-        } = session(
-            rt,
-            alloc,
-            Found::Serving,
-            &NoCopies,
-            &mut input,
-            &mut output,
-        )?;
-        let (accepted, version) = left_by(alloc, closed)?;
-        if failed_reads == 0 {
-            assert!(rt; outcome == Ok(()), "read {reads}");
-        } else {
+        let (came, settled) = failing_read(rt, rt.alloc(), reads)?;
+        let (has_failed, right) = is_right_by_reads(came, settled);
+        assert!(rt; right, "read {reads}");
+        if has_failed {
             failed = failed.saturating_add(1);
-            assert!(rt; outcome == Err(Failed::Code(Refusal::Read)), "read {reads}");
-            assert_eq!(rt; failed_reads, 1);
         }
-        assert_eq!(rt; failed_writes, 0);
-        let settled = settled_in(&output);
-        assert_eq!(rt; accepted, settled);
-        assert_eq!(rt; version, settled);
     }
     // The lines have 60 bytes: 20 reads give them, and one more the end.
     assert_eq!(rt; failed, 21);
     Ok(())
 }
 
+/// What comes of a session whose writer fails at this call, and how many commands it is told to be durable.
+fn failing_write<R: Threads + Wait + Clock + Copy + Send + Sync + 'static>(
+    rt: R,
+    alloc: Global,
+    calls: u32,
+) -> Result<(Came, u64), Refusal> {
+    let mut input = LINES;
+    let mut output = FailingWriter {
+        calls,
+        written: Vec::new(alloc),
+    };
+    let ended = session(
+        rt,
+        alloc,
+        Found::Serving,
+        &NoCopies,
+        &mut input,
+        &mut output,
+    )?;
+    let came = came_of(alloc, ended)?;
+    Ok((came, settled_in(&output.written)))
+}
+
+/// Whether a session's writer failed, and whether it ended as it has to: what was told is there, and where a write failed it ended with 12.
+fn is_right_by_writes(came: Came, settled: u64) -> (bool, bool) {
+    let are_there = settled <= came.version && came.accepted == came.version;
+    let ended = if came.failed_writes == 0 {
+        settled == 4 && came.outcome == Ok(())
+    } else {
+        came.failed_writes == 1 && came.outcome == Err(Failed::Code(Refusal::Write))
+    };
+    let right = are_there && ended && came.failed_reads == 0;
+    (came.failed_writes > 0, right)
+}
+
 /// The writer fails at each of its calls in turn: the session ends with 12, and what was told is there.
 #[test]
 fn writer_fails_at_each_call(rt: HostRuntime) -> Result<(), Fail> {
-    let alloc = rt.alloc();
     let mut failed = 0u32;
     for calls in 1..60 {
-        let mut input = LINES;
-        let mut output = FailingWriter {
-            calls,
-            written: Vec::new(alloc),
-        };
-        let Ended {
-            outcome,
-            failed_reads,
-            failed_writes,
-            is_kept: _,
-            closed,
-        } = session(
-            rt,
-            alloc,
-            Found::Serving,
-            &NoCopies,
-            &mut input,
-            &mut output,
-        )?;
-        let (accepted, version) = left_by(alloc, closed)?;
-        if failed_writes == 0 {
-            assert!(rt; outcome == Ok(()), "call {calls}");
-            assert_eq!(rt; settled_in(&output.written), 4);
-        } else {
+        let (came, settled) = failing_write(rt, rt.alloc(), calls)?;
+        let (has_failed, right) = is_right_by_writes(came, settled);
+        assert!(rt; right, "call {calls}");
+        if has_failed {
             failed = failed.saturating_add(1);
-            assert!(rt;
-                outcome == Err(Failed::Code(Refusal::Write)),
-                "call {calls}"
-            );
-            assert_eq!(rt; failed_writes, 1);
         }
-        assert_eq!(rt; failed_reads, 0);
-        assert!(rt; settled_in(&output.written) <= version, "call {calls}");
-        assert_eq!(rt; accepted, version);
     }
     assert!(rt; failed > 20 && failed < 59, "{failed}");
     Ok(())

@@ -57,6 +57,21 @@ fn each_call<N: Naming, D: Disk + Drop, R: Wait + Copy>(
 }
 
 /// A desk is closed while a handle of it is held, with a ticket and a place. How many commands it was left with is told beside what the handle is told then.
+fn close_beside_place<
+    N: Naming + Send + Sync + 'static,
+    D: Disk + Drop + Send + 'static,
+    R: Threads + Wait + Clock + Copy + Send + Sync + 'static,
+>(
+    desk: Desk<N, D, NoGate, R>,
+    handle: &Handle<N, D, NoGate, R>,
+    place: &mut Place<N>,
+) -> Result<(Refused, usize), Refusal> {
+    let ticket = handle.submit(CLOSE)?;
+    let closed = desk.close()?;
+    Ok((each_call(handle, ticket, place), closed.history.len()))
+}
+
+/// The same of a new desk.
 fn close_beside<
     N: Naming + Send + Sync + 'static,
     D: Disk + Drop + Send + 'static,
@@ -69,9 +84,7 @@ fn close_beside<
     let desk: Desk<N, D, NoGate, R> = Desk::start(rt, alloc, history, store, NoGate, setup(1))?;
     let handle = desk.handle().again()?;
     let mut place = handle.place()?;
-    let ticket = handle.submit(CLOSE)?;
-    let closed = desk.close()?;
-    Ok((each_call(&handle, ticket, &mut place), closed.history.len()))
+    close_beside_place(desk, &handle, &mut place)
 }
 
 /// Each call of a handle that outlives its desk is refused, and none waits. What it submitted before is kept.
@@ -140,7 +153,44 @@ fn all_right<N: Naming, D: Disk + Drop, R: Threads + Wait + Copy>(
     Ok(true)
 }
 
-/// Whether all answers are right at two versions, asked in turn by two handles.
+/// What a place is shown behind a command of which it learns.
+fn look_behind<N: Naming, D: Disk + Drop, R: Wait + Copy>(
+    handle: &Handle<N, D, NoGate, R>,
+    place: &mut Place<N>,
+    command: Command,
+) -> Result<Glance<N>, Refusal> {
+    let ticket = handle.submit(command)?;
+    place.learn(&handle.wait_shown(&ticket)?);
+    place.look()
+}
+
+/// Whether the answers of both versions are right: of the later one, of the one before, and of the later one again.
+fn are_right<N: Naming, D: Disk + Drop, R: Threads + Wait + Copy>(
+    handle: &Handle<N, D, NoGate, R>,
+    other: &Handle<N, D, NoGate, R>,
+    before: &Glance<N>,
+    behind: &Glance<N>,
+) -> Result<[bool; 3], Refusal> {
+    let second = all_right(other, behind, 9)?;
+    let third = all_right(handle, before, 1)?;
+    let fourth = all_right(other, behind, 9)?;
+    Ok([second, third, fourth])
+}
+
+/// Whether all answers are right at two versions, asked in turn by two handles. The place is of one of them.
+fn ask_both<N: Naming, D: Disk + Drop, R: Threads + Wait + Copy>(
+    handle: &Handle<N, D, NoGate, R>,
+    other: &Handle<N, D, NoGate, R>,
+    place: &mut Place<N>,
+) -> Result<[bool; 4], Refusal> {
+    let before = place.look()?;
+    let first = all_right(handle, &before, 1)?;
+    let behind = look_behind(other, place, Command::Set { arc: 7, length: 9 })?;
+    let [second, third, fourth] = are_right(handle, other, &before, &behind)?;
+    Ok([first, second, third, fourth])
+}
+
+/// The same by a desk's own handle and another one.
 fn ask_in_turn<
     N: Naming + Send + Sync + 'static,
     D: Disk + Drop + Send + 'static,
@@ -148,15 +198,7 @@ fn ask_in_turn<
 >(desk: &Desk<N, D, NoGate, R>) -> Result<[bool; 4], Refusal> {
     let other = desk.handle().again()?;
     let mut place = other.place()?;
-    let before = place.look()?;
-    let first = all_right(desk.handle(), &before, 1)?;
-    let ticket = other.submit(Command::Set { arc: 7, length: 9 })?;
-    place.learn(&other.wait_shown(&ticket)?);
-    let behind = place.look()?;
-    let second = all_right(&other, &behind, 9)?;
-    let third = all_right(desk.handle(), &before, 1)?;
-    let fourth = all_right(&other, &behind, 9)?;
-    Ok([first, second, third, fourth])
+    ask_both(desk.handle(), &other, &mut place)
 }
 
 /// The same, with a desk that is closed behind it.

@@ -249,17 +249,24 @@ fn watch_views<
     ended(desk, told)
 }
 
+/// The same over a new store with two landmarks.
+fn watch_on_six<
+    G: Gate + Drop + Send + Sync + 'static,
+    R: Threads + Wait + Clock + Copy + Send + Sync + 'static,
+>(rt: R, alloc: Global, signals: &Signals, gate: G) -> Result<(Watched, usize), Refusal> {
+    let store = store_of_six(alloc, &[3, 6], 64)?;
+    let history = History::new(store.network(), store.version());
+    watch_views::<Brand, _, _, _>(rt, alloc, history, store, signals, gate)
+}
+
 #[test]
 fn views_come_unasked(rt: HostRuntime) -> Result<(), Fail> {
-    let alloc = rt.alloc();
-    let signals = Arc::new(alloc, Signals::new())?;
+    let signals = Arc::new(rt.alloc(), Signals::new())?;
     let gate = Held {
         rt,
         signals: Arc::try_clone(&signals)?,
     };
-    let store = store_of_six(alloc, &[3, 6], 64)?;
-    let history = History::new(store.network(), store.version());
-    let told = watch_views::<Brand, _, _, _>(rt, alloc, history, store, &signals, gate)?;
+    let told = watch_on_six(rt, rt.alloc(), &signals, gate)?;
     assert_eq!(rt; told, (((0, Reply::Length(15)), true), 12));
     assert!(rt; !signals.misplaced.load(Ordering::SeqCst));
     assert!(rt;

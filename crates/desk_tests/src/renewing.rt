@@ -54,6 +54,36 @@ fn is_right<N: Naming, R: Threads>(
     Ok(pinned.from_landmark(landmark, target) == from && bounded && told == dist)
 }
 
+/// Whether each node's answers are right.
+fn all_right<N: Naming, R: Threads>(
+    rt: &R,
+    alloc: Global,
+    pinned: &mut Pinned<'_, N>,
+    network: &Network,
+) -> Result<bool, Refusal> {
+    for node in 0..NODES {
+        if !is_right(rt, alloc, pinned, network, u64::from(node) + 1)? {
+            return Ok(false);
+        }
+    }
+    Ok(true)
+}
+
+/// A command is carried out, and waited for; the reader learns of it.
+fn write_and_learn<
+    N: Naming + Send + Sync + 'static,
+    D: Disk + Drop + Send + 'static,
+    R: Threads + Wait + Clock + Copy + Send + Sync + 'static,
+>(
+    desk: &Desk<N, D, NoGate, R>,
+    reader: &mut Reader<N>,
+    command: Command,
+) -> Result<(), Refusal> {
+    let ticket = desk.submit(command)?;
+    reader.learn(&desk.wait_shown(&ticket)?);
+    Ok(())
+}
+
 /// Whether each node's answers are right behind a command, which is waited for.
 fn are_right<
     N: Naming + Send + Sync + 'static,
@@ -68,15 +98,9 @@ fn are_right<
     command: Command,
 ) -> Result<bool, Refusal> {
     network.apply(command)?;
-    let ticket = desk.submit(command)?;
-    reader.learn(&desk.wait_shown(&ticket)?);
+    write_and_learn(desk, reader, command)?;
     let mut pinned = reader.pin()?;
-    for node in 0..NODES {
-        if !is_right(rt, alloc, &mut pinned, network, u64::from(node) + 1)? {
-            return Ok(false);
-        }
-    }
-    Ok(true)
+    all_right(rt, alloc, &mut pinned, network)
 }
 
 /// How many of the changes are answered right.

@@ -199,11 +199,27 @@ fn play_in<
     ended(desk, told)
 }
 
+/// The same over a new store with two landmarks.
+fn play_on_six<
+    G: Gate + Drop + Send + Sync + 'static,
+    R: Threads + Wait + Clock + Copy + Send + Sync + 'static,
+>(
+    rt: R,
+    alloc: Global,
+    gate: G,
+    noted: &Noted,
+    moves: Moves,
+) -> Result<(Told, usize), Refusal> {
+    let store = store_of_six(alloc, &[3, 6], 64)?;
+    let history = History::new(store.network(), store.version());
+    play_in::<Brand, _, _, _>(rt, alloc, history, store, gate, noted, moves)
+}
+
 /// What is answered of the last command, how many commands there were, how many rows were begun, how often the builder gave up, and how many milliseconds
 /// lie between its second attempt and its third.
 type Played = ((Told, usize), u64, u64, u64);
 
-/// The same of a new store with two landmarks.
+/// The same with a new gate.
 fn played<R: Threads + Wait + Clock + Copy + Send + Sync + 'static>(
     rt: R,
     alloc: Global,
@@ -217,8 +233,6 @@ fn played<R: Threads + Wait + Clock + Copy + Send + Sync + 'static>(
     let Ok(shared) = Arc::try_clone(&noted) else {
         return Err(Refusal::OutOfMemory);
     };
-    let store = store_of_six(alloc, &[3, 6], 64)?;
-    let history = History::new(store.network(), store.version());
     let gate = Dry {
         rt,
         start: Instant::now(&rt).ok(),
@@ -226,7 +240,7 @@ fn played<R: Threads + Wait + Clock + Copy + Send + Sync + 'static>(
         tasks,
         noted: shared,
     };
-    let told = play_in::<Brand, _, _, _>(rt, alloc, history, store, gate, &noted, moves)?;
+    let told = play_on_six(rt, alloc, gate, &noted, moves)?;
     let rows = noted.rows.load(Ordering::SeqCst);
     let given_up = noted.given_up.load(Ordering::SeqCst);
     let second = noted.second.load(Ordering::SeqCst);
@@ -234,47 +248,50 @@ fn played<R: Threads + Wait + Clock + Copy + Send + Sync + 'static>(
     Ok((told, rows, given_up, third.saturating_sub(second)))
 }
 
+const CLOSED: Result<u64, Refusal> = Err(Refusal::Closed);
+
+/// When flushes and tasks find memory, what the caller does, what is answered, how many rows are begun and how often the builder gives up.
+const SHORTAGES: [(Memory, Memory, Moves, (Told, usize), u64, u64); 4] = [
+    (
+        Memory::AfterTheShortage,
+        Memory::AfterTheShortage,
+        Moves::One,
+        ((Ok(1), Ok(())), 1),
+        2,
+        0,
+    ),
+    (
+        Memory::Never,
+        Memory::Always,
+        Moves::One,
+        ((CLOSED, Err(Refusal::Closed)), 1),
+        0,
+        0,
+    ),
+    (
+        Memory::Always,
+        Memory::Never,
+        Moves::One,
+        ((Ok(1), Err(Refusal::Closed)), 1),
+        0,
+        1,
+    ),
+    (
+        Memory::Always,
+        Memory::Always,
+        Moves::TwoAndHalt,
+        ((Ok(2), Ok(())), 2),
+        3,
+        0,
+    ),
+];
+
 // A shortage that is shorter than the rests between three attempts ends no thread, one without an end does, and of the builder's the gate is told: not
 // threads whose attempts follow at once, and not a builder that ends in silence. Where the desk is halted while a view is built, that view is given up
 // between two of its rows and the last one alone is built: not a builder that goes on with a view that a later one passes over.
 #[test]
 fn shortages_and_the_last_view(rt: HostRuntime) -> Result<(), Fail> {
-    let lost = Err(Refusal::Closed);
-    let table = [
-        (
-            Memory::AfterTheShortage,
-            Memory::AfterTheShortage,
-            Moves::One,
-            ((Ok(1), Ok(())), 1),
-            2,
-            0,
-        ),
-        (
-            Memory::Never,
-            Memory::Always,
-            Moves::One,
-            ((lost, Err(Refusal::Closed)), 1),
-            0,
-            0,
-        ),
-        (
-            Memory::Always,
-            Memory::Never,
-            Moves::One,
-            ((Ok(1), Err(Refusal::Closed)), 1),
-            0,
-            1,
-        ),
-        (
-            Memory::Always,
-            Memory::Always,
-            Moves::TwoAndHalt,
-            ((Ok(2), Ok(())), 2),
-            3,
-            0,
-        ),
-    ];
-    for (flushes, tasks, moves, want, rows, given_up) in table {
+    for (flushes, tasks, moves, want, rows, given_up) in SHORTAGES {
         let told = played(rt, rt.alloc(), flushes, tasks, moves)?;
         assert_eq!(rt; (told.0, told.1, told.2), (want, rows, given_up));
     }

@@ -1,4 +1,4 @@
-use Rattle.desk_tests.proofs.holding.views_come_unasked.Given as goal
+use Rattle.desk_tests.proofs.holding.watch_on_six.Given as goal
 
 -- the desk of the store that was just made; nothing is claimed of its disk
 abbrev pub ghosts-watch_views : goal.ghosts-watch_views

@@ -1,4 +1,4 @@
-use Rattle.desk_tests.proofs.rests.played.Given as goal
+use Rattle.desk_tests.proofs.rests.play_on_six.Given as goal
 
 -- the desk of the store that was just made; nothing is claimed of its disk
 abbrev pub ghosts-play_in : goal.ghosts-play_in

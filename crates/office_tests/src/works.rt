@@ -49,27 +49,63 @@ fn show<N: Naming, D: Disk, R: Wait>(
     }
 }
 
-/// What the shows tell of the first work's views, one behind the other and one behind the second work, and of the second work's. The arc is closed
-/// and has its new length in the second work's network.
-fn shows<N: Naming, D: Disk, R: Wait>(
+/// What a show of the work's view tells.
+fn show_of<N: Naming, D: Disk, R: Wait>(
     rt: &R,
     alloc: Global,
     office: &mut Office<N, D>,
-) -> Result<[Result<u64, Refusal>; 4], Refusal> {
+    work: &Work,
+) -> Result<Result<u64, Refusal>, Refusal>
+    requires { work.now.origin ≡ N.origin }
+{
+    let (built, _) = build(alloc, work)?;
+    Ok(show(rt, office, built))
+}
+
+/// What two shows of the first work's view tell, one behind the other, and what was built of it once more.
+fn shows_first<N: Naming, D: Disk, R: Wait>(
+    rt: &R,
+    alloc: Global,
+    office: &mut Office<N, D>,
+) -> Result<([Result<u64, Refusal>; 2], Built), Refusal>
+    ensures { IfOk result (λ told. told.1.shown.origin ≡ N.origin) }
+{
     let first = take(office, Command::Close { arc: 1 })?;
-    let (built, _) = build(alloc, &first)?;
-    let (again, _) = build(alloc, &first)?;
+    let once = show_of(rt, alloc, office, &first)?;
+    let twice = show_of(rt, alloc, office, &first)?;
     let (older, _) = build(alloc, &first)?;
-    let once = show(rt, office, built);
-    let twice = show(rt, office, again);
+    Ok(([once, twice], older))
+}
+
+/// What is told behind the second work: of what was built of the first, and of the second work's view. The arc is closed and has its new length in the second
+/// work's network.
+fn shows_second<N: Naming, D: Disk, R: Wait>(
+    rt: &R,
+    alloc: Global,
+    office: &mut Office<N, D>,
+    older: Built,
+) -> Result<[Result<u64, Refusal>; 2], Refusal>
+    requires { older.shown.origin ≡ N.origin }
+{
     let second = take(office, Command::Set { arc: 1, length: 9 })?;
     let (built, network) = build(alloc, &second)?;
     let before = show(rt, office, older);
     let last = show(rt, office, built);
     match network.arc(1) {
-        Some(arc) if !arc.opened && arc.length == 9 => Ok([once, twice, before, last]),
+        Some(arc) if !arc.opened && arc.length == 9 => Ok([before, last]),
         _ => Err(Refusal::NoSuchArc),
     }
+}
+
+/// What the shows tell of the first work's views, one behind the other and one behind the second work, and of the second work's.
+fn shows<N: Naming, D: Disk, R: Wait>(
+    rt: &R,
+    alloc: Global,
+    office: &mut Office<N, D>,
+) -> Result<[Result<u64, Refusal>; 4], Refusal> {
+    let ([once, twice], older) = shows_first(rt, alloc, office)?;
+    let [before, last] = shows_second(rt, alloc, office, older)?;
+    Ok([once, twice, before, last])
 }
 
 /// The same of an office over this store.

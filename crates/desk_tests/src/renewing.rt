@@ -74,11 +74,7 @@ fn write_and_learn<
     N: Naming + Send + Sync + 'static,
     D: Disk + Drop + Send + 'static,
     R: Threads + Wait + Clock + Copy + Send + Sync + 'static,
->(
-    desk: &Desk<N, D, NoGate, R>,
-    reader: &mut Reader<N>,
-    command: Command,
-) -> Result<(), Refusal> {
+>(desk: &Desk<N, D, NoGate, R>, reader: &mut Reader<N>, command: Command) -> Result<(), Refusal> {
     let ticket = desk.submit(command)?;
     reader.learn(&desk.wait_shown(&ticket)?);
     Ok(())

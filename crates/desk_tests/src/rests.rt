@@ -203,13 +203,7 @@ fn play_in<
 fn play_on_six<
     G: Gate + Drop + Send + Sync + 'static,
     R: Threads + Wait + Clock + Copy + Send + Sync + 'static,
->(
-    rt: R,
-    alloc: Global,
-    gate: G,
-    noted: &Noted,
-    moves: Moves,
-) -> Result<(Told, usize), Refusal> {
+>(rt: R, alloc: Global, gate: G, noted: &Noted, moves: Moves) -> Result<(Told, usize), Refusal> {
     let store = store_of_six(alloc, &[3, 6], 64)?;
     let history = History::new(store.network(), store.version());
     play_in::<Brand, _, _, _>(rt, alloc, history, store, gate, noted, moves)

@@ -165,7 +165,10 @@ fn once_failing<R: Threads>(rt: &R, alloc: Global, writes: u32) -> (Result<Done,
 fn a_writer_fails_at_each_write(rt: HostRuntime) {
     for writes in 1..20 {
         let (outcome, failed) = once_failing(&rt, rt.alloc(), writes);
-        assert!(rt; is_written_or_told(outcome, failed, writes), "write {writes}");
+        assert!(rt;
+            is_written_or_told(outcome, failed, writes),
+            "write {writes}"
+        );
     }
 }
 
@@ -183,7 +186,10 @@ fn batch_failing<R: Threads>(rt: &R, alloc: Global, writes: u32) -> (Result<Done
 fn a_writer_of_a_batch_fails(rt: HostRuntime) {
     for writes in 1..20 {
         let (outcome, failed) = batch_failing(&rt, rt.alloc(), writes);
-        assert!(rt; is_written_or_told(outcome, failed, writes), "write {writes}");
+        assert!(rt;
+            is_written_or_told(outcome, failed, writes),
+            "write {writes}"
+        );
     }
 }
 
@@ -343,7 +349,10 @@ fn faults_of_batches(rt: HostRuntime) {
     for (gr, p2p, which, line, code) in FAULTS {
         let fault = Fault { line, code };
         let failed = Failed::Text { which, fault };
-        assert!(rt; is_faulty_batch(&rt, rt.alloc(), gr, p2p, failed), "{fault}");
+        assert!(rt;
+            is_faulty_batch(&rt, rt.alloc(), gr, p2p, failed),
+            "{fault}"
+        );
     }
 }
 
@@ -543,11 +552,7 @@ fn is_batch_under<T: Threads>(
 }
 
 /// With each width, and with each number of rows that are kept, the bytes are those of plain rows.
-fn are_plain(
-    rt: &(impl Abort + AllocGlobal + Threads),
-    gr: &[u8],
-    p2p: &[u8],
-) -> Result<(), Fail> {
+fn are_plain(rt: &(impl Abort + AllocGlobal + Threads), gr: &[u8], p2p: &[u8]) -> Result<(), Fail> {
     let want = lines_of(rt, gr, p2p)?;
     assert!(rt; want.as_str().contains("\nd ") && want.as_str().contains("\nx "));
     for delta in [None, Some(1), Some(50)] {

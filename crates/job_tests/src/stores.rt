@@ -257,15 +257,7 @@ fn is_unmade(
     fault: Fault,
 ) -> Result<bool, Refusal> {
     let mut out = Vec::new(alloc);
-    let (outcome, mut disk) = create_text(
-        alloc,
-        MemDisk::new(alloc),
-        gr,
-        ss,
-        64,
-        None,
-        &mut out,
-    );
+    let (outcome, mut disk) = create_text(alloc, MemDisk::new(alloc), gr, ss, 64, None, &mut out);
     let is_told = outcome == Err(Failed::Text { which, fault }) && out.is_empty();
     Ok(is_told && bytes_of(alloc, &mut disk)?.is_empty())
 }
@@ -292,7 +284,10 @@ fn faulty(code: Code) -> Failed {
 fn applies_no_fault(alloc: Global, disk: MemDisk) -> (bool, MemDisk) {
     let mut out = Vec::new(alloc);
     let (outcome, disk) = apply_text(alloc, disk, b"close 7\nclose x\n", &mut out);
-    (outcome == Err(faulty(Code::BadLine)) && out.is_empty(), disk)
+    (
+        outcome == Err(faulty(Code::BadLine)) && out.is_empty(),
+        disk,
+    )
 }
 
 /// The same of pairs.
@@ -300,14 +295,20 @@ fn answers_no_fault<R: Threads>(rt: &R, alloc: Global, disk: MemDisk) -> (bool, 
     let mut out = Vec::new(alloc);
     let pairs = b"p aux sp p2p 1\nq 1 7\n";
     let (outcome, disk) = ask_text(rt, alloc, disk, pairs, None, &mut out);
-    (outcome == Err(faulty(Code::NodeRange)) && out.is_empty(), disk)
+    (
+        outcome == Err(faulty(Code::NodeRange)) && out.is_empty(),
+        disk,
+    )
 }
 
 /// The same of a store that is to be made where there is one.
 fn is_made_nowhere(alloc: Global, disk: MemDisk) -> (bool, MemDisk) {
     let mut out = Vec::new(alloc);
     let (outcome, disk) = create_text(alloc, disk, SIX, LANDMARKS, 64, None, &mut out);
-    (outcome == Err(Failed::Code(Refusal::NotEmpty)) && out.is_empty(), disk)
+    (
+        outcome == Err(Failed::Code(Refusal::NotEmpty)) && out.is_empty(),
+        disk,
+    )
 }
 
 /// Whether all three are refused so, and the disk.
@@ -474,12 +475,7 @@ fn taken_by(
 }
 
 /// Whether so many commands are taken by a disk that takes so many calls, and not by one that takes a call fewer.
-fn takes_just(
-    alloc: Global,
-    journal_pages: u32,
-    count: u32,
-    calls: u64,
-) -> Result<bool, Refusal> {
+fn takes_just(alloc: Global, journal_pages: u32, count: u32, calls: u64) -> Result<bool, Refusal> {
     let text = repeated(alloc, count)?;
     let taken = taken_by(alloc, journal_pages, &text, calls)?;
     let (refused, _) = taken_by(alloc, journal_pages, &text, calls.saturating_sub(1))?;

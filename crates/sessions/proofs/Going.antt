@@ -1,19 +1,21 @@
 -- A session as far as its lines were answered.
-use Rattle.std.proofs.Common.{◌≡◌, ℕ, false, List, [], ◌∷◌, ◌++◌, Option, None, Some, refl, sym, subst}
+use Rattle.std.proofs.Common.{◌≡◌, ◌∙◌, ℕ, true, false, List, [], ◌∷◌, ◌++◌, Option, None, Some, ap, inr, refl, sym, subst}
 use Rattle.std.proofs.KnownBytes.{Appends-nil, Appends-trans}
-use Rattle.std.specs.Prelude.{⊤, Ok, IfSome}
+use Rattle.std.specs.Prelude.{⊤, Result, Ok, IfSome}
 use mathlib.Core.List.{IsPrefix}
 use Rattle.history.specs.Origins.{Origin, Beginning}
+use Rattle.dimacs.specs.declared.fault.Code.{Code}
 use Rattle.sessions.specs.declared.answers.Accepted.{Accepted}
 use Rattle.sessions.specs.declared.drafts.Draft.{Draft}
 use Rattle.sessions.specs.declared.lines.Line.{Line}
+use Rattle.sessions.specs.declared.lines.Line.TheVariants.{Quit}
 use Rattle.sessions.specs.declared.reading.LastLine.{LastLine}
 use Rattle.sessions.specs.Copying.{Copying}
 use Rattle.sessions.specs.Drafts.{Drafted, HasDraft, next_draft_beside, next_supposing}
 use Rattle.sessions.specs.Reads.{ReadsOne, ReadsLine}
 use Rattle.sessions.specs.Told.{known_to}
 use Rattle.suppositions.specs.Supposing.{Supposition}
-use Rattle.sessions.specs.Turns.{Says, Standing, IsTurn, AreTurns, beginning, is_quit, HasServed, IsSessionAt}
+use Rattle.sessions.specs.Turns.{Says, Standing, IsTurn, AreTurns, beginning, is_quit, HasServed, IsSessionAt, Serves}
 
 -- the lines up to here were answered, and a session with this reader, these receipts, this last accepted group, this draft, this group that is to be supposed and
 -- this that is supposed goes on with what is left
@@ -103,3 +105,17 @@ far_turned copying last_line origin None left rest old mid new r s had has befor
 far_turned copying last_line origin (Some text) left rest old mid new r s had has before last draft next group following was is line goes_on far reads says drafted supposing begins =
     turned copying last_line origin text left rest old mid new r s had has before last draft next group following was is line goes_on far (rw far.left_is at reads)
     (says far.here.supposing far.here.draft far.supposing_is far.draft_is) (drafted far.here.supposing far.here.draft far.supposing_is far.draft_is) (supposing far.here.supposing far.here.draft far.supposing_is far.draft_is) begins
+
+quits : (line : Line) → is_quit line ≡ true → line ≡ Quit
+quits Quit e = refl
+quits _ e = cc
+
+-- the line `quit` ends it where it stands
+pub far_quit : {X : Type 0} (copying : Copying) (last_line : LastLine) (origin : Origin) (known left rest old new : Option (List ℕ)) (place receipts : Option Beginning) (last : Option Accepted) (draft group : Option Draft) (supposed : Option Supposition) (line : Line) (read : Result (Option Line) Code) (x : X) → read ≡ Ok (Some line)
+    → is_quit line ≡ true → FarServed copying last_line origin known left old new place receipts last draft group supposed → IfSome left (λ text. ReadsLine last_line text rest read)
+    → IfSome known (λ text. Serves copying last_line origin text rest old new (IsSessionAt origin place receipts) (Ok x))
+far_quit copying last_line origin None left rest old new place receipts last draft group supposed line read x is ends far reads = tt
+far_quit copying last_line origin (Some text) left rest old new place receipts last draft group supposed line read x is ends far reads =
+    let here : IfSome (Some far.here.left) (λ t. ReadsLine last_line t rest read) = subst (λ (l : Option (List ℕ)). IfSome l (λ t. ReadsLine last_line t rest read)) far.left_is reads in
+    let quit : read ≡ Ok (Some Quit) = is ∙ ap (λ (l : Line). Ok (Some l)) (quits line ends) in
+    (far.here, far.served, far.session, inr (subst (ReadsLine last_line far.here.left rest) quit here))

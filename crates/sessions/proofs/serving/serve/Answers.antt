@@ -1,5 +1,5 @@
-use Rattle.std.proofs.Common.{rules, refl}
-use Rattle.sessions.proofs.Going.{far_begun, far_turned}
+use Rattle.std.proofs.Common.{◌∙◌, rules, refl, sym}
+use Rattle.sessions.proofs.Going.{far_begun, far_quit, far_turned}
 use Rattle.sessions.proofs.serving.serve.Goals as goal
 
 pub loop-init : goal.loop-init
@@ -20,3 +20,7 @@ loop-preserved g c = record {
   failed_writes = search rules;
   same_writer = search rules;
 }
+
+pub returns-then-is_quit-clause-answered : goal.returns-then-is_quit-clause-answered
+returns-then-is_quit-clause-answered g c =
+    far_quit (g.C.Copies.copying c.args.terms.copies.now) c.args.terms.last_line g.N.Naming.origin _ _ _ _ _ _ _ _ _ _ _ c.in-Ok-Some.line c.next_line.result _ c.in-Ok-Some.is (sym c.is_quit.ensures ∙ c.if-is_quit.true) c.loop.invariant.far c.next_line.ensures.line

@@ -1,4 +1,4 @@
-use Rattle.std.proofs.Common.{inl, inr}
+use Rattle.std.proofs.Common.{inl, inr, refl}
 use Rattle.sessions.proofs.Answered.{look_told, near_told, nothing_told, table_told, told_command, told_unkept}
 use Rattle.sessions.proofs.answers.Session.answer_alone.Goals as goal
 
@@ -29,4 +29,4 @@ pub returns-in-Table-clause-told : goal.returns-in-Table-clause-told
 returns-in-Table-clause-told g c = rw c.in-Table.is (table_told (g.C.Copies.copying c.args.copies.now) g.N.Naming.origin c.in-Table.table _ _ _ _ _ _ _ c.table.result c.table.ensures.told)
 
 pub returns-in-Unkept-clause-told : goal.returns-in-Unkept-clause-told
-returns-in-Unkept-clause-told g c = rw c.in-Unkept.is (told_unkept _ g.N.Naming.origin _ _ _ _ _ _ c.tell_refusal.result c.tell_refusal.ensures.ok)
+returns-in-Unkept-clause-told g c = rw c.in-Unkept.is (told_unkept _ g.N.Naming.origin _ _ _ _ _ _ _ c.tell_refusal.result refl refl c.tell_refusal.ensures.ok)

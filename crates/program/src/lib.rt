@@ -194,7 +194,7 @@ fn folder_name<'w>(store: &'w str, copies: Option<&'w str>) -> &'w str
 
 /// The name of the text of pairs of which a failure is.
 fn pairs_name<'w>(pairs: PairTexts<'w>, of_targets: bool) -> &'w str
-    ensures { result.now ≡ pairs_name pairs of_targets }
+    ensures { result.now ≡ pairs_name pairs.entry of_targets }
 {
     match pairs {
         PairTexts::Listed { pairs } => pairs,

@@ -1,4 +1,4 @@
-use Rattle.std.proofs.Common.{◌≡◌, ℕ, ◌*◌, length, arith}
+use Rattle.std.proofs.Common.{◌≡◌, ◌*◌, length, arith}
 use Rattle.words.specs.Pipes.{names_of}
 use Rattle.words.proofs.PipeNames.{length-names_of}
 use Rattle.program.proofs.doors.see_pipes.Goals as goal

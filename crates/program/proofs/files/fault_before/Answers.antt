@@ -1,5 +1,5 @@
 -- A fault that is told of the network is told as one of the first text.
-use Rattle.std.proofs.Common.{◌≡◌, ◌⊎◌, ℕ, true, Result, Ok, Err, refl, inl, sym, subst}
+use Rattle.std.proofs.Common.{◌≡◌, true, Result, Ok, Err, refl, inl, sym, subst}
 use Rattle.dimacs.specs.declared.fault.Fault.{Fault}
 use Rattle.printing.specs.Failing.{told_of}
 use Rattle.printing.specs.declared.failed.Failed.{Failed}

@@ -1,4 +1,5 @@
-use Rattle.std.proofs.Common.{◌∙◌, rules, refl, sym}
+use Rattle.std.proofs.Common.{◌∙◌, Ok, Option, ap, rules, refl, sym}
+use Rattle.sessions.specs.declared.lines.Line.{Line}
 use Rattle.sessions.proofs.Going.{far_begun, far_quit, far_turned}
 use Rattle.sessions.proofs.serving.serve.Goals as goal
 
@@ -23,4 +24,4 @@ loop-preserved g c = record {
 
 pub returns-then-is_quit-clause-answered : goal.returns-then-is_quit-clause-answered
 returns-then-is_quit-clause-answered g c =
-    far_quit (g.C.Copies.copying c.args.terms.copies.now) c.args.terms.last_line g.N.Naming.origin _ _ _ _ _ _ _ _ _ _ _ c.in-Ok-Some.line c.next_line.result _ c.in-Ok-Some.is (sym c.is_quit.ensures ∙ c.if-is_quit.true) c.loop.invariant.far c.next_line.ensures.line
+    far_quit (g.C.Copies.copying c.args.terms.copies.now) c.args.terms.last_line g.N.Naming.origin _ _ _ _ _ _ _ _ _ _ _ c.in-Ok-Some.line c.next_line.result (tt {0}) (c.in-Ok-Some.is ∙ ap (λ (o : Option Line). Ok o) c.in-Ok-Some.field-0-is) (sym c.is_quit.ensures ∙ c.if-is_quit.true) c.loop.invariant.far c.next_line.ensures.line

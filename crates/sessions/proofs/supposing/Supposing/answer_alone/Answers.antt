@@ -10,7 +10,8 @@ pub returns-in-None-clause-told : goal.returns-in-None-clause-told
 returns-in-None-clause-told g c =
     let alone = subst (HasDraft None) (sym c.requires.alone) tt in
     let nothing : c.args.self.now.supposed ≡ None = search rules in
-    rw nothing
+    let gone : c.take.new.self ≡ None = search rules in
+    rw (nothing, gone)
     (alone_as_ever (g.C.Copies.copying c.args.copies.now) g.N.Naming.origin c.args.line _ _ _ _ _ _ _ c.answer.result (λ e. let yes = sym c.if-is_suppose.false ∙ c.is_suppose.ensures.1 e in absurd cc) (c.answer.ensures.told None alone))
 
 pub returns-in-None-clause-draft : goal.returns-in-None-clause-draft

@@ -71,6 +71,7 @@ def neighbours(program, folder, nodes, draw):
         began = time.perf_counter()
         session.ask(b"dist 0 0\n")
         bare.append(time.perf_counter() - began)
+        session.server.stdout.readline()
     session.end()
     print(f"{nodes} nodes: dist of neighbours {statistics.median(asked) / statistics.median(bare):.1f} of a round trip that is refused", flush=True)
 

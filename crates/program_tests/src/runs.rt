@@ -331,7 +331,9 @@ const ON_INPUTS: [(&str, &str, (u8, &str, &str)); 15] = [
 #[test]
 fn texts_on_standard_input(rt: HostRuntime) -> Result<(), Fail> {
     let folder = folder_of(&rt, rt.process(), "inputs")?;
-    each_ends(&rt, folder.as_str(), &ON_INPUTS);
+    for &(words, input, told) in &ON_INPUTS {
+        ends(&rt, folder.as_str(), words, input, told);
+    }
     remove(&rt, folder.as_str())
 }
 

@@ -1,8 +1,7 @@
 -- The potential of landmarks is consistent.
-use Rattle.std.proofs.Common.{◌≡◌, ◌∙◌, ℕ, zero, suc, ◌+◌, ◌-◌, ◌<◌, ◌≤◌, ◌++◌, max, List, [], ◌∷◌, length, map, fold, get_or, take, Option, None, Some, Contains, All, MatchOption, unwrap_or, refl, sym, ap, subst, arith, inl, inr}
+use Rattle.std.proofs.Common.{◌≡◌, ◌∙◌, ℕ, zero, suc, ◌+◌, ◌-◌, ◌≤◌, ◌++◌, max, List, [], ◌∷◌, length, map, fold, get_or, Option, None, Some, Contains, All, MatchOption, unwrap_or, refl, ap, subst, arith, inl, inr}
 use Rattle.std.proofs.lemmas.Bool.{cases_eq, cases_lt}
-use Rattle.std.proofs.lemmas.List.{map-append, take_more}
-use Rattle.std.proofs.lemmas.List.Sums.{fold-append, sum_by-cons}
+use Rattle.std.proofs.lemmas.List.Sums.{sum_by-cons}
 use Rattle.roadnet.specs.Net.{Net, IsNode}
 use Rattle.roadnet.specs.Walks.{Walk, Least, NoWalk, RowOf, length_of, distance_at}
 use Rattle.roadnet.proofs.Joined.{walks_join}
@@ -14,8 +13,7 @@ use Rattle.deltastep.proofs.Entries.{entry_none, entry_some}
 use Rattle.deltastep.proofs.Finishing.{walk_of_trip}
 use Rattle.deltastep.proofs.Guiding.{consistent_is_lower_bound}
 use Rattle.rows.specs.Bounds.{difference_of}
-use Rattle.rows.specs.Guides.{potential_by, potential_of, potential_toward, told_toward, AreAlike, AreOfSnapshot, PotentialIsConsistent, PotentialAtTarget}
-use Rattle.rows.specs.declared.guides.Toward.{Toward}
+use Rattle.rows.specs.Guides.{potential_by, potential_of, AreOfSnapshot, PotentialIsConsistent, PotentialAtTarget}
 use Rattle.rows.specs.declared.landmark_rows.Row.{Row}
 
 -- ---- at the target
@@ -95,28 +93,3 @@ told_by_word words to node from until small = elim (cases_eq (get_or words (node
       none ∙ ap (λ o. unwrap_or (difference_of o (Some to)) 0) (entry_none 4294967295 words node from until e)
   | inr ne ↦ ap (λ o. unwrap_or (difference_of o (Some to)) 0) (entry_some 4294967295 words node from until ne)
 ]
-
--- where the landmark does not reach the target, 0 stands for its way there
-told_alike : (to_u to_t : Option ℕ) → unwrap_or (difference_of to_u (Some (unwrap_or to_t 0))) 0 ≡ unwrap_or (difference_of to_u to_t) 0
-told_alike None to_t = refl
-told_alike (Some a) None = omega arith
-told_alike (Some a) (Some t) = refl
-
-pub told_as_row : (row : List (Option ℕ)) (words : List ℕ) (to target u : ℕ) → row ≡ map distance_of_short words → to ≡ unwrap_or (distance_at (map distance_of_short words) target) 0
-    → unwrap_or (difference_of (distance_at (map distance_of_short words) u) (Some to)) 0 ≡ potential_by row target u
-told_as_row row words to target u e e' = rw (e, e') (told_alike (distance_at (map distance_of_short words) u) (distance_at (map distance_of_short words) target))
-
--- one row more
-greatest_of_more : {X : Type 0} (f : X → ℕ) (xs : List X) (x : X) → fold max 0 (map f (xs ++ x ∷ [])) ≡ max (fold max 0 (map f xs)) (f x)
-greatest_of_more f xs x = ap (fold max 0) (map-append f xs (x ∷ [])) ∙ fold-append max 0 (map f xs) (f x ∷ [])
-
-pub AreAlike-next : (rows : List Row) (i : ℕ) (row : Row) (target : ℕ) → i < length rows → row ≡ get_or rows i row → (towards : List Toward) (toward : Toward) (more : List Toward) → more ≡ towards ++ toward ∷ [] → AreAlike towards (take i rows) target
-    → row.distances ≡ map distance_of_short toward.words.now → toward.to_target ≡ unwrap_or (distance_at (map distance_of_short toward.words.now) target) 0 → AreAlike more (take (i + 1) rows) target
-AreAlike-next rows i row target lt is towards toward more pushed alike words to_target u =
-    let left : potential_toward (towards ++ toward ∷ []) u ≡ max (potential_toward towards u) (told_toward toward u) = greatest_of_more (λ (t : Toward). told_toward t u) towards toward in
-    let right : potential_of (take i rows ++ row ∷ []) target u ≡ max (potential_of (take i rows) target u) (potential_by row.distances target u) = greatest_of_more (λ (r : Row). potential_by r.distances target u) (take i rows) row in
-    let tells : told_toward toward u ≡ potential_by row.distances target u = told_as_row row.distances toward.words.now toward.to_target target u words to_target in
-    let both : potential_toward more u ≡ potential_of (take i rows ++ row ∷ []) target u =
-    ap (λ (ts : List Toward). potential_toward ts u) pushed ∙ (left ∙ (ap (λ n. max n (told_toward toward u)) (alike u) ∙ (ap (λ n. max (potential_of (take i rows) target u) n) tells ∙ sym right))) in
-    let listed : take (i + 1) rows ≡ take i rows ++ row ∷ [] = take_more rows i row lt ∙ ap (λ (r : Row). take i rows ++ r ∷ []) (sym is) in
-    both ∙ ap (λ (rs : List Row). potential_of rs target u) (sym listed)

@@ -1,5 +1,6 @@
 -- The potential of landmarks: what their rows tell of the ways from each node to a target.
-use Rattle.std.specs.Prelude.{◌≡◌, ℕ, List, Option, Some, max, fold, map, unwrap_or, All}
+use Rattle.std.specs.Prelude.{◌≡◌, ◌≤◌, ℕ, Bool, nat_le, List, Option, Some, max, fold, map, unwrap_or, All}
+use Rattle.std.specs.List.{filter}
 use Rattle.roadnet.specs.Net.{Net, IsNode}
 use Rattle.roadnet.specs.Walks.{RowOf, distance_at}
 use Rattle.snapshot.specs.Groups.{Groups, IsSnapshotOf, IsGrouped}
@@ -27,6 +28,18 @@ potential_toward towards u = fold max 0 (map (λ toward. told_toward toward u) t
 -- these tell of each node what the rows tell
 abbrev pub AreAlike : List Toward → List Row → ℕ → Type 0
 AreAlike towards rows target = (u : ℕ) → potential_toward towards u ≡ potential_of rows target u
+
+-- these tell of no node more than the rows
+abbrev pub TellNoMore : List Toward → List Row → ℕ → Type 0
+TellNoMore towards rows target = (u : ℕ) → potential_toward towards u ≤ potential_of rows target u
+
+-- the row tells at least so much of the source
+abbrev pub leads : ℕ → ℕ → ℕ → Row → Bool
+leads least target source row = nat_le least (potential_by row.distances target source)
+
+-- those of the rows that do
+abbrev pub leading : ℕ → ℕ → ℕ → List Row → List Row
+leading least target source rows = filter (leads least target source) rows
 
 -- each is the row of its landmark
 abbrev pub AreRowsOf : Net → List Row → Type 0

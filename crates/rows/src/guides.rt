@@ -1,6 +1,6 @@
 //! Searches that the rows of landmarks lead.
 
-ghost use Rattle.std.specs.Prelude.{◌≡◌, ℕ, IfOk, IfSome, MatchOption, unwrap_or, map};
+ghost use Rattle.std.specs.Prelude.{◌≡◌, ◌≤◌, ℕ, IfOk, IfSome, MatchOption, unwrap_or, map};
 ghost use Rattle.std.specs.Option.{ForSome};
 ghost use Rattle.roadnet.specs.Net.{IsNode};
 ghost use Rattle.roadnet.specs.Walks.{Least, NoWalk};
@@ -8,7 +8,7 @@ ghost use Rattle.snapshot.specs.Groups.{Groups};
 ghost use Rattle.roadnet.specs.Walks.{distance_at};
 ghost use Rattle.deltastep.specs.Guided.{IsLowerBound};
 ghost use Rattle.deltastep.specs.Words.{distance_of_short};
-ghost use Rattle.rows.specs.Guides.{AreAlike, AreOfSnapshot, PotentialAtTarget, PotentialIsConsistent, potential_of, potential_toward, told_toward};
+ghost use Rattle.rows.specs.Guides.{AreAlike, AreOfSnapshot, PotentialAtTarget, PotentialIsConsistent, TellNoMore, leading, leads, potential_by, potential_of, potential_toward, told_toward};
 
 use crate::bounds::told_by;
 use crate::landmark_rows::Row;
@@ -23,17 +23,63 @@ pub fn laws_of_potentials()
     ensures at_target { PotentialAtTarget }
 {}
 
+/// How many landmarks lead a search, where there are as many: those that tell most of the ways from its source. More of them settle fewer
+/// nodes, and take longer at each.
+const LEADERS: usize = 8;
+
+/// What a row tells of the ways from a node to the target, or 0.
+fn told_of(row: &Row, target: u32, node: u32) -> u64
+    ensures { result ≡ potential_by row.now.distances target node }
+{
+    told_by(&row.distances, u64::from(node), u64::from(target)).unwrap_or(0)
+}
+
 /// The potential of a node: the greatest of what these rows tell of the ways from it to the target. It takes no memory.
 fn potential_of(rows: &[Row], target: u32, node: u32) -> u64
     ensures { result ≡ potential_of rows.now target node }
 {
     let mut potential: u64 = 0;
     for row in rows {
-        if let Some(difference) = told_by(&row.distances, u64::from(node), u64::from(target)) {
-            potential = potential.max(difference);
-        }
+        potential = potential.max(told_of(row, target, node));
     }
     potential
+}
+
+/// What each of these rows tells of the source, in their order.
+fn told_by_each(alloc: Global, rows: &[Row], target: u32, source: u32) -> Option<Vec<u64>> {
+    let mut told = Vec::new(alloc);
+    for row in rows {
+        if told.push(told_of(row, target, source)).is_err() {
+            return None;
+        }
+    }
+    Some(told)
+}
+
+/// The eighth greatest of these, or the least where they are fewer, or 0 where there are none.
+fn least_leader(mut told: Vec<u64>) -> u64 {
+    told.sort_unstable();
+    let beside = told.len().saturating_sub(LEADERS);
+    match told.get(beside) {
+        Some(least) => *least,
+        None => 0,
+    }
+}
+
+/// What a row has to tell of the source at least so that it leads: it is no more than the greatest that one tells.
+fn least_told(alloc: Global, rows: &[Row], target: u32, source: u32) -> Option<u64>
+    ensures { IfSome result (λ least. least ≤ potential_of rows.now target source) }
+{
+    let told = told_by_each(alloc, rows, target, source)?;
+    let greatest = potential_of(rows, target, source);
+    Some(least_leader(told).min(greatest))
+}
+
+/// Whether a row tells at least so much of the source.
+fn leads(row: &Row, target: u32, source: u32, least: u64) -> bool
+    ensures { result ≡ leads least target source row.now }
+{
+    least <= told_of(row, target, source)
 }
 
 /// A row that is kept in words of 4 bytes, and the length of the landmark's way to a target, or 0 where none leads there.
@@ -69,20 +115,43 @@ fn toward_of<'a>(row: &'a Row, target: u32) -> Option<Toward<'a>>
     Some(Toward { words, to_target })
 }
 
-/// All rows as they are read for a target, where all are kept in words of 4 bytes and memory is there.
-fn towards_of<'a>(alloc: Global, rows: &'a [Row], target: u32) -> Option<Vec<Toward<'a>>>
-    ensures { IfSome result (λ towards. AreAlike towards.items rows.now target) }
+/// Those rows that tell at least so much of the source, as they are read for a target, where all of them are kept in words of 4 bytes and
+/// memory is there.
+fn towards_of<'a>(
+    alloc: Global,
+    rows: &'a [Row],
+    target: u32,
+    source: u32,
+    least: u64,
+) -> Option<Vec<Toward<'a>>>
+    ensures { IfSome result (λ towards. AreAlike towards.items (leading least target source rows.now) target) }
 {
     let mut towards = Vec::new(alloc);
     for row in rows {
-        let Some(toward) = toward_of(row, target) else {
-            return None;
-        };
-        if towards.push(toward).is_err() {
-            return None;
+        if leads(row, target, source, least) {
+            let Some(toward) = toward_of(row, target) else {
+                return None;
+            };
+            if towards.push(toward).is_err() {
+                return None;
+            }
         }
     }
     Some(towards)
+}
+
+/// The rows that tell most of the source, as they are read for a target.
+fn leaders_of<'a>(
+    alloc: Global,
+    rows: &'a [Row],
+    target: u32,
+    source: u32,
+) -> Option<Vec<Toward<'a>>>
+    ensures below { IfSome result (λ towards. TellNoMore towards.items rows.now target) }
+    ensures source { IfSome result (λ towards. potential_toward towards.items source ≡ potential_of rows.now target source) }
+{
+    let least = least_told(alloc, rows, target, source)?;
+    towards_of(alloc, rows, target, source, least)
 }
 
 /// What a row tells of a node: by how much the way to the target is longer, or 0.
@@ -115,21 +184,23 @@ fn potential_toward(towards: &[Toward], node: u32) -> u64
 pub struct Landmarks<'a> {
     rows: &'a [Row],
     target: u32,
-    towards: Option<Vec<Toward<'a>>>,
+    leaders: Option<Vec<Toward<'a>>>,
 }
 
 impl<'a> Landmarks<'a> {
-    /// These rows, of one network, as a guide to a node of it. It takes 24 bytes a landmark; where no memory is given, or a row has words of
-    /// 8 bytes, it reads the rows as they are, which takes longer.
-    pub fn new(alloc: Global, rows: &'a [Row], target: u32) -> Landmarks<'a>
+    /// These rows, of one network, as a guide to a node of it from a source. Eight of them lead, those that tell most of the source, or more
+    /// where some tell as much as the eighth. It takes 8 bytes a landmark and 24 for each that leads; where no memory is given, or a row has
+    /// words of 8 bytes, all rows lead as they are, which takes longer.
+    pub fn new(alloc: Global, rows: &'a [Row], source: u32, target: u32) -> Landmarks<'a>
         ensures rows { result.rows.now ≡ rows.now }
         ensures target { result.target ≡ target }
-        ensures towards { ForSome result.towards (λ towards. AreAlike towards.items result.rows.now result.target) }
+        ensures below { ForSome result.leaders (λ leaders. TellNoMore leaders.items result.rows.now result.target) }
+        ensures source { ForSome result.leaders (λ leaders. potential_toward leaders.items source ≡ potential_of result.rows.now result.target source) }
     {
         Landmarks {
             rows,
             target,
-            towards: towards_of(alloc, rows, target),
+            leaders: leaders_of(alloc, rows, target, source),
         }
     }
 }
@@ -137,11 +208,11 @@ impl<'a> Landmarks<'a> {
 impl<'a> Guide for Landmarks<'a> {
     ghost target = { λ guide. guide.target };
 
-    ghost knows = { λ guide groups. ForSome guide.towards (λ towards. AreAlike towards.items guide.rows.now guide.target) × AreOfSnapshot guide.rows.now guide.target groups };
+    ghost knows = { λ guide groups. ForSome guide.leaders (λ leaders. TellNoMore leaders.items guide.rows.now guide.target) × AreOfSnapshot guide.rows.now guide.target groups };
 
     fn bound(&self, node: u32) -> u64 {
-        if let Some(towards) = &self.towards {
-            return potential_toward(towards, node);
+        if let Some(leaders) = &self.leaders {
+            return potential_toward(leaders, node);
         }
         potential_of(self.rows, self.target, node)
     }
@@ -168,7 +239,7 @@ impl View {
         if rows.is_empty() {
             return distance_to_in(alloc, snapshot, source, target, team, workspace);
         }
-        let guide = Landmarks::new(alloc, rows, target);
+        let guide = Landmarks::new(alloc, rows, source, target);
         distance_guided_in(alloc, snapshot, source, target, &guide, workspace)
     }
 }

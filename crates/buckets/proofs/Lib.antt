@@ -4,6 +4,7 @@ pub mod Distinct
 pub mod Listed
 pub mod Members
 pub mod Moved
+pub mod Quotients
 pub mod Ringed
 pub mod Standing
 pub mod Tables

@@ -64,12 +64,15 @@ fn end_of(bucket: u64, window: u64, delta: u64) -> u64
     bucket.saturating_add(window - 1).saturating_mul(delta)
 }
 
-/// The width of the buckets of keys: an eighth of that of the snapshot, at least 1. Along a least way keys hardly grow, so that of a bucket as
-/// wide as those of values many nodes would be relaxed more than once.
+/// The width of the buckets of keys: the greatest power of two that is at most an eighth of the snapshot's, or 1 where that is below 1. Along
+/// a least way keys hardly grow, so that of a bucket as wide as those of values many nodes would be relaxed more than once; and by a power of
+/// two a bucket is found without a division.
 fn width_of_keys(snapshot: &Snapshot) -> u32
-    ensures { result ≡ max (snapshot.now.delta / 8) 1 }
+    ensures positive { 1 ≤ result }
+    ensures narrow { result ≤ max (snapshot.now.delta / 8) 1 }
 {
-    (snapshot.delta() / 8).max(1)
+    let widest = (snapshot.delta() / 8).max(1);
+    1 << widest.ilog2()
 }
 
 impl<Q: BucketQueue> Search<Q> {

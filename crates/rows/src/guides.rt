@@ -1,6 +1,6 @@
 //! Searches that the rows of landmarks lead.
 
-ghost use Rattle.std.specs.Prelude.{◌≡◌, ◌≤◌, ℕ, IfOk, IfSome, MatchOption, unwrap_or, map};
+ghost use Rattle.std.specs.Prelude.{◌≡◌, ◌≤◌, ℕ, All, IfOk, IfSome, MatchOption, length, unwrap_or, map};
 ghost use Rattle.std.specs.Option.{ForSome};
 ghost use Rattle.roadnet.specs.Net.{IsNode};
 ghost use Rattle.roadnet.specs.Walks.{Least, NoWalk};
@@ -140,36 +140,51 @@ fn towards_of<'a>(
     Some(towards)
 }
 
-/// The rows that tell most of the source, as they are read for a target.
-fn leaders_of<'a>(
-    alloc: Global,
-    rows: &'a [Row],
-    target: u32,
-    source: u32,
-) -> Option<Vec<Toward<'a>>>
-    ensures below { IfSome result (λ towards. TellNoMore towards.items rows.now target) }
-    ensures source { IfSome result (λ towards. potential_toward towards.items source ≡ potential_of rows.now target source) }
+/// How many words each of these rows has at least.
+fn shortest_of(towards: &[Toward]) -> usize
+    ensures { All (λ toward. result ≤ length toward.words.now) towards.now }
 {
-    let least = least_told(alloc, rows, target, source)?;
-    towards_of(alloc, rows, target, source, least)
+    let mut shortest: usize = usize::MAX;
+    for toward in towards {
+        shortest = shortest.min(toward.words.len());
+    }
+    shortest
 }
 
-/// What a row tells of a node: by how much the way to the target is longer, or 0.
+/// The rows that lead a search, and how many words each of them has at least.
+#[derive(Drop)]
+struct Leaders<'a> {
+    towards: Vec<Toward<'a>>,
+    shortest: usize,
+    ghost long: { All (λ toward. shortest ≤ length toward.words.now) towards.items },
+}
+
+/// The rows that tell most of the source, as they are read for a target.
+fn leaders_of<'a>(alloc: Global, rows: &'a [Row], target: u32, source: u32) -> Option<Leaders<'a>>
+    ensures below { IfSome result (λ leaders. TellNoMore leaders.towards.items rows.now target) }
+    ensures source { IfSome result (λ leaders. potential_toward leaders.towards.items source ≡ potential_of rows.now target source) }
+{
+    let least = least_told(alloc, rows, target, source)?;
+    let towards = towards_of(alloc, rows, target, source, least)?;
+    let shortest = shortest_of(&towards);
+    Some(Leaders { towards, shortest })
+}
+
+/// What a row tells of a node that it has a word for: by how much the way to the target is longer, or 0.
 #[inline(always)]
 fn told_toward(toward: &Toward, node: u32) -> u32
+    requires node { (1 ≤ node) × (node ≤ length toward.now.words.now) }
     ensures { result ≡ told_toward toward.now node }
 {
-    let words = toward.words;
-    if node == 0 || node as usize > words.len() {
-        return 0;
-    }
-    let word = words[(node - 1) as usize];
+    let word = toward.words[(node - 1) as usize];
     toward.to_target.saturating_sub(word)
 }
 
-/// The greatest of what these rows tell of a node.
+/// The greatest of what these rows tell of a node that each has a word for.
 #[inline(always)]
 fn potential_toward(towards: &[Toward], node: u32) -> u64
+    requires node { 1 ≤ node }
+    requires long { All (λ toward. node ≤ length toward.words.now) towards.now }
     ensures { result ≡ potential_toward towards.now node }
 {
     let mut potential: u32 = 0;
@@ -179,12 +194,26 @@ fn potential_toward(towards: &[Toward], node: u32) -> u64
     u64::from(potential)
 }
 
+impl Leaders<'_> {
+    /// The greatest of what the rows tell of a node, or 0 where not each has a word for it.
+    #[inline(always)]
+    fn potential(&self, node: u32) -> u64
+        ensures below { result ≤ potential_toward self.now.towards.items node }
+        ensures within { 1 ≤ node → node ≤ self.now.shortest → result ≡ potential_toward self.now.towards.items node }
+    {
+        if node == 0 || node as usize > self.shortest {
+            return 0;
+        }
+        potential_toward(&self.towards, node)
+    }
+}
+
 /// The rows of landmarks as a guide to a target.
 #[derive(Drop)]
 pub struct Landmarks<'a> {
     rows: &'a [Row],
     target: u32,
-    leaders: Option<Vec<Toward<'a>>>,
+    leaders: Option<Leaders<'a>>,
 }
 
 impl<'a> Landmarks<'a> {
@@ -194,8 +223,8 @@ impl<'a> Landmarks<'a> {
     pub fn new(alloc: Global, rows: &'a [Row], source: u32, target: u32) -> Landmarks<'a>
         ensures rows { result.rows.now ≡ rows.now }
         ensures target { result.target ≡ target }
-        ensures below { ForSome result.leaders (λ leaders. TellNoMore leaders.items result.rows.now result.target) }
-        ensures source { ForSome result.leaders (λ leaders. potential_toward leaders.items source ≡ potential_of result.rows.now result.target source) }
+        ensures below { ForSome result.leaders (λ leaders. TellNoMore leaders.towards.items result.rows.now result.target) }
+        ensures source { ForSome result.leaders (λ leaders. potential_toward leaders.towards.items source ≡ potential_of result.rows.now result.target source) }
     {
         Landmarks {
             rows,
@@ -208,11 +237,11 @@ impl<'a> Landmarks<'a> {
 impl<'a> Guide for Landmarks<'a> {
     ghost target = { λ guide. guide.target };
 
-    ghost knows = { λ guide groups. ForSome guide.leaders (λ leaders. TellNoMore leaders.items guide.rows.now guide.target) × AreOfSnapshot guide.rows.now guide.target groups };
+    ghost knows = { λ guide groups. ForSome guide.leaders (λ leaders. TellNoMore leaders.towards.items guide.rows.now guide.target) × AreOfSnapshot guide.rows.now guide.target groups };
 
     fn bound(&self, node: u32) -> u64 {
         if let Some(leaders) = &self.leaders {
-            return potential_toward(leaders, node);
+            return leaders.potential(node);
         }
         potential_of(self.rows, self.target, node)
     }

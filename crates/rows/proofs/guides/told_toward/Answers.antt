@@ -3,4 +3,4 @@ use Rattle.rows.proofs.Potentials.{told_by_word}
 use Rattle.rows.proofs.guides.told_toward.Goals as goal
 
 pub returns : goal.returns
-returns c = c.saturating_sub.ensures ∙ told_by_word c.args.toward.now.words.now c.args.toward.now.to_target c.args.node (omega (arith, c.if-node-eq0.false)) (omega (arith, c.if-node-words.false)) (omega arith)
+returns c = c.saturating_sub.ensures ∙ told_by_word c.args.toward.now.words.now c.args.toward.now.to_target c.args.node c.requires.node.0 c.requires.node.1 (omega arith)

@@ -1,17 +1,14 @@
-use Rattle.std.proofs.Common.{◌∙◌, ap, sym, subst, arith, List}
+use Rattle.std.proofs.Common.{sym, subst, arith}
 use Rattle.deltastep.specs.Guided.{IsLowerBound}
-use Rattle.rows.specs.Guides.{potential_of, potential_toward}
-use Rattle.rows.specs.declared.guides.Toward.{Toward}
 use Rattle.rows.proofs.Potentials.{potential_is_below}
 use Rattle.rows.proofs.guides.LandmarksGuide.bound.Goals as goal
 
 pub returns-in-Some : goal.returns-in-Some
 returns-in-Some c = record {
   below = λ groups knows grouped low high legs trip.
-      let same = c.potential_toward.ensures ∙ ap (λ (ts : List Toward). potential_toward ts c.args.node) c.deref.ensures.value in
       let less = knows.0 _ c.in-Some.is c.args.node in
       let bound = potential_is_below c.args.self.now.rows.now c.args.self.now.target groups knows.1 grouped c.args.node legs trip in
-      omega (arith, same, less, bound);
+      omega (arith, c.potential.ensures.below, less, bound);
 }
 
 pub returns : goal.returns

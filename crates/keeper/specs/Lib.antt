@@ -1,6 +1,7 @@
 pub mod Cutting
 pub mod Failures
 pub mod Keeping
+pub mod Living
 pub mod Parts
 pub mod Rehearsing
 pub mod Running

@@ -1,8 +1,8 @@
 // Groups accepted.
-ghost use Rattle.std.specs.Prelude.{◌≡◌, ◌++◌, ◌∷◌, [], None, Some, MatchResult, OnOk, OnErr};
+ghost use Rattle.std.specs.Prelude.{◌≡◌, ◌++◌, ◌∷◌, [], OnOk, OnErr};
 ghost use Rattle.roadnet.specs.Outlines.{EachAdmitsGroup, EachStepsByGroup};
 ghost use Rattle.machine.specs.Calls.{Submits, refusal_of_submit};
-ghost use Rattle.keeper.specs.Parts.{ticket_for};
+ghost use Rattle.keeper.specs.Parts.{IsRefusedFor, ticket_for};
 
 use crate::ledgers::Ledger;
 use disk::Disk;
@@ -27,7 +27,7 @@ fn accept(history: &mut Vec<Group>, accepted: &mut Outline, group: Group) -> Res
 impl<D: Disk> Ledger<D> {
     /// For what the group would be refused, memory apart.
     pub(crate) fn may_submit(&self, group: &Group) -> Result<(), Refusal>
-        ensures { MatchResult result (λ _. refusal_of_submit self.now.machine group.now ≡ None) (λ refusal. refusal_of_submit self.now.machine group.now ≡ Some refusal) }
+        ensures { IsRefusedFor (refusal_of_submit self.now.machine group.now) result }
     {
         if self.broken {
             return Err(Refusal::Broken);

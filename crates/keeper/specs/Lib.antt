@@ -1,3 +1,4 @@
+pub mod Accepting
 pub mod Cutting
 pub mod Failures
 pub mod Keeping

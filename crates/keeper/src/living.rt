@@ -3,14 +3,11 @@ ghost use Rattle.std.specs.Prelude.{◌≡◌, ◌≤◌, false, true, length, I
 ghost use Rattle.std.specs.Option.{ForSome};
 ghost use Rattle.disk.specs.Stop.{armed_at};
 ghost use Rattle.rows.specs.Kept.{IsWidth};
-ghost use Rattle.disk.specs.Contents.{Only};
-ghost use Rattle.store.specs.State.{CameTidy, HasRoom, IsDurable, is_calm};
+ghost use Rattle.store.specs.State.{is_calm};
 ghost use Rattle.machine.specs.declared.events.Event.TheVariants.{Submit, Task as TaskEvent, Publish, Ask};
 ghost use Rattle.machine.specs.declared.events.Writing.TheVariants.{Step as a_step};
-ghost use Rattle.machine.specs.Machine.{start};
 ghost use Rattle.machine.specs.Lives.{told_version, told_part};
-ghost use Rattle.keeper.specs.Keeping.{sizes_of};
-ghost use Rattle.keeper.specs.Living.{Replies, RepliesToWrite, IsOnlyArmed};
+ghost use Rattle.keeper.specs.Living.{IsAtRest, BeginsFrom, Replies, RepliesToWrite, IsOnlyArmed};
 ghost use Rattle.keeper.specs.Parts.{told_as};
 ghost use Rattle.keeper.specs.Rehearsing.{is_stop};
 
@@ -56,15 +53,9 @@ impl<D: Stoppable> Life<D> {
     ) -> Result<Life<D>, Store<D>>
         requires calm { is_calm store ≡ true }
         requires width { ForSome delta IsWidth }
-        ensures begins { IfOk result (λ life. life.keeper.machine ≡ start (sizes_of store) store.network store.version store.unchecked) }
-        ensures disk { IfOk result (λ life. life.keeper.disk ≡ store.disk) }
-        ensures given { IfOk result (λ life. life.keeper.given ≡ store.given) }
-        ensures delta { IfOk result (λ life. life.delta ≡ delta) }
+        ensures begins { IfOk result (BeginsFrom store delta) }
         ensures handed_back { IfErr result (λ refused. refused ≡ store) }
-        // What the store told.
-        ensures room { HasRoom store }
-        ensures only { CameTidy D.honest D.content store.given → Only (D.content store.disk) (D.left store.disk) }
-        ensures stands { CameTidy D.honest D.content store.given → IsDurable store (D.content store.disk) }
+        ensures told { IsAtRest D.Disk store }
     {
         let opened = store.version();
         match Keeper::new(rt, alloc, store, delta) {

@@ -23,7 +23,7 @@ returns-in-Err-clause-lives g c came =
     let store = c.args.store in
     let first : First = first_of store in
     let m : Machine = start first.sizes first.network first.version first.unchecked in
-    let tells = c.in-Err.ensures in
+    let tells = c.in-Err.ensures.told in
     let there : c.close.result ≡ store.disk = (let back = c.in-Err.ensures.handed_back in let shut = c.close.ensures in cc) in
     rw (there, c.new-in-Err.ensures.items, c.new.ensures.items)
     (run_no_memory first [] [] [] m (run_none {P = Pick} first tells.room.version_to tells.room.unchecked_to) (g.D.Disk.left store.disk)
@@ -35,21 +35,21 @@ pub loop-event-init : goal.loop-event-init
 loop-event-init g c =
     let store = c.args.store in
     let first : First = first_of store in
-    let begins = c.in-Ok.ensures.begins in
+    let begins = c.in-Ok.ensures.begins.machine in
     let none : length c.in-Ok.life.keeper.machine.accepted ≡ 0 = ap (λ (m : Machine). length m.accepted) begins in
     record {
       room = omega (arith, none, c.new-2.ensures.len);
       goes = λ came.
           record {
-            came = subst (λ (d : g.row.D.Denot). CameTidy g.D.Disk.honest g.D.Disk.content d) (sym c.in-Ok.ensures.given) came;
+            came = subst (λ (d : g.row.D.Denot). CameTidy g.D.Disk.honest g.D.Disk.content d) (sym c.in-Ok.ensures.begins.given) came;
             run = run_as first [] [] c.new-3.result.items [] c.new-2.result.items c.in-Ok.life.keeper.machine c.new-3.ensures.items c.new-2.ensures.items
-                (subst (λ (m : Machine). HasRun {P = Pick} first [] [] [] m) (sym begins) (run_none {P = Pick} first c.in-Ok.ensures.room.version_to c.in-Ok.ensures.room.unchecked_to));
+                (subst (λ (m : Machine). HasRun {P = Pick} first [] [] [] m) (sym begins) (run_none {P = Pick} first c.in-Ok.ensures.told.room.version_to c.in-Ok.ensures.told.room.unchecked_to));
           };
       cut = λ came.
           cut_none _ _ first c.new-3.result.items _ c.new-3.ensures.items
           (ap (λ (cs : List Group). in_life first.network first.version cs c.in-Ok.life.keeper.machine) c.new-2.ensures.items ∙ ap (in_life first.network first.version []) begins);
-      delta = c.in-Ok.ensures.delta;
-      counted = fails_as {P = Pick} [] [] c.new-3.result.items (g.D.Disk.failures store.disk) _ c.new-3.ensures.items (rw c.in-Ok.ensures.disk (fails_none {P = Pick} (g.D.Disk.failures store.disk)));
+      delta = c.in-Ok.ensures.begins.delta_is;
+      counted = fails_as {P = Pick} [] [] c.new-3.result.items (g.D.Disk.failures store.disk) _ c.new-3.ensures.items (rw c.in-Ok.ensures.begins.disk (fails_none {P = Pick} (g.D.Disk.failures store.disk)));
     }
 
 pub loop-event-preserved : goal.loop-event-preserved

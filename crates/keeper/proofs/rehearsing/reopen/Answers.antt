@@ -14,13 +14,13 @@ returns-in-Ok-clause-begins g c m s honest held =
     let tidy = stands_after m content stands.standing s held stands.is in
     let there : CameTidy g.D.Disk.honest g.D.Disk.content store.disk = (c.in_ok-store.ensures.honest.0.1 honest, (stands.standing, subst (λ (d : List ℕ). StandsTidily d stands.standing) (sym (c.in_ok-store.ensures.same honest).same_content) tidy)) in
     record {
-      begins = begins_after m content stands.standing s held stands.is begun _ stands.told_is c.in-Ok.ensures.begins;
-      came = subst (λ (d : g.row.D.Denot). CameTidy g.D.Disk.honest g.D.Disk.content d) (sym (c.in-Ok.ensures.given ∙ c.in_ok-store.ensures.given)) there;
-      stands = stands_as_told m content stands.standing s held stands.is begun _ stands.told_is c.in-Ok.ensures.begins;
+      begins = begins_after m content stands.standing s held stands.is begun _ stands.told_is c.in-Ok.ensures.begins.machine;
+      came = subst (λ (d : g.row.D.Denot). CameTidy g.D.Disk.honest g.D.Disk.content d) (sym (c.in-Ok.ensures.begins.given ∙ c.in_ok-store.ensures.given)) there;
+      stands = stands_as_told m content stands.standing s held stands.is begun _ stands.told_is c.in-Ok.ensures.begins.machine;
     }
 
 pub returns-in-Ok-clause-content : goal.returns-in-Ok-clause-content
-returns-in-Ok-clause-content g c honest = ap g.D.Disk.content c.in-Ok.ensures.disk ∙ (c.in_ok-store.ensures.same honest).same_content
+returns-in-Ok-clause-content g c honest = ap g.D.Disk.content c.in-Ok.ensures.begins.disk ∙ (c.in_ok-store.ensures.same honest).same_content
 
 pub returns-in_err-store-clause-among : goal.returns-in_err-store-clause-among
 returns-in_err-store-clause-among g c honest =

@@ -5,6 +5,8 @@ use Rattle.std.specs.Prelude.{IsTrue, IfSome, map}
 use Rattle.std.specs.List.{flat_map}
 use Rattle.roadnet.specs.declared.refusals.Refusal.{Refusal}
 use Rattle.disk.specs.Stop.{armed_at}
+use Rattle.disk.specs.declared.disk.Disk.{Ghosts}
+use Rattle.disk.specs.declared.stoppable.Stoppable.{Ghosts as StoppableGhosts}
 use Rattle.disk.specs.declared.stoppable.Pick.{Pick}
 use Rattle.disk.specs.declared.stoppable.Pick.TheVariants.{Old}
 use Rattle.machine.specs.declared.events.Event.{Event}
@@ -17,11 +19,11 @@ use Rattle.machine.proofs.Rehearsing.{events_more, replies_more}
 use Rattle.keeper.specs.Cutting.{IsCut, HasCut, TurnHasCut, EachHasCut, HaveCut, TurnsTo, TurnsLast, first_state, picks_taken, picks_of}
 use Rattle.keeper.specs.Rehearsing.{is_stop, First}
 
-pub cut_by_taken : {D : Type 0} (synced : D → List ℕ) (is_unsynced : D → ℕ → Bool) (content : D → List ℕ) (picks : List Pick) (disk : D) (cut : List ℕ)
-    → (1 ≤ length picks → IsCut synced is_unsynced content picks disk cut) → (picks ≡ [] → IsCut synced is_unsynced content (Old ∷ []) disk cut)
-    → IsCut synced is_unsynced content (picks_taken picks) disk cut
-cut_by_taken synced is_unsynced content [] disk cut some none = none refl
-cut_by_taken synced is_unsynced content (pick ∷ picks) disk cut some none = some (omega arith)
+pub cut_by_taken : {D : Type 0} (disk : Ghosts D) (stoppable : StoppableGhosts D) (picks : List Pick) (old : D) (cut : List ℕ)
+    → (1 ≤ length picks → IsCut disk stoppable picks old cut) → (picks ≡ [] → IsCut disk stoppable (Old ∷ []) old cut)
+    → IsCut disk stoppable (picks_taken picks) old cut
+cut_by_taken disk stoppable [] old cut some none = none refl
+cut_by_taken disk stoppable (pick ∷ picks) old cut some none = some (omega arith)
 
 pub no_picks : (event : Event Pick) → is_stop event ≡ false → picks_of event ≡ None
 no_picks (Submit c) calm = refl
@@ -87,37 +89,37 @@ armed_so call (Some zero) now is = inr is
 armed_so call (Some (suc k)) now is = inl is
 
 -- ---- a run so far, which has come to this state
-pub record CutSoFar {D : Type 0} (Has : D → Machine → Type 0) (armed : D → Option ℕ) (moment : D → ℕ) (Cuts : List Pick → D → List ℕ → Type 0) (first : First) (events : List (Event Pick)) (replies : List Replied) (m : Machine) : Type 0 where
+pub record CutSoFar {D : Type 0} (disk : Ghosts D) (stoppable : StoppableGhosts D) (first : First) (events : List (Event Pick)) (replies : List Replied) (m : Machine) : Type 0 where
   pub turns : List (Turn Pick)
   pub events_are : events ≡ map (λ turn. turn.0) turns
   pub replies_are : replies ≡ flat_map (λ turn. turn.1) turns
   pub passes : Passes (first_state first) turns m
-  pub each : EachHasCut Has armed moment Cuts (first_state first) turns
+  pub each : EachHasCut disk stoppable (first_state first) turns
 
-module _ {D : Type 0} (Has : D → Machine → Type 0) (armed : D → Option ℕ) (moment : D → ℕ) (Cuts : List Pick → D → List ℕ → Type 0) where
-  each_none : (first : Machine) → EachHasCut Has armed moment Cuts first []
+module _ {D : Type 0} (disk : Ghosts D) (stoppable : StoppableGhosts D) where
+  each_none : (first : Machine) → EachHasCut disk stoppable first []
   each_none first before turn behind is =
       let sizes = length-append before (turn ∷ behind) in
       let same : 0 ≡ length (before ++ turn ∷ behind) = ap length is in
       absurd (omega (arith, sizes, same))
 
-  each_more : (first m : Machine) (turns : List (Turn Pick)) (turn : Turn Pick) → Passes first turns m → EachHasCut Has armed moment Cuts first turns → TurnHasCut Has armed moment Cuts m turn → EachHasCut Has armed moment Cuts first (turns ++ turn ∷ [])
+  each_more : (first m : Machine) (turns : List (Turn Pick)) (turn : Turn Pick) → Passes first turns m → EachHasCut disk stoppable first turns → TurnHasCut disk stoppable m turn → EachHasCut disk stoppable first (turns ++ turn ∷ [])
   each_more first m turns turn passes each cut before other behind is =
       ⊎_elim (λ l. each before other l.0 l.1)
-      (λ r. subst (λ (b : List (Turn Pick)). (old : Machine) × Passes first b old × TurnHasCut Has armed moment Cuts old other) (sym r.0)
-      (subst (λ (x : Turn Pick). (old : Machine) × Passes first turns old × TurnHasCut Has armed moment Cuts old x) (sym r.1) (m, passes, cut)))
+      (λ r. subst (λ (b : List (Turn Pick)). (old : Machine) × Passes first b old × TurnHasCut disk stoppable old other) (sym r.0)
+      (subst (λ (x : Turn Pick). (old : Machine) × Passes first turns old × TurnHasCut disk stoppable old x) (sym r.1) (m, passes, cut)))
       (split_last turns before behind turn other is)
 
-  of_turn : (event : Event Pick) (told : List Replied) (m : Machine) (cut : List ℕ) (o : Option (List Pick)) → IfSome o (λ picks. HasCut Has armed moment Cuts m event told picks cut)
-      → IfSome o (λ picks. (left : List ℕ) × HasCut Has armed moment Cuts m event told picks left)
+  of_turn : (event : Event Pick) (told : List Replied) (m : Machine) (cut : List ℕ) (o : Option (List Pick)) → IfSome o (λ picks. HasCut disk stoppable m event told picks cut)
+      → IfSome o (λ picks. (left : List ℕ) × HasCut disk stoppable m event told picks left)
   of_turn event told m cut None h = tt
   of_turn event told m cut (Some picks) h = (cut, h)
 
-  pub cut_none : (first : First) (replies : List Replied) (m : Machine) → replies ≡ [] → m ≡ first_state first → CutSoFar Has armed moment Cuts first [] replies m
+  pub cut_none : (first : First) (replies : List Replied) (m : Machine) → replies ≡ [] → m ≡ first_state first → CutSoFar disk stoppable first [] replies m
   cut_none first replies m none begins = record { turns = []; events_are = refl; replies_are = none; passes = begins; each = each_none (first_state first) }
 
-  module _ (first : First) (events : List (Event Pick)) (replies : List Replied) (m : Machine) (s : CutSoFar Has armed moment Cuts first events replies m) (event : Event Pick) (now : List Replied) where
-    pub cut_more : (new : Machine) (cut : List ℕ) → TurnsTo Has armed moment Cuts m event replies now new cut → CutSoFar Has armed moment Cuts first (events ++ event ∷ []) now new
+  module _ (first : First) (events : List (Event Pick)) (replies : List Replied) (m : Machine) (s : CutSoFar disk stoppable first events replies m) (event : Event Pick) (now : List Replied) where
+    pub cut_more : (new : Machine) (cut : List ℕ) → TurnsTo disk stoppable m event replies now new cut → CutSoFar disk stoppable first (events ++ event ∷ []) now new
     cut_more new cut t = record {
       turns = s.turns ++ (event, t.told) ∷ [];
       events_are = events_more s.turns events event t.told s.events_are;
@@ -127,7 +129,7 @@ module _ {D : Type 0} (Has : D → Machine → Type 0) (armed : D → Option ℕ
     }
 
     -- with the turn that ends it
-    pub cut_last : (rest : List (Event Pick)) (ended : Option Refusal) → TurnsLast Has armed moment Cuts m event replies now → (ended ≡ None → ⊥) → HaveCut Has armed moment Cuts first ((events ++ event ∷ []) ++ rest) now ended
+    pub cut_last : (rest : List (Event Pick)) (ended : Option Refusal) → TurnsLast disk stoppable m event replies now → (ended ≡ None → ⊥) → HaveCut disk stoppable first ((events ++ event ∷ []) ++ rest) now ended
     cut_last rest ended t early = record {
       turns = s.turns ++ (event, t.told) ∷ [];
       rest = rest;
@@ -137,8 +139,8 @@ module _ {D : Type 0} (Has : D → Machine → Type 0) (armed : D → Option ℕ
       whole = λ none. absurd (early none);
     }
 
-  module _ (first : First) (events : List (Event Pick)) (replies : List Replied) (m : Machine) (s : CutSoFar Has armed moment Cuts first events replies m) where
-    pub cut_early : (rest : List (Event Pick)) (ended : Option Refusal) → (ended ≡ None → ⊥) → HaveCut Has armed moment Cuts first (events ++ rest) replies ended
+  module _ (first : First) (events : List (Event Pick)) (replies : List Replied) (m : Machine) (s : CutSoFar disk stoppable first events replies m) where
+    pub cut_early : (rest : List (Event Pick)) (ended : Option Refusal) → (ended ≡ None → ⊥) → HaveCut disk stoppable first (events ++ rest) replies ended
     cut_early rest ended early = record {
       turns = s.turns;
       rest = rest;
@@ -148,7 +150,7 @@ module _ {D : Type 0} (Has : D → Machine → Type 0) (armed : D → Option ℕ
       whole = λ none. absurd (early none);
     }
 
-    pub cut_whole : (ended : Option Refusal) → HaveCut Has armed moment Cuts first events replies ended
+    pub cut_whole : (ended : Option Refusal) → HaveCut disk stoppable first events replies ended
     cut_whole ended = record {
       turns = s.turns;
       rest = [];
@@ -158,5 +160,5 @@ module _ {D : Type 0} (Has : D → Machine → Type 0) (armed : D → Option ℕ
       whole = λ _. refl;
     }
 
-  pub cut_of : (first : First) (events events' : List (Event Pick)) (replies : List Replied) (ended : Option Refusal) → events ≡ events' → HaveCut Has armed moment Cuts first events replies ended → HaveCut Has armed moment Cuts first events' replies ended
-  cut_of first events events' replies ended same h = subst (λ (es : List (Event Pick)). HaveCut Has armed moment Cuts first es replies ended) same h
+  pub cut_of : (first : First) (events events' : List (Event Pick)) (replies : List Replied) (ended : Option Refusal) → events ≡ events' → HaveCut disk stoppable first events replies ended → HaveCut disk stoppable first events' replies ended
+  cut_of first events events' replies ended same h = subst (λ (es : List (Event Pick)). HaveCut disk stoppable first es replies ended) same h

@@ -21,9 +21,9 @@ use Rattle.keeper.specs.Failures.{is_of_stop, IsAnswered, failures_by, failures_
 use Rattle.keeper.specs.Rehearsing.{is_stop, within_of}
 
 -- clauses on one result, together
-pub match_both : {T E : Type 0} (r : Result T E) (A B X : T → Type 0) (C F Y : E → Type 0) → ((x : T) → A x → B x → X x) → ((e : E) → C e → F e → Y e) → MatchResult r A C → IfOk r B → IfErr r F → MatchResult r X Y
-match_both (Ok x) A B X C F Y f g a b c = f x a b
-match_both (Err e) A B X C F Y f g a b c = g e a c
+pub match_both : {T E : Type 0} (r : Result T E) (A B X : T → Type 0) (C F Y : E → Type 0) → ((x : T) → A x → B x → X x) → ((e : E) → C e → F e → Y e) → MatchResult r A C → MatchResult r B F → MatchResult r X Y
+match_both (Ok x) A B X C F Y f g a b = f x a b
+match_both (Err e) A B X C F Y f g a b = g e a b
 
 -- a write's reply tells its failure
 pub told_by_write : (result : Result ℕ Refusal) (told : Replied) (n : ℕ) → told ≡ told_version result → failures_told result n ≡ failures_by told n

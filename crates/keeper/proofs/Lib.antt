@@ -5,6 +5,7 @@ pub mod Cut
 pub mod Failing
 pub mod Flushed
 pub mod Fronts
+pub mod Halts
 pub mod Held
 pub mod LifeKept
 pub mod Lifted

@@ -35,23 +35,6 @@ pub record Told (old mid : Machine) (w : Writing) (replies replies' : List Repli
   pub comes : (final : Replied) → StopComes old w (told ++ final ∷ []) final mid
   pub is : replies' ≡ replies ++ told
 
--- ---- clauses on one result, together
-pub if_ok_both : {T E : Type 0} (r : Result T E) (A B C X : T → Type 0) → ((x : T) → A x → B x → C x → X x) → IfOk r A → IfOk r B → IfOk r C → IfOk r X
-if_ok_both (Ok x) A B C X f a b c = f x a b c
-if_ok_both (Err e) A B C X f a b c = tt
-
-pub if_ok_five : {T E : Type 0} (r : Result T E) (A B C F G X : T → Type 0) → ((x : T) → A x → B x → C x → F x → G x → X x) → IfOk r A → IfOk r B → IfOk r C → IfOk r F → IfOk r G → IfOk r X
-if_ok_five (Ok x) A B C F G X go a b c f g = go x a b c f g
-if_ok_five (Err e) A B C F G X go a b c f g = tt
-
-pub if_err_map : {T E : Type 0} (r : Result T E) (A X : E → Type 0) → ((x : E) → A x → X x) → IfErr r A → IfErr r X
-if_err_map (Ok x) A X go a = tt
-if_err_map (Err e) A X go a = go e a
-
-pub if_err_both : {T E : Type 0} (r : Result T E) (A B C D X : E → Type 0) → ((x : E) → A x → B x → C x → D x → X x) → IfErr r A → IfErr r B → IfErr r C → IfErr r D → IfErr r X
-if_err_both (Ok x) A B C D X f a b c d = tt
-if_err_both (Err e) A B C D X f a b c d = f e a b c d
-
 -- lists that are known by equations alone
 pub run_as : {P : Type 0} (first : First) (events : List (Event P)) (replies replies' : List Replied) (history history' : List Group) (m : Machine) → replies' ≡ replies → history' ≡ history → HasRun first events replies history m → HasRun first events replies' history' m
 run_as first events replies replies' history history' m a b r =

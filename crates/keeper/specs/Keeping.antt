@@ -4,6 +4,8 @@ use Rattle.roadnet.specs.declared.groups.Group.{Group}
 use Rattle.roadnet.specs.Batches.{changed_by_all}
 use Rattle.roadnet.specs.Net.{Net}
 use Rattle.disk.specs.Contents.{Only}
+use Rattle.disk.specs.Moments.{LeavesOnly}
+use Rattle.disk.specs.declared.disk.Disk.{Ghosts}
 use Rattle.storefile.specs.StoreFile.{StandsTidyFor}
 use Rattle.store.specs.State.{StoreState, CameTidy}
 use Rattle.store.specs.Going.{Progress}
@@ -87,13 +89,9 @@ pub record Holds (content : List ℕ) (left : List ℕ → Type 0) (m : Machine)
 abbrev pub OfShown : Machine → (Net → Type 0) → Type 0
 OfShown m P = (net : Net) → network_at m m.shown ≡ Some net → P net
 
--- Where the keeper's store came tidy, and no write had failed before, P.
-abbrev pub WhenSound : {D : Type 0} → (D → Type 0) → (D → List ℕ) → Keeping D → Type 0 → Type 0
-WhenSound honest content k P = CameTidy honest content k.given → k.machine.broken ≡ false → P
-
--- the same of a ledger
-abbrev pub OfSoundLedger : {D : Type 0} → (D → Type 0) → (D → List ℕ) → LedgerState D → Type 0 → Type 0
-OfSoundLedger honest content k P = CameTidy honest content k.given → k.machine.broken ≡ false → P
+-- Where the store came tidy that was given so, and no write of this machine had failed, a stop at any moment of a call leaves what has P.
+abbrev pub LeavesAtAnyMoment : {D : Type 0} → Ghosts D → (List ℕ → Type 0) → Machine → D → D → D → Type 0
+LeavesAtAnyMoment disk P m given old new = CameTidy disk.honest disk.content given → m.broken ≡ false → LeavesOnly disk.moment disk.left_since old new P
 
 -- a content that a flush may leave: a flush that failed may have its groups in flight
 abbrev pub IsLeftByFlush : Machine → List ℕ → Type 0

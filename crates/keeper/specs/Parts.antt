@@ -1,5 +1,5 @@
 -- What calls answered, as the machine has it.
-use Rattle.std.specs.Prelude.{ℕ, Option, None, Some, Result, Ok, Err}
+use Rattle.std.specs.Prelude.{◌≡◌, ℕ, Option, None, Some, Result, Ok, Err, MatchResult}
 use Rattle.std.specs.Result.{result_map_both}
 use Rattle.roadnet.specs.declared.refusals.Refusal.{Refusal}
 use Rattle.roadnet.specs.declared.refusals.Refusal.TheVariants.{OutOfMemory}
@@ -33,3 +33,7 @@ or_out_of_memory = result_map_both (λ x. x) (λ _. OutOfMemory)
 -- a refusal, without what is handed back
 abbrev pub refusal_alone : {T E : Type 0} → Result T (Refusal × E) → Result T Refusal
 refusal_alone = result_map_both (λ x. x) (λ refused. refused.0)
+
+-- the test refuses for this, or for nothing
+abbrev pub IsRefusedFor : {T : Type 0} → Option Refusal → Result T Refusal → Type 0
+IsRefusedFor why result = MatchResult result (λ _. why ≡ None) (λ refusal. why ≡ Some refusal)

@@ -1,6 +1,6 @@
 // A ledger begun, armed and ended.
-ghost use Rattle.std.specs.Prelude.{◌≡◌, ◌≤◌, ◌↔◌, List, ℕ, true, IfOk, IfErr};
-ghost use Rattle.disk.specs.Stop.{armed_at};
+ghost use Rattle.std.specs.Prelude.{◌≡◌, ◌≤◌, true, IfOk, IfErr};
+ghost use Rattle.disk.specs.Arming.{Arms};
 ghost use Rattle.store.specs.State.{CameTidy, is_calm};
 ghost use Rattle.machine.specs.Machine.{start};
 ghost use Rattle.keeper.specs.Keeping.{Holds, sizes_of};
@@ -59,15 +59,7 @@ impl<D: Stoppable> Ledger<D> {
         requires { 1 ≤ k }
         ensures machine { self.new.machine ≡ self.old.machine }
         ensures given { self.new.given ≡ self.old.given }
-        ensures armed { D.armed self.new.disk ≡ armed_at k (D.armed self.old.disk) }
-        ensures content { D.content self.new.disk ≡ D.content self.old.disk }
-        ensures synced { D.synced self.new.disk ≡ D.synced self.old.disk }
-        ensures unsynced { (i : ℕ) → D.is_unsynced self.new.disk i ≡ D.is_unsynced self.old.disk i }
-        ensures left { (c : List ℕ) → D.left self.new.disk c ↔ D.left self.old.disk c }
-        ensures moment { D.moment self.new.disk ≡ D.moment self.old.disk }
-        ensures left_since { (t : ℕ) (c : List ℕ) → D.left_since self.new.disk t c ↔ D.left_since self.old.disk t c }
-        ensures failures { D.failures self.new.disk ≡ D.failures self.old.disk }
-        ensures honest { D.honest self.new.disk ↔ D.honest self.old.disk }
+        ensures arms { Arms D.Disk (record { synced = D.synced; is_unsynced = D.is_unsynced; armed = D.armed }) k self.old.disk self.new.disk }
     {
         self.store.arm(k);
     }

@@ -2,13 +2,14 @@
 ghost use Rattle.std.specs.Prelude.{◌≡◌, ◌≢◌, ◌*◌, ◌<◌, ◌≤◌, ◌↔◌, true, false, None, IfErr};
 ghost use Rattle.disk.specs.Contents.{Rose};
 ghost use Rattle.pagereader.specs.Outcomes.{failures_told};
-ghost use Rattle.disk.specs.Moments.{LeavesOnly, AddsNothing};
+ghost use Rattle.disk.specs.Moments.{AddsNothing};
 ghost use Rattle.roadnet.specs.declared.refusals.Refusal.TheVariants.{Device as device, OutOfMemory as out_of_memory};
 ghost use Rattle.store.specs.State.{CameTidy};
 ghost use Rattle.machine.specs.Machine.{IsState};
 ghost use Rattle.machine.specs.Calls.{StepsCheckpoint, has_nothing_unchecked};
 ghost use Rattle.machine.specs.Lives.{Checkpoints};
-ghost use Rattle.keeper.specs.Keeping.{Holds, IsDurableIn, OfSoundLedger};
+ghost use Rattle.keeper.specs.Cutting.{HoldsFor};
+ghost use Rattle.keeper.specs.Keeping.{IsDurableIn, LeavesAtAnyMoment};
 ghost use Rattle.keeper.specs.Parts.{told_as};
 
 use crate::ledgers::{Ledger, has_failed};
@@ -29,8 +30,9 @@ impl<D: Disk> Ledger<D> {
     /// Refused is a broken store (45); then want of memory (11), where one would begin, before any call of the disk; then a disk that failed
     /// (43), after which the store is broken. After each other refusal nothing is changed.
     ///
-    /// A slot of `examples/six.gr` has one page behind its head, where it has no room for more arcs: with version 1 durable a step answers `Done(1)`, and no page is unchecked then. Where it has
-    /// three, a step of 1 page answers `Going`, and one of 64 after it `Done(1)`, also where version 2 has become durable in between.
+    /// A slot of `examples/six.gr` has one page behind its head, where it has no room for more arcs: with version 1 durable a step answers
+    /// `Done(1)`, and no page is unchecked then. Where it has three, a step of 1 page answers `Going`, and one of 64 after it `Done(1)`, also where
+    /// version 2 has become durable in between.
     pub fn checkpoint_step(&mut self, pages: u32) -> Result<Part, Refusal>
         requires some { 1 ≤ pages }
         requires few { pages ≤ 64 }
@@ -45,7 +47,7 @@ impl<D: Disk> Ledger<D> {
         ensures given { self.new.given ≡ self.old.given }
         ensures adds_nothing { self.old.machine.broken ≡ true → AddsNothing D.moment D.left_since self.old.disk self.new.disk }
         // A stop at any moment of the call leaves what stands for what is durable.
-        ensures any_moment { OfSoundLedger D.honest D.content self.old (LeavesOnly D.moment D.left_since self.old.disk self.new.disk (IsDurableIn self.old.machine)) }
+        ensures any_moment { LeavesAtAnyMoment D.Disk (IsDurableIn self.old.machine) self.old.machine self.old.given self.old.disk self.new.disk }
         ensures honest { D.honest self.new.disk ↔ D.honest self.old.disk }
     {
         if self.broken {
@@ -69,7 +71,7 @@ impl<D: Disk> Ledger<D> {
         ensures given { self.new.given ≡ self.old.given }
         ensures adds_nothing { self.old.machine.broken ≡ true → AddsNothing D.moment D.left_since self.old.disk self.new.disk }
         // A stop at any moment of the call leaves what stands for what is durable.
-        ensures any_moment { OfSoundLedger D.honest D.content self.old (LeavesOnly D.moment D.left_since self.old.disk self.new.disk (IsDurableIn self.old.machine)) }
+        ensures any_moment { LeavesAtAnyMoment D.Disk (IsDurableIn self.old.machine) self.old.machine self.old.given self.old.disk self.new.disk }
         ensures honest { D.honest self.new.disk ↔ D.honest self.old.disk }
     {
         for _ in 0..self.most_steps() {
@@ -85,7 +87,7 @@ impl<D: Disk> Ledger<D> {
     fn most_steps(&self) -> u32
         ensures enough { self.now.machine.sizes.checkpoint_pages < 64 * result }
         ensures state { IsState self.now.machine }
-        ensures held { CameTidy D.honest D.content self.now.given → D.honest self.now.disk × Holds (D.content self.now.disk) (D.left self.now.disk) self.now.machine }
+        ensures held { CameTidy D.honest D.content self.now.given → HoldsFor D.Disk self.now.disk self.now.machine }
     {
         let _ = self.store.version();
         MOST_STEPS

@@ -1,13 +1,14 @@
 // Pending groups made durable.
-ghost use Rattle.std.specs.Prelude.{◌≡◌, ◌≢◌, ◌↔◌, ◌≤◌, ◌-◌, true, length, take, None, Some, IfErr, MatchResult};
+ghost use Rattle.std.specs.Prelude.{◌≡◌, ◌≢◌, ◌↔◌, ◌≤◌, ◌-◌, true, length, take, IfErr, MatchResult};
 ghost use Rattle.disk.specs.Contents.{Rose};
 ghost use Rattle.pagereader.specs.Outcomes.{failures_told};
-ghost use Rattle.disk.specs.Moments.{LeavesOnly, AddsNothing};
+ghost use Rattle.disk.specs.Moments.{AddsNothing};
 ghost use Rattle.roadnet.specs.declared.refusals.Refusal.TheVariants.{Device as device};
 ghost use Rattle.roadnet.specs.Groups.{count_of};
 ghost use Rattle.machine.specs.Machine.{fitting, most_of_page};
 ghost use Rattle.machine.specs.Calls.{Flushes, refusal_of_flush};
-ghost use Rattle.keeper.specs.Keeping.{IsLeftByFlush, OfSoundLedger};
+ghost use Rattle.keeper.specs.Keeping.{IsLeftByFlush, LeavesAtAnyMoment};
+ghost use Rattle.keeper.specs.Parts.{IsRefusedFor};
 
 use crate::ledgers::{Ledger, has_failed};
 use disk::Disk;
@@ -48,7 +49,7 @@ fn still_pending(written: &Result<u64, Refusal>, pending: u64, commands: u64) ->
 impl<D: Disk> Ledger<D> {
     /// For what a flush would be refused, memory and the disk apart.
     fn may_flush(&self) -> Result<(), Refusal>
-        ensures { MatchResult result (λ _. refusal_of_flush self.now.machine ≡ None) (λ refusal. refusal_of_flush self.now.machine ≡ Some refusal) }
+        ensures { IsRefusedFor (refusal_of_flush self.now.machine) result }
     {
         if self.broken {
             return Err(Refusal::Broken);
@@ -80,7 +81,7 @@ impl<D: Disk> Ledger<D> {
         ensures given { self.new.given ≡ self.old.given }
         ensures adds_nothing { self.old.machine.broken ≡ true → AddsNothing D.moment D.left_since self.old.disk self.new.disk }
         // A stop at any moment of the call leaves what a flush that failed leaves.
-        ensures any_moment { OfSoundLedger D.honest D.content self.old (LeavesOnly D.moment D.left_since self.old.disk self.new.disk (IsLeftByFlush self.old.machine)) }
+        ensures any_moment { LeavesAtAnyMoment D.Disk (IsLeftByFlush self.old.machine) self.old.machine self.old.given self.old.disk self.new.disk }
         ensures honest { D.honest self.new.disk ↔ D.honest self.old.disk }
     {
         self.may_flush()?;

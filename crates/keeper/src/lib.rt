@@ -12,6 +12,7 @@ mod halted;
 mod keepers;
 mod ledgers;
 mod lives;
+mod living;
 mod numbers;
 mod offices;
 mod rehearsing;

@@ -2,9 +2,10 @@
 // numbers go on from.
 ghost use Rattle.std.specs.Prelude.{◌≡◌, ◌≢◌, ◌<◌, ◌^◌, ◌++◌, ◌∷◌, [], None, Ok, Err, length, IfOk, IfErr, OnOk, OnErr};
 ghost use Rattle.roadnet.specs.declared.refusals.Refusal.TheVariants.{OutOfMemory as out_of_memory, Closed as closed};
-ghost use Rattle.roadnet.specs.Outlines.{IsOutline, EachAdmitsGroup, EachStepsByGroup};
+ghost use Rattle.roadnet.specs.Outlines.{IsOutline, EachAdmitsGroup};
 ghost use Rattle.machine.specs.Machine.{IsState};
 ghost use Rattle.machine.specs.Calls.{Submits, refusal_of_submit};
+ghost use Rattle.keeper.specs.Accepting.{Accepts};
 
 use crate::keepers::Keeper;
 use crate::ledgers::Ledger;
@@ -23,11 +24,8 @@ fn accept_into(
 ) -> Result<(), Refusal>
     requires admits { EachAdmitsGroup accepted.old group }
     requires outline { IsOutline accepted.old }
-    ensures history { OnOk result (history.new.items ≡ history.old.items ++ group ∷ []) }
-    ensures accepted { OnOk result (EachStepsByGroup accepted.old group accepted.new) }
+    ensures accepts { Accepts group result history.old.items history.new.items accepted.old accepted.new }
     ensures written { OnOk result (log.new ≡ record log.old { groups = log.old.groups ++ group ∷ [] }) }
-    ensures same_history { OnErr result (history.new.items ≡ history.old.items) }
-    ensures same_accepted { OnErr result (accepted.new ≡ accepted.old) }
     ensures unwritten { OnErr result (log.new ≡ log.old) }
     ensures refused { IfErr result (λ refusal. refusal ≢ closed → refusal ≡ out_of_memory) }
     ensures room { length log.old.groups < 2 ^ 62 → IfErr result (λ refusal. refusal ≡ out_of_memory) }

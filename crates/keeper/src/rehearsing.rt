@@ -1,20 +1,20 @@
 // A script's events over lives with stops.
-ghost use Rattle.std.specs.Prelude.{◌≡◌, ◌≢◌, ◌+◌, ◌<◌, ◌≤◌, ◌∷◌, ◌++◌, [], ℕ, true, false, List, Option, None, Some, Result, length, take, ◌-◌, ◌↔◌, IsTrue, IfOk, IfErr, IfSome, OnOk, MatchResult};
+ghost use Rattle.std.specs.Prelude.{◌≡◌, ◌+◌, ◌<◌, ◌≤◌, ◌∷◌, ◌++◌, [], ℕ, true, false, List, None, Some, length, ◌↔◌, IsTrue, IfOk, IfErr, IfSome, OnOk, MatchResult};
 ghost use Rattle.std.specs.Option.{ForSome};
 ghost use Rattle.std.specs.Vec.{vec_len, vec_capacity};
 ghost use Rattle.disk.specs.Contents.{Only, AreAmong};
-ghost use Rattle.disk.specs.declared.stoppable.Pick.TheVariants.{Old};
 ghost use Rattle.pagereader.specs.Outcomes.{failures_with, MayEndOpening};
 ghost use Rattle.rows.specs.Kept.{IsWidth};
 ghost use Rattle.roadnet.specs.declared.refusals.Refusal.TheVariants.{OutOfMemory as out_of_memory, Device as device};
 ghost use Rattle.store.specs.State.{CameTidy, is_calm};
 ghost use Rattle.store.specs.Opening.{IsPassing, StandsForSome};
 ghost use Rattle.machine.specs.declared.events.Event.TheVariants.{Stop};
-ghost use Rattle.machine.specs.declared.events.Replied.TheVariants.{Refused, Opened, Stopped};
-ghost use Rattle.keeper.specs.Cutting.{IsCut, picks_taken, picks_of, call_of, HoldsFor, StandsAsTold, HaveCut};
+ghost use Rattle.machine.specs.declared.events.Replied.TheVariants.{Refused};
+ghost use Rattle.keeper.specs.Cutting.{IsCut, picks_taken, HaveCut};
 ghost use Rattle.keeper.specs.Failures.{EndsAsTold};
-ghost use Rattle.keeper.specs.Rehearsing.{BeginsAfter, first_of};
-ghost use Rattle.keeper.specs.Running.{width_of, Continues, LeavesDurable, HasLivedTo, HasToldForGood, IsToldOrFailed, IsPassingEnd, OfEachLeft, OfEachHalted, OfEachWithin, HasHaltedSo, FailsAtEnd, GoesOnWith, EndsWith, FailsWith, CutsWith, CutsLast};
+ghost use Rattle.keeper.specs.Rehearsing.{first_of};
+ghost use Rattle.keeper.specs.Running.{width_of, LeavesDurable, HasLivedTo, HasToldForGood, IsToldOrFailed, IsTidy, IsReady, GoesOrEnds, OfEachWithin, Takes};
+ghost use Rattle.keeper.specs.Running.{Leaves, IsHaltedBy, OfEachHalted, MayResume, OpensAfter, GoesOnBehind, EndsBehind, TellsStop, FailsAtEnd};
 
 use crate::halted::Halted;
 use crate::lives::Life;
@@ -86,8 +86,8 @@ fn stop_disk<D: Stoppable>(disk: &mut D, picks: &[Pick]) -> bool
     ensures honest { D.honest disk.old → D.honest disk.new }
     ensures failures { D.failures disk.new ≡ D.failures disk.old }
     ensures came { IsTrue result ↔ (D.armed disk.old ≡ Some 0) }
-    ensures picks { D.honest disk.old → 1 ≤ length picks.now → IsCut D.synced D.is_unsynced D.content picks.now disk.old (D.content disk.new) }
-    ensures no_picks { D.honest disk.old → picks.now ≡ [] → IsCut D.synced D.is_unsynced D.content (Old ∷ []) disk.old (D.content disk.new) }
+    ensures cut { D.honest disk.old
+        → IsCut D.Disk (record { synced = D.synced; is_unsynced = D.is_unsynced; armed = D.armed }) (picks_taken picks.now) disk.old (D.content disk.new) }
 {
     if picks.is_empty() {
         disk.stop(&[Pick::Old])
@@ -122,10 +122,7 @@ fn reopen<R: Threads, D: Stoppable>(
     delta: Option<u32>,
 ) -> Result<Life<D>, (Refusal, D)>
     requires width { ForSome delta IsWidth }
-    ensures begins { OfEachLeft D.honest D.content disk (λ m. IfOk result (λ life. BeginsAfter m life.keeper.machine)) }
-    ensures came { OfEachLeft D.honest D.content disk (λ _. IfOk result (λ life. CameTidy D.honest D.content life.keeper.given)) }
-    // What the disk holds stands for the network at the version that is opened.
-    ensures stands { OfEachLeft D.honest D.content disk (λ m. IfOk result (λ life. StandsAsTold m (Opened life.keeper.machine.base_version) (D.content disk))) }
+    ensures begins { OpensAfter disk result }
     ensures empty { IfOk result (λ life. life.keeper.machine.accepted ≡ []) }
     ensures content { D.honest disk → IfOk result (λ life. D.content life.keeper.disk ≡ D.content disk) }
     ensures delta { IfOk result (λ life. life.delta ≡ delta) }
@@ -134,7 +131,8 @@ fn reopen<R: Threads, D: Stoppable>(
     ensures passing { D.honest disk → ((c : List ℕ) → D.left disk c → StandsForSome c) → IfErr result (λ refused. IsPassing refused.0) }
     ensures among { D.honest disk → IfErr result (λ refused. AreAmong (D.left refused.1) (D.left disk)) }
     // The count of failures rises by one where 43 is told, and else not at all.
-    ensures counted { MatchResult result (λ life. D.failures life.keeper.disk ≡ D.failures disk) (λ why. D.failures why.1 ≡ failures_with why.0 (D.failures disk)) }
+    ensures counted { MatchResult result (λ life. D.failures life.keeper.disk ≡ D.failures disk)
+        (λ why. D.failures why.1 ≡ failures_with why.0 (D.failures disk)) }
 {
     let store = open(alloc, disk)?;
     match Life::begin(rt, alloc, store, delta) {
@@ -146,26 +144,11 @@ fn reopen<R: Threads, D: Stoppable>(
 impl<D: Stoppable> Halted<D> {
     /// Opens what the stop left, and begins the next life; or ends the run, where the store isn't opened or its first view not built.
     fn resume<R: Threads>(self, rt: &R, alloc: Global) -> Result<Run<D>, Rehearsal<D>>
-        requires opened { self.opened ≤ self.durable }
-        requires durable { self.durable ≤ self.opened + vec_len self.groups }
-        requires room { vec_len self.history + vec_len self.groups ≤ vec_capacity self.history }
-        requires reply { vec_len self.replies < vec_capacity self.replies }
-        ensures begins { OfEachHalted D.honest D.content D.left self (λ m. IfOk result (λ run. BeginsAfter m run.life.keeper.machine)) }
-        ensures history { OfEachHalted D.honest D.content D.left self (λ m. IfOk result (Continues m self.history.items)) }
-        ensures came { OfEachHalted D.honest D.content D.left self (λ m. IfOk result (λ run. CameTidy D.honest D.content run.life.keeper.given)) }
-        ensures content { D.honest self.disk → IfOk result (λ run. D.content run.life.keeper.disk ≡ D.content self.disk) }
-        ensures stands { OfEachHalted D.honest D.content D.left self (λ m. IfOk result (λ run. StandsAsTold m (Opened run.life.keeper.machine.base_version) (D.content self.disk))) }
-        ensures told { IfOk result (λ run. run.replies.items ≡ self.replies.items ++ Opened run.life.keeper.machine.base_version ∷ []) }
-        ensures room { IfOk result (λ run. vec_len run.history + length run.life.keeper.machine.accepted ≤ vec_capacity run.history) }
-        ensures ended { OfEachHalted D.honest D.content D.left self (λ _. IfErr result (λ ended. IsPassingEnd ended.ended)) }
-        ensures left { OfEachHalted D.honest D.content D.left self (λ m. IfErr result (λ ended. LeavesDurable D.left ended.disk m)) }
-        ensures counted { FailsAtEnd D.failures self.disk result }
-        ensures delta { MatchResult result (λ run. run.life.delta ≡ self.delta) (λ ended. ended.delta ≡ self.delta) }
-        ensures honest { D.honest self.disk → IfErr result (λ ended. D.honest ended.disk) }
-        ensures causes { IfErr result (λ ended. IfSome ended.ended MayEndOpening) }
-        ensures stopped { IfErr result (λ ended. ended.replies.items ≡ self.replies.items ++ Stopped ∷ []) }
-        ensures early { IfErr result (λ ended. ended.ended ≢ None) }
-        ensures durable { IfErr result (λ ended. ended.history.items ≡ self.history.items ++ take (self.durable - self.opened) self.groups.items) }
+        requires { MayResume self }
+        ensures goes { GoesOrEnds self.delta (D.honest self.disk) result }
+        ensures resumes { OfEachHalted self (λ m. MatchResult result (GoesOnBehind m self) (EndsBehind m self)) }
+        ensures told { TellsStop self.replies.items result }
+        ensures counted { FailsAtEnd self.disk result }
     {
         let Halted {
             mut history,
@@ -213,8 +196,7 @@ impl<D: Stoppable> Run<D> {
         ensures history { self.new.history.items ≡ self.old.history.items }
         ensures replies { self.new.replies.items ≡ self.old.replies.items }
         ensures life { self.new.life ≡ self.old.life }
-        ensures room { OnOk result (vec_len self.new.history + length self.new.life.keeper.machine.accepted + 1 ≤ vec_capacity self.new.history) }
-        ensures reply { OnOk result (vec_len self.new.replies + 2 ≤ vec_capacity self.new.replies) }
+        ensures ready { OnOk result (IsReady self.new) }
         ensures kept { vec_capacity self.old.history ≤ vec_capacity self.new.history }
         ensures refused { IfErr result (λ refusal. refusal ≡ out_of_memory) }
     {
@@ -229,20 +211,9 @@ impl<D: Stoppable> Run<D> {
 
     /// Closes the keeper and stops the disk. Answers whether an armed call came.
     fn halt(self, picks: &[Pick]) -> (Halted<D>, bool)
-        ensures history { result.0.history ≡ self.history }
-        ensures replies { result.0.replies ≡ self.replies }
-        ensures groups { result.0.groups.items ≡ self.life.keeper.machine.accepted }
-        ensures opened { result.0.opened ≡ self.life.keeper.machine.base_version }
-        ensures durable { result.0.durable ≡ self.life.keeper.machine.durable }
-        ensures delta { result.0.delta ≡ self.life.delta }
-        ensures halted { CameTidy D.honest D.content self.life.keeper.given → HasHaltedSo D.content D.left self.life.keeper.machine result.0 }
-        ensures honest { CameTidy D.honest D.content self.life.keeper.given → D.honest result.0.disk }
-        ensures failures { D.failures result.0.disk ≡ D.failures self.life.keeper.disk }
+        ensures leaves { Leaves self result.0 }
+        ensures halted { IsTidy self → IsHaltedBy (picks_taken picks.now) self result.0 }
         ensures came { IsTrue result.1 ↔ (D.armed self.life.keeper.disk ≡ Some 0) }
-        ensures cut { CameTidy D.honest D.content self.life.keeper.given
-            → IsCut D.synced D.is_unsynced D.content (picks_taken picks.now) self.life.keeper.disk (D.content result.0.disk) }
-        // What the disk held before the stop.
-        ensures held { CameTidy D.honest D.content self.life.keeper.given → HoldsFor D.honest D.content D.left self.life.keeper.disk self.life.keeper.machine }
     {
         let Run {
             history,
@@ -272,22 +243,9 @@ impl<D: Stoppable> Run<D> {
 
     /// A stop between two calls.
     fn stop<R: Threads>(self, rt: &R, alloc: Global) -> Result<Run<D>, Rehearsal<D>>
-        requires room { vec_len self.history + length self.life.keeper.machine.accepted + 1 ≤ vec_capacity self.history }
-        requires reply { vec_len self.replies + 2 ≤ vec_capacity self.replies }
-        ensures room { IfOk result (λ run. vec_len run.history + length run.life.keeper.machine.accepted ≤ vec_capacity run.history) }
-        ensures delta { MatchResult result (λ run. run.life.delta ≡ self.life.delta) (λ ended. ended.delta ≡ self.life.delta) }
-        // It has run this event too.
-        ensures goes { GoesOnWith D.honest D.content Stop self result }
-        // It has ended with the event.
-        ensures ends { EndsWith D.honest D.content D.left Stop self result }
-        // The disk failed as the replies tell.
-        ensures counted { FailsWith D.failures Stop self result }
-        // It has cut the disk by its picks.
-        ensures cut { CutsWith D.honest D.content (HoldsFor D.honest D.content D.left) D.armed D.moment (IsCut D.synced D.is_unsynced D.content) Stop self result }
-        ensures cut_last { CutsLast D.honest D.content (HoldsFor D.honest D.content D.left) D.armed D.moment (IsCut D.synced D.is_unsynced D.content) Stop self result }
-        ensures early { IfErr result (λ ended. ended.ended ≢ None) }
-        ensures causes { IfErr result (λ ended. IfSome ended.ended MayEndOpening) }
-        ensures honest { CameTidy D.honest D.content self.life.keeper.given → IfErr result (λ ended. D.honest ended.disk) }
+        requires { IsReady self }
+        ensures goes { GoesOrEnds self.life.delta (IsTidy self) result }
+        ensures takes { Takes Stop self result }
     {
         let (halted, _) = self.halt(&[Pick::Old]);
         halted.resume(rt, alloc)
@@ -302,24 +260,9 @@ impl<D: Stoppable> Run<D> {
         picks: &[Pick],
         writing: Writing,
     ) -> Result<Run<D>, Rehearsal<D>>
-        requires room { vec_len self.history + length self.life.keeper.machine.accepted + 1 ≤ vec_capacity self.history }
-        requires reply { vec_len self.replies + 2 ≤ vec_capacity self.replies }
-        ensures room { IfOk result (λ run. vec_len run.history + length run.life.keeper.machine.accepted ≤ vec_capacity run.history) }
-        ensures delta { MatchResult result (λ run. run.life.delta ≡ self.life.delta) (λ ended. ended.delta ≡ self.life.delta) }
-        // It has run this event too.
-        ensures goes { OfEachWithin writing (λ event. GoesOnWith D.honest D.content event self result) }
-        // It has ended with the event.
-        ensures ends { OfEachWithin writing (λ event. EndsWith D.honest D.content D.left event self result) }
-        // The disk failed as the replies tell.
-        ensures counted { OfEachWithin writing (λ event. FailsWith D.failures event self result) }
-        // It has cut the disk by its picks.
-        ensures cut { OfEachWithin writing (λ event. call_of event ≡ Some call → picks_of event ≡ Some (picks_taken picks.now)
-            → CutsWith D.honest D.content (HoldsFor D.honest D.content D.left) D.armed D.moment (IsCut D.synced D.is_unsynced D.content) event self result) }
-        ensures cut_last { OfEachWithin writing (λ event. call_of event ≡ Some call → picks_of event ≡ Some (picks_taken picks.now)
-            → CutsLast D.honest D.content (HoldsFor D.honest D.content D.left) D.armed D.moment (IsCut D.synced D.is_unsynced D.content) event self result) }
-        ensures early { IfErr result (λ ended. ended.ended ≢ None) }
-        ensures causes { IfErr result (λ ended. IfSome ended.ended MayEndOpening) }
-        ensures honest { CameTidy D.honest D.content self.life.keeper.given → IfErr result (λ ended. D.honest ended.disk) }
+        requires { IsReady self }
+        ensures goes { GoesOrEnds self.life.delta (IsTidy self) result }
+        ensures takes { OfEachWithin writing call picks.now (λ event. Takes event self result) }
     {
         let mut run = self;
         run.life.arm(call);
@@ -338,22 +281,9 @@ impl<D: Stoppable> Run<D> {
         alloc: Global,
         event: &Event<Pick>,
     ) -> Result<Run<D>, Rehearsal<D>>
-        requires room { vec_len self.history + length self.life.keeper.machine.accepted + 1 ≤ vec_capacity self.history }
-        requires reply { vec_len self.replies + 2 ≤ vec_capacity self.replies }
-        ensures room { IfOk result (λ run. vec_len run.history + length run.life.keeper.machine.accepted ≤ vec_capacity run.history) }
-        ensures delta { MatchResult result (λ run. run.life.delta ≡ self.life.delta) (λ ended. ended.delta ≡ self.life.delta) }
-        // It has run this event too.
-        ensures goes { GoesOnWith D.honest D.content event.now self result }
-        // It has ended with the event.
-        ensures ends { EndsWith D.honest D.content D.left event.now self result }
-        // The disk failed as the replies tell.
-        ensures counted { FailsWith D.failures event.now self result }
-        // With a stop it has cut the disk by its picks.
-        ensures cut { CutsWith D.honest D.content (HoldsFor D.honest D.content D.left) D.armed D.moment (IsCut D.synced D.is_unsynced D.content) event.now self result }
-        ensures cut_last { CutsLast D.honest D.content (HoldsFor D.honest D.content D.left) D.armed D.moment (IsCut D.synced D.is_unsynced D.content) event.now self result }
-        ensures early { IfErr result (λ ended. ended.ended ≢ None) }
-        ensures causes { IfErr result (λ ended. IfSome ended.ended MayEndOpening) }
-        ensures honest { CameTidy D.honest D.content self.life.keeper.given → IfErr result (λ ended. D.honest ended.disk) }
+        requires { IsReady self }
+        ensures goes { GoesOrEnds self.life.delta (IsTidy self) result }
+        ensures takes { Takes event.now self result }
     {
         match event {
             Event::Stop => self.stop(rt, alloc),
@@ -378,8 +308,8 @@ impl<D: Stoppable> Run<D> {
         ensures replies { result.replies ≡ self.replies }
         ensures ended { result.ended ≡ ended }
         ensures disk { result.disk ≡ self.life.keeper.disk }
-        ensures left { CameTidy D.honest D.content self.life.keeper.given → LeavesDurable D.left self.life.keeper.disk self.life.keeper.machine }
-        ensures honest { CameTidy D.honest D.content self.life.keeper.given → D.honest self.life.keeper.disk }
+        ensures left { IsTidy self → LeavesDurable D.left self.life.keeper.disk self.life.keeper.machine }
+        ensures honest { IsTidy self → D.honest self.life.keeper.disk }
         ensures delta { result.delta ≡ self.life.delta }
     {
         let Run {
@@ -409,8 +339,9 @@ impl<D: Stoppable> Run<D> {
 /// lost by a stop. The run ends before an event for want of memory (11), or with a stop whose store is not opened, or whose first view is not
 /// built (43 or 11).
 ///
-/// On a new store of `examples/six.gr`, the group of `Close { arc: 7 }` and a flush that is cut at its third write or sync are replied to with `Accepted { number: 1 }`
-/// and with `Opened { version: 0 }` where the picks are old, `Opened { version: 1 }` where they are new; the history has no group then, or that one.
+/// On a new store of `examples/six.gr`, the group of `Close { arc: 7 }` and a flush that is cut at its third write or sync are replied to with
+/// `Accepted { number: 1 }` and with `Opened { version: 0 }` where the picks are old, `Opened { version: 1 }` where they are new; the history has
+/// no group then, or that one.
 pub fn rehearse<R: Threads, D: Stoppable>(
     rt: &R,
     alloc: Global,
@@ -430,7 +361,8 @@ pub fn rehearse<R: Threads, D: Stoppable>(
     // within, the call that it names was armed, on a disk that held what the state there allows. The armed call has come where no reply but the
     // stop's own is told, and has not where the event's own is 43.
     ensures cut { CameTidy D.honest D.content store.given
-        → HaveCut (HoldsFor D.honest D.content D.left) D.armed D.moment (IsCut D.synced D.is_unsynced D.content) (first_of store) events.now result.replies.items result.ended }
+        → HaveCut D.Disk (record { synced = D.synced; is_unsynced = D.is_unsynced; armed = D.armed })
+        (first_of store) events.now result.replies.items result.ended }
     // The disk that is handed back keeps the disk model.
     ensures honest { CameTidy D.honest D.content store.given → D.honest result.disk }
     // Whatever the disk, it ends early with a refusal of an opening alone: 11, or 40 to 43.

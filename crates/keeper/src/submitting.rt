@@ -1,8 +1,9 @@
 // Groups accepted.
-ghost use Rattle.std.specs.Prelude.{◌≡◌, ◌++◌, ◌∷◌, [], None, Some, MatchResult, OnOk, OnErr};
-ghost use Rattle.roadnet.specs.Outlines.{EachAdmitsGroup, EachStepsByGroup};
+ghost use Rattle.std.specs.Prelude.{◌≡◌};
+ghost use Rattle.roadnet.specs.Outlines.{EachAdmitsGroup};
 ghost use Rattle.machine.specs.Calls.{Submits, refusal_of_submit};
-ghost use Rattle.keeper.specs.Parts.{ticket_for};
+ghost use Rattle.keeper.specs.Accepting.{Accepts};
+ghost use Rattle.keeper.specs.Parts.{IsRefusedFor, ticket_for};
 
 use crate::ledgers::Ledger;
 use disk::Disk;
@@ -13,10 +14,7 @@ use roadnet::{Group, OutOfMemory, Outline, Refusal};
 /// Puts an admitted group behind those that were accepted, and carries it out. After an `Err` nothing has changed.
 fn accept(history: &mut Vec<Group>, accepted: &mut Outline, group: Group) -> Result<(), OutOfMemory>
     requires { EachAdmitsGroup accepted.old group }
-    ensures history { OnOk result (history.new.items ≡ history.old.items ++ group ∷ []) }
-    ensures accepted { OnOk result (EachStepsByGroup accepted.old group accepted.new) }
-    ensures same_history { OnErr result (history.new.items ≡ history.old.items) }
-    ensures same_accepted { OnErr result (accepted.new ≡ accepted.old) }
+    ensures { Accepts group result history.old.items history.new.items accepted.old accepted.new }
 {
     history.reserve(1)?;
     accepted.carry_out(&group)?;
@@ -27,7 +25,7 @@ fn accept(history: &mut Vec<Group>, accepted: &mut Outline, group: Group) -> Res
 impl<D: Disk> Ledger<D> {
     /// For what the group would be refused, memory apart.
     pub(crate) fn may_submit(&self, group: &Group) -> Result<(), Refusal>
-        ensures { MatchResult result (λ _. refusal_of_submit self.now.machine group.now ≡ None) (λ refusal. refusal_of_submit self.now.machine group.now ≡ Some refusal) }
+        ensures { IsRefusedFor (refusal_of_submit self.now.machine group.now) result }
     {
         if self.broken {
             return Err(Refusal::Broken);

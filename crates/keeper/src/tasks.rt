@@ -129,7 +129,8 @@ impl<D: Disk> Keeper<D> {
     /// For what `publish` of the view would be refused: 51 where no task is out, 52 where the view's version or network is not the task's,
     /// compared arc by arc. It takes no memory.
     pub fn may_publish(&self, view: &View) -> Result<(), Refusal>
-        ensures { MatchResult result (λ _. IsTask self.now.machine view.now.version view.now.network) (RefusesView self.now.machine view.now.version view.now.network) }
+        ensures { MatchResult result (λ _. IsTask self.now.machine view.now.version view.now.network)
+            (RefusesView self.now.machine view.now.version view.now.network) }
     {
         let Some(task) = self.task else {
             return Err(Refusal::NoTask);

@@ -2,11 +2,11 @@
 ghost use Rattle.std.specs.Prelude.{◌≡◌, ◌≢◌, ◌≤◌, ◌↔◌, ◌∷◌, [], true, false, None, IfErr};
 ghost use Rattle.disk.specs.Contents.{Rose};
 ghost use Rattle.pagereader.specs.Outcomes.{failures_told};
-ghost use Rattle.disk.specs.Moments.{LeavesOnly, AddsNothing};
+ghost use Rattle.disk.specs.Moments.{AddsNothing};
 ghost use Rattle.roadnet.specs.declared.refusals.Refusal.TheVariants.{Device as device, OutOfMemory as out_of_memory};
 ghost use Rattle.machine.specs.Calls.{Submits, Flushes, StepsCheckpoint, has_nothing_unchecked};
 ghost use Rattle.machine.specs.Lives.{Checkpoints};
-ghost use Rattle.keeper.specs.Keeping.{IsDurableIn, IsLeftByFlush, WhenSound};
+ghost use Rattle.keeper.specs.Keeping.{IsDurableIn, IsLeftByFlush, LeavesAtAnyMoment};
 ghost use Rattle.keeper.specs.Parts.{ticket_for, told_as};
 
 use crate::keepers::Keeper;
@@ -77,7 +77,7 @@ impl<D: Disk> Keeper<D> {
         ensures width { self.new.width ≡ self.old.width }
         ensures adds_nothing { self.old.machine.broken ≡ true → AddsNothing D.moment D.left_since self.old.disk self.new.disk }
         // A stop at any moment of the call leaves what a flush that failed leaves.
-        ensures any_moment { WhenSound D.honest D.content self.old (LeavesOnly D.moment D.left_since self.old.disk self.new.disk (IsLeftByFlush self.old.machine)) }
+        ensures any_moment { LeavesAtAnyMoment D.Disk (IsLeftByFlush self.old.machine) self.old.machine self.old.given self.old.disk self.new.disk }
         ensures honest { D.honest self.new.disk ↔ D.honest self.old.disk }
     {
         self.ledger.flush()
@@ -90,8 +90,9 @@ impl<D: Disk> Keeper<D> {
     /// Refused is a broken store (45); then want of memory (11), where one would begin, before any call of the disk; then a disk that failed
     /// (43), after which the store is broken. After each other refusal nothing is changed.
     ///
-    /// A slot of `examples/six.gr` has one page behind its head, where it has no room for more arcs: with version 1 durable a step answers `Done(1)`, and no page is unchecked then. Where it has
-    /// three, a step of 1 page answers `Going`, and one of 64 after it `Done(1)`, also where version 2 has become durable in between.
+    /// A slot of `examples/six.gr` has one page behind its head, where it has no room for more arcs: with version 1 durable a step answers
+    /// `Done(1)`, and no page is unchecked then. Where it has three, a step of 1 page answers `Going`, and one of 64 after it `Done(1)`, also where
+    /// version 2 has become durable in between.
     pub fn checkpoint_step(&mut self, pages: u32) -> Result<Part, Refusal>
         requires some { 1 ≤ pages }
         requires few { pages ≤ 64 }
@@ -107,7 +108,7 @@ impl<D: Disk> Keeper<D> {
         ensures width { self.new.width ≡ self.old.width }
         ensures adds_nothing { self.old.machine.broken ≡ true → AddsNothing D.moment D.left_since self.old.disk self.new.disk }
         // A stop at any moment of the call leaves what stands for what is durable.
-        ensures any_moment { WhenSound D.honest D.content self.old (LeavesOnly D.moment D.left_since self.old.disk self.new.disk (IsDurableIn self.old.machine)) }
+        ensures any_moment { LeavesAtAnyMoment D.Disk (IsDurableIn self.old.machine) self.old.machine self.old.given self.old.disk self.new.disk }
         ensures honest { D.honest self.new.disk ↔ D.honest self.old.disk }
     {
         self.ledger.checkpoint_step(pages)
@@ -126,7 +127,7 @@ impl<D: Disk> Keeper<D> {
         ensures width { self.new.width ≡ self.old.width }
         ensures adds_nothing { self.old.machine.broken ≡ true → AddsNothing D.moment D.left_since self.old.disk self.new.disk }
         // A stop at any moment of the call leaves what stands for what is durable.
-        ensures any_moment { WhenSound D.honest D.content self.old (LeavesOnly D.moment D.left_since self.old.disk self.new.disk (IsDurableIn self.old.machine)) }
+        ensures any_moment { LeavesAtAnyMoment D.Disk (IsDurableIn self.old.machine) self.old.machine self.old.given self.old.disk self.new.disk }
         ensures honest { D.honest self.new.disk ↔ D.honest self.old.disk }
     {
         self.ledger.checkpoint()

@@ -5,7 +5,6 @@ use Rattle.machine.specs.LifeInRun.{within}
 use Rattle.store.specs.State.{CameTidy}
 use Rattle.keeper.specs.Failures.{FailsAsTold}
 use Rattle.keeper.specs.Rehearsing.{first_of, IsGoing}
-use Rattle.keeper.specs.Cutting.{HoldsFor, IsCut}
 use Rattle.keeper.proofs.Cut.{CutSoFar}
 use Rattle.keeper.proofs.rehearsing.rehearse.Given as goal
 
@@ -15,7 +14,7 @@ invariant-loop-event g l = record {
   goes : CameTidy g.D.Disk.honest g.D.Disk.content l.fn.store.given
       → IsGoing {P = Pick} g.D.Disk.honest g.D.Disk.content (first_of l.fn.store) (take l.event-index l.events) l.run.replies.items l.run.history.items l.run.life.keeper;
   cut : CameTidy g.D.Disk.honest g.D.Disk.content l.fn.store.given
-      → CutSoFar (HoldsFor g.D.Disk.honest g.D.Disk.content g.D.Disk.left) g.D.Stoppable.armed g.D.Disk.moment (IsCut g.D.Stoppable.synced g.D.Stoppable.is_unsynced g.D.Disk.content) (first_of l.fn.store) (take l.event-index l.events) l.run.replies.items
+      → CutSoFar g.D.Disk g.D.Stoppable (first_of l.fn.store) (take l.event-index l.events) l.run.replies.items
       (within (first_of l.fn.store).network (first_of l.fn.store).version l.run.history.items l.run.life.keeper.machine);
   delta : l.run.life.delta ≡ l.fn.delta;
   counted : FailsAsTold {P = Pick} (take l.event-index l.events) l.run.replies.items (g.D.Disk.failures l.fn.store.disk) (g.D.Disk.failures l.run.life.keeper.disk);

@@ -8,23 +8,19 @@ use Rattle.keeper.proofs.rehearsing.reopen.Goals as goal
 pub returns-in-Ok-clause-begins : goal.returns-in-Ok-clause-begins
 returns-in-Ok-clause-begins g c m s honest held =
     let stands = c.in_ok-store.ensures.told honest in
-    begins_after m (g.D.Disk.content c.args.disk) stands.standing s held stands.is c.in-Ok.life.keeper.machine _ stands.told_is c.in-Ok.ensures.begins
-
-pub returns-in-Ok-clause-stands : goal.returns-in-Ok-clause-stands
-returns-in-Ok-clause-stands g c m s honest held =
-    let stands = c.in_ok-store.ensures.told honest in
-    stands_as_told m (g.D.Disk.content c.args.disk) stands.standing s held stands.is c.in-Ok.life.keeper.machine _ stands.told_is c.in-Ok.ensures.begins
-
-pub returns-in-Ok-clause-came : goal.returns-in-Ok-clause-came
-returns-in-Ok-clause-came g c m s honest held =
-    let stands = c.in_ok-store.ensures.told honest in
     let store = c.in_ok-store.store in
-    let tidy = stands_after m (g.D.Disk.content c.args.disk) stands.standing s held stands.is in
+    let content = g.D.Disk.content c.args.disk in
+    let begun = c.in-Ok.life.keeper.machine in
+    let tidy = stands_after m content stands.standing s held stands.is in
     let there : CameTidy g.D.Disk.honest g.D.Disk.content store.disk = (c.in_ok-store.ensures.honest.0.1 honest, (stands.standing, subst (λ (d : List ℕ). StandsTidily d stands.standing) (sym (c.in_ok-store.ensures.same honest).same_content) tidy)) in
-    subst (λ (d : g.row.D.Denot). CameTidy g.D.Disk.honest g.D.Disk.content d) (sym (c.in-Ok.ensures.given ∙ c.in_ok-store.ensures.given)) there
+    record {
+      begins = begins_after m content stands.standing s held stands.is begun _ stands.told_is c.in-Ok.ensures.begins.machine;
+      came = subst (λ (d : g.row.D.Denot). CameTidy g.D.Disk.honest g.D.Disk.content d) (sym (c.in-Ok.ensures.begins.given ∙ c.in_ok-store.ensures.given)) there;
+      stands = stands_as_told m content stands.standing s held stands.is begun _ stands.told_is c.in-Ok.ensures.begins.machine;
+    }
 
 pub returns-in-Ok-clause-content : goal.returns-in-Ok-clause-content
-returns-in-Ok-clause-content g c honest = ap g.D.Disk.content c.in-Ok.ensures.disk ∙ (c.in_ok-store.ensures.same honest).same_content
+returns-in-Ok-clause-content g c honest = ap g.D.Disk.content c.in-Ok.ensures.begins.disk ∙ (c.in_ok-store.ensures.same honest).same_content
 
 pub returns-in_err-store-clause-among : goal.returns-in_err-store-clause-among
 returns-in_err-store-clause-among g c honest =

@@ -22,3 +22,9 @@ invariant_of-self g c = (
   c.self.invariant.4,
   c.self.invariant.5 ∙ ap (λ (t : Told). count_of (drop (t.version - c.self.inside.opened) c.self.inside.history.items)) (sym c.arm.ensures.told),
 )
+
+pub returns-clause-arms : goal.returns-clause-arms
+returns-clause-arms g c =
+    let e = c.arm.ensures in
+    rw (← c.self.view_is)
+    (record { armed = e.armed; content = e.content; synced = e.synced; unsynced = e.unsynced; left = e.left; moment = e.moment; left_since = e.left_since; failures = e.failures; honest = e.honest })

@@ -22,7 +22,7 @@ invariant_of-self-2 g c =
     let items = c.accept_into.new.history.items in
     let new = c.accept_into.new.accepted in
     let none = rw (← c.self.view_is) at c.in_ok-may_submit.ensures in
-    let told = c.in_ok-accept_into.ensures in (
+    let told = c.in_ok-accept_into.ensures.accepts in (
       kept_with m k.store.network k.base.value None items k.accepted new c.self.invariant.0 c.self.invariant.3 c.args.group none c.commands.ensures.group told.history,
       c.self.invariant.1,
       λ came. let held = c.self.invariant.2 came in (held.0, holds_on (g.D.Disk.content k.store.disk) (g.D.Disk.left k.store.disk) _ _ refl refl refl refl (λ v le. same_before _ _ k.history.items items c.args.group told.history (omega (arith, le))) c.self.invariant.0.state held.1),
@@ -37,7 +37,7 @@ invariant_of-self g c =
     let m : Machine = machine_of k.store k.base.value k.opened k.history.items k.opened k.broken k.written.value None in
     let items = c.accept_into.new.history.items in
     let new = c.accept_into.new.accepted in
-    let told = c.in_err-accept_into.ensures in (
+    let told = c.in_err-accept_into.ensures.accepts in (
       kept_as m k.store.network k.base.value None items k.accepted new c.self.invariant.0 c.self.invariant.3 told.same_history,
       c.self.invariant.1,
       λ came. let held = c.self.invariant.2 came in (held.0, holds_on (g.D.Disk.content k.store.disk) (g.D.Disk.left k.store.disk) _ _ refl refl refl refl (λ v le. same_groups _ _ k.history.items items told.same_history) c.self.invariant.0.state held.1),

@@ -1,17 +1,22 @@
-use Rattle.std.proofs.Common.{◌≡◌, Some, inl, refl}
+use Rattle.std.proofs.Common.{◌≡◌, Some, inl, refl, ap}
 use Rattle.keeper.proofs.LifeKept.{not_refused, width_behind}
 use Rattle.keeper.proofs.lives.Life.publish.Goals as goal
 use Rattle.keeper.proofs.lives.Life.publish.Goals.{in-Ok, in-Err}
 
-pub returns-clause-does : goal.returns-clause-does
-returns-clause-does g c =
+pub returns : goal.returns
+returns g c =
     let view = c.in-Some.view.value in
     let told = c.in-Some.ensures.value in
     let aside : c.args.self.now.aside ≡ Some c.in-Some.view = cc in
-    elim c.match-publish.branch [
-      | in-Ok w ↦ (let step = w.in-Ok.ensures.step in inl (view.version, view.network, (step.0, refl, step.2), cc (w.result-is, step.1)))
-      | in-Err w ↦ absurd (not_refused _ _ (view.version, view.network) _ (rw aside at c.args.self.now.living) w.in-Err.ensures.step.0)
-    ]
+    record {
+      does = elim c.match-publish.branch [
+        | in-Ok w ↦ (let step = w.in-Ok.ensures.step in inl (view.version, view.network, (step.0, refl, step.2), cc (w.result-is, step.1)))
+        | in-Err w ↦ absurd (not_refused _ _ (view.version, view.network) _ (rw aside at c.args.self.now.living) w.in-Err.ensures.step.0)
+      ];
+      delta = refl;
+      given = c.publish.ensures.given;
+      counted = ap g.D.Disk.failures c.publish.ensures.disk;
+    }
 
 pub invariant_of-self-2-clause-shown : goal.invariant_of-self-2-clause-shown
 invariant_of-self-2-clause-shown g c w is =

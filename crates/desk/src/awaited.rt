@@ -8,7 +8,6 @@ use crate::gates::Gate;
 use crate::handles::Handle;
 use crate::held::Held;
 use crate::locked::Locked;
-use crate::shared::Shared;
 use disk::Disk;
 use office::{Naming, Office};
 use published::Shown;
@@ -58,23 +57,6 @@ impl<N: Naming, D: Disk> Held<Office<N, D>> {
     }
 }
 
-impl<N: Naming, D: Disk + Drop, G: Gate + Drop> Shared<Office<N, D>, G> {
-    /// Waits until this version or a later one is shown, or none will be.
-    pub(crate) fn wait_version<R: Wait>(&self, rt: &R, version: u64) -> Result<Shown, Refusal>
-        ensures origin { IfOk result (λ shown. shown.origin ≡ N.origin) }
-        ensures there { IfOk result (λ shown. version ≤ N.origin.version + length shown.groups) }
-        ensures state { IfOk result (λ shown. WereShown N.origin shown.groups) }
-        ensures causes { IfErr result IsUnserved }
-    {
-        let guard = self.published.wait_while(
-            rt,
-            self.held.lock(rt),
-            |held: &mut Held<Office<N, D>>| held.is_unseen(version),
-        );
-        guard.shown_at(version)
-    }
-}
-
 impl<N: Naming, D: Disk + Drop, G: Gate + Drop, R: Wait + Copy> Handle<N, D, G, R> {
     /// Waits until this version or a later one is shown, and tells the groups after which what is shown stands. A version that no group leads to yet may be
     /// waited for too.
@@ -86,6 +68,11 @@ impl<N: Naming, D: Disk + Drop, G: Gate + Drop, R: Wait + Copy> Handle<N, D, G, 
         ensures state { IfOk result (λ shown. WereShown N.origin shown.groups) }
         ensures causes { IfErr result IsUnserved }
     {
-        self.shared.wait_version(&self.rt, version)
+        let guard = self.shared.published.wait_while(
+            &self.rt,
+            self.shared.held.lock(&self.rt),
+            |held: &mut Held<Office<N, D>>| held.is_unseen(version),
+        );
+        guard.shown_at(version)
     }
 }

@@ -1,31 +1,27 @@
-ghost use Rattle.std.specs.Prelude.{◌≡◌, ◌≤◌, ◌∷◌, [], true, Some, IfOk, IfErr};
+ghost use Rattle.std.specs.Prelude.{◌≡◌, ◌≤◌, true, Some, IfOk, IfErr};
 ghost use Rattle.std.specs.Option.{ForSome};
 ghost use Rattle.roadnet.specs.declared.refusals.Refusal.TheVariants.{Closed as closed};
 ghost use Rattle.rows.specs.Kept.{IsWidth};
 ghost use Rattle.store.specs.State.{CameTidy, is_calm};
-ghost use Rattle.machine.specs.Laws.{IsAt};
 ghost use Rattle.office.specs.Left.{KeepsDesk};
 ghost use Rattle.disk.specs.Contents.{AreAmong};
 ghost use Rattle.desk.specs.Openings.{IsNewDesk, IsUnstarted};
-ghost use Rattle.desk.specs.Readings.{IsNoReader, IsViewAfter};
-ghost use Rattle.desk.specs.Turns.{IsUnserved, IsUntaken, WereShown};
 
 use crate::building::build_views;
 use crate::flushing::flush_pending;
 use crate::gates::Gate;
 use crate::handles::Handle;
 use crate::plans::Plan;
-use crate::readers::Reader;
 use crate::shared::Shared;
 use crate::shelves::Shelf;
 use crate::threads::{Started, start_threads};
 use disk::Disk;
 use history::History;
-use office::{Closed, Naming, Office, Receipt, Ticket};
-use published::Shown;
-use roadnet::{Command, Group, Refusal};
+use office::{Closed, Naming, Office};
+use roadnet::Refusal;
 use rows::Ran;
 use std::alloc::Global;
+use std::ops::Deref;
 use std::sync::{Arc, Mutex, Wait};
 use std::thread::Threads;
 use std::time::Clock;
@@ -57,7 +53,7 @@ fn start_both<
     )
 }
 
-/// A store that is served: groups are made durable by one thread, and shown by another. Its handle has its calls for other threads.
+/// A store that is served: groups are made durable by one thread, and shown by another. It has the calls of its handle, which is lent to other threads.
 ///
 /// A desk that is let go without `close` halts, waits for its threads, and ends the readers' copy: its readers can't look any more, and of handles that
 /// others have each call is refused (61).
@@ -85,12 +81,16 @@ impl<N: Naming, D: Disk + Drop, G: Gate + Drop, R: Threads + Wait + Copy> Ran fo
 impl<N: Naming, D: Disk + Drop, G: Gate + Drop, R: Threads + Wait + Copy> Drop
     for Desk<N, D, G, R> {
     fn drop(self) {
-        let Desk {
-            handle,
-            threads,
-            plan: _,
-        } = self;
-        let _ = handle.close(threads);
+        let _ = self.close();
+    }
+}
+
+impl<N: Naming, D: Disk + Drop, G: Gate + Drop, R: Threads + Wait + Copy> Deref
+    for Desk<N, D, G, R> {
+    type Target = Handle<N, D, G, R>;
+
+    fn deref(&self) -> &Handle<N, D, G, R> {
+        &self.handle
     }
 }
 
@@ -153,80 +153,19 @@ impl<
             plan,
         })
     }
+}
 
-    /// Accepts the group as the next number, and gives a ticket for it. It is not acknowledged yet.
-    ///
-    /// Refused is a desk that is halted (61), then what the keeper refuses.
-    pub fn submit_group(&self, group: Group) -> Result<Ticket, Refusal>
-        ensures origin { IfOk result (λ ticket. ticket.origin ≡ N.origin) }
-        ensures group { IfOk result (λ ticket. ticket.ticket.group ≡ group) }
-        ensures causes { IfErr result (IsUntaken N.origin group) }
-    {
-        self.handle.submit_group(group)
-    }
-
-    /// Accepts the command as a group of one, as `submit_group` does.
-    pub fn submit(&self, command: Command) -> Result<Ticket, Refusal>
-        ensures origin { IfOk result (λ ticket. ticket.origin ≡ N.origin) }
-        ensures group { IfOk result (λ ticket. ticket.ticket.group ≡ command ∷ []) }
-        ensures causes { IfErr result (IsUntaken N.origin (command ∷ [])) }
-    {
-        self.submit_group(Group::one(command))
-    }
-
-    /// Waits until the ticket's group is durable: no stop takes it back then. The receipt is for the ticket's number and group.
-    ///
-    /// Refused is a store that broke before that (45), and a desk whose flusher ended before that (61). The ticket is handed back then.
-    pub fn settle(&self, ticket: Ticket) -> Result<Receipt, (Refusal, Ticket)>
-        requires { ticket.origin ≡ N.origin }
-        ensures receipt { IfOk result (λ receipt. receipt ≡ ticket) }
-        ensures handed_back { IfErr result (λ refused. refused.1 ≡ ticket) }
-        ensures causes { IfErr result (λ refused. IsUnserved refused.0) }
-    {
-        self.handle.settle(ticket)
-    }
-
-    /// Waits until a view is shown that has the ticket's group, and tells the groups after which it is shown.
-    ///
-    /// Refused is a store that broke before the group was durable (45), and a desk whose builder ended before that (61).
-    pub fn wait_shown(&self, ticket: &Ticket) -> Result<Shown, Refusal>
-        requires { ticket.now.origin ≡ N.origin }
-        ensures origin { IfOk result (λ shown. shown.origin ≡ N.origin) }
-        ensures there { IfOk result (λ shown. IsAt N.origin.version shown.groups ticket.now.ticket) }
-        ensures state { IfOk result (λ shown. WereShown N.origin shown.groups) }
-        ensures causes { IfErr result IsUnserved }
-    {
-        self.handle.wait_shown(ticket)
-    }
-
-    /// A reader of the views that are shown. It has looked once, and knows the groups after which it saw the view.
-    ///
-    /// Refused is a place for it that is not found (60): there are 64, and while readers come and go a free one may be missed. Then want of
-    /// memory (11), and a copy that can't be entered (61), which doesn't come while there is the desk.
-    pub fn reader(&self) -> Result<Reader<N>, Refusal>
-        ensures origin { IfOk result (λ reader. reader.known.origin ≡ N.origin) }
-        ensures view { IfOk result (λ reader. IsViewAfter N.origin reader.known.groups reader.view) }
-        ensures causes { IfErr result IsNoReader }
-    {
-        self.handle.reader()
-    }
-
-    /// No group is taken any more: the flusher makes durable what is pending, the builder shows the last view, and both end. It takes no
-    /// memory.
-    pub fn halt(&self) {
-        self.handle.halt()
-    }
-
+impl<N: Naming, D: Disk + Drop, G: Gate + Drop, R: Threads + Wait + Copy> Desk<N, D, G, R> {
     /// Halts the desk, and waits until its flusher has ended: what was accepted is durable then, or won't be, and nothing more is written to
     /// the disk. The last view may still be built.
     pub fn end_writing(&self) {
-        self.handle.end_writing()
+        self.shared.end_writing(&self.rt)
     }
 
     /// Halts the desk, and waits until both of its threads have ended: what was accepted is durable then and shown, or won't be. Who waits by a handle is
     /// served, or refused.
     pub fn end_showing(&self) {
-        self.handle.end_showing()
+        self.shared.end_showing(&self.rt)
     }
 
     /// What threads share to call the desk at once.
@@ -251,6 +190,17 @@ impl<
             threads,
             plan: _,
         } = self;
-        handle.close(threads)
+        let Handle {
+            rt,
+            alloc: _,
+            shared,
+            rows: _,
+        } = handle;
+        shared.halt(&rt);
+        threads.join(&rt);
+        match shared.take_office(&rt) {
+            Some(office) => Ok(office.close(&rt)),
+            None => Err(Refusal::Closed),
+        }
     }
 }

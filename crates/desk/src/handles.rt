@@ -1,9 +1,6 @@
 // What the callers of a desk share.
 ghost use Rattle.std.specs.Prelude.{◌≡◌, ◌∷◌, [], None, IfOk, IfErr, IfSome, IsOk, IsSome};
-ghost use Rattle.roadnet.specs.declared.refusals.Refusal.TheVariants.{Closed as closed};
 ghost use Rattle.machine.specs.Laws.{IsAt};
-ghost use Rattle.office.specs.Left.{KeepsDesk};
-ghost use Rattle.disk.specs.Contents.{AreAmong};
 ghost use Rattle.roadnet.specs.Net.{IsNode};
 ghost use Rattle.rows.specs.declared.queries.Query.TheVariants.{Dist};
 ghost use Rattle.rows.specs.Replies.{refusal_of, IsDistance, IsRight};
@@ -11,14 +8,14 @@ ghost use Rattle.desk.specs.Readings.{IsNoReader, IsViewAfter};
 ghost use Rattle.desk.specs.Turns.{IsUnserved, IsUntaken, WereShown};
 
 use crate::gates::Gate;
+use crate::held::Held;
 use crate::places::{Glance, Place};
 use crate::readers::Reader;
 use crate::shared::Shared;
 use crate::shelves::{Missed, Shelf, reply_in};
-use crate::threads::Started;
 use deltastep::Workspace;
 use disk::Disk;
-use office::{Closed, Naming, Office, Receipt, Ticket};
+use office::{Naming, Office, Receipt, Ticket};
 use published::Shown;
 use roadnet::{Command, Group, OutOfMemory, Refusal};
 use rows::Reply;
@@ -26,8 +23,7 @@ use std::alloc::Global;
 use std::sync::{Arc, Mutex, Wait};
 use std::thread::Threads;
 
-/// A desk without its threads, for callers in other threads. Each call is the desk's of its name, but `again`, `place` and `dist`, which a handle alone
-/// has.
+/// A desk without its threads, for callers in other threads. The desk lends it, and so has each of its calls.
 ///
 /// A handle may outlive its desk: once that is closed each call of it is refused (61), and none waits.
 #[derive(Drop)]
@@ -61,7 +57,9 @@ impl<N: Naming, D: Disk + Drop, G: Gate + Drop, R: Wait + Copy> Handle<N, D, G, 
         ensures group { IfOk result (λ ticket. ticket.ticket.group ≡ group) }
         ensures causes { IfErr result (IsUntaken N.origin group) }
     {
-        self.shared.submit_group(&self.rt, group)
+        let ticket = self.shared.held.lock(&self.rt).submit_group(group)?;
+        self.shared.submitted.notify_one();
+        Ok(ticket)
     }
 
     /// Accepts the command as a group of one, as `submit_group` does.
@@ -82,7 +80,13 @@ impl<N: Naming, D: Disk + Drop, G: Gate + Drop, R: Wait + Copy> Handle<N, D, G, 
         ensures handed_back { IfErr result (λ refused. refused.1 ≡ ticket) }
         ensures causes { IfErr result (λ refused. IsUnserved refused.0) }
     {
-        self.shared.settle(&self.rt, ticket)
+        let number = ticket.ticket().number;
+        let mut guard = self.shared.flushed.wait_while(
+            &self.rt,
+            self.shared.held.lock(&self.rt),
+            |held: &mut Held<Office<N, D>>| held.is_unsettled(number),
+        );
+        guard.settle(ticket)
     }
 
     /// Waits until a view is shown that has the ticket's group, and tells the groups after which it is shown.
@@ -95,7 +99,13 @@ impl<N: Naming, D: Disk + Drop, G: Gate + Drop, R: Wait + Copy> Handle<N, D, G, 
         ensures state { IfOk result (λ shown. WereShown N.origin shown.groups) }
         ensures causes { IfErr result IsUnserved }
     {
-        self.shared.wait_shown(&self.rt, ticket)
+        let number = ticket.ticket().number;
+        let guard = self.shared.published.wait_while(
+            &self.rt,
+            self.shared.held.lock(&self.rt),
+            |held: &mut Held<Office<N, D>>| held.is_unseen(number),
+        );
+        guard.shown_since(ticket)
     }
 
     /// A reader of the views that are shown. It has looked once, and knows the groups after which it saw the view.
@@ -107,7 +117,7 @@ impl<N: Naming, D: Disk + Drop, G: Gate + Drop, R: Wait + Copy> Handle<N, D, G, 
         ensures view { IfOk result (λ reader. IsViewAfter N.origin reader.known.groups reader.view) }
         ensures causes { IfErr result IsNoReader }
     {
-        let reader = self.shared.reader(&self.rt)?;
+        let reader = self.shared.held.lock(&self.rt).reader()?;
         Reader::new(self.alloc, reader)
     }
 
@@ -117,7 +127,7 @@ impl<N: Naming, D: Disk + Drop, G: Gate + Drop, R: Wait + Copy> Handle<N, D, G, 
     pub fn place(&self) -> Result<Place<N>, Refusal>
         ensures { IfErr result IsNoReader }
     {
-        let reader = self.shared.reader(&self.rt)?;
+        let reader = self.shared.held.lock(&self.rt).reader()?;
         Ok(Place::new(self.alloc, reader))
     }
 
@@ -129,16 +139,6 @@ impl<N: Naming, D: Disk + Drop, G: Gate + Drop, R: Wait + Copy> Handle<N, D, G, 
 }
 
 impl<N: Naming, D: Disk + Drop, G: Gate + Drop, R: Wait + Copy> Handle<N, D, G, R> {
-    /// As the desk's.
-    pub(crate) fn end_writing(&self) {
-        self.shared.end_writing(&self.rt)
-    }
-
-    /// As the desk's.
-    pub(crate) fn end_showing(&self) {
-        self.shared.end_showing(&self.rt)
-    }
-
     /// What the kept row of the source tells, if it is kept; else what a search gets.
     fn kept_reply(&self, glance: &Glance<N>, source: u32, target: u64) -> Result<Reply, Missed>
         ensures { IfOk result (λ reply. IsNode glance.now.view.network target → IsDistance glance.now.view.network source target reply) }
@@ -224,33 +224,6 @@ impl<N: Naming, D: Disk + Drop, G: Gate + Drop, R: Threads + Wait + Copy> Handle
         match self.kept_reply(glance, source as u32, target) {
             Ok(reply) => Ok(reply),
             Err(missed) => self.searched_reply(glance, source as u32, target as u32, missed),
-        }
-    }
-}
-
-impl<N: Naming, D: Disk + Drop, G: Gate + Drop, R: Threads + Wait + Copy> Handle<N, D, G, R> {
-    /// Halts the desk, waits for its threads, and closes the office that they have left.
-    ///
-    /// Refused (61) is an office that was taken out before, which never comes.
-    pub(crate) fn close(self, threads: Started) -> Result<Closed<D>, Refusal>
-        ensures origin { IfOk result (λ closed. closed.whole.origin ≡ N.origin) }
-        ensures causes { IfErr result (λ refusal. refusal ≡ closed) }
-        // The disk keeps the disk model.
-        ensures honest { N.came_tidy → IfOk result (λ closed. D.honest closed.disk) }
-        // What a stop may leave of the disk stands for the network after a beginning of the history, with all that was acknowledged or shown.
-        ensures left { N.came_tidy → IfOk result (λ closed. AreAmong (D.left closed.disk) (KeepsDesk closed.whole closed.shown closed.journal_pages)) }
-    {
-        let Handle {
-            rt,
-            alloc: _,
-            shared,
-            rows: _,
-        } = self;
-        shared.halt(&rt);
-        threads.join(&rt);
-        match shared.take_office(&rt) {
-            Some(office) => Ok(office.close(&rt)),
-            None => Err(Refusal::Closed),
         }
     }
 }

@@ -1,18 +1,11 @@
 // What the threads of a desk and its callers share.
-ghost use Rattle.std.specs.Prelude.{◌≡◌, IfOk, IfErr};
-ghost use Rattle.machine.specs.Laws.{IsAt};
-ghost use Rattle.desk.specs.Readings.{IsNoReader};
-ghost use Rattle.desk.specs.Turns.{IsUnserved, IsUntaken, WereShown};
-
 use crate::attempts::{Attempt, Misses};
 use crate::gates::Gate;
 use crate::held::Held;
 use crate::last::UNKNOWN;
 use crate::locked::{BuilderTurn, FlusherTurn};
 use disk::Disk;
-use office::{Naming, Office, Receipt, Ticket};
-use published::{Reader, Shown};
-use roadnet::{Group, Refusal};
+use office::{Naming, Office};
 use std::sync::atomic::{AtomicU64, Ordering};
 use std::sync::{Condvar, Mutex, MutexGuard, Wait};
 use std::time::{Clock, Duration};
@@ -60,54 +53,6 @@ impl<N: Naming, D: Disk + Drop, G: Gate + Drop> Shared<Office<N, D>, G> {
         guard.builder_turn()
     }
 
-    /// Takes a group, unless the desk is halted.
-    pub(crate) fn submit_group<R: Wait>(&self, rt: &R, group: Group) -> Result<Ticket, Refusal>
-        ensures origin { IfOk result (λ ticket. ticket.origin ≡ N.origin) }
-        ensures group { IfOk result (λ ticket. ticket.ticket.group ≡ group) }
-        ensures causes { IfErr result (IsUntaken N.origin group) }
-    {
-        let ticket = self.held.lock(rt).submit_group(group)?;
-        self.submitted.notify_one();
-        Ok(ticket)
-    }
-
-    /// Waits until the ticket's group is durable, or won't be.
-    pub(crate) fn settle<R: Wait>(
-        &self,
-        rt: &R,
-        ticket: Ticket,
-    ) -> Result<Receipt, (Refusal, Ticket)>
-        requires { ticket.origin ≡ N.origin }
-        ensures receipt { IfOk result (λ receipt. receipt ≡ ticket) }
-        ensures handed_back { IfErr result (λ refused. refused.1 ≡ ticket) }
-        ensures causes { IfErr result (λ refused. IsUnserved refused.0) }
-    {
-        let number = ticket.ticket().number;
-        let mut guard = self.flushed.wait_while(
-            rt,
-            self.held.lock(rt),
-            |held: &mut Held<Office<N, D>>| held.is_unsettled(number),
-        );
-        guard.settle(ticket)
-    }
-
-    /// Waits until a view is shown that has the ticket's group, or none will be.
-    pub(crate) fn wait_shown<R: Wait>(&self, rt: &R, ticket: &Ticket) -> Result<Shown, Refusal>
-        requires { ticket.now.origin ≡ N.origin }
-        ensures origin { IfOk result (λ shown. shown.origin ≡ N.origin) }
-        ensures there { IfOk result (λ shown. IsAt N.origin.version shown.groups ticket.now.ticket) }
-        ensures state { IfOk result (λ shown. WereShown N.origin shown.groups) }
-        ensures causes { IfErr result IsUnserved }
-    {
-        let number = ticket.ticket().number;
-        let guard = self.published.wait_while(
-            rt,
-            self.held.lock(rt),
-            |held: &mut Held<Office<N, D>>| held.is_unseen(number),
-        );
-        guard.shown_since(ticket)
-    }
-
     /// The flusher has ended: what is durable is the last version.
     pub(crate) fn end_flusher<R: Wait>(&self, rt: &R) {
         if let Some(locked) = &mut self.held.lock(rt).locked {
@@ -116,14 +61,6 @@ impl<N: Naming, D: Disk + Drop, G: Gate + Drop> Shared<Office<N, D>, G> {
         }
         self.flushed.notify_all();
         self.published.notify_all();
-    }
-
-    /// A reader of the readers' copy.
-    pub(crate) fn reader<R: Wait>(&self, rt: &R) -> Result<Reader, Refusal>
-        ensures origin { IfOk result (λ reader. reader.origin ≡ N.origin) }
-        ensures causes { IfErr result IsNoReader }
-    {
-        self.held.lock(rt).reader()
     }
 }
 

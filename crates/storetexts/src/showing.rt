@@ -1,18 +1,19 @@
 // The arcs of a store's network, looked at.
-ghost use Rattle.std.specs.Prelude.{◌≡◌, ◌↔◌, OnOk, IfErr};
+ghost use Rattle.std.specs.Prelude.{◌↔◌, OnOk, IfErr};
 ghost use Rattle.std.specs.Io.KnownBytes.{Appends};
 ghost use Rattle.disk.specs.Contents.{Only};
 ghost use Rattle.disk.specs.Moments.{StaysSame};
-ghost use Rattle.printing.specs.Counting.{failed_writes, writer_of, IsSameWriter, CountsFailure};
+ghost use Rattle.printing.specs.Counting.{failed_writes, writer_of, IsSameWriter};
 ghost use Rattle.printing.specs.Failing.{CountsWrites, LeavesUnwritten};
 ghost use Rattle.printing.specs.Looks.{look_lines};
 ghost use Rattle.store.specs.Opening.{HeaderFits};
 ghost use Rattle.storetexts.specs.Shown.{IsShown, IsRefusedShow};
 ghost use Rattle.storetexts.specs.Refused.{IfNoMemory, CountsDevice};
+ghost use Rattle.storetexts.specs.Writers.{Puts};
 
 use disk::Disk;
 use printing::{CountedWriter, Failed, Look, put_look};
-use roadnet::{Network, Refusal};
+use roadnet::Network;
 use std::alloc::Global;
 use std::io::Write;
 use store::open;
@@ -25,9 +26,7 @@ fn put_shown<W: Write>(
     look: Look,
 ) -> Result<(), Failed>
     ensures ok { OnOk result (Appends (W.contents (writer_of out.old)) (W.contents (writer_of out.new)) (look_lines network.now version look)) }
-    ensures refused { IfErr result (λ failed. failed ≡ Failed.Code Refusal.Write) }
-    ensures counts { CountsFailure (failed_writes out.old) (failed_writes out.new) result }
-    ensures same { IsSameWriter out.old out.new }
+    ensures puts { Puts result out.old out.new }
 {
     put_look(out, network, version, look)?;
     out.flush()

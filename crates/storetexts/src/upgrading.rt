@@ -4,11 +4,12 @@ ghost use Rattle.std.specs.Io.KnownBytes.{Appends};
 ghost use Rattle.dimacs.specs.Counts.{failed_calls, reader_of, IsSameReader};
 ghost use Rattle.dimacs.specs.Texts.{OfReader};
 ghost use Rattle.disk.specs.Moments.{StaysSame};
-ghost use Rattle.printing.specs.Counting.{failed_writes, writer_of, IsSameWriter, CountsFailure};
+ghost use Rattle.printing.specs.Counting.{failed_writes, writer_of, IsSameWriter};
 ghost use Rattle.printing.specs.Failing.{CountsFirst, CountsSecond, CountsWrites, LeavesUnwritten};
 ghost use Rattle.storetexts.specs.Created.{IsNewStore, IsOfMaking};
 ghost use Rattle.storetexts.specs.Refused.{CountsDevice, IfDone, IfNoDevice, IfNotEmpty, IfNoMemory};
 ghost use Rattle.storetexts.specs.Upgraded.{arc_lines, fit_pages, upgrade_lines, AreMapsOf, AreRefusedMaps, IsOfMaps};
+ghost use Rattle.storetexts.specs.Writers.{Puts};
 ghost use Rattle.storetexts.specs.Upgraded.{IsRefusedUpgrade, IsUpgradeBy, IsUpgradedStore, MayRefuseStored, TellsUpgrade};
 
 use dimacs::{Counted, read_gr_counted};
@@ -101,9 +102,7 @@ pub fn upgrade_stored<O: Disk>(
 /// `kept K`, `added A`, `gone G`, `doubtful D`
 fn put_arc_counts<W: Write>(out: &mut CountedWriter<'_, W>, counts: Counts) -> Result<(), Failed>
     ensures ok { OnOk result (Appends (W.contents (writer_of out.old)) (W.contents (writer_of out.new)) (arc_lines counts)) }
-    ensures refused { IfErr result (λ failed. failed ≡ Failed.Code Refusal.Write) }
-    ensures counts { CountsFailure (failed_writes out.old) (failed_writes out.new) result }
-    ensures same { IsSameWriter out.old out.new }
+    ensures puts { Puts result out.old out.new }
 {
     put_numbered(out, b"kept ", counts.kept)?;
     put_numbered(out, b"added ", counts.added)?;
@@ -114,9 +113,7 @@ fn put_arc_counts<W: Write>(out: &mut CountedWriter<'_, W>, counts: Counts) -> R
 /// The same, and `landmarks gone L` and `ok 0`.
 fn put_upgrade<W: Write>(out: &mut CountedWriter<'_, W>, counts: Counts) -> Result<(), Failed>
     ensures ok { OnOk result (Appends (W.contents (writer_of out.old)) (W.contents (writer_of out.new)) (upgrade_lines counts)) }
-    ensures refused { IfErr result (λ failed. failed ≡ Failed.Code Refusal.Write) }
-    ensures counts { CountsFailure (failed_writes out.old) (failed_writes out.new) result }
-    ensures same { IsSameWriter out.old out.new }
+    ensures puts { Puts result out.old out.new }
 {
     put_arc_counts(out, counts)?;
     put_numbered(out, b"landmarks gone ", counts.landmarks_gone)?;

@@ -1,5 +1,6 @@
 // The groups of a text, applied to a store.
-ghost use Rattle.std.specs.Prelude.{◌≡◌, ◌⊎◌, ◌+◌, ◌≤◌, ◌<◌, ◌↔◌, [], false, length, vec_capacity, OnOk, IfOk, IfErr, IfSome, MatchResult};
+ghost use Rattle.std.specs.Prelude.{◌≡◌, ◌⊎◌, ◌+◌, ◌≤◌, ◌<◌, ◌↔◌, [], false, length, vec_capacity};
+ghost use Rattle.std.specs.Prelude.{OnOk, IfOk, IfErr, IfSome, MatchResult};
 ghost use Rattle.std.specs.Bool.{Decides};
 ghost use Rattle.dimacs.specs.Counts.{failed_calls, reader_of, IsSameReader};
 ghost use Rattle.dimacs.specs.Texts.{InMemory, OfReader};
@@ -376,7 +377,8 @@ pub fn apply_counted<D: Disk, R: BufRead, W: Write>(
     ensures order { D.honest disk → IfErr result.0 (λ failed. IfNoMemory failed (HeaderFits (D.content disk))) }
     // The disk's count of failures rises where 43 is told, and for no other refusal but a failed write.
     ensures failed { CountsDevice (D.failures disk) (D.failures result.1) result.0 }
-    ensures untouched { D.honest disk → IfErr result.0 (λ failed. IfTextOrFileRefused failed (StaysSame D.content D.left D.moment D.left_since disk result.1)) }
+    ensures untouched { D.honest disk → IfErr result.0 (λ failed.
+        IfTextOrFileRefused failed (StaysSame D.content D.left D.moment D.left_since disk result.1)) }
     ensures unwritten { IfErr result.0 (λ failed. IfTextOrFileRefused failed (writer_of out.new ≡ writer_of out.old)) }
     ensures honest { D.honest result.1 ↔ D.honest disk }
     ensures reads { CountsReads (failed_calls commands.old) (failed_calls commands.new) result.0 }
@@ -416,7 +418,8 @@ pub fn apply_text<D: Disk, W: Write>(
     ensures refused { IfErr result.0 (IsRefusedApply (D.honest disk) (D.content disk) commands.now InMemory) }
     ensures order { D.honest disk → IfErr result.0 (λ failed. IfNoMemory failed (HeaderFits (D.content disk))) }
     ensures failed { CountsDevice (D.failures disk) (D.failures result.1) result.0 }
-    ensures untouched { D.honest disk → IfErr result.0 (λ failed. IfTextOrFileRefused failed (StaysSame D.content D.left D.moment D.left_since disk result.1)) }
+    ensures untouched { D.honest disk → IfErr result.0 (λ failed.
+        IfTextOrFileRefused failed (StaysSame D.content D.left D.moment D.left_since disk result.1)) }
     ensures unwritten { IfErr result.0 (λ failed. IfTextOrFileRefused failed (out.new ≡ out.old)) }
     ensures honest { D.honest result.1 ↔ D.honest disk }
 {

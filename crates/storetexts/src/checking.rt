@@ -47,9 +47,9 @@ fn put_standing<W: Write>(
 /// checkpoint, and that slot's epoch; `journal U`, how many pages of the journal stand behind it. The whole file is judged first. Nothing
 /// is written to the disk, which is handed back.
 ///
-/// Refused is what is refused on opening: no store (40), another format (41), a damaged page (42), a disk that fails (43), want of memory
-/// (11), that only behind a header that fits the file. Nothing is written then. 43 is told only where the disk's count of failures rose. A failed write is 12, told only where the count
-/// of the writer's failed calls rose; the writer is not used again then.
+/// Refused is what is refused on opening: no store (40), another format (41), a damaged page (42), a disk that fails (43), want of memory (11), that
+/// only behind a header that fits the file. Nothing is written then. 43 is told only where the disk's count of failures rose. A failed write is 12,
+/// told only where the count of the writer's failed calls rose; the writer is not used again then.
 pub fn check_counted<D: Disk, W: Write>(
     alloc: Global,
     disk: D,

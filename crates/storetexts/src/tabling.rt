@@ -85,7 +85,8 @@ pub fn ask_table_counted<T: Threads, D: Disk, R: BufRead, Q: BufRead, W: Write>(
     ensures answered { OnOk result.0 (IfSome (R.remaining (reader_of sources.old)) (λ from. IfSome (Q.remaining (reader_of targets.old))
         (λ to. IsTableAsked (D.honest disk) (D.content disk) from to (W.contents (writer_of out.old)) (W.contents (writer_of out.new))))) }
     ensures refused { IfErr result.0 (λ failed. IfSome (R.remaining (reader_of sources.old)) (λ from. IfSome (Q.remaining (reader_of targets.old))
-        (λ to. IsRefusedTable (D.honest disk) (D.content disk) from to (OfReader (R.remaining (reader_of sources.new))) (OfReader (Q.remaining (reader_of targets.new))) failed))) }
+        (λ to. IsRefusedTable (D.honest disk) (D.content disk) from to
+        (OfReader (R.remaining (reader_of sources.new))) (OfReader (Q.remaining (reader_of targets.new))) failed))) }
     ensures codes { IfErr result.0 IsOfTwoTexts }
     // Want of memory is told only where the header fits the file.
     ensures order { D.honest disk → IfErr result.0 (λ failed. IfNoMemory failed (HeaderFits (D.content disk))) }

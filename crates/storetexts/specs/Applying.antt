@@ -16,7 +16,7 @@ use Rattle.storetexts.specs.declared.outcomes.Outcome.{Outcome}
 use Rattle.printing.specs.declared.writer.CountedWriter.{CountedWriter}
 use Rattle.printing.specs.declared.failed.Failed.{Failed}
 use Rattle.printing.specs.declared.failed.Failed.TheVariants.{Text, Code}
-use Rattle.storetexts.specs.Applied.{AtAnyMoment, IfNotWrite, StandsWithin}
+use Rattle.storetexts.specs.Applied.{AtAnyMoment, IfNotWrite, StandsWithin, StandsAmong, AppliesAll, AppliesSome, TellsAll}
 use Rattle.storetexts.specs.Outcomes.{ComesTo, accepted_in, outcome_lines, IsSettled, IsUnsettledAt}
 use Rattle.storetexts.specs.Refused.{CountsDevice}
 use Rattle.storetexts.specs.Writers.{KeepsWriter}
@@ -188,3 +188,13 @@ pub record Advances {D W : Type 0} (disk : Ghosts D) (result : Result (Unit {0})
   pub refused : IfErr result IsCutOffBy
   pub counted : CountsDevice (disk.failures old.ledger.disk) (disk.failures new.ledger.disk) result
   pub writer : KeepsWriter result before after
+
+-- What applying these groups to the store of a ledger that has just begun comes to: with the disk, and with what was written before and after.
+pub record Applies {D : Type 0} (disk : Ghosts D) (ledger : LedgerState D) (groups : List Group) (result : Result (Unit {0}) Failed) (new : D) (before after : Option (List ℕ)) : Type 0 where
+  pub applied : ForCame disk.honest disk.content ledger (λ net version. OnOk result (AppliesAll net version groups (disk.content new) (disk.left new) before after))
+  pub cut_off : ForCame disk.honest disk.content ledger (λ net version. IfErr result (AppliesSome net version groups (disk.left new) before after))
+  pub told : ForBegun ledger.machine (λ net version. OnOk result (TellsAll net version groups before after))
+  pub any_moment : ForCame disk.honest disk.content ledger (λ net version. AtAnyMoment disk.moment disk.left_since disk.left ledger.disk new (StandsAmong net version groups))
+  pub refused : IfErr result IsCutOffBy
+  pub counted : CountsDevice (disk.failures ledger.disk) (disk.failures new) result
+  pub honest : disk.honest new ↔ disk.honest ledger.disk

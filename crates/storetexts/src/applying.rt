@@ -12,11 +12,10 @@ ghost use Rattle.machine.specs.Machine.{pending};
 ghost use Rattle.store.specs.State.{CameTidy};
 ghost use Rattle.printing.specs.Counting.{failed_writes, writer_of, IsSameWriter};
 ghost use Rattle.printing.specs.Failing.{CountsReads, CountsWrites};
-ghost use Rattle.storetexts.specs.Applied.{ForTidy, AppliesAll, IsApplied, AppliesSome, IsCutOff, TellsAll, IsTold, StandsAmong, IsWithin};
-ghost use Rattle.storetexts.specs.Applied.{AtAnyMoment, IsRefusedApply, IfTextOrFileRefused};
-ghost use Rattle.storetexts.specs.Applying.{IsReady, IsIdle, IsNew, HaveCome, ForBegun, ForCame, IfTold, AreTold, IsCutOffBy};
+ghost use Rattle.storetexts.specs.Applied.{ForTidy, IsApplied, IsCutOff, IsTold, IsWithin, AtAnyMoment, IsRefusedApply, IfTextOrFileRefused};
+ghost use Rattle.storetexts.specs.Applying.{IsReady, IsIdle, IsNew, HaveCome, ForBegun, IfTold, AreTold};
 ghost use Rattle.storetexts.specs.Applying.{progress, ComesBehind, ComesStill, ComeTo, FirstComeTo, SameTold, SettledTo, StopsAt};
-ghost use Rattle.storetexts.specs.Applying.{TellsTo, TellsOn, AllTold, Goes, Saves, Advances};
+ghost use Rattle.storetexts.specs.Applying.{TellsTo, TellsOn, AllTold, Goes, Saves, Advances, Applies};
 ghost use Rattle.store.specs.Opening.{HeaderFits, IsPassing};
 ghost use Rattle.storetexts.specs.Asked.{OfStore, IsUnopened};
 ghost use Rattle.storetexts.specs.Outcomes.{IsSettled};
@@ -284,18 +283,8 @@ fn apply_groups<D: Disk, W: Write>(
     out: &mut CountedWriter<'_, W>,
 ) -> (Result<(), Failed>, D)
     requires idle { IsIdle ledger.machine }
-    ensures applied { ForCame D.honest D.content ledger (λ net version. OnOk result.0
-        (AppliesAll net version groups.now (D.content result.1) (D.left result.1) (W.contents (writer_of out.old)) (W.contents (writer_of out.new)))) }
-    ensures cut_off { ForCame D.honest D.content ledger (λ net version. IfErr result.0
-        (AppliesSome net version groups.now (D.left result.1) (W.contents (writer_of out.old)) (W.contents (writer_of out.new)))) }
-    ensures told { ForBegun ledger.machine (λ net version. OnOk result.0
-        (TellsAll net version groups.now (W.contents (writer_of out.old)) (W.contents (writer_of out.new)))) }
-    ensures any_moment { ForCame D.honest D.content ledger (λ net version.
-        AtAnyMoment D.moment D.left_since D.left ledger.disk result.1 (StandsAmong net version groups.now)) }
-    ensures counted { CountsDevice (D.failures ledger.disk) (D.failures result.1) result.0 }
-    ensures refused { IfErr result.0 IsCutOffBy }
+    ensures applies { Applies D.Disk ledger groups.now result.0 result.1 (W.contents (writer_of out.old)) (W.contents (writer_of out.new)) }
     ensures writer { KeepsWriter result.0 out.old out.new }
-    ensures honest { D.honest result.1 ↔ D.honest ledger.disk }
 {
     let outcomes = match Vec::with_capacity(alloc, groups.len()) {
         Ok(outcomes) => outcomes,
@@ -321,16 +310,7 @@ fn apply_to_writer<D: Disk, W: Write>(
     out: &mut W,
 ) -> (Result<(), Failed>, D)
     requires idle { IsIdle ledger.machine }
-    ensures applied { ForCame D.honest D.content ledger (λ net version. OnOk result.0
-        (AppliesAll net version groups.now (D.content result.1) (D.left result.1) (W.contents out.old) (W.contents out.new))) }
-    ensures cut_off { ForCame D.honest D.content ledger (λ net version. IfErr result.0
-        (AppliesSome net version groups.now (D.left result.1) (W.contents out.old) (W.contents out.new))) }
-    ensures told { ForBegun ledger.machine (λ net version. OnOk result.0 (TellsAll net version groups.now (W.contents out.old) (W.contents out.new))) }
-    ensures any_moment { ForCame D.honest D.content ledger (λ net version.
-        AtAnyMoment D.moment D.left_since D.left ledger.disk result.1 (StandsAmong net version groups.now)) }
-    ensures counted { CountsDevice (D.failures ledger.disk) (D.failures result.1) result.0 }
-    ensures refused { IfErr result.0 IsCutOffBy }
-    ensures honest { D.honest result.1 ↔ D.honest ledger.disk }
+    ensures applies { Applies D.Disk ledger groups.now result.0 result.1 (W.contents out.old) (W.contents out.new) }
 {
     let mut counted = CountedWriter::new(out);
     apply_groups(alloc, ledger, groups, &mut counted)

@@ -1,6 +1,8 @@
 pub mod Marked
 pub mod Markable
 pub mod Meanwhile
+pub mod Saving
+pub mod Advancing
 pub mod Made
 pub mod Judged
 pub mod Answered

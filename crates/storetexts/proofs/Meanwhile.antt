@@ -1,12 +1,14 @@
 -- What a stop at any moment leaves while groups are applied, and what the disk's count of failures is.
-use Rattle.std.proofs.Common.{◌≡◌, ◌∙◌, ⊎_elim, inl, inr, ℕ, ◌+◌, ◌-◌, ◌≤◌, false, List, [], ◌∷◌, ◌++◌, append_assoc, append-nil, length-append, Result, Ok, Err, refl, sym, ap, subst, arith}
+use Rattle.std.proofs.Common.{◌≡◌, ◌∙◌, ◌⊎◌, ⊎_elim, inl, inr, ℕ, ◌+◌, ◌-◌, ◌≤◌, false, List, [], ◌∷◌, ◌++◌, append-nil, length-append, Result, Ok, Err, refl, sym, ap, subst, arith}
 use Rattle.std.proofs.lemmas.List.{take-append-le}
 use Rattle.roadnet.specs.declared.groups.Group.{Group}
 use Rattle.roadnet.specs.declared.refusals.Refusal.{Refusal}
 use Rattle.roadnet.specs.declared.refusals.Refusal.TheVariants.{Write}
 use Rattle.roadnet.specs.Net.{Net}
 use Rattle.roadnet.specs.Step.{after}
-use Rattle.disk.specs.Moments.{LeavesOnly, AddsNothing}
+use Rattle.disk.specs.declared.disk.Disk.{Ghosts}
+use Rattle.disk.specs.Moments.{LeavesOnly}
+use Rattle.disk.proofs.Steps.{and_then, weaker}
 use Rattle.pagereader.specs.Outcomes.{failures_with}
 use Rattle.storefile.specs.StoreFile.{StandsTidyFor}
 use Rattle.machine.specs.declared.calls.Ticket.{Ticket}
@@ -19,30 +21,18 @@ use Rattle.printing.specs.declared.failed.Failed.{Failed}
 use Rattle.printing.specs.declared.failed.Failed.TheVariants.{Code}
 use Rattle.store.specs.State.{CameTidy}
 use Rattle.storetexts.specs.Applied.{StandsWithin}
-use Rattle.storetexts.specs.Applying.{KeepsAccepted, AddsOnly, Grows, StandsIn, Leaves}
+use Rattle.storetexts.specs.Applying.{IsSteady, IsReady, KeepsAccepted, StandsIn, Leaves, Goes}
+use Rattle.storetexts.specs.declared.applying.Applying.{Applying}
 use Rattle.storetexts.specs.Refused.{CountsDevice}
 
--- ---- moments, one after the other
-module _ {D : Type 0} (moment : D → ℕ) (left_since : D → ℕ → List ℕ → Type 0) where
-  pub adds_none : (disk : D) (P : List ℕ → Type 0) → AddsOnly moment left_since disk disk P
-  adds_none disk P = record { later = omega arith; each = λ t c le past. inl past }
-
-  pub adds_weaker : (old new : D) (P Q : List ℕ → Type 0) → ((c : List ℕ) → P c → Q c) → AddsOnly moment left_since old new P → AddsOnly moment left_since old new Q
-  adds_weaker old new P Q f a = record { later = a.later; each = λ t c le since. ⊎_elim (λ past. inl past) (λ p. inr (f c p)) (a.each t c le since) }
-
-  pub adds_both : (old mid new : D) (P : List ℕ → Type 0) → AddsOnly moment left_since old mid P → AddsOnly moment left_since mid new P → AddsOnly moment left_since old new P
-  adds_both old mid new P a b =
-      let first = a.later in
-      let second = b.later in
-      record { later = omega (arith, first, second); each = λ t c le since. ⊎_elim (λ past. a.each t c le past) (λ p. inr p) (b.each t c (omega (arith, le, first)) since) }
-
-  pub adds_by : (old new : D) (P : List ℕ → Type 0) → LeavesOnly moment left_since old new P → AddsOnly moment left_since old new P
-  adds_by old new P l = record { later = l.later; each = l.before }
-
-  pub adds_nothing : (old new : D) (P : List ℕ → Type 0) → AddsNothing moment left_since old new → AddsOnly moment left_since old new P
-  adds_nothing old new P n = record { later = n.later; each = λ t c le since. inl (n.each t c le since) }
-
 -- ---- the accepted groups grow
+-- the accepted groups of the new machine begin with those of the old one
+pub record Grows (old new : Machine) : Type 0 where
+  pub base : new.base ≡ old.base
+  pub base_version : new.base_version ≡ old.base_version
+  pub more : List Group
+  pub accepted : new.accepted ≡ old.accepted ++ more
+
 pub within_more : (net : Net) (version : ℕ) (accepted more : List Group) (c : List ℕ) → StandsWithin net version accepted c → StandsWithin net version (accepted ++ more) c
 within_more net version accepted more c w = record {
   count = w.count;
@@ -63,14 +53,6 @@ in_more m n g c w =
 
 pub grows_none : (m : Machine) → Grows m m
 grows_none m = record { base = refl; base_version = refl; more = []; accepted = sym (append-nil m.accepted) }
-
-pub grows_both : (l m n : Machine) → Grows l m → Grows m n → Grows l n
-grows_both l m n g h = record {
-  base = h.base ∙ g.base;
-  base_version = h.base_version ∙ g.base_version;
-  more = g.more ++ h.more;
-  accepted = h.accepted ∙ (ap (λ (a : List Group). a ++ h.more) g.accepted ∙ append_assoc l.accepted g.more h.more);
-}
 
 pub grows_kept : (m n : Machine) → KeepsAccepted m n → Grows m n
 grows_kept m n k = record { base = k.base; base_version = k.base_version; more = []; accepted = k.accepted ∙ sym (append-nil m.accepted) }
@@ -116,34 +98,50 @@ pub in_flight_within : (m : Machine) → IsState m → (c : List ℕ) → IsDura
 in_flight_within m s c held =
     durable_within (failed m (batch m)) (broken m s (batch m) (batch_count m s)) c held
 
-pub leaves_by : {D : Type 0} (moment : D → ℕ) (left_since : D → ℕ → List ℕ → Type 0) (old new : D) (m n : Machine) (P : List ℕ → Type 0) → ((c : List ℕ) → P c → StandsIn m c) → Grows m n
-    → LeavesOnly moment left_since old new P → AddsOnly moment left_since old new (StandsIn n)
-leaves_by moment left_since old new m n P f g l = adds_weaker moment left_since old new P (StandsIn n) (λ c p. in_more m n g c (f c p)) (adds_by moment left_since old new P l)
-
 -- ---- one ledger after the other
-module _ {D : Type 0} (honest : D → Type 0) (content : D → List ℕ) (moment : D → ℕ) (left_since : D → ℕ → List ℕ → Type 0) where
-  pub leaves_both : (old mid new : LedgerState D) → mid.given ≡ old.given → Grows mid.machine new.machine → Leaves honest content moment left_since old mid → Leaves honest content moment left_since mid new
-      → Leaves honest content moment left_since old new
-  leaves_both old mid new given g a b came =
-      adds_both moment left_since old.disk mid.disk new.disk (StandsIn new.machine)
-      (adds_weaker moment left_since old.disk mid.disk (StandsIn mid.machine) (StandsIn new.machine) (in_more mid.machine new.machine g) (a came))
-      (b (subst (CameTidy honest content) (sym given) came))
+module _ {D : Type 0} (disk : Ghosts D) where
+  -- a stop leaves what it might have left of the first disk, or this
+  abbrev LeftOr : D → Machine → List ℕ → Type 0
+  LeftOr first m c = disk.left first c ⊎ StandsIn m c
 
-  pub leaves_same : (old new : LedgerState D) → new.disk ≡ old.disk → Leaves honest content moment left_since old new
-  leaves_same old new same came = subst (λ (d : D). AddsOnly moment left_since old.disk d (StandsIn new.machine)) (sym same) (adds_none moment left_since old.disk (StandsIn new.machine))
+  grown : (first now : D) (m n : Machine) → Grows m n → LeavesOnly disk.moment disk.left_since first now (LeftOr first m) → LeavesOnly disk.moment disk.left_since first now (LeftOr first n)
+  grown first now m n g was = weaker disk.moment disk.left_since first now (LeftOr first m) (LeftOr first n) was (λ c. ⊎_elim (λ left. inl left) (λ stands. inr (in_more m n g c stands)))
 
-  pub leaves_flush : (old new : LedgerState D) (r : Result ℕ Refusal) → Flushes old.machine r new.machine → IsState old.machine → old.machine.broken ≡ false
-      → (CameTidy honest content old.given → old.machine.broken ≡ false → LeavesOnly moment left_since old.disk new.disk (IsDurableIn (failed old.machine (batch old.machine))))
-      → Leaves honest content moment left_since old new
-  leaves_flush old new r step s calm leaves came =
-      leaves_by moment left_since old.disk new.disk old.machine new.machine (IsDurableIn (failed old.machine (batch old.machine))) (in_flight_within old.machine s)
-      (grows_flush old.machine new.machine r step) (leaves came calm)
+  pub leaves_both : (old mid new : LedgerState D) → mid.given ≡ old.given → Leaves disk old mid → Leaves disk mid new → Leaves disk old new
+  leaves_both old mid new given a b came first was = b (subst (CameTidy disk.honest disk.content) (sym given) came) first (a came first was)
 
-  pub leaves_checkpoint : (old new : LedgerState D) → KeepsAccepted old.machine new.machine → IsState old.machine → old.machine.broken ≡ false
-      → (CameTidy honest content old.given → old.machine.broken ≡ false → LeavesOnly moment left_since old.disk new.disk (IsDurableIn old.machine))
-      → Leaves honest content moment left_since old new
-  leaves_checkpoint old new kept s calm leaves came =
-      leaves_by moment left_since old.disk new.disk old.machine new.machine (IsDurableIn old.machine) (durable_within old.machine s) (grows_kept old.machine new.machine kept) (leaves came calm)
+  pub leaves_same : (old new : LedgerState D) → new.disk ≡ old.disk → Grows old.machine new.machine → Leaves disk old new
+  leaves_same old new same g came first was = subst (λ (d : D). LeavesOnly disk.moment disk.left_since first d (LeftOr first new.machine)) (sym same) (grown first old.disk old.machine new.machine g was)
+
+  leaves_by : (old new : LedgerState D) (P : List ℕ → Type 0) → ((c : List ℕ) → P c → StandsIn old.machine c) → Grows old.machine new.machine
+      → (CameTidy disk.honest disk.content old.given → LeavesOnly disk.moment disk.left_since old.disk new.disk P) → Leaves disk old new
+  leaves_by old new P f g leaves came first was =
+      and_then disk.moment disk.left_since first old.disk new.disk (LeftOr first new.machine) P (grown first old.disk old.machine new.machine g was) (leaves came)
+      (λ c p. inr (in_more old.machine new.machine g c (f c p)))
+
+  pub leaves_flush : (old new : LedgerState D) (r : Result ℕ Refusal) → Flushes old.machine r new.machine → IsReady old.machine
+      → (CameTidy disk.honest disk.content old.given → old.machine.broken ≡ false → LeavesOnly disk.moment disk.left_since old.disk new.disk (IsDurableIn (failed old.machine (batch old.machine))))
+      → Leaves disk old new
+  leaves_flush old new r step ready leaves =
+      leaves_by old new (IsDurableIn (failed old.machine (batch old.machine))) (in_flight_within old.machine ready.steady.state) (grows_flush old.machine new.machine r step) (λ came. leaves came ready.calm)
+
+  pub leaves_checkpoint : (old new : LedgerState D) → KeepsAccepted old.machine new.machine → IsReady old.machine
+      → (CameTidy disk.honest disk.content old.given → old.machine.broken ≡ false → LeavesOnly disk.moment disk.left_since old.disk new.disk (IsDurableIn old.machine))
+      → Leaves disk old new
+  leaves_checkpoint old new kept ready leaves =
+      leaves_by old new (IsDurableIn old.machine) (durable_within old.machine ready.steady.state) (grows_kept old.machine new.machine kept) (λ came. leaves came ready.calm)
+
+  pub goes_none : (a : Applying D) → IsSteady a.ledger.machine → Goes disk a a
+  goes_none a steady = record { steady = steady; leaves = λ came first was. was; given = refl; honest = (λ h. h, λ h. h); room = refl }
+
+  pub goes_both : (old mid new : Applying D) → Goes disk old mid → Goes disk mid new → Goes disk old new
+  goes_both old mid new a b = record {
+    steady = b.steady;
+    leaves = leaves_both old.ledger mid.ledger new.ledger a.given a.leaves b.leaves;
+    given = b.given ∙ a.given;
+    honest = (λ now. a.honest.0 (b.honest.0 now), λ was. b.honest.1 (a.honest.1 was));
+    room = b.room ∙ a.room;
+  }
 
 -- ---- failures
 pub counts_code : (X : Type 0) (refusal : Refusal) (old new : ℕ) → new ≡ failures_with refusal old → CountsDevice {X = X} old new (Err (Code refusal))

@@ -1,17 +1,19 @@
 -- The commands of a text, applied to a store that was opened.
-use Rattle.std.proofs.Common.{◌≡◌, ⊎_elim, inl, inr, ℕ, ◌≤◌, List, [], Option, None, Some, Result, Ok, Err, arith}
+use Rattle.std.proofs.Common.{◌≡◌, ◌⊎◌, ⊎_elim, inl, inr, ℕ, List, [], Option, None, Some, Result, Ok, Err}
 use Rattle.std.specs.Prelude.{IfSome, OnOk}
 use Rattle.roadnet.specs.declared.groups.Group.{Group}
 use Rattle.roadnet.specs.Net.{Net}
 use Rattle.dimacs.specs.declared.fault.Fault.{Fault}
 use Rattle.dimacs.specs.Commanded.{group_text}
 use Rattle.dimacs.specs.Texts.{Source, OfReader, FaultOf, Reads}
-use Rattle.disk.specs.Moments.{AddsNothing}
+use Rattle.disk.specs.declared.disk.Disk.{Ghosts}
+use Rattle.disk.specs.Moments.{StaysSame}
+use Rattle.disk.proofs.Steps.{started, nothing_leaves, and_then}
 use Rattle.machine.specs.Machine.{Machine}
 use Rattle.printing.specs.declared.failed.Failed.{Failed}
 use Rattle.printing.specs.declared.failed.Failed.TheVariants.{Text}
 use Rattle.storetexts.specs.Applied.{groups_of, TellsAll, IsTold, StandsAmong, IsWithin, AtAnyMoment, IsRefusedApply}
-use Rattle.storetexts.specs.Applying.{HaveCome, AddsOnly}
+use Rattle.storetexts.specs.Applying.{HaveCome}
 use Rattle.storetexts.specs.Asked.{OfStore}
 
 -- ---- a fault of the text, which is read behind the opening
@@ -46,21 +48,27 @@ module _ {X : Type 0} (Honest : Type 0) (file : List ℕ) (first : Machine) (o :
       go (Err failed) t = tt
 
 -- ---- a stop at any moment
-module _ {D : Type 0} (moment : D → ℕ) (left_since : D → ℕ → List ℕ → Type 0) (left : D → List ℕ → Type 0) (disk mid new : D) (only_now : (c : List ℕ) → left_since disk (moment disk) c → left disk c) (opened : AddsNothing moment left_since disk mid) where
-  pub nothing_since : (P : List ℕ → Type 0) → AtAnyMoment moment left_since left disk mid P
-  nothing_since P c since = inl (only_now c (opened.each (moment disk) c (omega arith) since))
+module _ {D : Type 0} (disk : Ghosts D) (first mid : D) (only_now : (c : List ℕ) → disk.left_since first (disk.moment first) c → disk.left first c) where
+  -- before the first call
+  pub at_once : (P : List ℕ → Type 0) → AtAnyMoment disk.moment disk.left_since disk.left first first P
+  at_once P = started disk.moment disk.left_since first (λ c. disk.left first c ⊎ P c) (λ c since. inl (only_now c since))
 
-  pub since_opening : (P Q : List ℕ → Type 0) → ((c : List ℕ) → P c → Q c) → AddsOnly moment left_since mid new P → AtAnyMoment moment left_since left disk new Q
-  since_opening P Q f a c since =
-      let later : moment disk ≤ moment mid = opened.later in
-      ⊎_elim (λ past. nothing_since Q c past) (λ p. inr (f c p)) (a.each (moment disk) c later since)
+  module _ (opened : StaysSame disk.content disk.left disk.moment disk.left_since first mid) where
+    pub nothing_since : (P : List ℕ → Type 0) → AtAnyMoment disk.moment disk.left_since disk.left first mid P
+    nothing_since P = nothing_leaves disk.moment disk.left_since first mid (λ c. disk.left first c ⊎ P c) opened.adds_nothing (λ c since. inl (only_now c since))
 
-  pub known_since : (net : Net) (version : ℕ) (list : List Group) (known rest : Option (List ℕ)) → IfSome known (λ text. Reads group_text text rest (Ok list)) → AddsOnly moment left_since mid new (StandsAmong net version list)
-      → IfSome known (λ text. AtAnyMoment moment left_since left disk new (IsWithin net version text))
-  known_since net version list None rest said a = tt
-  known_since net version list (Some text) rest said a =
-      since_opening (StandsAmong net version list) (IsWithin net version text) (λ c s. record { list = list; list_is = said.0; stands = s }) a
+    since_opening : (new : D) (P Q : List ℕ → Type 0) → ((c : List ℕ) → P c → Q c) → AtAnyMoment disk.moment disk.left_since disk.left mid new P
+        → AtAnyMoment disk.moment disk.left_since disk.left first new Q
+    since_opening new P Q f a =
+        and_then disk.moment disk.left_since first mid new (λ c. disk.left first c ⊎ Q c) (λ c. disk.left mid c ⊎ P c) (nothing_since Q) a
+        (λ c. ⊎_elim (λ left. inl (opened.among c left)) (λ p. inr (f c p)))
 
-  pub text_since : (net : Net) (version : ℕ) (list : List Group) (text : List ℕ) → groups_of text ≡ Ok list → AddsOnly moment left_since mid new (StandsAmong net version list)
-      → AtAnyMoment moment left_since left disk new (IsWithin net version text)
-  text_since net version list text said a = since_opening (StandsAmong net version list) (IsWithin net version text) (λ c s. record { list = list; list_is = said; stands = s }) a
+    pub text_since : (new : D) (net : Net) (version : ℕ) (list : List Group) (text : List ℕ) → groups_of text ≡ Ok list
+        → AtAnyMoment disk.moment disk.left_since disk.left mid new (StandsAmong net version list) → AtAnyMoment disk.moment disk.left_since disk.left first new (IsWithin net version text)
+    text_since new net version list text said a = since_opening new (StandsAmong net version list) (IsWithin net version text) (λ c s. record { list = list; list_is = said; stands = s }) a
+
+    pub known_since : (new : D) (net : Net) (version : ℕ) (list : List Group) (known rest : Option (List ℕ)) → IfSome known (λ text. Reads group_text text rest (Ok list))
+        → AtAnyMoment disk.moment disk.left_since disk.left mid new (StandsAmong net version list)
+        → IfSome known (λ text. AtAnyMoment disk.moment disk.left_since disk.left first new (IsWithin net version text))
+    known_since new net version list None rest said a = tt
+    known_since new net version list (Some text) rest said a = text_since new net version list text said.0 a

@@ -11,6 +11,7 @@ use Rattle.dimacs.specs.Commanded.{group_text}
 use Rattle.dimacs.specs.Lines.{rows}
 use Rattle.dimacs.specs.Texts.{Source, FaultOf, content_by}
 use Rattle.disk.specs.Contents.{Only}
+use Rattle.disk.specs.Moments.{LeavesOnly}
 use Rattle.storefile.specs.StoreFile.{StandsTidyFor}
 use Rattle.printing.specs.declared.failed.Failed.{Failed}
 use Rattle.printing.specs.declared.failed.Failed.TheVariants.{Text, Code}
@@ -128,7 +129,7 @@ pub record IsWithin (net : Net) (version : ℕ) (text content : List ℕ) : Type
 
 -- a stop at any moment from old to new leaves what it might have left before, or what has P
 abbrev pub AtAnyMoment : {D : Type 0} → (D → ℕ) → (D → ℕ → List ℕ → Type 0) → (D → List ℕ → Type 0) → D → D → (List ℕ → Type 0) → Type 0
-AtAnyMoment moment left_since left old new P = (content : List ℕ) → left_since new (moment old) content → left old content ⊎ P content
+AtAnyMoment moment left_since left old new P = LeavesOnly moment left_since old new (λ content. left old content ⊎ P content)
 
 -- what holds of the network and the version that the disk's content stands for, tidily, where the disk keeps the disk model
 abbrev pub ForTidy : {D : Type 0} → (D → Type 0) → (D → List ℕ) → D → (Net → ℕ → Type 0) → Type 0

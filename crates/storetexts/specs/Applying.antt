@@ -1,19 +1,25 @@
 -- The groups of a text while they are applied: how the ledger's machine stands to what they came to.
-use Rattle.std.specs.Prelude.{◌≡◌, ◌⊎◌, ℕ, ◌≤◌, false, List, [], ◌∷◌, ◌++◌, Option, None, All, length, take, Result, Ok, Err, ⊤}
+use Rattle.std.specs.Prelude.{◌≡◌, ℕ, ◌≤◌, ◌↔◌, false, List, [], ◌∷◌, ◌++◌, Option, None, All, OnOk, IfErr, length, take, vec_capacity, Result, Ok, Err, ⊤}
 use Rattle.std.specs.Io.KnownBytes.{Appends}
 use Rattle.roadnet.specs.declared.groups.Group.{Group}
+use Rattle.roadnet.specs.declared.refusals.Refusal.{Refusal}
 use Rattle.roadnet.specs.declared.refusals.Refusal.TheVariants.{Write}
 use Rattle.roadnet.specs.Net.{Net}
+use Rattle.disk.specs.declared.disk.Disk.{Ghosts}
+use Rattle.pagereader.specs.Outcomes.{failures_told}
 use Rattle.store.specs.Opening.{IsPassing}
-use Rattle.machine.specs.Machine.{Machine, IsState}
+use Rattle.machine.specs.Machine.{Machine, IsState, pending}
 use Rattle.keeper.specs.Keeping.{LedgerState}
 use Rattle.store.specs.State.{CameTidy}
 use Rattle.storetexts.specs.declared.applying.Applying.{Applying}
 use Rattle.storetexts.specs.declared.outcomes.Outcome.{Outcome}
+use Rattle.printing.specs.declared.writer.CountedWriter.{CountedWriter}
 use Rattle.printing.specs.declared.failed.Failed.{Failed}
 use Rattle.printing.specs.declared.failed.Failed.TheVariants.{Text, Code}
-use Rattle.storetexts.specs.Applied.{IfNotWrite, StandsWithin}
+use Rattle.storetexts.specs.Applied.{AtAnyMoment, IfNotWrite, StandsWithin, StandsAmong, AppliesAll, AppliesSome, TellsAll}
 use Rattle.storetexts.specs.Outcomes.{ComesTo, accepted_in, outcome_lines, IsSettled, IsUnsettledAt}
+use Rattle.storetexts.specs.Refused.{CountsDevice}
+use Rattle.storetexts.specs.Writers.{KeepsWriter}
 
 -- a machine between two calls of one life, in which no checkpoint is going while it is not broken, and whose journal has some page
 pub record IsSteady (m : Machine) : Type 0 where
@@ -21,6 +27,16 @@ pub record IsSteady (m : Machine) : Type 0 where
   pub opened_is : m.opened ≡ m.base_version
   pub none_going : m.broken ≡ false → m.checkpoint ≡ None
   pub some_page : 1 ≤ m.sizes.journal_pages
+
+-- the same where no write has failed
+pub record IsReady (m : Machine) : Type 0 where
+  pub steady : IsSteady m
+  pub calm : m.broken ≡ false
+
+-- the same where nothing is pending
+pub record IsIdle (m : Machine) : Type 0 where
+  pub ready : IsReady m
+  pub none : pending m ≡ 0
 
 -- Groups on this network at this version came to these outcomes; the machine has accepted just the accepted ones, and the first
 -- outcomes, so many, are settled.
@@ -124,24 +140,61 @@ ComeTo first groups p = ForBegun first (λ net version. HaveCome net version gro
 abbrev pub FirstComeTo : Machine → List Group → Progress → Type 0
 FirstComeTo first groups p = ForBegun first (λ net version. FirstHaveCome net version groups p.outcomes p.told p.machine)
 
--- ---- what a stop leaves meanwhile
-
--- From old to new a stop at any moment leaves what it might have left before, or what has P.
-pub record AddsOnly {D : Type 0} (moment : D → ℕ) (left_since : D → ℕ → List ℕ → Type 0) (old new : D) (P : List ℕ → Type 0) : Type 0 where
-  pub later : moment old ≤ moment new
-  pub each : (t : ℕ) (c : List ℕ) → t ≤ moment old → left_since new t c → left_since old t c ⊎ P c
-
--- the accepted groups of the new machine begin with those of the old one
-pub record Grows (old new : Machine) : Type 0 where
-  pub base : new.base ≡ old.base
-  pub base_version : new.base_version ≡ old.base_version
-  pub more : List Group
-  pub accepted : new.accepted ≡ old.accepted ++ more
+-- ---- what the calls have in common
 
 -- the content stands for the network after a beginning of the machine's accepted groups
 abbrev pub StandsIn : Machine → List ℕ → Type 0
 StandsIn m content = StandsWithin m.base m.base_version m.accepted content
 
--- where the store came tidy, a stop at any moment leaves what it might have left before, or a beginning of the accepted groups
-abbrev pub Leaves : {D : Type 0} → (D → Type 0) → (D → List ℕ) → (D → ℕ) → (D → ℕ → List ℕ → Type 0) → LedgerState D → LedgerState D → Type 0
-Leaves honest content moment left_since old new = CameTidy honest content old.given → AddsOnly moment left_since old.disk new.disk (StandsIn new.machine)
+-- Where the store came tidy: if a stop at any moment since the first disk left what it might have left of that one, or a beginning of the accepted
+-- groups, then so it does after the call.
+abbrev pub Leaves : {D : Type 0} → Ghosts D → LedgerState D → LedgerState D → Type 0
+Leaves {D} disk old new = CameTidy disk.honest disk.content old.given → (first : D)
+    → AtAnyMoment disk.moment disk.left_since disk.left first old.disk (StandsIn old.machine)
+    → AtAnyMoment disk.moment disk.left_since disk.left first new.disk (StandsIn new.machine)
+
+-- no group has come yet
+pub record IsNew {D : Type 0} (a : Applying D) : Type 0 where
+  pub idle : IsIdle a.ledger.machine
+  pub none_come : a.outcomes.items ≡ []
+  pub untold : a.told ≡ 0
+
+-- From one state to a later one: no call is going, and the disk is as honest, and leaves no more, as said.
+pub record Goes {D : Type 0} (disk : Ghosts D) (old new : Applying D) : Type 0 where
+  pub steady : IsSteady new.ledger.machine
+  pub leaves : Leaves disk old.ledger new.ledger
+  pub given : new.ledger.given ≡ old.ledger.given
+  pub honest : disk.honest new.ledger.disk ↔ disk.honest old.ledger.disk
+  pub room : vec_capacity new.outcomes ≡ vec_capacity old.outcomes
+
+-- A call that writes for the groups that have come: none is lost or told by it, and no more commands are pending. Each failure of the disk is counted.
+pub record Saves {D T : Type 0} (disk : Ghosts D) (result : Result T Refusal) (old new : Applying D) : Type 0 where
+  pub goes : Goes disk old new
+  pub kept : KeepsAccepted old.ledger.machine new.ledger.machine
+  pub no_more : pending new.ledger.machine ≤ pending old.ledger.machine
+  pub calm : OnOk result (new.ledger.machine.broken ≡ false)
+  pub outcomes : new.outcomes ≡ old.outcomes
+  pub told : new.told ≡ old.told
+  pub counted : disk.failures new.ledger.disk ≡ failures_told result (disk.failures old.ledger.disk)
+
+-- A call that also tells. What is told ends before the first group that isn't durable. It ends early where memory ran out, or the disk or the writer
+-- failed, which is counted.
+pub record Advances {D W : Type 0} (disk : Ghosts D) (result : Result (Unit {0}) Failed) (old new : Applying D) (before after : CountedWriter W) : Type 0 where
+  pub goes : Goes disk old new
+  pub calm : OnOk result (new.ledger.machine.broken ≡ false)
+  pub waiting : pending new.ledger.machine ≤ 505
+  pub told_to : new.told ≤ length new.outcomes.items
+  pub next : IfEndedEarly result (StopsAt (progress new) new.told)
+  pub refused : IfErr result IsCutOffBy
+  pub counted : CountsDevice (disk.failures old.ledger.disk) (disk.failures new.ledger.disk) result
+  pub writer : KeepsWriter result before after
+
+-- What applying these groups to the store of a ledger that has just begun comes to: with the disk, and with what was written before and after.
+pub record Applies {D : Type 0} (disk : Ghosts D) (ledger : LedgerState D) (groups : List Group) (result : Result (Unit {0}) Failed) (new : D) (before after : Option (List ℕ)) : Type 0 where
+  pub applied : ForCame disk.honest disk.content ledger (λ net version. OnOk result (AppliesAll net version groups (disk.content new) (disk.left new) before after))
+  pub cut_off : ForCame disk.honest disk.content ledger (λ net version. IfErr result (AppliesSome net version groups (disk.left new) before after))
+  pub told : ForBegun ledger.machine (λ net version. OnOk result (TellsAll net version groups before after))
+  pub any_moment : ForCame disk.honest disk.content ledger (λ net version. AtAnyMoment disk.moment disk.left_since disk.left ledger.disk new (StandsAmong net version groups))
+  pub refused : IfErr result IsCutOffBy
+  pub counted : CountsDevice (disk.failures ledger.disk) (disk.failures new) result
+  pub honest : disk.honest new ↔ disk.honest ledger.disk

@@ -1,6 +1,8 @@
 -- What texts and disks say where a call failed.
-use Rattle.std.specs.Prelude.{◌≡◌, ◌≤◌, ℕ, Result, Ok, Err, ⊤}
+use Rattle.std.specs.Prelude.{◌≡◌, ◌≤◌, ◌↔◌, ℕ, Result, Ok, Err, ⊤}
 use Rattle.roadnet.specs.declared.refusals.Refusal.TheVariants.{Write, Device, NotEmpty, OutOfMemory, TooManyLandmarks}
+use Rattle.disk.specs.declared.disk.Disk.{Ghosts}
+use Rattle.disk.specs.Moments.{StaysSame}
 use Rattle.pagereader.specs.Outcomes.{failures_with, MayEndOpening}
 use Rattle.printing.specs.declared.failed.Failed.{Failed}
 use Rattle.printing.specs.declared.failed.Failed.TheVariants.{Text, Code}
@@ -51,3 +53,9 @@ CountsDevice old new (Ok done) = new ≡ old
 CountsDevice old new (Err (Text which fault)) = new ≡ old
 CountsDevice old new (Err (Code Write)) = ⊤
 CountsDevice old new (Err (Code refusal)) = new ≡ failures_with refusal old
+
+-- The disk that an opening hands back was read alone: over an honest disk the content stays, and a stop may leave nothing that it might not have left before. It has so many failures.
+pub record ComesBack {D : Type 0} (disk : Ghosts D) (failures : ℕ) (old new : D) : Type 0 where
+  pub same : disk.honest old → StaysSame disk.content disk.left disk.moment disk.left_since old new
+  pub counted : disk.failures new ≡ failures
+  pub honest : disk.honest new ↔ disk.honest old

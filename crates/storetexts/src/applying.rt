@@ -1,25 +1,26 @@
 // The groups of a text, applied to a store.
-ghost use Rattle.std.specs.Prelude.{◌≡◌, ◌⊎◌, ◌+◌, ◌≤◌, ◌<◌, ◌↔◌, [], false, length, vec_capacity, OnOk, IfOk, IfErr, IfSome, MatchResult};
+ghost use Rattle.std.specs.Prelude.{◌≡◌, ◌⊎◌, ◌+◌, ◌≤◌, ◌<◌, ◌↔◌, [], false, length, vec_capacity};
+ghost use Rattle.std.specs.Prelude.{OnOk, IfOk, IfErr, IfSome, MatchResult};
 ghost use Rattle.std.specs.Bool.{Decides};
 ghost use Rattle.dimacs.specs.Counts.{failed_calls, reader_of, IsSameReader};
 ghost use Rattle.dimacs.specs.Texts.{InMemory, OfReader};
 ghost use Rattle.disk.specs.Moments.{StaysSame};
-ghost use Rattle.pagereader.specs.Outcomes.{failures_told, failures_with};
+ghost use Rattle.pagereader.specs.Outcomes.{failures_with};
 ghost use Rattle.roadnet.specs.declared.refusals.Refusal.TheVariants.{OutOfMemory as out_of_memory};
 ghost use Rattle.keeper.specs.Keeping.{Holds};
 ghost use Rattle.machine.specs.Machine.{pending};
 ghost use Rattle.store.specs.State.{CameTidy};
-ghost use Rattle.printing.specs.Counting.{failed_writes, writer_of, IsSameWriter, CountsFailure};
+ghost use Rattle.printing.specs.Counting.{failed_writes, writer_of, IsSameWriter};
 ghost use Rattle.printing.specs.Failing.{CountsReads, CountsWrites};
-ghost use Rattle.storetexts.specs.Applied.{ForTidy, AppliesAll, IsApplied, AppliesSome, IsCutOff, TellsAll, IsTold, StandsAmong, IsWithin};
-ghost use Rattle.storetexts.specs.Applied.{AtAnyMoment, IsRefusedApply, IfTextOrFileRefused};
-ghost use Rattle.storetexts.specs.Applying.{IsSteady, HaveCome, ForBegun, ForCame, AddsOnly, Grows, Leaves, IfTold, IfEndedEarly, AreTold};
+ghost use Rattle.storetexts.specs.Applied.{ForTidy, IsApplied, IsCutOff, IsTold, IsWithin, AtAnyMoment, IsRefusedApply, IfTextOrFileRefused};
+ghost use Rattle.storetexts.specs.Applying.{IsReady, IsIdle, IsNew, HaveCome, ForBegun, IfTold, AreTold};
 ghost use Rattle.storetexts.specs.Applying.{progress, ComesBehind, ComesStill, ComeTo, FirstComeTo, SameTold, SettledTo, StopsAt};
-ghost use Rattle.storetexts.specs.Applying.{KeepsAccepted, TellsTo, TellsOn, AllTold, IsCutOffBy};
+ghost use Rattle.storetexts.specs.Applying.{TellsTo, TellsOn, AllTold, Goes, Saves, Advances, Applies};
 ghost use Rattle.store.specs.Opening.{HeaderFits, IsPassing};
 ghost use Rattle.storetexts.specs.Asked.{OfStore, IsUnopened};
 ghost use Rattle.storetexts.specs.Outcomes.{IsSettled};
-ghost use Rattle.storetexts.specs.Refused.{CountsDevice, IfNoMemory, IsOfStore};
+ghost use Rattle.storetexts.specs.Refused.{ComesBack, CountsDevice, IfNoMemory, IsOfStore};
+ghost use Rattle.storetexts.specs.Writers.{KeepsWriter, Puts};
 
 use crate::outcomes::{Outcome, reply_of};
 use dimacs::{Counted, parse_commands, read_commands_counted};
@@ -52,21 +53,17 @@ struct Applying<D: Disk> {
 impl<D: Disk> Applying<D> {
     /// Submits a copy of the next group, and notes what it came to.
     fn take(&mut self, group: &Group)
-        requires steady { IsSteady self.old.ledger.machine }
-        requires calm { self.old.ledger.machine.broken ≡ false }
+        requires ready { IsReady self.old.ledger.machine }
         requires few { pending self.old.ledger.machine < 253 }
         requires room { length self.old.outcomes.items < vec_capacity self.old.outcomes }
-        ensures steady { IsSteady self.new.ledger.machine }
+        ensures goes { Goes D.Disk self.old self.new }
         ensures calm { self.new.ledger.machine.broken ≡ false }
         ensures come { ComesBehind group.now (progress self.old) (progress self.new) }
         ensures waiting { pending self.new.ledger.machine ≤ 505 }
         ensures noted { length self.new.outcomes.items ≡ length self.old.outcomes.items + 1 }
-        ensures room { vec_capacity self.new.outcomes ≡ vec_capacity self.old.outcomes }
         ensures told { self.new.told ≡ self.old.told }
         ensures first { SameTold (progress self.old) self.new.outcomes.items }
-        ensures grows { Grows self.old.ledger.machine self.new.ledger.machine }
         ensures disk { self.new.ledger.disk ≡ self.old.ledger.disk }
-        ensures given { self.new.ledger.given ≡ self.old.ledger.given }
     {
         let _size = group.commands().len();
         let outcome = match self.ledger.submit_copy(group) {
@@ -78,20 +75,11 @@ impl<D: Disk> Applying<D> {
 
     /// A whole checkpoint.
     fn checkpoint(&mut self) -> Result<(), Refusal>
-        requires steady { IsSteady self.old.ledger.machine }
-        requires calm { self.old.ledger.machine.broken ≡ false }
-        ensures steady { IsSteady self.new.ledger.machine }
-        ensures kept { KeepsAccepted self.old.ledger.machine self.new.ledger.machine }
+        requires ready { IsReady self.old.ledger.machine }
+        ensures saves { Saves D.Disk result self.old self.new }
         ensures pending { pending self.new.ledger.machine ≡ pending self.old.ledger.machine }
-        ensures calm { OnOk result (self.new.ledger.machine.broken ≡ false) }
         ensures free { OnOk result (self.new.ledger.machine.unchecked ≡ 0) }
         ensures refused { IfErr result IsPassing }
-        ensures outcomes { self.new.outcomes ≡ self.old.outcomes }
-        ensures told { self.new.told ≡ self.old.told }
-        ensures counted { D.failures self.new.ledger.disk ≡ failures_told result (D.failures self.old.ledger.disk) }
-        ensures leaves { Leaves D.honest D.content D.moment D.left_since self.old.ledger self.new.ledger }
-        ensures given { self.new.ledger.given ≡ self.old.ledger.given }
-        ensures honest { D.honest self.new.ledger.disk ↔ D.honest self.old.ledger.disk }
     {
         self.ledger.checkpoint()?;
         Ok(())
@@ -99,21 +87,11 @@ impl<D: Disk> Applying<D> {
 
     /// A checkpoint, and then a flush of the first pending groups, of which there are some.
     fn flush_anew(&mut self) -> Result<(), Refusal>
-        requires steady { IsSteady self.old.ledger.machine }
-        requires calm { self.old.ledger.machine.broken ≡ false }
+        requires ready { IsReady self.old.ledger.machine }
         requires some { 1 ≤ pending self.old.ledger.machine }
-        ensures steady { IsSteady self.new.ledger.machine }
-        ensures kept { KeepsAccepted self.old.ledger.machine self.new.ledger.machine }
-        ensures calm { OnOk result (self.new.ledger.machine.broken ≡ false) }
+        ensures saves { Saves D.Disk result self.old self.new }
         ensures fewer { OnOk result (pending self.new.ledger.machine < pending self.old.ledger.machine) }
-        ensures no_more { pending self.new.ledger.machine ≤ pending self.old.ledger.machine }
         ensures refused { IfErr result IsPassing }
-        ensures outcomes { self.new.outcomes ≡ self.old.outcomes }
-        ensures told { self.new.told ≡ self.old.told }
-        ensures counted { D.failures self.new.ledger.disk ≡ failures_told result (D.failures self.old.ledger.disk) }
-        ensures leaves { Leaves D.honest D.content D.moment D.left_since self.old.ledger self.new.ledger }
-        ensures given { self.new.ledger.given ≡ self.old.ledger.given }
-        ensures honest { D.honest self.new.ledger.disk ↔ D.honest self.old.ledger.disk }
     {
         self.checkpoint()?;
         self.ledger.flush()?;
@@ -122,21 +100,11 @@ impl<D: Disk> Applying<D> {
 
     /// Makes the first pending groups durable, of which there are some. Where the journal is full a checkpoint is written first.
     fn flush(&mut self) -> Result<(), Refusal>
-        requires steady { IsSteady self.old.ledger.machine }
-        requires calm { self.old.ledger.machine.broken ≡ false }
+        requires ready { IsReady self.old.ledger.machine }
         requires some { 1 ≤ pending self.old.ledger.machine }
-        ensures steady { IsSteady self.new.ledger.machine }
-        ensures kept { KeepsAccepted self.old.ledger.machine self.new.ledger.machine }
-        ensures calm { OnOk result (self.new.ledger.machine.broken ≡ false) }
+        ensures saves { Saves D.Disk result self.old self.new }
         ensures fewer { OnOk result (pending self.new.ledger.machine < pending self.old.ledger.machine) }
-        ensures no_more { pending self.new.ledger.machine ≤ pending self.old.ledger.machine }
         ensures refused { IfErr result IsPassing }
-        ensures outcomes { self.new.outcomes ≡ self.old.outcomes }
-        ensures told { self.new.told ≡ self.old.told }
-        ensures counted { D.failures self.new.ledger.disk ≡ failures_told result (D.failures self.old.ledger.disk) }
-        ensures leaves { Leaves D.honest D.content D.moment D.left_since self.old.ledger self.new.ledger }
-        ensures given { self.new.ledger.given ≡ self.old.ledger.given }
-        ensures honest { D.honest self.new.ledger.disk ↔ D.honest self.old.ledger.disk }
     {
         match self.ledger.flush() {
             Ok(_) => Ok(()),
@@ -147,21 +115,11 @@ impl<D: Disk> Applying<D> {
 
     /// Flushes while so many commands are pending, or more.
     fn flush_below(&mut self, limit: u64) -> Result<(), Refusal>
-        requires steady { IsSteady self.old.ledger.machine }
-        requires calm { self.old.ledger.machine.broken ≡ false }
+        requires ready { IsReady self.old.ledger.machine }
         requires some { 1 ≤ limit }
-        ensures steady { IsSteady self.new.ledger.machine }
-        ensures kept { KeepsAccepted self.old.ledger.machine self.new.ledger.machine }
-        ensures calm { OnOk result (self.new.ledger.machine.broken ≡ false) }
+        ensures saves { Saves D.Disk result self.old self.new }
         ensures done { OnOk result (pending self.new.ledger.machine < limit) }
-        ensures no_more { pending self.new.ledger.machine ≤ pending self.old.ledger.machine }
         ensures refused { IfErr result IsPassing }
-        ensures outcomes { self.new.outcomes ≡ self.old.outcomes }
-        ensures told { self.new.told ≡ self.old.told }
-        ensures counted { D.failures self.new.ledger.disk ≡ failures_told result (D.failures self.old.ledger.disk) }
-        ensures leaves { Leaves D.honest D.content D.moment D.left_since self.old.ledger self.new.ledger }
-        ensures given { self.new.ledger.given ≡ self.old.ledger.given }
-        ensures honest { D.honest self.new.ledger.disk ↔ D.honest self.old.ledger.disk }
     {
         'pages: while self.ledger.pending() >= limit {
             self.flush()?;
@@ -188,9 +146,7 @@ impl<D: Disk> Applying<D> {
         ensures settled { SettledTo (progress self.old) self.old.told → SettledTo (progress self.old) self.new.told }
         ensures next { OnOk result (StopsAt (progress self.old) self.new.told) }
         ensures lines { OnOk result (TellsTo (W.contents (writer_of out.old)) (W.contents (writer_of out.new)) (progress self.old) self.new.told) }
-        ensures refused { IfErr result (λ failed. failed ≡ Failed.Code Refusal.Write) }
-        ensures counts { CountsFailure (failed_writes out.old) (failed_writes out.new) result }
-        ensures same { IsSameWriter out.old out.new }
+        ensures puts { Puts result out.old out.new }
     {
         for index in self.told..self.outcomes.len() {
             let outcome = self.outcomes[index];
@@ -205,30 +161,16 @@ impl<D: Disk> Applying<D> {
 
     /// Makes groups durable while so many commands are pending, or more, tells what may be told, also where that is refused, and sends it out.
     fn settle<W: Write>(&mut self, limit: u64, out: &mut CountedWriter<'_, W>) -> Result<(), Failed>
-        requires steady { IsSteady self.old.ledger.machine }
-        requires calm { self.old.ledger.machine.broken ≡ false }
+        requires ready { IsReady self.old.ledger.machine }
         requires some { 1 ≤ limit }
         requires few { pending self.old.ledger.machine ≤ 505 }
         requires told_to { self.old.told ≤ length self.old.outcomes.items }
-        ensures steady { IsSteady self.new.ledger.machine }
         ensures come { ComesStill (progress self.old) (progress self.new) }
-        ensures calm { OnOk result (self.new.ledger.machine.broken ≡ false) }
         ensures done { OnOk result (pending self.new.ledger.machine < limit) }
-        ensures waiting { pending self.new.ledger.machine ≤ 505 }
-        ensures told_to { self.new.told ≤ length self.new.outcomes.items }
-        // What is told ends before the first group that isn't durable.
-        ensures next { IfEndedEarly result (StopsAt (progress self.new) self.new.told) }
         ensures all { OnOk result (pending self.new.ledger.machine ≡ 0 → AllTold (progress self.old) (progress self.new)) }
         ensures lines { IfTold result (TellsOn (W.contents (writer_of out.old)) (W.contents (writer_of out.new)) (progress self.old) (progress self.new)) }
         ensures outcomes { self.new.outcomes ≡ self.old.outcomes }
-        ensures refused { IfErr result IsCutOffBy }
-        ensures writes { CountsWrites (failed_writes out.old) (failed_writes out.new) result }
-        ensures same { IsSameWriter out.old out.new }
-        ensures counted { CountsDevice (D.failures self.old.ledger.disk) (D.failures self.new.ledger.disk) result }
-        ensures grows { Grows self.old.ledger.machine self.new.ledger.machine }
-        ensures leaves { Leaves D.honest D.content D.moment D.left_since self.old.ledger self.new.ledger }
-        ensures given { self.new.ledger.given ≡ self.old.ledger.given }
-        ensures honest { D.honest self.new.ledger.disk ↔ D.honest self.old.ledger.disk }
+        ensures advances { Advances D.Disk result self.old self.new out.old out.new }
     {
         let flushed = self.flush_below(limit);
         self.tell(out)?;
@@ -242,30 +184,15 @@ impl<D: Disk> Applying<D> {
         group: &Group,
         out: &mut CountedWriter<'_, W>,
     ) -> Result<(), Failed>
-        requires steady { IsSteady self.old.ledger.machine }
-        requires calm { self.old.ledger.machine.broken ≡ false }
+        requires ready { IsReady self.old.ledger.machine }
         requires few { pending self.old.ledger.machine < 253 }
         requires told_to { self.old.told ≤ length self.old.outcomes.items }
         requires room { length self.old.outcomes.items < vec_capacity self.old.outcomes }
-        ensures steady { IsSteady self.new.ledger.machine }
         ensures come { ComesBehind group.now (progress self.old) (progress self.new) }
-        ensures calm { OnOk result (self.new.ledger.machine.broken ≡ false) }
         ensures few { OnOk result (pending self.new.ledger.machine < 253) }
-        ensures waiting { pending self.new.ledger.machine ≤ 505 }
-        // What is told ends before the first group that isn't durable.
-        ensures next { IfEndedEarly result (StopsAt (progress self.new) self.new.told) }
-        ensures told_to { self.new.told ≤ length self.new.outcomes.items }
         ensures noted { length self.new.outcomes.items ≡ length self.old.outcomes.items + 1 }
-        ensures room { vec_capacity self.new.outcomes ≡ vec_capacity self.old.outcomes }
         ensures lines { IfTold result (TellsOn (W.contents (writer_of out.old)) (W.contents (writer_of out.new)) (progress self.old) (progress self.new)) }
-        ensures refused { IfErr result IsCutOffBy }
-        ensures writes { CountsWrites (failed_writes out.old) (failed_writes out.new) result }
-        ensures same { IsSameWriter out.old out.new }
-        ensures counted { CountsDevice (D.failures self.old.ledger.disk) (D.failures self.new.ledger.disk) result }
-        ensures grows { Grows self.old.ledger.machine self.new.ledger.machine }
-        ensures leaves { Leaves D.honest D.content D.moment D.left_since self.old.ledger self.new.ledger }
-        ensures given { self.new.ledger.given ≡ self.old.ledger.given }
-        ensures honest { D.honest self.new.ledger.disk ↔ D.honest self.old.ledger.disk }
+        ensures advances { Advances D.Disk result self.old self.new out.old out.new }
     {
         self.take(group);
         if self.ledger.pending() < MOST_OF_PAGE {
@@ -280,29 +207,12 @@ impl<D: Disk> Applying<D> {
         groups: &[Group],
         out: &mut CountedWriter<'_, W>,
     ) -> Result<(), Failed>
-        requires steady { IsSteady self.old.ledger.machine }
-        requires calm { self.old.ledger.machine.broken ≡ false }
-        requires none { pending self.old.ledger.machine ≡ 0 }
-        requires new { self.old.outcomes.items ≡ [] }
-        requires untold { self.old.told ≡ 0 }
+        requires new { IsNew self.old }
         requires room { length groups.now ≤ vec_capacity self.old.outcomes }
-        ensures steady { IsSteady self.new.ledger.machine }
         ensures some { FirstComeTo self.old.ledger.machine groups.now (progress self.new) }
         ensures come { OnOk result (ComeTo self.old.ledger.machine groups.now (progress self.new)) }
-        ensures calm { OnOk result (self.new.ledger.machine.broken ≡ false) }
-        ensures waiting { pending self.new.ledger.machine ≤ 505 }
-        // What is told ends before the first group that isn't durable.
-        ensures next { IfEndedEarly result (StopsAt (progress self.new) self.new.told) }
-        ensures told_to { self.new.told ≤ length self.new.outcomes.items }
         ensures lines { IfTold result (AreTold (W.contents (writer_of out.old)) (W.contents (writer_of out.new)) self.new.outcomes.items self.new.told) }
-        ensures refused { IfErr result IsCutOffBy }
-        ensures writes { CountsWrites (failed_writes out.old) (failed_writes out.new) result }
-        ensures same { IsSameWriter out.old out.new }
-        ensures counted { CountsDevice (D.failures self.old.ledger.disk) (D.failures self.new.ledger.disk) result }
-        ensures grows { Grows self.old.ledger.machine self.new.ledger.machine }
-        ensures leaves { Leaves D.honest D.content D.moment D.left_since self.old.ledger self.new.ledger }
-        ensures given { self.new.ledger.given ≡ self.old.ledger.given }
-        ensures honest { D.honest self.new.ledger.disk ↔ D.honest self.old.ledger.disk }
+        ensures advances { Advances D.Disk result self.old self.new out.old out.new }
     {
         for index in 0..groups.len() {
             self.advance(&groups[index], out)?;
@@ -316,30 +226,14 @@ impl<D: Disk> Applying<D> {
         groups: &[Group],
         out: &mut CountedWriter<'_, W>,
     ) -> Result<(), Failed>
-        requires steady { IsSteady self.old.ledger.machine }
-        requires calm { self.old.ledger.machine.broken ≡ false }
-        requires none { pending self.old.ledger.machine ≡ 0 }
-        requires new { self.old.outcomes.items ≡ [] }
-        requires untold { self.old.told ≡ 0 }
+        requires new { IsNew self.old }
         requires room { length groups.now ≤ vec_capacity self.old.outcomes }
-        ensures steady { IsSteady self.new.ledger.machine }
         ensures some { FirstComeTo self.old.ledger.machine groups.now (progress self.new) }
         ensures come { OnOk result (ComeTo self.old.ledger.machine groups.now (progress self.new)) }
-        ensures calm { OnOk result (self.new.ledger.machine.broken ≡ false) }
         ensures done { OnOk result (pending self.new.ledger.machine ≡ 0) }
-        ensures waiting { pending self.new.ledger.machine ≤ 505 }
-        // What is told ends before the first group that isn't durable.
-        ensures next { IfEndedEarly result (StopsAt (progress self.new) self.new.told) }
         ensures lines { IfTold result (AreTold (W.contents (writer_of out.old)) (W.contents (writer_of out.new)) self.new.outcomes.items self.new.told) }
         ensures all { OnOk result (ForBegun self.old.ledger.machine (λ net version. self.new.told ≡ length self.new.outcomes.items)) }
-        ensures refused { IfErr result IsCutOffBy }
-        ensures writes { CountsWrites (failed_writes out.old) (failed_writes out.new) result }
-        ensures same { IsSameWriter out.old out.new }
-        ensures counted { CountsDevice (D.failures self.old.ledger.disk) (D.failures self.new.ledger.disk) result }
-        ensures grows { Grows self.old.ledger.machine self.new.ledger.machine }
-        ensures leaves { Leaves D.honest D.content D.moment D.left_since self.old.ledger self.new.ledger }
-        ensures given { self.new.ledger.given ≡ self.old.ledger.given }
-        ensures honest { D.honest self.new.ledger.disk ↔ D.honest self.old.ledger.disk }
+        ensures advances { Advances D.Disk result self.old self.new out.old out.new }
     {
         self.take_all(groups, out)?;
         self.settle(ANY, out)
@@ -363,21 +257,16 @@ impl<D: Disk> Applying<D> {
 
 /// The ledger of the store on a disk.
 fn ledger_on<D: Disk>(alloc: Global, disk: D) -> Result<Ledger<D>, (Refusal, D)>
-    ensures steady { IfOk result (λ ledger. IsSteady ledger.machine) }
-    ensures calm { IfOk result (λ ledger. ledger.machine.broken ≡ false) }
-    ensures none { IfOk result (λ ledger. pending ledger.machine ≡ 0) }
+    ensures idle { IfOk result (λ ledger. IsIdle ledger.machine) }
     ensures begins { ForTidy D.honest D.content disk (λ net version. IfOk result (λ ledger. HaveCome net version [] [] 0 ledger.machine)) }
     ensures came { ForTidy D.honest D.content disk (λ net version. IfOk result (λ ledger. CameTidy D.honest D.content ledger.given)) }
     // It is the ledger of a store, which the disk stands for where it keeps the disk model.
     ensures opened { IfOk result (λ ledger. OfStore (D.honest disk) (D.content disk) (λ net version. HaveCome net version [] [] 0 ledger.machine)) }
-    ensures same { D.honest disk → IfOk result (λ ledger. StaysSame D.content D.left D.moment D.left_since disk ledger.disk) }
-    ensures handed_back { D.honest disk → IfErr result (λ refused. StaysSame D.content D.left D.moment D.left_since disk refused.1) }
+    ensures disk { MatchResult result (λ ledger. ComesBack D.Disk (D.failures disk) disk ledger.disk)
+        (λ refused. ComesBack D.Disk (failures_with refused.0 (D.failures disk)) disk refused.1) }
     ensures refused { IfErr result (λ refused. IsUnopened (D.honest disk) (D.content disk) refused.0) }
     ensures order { D.honest disk → IfErr result (λ refused. refused.0 ≡ out_of_memory → HeaderFits (D.content disk)) }
     ensures fits { D.honest disk → OnOk result (HeaderFits (D.content disk)) }
-    ensures counted { MatchResult result (λ ledger. D.failures ledger.disk ≡ D.failures disk)
-        (λ refused. D.failures refused.1 ≡ failures_with refused.0 (D.failures disk)) }
-    ensures honest { (IfOk result (λ ledger. D.honest ledger.disk ↔ D.honest disk)) × (IfErr result (λ refused. D.honest refused.1 ↔ D.honest disk)) }
 {
     let store = open(alloc, disk)?;
     match Ledger::new(alloc, store) {
@@ -393,22 +282,9 @@ fn apply_groups<D: Disk, W: Write>(
     groups: &[Group],
     out: &mut CountedWriter<'_, W>,
 ) -> (Result<(), Failed>, D)
-    requires steady { IsSteady ledger.machine }
-    requires calm { ledger.machine.broken ≡ false }
-    requires none { pending ledger.machine ≡ 0 }
-    ensures applied { ForCame D.honest D.content ledger (λ net version. OnOk result.0
-        (AppliesAll net version groups.now (D.content result.1) (D.left result.1) (W.contents (writer_of out.old)) (W.contents (writer_of out.new)))) }
-    ensures cut_off { ForCame D.honest D.content ledger (λ net version. IfErr result.0
-        (AppliesSome net version groups.now (D.left result.1) (W.contents (writer_of out.old)) (W.contents (writer_of out.new)))) }
-    ensures told { ForBegun ledger.machine (λ net version. OnOk result.0
-        (TellsAll net version groups.now (W.contents (writer_of out.old)) (W.contents (writer_of out.new)))) }
-    ensures any_moment { ForCame D.honest D.content ledger (λ net version.
-        AddsOnly D.moment D.left_since ledger.disk result.1 (StandsAmong net version groups.now)) }
-    ensures counted { CountsDevice (D.failures ledger.disk) (D.failures result.1) result.0 }
-    ensures refused { IfErr result.0 IsCutOffBy }
-    ensures writes { CountsWrites (failed_writes out.old) (failed_writes out.new) result.0 }
-    ensures same { IsSameWriter out.old out.new }
-    ensures honest { D.honest result.1 ↔ D.honest ledger.disk }
+    requires idle { IsIdle ledger.machine }
+    ensures applies { Applies D.Disk ledger groups.now result.0 result.1 (W.contents (writer_of out.old)) (W.contents (writer_of out.new)) }
+    ensures writer { KeepsWriter result.0 out.old out.new }
 {
     let outcomes = match Vec::with_capacity(alloc, groups.len()) {
         Ok(outcomes) => outcomes,
@@ -433,19 +309,8 @@ fn apply_to_writer<D: Disk, W: Write>(
     groups: &[Group],
     out: &mut W,
 ) -> (Result<(), Failed>, D)
-    requires steady { IsSteady ledger.machine }
-    requires calm { ledger.machine.broken ≡ false }
-    requires none { pending ledger.machine ≡ 0 }
-    ensures applied { ForCame D.honest D.content ledger (λ net version. OnOk result.0
-        (AppliesAll net version groups.now (D.content result.1) (D.left result.1) (W.contents out.old) (W.contents out.new))) }
-    ensures cut_off { ForCame D.honest D.content ledger (λ net version. IfErr result.0
-        (AppliesSome net version groups.now (D.left result.1) (W.contents out.old) (W.contents out.new))) }
-    ensures told { ForBegun ledger.machine (λ net version. OnOk result.0 (TellsAll net version groups.now (W.contents out.old) (W.contents out.new))) }
-    ensures any_moment { ForCame D.honest D.content ledger (λ net version.
-        AddsOnly D.moment D.left_since ledger.disk result.1 (StandsAmong net version groups.now)) }
-    ensures counted { CountsDevice (D.failures ledger.disk) (D.failures result.1) result.0 }
-    ensures refused { IfErr result.0 IsCutOffBy }
-    ensures honest { D.honest result.1 ↔ D.honest ledger.disk }
+    requires idle { IsIdle ledger.machine }
+    ensures applies { Applies D.Disk ledger groups.now result.0 result.1 (W.contents out.old) (W.contents out.new) }
 {
     let mut counted = CountedWriter::new(out);
     apply_groups(alloc, ledger, groups, &mut counted)
@@ -492,7 +357,8 @@ pub fn apply_counted<D: Disk, R: BufRead, W: Write>(
     ensures order { D.honest disk → IfErr result.0 (λ failed. IfNoMemory failed (HeaderFits (D.content disk))) }
     // The disk's count of failures rises where 43 is told, and for no other refusal but a failed write.
     ensures failed { CountsDevice (D.failures disk) (D.failures result.1) result.0 }
-    ensures untouched { D.honest disk → IfErr result.0 (λ failed. IfTextOrFileRefused failed (StaysSame D.content D.left D.moment D.left_since disk result.1)) }
+    ensures untouched { D.honest disk → IfErr result.0 (λ failed.
+        IfTextOrFileRefused failed (StaysSame D.content D.left D.moment D.left_since disk result.1)) }
     ensures unwritten { IfErr result.0 (λ failed. IfTextOrFileRefused failed (writer_of out.new ≡ writer_of out.old)) }
     ensures honest { D.honest result.1 ↔ D.honest disk }
     ensures reads { CountsReads (failed_calls commands.old) (failed_calls commands.new) result.0 }
@@ -532,7 +398,8 @@ pub fn apply_text<D: Disk, W: Write>(
     ensures refused { IfErr result.0 (IsRefusedApply (D.honest disk) (D.content disk) commands.now InMemory) }
     ensures order { D.honest disk → IfErr result.0 (λ failed. IfNoMemory failed (HeaderFits (D.content disk))) }
     ensures failed { CountsDevice (D.failures disk) (D.failures result.1) result.0 }
-    ensures untouched { D.honest disk → IfErr result.0 (λ failed. IfTextOrFileRefused failed (StaysSame D.content D.left D.moment D.left_since disk result.1)) }
+    ensures untouched { D.honest disk → IfErr result.0 (λ failed.
+        IfTextOrFileRefused failed (StaysSame D.content D.left D.moment D.left_since disk result.1)) }
     ensures unwritten { IfErr result.0 (λ failed. IfTextOrFileRefused failed (out.new ≡ out.old)) }
     ensures honest { D.honest result.1 ↔ D.honest disk }
 {

@@ -9,10 +9,10 @@ ghost use Rattle.printing.specs.Counting.{failed_writes, writer_of, IsSameWriter
 ghost use Rattle.printing.specs.Failing.{CountsReads, CountsWrites, LeavesUnwritten};
 ghost use Rattle.printing.specs.Widths.{told_width};
 ghost use Rattle.querytexts.specs.Batch.{AnswersAll};
-ghost use Rattle.querytexts.specs.Once.{IsUnanswered};
 ghost use Rattle.storetexts.specs.Asked.{IsAsked, IsRefusedAsk};
 ghost use Rattle.disk.specs.Contents.{Only};
 ghost use Rattle.store.specs.Opening.{HeaderFits};
+ghost use Rattle.storetexts.specs.Writers.{Answers};
 ghost use Rattle.storetexts.specs.Refused.{CountsDevice, IfNoMemory, IsOfStore};
 
 use dimacs::{Counted, Pair, parse_p2p, read_p2p_counted};
@@ -36,13 +36,10 @@ fn ask_opened<T: Threads, D: Disk, W: Write>(
     out: &mut CountedWriter<'_, W>,
 ) -> (Result<Done, Failed>, D)
     requires { ForSome delta IsWidth }
-    ensures width { IfOk result.0 (λ done. told_width done ≡ delta) }
-    ensures answered { OnOk result.0 (AnswersAll store.network store.version pairs.now (W.contents (writer_of out.old)) (W.contents (writer_of out.new))) }
-    ensures refused { IfErr result.0 IsUnanswered }
+    ensures answered { OnOk result.0
+        (AnswersAll store.network store.version pairs.now (W.contents (writer_of out.old)) (W.contents (writer_of out.new))) }
+    ensures answers { Answers delta result.0 out.old out.new }
     ensures disk { result.1 ≡ store.disk }
-    ensures unwritten { IfErr result.0 (LeavesUnwritten (writer_of out.old) (writer_of out.new)) }
-    ensures writes { CountsWrites (failed_writes out.old) (failed_writes out.new) result.0 }
-    ensures same { IsSameWriter out.old out.new }
 {
     let answered = answer_pairs(
         rt,

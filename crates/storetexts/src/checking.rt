@@ -1,18 +1,18 @@
 // A store that is only looked at.
-ghost use Rattle.std.specs.Prelude.{◌≡◌, ◌↔◌, OnOk, IfErr};
+ghost use Rattle.std.specs.Prelude.{◌↔◌, OnOk, IfErr};
 ghost use Rattle.std.specs.Io.KnownBytes.{Appends};
 ghost use Rattle.disk.specs.Contents.{Only};
 ghost use Rattle.disk.specs.Moments.{StaysSame};
-ghost use Rattle.printing.specs.Counting.{failed_writes, writer_of, IsSameWriter, CountsFailure};
+ghost use Rattle.printing.specs.Counting.{failed_writes, writer_of, IsSameWriter};
 ghost use Rattle.printing.specs.Failing.{CountsWrites, LeavesUnwritten};
 ghost use Rattle.store.specs.Opening.{HeaderFits};
 ghost use Rattle.storetexts.specs.Checked.{slot_line, standing_lines, IsChecked, IsRefusedCheck};
 ghost use Rattle.storetexts.specs.Refused.{IfNoMemory, CountsDevice};
+ghost use Rattle.storetexts.specs.Writers.{Puts};
 
 use disk::Disk;
 use pages::Slot;
 use printing::{CountedWriter, Failed, put_numbered, put_version};
-use roadnet::Refusal;
 use std::alloc::Global;
 use std::io::Write;
 use store::{Standing, inspect};
@@ -20,9 +20,7 @@ use store::{Standing, inspect};
 /// `slot A E` or `slot B E`
 fn put_slot<W: Write>(out: &mut CountedWriter<'_, W>, slot: Slot, epoch: u64) -> Result<(), Failed>
     ensures ok { OnOk result (Appends (W.contents (writer_of out.old)) (W.contents (writer_of out.new)) (slot_line slot epoch)) }
-    ensures refused { IfErr result (λ failed. failed ≡ Failed.Code Refusal.Write) }
-    ensures counts { CountsFailure (failed_writes out.old) (failed_writes out.new) result }
-    ensures same { IsSameWriter out.old out.new }
+    ensures puts { Puts result out.old out.new }
 {
     match slot {
         Slot::A => put_numbered(out, b"slot A ", epoch),
@@ -37,9 +35,7 @@ fn put_standing<W: Write>(
     standing: Standing,
 ) -> Result<(), Failed>
     ensures ok { OnOk result (Appends (W.contents (writer_of out.old)) (W.contents (writer_of out.new)) (standing_lines version standing)) }
-    ensures refused { IfErr result (λ failed. failed ≡ Failed.Code Refusal.Write) }
-    ensures counts { CountsFailure (failed_writes out.old) (failed_writes out.new) result }
-    ensures same { IsSameWriter out.old out.new }
+    ensures puts { Puts result out.old out.new }
 {
     put_version(out, version)?;
     put_slot(out, standing.slot, standing.epoch)?;
@@ -51,9 +47,9 @@ fn put_standing<W: Write>(
 /// checkpoint, and that slot's epoch; `journal U`, how many pages of the journal stand behind it. The whole file is judged first. Nothing
 /// is written to the disk, which is handed back.
 ///
-/// Refused is what is refused on opening: no store (40), another format (41), a damaged page (42), a disk that fails (43), want of memory
-/// (11), that only behind a header that fits the file. Nothing is written then. 43 is told only where the disk's count of failures rose. A failed write is 12, told only where the count
-/// of the writer's failed calls rose; the writer is not used again then.
+/// Refused is what is refused on opening: no store (40), another format (41), a damaged page (42), a disk that fails (43), want of memory (11), that
+/// only behind a header that fits the file. Nothing is written then. 43 is told only where the disk's count of failures rose. A failed write is 12,
+/// told only where the count of the writer's failed calls rose; the writer is not used again then.
 pub fn check_counted<D: Disk, W: Write>(
     alloc: Global,
     disk: D,

@@ -72,9 +72,9 @@ fn planned(network: Network, landmarks: &[u32], room: Option<u64>) -> Result<Net
     }
 }
 
-/// The network of a reader's `.gr` text, with the landmarks of another reader's `.ss` text, and with room for so many arcs, if a
-/// number is given. Both texts are read whole, the network first, and the first fault decides: `which` is 0 for the network and 1 for the landmarks. Nodes of the landmarks are judged by the network's
-/// number of nodes.
+/// The network of a reader's `.gr` text, with the landmarks of another reader's `.ss` text, and with room for so many arcs, if a number is given.
+/// Both texts are read whole, the network first, and the first fault decides: `which` is 0 for the network and 1 for the landmarks. Nodes of the
+/// landmarks are judged by the network's number of nodes.
 ///
 /// More than 1,000 landmarks are refused with 27, then want of memory outside the texts with 11, then a room that is none with 9. A failed read is fault
 /// 10 of the text and line being read: it is told only where the count of that reader's failed calls rose. After an `Err` the readers are
@@ -88,7 +88,8 @@ pub fn read_planned<R: BufRead, Q: BufRead>(
     ensures network { IfOk result (λ marked. IfSome (R.remaining (reader_of gr.old)) (λ network. IfSome (Q.remaining (reader_of ss.old))
         (λ landmarks. IsNetworkOf network landmarks room marked))) }
     ensures refused { IfErr result (λ failed. IfSome (R.remaining (reader_of gr.old)) (λ network. IfSome (Q.remaining (reader_of ss.old))
-        (λ landmarks. IsRefusedNetwork network landmarks room (OfReader (R.remaining (reader_of gr.new))) (OfReader (Q.remaining (reader_of ss.new))) failed))) }
+        (λ landmarks. IsRefusedNetwork network landmarks room
+        (OfReader (R.remaining (reader_of gr.new))) (OfReader (Q.remaining (reader_of ss.new))) failed))) }
     ensures kinds { IfErr result IsOfNetwork }
     ensures reads_network { CountsFirst (failed_calls gr.old) (failed_calls gr.new) result }
     ensures reads_landmarks { CountsSecond (failed_calls ss.old) (failed_calls ss.new) result }
@@ -166,7 +167,8 @@ pub fn create_counted<D: Disk, R: BufRead, Q: BufRead, W: Write>(
     ensures made { D.honest disk → IfDone result.0 (IfSome (R.remaining (reader_of gr.old)) (λ network. IfSome (Q.remaining (reader_of ss.old))
         (λ landmarks. IsNewStoreOf network landmarks room journal_pages (D.content result.1) (D.left result.1)))) }
     ensures refused { IfErr result.0 (λ failed. IfSome (R.remaining (reader_of gr.old)) (λ network. IfSome (Q.remaining (reader_of ss.old))
-        (λ landmarks. IsRefusedCreate network landmarks room (OfReader (R.remaining (reader_of gr.new))) (OfReader (Q.remaining (reader_of ss.new))) failed))) }
+        (λ landmarks. IsRefusedCreate network landmarks room
+        (OfReader (R.remaining (reader_of gr.new))) (OfReader (Q.remaining (reader_of ss.new))) failed))) }
     ensures codes { IfErr result.0 (λ failed. IsOfNetwork failed ⊎ IsOfMaking failed) }
     ensures unread { IfErr result.0 (λ failed. IfOfTexts failed (result.1 ≡ disk)) }
     // 46 comes exactly where the disk isn't empty, 43 apart; 11 where it is empty, or before any call of it.

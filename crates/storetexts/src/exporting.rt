@@ -15,13 +15,15 @@ use store::Store;
 /// version, its room and the pages of its journal. No call of the disk is made, and no memory is taken. A failed write is refused with 12; an unknown part is
 /// written then.
 ///
-/// `create` with the network and the landmarks, with the store's room, and then `apply` with the closings make a store of the same network and the same landmarks.
+/// `create` with the network and the landmarks, with the store's room, and then `apply` with the closings make a store of the same network and the
+/// same landmarks.
 pub fn export_counted<D: Disk, W: Write>(
     store: &Store<D>,
     text: Exported,
     out: &mut CountedWriter<'_, W>,
 ) -> Result<(), Failed>
-    ensures spelled { OnOk result (Appends (W.contents (writer_of out.old)) (W.contents (writer_of out.new)) (text_of (exported_rows text store.now.network (origin_of store.now.version store.now.journal_pages)))) }
+    ensures spelled { OnOk result (Appends (W.contents (writer_of out.old)) (W.contents (writer_of out.new))
+        (text_of (exported_rows text store.now.network (origin_of store.now.version store.now.journal_pages)))) }
     ensures written { OnOk result (Writes (Says text store.now.network) (W.contents (writer_of out.old)) (W.contents (writer_of out.new))) }
     ensures refused { IfErr result (λ failed. failed ≡ Failed.Code Refusal.Write) }
     ensures counts { CountsFailure (failed_writes out.old) (failed_writes out.new) result }
@@ -41,7 +43,8 @@ pub fn export_text<D: Disk, W: Write>(
     text: Exported,
     out: &mut W,
 ) -> Result<(), Failed>
-    ensures spelled { OnOk result (Appends (W.contents out.old) (W.contents out.new) (text_of (exported_rows text store.now.network (origin_of store.now.version store.now.journal_pages)))) }
+    ensures spelled { OnOk result (Appends (W.contents out.old) (W.contents out.new)
+        (text_of (exported_rows text store.now.network (origin_of store.now.version store.now.journal_pages)))) }
     ensures written { OnOk result (Writes (Says text store.now.network) (W.contents out.old) (W.contents out.new)) }
     ensures refused { IfErr result (λ failed. failed ≡ Failed.Code Refusal.Write) }
 {

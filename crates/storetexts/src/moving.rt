@@ -25,7 +25,8 @@ fn tell_made<D: Disk, W: Write>(
     out: &mut CountedWriter<'_, W>,
 ) -> (Result<(), Failed>, D)
     ensures disk { MatchResult made (λ store. result.1 ≡ store.disk) (λ refused. result.1 ≡ refused.1) }
-    ensures told { IfOk made (λ store. OnOk result.0 (Appends (W.contents (writer_of out.old)) (W.contents (writer_of out.new)) (number_line (codes "ok ") store.version))) }
+    ensures told { IfOk made (λ store. OnOk result.0
+        (Appends (W.contents (writer_of out.old)) (W.contents (writer_of out.new)) (number_line (codes "ok ") store.version))) }
     ensures refused { IfErr made (λ refused. result.0 ≡ Err (Failed.Code refused.0)) }
     ensures untold { OnErr made (out.new ≡ out.old) }
     ensures failed { OnOk made (IfErr result.0 (λ failed. failed ≡ Failed.Code Refusal.Write)) }

@@ -1,18 +1,19 @@
 // The arcs of a store's network, looked at.
-ghost use Rattle.std.specs.Prelude.{◌≡◌, ◌↔◌, OnOk, IfErr};
+ghost use Rattle.std.specs.Prelude.{◌↔◌, OnOk, IfErr};
 ghost use Rattle.std.specs.Io.KnownBytes.{Appends};
 ghost use Rattle.disk.specs.Contents.{Only};
 ghost use Rattle.disk.specs.Moments.{StaysSame};
-ghost use Rattle.printing.specs.Counting.{failed_writes, writer_of, IsSameWriter, CountsFailure};
+ghost use Rattle.printing.specs.Counting.{failed_writes, writer_of, IsSameWriter};
 ghost use Rattle.printing.specs.Failing.{CountsWrites, LeavesUnwritten};
 ghost use Rattle.printing.specs.Looks.{look_lines};
 ghost use Rattle.store.specs.Opening.{HeaderFits};
 ghost use Rattle.storetexts.specs.Shown.{IsShown, IsRefusedShow};
 ghost use Rattle.storetexts.specs.Refused.{IfNoMemory, CountsDevice};
+ghost use Rattle.storetexts.specs.Writers.{Puts};
 
 use disk::Disk;
 use printing::{CountedWriter, Failed, Look, put_look};
-use roadnet::{Network, Refusal};
+use roadnet::Network;
 use std::alloc::Global;
 use std::io::Write;
 use store::open;
@@ -25,9 +26,7 @@ fn put_shown<W: Write>(
     look: Look,
 ) -> Result<(), Failed>
     ensures ok { OnOk result (Appends (W.contents (writer_of out.old)) (W.contents (writer_of out.new)) (look_lines network.now version look)) }
-    ensures refused { IfErr result (λ failed. failed ≡ Failed.Code Refusal.Write) }
-    ensures counts { CountsFailure (failed_writes out.old) (failed_writes out.new) result }
-    ensures same { IsSameWriter out.old out.new }
+    ensures puts { Puts result out.old out.new }
 {
     put_look(out, network, version, look)?;
     out.flush()
@@ -36,9 +35,9 @@ fn put_shown<W: Write>(
 /// Opens the store on a disk, and writes its version, `v V`, and the answer line to a look at the arcs of its network (`printing::put_look`).
 /// Nothing is written to the disk, which is handed back.
 ///
-/// Refused is what is refused on opening: no store (40), another format (41), a damaged page (42), a disk that fails (43), want of memory
-/// (11), that only behind a header that fits the file. Nothing is written then. 43 is told only where the disk's count of failures rose. A failed write is 12, told only where the count
-/// of the writer's failed calls rose; the writer is not used again then.
+/// Refused is what is refused on opening: no store (40), another format (41), a damaged page (42), a disk that fails (43), want of memory (11), that
+/// only behind a header that fits the file. Nothing is written then. 43 is told only where the disk's count of failures rose. A failed write is 12,
+/// told only where the count of the writer's failed calls rose; the writer is not used again then.
 pub fn show_counted<D: Disk, W: Write>(
     alloc: Global,
     disk: D,

@@ -10,10 +10,10 @@ ghost use Rattle.printing.specs.Counting.{failed_writes, writer_of, IsSameWriter
 ghost use Rattle.printing.specs.Failing.{CountsFirst, CountsSecond, CountsWrites, LeavesUnwritten};
 ghost use Rattle.printing.specs.Widths.{told_width};
 ghost use Rattle.querytexts.specs.Batch.{AnswersAll};
-ghost use Rattle.querytexts.specs.Once.{IsUnanswered};
 ghost use Rattle.querytexts.specs.Table.{pairs_between};
 ghost use Rattle.store.specs.Opening.{HeaderFits};
 ghost use Rattle.storetexts.specs.Asked.{IsTableAsked, IsRefusedTable};
+ghost use Rattle.storetexts.specs.Writers.{Answers};
 ghost use Rattle.storetexts.specs.Refused.{CountsDevice, IfNoMemory, IsOfTwoTexts};
 
 use dimacs::{Counted, parse_nodes, read_nodes_counted};
@@ -40,13 +40,10 @@ fn table_of<T: Threads, D: Disk, W: Write>(
     out: &mut CountedWriter<'_, W>,
 ) -> (Result<Done, Failed>, D)
     requires { ForSome delta IsWidth }
-    ensures width { IfOk result.0 (λ done. told_width done ≡ delta) }
-    ensures answered { OnOk result.0 (AnswersAll store.network store.version (pairs_between sources.now targets.now) (W.contents (writer_of out.old)) (W.contents (writer_of out.new))) }
-    ensures refused { IfErr result.0 IsUnanswered }
+    ensures answered { OnOk result.0
+        (AnswersAll store.network store.version (pairs_between sources.now targets.now) (W.contents (writer_of out.old)) (W.contents (writer_of out.new))) }
+    ensures answers { Answers delta result.0 out.old out.new }
     ensures disk { result.1 ≡ store.disk }
-    ensures unwritten { IfErr result.0 (LeavesUnwritten (writer_of out.old) (writer_of out.new)) }
-    ensures writes { CountsWrites (failed_writes out.old) (failed_writes out.new) result.0 }
-    ensures same { IsSameWriter out.old out.new }
 {
     let answered = answer_table(
         rt,
@@ -88,7 +85,8 @@ pub fn ask_table_counted<T: Threads, D: Disk, R: BufRead, Q: BufRead, W: Write>(
     ensures answered { OnOk result.0 (IfSome (R.remaining (reader_of sources.old)) (λ from. IfSome (Q.remaining (reader_of targets.old))
         (λ to. IsTableAsked (D.honest disk) (D.content disk) from to (W.contents (writer_of out.old)) (W.contents (writer_of out.new))))) }
     ensures refused { IfErr result.0 (λ failed. IfSome (R.remaining (reader_of sources.old)) (λ from. IfSome (Q.remaining (reader_of targets.old))
-        (λ to. IsRefusedTable (D.honest disk) (D.content disk) from to (OfReader (R.remaining (reader_of sources.new))) (OfReader (Q.remaining (reader_of targets.new))) failed))) }
+        (λ to. IsRefusedTable (D.honest disk) (D.content disk) from to
+        (OfReader (R.remaining (reader_of sources.new))) (OfReader (Q.remaining (reader_of targets.new))) failed))) }
     ensures codes { IfErr result.0 IsOfTwoTexts }
     // Want of memory is told only where the header fits the file.
     ensures order { D.honest disk → IfErr result.0 (λ failed. IfNoMemory failed (HeaderFits (D.content disk))) }

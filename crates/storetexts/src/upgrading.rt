@@ -4,11 +4,12 @@ ghost use Rattle.std.specs.Io.KnownBytes.{Appends};
 ghost use Rattle.dimacs.specs.Counts.{failed_calls, reader_of, IsSameReader};
 ghost use Rattle.dimacs.specs.Texts.{OfReader};
 ghost use Rattle.disk.specs.Moments.{StaysSame};
-ghost use Rattle.printing.specs.Counting.{failed_writes, writer_of, IsSameWriter, CountsFailure};
+ghost use Rattle.printing.specs.Counting.{failed_writes, writer_of, IsSameWriter};
 ghost use Rattle.printing.specs.Failing.{CountsFirst, CountsSecond, CountsWrites, LeavesUnwritten};
 ghost use Rattle.storetexts.specs.Created.{IsNewStore, IsOfMaking};
 ghost use Rattle.storetexts.specs.Refused.{CountsDevice, IfDone, IfNoDevice, IfNotEmpty, IfNoMemory};
 ghost use Rattle.storetexts.specs.Upgraded.{arc_lines, fit_pages, upgrade_lines, AreMapsOf, AreRefusedMaps, IsOfMaps};
+ghost use Rattle.storetexts.specs.Writers.{Puts};
 ghost use Rattle.storetexts.specs.Upgraded.{IsRefusedUpgrade, IsUpgradeBy, IsUpgradedStore, MayRefuseStored, TellsUpgrade};
 
 use dimacs::{Counted, read_gr_counted};
@@ -24,9 +25,10 @@ const OLD: u8 = 0;
 
 const NEW: u8 = 1;
 
-/// The maps of two readers' `.gr` texts: the old one, and the new one with room for so many arcs, if a number is given. Both texts are read whole, the old one first, and the
-/// first fault decides: `which` is 0 for the old map and 1 for the new one; then a room that is none for the new one is refused with 9. A failed read is fault 10 of the text
-/// and line being read: it is told only where the count of that reader's failed calls rose. After an `Err` the readers are not used again.
+/// The maps of two readers' `.gr` texts: the old one, and the new one with room for so many arcs, if a number is given. Both texts are read whole,
+/// the old one first, and the first fault decides: `which` is 0 for the old map and 1 for the new one; then a room that is none for the new one is
+/// refused with 9. A failed read is fault 10 of the text and line being read: it is told only where the count of that reader's failed calls rose.
+/// After an `Err` the readers are not used again.
 pub fn read_maps<R: BufRead, Q: BufRead>(
     alloc: Global,
     before: &mut Counted<'_, R>,
@@ -67,11 +69,11 @@ fn fit_pages(pages: u32) -> u32
     pages
 }
 
-/// Opens the store on a disk, and gives its network, which was made of the map `old`, brought to the map `new`, which has no landmarks; then what became of arcs and landmarks,
-/// and the pages of its journal. Nothing is written to the disk, which is handed back.
+/// Opens the store on a disk, and gives its network, which was made of the map `old`, brought to the map `new`, which has no landmarks; then what
+/// became of arcs and landmarks, and the pages of its journal. Nothing is written to the disk, which is handed back.
 ///
-/// Refused is what is refused on opening: no store (40), another format (41), a damaged page (42), a disk that fails (43), want of memory (11); then an old map that is not that
-/// of which the store's network was made (52), and want of memory (11).
+/// Refused is what is refused on opening: no store (40), another format (41), a damaged page (42), a disk that fails (43), want of memory (11); then
+/// an old map that is not that of which the store's network was made (52), and want of memory (11).
 pub fn upgrade_stored<O: Disk>(
     alloc: Global,
     stored: O,
@@ -101,9 +103,7 @@ pub fn upgrade_stored<O: Disk>(
 /// `kept K`, `added A`, `gone G`, `doubtful D`
 fn put_arc_counts<W: Write>(out: &mut CountedWriter<'_, W>, counts: Counts) -> Result<(), Failed>
     ensures ok { OnOk result (Appends (W.contents (writer_of out.old)) (W.contents (writer_of out.new)) (arc_lines counts)) }
-    ensures refused { IfErr result (λ failed. failed ≡ Failed.Code Refusal.Write) }
-    ensures counts { CountsFailure (failed_writes out.old) (failed_writes out.new) result }
-    ensures same { IsSameWriter out.old out.new }
+    ensures puts { Puts result out.old out.new }
 {
     put_numbered(out, b"kept ", counts.kept)?;
     put_numbered(out, b"added ", counts.added)?;
@@ -114,20 +114,18 @@ fn put_arc_counts<W: Write>(out: &mut CountedWriter<'_, W>, counts: Counts) -> R
 /// The same, and `landmarks gone L` and `ok 0`.
 fn put_upgrade<W: Write>(out: &mut CountedWriter<'_, W>, counts: Counts) -> Result<(), Failed>
     ensures ok { OnOk result (Appends (W.contents (writer_of out.old)) (W.contents (writer_of out.new)) (upgrade_lines counts)) }
-    ensures refused { IfErr result (λ failed. failed ≡ Failed.Code Refusal.Write) }
-    ensures counts { CountsFailure (failed_writes out.old) (failed_writes out.new) result }
-    ensures same { IsSameWriter out.old out.new }
+    ensures puts { Puts result out.old out.new }
 {
     put_arc_counts(out, counts)?;
     put_numbered(out, b"landmarks gone ", counts.landmarks_gone)?;
     put_numbered(out, b"ok ", 0)
 }
 
-/// Makes a store of the network on an empty disk, with so many journal pages, 1 to 65,536, at version 0; then writes the counts' lines and `ok 0`, and sends them out. The disk is
-/// handed back.
+/// Makes a store of the network on an empty disk, with so many journal pages, 1 to 65,536, at version 0; then writes the counts' lines and `ok 0`,
+/// and sends them out. The disk is handed back.
 ///
-/// Refused is a disk that is not empty (46), one that fails (43), and want of memory (11): nothing is written to `out` then, and at 46 and 11 the disk is as it was. A failed
-/// write is 12, and then the store is made.
+/// Refused is a disk that is not empty (46), one that fails (43), and want of memory (11): nothing is written to `out` then, and at 46 and 11 the
+/// disk is as it was. A failed write is 12, and then the store is made.
 pub fn make_upgraded<D: Disk, W: Write>(
     alloc: Global,
     disk: D,
@@ -162,14 +160,14 @@ pub fn make_upgraded<D: Disk, W: Write>(
     (out.flush(), disk)
 }
 
-/// Makes a store on the empty disk `new` of the store on the disk `stored`, brought from the old map, of which that was made, to the new one, with room for so many arcs, if a number
-/// is given, and with as many journal pages; then it writes the lines of what became of arcs and landmarks, and `ok 0`, and sends them out. Both disks are handed back; the
-/// stored one is read alone, and stays as it is.
+/// Makes a store on the empty disk `new` of the store on the disk `stored`, brought from the old map, of which that was made, to the new one, with
+/// room for so many arcs, if a number is given, and with as many journal pages; then it writes the lines of what became of arcs and landmarks, and
+/// `ok 0`, and sends them out. Both disks are handed back; the stored one is read alone, and stays as it is.
 ///
-/// Refused, the first that holds, is a fault of the text of the old map, `which` 0, or of the new one, `which` 1; a room that is none for the new map (9); what is refused on opening
-/// the store (40 to 42); an old map that is not that of which it was made (52); a new disk that is not empty (46). A disk that fails is told as 43, want of memory as 11. Nothing
-/// is written then, and the new disk is untouched, but at 43. A failed write (12) is told where the store is there, and its lines could not be. After an `Err` the readers and the writer are not
-/// used again.
+/// Refused, the first that holds, is a fault of the text of the old map, `which` 0, or of the new one, `which` 1; a room that is none for the new map
+/// (9); what is refused on opening the store (40 to 42); an old map that is not that of which it was made (52); a new disk that is not empty (46). A
+/// disk that fails is told as 43, want of memory as 11. Nothing is written then, and the new disk is untouched, but at 43. A failed write (12) is
+/// told where the store is there, and its lines could not be. After an `Err` the readers and the writer are not used again.
 pub fn upgrade_counted<O: Disk, D: Disk, R: BufRead, Q: BufRead, W: Write>(
     alloc: Global,
     stored: O,
@@ -179,12 +177,14 @@ pub fn upgrade_counted<O: Disk, D: Disk, R: BufRead, Q: BufRead, W: Write>(
     room: Option<u64>,
     out: &mut CountedWriter<'_, W>,
 ) -> (Result<(), Failed>, O, D)
-    ensures made { O.honest stored → D.honest new → IfDone result.0 (IfSome (R.remaining (reader_of before.old)) (λ first. IfSome (Q.remaining (reader_of after.old))
+    ensures made { O.honest stored → D.honest new → IfDone result.0
+        (IfSome (R.remaining (reader_of before.old)) (λ first. IfSome (Q.remaining (reader_of after.old))
         (λ second. IsUpgradedStore (O.honest stored) (O.content stored) first second room (D.content result.2) (D.left result.2)))) }
     ensures told { OnOk result.0 (IfSome (R.remaining (reader_of before.old)) (λ first. IfSome (Q.remaining (reader_of after.old))
         (λ second. TellsUpgrade (O.honest stored) (O.content stored) first second room (W.contents (writer_of out.old)) (W.contents (writer_of out.new))))) }
     ensures refused { IfErr result.0 (λ failed. IfSome (R.remaining (reader_of before.old)) (λ first. IfSome (Q.remaining (reader_of after.old))
-        (λ second. IsRefusedUpgrade (O.honest stored) (O.content stored) first second room (OfReader (R.remaining (reader_of before.new))) (OfReader (Q.remaining (reader_of after.new))) failed))) }
+        (λ second. IsRefusedUpgrade (O.honest stored) (O.content stored) first second room
+        (OfReader (R.remaining (reader_of before.new))) (OfReader (Q.remaining (reader_of after.new))) failed))) }
     ensures empty { D.honest new → IfDone result.0 (D.content new ≡ []) }
     ensures untouched { O.honest stored → StaysSame O.content O.left O.moment O.left_since stored result.1 }
     ensures same { D.honest new → IfErr result.0 (λ failed. IfNoDevice failed (StaysSame D.content D.left D.moment D.left_since new result.2)) }

@@ -18,11 +18,11 @@ use Rattle.storetexts.proofs.Fitting.{if_no_memory, memory_any}
 use Rattle.storetexts.proofs.applying.apply_counted.Goals as goal
 
 pub returns-in-Err-clause-cut_off : goal.returns-in-Err-clause-cut_off
-returns-in-Err-clause-cut_off g c honest pages slots net version stands = if_known _ _ (λ text. inl (c.in-Err.ensures.handed_back honest, refl))
+returns-in-Err-clause-cut_off g c honest pages slots net version stands = if_known _ _ (λ text. inl (c.in-Err.ensures.disk.same honest, refl))
 
 pub returns-in-Err-clause-any_moment : goal.returns-in-Err-clause-any_moment
 returns-in-Err-clause-any_moment g c honest pages slots net version stands =
-    if_known _ _ (λ text. nothing_since g.D.Disk.moment g.D.Disk.left_since g.D.Disk.left c.args.disk _ c.args.disk (λ content. g.met.D.Disk.only_now c.args.disk content honest) (c.in-Err.ensures.handed_back honest).adds_nothing _)
+    if_known _ _ (λ text. nothing_since g.D.Disk c.args.disk _ (λ content. g.met.D.Disk.only_now c.args.disk content honest) (c.in-Err.ensures.disk.same honest) _)
 
 pub returns-in-Err-clause-refused : goal.returns-in-Err-clause-refused
 returns-in-Err-clause-refused g c = apply_refused_known (g.D.Disk.honest c.args.disk) (g.D.Disk.content c.args.disk) (g.R.Read.remaining (reader_of c.args.commands.now)) c.in-Err.refusal c.in-Err.ensures.refused
@@ -31,13 +31,13 @@ pub returns-in-Err-clause-codes : goal.returns-in-Err-clause-codes
 returns-in-Err-clause-codes g c = opening_of_store c.in-Err.refusal c.in-Err.ensures.refused.0
 
 pub returns-in-Err-clause-failed : goal.returns-in-Err-clause-failed
-returns-in-Err-clause-failed g c = counts_code ⊤ c.in-Err.refusal _ _ c.in-Err.ensures.counted
+returns-in-Err-clause-failed g c = counts_code ⊤ c.in-Err.refusal _ _ c.in-Err.ensures.disk.counted
 
 pub returns-in-Err-clause-writes : goal.returns-in-Err-clause-writes
 returns-in-Err-clause-writes g c = opening_counts ⊤ c.in-Err.refusal _ c.in-Err.ensures.refused.0
 
 pub returns-in-Err-clause-untouched : goal.returns-in-Err-clause-untouched
-returns-in-Err-clause-untouched g c honest = text_or_file_refused (Code c.in-Err.refusal) _ (c.in-Err.ensures.handed_back honest)
+returns-in-Err-clause-untouched g c honest = text_or_file_refused (Code c.in-Err.refusal) _ (c.in-Err.ensures.disk.same honest)
 
 pub returns-in-Err-clause-unwritten : goal.returns-in-Err-clause-unwritten
 returns-in-Err-clause-unwritten g c =
@@ -52,7 +52,7 @@ pub returns-in-Err-of_text-clause-any_moment :
     goal.returns-in-Err-of_text-clause-any_moment
 returns-in-Err-of_text-clause-any_moment g c honest pages slots net version stands =
     rw c.close-disk.ensures.disk
-    (if_known _ _ (λ text. nothing_since g.D.Disk.moment g.D.Disk.left_since g.D.Disk.left c.args.disk _ c.args.disk (λ content. g.met.D.Disk.only_now c.args.disk content honest) (c.in-Ok.ensures.same honest).adds_nothing _))
+    (if_known _ _ (λ text. nothing_since g.D.Disk c.args.disk _ (λ content. g.met.D.Disk.only_now c.args.disk content honest) (c.in-Ok.ensures.disk.same honest) _))
 
 pub returns-in-Err-of_text-clause-refused : goal.returns-in-Err-of_text-clause-refused
 returns-in-Err-of_text-clause-refused g c =
@@ -65,26 +65,26 @@ returns-in-Err-of_text-clause-refused g c =
 pub returns-clause-applied : goal.returns-clause-applied
 returns-clause-applied g c honest pages slots net version stands =
     let list : c.deref.result.now ≡ c.in-Ok-of_text.groups.items = search rules in
-    let applies = c.apply_groups.ensures.applied (c.in-Ok.ensures.came honest pages slots net version stands) net version (c.in-Ok.ensures.begins honest pages slots net version stands) in
+    let applies = c.apply_groups.ensures.applies.applied (c.in-Ok.ensures.came honest pages slots net version stands) net version (c.in-Ok.ensures.begins honest pages slots net version stands) in
     applied_known net version c.in-Ok-of_text.groups.items _ c.apply_groups.result.0 _ _ _ _ _ (rw list at applies) (value_of vec_items 0 c.read_commands_counted.result c.in-Ok-of_text.groups c.in-Ok-of_text.ensures (λ r. IfSome (g.R.Read.remaining (reader_of c.args.commands.now)) (λ text. Reads group_text text (g.R.Read.remaining (reader_of c.read_commands_counted.new.counted)) r)) c.read_commands_counted.ensures.read)
 
 pub returns-clause-cut_off : goal.returns-clause-cut_off
 returns-clause-cut_off g c honest pages slots net version stands =
     let list : c.deref.result.now ≡ c.in-Ok-of_text.groups.items = search rules in
-    let applies = c.apply_groups.ensures.cut_off (c.in-Ok.ensures.came honest pages slots net version stands) net version (c.in-Ok.ensures.begins honest pages slots net version stands) in
+    let applies = c.apply_groups.ensures.applies.cut_off (c.in-Ok.ensures.came honest pages slots net version stands) net version (c.in-Ok.ensures.begins honest pages slots net version stands) in
     cut_off_known net version c.in-Ok-of_text.groups.items _ c.apply_groups.result.0 _ _ _ _ _ (rw list at applies) (value_of vec_items 0 c.read_commands_counted.result c.in-Ok-of_text.groups c.in-Ok-of_text.ensures (λ r. IfSome (g.R.Read.remaining (reader_of c.args.commands.now)) (λ text. Reads group_text text (g.R.Read.remaining (reader_of c.read_commands_counted.new.counted)) r)) c.read_commands_counted.ensures.read)
 
 pub returns-clause-any_moment : goal.returns-clause-any_moment
 returns-clause-any_moment g c honest pages slots net version stands =
     let list : c.deref.result.now ≡ c.in-Ok-of_text.groups.items = search rules in
-    let moments = c.apply_groups.ensures.any_moment (c.in-Ok.ensures.came honest pages slots net version stands) net version (c.in-Ok.ensures.begins honest pages slots net version stands) in
-    known_since g.D.Disk.moment g.D.Disk.left_since g.D.Disk.left c.args.disk c.in-Ok.ledger.disk c.apply_groups.result.1 (λ content. g.met.D.Disk.only_now c.args.disk content honest)
-    (c.in-Ok.ensures.same honest).adds_nothing net version c.in-Ok-of_text.groups.items _ _ (value_of vec_items 0 c.read_commands_counted.result c.in-Ok-of_text.groups c.in-Ok-of_text.ensures (λ r. IfSome (g.R.Read.remaining (reader_of c.args.commands.now)) (λ text. Reads group_text text (g.R.Read.remaining (reader_of c.read_commands_counted.new.counted)) r)) c.read_commands_counted.ensures.read) (rw list at moments)
+    let moments = c.apply_groups.ensures.applies.any_moment (c.in-Ok.ensures.came honest pages slots net version stands) net version (c.in-Ok.ensures.begins honest pages slots net version stands) in
+    known_since g.D.Disk c.args.disk c.in-Ok.ledger.disk (λ content. g.met.D.Disk.only_now c.args.disk content honest)
+    (c.in-Ok.ensures.disk.same honest) c.apply_groups.result.1 net version c.in-Ok-of_text.groups.items _ _ (value_of vec_items 0 c.read_commands_counted.result c.in-Ok-of_text.groups c.in-Ok-of_text.ensures (λ r. IfSome (g.R.Read.remaining (reader_of c.args.commands.now)) (λ text. Reads group_text text (g.R.Read.remaining (reader_of c.read_commands_counted.new.counted)) r)) c.read_commands_counted.ensures.read) (rw list at moments)
 
 pub returns-clause-told : goal.returns-clause-told
 returns-clause-told g c =
     let list : c.deref.result.now ≡ c.in-Ok-of_text.groups.items = search rules in
-    let tells = c.apply_groups.ensures.told in
+    let tells = c.apply_groups.ensures.applies.told in
     told_known _ _ c.in-Ok.ledger.machine c.in-Ok.ensures.opened c.in-Ok-of_text.groups.items c.apply_groups.result.0 _ _ _ _ (rw list at tells) (value_of vec_items 0 c.read_commands_counted.result c.in-Ok-of_text.groups c.in-Ok-of_text.ensures (λ r. IfSome (g.R.Read.remaining (reader_of c.args.commands.now)) (λ text. Reads group_text text (g.R.Read.remaining (reader_of c.read_commands_counted.new.counted)) r)) c.read_commands_counted.ensures.read)
 
 pub returns-clause-refused : goal.returns-clause-refused
@@ -92,26 +92,26 @@ returns-clause-refused g c =
     let known = g.R.Read.remaining (reader_of c.args.commands.now) in
     let left = g.R.Read.remaining (reader_of c.read_commands_counted.new.counted) in
     cut_off_refused_known (g.D.Disk.honest c.args.disk) (g.D.Disk.content c.args.disk) c.in-Ok.ensures.opened c.in-Ok-of_text.groups.items c.apply_groups.result.0 known left
-    (value_of vec_items 0 c.read_commands_counted.result c.in-Ok-of_text.groups c.in-Ok-of_text.ensures (λ r. IfSome known (λ text. Reads group_text text left r)) c.read_commands_counted.ensures.read) c.apply_groups.ensures.refused
+    (value_of vec_items 0 c.read_commands_counted.result c.in-Ok-of_text.groups c.in-Ok-of_text.ensures (λ r. IfSome known (λ text. Reads group_text text left r)) c.read_commands_counted.ensures.read) c.apply_groups.ensures.applies.refused
 
 pub returns-clause-codes : goal.returns-clause-codes
-returns-clause-codes g c = kind_cut_off c.apply_groups.result.0 c.apply_groups.ensures.refused
+returns-clause-codes g c = kind_cut_off c.apply_groups.result.0 c.apply_groups.ensures.applies.refused
 
 pub returns-clause-failed : goal.returns-clause-failed
-returns-clause-failed g c = counts_from c.apply_groups.result.0 _ _ _ c.in-Ok.ensures.counted c.apply_groups.ensures.counted
+returns-clause-failed g c = counts_from c.apply_groups.result.0 _ _ _ c.in-Ok.ensures.disk.counted c.apply_groups.ensures.applies.counted
 
 pub returns-clause-untouched : goal.returns-clause-untouched
-returns-clause-untouched g c honest = cut_off_later c.apply_groups.result.0 _ c.apply_groups.ensures.refused
+returns-clause-untouched g c honest = cut_off_later c.apply_groups.result.0 _ c.apply_groups.ensures.applies.refused
 
 pub returns-clause-unwritten : goal.returns-clause-unwritten
-returns-clause-unwritten g c = cut_off_later c.apply_groups.result.0 _ c.apply_groups.ensures.refused
+returns-clause-unwritten g c = cut_off_later c.apply_groups.result.0 _ c.apply_groups.ensures.applies.refused
 
 pub returns-clause-honest : goal.returns-clause-honest
 returns-clause-honest g c =
-    (λ after. c.in-Ok.ensures.honest.0.0 (c.apply_groups.ensures.honest.0 after), λ before. c.apply_groups.ensures.honest.1 (c.in-Ok.ensures.honest.0.1 before))
+    (λ after. c.in-Ok.ensures.disk.honest.0 (c.apply_groups.ensures.applies.honest.0 after), λ before. c.apply_groups.ensures.applies.honest.1 (c.in-Ok.ensures.disk.honest.1 before))
 
 pub returns-in-Err-of_text-clause-untouched : goal.returns-in-Err-of_text-clause-untouched
-returns-in-Err-of_text-clause-untouched g c honest = rw c.close-disk.ensures.disk (text_or_file_refused c.in-Err-of_text.failed _ (c.in-Ok.ensures.same honest))
+returns-in-Err-of_text-clause-untouched g c honest = rw c.close-disk.ensures.disk (text_or_file_refused c.in-Err-of_text.failed _ (c.in-Ok.ensures.disk.same honest))
 
 pub returns-in-Err-clause-order : goal.returns-in-Err-clause-order
 returns-in-Err-clause-order g c honest = memory_told c.in-Err.refusal _ (c.in-Err.ensures.order honest)

@@ -53,13 +53,13 @@ returns-clause-refused g c =
     let left = g.R.Read.remaining (reader_of c.read_p2p_counted-read.new.counted) in
     refused_known (g.D.Disk.honest c.args.disk) (g.D.Disk.content c.args.disk) c.in-Ok.store.network c.in-Ok.store.version c.nodes.result c.in-Ok.ensures.stands nodes
     c.ask_opened.result.0 known left c.in-Ok-of_text.pairs.items
-    (value_of vec_items 0 c.read_p2p_counted-read.result c.in-Ok-of_text.pairs c.in-Ok-of_text.ensures (λ r. IfSome known (λ text. Reads (p2p_text c.nodes.result) text left r)) c.read_p2p_counted-read.ensures.read) c.ask_opened.ensures.refused
+    (value_of vec_items 0 c.read_p2p_counted-read.result c.in-Ok-of_text.pairs c.in-Ok-of_text.ensures (λ r. IfSome known (λ text. Reads (p2p_text c.nodes.result) text left r)) c.read_p2p_counted-read.ensures.read) c.ask_opened.ensures.answers.refused
 
 pub returns-clause-codes : goal.returns-clause-codes
-returns-clause-codes g c = kind_unanswered c.ask_opened.result.0 c.ask_opened.ensures.refused
+returns-clause-codes g c = kind_unanswered c.ask_opened.result.0 c.ask_opened.ensures.answers.refused
 
 pub returns-clause-failed : goal.returns-clause-failed
-returns-clause-failed g c = counts_unanswered c.ask_opened.result.0 _ _ c.ask_opened.ensures.refused (ap g.D.Disk.failures c.ask_opened.ensures.disk ∙ c.in-Ok.ensures.counted)
+returns-clause-failed g c = counts_unanswered c.ask_opened.result.0 _ _ c.ask_opened.ensures.answers.refused (ap g.D.Disk.failures c.ask_opened.ensures.disk ∙ c.in-Ok.ensures.counted)
 
 pub returns-in-Err-clause-order : goal.returns-in-Err-clause-order
 returns-in-Err-clause-order g c honest = memory_told c.in-Err.refusal _ (c.in-Err.ensures.order honest)

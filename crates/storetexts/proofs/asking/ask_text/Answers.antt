@@ -41,10 +41,10 @@ returns-clause-refused g c =
     let nodes : c.nodes.result ≡ c.in-Ok.store.network.nodes = search rules in
     let read = value_of vec_items 0 c.parse_p2p-read.result c.in-Ok-of_text.pairs c.in-Ok-of_text.ensures (Parses (p2p_text c.nodes.result) c.args.p2p.now) c.parse_p2p-read.ensures in
     refused_so (g.D.Disk.honest c.args.disk) (g.D.Disk.content c.args.disk) c.in-Ok.store.network c.in-Ok.store.version c.nodes.result c.in-Ok.ensures.stands nodes
-    c.ask_opened.result.0 c.args.p2p.now InMemory c.in-Ok-of_text.pairs.items read c.ask_opened.ensures.refused
+    c.ask_opened.result.0 c.args.p2p.now InMemory c.in-Ok-of_text.pairs.items read c.ask_opened.ensures.answers.refused
 
 pub returns-clause-failed : goal.returns-clause-failed
-returns-clause-failed g c = counts_unanswered c.ask_opened.result.0 _ _ c.ask_opened.ensures.refused (ap g.D.Disk.failures c.ask_opened.ensures.disk ∙ c.in-Ok.ensures.counted)
+returns-clause-failed g c = counts_unanswered c.ask_opened.result.0 _ _ c.ask_opened.ensures.answers.refused (ap g.D.Disk.failures c.ask_opened.ensures.disk ∙ c.in-Ok.ensures.counted)
 
 pub returns-in-Err-clause-order : goal.returns-in-Err-clause-order
 returns-in-Err-clause-order g c honest = memory_told c.in-Err.refusal _ (c.in-Err.ensures.order honest)

@@ -20,19 +20,19 @@ pub returns-clause-answered : goal.returns-clause-answered
 returns-clause-answered g c = told_so c.put_standing-told.result (g.D.Disk.honest c.args.disk) (g.D.Disk.content c.args.disk) c.in-Ok.found.version c.in-Ok.found.standing _ _ c.in-Ok.ensures.stands c.put_standing-told.ensures.ok
 
 pub returns-clause-refused : goal.returns-clause-refused
-returns-clause-refused g c = write_refused c.put_standing-told.result (g.D.Disk.honest c.args.disk) (g.D.Disk.content c.args.disk) c.in-Ok.found.version c.in-Ok.found.standing c.in-Ok.ensures.stands c.put_standing-told.ensures.refused
+returns-clause-refused g c = write_refused c.put_standing-told.result (g.D.Disk.honest c.args.disk) (g.D.Disk.content c.args.disk) c.in-Ok.found.version c.in-Ok.found.standing c.in-Ok.ensures.stands c.put_standing-told.ensures.puts.refused
 
 pub returns-clause-order : goal.returns-clause-order
-returns-clause-order g c honest = write_memory c.put_standing-told.result _ c.put_standing-told.ensures.refused
+returns-clause-order g c honest = write_memory c.put_standing-told.result _ c.put_standing-told.ensures.puts.refused
 
 pub returns-clause-failed : goal.returns-clause-failed
-returns-clause-failed g c = write_device c.put_standing-told.result _ _ c.put_standing-told.ensures.refused c.in-Ok.ensures.counted
+returns-clause-failed g c = write_device c.put_standing-told.result _ _ c.put_standing-told.ensures.puts.refused c.in-Ok.ensures.counted
 
 pub returns-clause-unwritten : goal.returns-clause-unwritten
-returns-clause-unwritten g c = write_unwritten c.put_standing-told.result _ _ c.put_standing-told.ensures.refused
+returns-clause-unwritten g c = write_unwritten c.put_standing-told.result _ _ c.put_standing-told.ensures.puts.refused
 
 pub returns-clause-writes : goal.returns-clause-writes
-returns-clause-writes g c = write_counts c.put_standing-told.result _ _ c.put_standing-told.ensures.refused c.put_standing-told.ensures.counts
+returns-clause-writes g c = write_counts c.put_standing-told.result _ _ c.put_standing-told.ensures.puts.refused c.put_standing-told.ensures.puts.counts
 
 pub returns-clause-at_rest : goal.returns-clause-at_rest
 returns-clause-at_rest g c honest = if_ok c.put_standing-told.result _ (c.in-Ok.ensures.at_rest honest)

@@ -26,19 +26,19 @@ returns-clause-answered g c =
 
 pub returns-clause-refused : goal.returns-clause-refused
 returns-clause-refused g c =
-    write_refused (g.D.Disk.honest c.args.disk) (g.D.Disk.content c.args.disk) c.in-Ok.store.network c.in-Ok.store.version c.in-Ok.ensures.stands c.put_shown-told.result c.put_shown-told.ensures.refused
+    write_refused (g.D.Disk.honest c.args.disk) (g.D.Disk.content c.args.disk) c.in-Ok.store.network c.in-Ok.store.version c.in-Ok.ensures.stands c.put_shown-told.result c.put_shown-told.ensures.puts.refused
 
 pub returns-clause-order : goal.returns-clause-order
-returns-clause-order g c honest = write_memory c.put_shown-told.result _ c.put_shown-told.ensures.refused
+returns-clause-order g c honest = write_memory c.put_shown-told.result _ c.put_shown-told.ensures.puts.refused
 
 pub returns-clause-failed : goal.returns-clause-failed
-returns-clause-failed g c = write_device c.put_shown-told.result _ _ c.put_shown-told.ensures.refused (ap g.D.Disk.failures c.close.ensures.disk ∙ c.in-Ok.ensures.counted)
+returns-clause-failed g c = write_device c.put_shown-told.result _ _ c.put_shown-told.ensures.puts.refused (ap g.D.Disk.failures c.close.ensures.disk ∙ c.in-Ok.ensures.counted)
 
 pub returns-clause-unwritten : goal.returns-clause-unwritten
-returns-clause-unwritten g c = write_unwritten c.put_shown-told.result _ _ c.put_shown-told.ensures.refused
+returns-clause-unwritten g c = write_unwritten c.put_shown-told.result _ _ c.put_shown-told.ensures.puts.refused
 
 pub returns-clause-writes : goal.returns-clause-writes
-returns-clause-writes g c = write_counts c.put_shown-told.result _ _ c.put_shown-told.ensures.refused c.put_shown-told.ensures.counts
+returns-clause-writes g c = write_counts c.put_shown-told.result _ _ c.put_shown-told.ensures.puts.refused c.put_shown-told.ensures.puts.counts
 
 pub returns-clause-at_rest : goal.returns-clause-at_rest
 returns-clause-at_rest g c honest =

@@ -80,13 +80,13 @@ returns-clause-refused g c =
     c.in-Ok-of_text.from.items c.in-Ok-of_text-2.to.items c.table_of.result.0 first second left left'
     (value_of vec_items 0 c.read_nodes_counted-sources_read.result c.in-Ok-of_text.from c.in-Ok-of_text.ensures (λ r. IfSome first (λ text. Reads (nodes_text c.nodes-count.result) text left r)) c.read_nodes_counted-sources_read.ensures.read)
     (value_of vec_items 1 c.read_nodes_counted-targets_read.result c.in-Ok-of_text-2.to c.in-Ok-of_text-2.ensures (λ r. IfSome second (λ text. Reads (nodes_text c.nodes-count.result) text left' r)) c.read_nodes_counted-targets_read.ensures.read)
-    c.table_of.ensures.refused
+    c.table_of.ensures.answers.refused
 
 pub returns-clause-codes : goal.returns-clause-codes
-returns-clause-codes g c = kind_unanswered c.table_of.result.0 c.table_of.ensures.refused
+returns-clause-codes g c = kind_unanswered c.table_of.result.0 c.table_of.ensures.answers.refused
 
 pub returns-clause-failed : goal.returns-clause-failed
-returns-clause-failed g c = counts_unanswered c.table_of.result.0 _ _ c.table_of.ensures.refused (ap g.D.Disk.failures c.table_of.ensures.disk ∙ c.in-Ok.ensures.counted)
+returns-clause-failed g c = counts_unanswered c.table_of.result.0 _ _ c.table_of.ensures.answers.refused (ap g.D.Disk.failures c.table_of.ensures.disk ∙ c.in-Ok.ensures.counted)
 
 pub returns-clause-order : goal.returns-clause-order
 returns-clause-order g c honest =

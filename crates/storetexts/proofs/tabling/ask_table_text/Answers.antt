@@ -56,10 +56,10 @@ returns-clause-refused g c =
     let read = value_of vec_items 0 c.parse_nodes-sources_read.result c.in-Ok-of_text.from c.in-Ok-of_text.ensures (Parses (nodes_text c.nodes-count.result) c.args.sources.now) c.parse_nodes-sources_read.ensures in
     let read' = value_of vec_items 1 c.parse_nodes-targets_read.result c.in-Ok-of_text-2.to c.in-Ok-of_text-2.ensures (Parses (nodes_text c.nodes-count.result) c.args.targets.now) c.parse_nodes-targets_read.ensures in
     refused_so (g.D.Disk.honest c.args.disk) (g.D.Disk.content c.args.disk) c.in-Ok.store.network c.in-Ok.store.version c.nodes-count.result c.in-Ok.ensures.stands nodes
-    c.in-Ok-of_text.from.items c.in-Ok-of_text-2.to.items c.table_of.result.0 c.args.sources.now c.args.targets.now InMemory InMemory read read' c.table_of.ensures.refused
+    c.in-Ok-of_text.from.items c.in-Ok-of_text-2.to.items c.table_of.result.0 c.args.sources.now c.args.targets.now InMemory InMemory read read' c.table_of.ensures.answers.refused
 
 pub returns-clause-failed : goal.returns-clause-failed
-returns-clause-failed g c = counts_unanswered c.table_of.result.0 _ _ c.table_of.ensures.refused (ap g.D.Disk.failures c.table_of.ensures.disk ∙ c.in-Ok.ensures.counted)
+returns-clause-failed g c = counts_unanswered c.table_of.result.0 _ _ c.table_of.ensures.answers.refused (ap g.D.Disk.failures c.table_of.ensures.disk ∙ c.in-Ok.ensures.counted)
 
 pub returns-clause-order : goal.returns-clause-order
 returns-clause-order g c honest =

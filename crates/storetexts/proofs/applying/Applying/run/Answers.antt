@@ -1,5 +1,5 @@
 use Rattle.std.proofs.Common.{take, arith}
-use Rattle.storetexts.proofs.Meanwhile.{leaves_both}
+use Rattle.storetexts.proofs.Advancing.{advances_both}
 use Rattle.storetexts.proofs.Remaining.{on_ok_any, on_ok_both}
 use Rattle.storetexts.proofs.applying.Applying.run.Goals as goal
 
@@ -14,7 +14,5 @@ returns-clause-come g c = on_ok_any c.settle.result _ (λ net version have. c.se
 pub returns-clause-all : goal.returns-clause-all
 returns-clause-all g c = on_ok_both c.settle.result _ _ _ c.settle.ensures.done c.settle.ensures.all (λ done all net version have. all (omega (arith, done)) net version c.args.groups.now (c.in_ok-take_all.ensures.come net version have))
 
-pub returns-clause-leaves : goal.returns-clause-leaves
-returns-clause-leaves g c =
-    leaves_both g.D.Disk.honest g.D.Disk.content g.D.Disk.moment g.D.Disk.left_since c.args.self.now.ledger c.take_all.new.self.ledger c.settle.new.self.ledger c.take_all.ensures.given c.settle.ensures.grows
-    c.take_all.ensures.leaves c.settle.ensures.leaves
+pub returns-clause-advances : goal.returns-clause-advances
+returns-clause-advances g c = advances_both g.D.Disk c.args.self.now c.take_all.new.self c.settle.new.self _ _ _ _ c.in_ok-take_all.ensures.advances c.settle.ensures.advances

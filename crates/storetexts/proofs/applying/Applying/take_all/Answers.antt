@@ -1,8 +1,10 @@
-use Rattle.std.proofs.Common.{◌∙◌, ◌+◌, ◌<◌, [], ◌∷◌, ◌++◌, length, take, subst, Err, arith}
+use Rattle.std.proofs.Common.{◌+◌, ◌<◌, [], ◌∷◌, ◌++◌, length, take, refl, ap, subst, arith}
+use Rattle.std.proofs.KnownBytes.{Appends-nil}
 use Rattle.std.proofs.lemmas.Result.{err_from_is_err_and}
 use Rattle.roadnet.specs.declared.groups.Group.{Group}
 use Rattle.storetexts.specs.Applying.{HaveCome}
-use Rattle.storetexts.proofs.Meanwhile.{grows_both, leaves_both, counts_from}
+use Rattle.storetexts.proofs.Advancing.{advances_none, advances_both}
+use Rattle.storetexts.proofs.Meanwhile.{goes_none}
 use Rattle.storetexts.proofs.Remaining.{come_next, come_end}
 use Rattle.storetexts.proofs.applying.Applying.take_all.Goals as goal
 
@@ -18,6 +20,17 @@ returns-in_err-advance-clause-some g c net version have =
           (c.advance.ensures.come net version (take i c.args.groups.now) (c.loop-index.invariant.come net version have)));
     }
 
+pub loop-index-init : goal.loop-index-init
+loop-index-init g c =
+    let none = c.requires.new.idle.none in
+    record {
+      advances = advances_none g.D.Disk c.args.self.now c.args.self.now c.args.out.now (goes_none g.D.Disk c.args.self.now c.requires.new.idle.ready.steady) c.requires.new.idle.ready.calm (omega (arith, none)) (omega (arith, c.requires.new.untold)) refl;
+      few = omega (arith, none);
+      noted = ap length c.requires.new.none_come;
+      come = λ net version have. rw (c.requires.new.none_come, c.requires.new.untold) have;
+      lines = rw (c.requires.new.none_come, c.requires.new.untold) (Appends-nil _);
+    }
+
 pub loop-index-preserved : goal.loop-index-preserved
 loop-index-preserved g c =
     let i = c.loop-index.index in
@@ -25,25 +38,14 @@ loop-index-preserved g c =
     let before = c.loop-index.invariant in
     let new = c.advance.new.self in
     record {
-      steady = c.in_ok-advance.ensures.steady;
-      calm = c.in_ok-advance.ensures.calm;
+      advances = advances_both g.D.Disk c.args.self.now c.loop-index.self new _ _ _ _ before.advances c.in_ok-advance.ensures.advances;
       few = c.in_ok-advance.ensures.few;
-      told_to = c.in_ok-advance.ensures.told_to;
       noted = omega (arith, c.in_ok-advance.ensures.noted, before.noted);
-      room = c.in_ok-advance.ensures.room ∙ before.room;
       come = λ net version have.
           come_next net version c.args.groups.now i c.index-groups-index.result new.outcomes.items new.told new.ledger.machine lt
           (subst (λ (x : Group). HaveCome net version (take i c.args.groups.now ++ x ∷ []) new.outcomes.items new.told new.ledger.machine) c.index-groups-index.is
           (c.in_ok-advance.ensures.come net version (take i c.args.groups.now) (before.come net version have)));
       lines = c.in_ok-advance.ensures.lines _ before.lines;
-      counts = c.in_ok-advance.ensures.writes ∙ before.counts;
-      same = c.in_ok-advance.ensures.same ∙ before.same;
-      counted = c.in_ok-advance.ensures.counted ∙ before.counted;
-      grows = grows_both _ _ _ before.grows c.in_ok-advance.ensures.grows;
-      leaves = leaves_both g.D.Disk.honest g.D.Disk.content g.D.Disk.moment g.D.Disk.left_since c.args.self.now.ledger c.loop-index.self.ledger c.advance.new.self.ledger before.given c.in_ok-advance.ensures.grows before.leaves c.in_ok-advance.ensures.leaves;
-      given = c.in_ok-advance.ensures.given ∙ before.given;
-      forth = λ honest. before.forth (c.in_ok-advance.ensures.honest.0 honest);
-      back = λ honest. c.in_ok-advance.ensures.honest.1 (before.back honest);
     }
 
 pub returns-clause-some : goal.returns-clause-some
@@ -52,15 +54,7 @@ returns-clause-some g c net version have = record { taken = c.loop-index.index; 
 pub returns-clause-come : goal.returns-clause-come
 returns-clause-come g c net version have = come_end net version c.args.groups.now c.loop-index.index _ _ _ c.loop-index-test.false (c.loop-index.invariant.come net version have)
 
-pub returns-in_err-advance-clause-counted : goal.returns-in_err-advance-clause-counted
-returns-in_err-advance-clause-counted g c =
+pub returns-in_err-advance-clause-advances : goal.returns-in_err-advance-clause-advances
+returns-in_err-advance-clause-advances g c =
     let p = err_from_is_err_and c.from_residual.result c.from_residual.ensures.1 in
-    rw (p.1, p.2) (counts_from {X = Unit {0}} (Err _) _ _ _ c.loop-index.invariant.counted c.in_err-advance.ensures.counted)
-
-pub returns-in_err-advance-clause-grows : goal.returns-in_err-advance-clause-grows
-returns-in_err-advance-clause-grows g c = grows_both _ _ _ c.loop-index.invariant.grows c.advance.ensures.grows
-
-pub returns-in_err-advance-clause-leaves : goal.returns-in_err-advance-clause-leaves
-returns-in_err-advance-clause-leaves g c =
-    leaves_both g.D.Disk.honest g.D.Disk.content g.D.Disk.moment g.D.Disk.left_since c.args.self.now.ledger c.loop-index.self.ledger c.advance.new.self.ledger c.loop-index.invariant.given c.advance.ensures.grows
-    c.loop-index.invariant.leaves c.advance.ensures.leaves
+    rw (p.1, p.2) (advances_both g.D.Disk c.args.self.now c.loop-index.self c.advance.new.self _ _ _ _ c.loop-index.invariant.advances c.in_err-advance.ensures.advances)

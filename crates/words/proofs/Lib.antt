@@ -1,3 +1,2 @@
 mod InputTwice
 pub mod PipeNames
-mod WordsRead

@@ -130,7 +130,7 @@ const ABOUT_SERVE: &str =
 
 Beside that it serves one client after the other at each pair of named pipes, IN and OUT, all pairs at once: the client writes its lines into IN and reads its answers from OUT. There `quit` ends that client's session alone, and a last line without its end is not carried out. The end of standard input ends the server.
 
-`set K W`, `close K`, `reopen K`, `mark X`, `unmark X` and `lay T H W` change the network: `ok N`, once the command is version N of the store for good, or `no CODE`. The lines `begin` and `end` enclose commands of which all are carried out or none: `end` is answered for all of them. `dist S T`, `from X T` and `lower S T` ask: the line `v V`, V the version that is shown, and the answer line, or `no CODE`. `arc K` and `arcs T H` tell an arc and the arcs from one node to another, `landmarks` and `closed` all of these, in the version V that is shown: the line `v V`, then theirs. `reach S L` tells the nodes within the length L of S, `reached T L` those from which T is within it, `nearest S K` the K landmarks nearest to S, and `table A B S1 .. SA T1 .. TB` the lengths from A sources to B targets, all in that version. `wait` waits until the last command or group that was accepted is shown: `v V`, from which on answers are of that version or a later one; `until N` until version N is. `state` tells how the server stands. With `--copies`, `copy NAME` makes a store in the file NAME of that folder, of the network at the version V that is shown: `copied V`, once it is there for good, or `no CODE`; NAME is 1 to 64 letters, digits, `-` and `_`. Empty lines and those that begin with # have no answer; another line has `no 1` or `no 5`.";
+`set K W`, `close K`, `reopen K`, `mark X`, `unmark X` and `lay T H W` change the network: `ok N`, once the command is version N of the store for good, or `no CODE`. The lines `begin` and `end` enclose commands of which all are carried out or none: `end` is answered for all of them. `dist S T`, `from X T` and `lower S T` ask: the line `v V`, V the version that is shown, and the answer line, or `no CODE`. `arc K` and `arcs T H` tell an arc and the arcs from one node to another, `landmarks` and `closed` all of these, in the version V that is shown: the line `v V`, then theirs. `reach S L` tells the nodes within the length L of S, `reached T L` those from which T is within it, `nearest S K` the K landmarks nearest to S, and `table A B S .. T ..` the lengths from each source to each target, where A sources and then B targets follow behind the two numbers A and B, all in that version. `wait` waits until the last command or group that was accepted is shown: `v V`, from which on answers are of that version or a later one; `until N` until version N is. `state` tells how the server stands. With `--copies`, `copy NAME` makes a store in the file NAME of that folder, of the network at the version V that is shown: `copied V`, once it is there for good, or `no CODE`; NAME is 1 to 64 letters, digits, `-` and `_`. Empty lines and those that begin with # have no answer; another line has `no 1` or `no 5`.";
 
 const AFTER_SERVE: &str =
     "Lines of a session: set, close, reopen, mark, unmark, lay, begin, end, dist, from, lower, arc, arcs, landmarks, closed, table, reach, reached, nearest, wait, until, state, copy, quit; `man roadmark` and docs/PROGRAM.md tell what each takes and how it is answered.
@@ -167,67 +167,364 @@ const COPIED_ROOM: &str =
 const COPIED_JOURNAL: &str =
     "Pages of the copy's journal, 1 to 65536; as many as the store has where none are given";
 
-/// An option `--delta D`.
-fn delta_option<'w>(alloc: Global) -> Arg<'w> {
-    Arg::new(alloc, DELTA)
-        .long(DELTA)
-        .value_name("D")
-        .value_parser(value_parser!(u32).range(1..=i64::from(MOST_WIDTH)))
-        .help(
-            "Width of the search's buckets, 1 to 2147483647; every width gives the same answers. Give one, of about a thousandth of a usual long arc, where a few arcs are far longer than the rest",
-        )
+const DELTA_HELP: &str =
+    "Width of the search's buckets, 1 to 2147483647; every width gives the same answers. Give one, of about a thousandth of a usual long arc, where a few arcs are far longer than the rest";
+
+const JOURNAL_HELP: &str = "Pages of the store's journal, 1 to 65536; 64 where none are given";
+
+const ROOM_HELP: &str =
+    "Arcs for which the store has room, those of the network and those that `lay` adds: at most 67108864; as many as the network has where none are given";
+
+const NEW_HELP: &str = "File of the new store, absent or empty";
+
+const SOURCES_HELP: &str =
+    "File of the sources of a table, a .ss text, or - for standard input; with --to, and without P2P";
+
+const TARGETS_HELP: &str =
+    "File of the targets of a table, a .ss text, or - for standard input; with --from, and without P2P";
+
+const COPIES_HELP: &str =
+    "Folder, which is there, in which the line `copy NAME` of a client makes a store of the network; without it no copies are made";
+
+const WORKERS_HELP: &str =
+    "Threads that make the landmarks' rows of a new version, 1 to 64; 4 where none are given";
+
+const WITHIN_HELP: &str = "The greatest length of a walk that is told; without it each is told";
+
+/// A word or an option that a command takes.
+#[derive(Clone, Copy)]
+enum Taken {
+    /// A text that has to stand at its place, by its name and with its help.
+    Word(&'static str, &'static str),
+    /// A node that has to stand at its place, by its name and with its help.
+    Node(&'static str, &'static str),
+    /// The file of the pairs, where no sources and targets are given.
+    Pairs,
+    /// `--from SS`.
+    Sources,
+    /// `--to SS`.
+    Targets,
+    /// The number of an arc, or the node where arcs begin.
+    ArcOrTail,
+    /// The node where arcs end, if one is given.
+    Head,
+    /// Names of pipes, two for each client, as many as are given.
+    Pipes,
+    /// `--copies FOLDER`.
+    Copies,
+    /// `--workers W`.
+    Workers,
+    /// `--within L`.
+    Within,
+    /// `--delta D`, with its help.
+    Delta(&'static str),
+    /// `--journal J`, with its help.
+    Journal(&'static str),
+    /// `--room R`, with its help.
+    Room(&'static str),
 }
 
-/// An option `--journal J`.
-fn journal_option<'w>(alloc: Global) -> Arg<'w> {
-    Arg::new(alloc, JOURNAL)
-        .long(JOURNAL)
-        .value_name("J")
-        .value_parser(value_parser!(u32).range(1..=i64::from(MOST_JOURNAL_PAGES)))
-        .help("Pages of the store's journal, 1 to 65536; 64 where none are given")
+/// A word that names a job.
+#[derive(Clone, Copy)]
+enum Word {
+    Once,
+    Batch,
+    Reach,
+    Reached,
+    Rehearse,
+    Create,
+    Apply,
+    Ask,
+    Check,
+    Serve,
+    Migrate,
+    Upgrade,
+    Copy,
+    Show,
+    Export,
 }
 
-/// An option `--room R`.
-fn room_option<'w>(alloc: Global) -> Arg<'w> {
-    Arg::new(alloc, ROOM)
-        .long(ROOM)
-        .value_name("R")
-        .value_parser(value_parser!(u64))
-        .help(
-            "Arcs for which the store has room, those of the network and those that `lay` adds: at most 67108864; as many as the network has where none are given",
-        )
+/// The words that name a job, in the order of the program's help.
+const WORDS: [Word; 15] = [
+    Word::Once,
+    Word::Batch,
+    Word::Reach,
+    Word::Reached,
+    Word::Rehearse,
+    Word::Create,
+    Word::Apply,
+    Word::Ask,
+    Word::Check,
+    Word::Serve,
+    Word::Migrate,
+    Word::Upgrade,
+    Word::Copy,
+    Word::Show,
+    Word::Export,
+];
+
+/// What the help of a word tells, and what the word takes beside `--verbose`, in the order of its help.
+struct Entry {
+    name: &'static str,
+    about: &'static str,
+    long_about: &'static str,
+    after_help: &'static str,
+    takes: &'static [Taken],
 }
 
-/// An option `--workers W`.
-fn workers_option<'w>(alloc: Global) -> Arg<'w> {
-    Arg::new(alloc, WORKERS)
-        .long(WORKERS)
-        .value_name("W")
-        .value_parser(value_parser!(u32).range(1..=i64::from(MOST_WORKERS)))
-        .help(
-            "Threads that make the landmarks' rows of a new version, 1 to 64; 4 where none are given",
-        )
+const ONCE_ENTRY: Entry = Entry {
+    name: ONCE,
+    about: "Prints the least length of a walk between two nodes",
+    long_about: ABOUT_ONCE,
+    after_help: "Example: roadmark once examples/six.gr 1 6",
+    takes: &[
+        Taken::Word(NETWORK, GR_HELP),
+        Taken::Node(SOURCE, "Node where the walk begins"),
+        Taken::Node(TARGET, "Node where the walk ends"),
+        Taken::Delta(DELTA_HELP),
+    ],
+};
+
+const BATCH_ENTRY: Entry = Entry {
+    name: BATCH,
+    about: "Prints the least length of a walk for each pair of a file, or of a table",
+    long_about: ABOUT_BATCH,
+    after_help: "Example: roadmark batch examples/six.gr examples/six.p2p",
+    takes: &[
+        Taken::Word(NETWORK, GR_HELP),
+        Taken::Pairs,
+        Taken::Sources,
+        Taken::Targets,
+        Taken::Delta(DELTA_HELP),
+    ],
+};
+
+const REACH_ENTRY: Entry = Entry {
+    name: REACH,
+    about: "Prints which nodes walks from a node reach, and the least lengths",
+    long_about: ABOUT_REACH,
+    after_help: "Example: roadmark reach examples/six.gr 1 --within 10",
+    takes: &[
+        Taken::Word(NETWORK, GR_HELP),
+        Taken::Node(SOURCE, "Node where the walks begin"),
+        Taken::Within,
+        Taken::Delta(DELTA_HELP),
+    ],
+};
+
+const REACHED_ENTRY: Entry = Entry {
+    name: REACHED,
+    about: "Prints from which nodes walks reach a node, and the least lengths",
+    long_about: ABOUT_REACHED,
+    after_help: "Example: roadmark reached examples/six.gr 4 --within 2",
+    takes: &[
+        Taken::Word(NETWORK, GR_HELP),
+        Taken::Node(TARGET, "Node where the walks end"),
+        Taken::Within,
+        Taken::Delta(DELTA_HELP),
+    ],
+};
+
+const REHEARSE_ENTRY: Entry = Entry {
+    name: REHEARSE,
+    about: "Runs a script on a store in memory",
+    long_about: ABOUT_REHEARSE,
+    after_help: "Example: roadmark rehearse examples/six.gr examples/six.script",
+    takes: &[
+        Taken::Word(NETWORK, GR_HELP),
+        Taken::Word(SCRIPT, "File of the script, or - for standard input"),
+        Taken::Journal(JOURNAL_HELP),
+        Taken::Room(ROOM_HELP),
+        Taken::Delta(DELTA_HELP),
+    ],
+};
+
+const CREATE_ENTRY: Entry = Entry {
+    name: CREATE,
+    about: "Makes a store for a network and its landmarks",
+    long_about: ABOUT_CREATE,
+    after_help: "Example: roadmark create six.store examples/six.gr examples/six.ss",
+    takes: &[
+        Taken::Word(STORE, "File of the store, absent or empty"),
+        Taken::Word(NETWORK, GR_HELP),
+        Taken::Word(
+            LANDMARKS,
+            "File of the landmarks, a .ss text, or - for standard input",
+        ),
+        Taken::Journal(JOURNAL_HELP),
+        Taken::Room(ROOM_HELP),
+    ],
+};
+
+const APPLY_ENTRY: Entry = Entry {
+    name: APPLY,
+    about: "Applies the commands of a file to a store",
+    long_about: ABOUT_APPLY,
+    after_help: "Example: roadmark apply six.store examples/six.commands",
+    takes: &[
+        Taken::Word(STORE, STORE_HELP),
+        Taken::Word(COMMANDS, "File of the commands, or - for standard input"),
+        Taken::Delta(UNUSED_DELTA),
+    ],
+};
+
+const ASK_ENTRY: Entry = Entry {
+    name: ASK,
+    about: "Prints the least length of a walk for each pair of a file, or of a table, in a store's network",
+    long_about: ABOUT_ASK,
+    after_help: "Example: roadmark ask six.store examples/six.p2p",
+    takes: &[
+        Taken::Word(STORE, STORE_HELP),
+        Taken::Pairs,
+        Taken::Sources,
+        Taken::Targets,
+        Taken::Delta(DELTA_HELP),
+    ],
+};
+
+const CHECK_ENTRY: Entry = Entry {
+    name: CHECK,
+    about: "Judges the file of a store, and tells how it stands",
+    long_about: ABOUT_CHECK,
+    after_help: "Example: roadmark check six.store",
+    takes: &[Taken::Word(STORE, STORE_HELP)],
+};
+
+const SERVE_ENTRY: Entry = Entry {
+    name: SERVE,
+    about: "Takes commands and answers queries on standard input and output, over a store",
+    long_about: ABOUT_SERVE,
+    after_help: AFTER_SERVE,
+    takes: &[
+        Taken::Word(STORE, STORE_HELP),
+        Taken::Pipes,
+        Taken::Copies,
+        Taken::Workers,
+        Taken::Delta(DELTA_HELP),
+    ],
+};
+
+const MIGRATE_ENTRY: Entry = Entry {
+    name: MIGRATE,
+    about: "Makes a store of one that an earlier program made",
+    long_about: ABOUT_MIGRATE,
+    after_help: "Example: roadmark migrate examples/old.store new.store --room 10",
+    takes: &[
+        Taken::Word(OLD, "File of the store that is there"),
+        Taken::Word(NEW, NEW_HELP),
+        Taken::Room(ROOM_HELP),
+    ],
+};
+
+const UPGRADE_ENTRY: Entry = Entry {
+    name: UPGRADE,
+    about: "Makes a store of another, brought to a new map of the roads",
+    long_about: ABOUT_UPGRADE,
+    after_help: "Example: roadmark upgrade six.store examples/six.gr new.gr new.store --room 10",
+    takes: &[
+        Taken::Word(STORE, "File of the store that is there"),
+        Taken::Word(
+            OLD,
+            "File of the network that the store was made of, a .gr text, or - for standard input",
+        ),
+        Taken::Word(
+            NETWORK,
+            "File of the new network, a .gr text, or - for standard input",
+        ),
+        Taken::Word(NEW, NEW_HELP),
+        Taken::Room(ROOM_HELP),
+    ],
+};
+
+const COPY_ENTRY: Entry = Entry {
+    name: COPY,
+    about: "Makes a copy of a store, with more room or another journal if asked for",
+    long_about: ABOUT_COPY,
+    after_help: "Example: roadmark copy six.store copy.store --room 10",
+    takes: &[
+        Taken::Word(STORE, STORE_HELP),
+        Taken::Word(FILE, "File of the copy, absent or empty"),
+        Taken::Room(COPIED_ROOM),
+        Taken::Journal(COPIED_JOURNAL),
+    ],
+};
+
+const SHOW_ENTRY: Entry = Entry {
+    name: SHOW,
+    about: "Tells of an arc, or of all arcs from one node to another, in a store's network",
+    long_about: ABOUT_SHOW,
+    after_help: "Example: roadmark show six.store 7",
+    takes: &[
+        Taken::Word(STORE, STORE_HELP),
+        Taken::ArcOrTail,
+        Taken::Head,
+    ],
+};
+
+const EXPORT_ENTRY: Entry = Entry {
+    name: EXPORT,
+    about: "Writes a store's network out as texts",
+    long_about: ABOUT_EXPORT,
+    after_help: "Example: roadmark export six.store .",
+    takes: &[
+        Taken::Word(STORE, STORE_HELP),
+        Taken::Word(
+            FOLDER,
+            "Folder in which the texts are made: network.gr, landmarks.ss and closed.commands",
+        ),
+    ],
+};
+
+/// The entry of a word.
+fn entry_of(word: Word) -> &'static Entry {
+    match word {
+        Word::Once => &ONCE_ENTRY,
+        Word::Batch => &BATCH_ENTRY,
+        Word::Reach => &REACH_ENTRY,
+        Word::Reached => &REACHED_ENTRY,
+        Word::Rehearse => &REHEARSE_ENTRY,
+        Word::Create => &CREATE_ENTRY,
+        Word::Apply => &APPLY_ENTRY,
+        Word::Ask => &ASK_ENTRY,
+        Word::Check => &CHECK_ENTRY,
+        Word::Serve => &SERVE_ENTRY,
+        Word::Migrate => &MIGRATE_ENTRY,
+        Word::Upgrade => &UPGRADE_ENTRY,
+        Word::Copy => &COPY_ENTRY,
+        Word::Show => &SHOW_ENTRY,
+        Word::Export => &EXPORT_ENTRY,
+    }
 }
 
-/// An option `--copies FOLDER`.
-fn copies_option<'w>(alloc: Global) -> Arg<'w> {
-    Arg::new(alloc, COPIES)
-        .long(COPIES)
-        .value_name("FOLDER")
+/// A word that has to stand at its place.
+fn required_word<'w>(alloc: Global, name: &'w str, help: &'w str) -> Arg<'w> {
+    Arg::new(alloc, name)
+        .required(true)
         .action(ArgAction::Set)
-        .help(
-            "Folder, which is there, in which the line `copy NAME` of a client makes a store of the network; without it no copies are made",
-        )
+        .help(help)
 }
 
-/// A flag `--verbose`.
-fn verbose_flag<'w>(alloc: Global) -> Arg<'w> {
-    Arg::new(alloc, VERBOSE)
-        .long(VERBOSE)
-        .action(ArgAction::SetTrue)
-        .help(
-            "Tells on standard error how far the work has come, a line a second at most, and why a file can't be opened",
-        )
+/// A node's number that has to stand at its place.
+fn required_node<'w>(alloc: Global, name: &'w str, help: &'w str) -> Arg<'w> {
+    required_word(alloc, name, help).value_parser(value_parser!(u64))
+}
+
+/// The number of an arc, or the node where arcs begin.
+fn arc_word<'w>(alloc: Global) -> Arg<'w> {
+    required_node(
+        alloc,
+        NUMBER,
+        "Number of the arc; before H the node where the arcs begin",
+    )
+    .value_name("K|T")
+}
+
+/// The node where arcs end, which may stand at its place.
+fn head_word<'w>(alloc: Global) -> Arg<'w> {
+    Arg::new(alloc, HEAD)
+        .action(ArgAction::Set)
+        .value_parser(value_parser!(u64))
+        .help("Node where the arcs end")
 }
 
 /// The word for the pairs, which stands at its place where no sources and targets are given.
@@ -238,47 +535,6 @@ fn pairs_word<'w>(alloc: Global) -> Result<Arg<'w>, AllocError> {
         .required_unless_present(SOURCES)?
         .conflicts_with(SOURCES)?
         .conflicts_with(TARGETS)
-}
-
-/// An option `--from SS`.
-fn sources_option<'w>(alloc: Global) -> Result<Arg<'w>, AllocError> {
-    Arg::new(alloc, SOURCES)
-        .long(SOURCES)
-        .value_name("SS")
-        .action(ArgAction::Set)
-        .help(
-            "File of the sources of a table, a .ss text, or - for standard input; with --to, and without P2P",
-        )
-        .requires_arg(TARGETS)
-}
-
-/// An option `--to SS`.
-fn targets_option<'w>(alloc: Global) -> Result<Arg<'w>, AllocError> {
-    Arg::new(alloc, TARGETS)
-        .long(TARGETS)
-        .value_name("SS")
-        .action(ArgAction::Set)
-        .help(
-            "File of the targets of a table, a .ss text, or - for standard input; with --from, and without P2P",
-        )
-        .requires_arg(SOURCES)
-}
-
-/// An option `--within L`.
-fn within_option<'w>(alloc: Global) -> Arg<'w> {
-    Arg::new(alloc, WITHIN)
-        .long(WITHIN)
-        .value_name("L")
-        .value_parser(value_parser!(u64))
-        .help("The greatest length of a walk that is told; without it each is told")
-}
-
-/// A word that has to stand at its place.
-fn required_word<'w>(alloc: Global, name: &'w str, help: &'w str) -> Arg<'w> {
-    Arg::new(alloc, name)
-        .required(true)
-        .action(ArgAction::Set)
-        .help(help)
 }
 
 /// Names of pipes, two for each client, as many as are given.
@@ -292,221 +548,79 @@ fn pipes_words<'w>(alloc: Global) -> Arg<'w> {
         )
 }
 
-/// A node's number that has to stand at its place.
-fn required_node<'w>(alloc: Global, name: &'w str, help: &'w str) -> Arg<'w> {
-    required_word(alloc, name, help).value_parser(value_parser!(u64))
+/// An option whose value is a text, which help calls so.
+fn text_option<'w>(alloc: Global, name: &'w str, value: &'w str, help: &'w str) -> Arg<'w> {
+    Arg::new(alloc, name)
+        .long(name)
+        .value_name(value)
+        .action(ArgAction::Set)
+        .help(help)
 }
 
-fn once_command<'w>(alloc: Global) -> Result<Command<'w>, AllocError> {
-    Command::new(alloc, ONCE)
-        .about("Prints the least length of a walk between two nodes")
-        .long_about(ABOUT_ONCE)
-        .after_help("Example: roadmark once examples/six.gr 1 6")
-        .arg(required_word(alloc, NETWORK, GR_HELP))?
-        .arg(required_node(alloc, SOURCE, "Node where the walk begins"))?
-        .arg(required_node(alloc, TARGET, "Node where the walk ends"))?
-        .arg(delta_option(alloc))?
-        .arg(verbose_flag(alloc))
+/// An option whose value is a number of 64 bits.
+fn long_option<'w>(alloc: Global, name: &'w str, value: &'w str, help: &'w str) -> Arg<'w> {
+    Arg::new(alloc, name)
+        .long(name)
+        .value_name(value)
+        .value_parser(value_parser!(u64))
+        .help(help)
 }
 
-fn batch_command<'w>(alloc: Global) -> Result<Command<'w>, AllocError> {
-    Command::new(alloc, BATCH)
-        .about("Prints the least length of a walk for each pair of a file, or of a table")
-        .long_about(ABOUT_BATCH)
-        .after_help("Example: roadmark batch examples/six.gr examples/six.p2p")
-        .arg(required_word(alloc, NETWORK, GR_HELP))?
-        .arg(pairs_word(alloc)?)?
-        .arg(sources_option(alloc)?)?
-        .arg(targets_option(alloc)?)?
-        .arg(delta_option(alloc))?
-        .arg(verbose_flag(alloc))
+/// An option whose value is a number from 1 to `most`.
+fn number_option<'w>(
+    alloc: Global,
+    name: &'w str,
+    value: &'w str,
+    most: u32,
+    help: &'w str,
+) -> Arg<'w> {
+    Arg::new(alloc, name)
+        .long(name)
+        .value_name(value)
+        .value_parser(value_parser!(u32).range(1..=i64::from(most)))
+        .help(help)
 }
 
-fn reach_command<'w>(alloc: Global) -> Result<Command<'w>, AllocError> {
-    Command::new(alloc, REACH)
-        .about("Prints which nodes walks from a node reach, and the least lengths")
-        .long_about(ABOUT_REACH)
-        .after_help("Example: roadmark reach examples/six.gr 1 --within 10")
-        .arg(required_word(alloc, NETWORK, GR_HELP))?
-        .arg(required_node(alloc, SOURCE, "Node where the walks begin"))?
-        .arg(within_option(alloc))?
-        .arg(delta_option(alloc))?
-        .arg(verbose_flag(alloc))
-}
-
-fn reached_command<'w>(alloc: Global) -> Result<Command<'w>, AllocError> {
-    Command::new(alloc, REACHED)
-        .about("Prints from which nodes walks reach a node, and the least lengths")
-        .long_about(ABOUT_REACHED)
-        .after_help("Example: roadmark reached examples/six.gr 4 --within 2")
-        .arg(required_word(alloc, NETWORK, GR_HELP))?
-        .arg(required_node(alloc, TARGET, "Node where the walks end"))?
-        .arg(within_option(alloc))?
-        .arg(delta_option(alloc))?
-        .arg(verbose_flag(alloc))
-}
-
-fn rehearse_command<'w>(alloc: Global) -> Result<Command<'w>, AllocError> {
-    Command::new(alloc, REHEARSE)
-        .about("Runs a script on a store in memory")
-        .long_about(ABOUT_REHEARSE)
-        .after_help("Example: roadmark rehearse examples/six.gr examples/six.script")
-        .arg(required_word(alloc, NETWORK, GR_HELP))?
-        .arg(required_word(alloc, SCRIPT, "File of the script, or - for standard input"))?
-        .arg(journal_option(alloc))?
-        .arg(room_option(alloc))?
-        .arg(delta_option(alloc))?
-        .arg(verbose_flag(alloc))
-}
-
-fn create_command<'w>(alloc: Global) -> Result<Command<'w>, AllocError> {
-    Command::new(alloc, CREATE)
-        .about("Makes a store for a network and its landmarks")
-        .long_about(ABOUT_CREATE)
-        .after_help("Example: roadmark create six.store examples/six.gr examples/six.ss")
-        .arg(required_word(alloc, STORE, "File of the store, absent or empty"))?
-        .arg(required_word(alloc, NETWORK, GR_HELP))?
-        .arg(required_word(
-            alloc,
-            LANDMARKS,
-            "File of the landmarks, a .ss text, or - for standard input",
-        ))?
-        .arg(journal_option(alloc))?
-        .arg(room_option(alloc))?
-        .arg(verbose_flag(alloc))
-}
-
-fn apply_command<'w>(alloc: Global) -> Result<Command<'w>, AllocError> {
-    Command::new(alloc, APPLY)
-        .about("Applies the commands of a file to a store")
-        .long_about(ABOUT_APPLY)
-        .after_help("Example: roadmark apply six.store examples/six.commands")
-        .arg(required_word(alloc, STORE, STORE_HELP))?
-        .arg(required_word(
-            alloc,
-            COMMANDS,
-            "File of the commands, or - for standard input",
-        ))?
-        .arg(delta_option(alloc).help(UNUSED_DELTA))?
-        .arg(verbose_flag(alloc))
-}
-
-fn ask_command<'w>(alloc: Global) -> Result<Command<'w>, AllocError> {
-    Command::new(alloc, ASK)
-        .about(
-            "Prints the least length of a walk for each pair of a file, or of a table, in a store's network",
+/// A flag `--verbose`.
+fn verbose_flag<'w>(alloc: Global) -> Arg<'w> {
+    Arg::new(alloc, VERBOSE)
+        .long(VERBOSE)
+        .action(ArgAction::SetTrue)
+        .help(
+            "Tells on standard error how far the work has come, a line a second at most, and why a file can't be opened",
         )
-        .long_about(ABOUT_ASK)
-        .after_help("Example: roadmark ask six.store examples/six.p2p")
-        .arg(required_word(alloc, STORE, STORE_HELP))?
-        .arg(pairs_word(alloc)?)?
-        .arg(sources_option(alloc)?)?
-        .arg(targets_option(alloc)?)?
-        .arg(delta_option(alloc))?
-        .arg(verbose_flag(alloc))
 }
 
-fn check_command<'w>(alloc: Global) -> Result<Command<'w>, AllocError> {
-    Command::new(alloc, CHECK)
-        .about("Judges the file of a store, and tells how it stands")
-        .long_about(ABOUT_CHECK)
-        .after_help("Example: roadmark check six.store")
-        .arg(required_word(alloc, STORE, STORE_HELP))?
-        .arg(verbose_flag(alloc))
+/// What stands for a word or an option among those of a command.
+fn argument_of<'w>(alloc: Global, taken: Taken) -> Result<Arg<'w>, AllocError> {
+    match taken {
+        Taken::Word(name, help) => Ok(required_word(alloc, name, help)),
+        Taken::Node(name, help) => Ok(required_node(alloc, name, help)),
+        Taken::Pairs => pairs_word(alloc),
+        Taken::Sources => text_option(alloc, SOURCES, "SS", SOURCES_HELP).requires_arg(TARGETS),
+        Taken::Targets => text_option(alloc, TARGETS, "SS", TARGETS_HELP).requires_arg(SOURCES),
+        Taken::ArcOrTail => Ok(arc_word(alloc)),
+        Taken::Head => Ok(head_word(alloc)),
+        Taken::Pipes => Ok(pipes_words(alloc)),
+        Taken::Copies => Ok(text_option(alloc, COPIES, "FOLDER", COPIES_HELP)),
+        Taken::Workers => Ok(number_option(alloc, WORKERS, "W", MOST_WORKERS, WORKERS_HELP)),
+        Taken::Within => Ok(long_option(alloc, WITHIN, "L", WITHIN_HELP)),
+        Taken::Delta(help) => Ok(number_option(alloc, DELTA, "D", MOST_WIDTH, help)),
+        Taken::Journal(help) => Ok(number_option(alloc, JOURNAL, "J", MOST_JOURNAL_PAGES, help)),
+        Taken::Room(help) => Ok(long_option(alloc, ROOM, "R", help)),
+    }
 }
 
-fn serve_command<'w>(alloc: Global) -> Result<Command<'w>, AllocError> {
-    Command::new(alloc, SERVE)
-        .about("Takes commands and answers queries on standard input and output, over a store")
-        .long_about(ABOUT_SERVE)
-        .after_help(AFTER_SERVE)
-        .arg(required_word(alloc, STORE, STORE_HELP))?
-        .arg(pipes_words(alloc))?
-        .arg(copies_option(alloc))?
-        .arg(workers_option(alloc))?
-        .arg(delta_option(alloc))?
-        .arg(verbose_flag(alloc))
-}
-
-fn migrate_command<'w>(alloc: Global) -> Result<Command<'w>, AllocError> {
-    Command::new(alloc, MIGRATE)
-        .about("Makes a store of one that an earlier program made")
-        .long_about(ABOUT_MIGRATE)
-        .after_help("Example: roadmark migrate examples/old.store new.store --room 10")
-        .arg(required_word(alloc, OLD, "File of the store that is there"))?
-        .arg(required_word(alloc, NEW, "File of the new store, absent or empty"))?
-        .arg(room_option(alloc))?
-        .arg(verbose_flag(alloc))
-}
-
-fn upgrade_command<'w>(alloc: Global) -> Result<Command<'w>, AllocError> {
-    Command::new(alloc, UPGRADE)
-        .about("Makes a store of another, brought to a new map of the roads")
-        .long_about(ABOUT_UPGRADE)
-        .after_help(
-            "Example: roadmark upgrade six.store examples/six.gr new.gr new.store --room 10",
-        )
-        .arg(required_word(alloc, STORE, "File of the store that is there"))?
-        .arg(required_word(
-            alloc,
-            OLD,
-            "File of the network that the store was made of, a .gr text, or - for standard input",
-        ))?
-        .arg(required_word(
-            alloc,
-            NETWORK,
-            "File of the new network, a .gr text, or - for standard input",
-        ))?
-        .arg(required_word(alloc, NEW, "File of the new store, absent or empty"))?
-        .arg(room_option(alloc))?
-        .arg(verbose_flag(alloc))
-}
-
-fn copy_command<'w>(alloc: Global) -> Result<Command<'w>, AllocError> {
-    Command::new(alloc, COPY)
-        .about("Makes a copy of a store, with more room or another journal if asked for")
-        .long_about(ABOUT_COPY)
-        .after_help("Example: roadmark copy six.store copy.store --room 10")
-        .arg(required_word(alloc, STORE, STORE_HELP))?
-        .arg(required_word(alloc, FILE, "File of the copy, absent or empty"))?
-        .arg(room_option(alloc).help(COPIED_ROOM))?
-        .arg(journal_option(alloc).help(COPIED_JOURNAL))?
-        .arg(verbose_flag(alloc))
-}
-
-fn show_command<'w>(alloc: Global) -> Result<Command<'w>, AllocError> {
-    Command::new(alloc, SHOW)
-        .about("Tells of an arc, or of all arcs from one node to another, in a store's network")
-        .long_about(ABOUT_SHOW)
-        .after_help("Example: roadmark show six.store 7")
-        .arg(required_word(alloc, STORE, STORE_HELP))?
-        .arg(required_node(
-            alloc,
-            NUMBER,
-            "Number of the arc; before H the node where the arcs begin",
-        )
-        .value_name("K|T"))?
-        .arg(
-            Arg::new(alloc, HEAD)
-                .action(ArgAction::Set)
-                .value_parser(value_parser!(u64))
-                .help("Node where the arcs end"),
-        )?
-        .arg(verbose_flag(alloc))
-}
-
-fn export_command<'w>(alloc: Global) -> Result<Command<'w>, AllocError> {
-    Command::new(alloc, EXPORT)
-        .about("Writes a store's network out as texts")
-        .long_about(ABOUT_EXPORT)
-        .after_help("Example: roadmark export six.store .")
-        .arg(required_word(alloc, STORE, STORE_HELP))?
-        .arg(required_word(
-            alloc,
-            FOLDER,
-            "Folder in which the texts are made: network.gr, landmarks.ss and closed.commands",
-        ))?
-        .arg(verbose_flag(alloc))
+/// The command of a word that names a job.
+fn command_of<'w>(alloc: Global, entry: &Entry) -> Result<Command<'w>, AllocError> {
+    let mut command = Command::new(alloc, entry.name)
+        .about(entry.about)
+        .long_about(entry.long_about)
+        .after_help(entry.after_help);
+    for taken in entry.takes {
+        command = command.arg(argument_of(alloc, *taken)?)?;
+    }
+    command.arg(verbose_flag(alloc))
 }
 
 /// The version of the program, of the format that it writes, and of the kit by which it was proved and built.
@@ -514,26 +628,15 @@ const VERSION: &str = "0.2.0 (format 2, rattle-kit-13f logic dac8208d650f15bf)";
 
 /// The program's words.
 pub fn program<'w>(alloc: Global) -> Result<Command<'w>, AllocError> {
-    Command::new(alloc, "roadmark")
+    let mut program = Command::new(alloc, "roadmark")
         .version(VERSION)
         .about("Exact least distances in a road network")
         .long_about(ABOUT)
         .after_help("Example: roadmark < examples/six.txt")
         .args_conflicts_with_subcommands(true)
-        .arg(delta_option(alloc))?
-        .subcommand(once_command(alloc)?)?
-        .subcommand(batch_command(alloc)?)?
-        .subcommand(reach_command(alloc)?)?
-        .subcommand(reached_command(alloc)?)?
-        .subcommand(rehearse_command(alloc)?)?
-        .subcommand(create_command(alloc)?)?
-        .subcommand(apply_command(alloc)?)?
-        .subcommand(ask_command(alloc)?)?
-        .subcommand(check_command(alloc)?)?
-        .subcommand(serve_command(alloc)?)?
-        .subcommand(migrate_command(alloc)?)?
-        .subcommand(upgrade_command(alloc)?)?
-        .subcommand(copy_command(alloc)?)?
-        .subcommand(show_command(alloc)?)?
-        .subcommand(export_command(alloc)?)
+        .arg(argument_of(alloc, Taken::Delta(DELTA_HELP))?)?;
+    for word in WORDS {
+        program = program.subcommand(command_of(alloc, entry_of(word))?)?;
+    }
+    Ok(program)
 }

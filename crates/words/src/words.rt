@@ -277,7 +277,10 @@ fn asks_to_tell(matches: &ArgMatches<'_>) -> bool
 fn number_in(matches: &ArgMatches<'_>, name: &str) -> Option<u64>
     ensures { Gives (found_of matches.now) name.now IsLong result }
 {
-    matches.get_one::<u64>(name)
+    match matches.get_one::<u64>(name) {
+        Some(number) => Some(number),
+        None => None,
+    }
 }
 
 fn once_in<'w>(matches: &ArgMatches<'w>) -> Option<Job<'w>>

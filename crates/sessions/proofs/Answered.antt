@@ -17,7 +17,7 @@ use Rattle.history.specs.Claims.{Claimed, IsAcknowledgedIn}
 use Rattle.history.proofs.Beginnings.{at_more, at_less, acknowledged_more, prefix_trans}
 use Rattle.machine.specs.declared.calls.Ticket.{Ticket}
 use Rattle.machine.specs.Laws.{IsAt}
-use Rattle.desk.specs.Readings.{Reading, IsViewAfter, IsNoReader}
+use Rattle.desk.specs.Readings.{IsViewAfter, IsNoReader}
 use Rattle.desk.specs.declared.nearby.Near.{Near}
 use Rattle.desk.specs.declared.states.DeskState.{DeskState}
 use Rattle.desk.specs.States.{StoodSo}
@@ -53,11 +53,11 @@ use Rattle.sessions.specs.Told.{AnswersAfter, LooksAfter, CopiesAfter, copied_li
 use Rattle.sessions.specs.Turns.{Tells, Standing, IsEndAnswer, IsSessionAt, IsKept, fault_number, version_or_refusal}
 
 -- the answer by what was seen of the view
-pub answered : (origin : Origin) (known : Beginning) (glance : Reading) (query asked : Query) (version : ℕ) (reply : Reply) → glance.known ≡ known → IsViewAfter origin glance.known.groups glance.view
-    → version ≡ glance.view.version → query ≡ asked → IsRight glance.view.network asked reply → AnswersAfter origin known.groups query (record { version = version; reply = reply })
-answered origin known glance query asked version reply same view is_version is_query right =
-    let seen : IsViewAfter origin known.groups glance.view = subst (λ (b : Beginning). IsViewAfter origin b.groups glance.view) same view in
-    rw is_query (record { network = glance.view.network; network_is = seen.network; version = is_version ∙ seen.version; right = right })
+pub answered : (origin : Origin) (groups known : List Group) (view : Viewed) (query : Query) (version : ℕ) (reply : Reply) → groups ≡ known → IsViewAfter origin groups view → version ≡ view.version
+    → IsRight view.network query reply → AnswersAfter origin known query (record { version = version; reply = reply })
+answered origin groups known view query version reply same is is_version right =
+    let seen : IsViewAfter origin known view = subst (λ (gs : List Group). IsViewAfter origin gs view) same is in
+    record { network = view.network; network_is = seen.network; version = is_version ∙ seen.version; right = right }
 
 -- who knew nothing
 pub nothing_known : (old : Option Beginning) (now : List Group) → old ≡ None → IsPrefix (known_to old) now
@@ -77,10 +77,20 @@ pub shows_last : (origin : Origin) (last : Option Accepted) (shown : Beginning) 
 shows_last origin None shown groups version has begins is = absurd has
 shows_last origin (Some accepted) shown groups version has begins is = (at_more origin.version shown.groups groups (claim_of accepted).ticket begins has.1, is)
 
-pub ok_shows : (origin : Origin) (last : Option Accepted) (shown : Beginning) (groups : List Group) (result : Result ℕ Refusal) → HasShown origin last (Some shown) → IsPrefix shown.groups groups
+pub ok_shows : (origin : Origin) (last : Option Accepted) (shown : Beginning) (groups : List Group) (result : Result ℕ Refusal) → HasShown origin last (Some shown) → OnOk result (IsPrefix shown.groups groups)
     → IfOk result (λ version. version ≡ origin.version + length groups) → IfOk result (ShowsLast origin last groups)
 ok_shows origin last shown groups (Ok version) has begins is = shows_last origin last shown groups version has begins is
 ok_shows origin last shown groups (Err refusal) has begins is = tt
+
+pub ok_shows_none : (origin : Origin) (last : Option Accepted) (groups : List Group) (result : Result ℕ Refusal) → HasShown origin last None → IfOk result (λ version. version ≡ origin.version + length groups)
+    → IfOk result (ShowsLast origin last groups)
+ok_shows_none origin last groups (Ok version) has is = shows_none origin last groups version has is
+ok_shows_none origin last groups (Err refusal) has is = tt
+
+-- what holds in any case
+pub on_any_ok : {X E P : Type 0} (result : Result X E) → P → OnOk result P
+on_any_ok (Ok x) p = p
+on_any_ok (Err e) p = tt
 
 -- ---- what a session has receipts of
 
@@ -338,7 +348,7 @@ prefix_length : (shown groups : List Group) → IsPrefix shown groups → length
 prefix_length shown groups begins = omega (arith, ap length begins.1, length-append shown begins.0)
 
 -- the version that was waited for is among those that were shown
-pub reached : (origin : Origin) (number : ℕ) (shown groups : List Group) (result : Result ℕ Refusal) → number ≤ origin.version + length shown → IsPrefix shown groups
+pub reached : (origin : Origin) (number : ℕ) (shown groups : List Group) (result : Result ℕ Refusal) → number ≤ origin.version + length shown → OnOk result (IsPrefix shown groups)
     → IfOk result (λ version. version ≡ origin.version + length groups) → IfOk result (IsReached origin number groups)
 reached origin number shown groups (Ok version) there begins is = (let longer = prefix_length shown groups begins in omega (arith, there, longer, is), is)
 reached origin number shown groups (Err refusal) there begins is = tt

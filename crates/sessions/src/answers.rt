@@ -16,13 +16,14 @@ ghost use Rattle.sessions.specs.Drafts.{Drafted, HasDraft, IsDraft, next_draft};
 ghost use Rattle.sessions.specs.Turns.{Tells, Standing, IsSessionAt, IsKept};
 
 use crate::copies::Copies;
+use crate::desk_calls::DeskCalls;
 use crate::drafts::{Draft, NoGroup};
 use crate::lines::{Line, is_end};
 use crate::names::Name;
 use crate::telling::{
     tell_copied, tell_fault, tell_look, tell_refusal, tell_reply, tell_state, tell_version,
 };
-use desk::{Closed, Gate, Glance, Handle, Naming, Place, Receipt, Shown, Ticket};
+use desk::{Closed, Glance, Naming, Place, Receipt, Shown, Ticket};
 use dimacs::Code;
 use disk::Disk;
 use history::{Front, Whole};
@@ -32,8 +33,6 @@ use roadnet::{Group, Refusal};
 use rows::{Query, Reply};
 use std::alloc::Global;
 use std::io::Write;
-use std::sync::Wait;
-use std::thread::Threads;
 
 /// How often a place among the readers is asked for before it is told that there is none.
 const TRIES: usize = 8;
@@ -62,7 +61,7 @@ impl Accepted {
 /// are in one.
 #[derive(Drop)]
 pub struct Session<N: Naming> {
-    place: Option<Place<N>>,
+    pub(crate) place: Option<Place<N>>,
     last: Option<Accepted>,
     receipts: Option<Front>,
     draft: Option<Draft>,
@@ -83,8 +82,8 @@ fn with_receipt(had: &Option<Front>, receipt: &Receipt) -> Front
 }
 
 /// The reply to a query in the view that was seen. Refused is want of memory for a new row (11).
-fn reply_by<N: Naming, D: Disk + Drop, G: Gate + Drop, R: Threads + Wait + Copy>(
-    desk: &Handle<N, D, G, R>,
+fn reply_by<N: Naming, H: DeskCalls<N>>(
+    desk: &H,
     glance: &Glance<N>,
     query: Query,
 ) -> Result<Reply, Refusal>
@@ -99,23 +98,6 @@ fn reply_by<N: Naming, D: Disk + Drop, G: Gate + Drop, R: Threads + Wait + Copy>
         Query::From { landmark, target } => Ok(glance.from_landmark(landmark, target)),
         Query::Lower { source, target } => Ok(glance.lower(source, target)),
     }
-}
-
-/// The reply to a query, from the view that is shown now, with its version. Refused is a view that can't be looked at (11, 61), and want of memory for a
-/// new row (11). Once it is there the view is held no more.
-fn answer_by<N: Naming, D: Disk + Drop, G: Gate + Drop, R: Threads + Wait + Copy>(
-    desk: &Handle<N, D, G, R>,
-    place: &mut Place<N>,
-    query: Query,
-) -> Result<Answer, Refusal>
-    ensures right { IfOk result (AnswersAfter N.origin place.new.groups query) }
-    ensures causes { IfErr result IsUnseen }
-    ensures begins { IsPrefix place.old.groups place.new.groups }
-{
-    let glance = place.look()?;
-    let version = glance.version();
-    let reply = reply_by(desk, &glance, query)?;
-    Ok(Answer { version, reply })
 }
 
 /// Makes a copy of what is seen at a glance, under this name, and tells its version. Refused is a copy that is not made (46, 43, 10, 11).
@@ -156,9 +138,7 @@ fn version_since<N: Naming>(place: &mut Place<N>, shown: &Shown) -> Result<u64, 
 }
 
 /// A place among the readers of the desk. Where none is found (60), as may happen while readers come and go, it is asked for again a few times.
-fn find_place<N: Naming, D: Disk + Drop, G: Gate + Drop, R: Wait + Copy>(
-    desk: &Handle<N, D, G, R>,
-) -> Result<Place<N>, Refusal>
+fn find_place<N: Naming, H: DeskCalls<N>>(desk: &H) -> Result<Place<N>, Refusal>
     ensures { IfErr result IsNoReader }
 {
     for _ in 1..TRIES {
@@ -168,6 +148,124 @@ fn find_place<N: Naming, D: Disk + Drop, G: Gate + Drop, R: Wait + Copy>(
         }
     }
     desk.place()
+}
+
+/// Finds a place among the readers, where there is none. Refused is what `Handle::place` refuses, several times in a row.
+fn take_place<N: Naming, H: DeskCalls<N>>(
+    place: &mut Option<Place<N>>,
+    desk: &H,
+) -> Result<(), Refusal>
+    ensures causes { IfErr result IsNoReader }
+    // A place that is there stays.
+    ensures held { IsSome place.old → IsOk result }
+    ensures found { OnOk result (IsSome place.new) }
+    ensures begins { IsPrefix (known_to place.old) (known_to place.new) }
+{
+    match &*place {
+        Some(_) => Ok(()),
+        None => {
+            *place = Some(find_place(desk)?);
+            Ok(())
+        }
+    }
+}
+
+/// What is shown at this moment, at a place among the readers: the groups after which it stands begin with all that was seen and learned there. Refused is
+/// a place or a view that is not found.
+pub(crate) fn see<N: Naming, H: DeskCalls<N>>(
+    place: &mut Option<Place<N>>,
+    desk: &H,
+) -> Result<Glance<N>, Refusal>
+    ensures seen { IfOk result (λ glance. glance.known.groups ≡ known_to place.new) }
+    ensures view { IfOk result (λ glance. IsViewAfter N.origin glance.known.groups glance.view) }
+    ensures causes { IfErr result IsNoReader }
+    ensures begins { IsPrefix (known_to place.old) (known_to place.new) }
+{
+    take_place(place, desk)?;
+    let Some(held) = place else {
+        unreachable!();
+    };
+    let glance = held.look()?;
+    let _ = glance.version();
+    Ok(glance)
+}
+
+/// The reply to a query, from what is shown at this moment, with its version. Refused is a place or a view that is not found (60, 11, 61), and want of
+/// memory for a new row (11). Once it is there the view is held no more.
+fn answer_by<N: Naming, H: DeskCalls<N>>(
+    place: &mut Option<Place<N>>,
+    desk: &H,
+    query: Query,
+) -> Result<Answer, Refusal>
+    ensures right { IfOk result (AnswersAfter N.origin (known_to place.new) query) }
+    ensures causes { IfErr result IsNoReader }
+    ensures begins { IsPrefix (known_to place.old) (known_to place.new) }
+{
+    let glance = see(place, desk)?;
+    let version = glance.version();
+    let reply = reply_by(desk, &glance, query)?;
+    Ok(Answer { version, reply })
+}
+
+/// The reply to a query, from a glance of this moment: it is right in the network of the version that it names, which comes after groups that
+/// begin with all that was seen and learned at the place. Or what the glance, the place or the row was refused for.
+fn ask<N: Naming, H: DeskCalls<N>>(place: &mut Option<Place<N>>, desk: &H, query: Query) -> Replied
+    ensures right { Replies N.origin (known_to place.new) query result }
+    ensures begins { IsPrefix (known_to place.old) (known_to place.new) }
+{
+    match answer_by(place, desk, query) {
+        Ok(answer) => Replied::Answered { query, answer },
+        Err(refusal) => Replied::Refused { refusal },
+    }
+}
+
+/// The version of a new glance.
+fn version_now<N: Naming, H: DeskCalls<N>>(
+    place: &mut Option<Place<N>>,
+    desk: &H,
+) -> Result<u64, Refusal>
+    ensures version { IfOk result (λ version. version ≡ N.origin.version + length (known_to place.new)) }
+    ensures causes { IfErr result IsNoReader }
+    ensures begins { IsPrefix (known_to place.old) (known_to place.new) }
+{
+    take_place(place, desk)?;
+    let Some(held) = place else {
+        unreachable!();
+    };
+    version_by(held)
+}
+
+/// The version of a new glance, at a place that takes in first what it is told of.
+fn learn_version<N: Naming, H: DeskCalls<N>>(
+    place: &mut Option<Place<N>>,
+    desk: &H,
+    shown: &Shown,
+) -> Result<u64, Refusal>
+    requires { shown.now.origin ≡ N.origin }
+    ensures version { IfOk result (λ version. version ≡ N.origin.version + length (known_to place.new)) }
+    ensures causes { IfErr result IsNoReader }
+    ensures begins { IsPrefix (known_to place.old) (known_to place.new) }
+    ensures learned { OnOk result (IsPrefix shown.now.groups (known_to place.new)) }
+{
+    take_place(place, desk)?;
+    let Some(held) = place else {
+        unreachable!();
+    };
+    version_since(held, shown)
+}
+
+/// Waits until this version or a later one is shown, and learns it. The version is that of a new glance.
+fn wait_until<N: Naming, H: DeskCalls<N>>(
+    place: &mut Option<Place<N>>,
+    desk: &H,
+    number: u64,
+) -> Result<u64, Refusal>
+    ensures reached { IfOk result (IsReached N.origin number (known_to place.new)) }
+    ensures causes { IfErr result IsUnshown }
+    ensures begins { IsPrefix (known_to place.old) (known_to place.new) }
+{
+    let shown = desk.wait_version(number)?;
+    learn_version(place, desk, &shown)
 }
 
 /// A closed history has what a beginning of it has, if there is one.
@@ -208,35 +306,8 @@ impl<N: Naming> Session<N> {
         }
     }
 
-    /// Finds a place among the readers, where the session has none. Refused is what `Handle::place` refuses, several times in a row.
-    fn take_place<D: Disk + Drop, G: Gate + Drop, R: Threads + Wait + Copy>(
-        &mut self,
-        desk: &Handle<N, D, G, R>,
-    ) -> Result<(), Refusal>
-        ensures causes { IfErr result IsNoReader }
-        // A place that the session has stays.
-        ensures held { IsSome self.old.place → IsOk result }
-        ensures found { OnOk result (IsSome self.new.place) }
-        ensures begins { IsPrefix (known_to self.old.place) (known_to self.new.place) }
-        ensures last { self.new.last ≡ self.old.last }
-        ensures receipts { self.new.receipts ≡ self.old.receipts }
-        ensures draft { self.new.draft ≡ self.old.draft }
-    {
-        match &self.place {
-            Some(_) => Ok(()),
-            None => {
-                self.place = Some(find_place(desk)?);
-                Ok(())
-            }
-        }
-    }
-
     /// Submits the group and settles it. Its number is then that of a receipt, or it is told for what it was refused.
-    fn settle<D: Disk + Drop, G: Gate + Drop, R: Threads + Wait + Copy>(
-        &mut self,
-        desk: &Handle<N, D, G, R>,
-        group: Group,
-    ) -> Result<u64, Refusal>
+    fn settle<H: DeskCalls<N>>(&mut self, desk: &H, group: Group) -> Result<u64, Refusal>
         ensures receipt { IfOk result (λ number. HasReceipt N.origin self.new.last number group) }
         ensures receipts { IfOk result (λ number. HasMore N.origin self.old.receipts self.new.receipts (told_durable group (Durable number))) }
         ensures refused { IfErr result (IsRefusedFor N.origin self.old.last self.new.last group) }
@@ -260,11 +331,7 @@ impl<N: Naming> Session<N> {
     }
 
     /// The reply to a group: `ok N`, where the session then has a receipt of the desk for it with that number, or what it was refused for.
-    fn carry_out<D: Disk + Drop, G: Gate + Drop, R: Threads + Wait + Copy>(
-        &mut self,
-        desk: &Handle<N, D, G, R>,
-        group: Group,
-    ) -> Replied
+    fn carry_out<H: DeskCalls<N>>(&mut self, desk: &H, group: Group) -> Replied
         ensures settled { Settles N.origin self.old.last self.new.last group result }
         ensures receipts { HasMore N.origin self.old.receipts self.new.receipts (told_durable group result) }
         ensures place { self.new.place ≡ self.old.place }
@@ -276,58 +343,10 @@ impl<N: Naming> Session<N> {
         }
     }
 
-    /// The reply to a query, from a glance of this moment: it is right in the network of the version that it names, which comes after groups that
-    /// begin with all that the session has seen and learned. Or what the glance, its place or its row was refused for.
-    fn ask<D: Disk + Drop, G: Gate + Drop, R: Threads + Wait + Copy>(
-        &mut self,
-        desk: &Handle<N, D, G, R>,
-        query: Query,
-    ) -> Replied
-        ensures right { Replies N.origin (known_to self.new.place) query result }
-        ensures begins { IsPrefix (known_to self.old.place) (known_to self.new.place) }
-        ensures last { self.new.last ≡ self.old.last }
-        ensures receipts { self.new.receipts ≡ self.old.receipts }
-        ensures draft { self.new.draft ≡ self.old.draft }
-    {
-        if let Err(refusal) = self.take_place(desk) {
-            return Replied::Refused { refusal };
-        }
-        let Some(place) = &mut self.place else {
-            unreachable!();
-        };
-        match answer_by(desk, place, query) {
-            Ok(answer) => Replied::Answered { query, answer },
-            Err(refusal) => Replied::Refused { refusal },
-        }
-    }
-
-    /// What is shown at this moment, at the session's place among the readers: the groups after which it stands begin with all that the session has seen
-    /// and learned. Refused is a place or a view that is not found.
-    pub(crate) fn see<D: Disk + Drop, G: Gate + Drop, R: Threads + Wait + Copy>(
-        &mut self,
-        desk: &Handle<N, D, G, R>,
-    ) -> Result<Glance<N>, Refusal>
-        ensures seen { IfOk result (λ glance. glance.known.groups ≡ known_to self.new.place) }
-        ensures view { IfOk result (λ glance. IsViewAfter N.origin glance.known.groups glance.view) }
-        ensures causes { IfErr result IsNoReader }
-        ensures begins { IsPrefix (known_to self.old.place) (known_to self.new.place) }
-        ensures last { self.new.last ≡ self.old.last }
-        ensures receipts { self.new.receipts ≡ self.old.receipts }
-        ensures draft { self.new.draft ≡ self.old.draft }
-    {
-        self.take_place(desk)?;
-        let Some(place) = &mut self.place else {
-            unreachable!();
-        };
-        let glance = place.look()?;
-        let _ = glance.version();
-        Ok(glance)
-    }
-
     /// Writes what the network that is shown has of what is asked for, and sends it out.
-    fn look<D: Disk + Drop, G: Gate + Drop, R: Threads + Wait + Copy, W: Write>(
+    fn look<H: DeskCalls<N>, W: Write>(
         &mut self,
-        desk: &Handle<N, D, G, R>,
+        desk: &H,
         look: Look,
         out: &mut CountedWriter<'_, W>,
     ) -> Result<(), Failed>
@@ -339,17 +358,17 @@ impl<N: Naming> Session<N> {
         ensures counts { CountsFailure (failed_writes out.old) (failed_writes out.new) result }
         ensures same { IsSameWriter out.old out.new }
     {
-        match self.see(desk) {
+        match see(&mut self.place, desk) {
             Ok(glance) => tell_look(out, &glance, look),
             Err(refusal) => tell_refusal(out, refusal),
         }
     }
 
     /// Makes a copy of the network that is shown, under this name, writes its version, and sends it out. Where no copies are made the line has a fault.
-    fn copy<D: Disk + Drop, G: Gate + Drop, R: Threads + Wait + Copy, C: Copies, W: Write>(
+    fn copy<H: DeskCalls<N>, C: Copies, W: Write>(
         &mut self,
         alloc: Global,
-        desk: &Handle<N, D, G, R>,
+        desk: &H,
         copies: &C,
         name: &Name,
         out: &mut CountedWriter<'_, W>,
@@ -364,17 +383,14 @@ impl<N: Naming> Session<N> {
         if !copies.are_made() {
             return tell_fault(out, Code::BadLine);
         }
-        match self.see(desk) {
+        match see(&mut self.place, desk) {
             Ok(glance) => tell_copied(out, copy_by(alloc, copies, name, &glance)),
             Err(refusal) => tell_refusal(out, refusal),
         }
     }
 
     /// What was shown when the session's last accepted group was; nothing where it has none.
-    fn shown<D: Disk + Drop, G: Gate + Drop, R: Threads + Wait + Copy>(
-        &self,
-        desk: &Handle<N, D, G, R>,
-    ) -> Result<Option<Shown>, Refusal>
+    fn shown<H: DeskCalls<N>>(&self, desk: &H) -> Result<Option<Shown>, Refusal>
         ensures shown { IfOk result (λ shown. HasShown N.origin self.now.last shown) }
         ensures causes { IfErr result IsUnserved }
     {
@@ -386,10 +402,7 @@ impl<N: Naming> Session<N> {
 
     /// Waits until the session's last accepted group is shown, if there is one, and learns it. The version is that of a new glance, after
     /// groups among which that group has its number.
-    fn wait<D: Disk + Drop, G: Gate + Drop, R: Threads + Wait + Copy>(
-        &mut self,
-        desk: &Handle<N, D, G, R>,
-    ) -> Result<u64, Refusal>
+    fn wait<H: DeskCalls<N>>(&mut self, desk: &H) -> Result<u64, Refusal>
         ensures shown { IfOk result (ShowsLast N.origin self.new.last (known_to self.new.place)) }
         ensures causes { IfErr result IsUnshown }
         ensures begins { IsPrefix (known_to self.old.place) (known_to self.new.place) }
@@ -398,41 +411,16 @@ impl<N: Naming> Session<N> {
         ensures draft { self.new.draft ≡ self.old.draft }
     {
         let shown = self.shown(desk)?;
-        self.take_place(desk)?;
-        let Some(place) = &mut self.place else {
-            unreachable!();
-        };
         match shown {
-            None => version_by(place),
-            Some(shown) => version_since(place, &shown),
+            None => version_now(&mut self.place, desk),
+            Some(shown) => learn_version(&mut self.place, desk, &shown),
         }
     }
 
-    /// Waits until this version or a later one is shown, and learns it. The version is that of a new glance.
-    fn wait_until<D: Disk + Drop, G: Gate + Drop, R: Threads + Wait + Copy>(
-        &mut self,
-        desk: &Handle<N, D, G, R>,
-        number: u64,
-    ) -> Result<u64, Refusal>
-        ensures reached { IfOk result (IsReached N.origin number (known_to self.new.place)) }
-        ensures causes { IfErr result IsUnshown }
-        ensures begins { IsPrefix (known_to self.old.place) (known_to self.new.place) }
-        ensures last { self.new.last ≡ self.old.last }
-        ensures receipts { self.new.receipts ≡ self.old.receipts }
-        ensures draft { self.new.draft ≡ self.old.draft }
-    {
-        let shown = desk.wait_version(number)?;
-        self.take_place(desk)?;
-        let Some(place) = &mut self.place else {
-            unreachable!();
-        };
-        version_since(place, &shown)
-    }
-
     /// Writes the answer to the end of a group, and sends it out: the code of the first line that has a fault, else what the group comes to.
-    fn answer_end<D: Disk + Drop, G: Gate + Drop, R: Threads + Wait + Copy, W: Write>(
+    fn answer_end<H: DeskCalls<N>, W: Write>(
         &mut self,
-        desk: &Handle<N, D, G, R>,
+        desk: &H,
         draft: Draft,
         out: &mut CountedWriter<'_, W>,
     ) -> Result<(), Failed>
@@ -455,10 +443,10 @@ impl<N: Naming> Session<N> {
     }
 
     /// Writes the answer to a line that stands in no group, if it has one, and sends it out.
-    fn answer_alone<D: Disk + Drop, G: Gate + Drop, R: Threads + Wait + Copy, C: Copies, W: Write>(
+    fn answer_alone<H: DeskCalls<N>, C: Copies, W: Write>(
         &mut self,
         alloc: Global,
-        desk: &Handle<N, D, G, R>,
+        desk: &H,
         copies: &C,
         line: Line,
         out: &mut CountedWriter<'_, W>,
@@ -482,14 +470,14 @@ impl<N: Naming> Session<N> {
             Line::Command(command) => {
                 tell_reply(out, &self.carry_out(desk, Group::one(command)))
             }
-            Line::Query(query) => tell_reply(out, &self.ask(desk, query)),
+            Line::Query(query) => tell_reply(out, &ask(&mut self.place, desk, query)),
             Line::Look(look) => self.look(desk, look, out),
             Line::Near(near) => self.near(desk, near, out),
             Line::Table(table) => self.table(alloc, desk, &table, out),
             Line::Unkept => tell_refusal(out, Refusal::OutOfMemory),
             Line::Copy(name) => self.copy(alloc, desk, copies, &name, out),
             Line::Wait => tell_version(out, self.wait(desk)),
-            Line::Until(number) => tell_version(out, self.wait_until(desk, number)),
+            Line::Until(number) => tell_version(out, wait_until(&mut self.place, desk, number)),
             Line::State => tell_state(out, desk.state()),
             Line::Suppose => Ok(()),
             Line::Forget => tell_fault(out, Code::BadLine),
@@ -498,16 +486,10 @@ impl<N: Naming> Session<N> {
     }
 
     /// Writes the answer to a line, if it has one, and sends it out: a line within a group has none but at its end. The one error is a failed write.
-    pub(crate) fn answer<
-        D: Disk + Drop,
-        G: Gate + Drop,
-        R: Threads + Wait + Copy,
-        C: Copies,
-        W: Write,
-    >(
+    pub(crate) fn answer<H: DeskCalls<N>, C: Copies, W: Write>(
         &mut self,
         alloc: Global,
-        desk: &Handle<N, D, G, R>,
+        desk: &H,
         copies: &C,
         line: Line,
         out: &mut CountedWriter<'_, W>,

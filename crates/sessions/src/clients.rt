@@ -8,8 +8,9 @@ ghost use Rattle.sessions.specs.Turns.{Standing, IsSessionAt, IsKept};
 use crate::answering::Answering;
 use crate::answers::Session;
 use crate::copies::{Copies, NoCopies};
+use crate::desk_calls::DeskCalls;
 use crate::reading::LastLine;
-use crate::serving::{Terms, serve};
+use crate::serving::{Terms, serve_over};
 use desk::{Closed, Gate, Handle, Naming};
 use dimacs::Counted;
 use disk::Disk;
@@ -35,25 +36,17 @@ pub struct Served<N: Naming> {
 /// A session with one client, as `serve`, with the failed calls of its reader and writer counted.
 pub(crate) fn serve_client<
     N: Naming,
-    D: Disk + Drop,
-    G: Gate + Drop,
-    R: Threads + Wait + Copy,
+    H: DeskCalls<N>,
+    R: Threads + Wait,
     C: Copies,
     I: BufRead,
     W: Write,
->(
-    rt: &R,
-    alloc: Global,
-    desk: &Handle<N, D, G, R>,
-    terms: Terms<'_, C>,
-    reader: &mut I,
-    writer: &mut W,
-) -> Served<N>
+>(rt: &R, alloc: Global, desk: &H, terms: Terms<'_, C>, reader: &mut I, writer: &mut W) -> Served<N>
     ensures { IsAnswered (C.copying terms.entry.copies.now) terms.entry.last_line N.origin (I.remaining reader.old) (I.remaining reader.new) (W.contents writer.old) (W.contents writer.new) result.session.place result.session.receipts result.failed_reads result.failed_writes result.outcome }
 {
     let mut reader = Counted::new(reader);
     let mut writer = CountedWriter::new(writer);
-    let (outcome, session) = serve(rt, alloc, desk, terms, &mut reader, &mut writer);
+    let (outcome, session) = serve_over(rt, alloc, desk, terms, &mut reader, &mut writer);
     Served {
         outcome,
         session,
@@ -98,14 +91,12 @@ trait Job<T, R> {
         ensures { Self.leaves self.old self.new };
 }
 
-impl<N: Naming, D: Disk + Drop, G: Gate + Drop, R: Threads + Wait + Copy, I: BufRead, W: Write> Job<
-    Handle<N, D, G, R>,
-    R,
-> for Client<N, I, W> {
+impl<N: Naming, H: DeskCalls<N>, R: Threads + Wait, I: BufRead, W: Write> Job<H, R>
+    for Client<N, I, W> {
     ghost leaves = { λ old new. IsSomeAnd new.served (λ served. IsAnswered no_copying old.last_line N.origin (I.remaining old.reader) (I.remaining new.reader) (W.contents old.writer) (W.contents new.writer) served.session.place served.session.receipts served.failed_reads served.failed_writes served.outcome) };
 
     /// The client's session, as `serve`.
-    fn run(&mut self, rt: &R, alloc: Global, shared: &Handle<N, D, G, R>) {
+    fn run(&mut self, rt: &R, alloc: Global, shared: &H) {
         let answering = Answering::new();
         let terms = Terms {
             last_line: self.last_line,

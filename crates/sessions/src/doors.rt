@@ -5,6 +5,7 @@ ghost use Rattle.roadnet.specs.declared.refusals.Refusal.TheVariants.{NoThread a
 use crate::answering::Answering;
 use crate::clients::{Served, serve_client};
 use crate::copies::Copies;
+use crate::desk_calls::DeskCalls;
 use crate::past::Past;
 use crate::reading::LastLine;
 use crate::serving::Terms;
@@ -83,14 +84,13 @@ impl<N: Naming, C: Copies> Visits<N, C> {
 /// A session with one client after the other. By pipes a client may be cut off in a line: that line is not carried out.
 fn serve_in_turn<
     N: Naming,
-    D: Disk + Drop,
-    G: Gate + Drop,
-    R: Threads + Wait + Copy,
+    H: DeskCalls<N>,
+    R: Threads + Wait,
     I: BufRead,
     W: Write,
     P: Door<I, W>,
     C: Copies,
->(rt: &R, alloc: Global, desk: &Handle<N, D, G, R>, door: &mut P, visits: &Visits<N, C>) {
+>(rt: &R, alloc: Global, desk: &H, door: &mut P, visits: &Visits<N, C>) {
     for _ in rt.forever() {
         let Some((mut reader, mut writer)) = door.next() else {
             return;

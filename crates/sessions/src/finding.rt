@@ -16,12 +16,12 @@ ghost use Rattle.sessions.specs.Tables.{pairs_of};
 ghost use Rattle.sessions.specs.Told.{known_to};
 ghost use Rattle.sessions.specs.Turns.{Tells};
 
-use crate::answers::Session;
+use crate::answers::{Session, see};
 use crate::asked_tables::Table;
+use crate::desk_calls::DeskCalls;
 use crate::telling::tell_refusal;
 use deltastep::NodeDistance;
-use desk::{Gate, Glance, Handle, Naming, Near};
-use disk::Disk;
+use desk::{Glance, Naming, Near};
 use printing::{
     CountedWriter, Failed, put_nearest, put_pairs, put_reach, put_reached, put_refusal, put_version,
 };
@@ -29,8 +29,6 @@ use roadnet::{OutOfMemory, Refusal};
 use rows::Reply;
 use std::alloc::Global;
 use std::io::Write;
-use std::sync::Wait;
-use std::thread::Threads;
 
 /// The lines of what is found near a node.
 pub(crate) fn put_near<W: Write>(
@@ -118,8 +116,8 @@ fn tell_untold<W: Write>(
 }
 
 /// What is near a node at a glance, with its version. Once it is there the view is held no more.
-fn near_at<N: Naming, D: Disk + Drop, G: Gate + Drop, R: Threads + Wait + Copy>(
-    desk: &Handle<N, D, G, R>,
+fn near_at<N: Naming, H: DeskCalls<N>>(
+    desk: &H,
     glance: Glance<N>,
     near: Near,
 ) -> (u64, Result<Vec<NodeDistance>, Refusal>)
@@ -133,8 +131,8 @@ fn near_at<N: Naming, D: Disk + Drop, G: Gate + Drop, R: Threads + Wait + Copy>(
 }
 
 /// The replies to pairs at a glance, with its version. Once they are there the view is held no more.
-fn table_at<N: Naming, D: Disk + Drop, G: Gate + Drop, R: Threads + Wait + Copy>(
-    desk: &Handle<N, D, G, R>,
+fn table_at<N: Naming, H: DeskCalls<N>>(
+    desk: &H,
     glance: Glance<N>,
     pairs: &[(u64, u64)],
 ) -> (u64, Result<Vec<Reply>, Refusal>)
@@ -148,8 +146,8 @@ fn table_at<N: Naming, D: Disk + Drop, G: Gate + Drop, R: Threads + Wait + Copy>
 }
 
 /// Writes what is near a node at a glance, and sends it out.
-fn answer_near<N: Naming, D: Disk + Drop, G: Gate + Drop, R: Threads + Wait + Copy, W: Write>(
-    desk: &Handle<N, D, G, R>,
+fn answer_near<N: Naming, H: DeskCalls<N>, W: Write>(
+    desk: &H,
     glance: Glance<N>,
     near: Near,
     out: &mut CountedWriter<'_, W>,
@@ -167,8 +165,8 @@ fn answer_near<N: Naming, D: Disk + Drop, G: Gate + Drop, R: Threads + Wait + Co
 }
 
 /// Writes the answers to pairs at a glance, and sends them out.
-fn answer_table<N: Naming, D: Disk + Drop, G: Gate + Drop, R: Threads + Wait + Copy, W: Write>(
-    desk: &Handle<N, D, G, R>,
+fn answer_table<N: Naming, H: DeskCalls<N>, W: Write>(
+    desk: &H,
     glance: Glance<N>,
     pairs: &[(u64, u64)],
     out: &mut CountedWriter<'_, W>,
@@ -187,9 +185,9 @@ fn answer_table<N: Naming, D: Disk + Drop, G: Gate + Drop, R: Threads + Wait + C
 
 impl<N: Naming> Session<N> {
     /// Writes what is near a node in the view that is shown, and sends it out.
-    pub(crate) fn near<D: Disk + Drop, G: Gate + Drop, R: Threads + Wait + Copy, W: Write>(
+    pub(crate) fn near<H: DeskCalls<N>, W: Write>(
         &mut self,
-        desk: &Handle<N, D, G, R>,
+        desk: &H,
         near: Near,
         out: &mut CountedWriter<'_, W>,
     ) -> Result<(), Failed>
@@ -201,16 +199,16 @@ impl<N: Naming> Session<N> {
         ensures counts { CountsFailure (failed_writes out.old) (failed_writes out.new) result }
         ensures same { IsSameWriter out.old out.new }
     {
-        match self.see(desk) {
+        match see(&mut self.place, desk) {
             Ok(glance) => answer_near(desk, glance, near, out),
             Err(refusal) => tell_refusal(out, refusal),
         }
     }
 
     /// Writes the answers to pairs in the view that is shown, and sends them out.
-    fn pairs<D: Disk + Drop, G: Gate + Drop, R: Threads + Wait + Copy, W: Write>(
+    fn pairs<H: DeskCalls<N>, W: Write>(
         &mut self,
-        desk: &Handle<N, D, G, R>,
+        desk: &H,
         pairs: &[(u64, u64)],
         out: &mut CountedWriter<'_, W>,
     ) -> Result<(), Failed>
@@ -221,17 +219,17 @@ impl<N: Naming> Session<N> {
         ensures counts { CountsFailure (failed_writes out.old) (failed_writes out.new) result }
         ensures same { IsSameWriter out.old out.new }
     {
-        match self.see(desk) {
+        match see(&mut self.place, desk) {
             Ok(glance) => answer_table(desk, glance, pairs, out),
             Err(refusal) => tell_refusal(out, refusal),
         }
     }
 
     /// Writes the lengths of all pairs of a table in the view that is shown, all of one version, and sends them out. It takes 52 bytes a pair.
-    pub(crate) fn table<D: Disk + Drop, G: Gate + Drop, R: Threads + Wait + Copy, W: Write>(
+    pub(crate) fn table<H: DeskCalls<N>, W: Write>(
         &mut self,
         alloc: Global,
-        desk: &Handle<N, D, G, R>,
+        desk: &H,
         table: &Table,
         out: &mut CountedWriter<'_, W>,
     ) -> Result<(), Failed>

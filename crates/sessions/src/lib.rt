@@ -7,6 +7,7 @@ mod around;
 mod asked_tables;
 mod clients;
 mod copies;
+mod desk_calls;
 mod doors;
 mod drafts;
 mod fields;

@@ -9,6 +9,7 @@ ghost use Rattle.sessions.specs.Turns.{Serves, IsSessionAt};
 use crate::answering::Answering;
 use crate::answers::Session;
 use crate::copies::Copies;
+use crate::desk_calls::DeskCalls;
 use crate::lines::is_quit;
 use crate::reading::{LastLine, next_line};
 use crate::supposing::Supposing;
@@ -65,6 +66,32 @@ pub fn serve<
     rt: &R,
     alloc: Global,
     desk: &Handle<N, D, G, R>,
+    terms: Terms<'_, C>,
+    reader: &mut Counted<'_, I>,
+    writer: &mut CountedWriter<'_, W>,
+) -> (Result<(), Failed>, Session<N>)
+    ensures answered { IfSome (I.remaining (reader_of reader.old)) (λ text. Serves (C.copying terms.entry.copies.now) terms.entry.last_line N.origin text (I.remaining (reader_of reader.new)) (W.contents (writer_of writer.old)) (W.contents (writer_of writer.new)) (IsSessionAt N.origin result.1.place result.1.receipts) result.0) }
+    ensures reads { CountsRead (failed_calls reader.old) (failed_calls reader.new) result.0 }
+    ensures writes { CountsWrites (failed_writes writer.old) (failed_writes writer.new) result.0 }
+    ensures causes { IfErr result.0 IsOfStream }
+    ensures same_reader { IsSameReader reader.old reader.new }
+    ensures same_writer { IsSameWriter writer.old writer.new }
+{
+    serve_over(rt, alloc, desk, terms, reader, writer)
+}
+
+/// The same over a desk of which no more is known than the calls that a session makes.
+pub(crate) fn serve_over<
+    N: Naming,
+    H: DeskCalls<N>,
+    R: Threads + Wait,
+    C: Copies,
+    I: BufRead,
+    W: Write,
+>(
+    rt: &R,
+    alloc: Global,
+    desk: &H,
     terms: Terms<'_, C>,
     reader: &mut Counted<'_, I>,
     writer: &mut CountedWriter<'_, W>,

@@ -7,23 +7,22 @@ ghost use Rattle.sessions.specs.Supposing.{SupposesAfter, IsUnsupposed, IsSuppos
 ghost use Rattle.sessions.specs.Told.{known_to};
 ghost use Rattle.sessions.specs.Turns.{IsSupposedEnd, Says};
 
-use crate::answers::Session;
+use crate::answers::{Session, see};
 use crate::around::{answer_near, answer_table};
 use crate::copies::Copies;
+use crate::desk_calls::DeskCalls;
 use crate::drafts::{Draft, NoGroup};
 use crate::lines::{Line, is_end, is_suppose};
 use crate::telling::{tell_fault, tell_refusal};
 use crate::told_supposed::{tell_forgotten, tell_found, tell_supposed};
-use desk::{Gate, Handle, Naming};
+use desk::{Naming, Place};
 use dimacs::Code;
-use disk::Disk;
 use printing::{CountedWriter, Failed};
 use relax::{CHUNK, Crew};
 use roadnet::{Group, Refusal};
 use rows::Query;
 use std::alloc::Global;
 use std::io::Write;
-use std::sync::Wait;
 use std::thread::Threads;
 use suppositions::Supposed;
 
@@ -35,20 +34,17 @@ pub(crate) struct Supposing {
 }
 
 /// Supposes the group on top of what is shown at this moment. Refused is a place or a view that is not found, and what the network refuses.
-fn suppose<N: Naming, D: Disk + Drop, G: Gate + Drop, R: Threads + Wait + Copy>(
+fn suppose<N: Naming, H: DeskCalls<N>>(
     alloc: Global,
-    desk: &Handle<N, D, G, R>,
-    session: &mut Session<N>,
+    desk: &H,
+    place: &mut Option<Place<N>>,
     group: &Group,
 ) -> Result<Supposed, Refusal>
-    ensures supposed { IfOk result (SupposesAfter N.origin (known_to session.new.place) group.now) }
-    ensures causes { IfErr result (IsUnsupposed N.origin (known_to session.new.place) group.now) }
-    ensures begins { IsPrefix (known_to session.old.place) (known_to session.new.place) }
-    ensures last { session.new.last ≡ session.old.last }
-    ensures receipts { session.new.receipts ≡ session.old.receipts }
-    ensures draft { session.new.draft ≡ session.old.draft }
+    ensures supposed { IfOk result (SupposesAfter N.origin (known_to place.new) group.now) }
+    ensures causes { IfErr result (IsUnsupposed N.origin (known_to place.new) group.now) }
+    ensures begins { IsPrefix (known_to place.old) (known_to place.new) }
 {
-    let glance = session.see(desk)?;
+    let glance = see(place, desk)?;
     Supposed::new(
         alloc,
         glance.version(),
@@ -90,6 +86,38 @@ fn answer_in<R: Threads, W: Write>(
     }
 }
 
+/// Writes the answer to the end of a group that is to be supposed, and sends it out: the code of the first line that has a fault, else the version that it is made
+/// of, or why nothing is supposed.
+fn answer_end<N: Naming, H: DeskCalls<N>, W: Write>(
+    supposed: &mut Option<Supposed>,
+    alloc: Global,
+    desk: &H,
+    place: &mut Option<Place<N>>,
+    draft: Draft,
+    out: &mut CountedWriter<'_, W>,
+) -> Result<(), Failed>
+    ensures told { (drafted : Drafted) → IsDraft drafted draft → OnOk result (IsToldSo (IsSupposedEnd N.origin (known_to place.new) (fault_of drafted) drafted.commands supposed.new) (W.contents (writer_of out.old)) (W.contents (writer_of out.new))) }
+    ensures begins { IsPrefix (known_to place.old) (known_to place.new) }
+    ensures refused { IfErr result (λ failed. failed ≡ Failed.Code Refusal.Write) }
+    ensures counts { CountsFailure (failed_writes out.old) (failed_writes out.new) result }
+    ensures same { IsSameWriter out.old out.new }
+{
+    *supposed = None;
+    let group = match draft.end() {
+        Ok(group) => group,
+        Err(NoGroup::Fault(code)) => return tell_fault(out, code),
+        Err(NoGroup::NoMemory) => return tell_refusal(out, Refusal::OutOfMemory),
+    };
+    match suppose(alloc, desk, place, &group) {
+        Ok(made) => {
+            let version = made.version();
+            *supposed = Some(made);
+            tell_supposed(out, version)
+        }
+        Err(refusal) => tell_refusal(out, refusal),
+    }
+}
+
 impl Supposing {
     /// Nothing is supposed.
     pub(crate) fn new() -> Supposing
@@ -102,55 +130,12 @@ impl Supposing {
         }
     }
 
-    /// Writes the answer to the end of a group that is to be supposed, and sends it out: the code of the first line that has a fault, else the version that it is made
-    /// of, or why nothing is supposed.
-    fn answer_end<N: Naming, D: Disk + Drop, G: Gate + Drop, R: Threads + Wait + Copy, W: Write>(
-        &mut self,
-        alloc: Global,
-        desk: &Handle<N, D, G, R>,
-        session: &mut Session<N>,
-        draft: Draft,
-        out: &mut CountedWriter<'_, W>,
-    ) -> Result<(), Failed>
-        ensures told { (drafted : Drafted) → IsDraft drafted draft → OnOk result (IsToldSo (IsSupposedEnd N.origin (known_to session.new.place) (fault_of drafted) drafted.commands self.new.supposed) (W.contents (writer_of out.old)) (W.contents (writer_of out.new))) }
-        ensures group { self.new.group ≡ self.old.group }
-        ensures begins { IsPrefix (known_to session.old.place) (known_to session.new.place) }
-        ensures last { session.new.last ≡ session.old.last }
-        ensures receipts { session.new.receipts ≡ session.old.receipts }
-        ensures draft { session.new.draft ≡ session.old.draft }
-        ensures refused { IfErr result (λ failed. failed ≡ Failed.Code Refusal.Write) }
-        ensures counts { CountsFailure (failed_writes out.old) (failed_writes out.new) result }
-        ensures same { IsSameWriter out.old out.new }
-    {
-        self.supposed = None;
-        let group = match draft.end() {
-            Ok(group) => group,
-            Err(NoGroup::Fault(code)) => return tell_fault(out, code),
-            Err(NoGroup::NoMemory) => return tell_refusal(out, Refusal::OutOfMemory),
-        };
-        match suppose(alloc, desk, session, &group) {
-            Ok(supposed) => {
-                let version = supposed.version();
-                self.supposed = Some(supposed);
-                tell_supposed(out, version)
-            }
-            Err(refusal) => tell_refusal(out, refusal),
-        }
-    }
-
     /// Writes the answer to a line that stands in no group while this is supposed, and sends it out.
-    fn answer_beside<
-        N: Naming,
-        D: Disk + Drop,
-        G: Gate + Drop,
-        R: Threads + Wait + Copy,
-        C: Copies,
-        W: Write,
-    >(
+    fn answer_beside<N: Naming, H: DeskCalls<N>, R: Threads, C: Copies, W: Write>(
         &mut self,
         rt: &R,
         alloc: Global,
-        desk: &Handle<N, D, G, R>,
+        desk: &H,
         copies: &C,
         session: &mut Session<N>,
         mut supposed: Supposed,
@@ -196,18 +181,11 @@ impl Supposing {
     }
 
     /// Writes the answer to a line that stands in no group, and sends it out.
-    fn answer_alone<
-        N: Naming,
-        D: Disk + Drop,
-        G: Gate + Drop,
-        R: Threads + Wait + Copy,
-        C: Copies,
-        W: Write,
-    >(
+    fn answer_alone<N: Naming, H: DeskCalls<N>, R: Threads, C: Copies, W: Write>(
         &mut self,
         rt: &R,
         alloc: Global,
-        desk: &Handle<N, D, G, R>,
+        desk: &H,
         copies: &C,
         session: &mut Session<N>,
         line: Line,
@@ -237,18 +215,11 @@ impl Supposing {
     }
 
     /// Writes the answer to a line that stands in no group that is to be supposed, if it has one, and sends it out.
-    fn answer_without<
-        N: Naming,
-        D: Disk + Drop,
-        G: Gate + Drop,
-        R: Threads + Wait + Copy,
-        C: Copies,
-        W: Write,
-    >(
+    fn answer_without<N: Naming, H: DeskCalls<N>, R: Threads, C: Copies, W: Write>(
         &mut self,
         rt: &R,
         alloc: Global,
-        desk: &Handle<N, D, G, R>,
+        desk: &H,
         copies: &C,
         session: &mut Session<N>,
         line: Line,
@@ -271,18 +242,11 @@ impl Supposing {
 
     /// Writes the answer to a line, if it has one, and sends it out: what lines of a group that is to be supposed say stays here, and nothing is written before its
     /// end; queries, nodes near one and tables are answered in what is supposed, if something is; and all else is the session's. The one error is a failed write.
-    pub(crate) fn answer<
-        N: Naming,
-        D: Disk + Drop,
-        G: Gate + Drop,
-        R: Threads + Wait + Copy,
-        C: Copies,
-        W: Write,
-    >(
+    pub(crate) fn answer<N: Naming, H: DeskCalls<N>, R: Threads, C: Copies, W: Write>(
         &mut self,
         rt: &R,
         alloc: Global,
-        desk: &Handle<N, D, G, R>,
+        desk: &H,
         copies: &C,
         session: &mut Session<N>,
         line: Line,
@@ -300,7 +264,14 @@ impl Supposing {
             return self.answer_without(rt, alloc, desk, copies, session, line, out);
         };
         if is_end(&line) {
-            return self.answer_end(alloc, desk, session, group, out);
+            return answer_end(
+                &mut self.supposed,
+                alloc,
+                desk,
+                &mut session.place,
+                group,
+                out,
+            );
         }
         self.group = Some(group.with(line));
         Ok(())

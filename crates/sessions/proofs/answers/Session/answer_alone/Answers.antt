@@ -1,5 +1,5 @@
 use Rattle.std.proofs.Common.{inl, inr, refl}
-use Rattle.sessions.proofs.Answered.{look_told, near_told, nothing_told, table_told, told_command, told_unkept}
+use Rattle.sessions.proofs.Answered.{look_told, near_told, nothing_told, table_told, told_command, told_fault, told_no_end, told_nothing_supposed, told_query, told_state, told_unkept, told_until, told_wait}
 use Rattle.sessions.proofs.answers.Session.answer_alone.Goals as goal
 
 pub returns-in-Ignored-clause-told : goal.returns-in-Ignored-clause-told
@@ -30,3 +30,32 @@ returns-in-Table-clause-told g c = rw c.in-Table.is (table_told (g.C.Copies.copy
 
 pub returns-in-Unkept-clause-told : goal.returns-in-Unkept-clause-told
 returns-in-Unkept-clause-told g c = rw c.in-Unkept.is (told_unkept _ g.N.Naming.origin _ _ _ _ _ _ _ c.tell_refusal.result refl refl c.tell_refusal.ensures.ok)
+
+pub returns-in-End-clause-told : goal.returns-in-End-clause-told
+returns-in-End-clause-told g c = rw c.in-End.is (told_no_end _ g.N.Naming.origin _ _ _ _ _ _ _ c.tell_fault.result refl refl c.tell_fault.ensures.ok)
+
+pub returns-in-Query-clause-told : goal.returns-in-Query-clause-told
+returns-in-Query-clause-told g c = rw c.in-Query.is (told_query _ g.N.Naming.origin c.in-Query.query _ _ _ _ _ _ _ c.tell_reply-in-Query.result c.ask.result c.ask.ensures.right refl refl c.tell_reply-in-Query.ensures.ok)
+
+pub returns-in-Copy-clause-told : goal.returns-in-Copy-clause-told
+returns-in-Copy-clause-told g c = rw c.in-Copy.is c.copy.ensures.told
+
+pub returns-in-Wait-clause-told : goal.returns-in-Wait-clause-told
+returns-in-Wait-clause-told g c =
+    rw c.in-Wait.is (told_wait _ g.N.Naming.origin _ _ _ _ _ _ _ c.tell_version.result c.wait.result c.wait.ensures.shown c.wait.ensures.causes c.wait.ensures.last c.wait.ensures.receipts c.tell_version.ensures.ok)
+
+pub returns-in-Until-clause-told : goal.returns-in-Until-clause-told
+returns-in-Until-clause-told g c =
+    rw c.in-Until.is
+    (told_until _ g.N.Naming.origin c.in-Until.number _ _ _ _ _ _ _ c.tell_version-in-Until.result c.wait_until.result c.wait_until.ensures.reached c.wait_until.ensures.causes refl refl c.tell_version-in-Until.ensures.ok)
+
+pub returns-in-State-clause-told : goal.returns-in-State-clause-told
+returns-in-State-clause-told g c = rw c.in-State.is (told_state _ g.N.Naming.origin _ _ _ _ _ _ _ c.tell_state.result c.state.result c.state.ensures.stood c.state.ensures.causes refl refl c.tell_state.ensures.ok)
+
+pub returns-in-Forget-clause-told : goal.returns-in-Forget-clause-told
+returns-in-Forget-clause-told g c =
+    rw c.in-Forget.is (told_nothing_supposed _ g.N.Naming.origin _ _ _ _ _ _ _ c.tell_fault-in-Forget.result refl refl c.tell_fault-in-Forget.ensures.ok)
+
+pub returns-in-Refused-clause-told : goal.returns-in-Refused-clause-told
+returns-in-Refused-clause-told g c =
+    rw c.in-Refused.is (told_fault _ g.N.Naming.origin c.in-Refused.code _ _ _ _ _ _ _ c.tell_fault-in-Refused.result refl refl c.tell_fault-in-Refused.ensures.ok)

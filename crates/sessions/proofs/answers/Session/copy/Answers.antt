@@ -9,9 +9,9 @@ returns-then-not-are_made-clause-told g c =
 pub returns-in-Ok-clause-told : goal.returns-in-Ok-clause-told
 returns-in-Ok-clause-told g c =
     told_copied (g.C.Copies.copying c.args.copies.now) g.N.Naming.origin c.args.name.now _ _ _ c.in-Ok.glance.known.groups c.in-Ok.glance.view _ _ _ _ c.tell_copied.result c.copy_by.result
-    (sym c.are_made.ensures ∙ c.if-not-are_made.false) c.in-Ok.ensures.seen c.in-Ok.ensures.view c.copy_by.ensures.version c.copy_by.ensures.made c.copy_by.ensures.refused c.see.ensures.last c.see.ensures.receipts c.tell_copied.ensures.ok
+    (sym c.are_made.ensures ∙ c.if-not-are_made.false) c.in-Ok.ensures.seen c.in-Ok.ensures.view c.copy_by.ensures.version c.copy_by.ensures.made c.copy_by.ensures.refused refl refl c.tell_copied.ensures.ok
 
 pub returns-in-Err-clause-told : goal.returns-in-Err-clause-told
 returns-in-Err-clause-told g c =
     told_uncopied (g.C.Copies.copying c.args.copies.now) g.N.Naming.origin c.args.name.now _ _ _ _ _ _ _ c.tell_refusal.result c.in-Err.refusal
-    (sym c.are_made.ensures ∙ c.if-not-are_made.false) c.in-Err.ensures.causes c.see.ensures.last c.see.ensures.receipts c.tell_refusal.ensures.ok
+    (sym c.are_made.ensures ∙ c.if-not-are_made.false) c.in-Err.ensures.causes refl refl c.tell_refusal.ensures.ok

@@ -1,4 +1,4 @@
-use Rattle.std.proofs.Common.{rules, ◌≡◌, ◌∙◌, None, Some, sym}
+use Rattle.std.proofs.Common.{rules, ◌≡◌, ◌∙◌, None, Some, refl, sym}
 use Rattle.sessions.proofs.Drafting.{none_drafted, some_drafted}
 use Rattle.sessions.proofs.Supposed.{end_said, held_back, next_held}
 use Rattle.sessions.proofs.supposing.Supposing.answer.Goals as goal
@@ -23,7 +23,7 @@ returns-then-is_end-clause-told g c supposing draft has_group has =
     let some : c.args.self.now.group ≡ Some c.in-Some.group = cc in
     let is = some_drafted supposing c.in-Some.group (rw some at has_group) in
     rw (is.1, c.is_end.ensures.0 c.if-is_end.true)
-    (end_said (g.C.Copies.copying c.args.copies.now) g.N.Naming.origin is.0 _ _ draft _ _ _ _ _ _ _ c.answer_end.result c.answer_end.ensures.last c.answer_end.ensures.receipts (c.answer_end.ensures.told is.0 is.2))
+    (end_said (g.C.Copies.copying c.args.copies.now) g.N.Naming.origin is.0 _ _ draft _ _ _ _ _ _ _ c.answer_end.result refl refl (c.answer_end.ensures.told is.0 is.2))
 
 pub returns-clause-told : goal.returns-clause-told
 returns-clause-told g c supposing draft has_group has =

@@ -1,11 +1,16 @@
 use Rattle.std.proofs.Common.{None, refl, sym, subst}
 use Rattle.sessions.specs.Drafts.{HasDraft}
-use Rattle.sessions.proofs.Supposed.{beside_as_ever, forgotten_said, near_said, table_said}
+use Rattle.sessions.proofs.Supposed.{beside_as_ever, forgotten_said, near_said, query_said, table_said}
 use Rattle.sessions.proofs.supposing.Supposing.answer_beside.Goals as goal
 
 pub returns-in-Forget-clause-told : goal.returns-in-Forget-clause-told
 returns-in-Forget-clause-told g c =
     rw c.in-Forget.is (forgotten_said (g.C.Copies.copying c.args.copies.now) g.N.Naming.origin c.args.supposed _ _ _ _ _ _ _ c.tell_forgotten.result refl refl c.tell_forgotten.ensures.ok)
+
+pub returns-in-Query-clause-told : goal.returns-in-Query-clause-told
+returns-in-Query-clause-told g c =
+    rw (c.in-Query.is, c.answer_in-told.ensures.supposed)
+    (query_said (g.C.Copies.copying c.args.copies.now) g.N.Naming.origin c.args.supposed c.in-Query.query _ _ _ _ _ _ _ c.answer_in-told.result refl refl c.answer_in-told.ensures.told)
 
 pub returns-in-Near-clause-told : goal.returns-in-Near-clause-told
 returns-in-Near-clause-told g c =

@@ -1,7 +1,7 @@
 use Rattle.std.proofs.Common.{inl, inr, refl}
 use Rattle.roadnet.specs.declared.refusals.Refusal.TheVariants.{OutOfMemory}
 use Rattle.sessions.proofs.Supposed.{fault_end, refused_end}
-use Rattle.sessions.proofs.supposing.Supposing.answer_end.Goals as goal
+use Rattle.sessions.proofs.supposing.answer_end.Goals as goal
 
 pub returns-in-Err-Fault-clause-told : goal.returns-in-Err-Fault-clause-told
 returns-in-Err-Fault-clause-told g c drafted is =

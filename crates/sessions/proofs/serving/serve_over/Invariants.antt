@@ -1,6 +1,6 @@
 use Rattle.std.proofs.Common.{◌≡◌}
 use Rattle.sessions.proofs.Going.{FarServed}
-use Rattle.sessions.proofs.serving.serve.Given as goal
+use Rattle.sessions.proofs.serving.serve_over.Given as goal
 
 abbrev pub invariant-loop : goal.invariant-loop
 invariant-loop g l = record {

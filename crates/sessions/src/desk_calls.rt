@@ -1,0 +1,114 @@
+//! The calls of a desk that a session makes, whatever the desk's disk, gate and runtime are.
+ghost use Rattle.std.specs.Prelude.{◌≡◌, ◌≤◌, ◌+◌, length, true, IfOk, IfErr, OnOk};
+ghost use Rattle.roadnet.specs.Step.{is_node};
+ghost use Rattle.roadnet.specs.declared.refusals.Refusal.TheVariants.{Closed as closed};
+ghost use Rattle.machine.specs.Laws.{IsAt};
+ghost use Rattle.rows.specs.declared.queries.Query.TheVariants.{Dist};
+ghost use Rattle.rows.specs.Replies.{IsRight};
+ghost use Rattle.rows.specs.Views.{AreRight};
+ghost use Rattle.desk.specs.Nearby.{are_pairs, node_of, IsNear, IsUntold};
+ghost use Rattle.desk.specs.Readings.{IsNoReader};
+ghost use Rattle.desk.specs.States.{StoodSo};
+ghost use Rattle.desk.specs.Turns.{IsUnserved, IsUntaken};
+
+use deltastep::NodeDistance;
+use desk::{DeskState, Gate, Glance, Handle, Naming, Near, Place, Receipt, Shown, Ticket};
+use disk::Disk;
+use roadnet::{Group, OutOfMemory, Refusal};
+use rows::Reply;
+use std::sync::Wait;
+use std::thread::Threads;
+
+/// What a session calls of its desk: a handle's calls of the same names, which say what each does and for what it is refused. A session and what it supposes
+/// know their desk by these alone.
+pub(crate) trait DeskCalls<N: Naming> {
+    /// A place among the readers.
+    fn place(&self) -> Result<Place<N>, Refusal>
+        ensures { IfErr result IsNoReader };
+
+    /// The reply to `Dist` at a glance.
+    fn dist(&self, glance: &Glance<N>, source: u64, target: u64) -> Result<Reply, OutOfMemory>
+        ensures { IfOk result (IsRight glance.now.view.network (Dist source target)) };
+
+    /// What is near a node at a glance.
+    fn near(&self, glance: &Glance<N>, near: Near) -> Result<Vec<NodeDistance>, Refusal>
+        ensures near { IfOk result (λ told. IsNear glance.now.view.network near told.items) }
+        ensures node { OnOk result (is_node glance.now.view.network (node_of near) ≡ true) }
+        ensures causes { IfErr result (IsUntold (is_node glance.now.view.network (node_of near))) };
+
+    /// The replies to pairs at a glance.
+    fn table(&self, glance: &Glance<N>, pairs: &[(u64, u64)]) -> Result<Vec<Reply>, Refusal>
+        ensures right { IfOk result (λ replies. AreRight glance.now.view.network pairs.now replies.items) }
+        ensures nodes { OnOk result (are_pairs glance.now.view.network pairs.now ≡ true) }
+        ensures causes { IfErr result (IsUntold (are_pairs glance.now.view.network pairs.now)) };
+
+    /// Accepts a group.
+    fn submit_group(&self, group: Group) -> Result<Ticket, Refusal>
+        ensures origin { IfOk result (λ ticket. ticket.origin ≡ N.origin) }
+        ensures group { IfOk result (λ ticket. ticket.ticket.group ≡ group) }
+        ensures causes { IfErr result (IsUntaken N.origin group) };
+
+    /// Waits until the ticket's group is durable.
+    fn settle(&self, ticket: Ticket) -> Result<Receipt, (Refusal, Ticket)>
+        requires { ticket.origin ≡ N.origin }
+        ensures receipt { IfOk result (λ receipt. receipt ≡ ticket) }
+        ensures handed_back { IfErr result (λ refused. refused.1 ≡ ticket) }
+        ensures causes { IfErr result (λ refused. IsUnserved refused.0) };
+
+    /// Waits until the ticket's group is shown.
+    fn wait_shown(&self, ticket: &Ticket) -> Result<Shown, Refusal>
+        requires { ticket.now.origin ≡ N.origin }
+        ensures origin { IfOk result (λ shown. shown.origin ≡ N.origin) }
+        ensures there { IfOk result (λ shown. IsAt N.origin.version shown.groups ticket.now.ticket) }
+        ensures causes { IfErr result IsUnserved };
+
+    /// Waits until this version or a later one is shown.
+    fn wait_version(&self, version: u64) -> Result<Shown, Refusal>
+        ensures origin { IfOk result (λ shown. shown.origin ≡ N.origin) }
+        ensures there { IfOk result (λ shown. version ≤ N.origin.version + length shown.groups) }
+        ensures causes { IfErr result IsUnserved };
+
+    /// How the desk stands.
+    fn state(&self) -> Result<DeskState, Refusal>
+        ensures stood { IfOk result (StoodSo N.origin) }
+        ensures causes { IfErr result (λ refusal. refusal ≡ closed) };
+}
+
+impl<N: Naming, D: Disk + Drop, G: Gate + Drop, R: Threads + Wait + Copy> DeskCalls<N>
+    for Handle<N, D, G, R> {
+    fn place(&self) -> Result<Place<N>, Refusal> {
+        Handle::place(self)
+    }
+
+    fn dist(&self, glance: &Glance<N>, source: u64, target: u64) -> Result<Reply, OutOfMemory> {
+        Handle::dist(self, glance, source, target)
+    }
+
+    fn near(&self, glance: &Glance<N>, near: Near) -> Result<Vec<NodeDistance>, Refusal> {
+        Handle::near(self, glance, near)
+    }
+
+    fn table(&self, glance: &Glance<N>, pairs: &[(u64, u64)]) -> Result<Vec<Reply>, Refusal> {
+        Handle::table(self, glance, pairs)
+    }
+
+    fn submit_group(&self, group: Group) -> Result<Ticket, Refusal> {
+        Handle::submit_group(self, group)
+    }
+
+    fn settle(&self, ticket: Ticket) -> Result<Receipt, (Refusal, Ticket)> {
+        Handle::settle(self, ticket)
+    }
+
+    fn wait_shown(&self, ticket: &Ticket) -> Result<Shown, Refusal> {
+        Handle::wait_shown(self, ticket)
+    }
+
+    fn wait_version(&self, version: u64) -> Result<Shown, Refusal> {
+        Handle::wait_version(self, version)
+    }
+
+    fn state(&self) -> Result<DeskState, Refusal> {
+        Handle::state(self)
+    }
+}

@@ -21,6 +21,7 @@ pub mod Rounds
 pub mod SomeWalk
 pub mod Starting
 pub mod Staying
+pub mod Taking
 pub mod Telling
 pub mod Thinning
 pub mod Turning

@@ -1,5 +1,5 @@
 -- What a phase leaves of what a search knows.
-use Rattle.std.proofs.Common.{◌≡◌, ℕ, zero, suc, ◌+◌, ◌/◌, ◌<◌, ◌≤◌, ◌^◌, ◌⊎◌, List, [], ◌∷◌, ◌++◌, length, Contains, IsSome, Option, Some, None, refl, sym, ap, subst, ◌∙◌, inl, inr, arith, unwrap_or, is_some, le_antisymm, All, get_or}
+use Rattle.std.proofs.Common.{◌≡◌, ℕ, zero, suc, ◌+◌, ◌/◌, ◌<◌, ◌≤◌, ◌^◌, ◌⊎◌, List, [], ◌∷◌, ◌++◌, length, Contains, IsSome, Option, Some, None, refl, sym, ap, subst, ◌∙◌, inl, inr, arith, unwrap_or, is_some, le_antisymm, All, get_or, append-nil}
 use Rattle.relax.specs.Values.{value_at, value_or}
 use Rattle.std.specs.FinMap.{get}
 use Rattle.std.proofs.lemmas.List.Elements.{Contains-append_left, Contains-append_right, Contains-append_cases, Contains-get_or}
@@ -64,25 +64,32 @@ module _ (groups : Groups) (nodes : List ℕ) (part : Part) (old : List (Option 
     ]
   ]
 
-  -- the part: nothing is owed any more
-  pub IsRelaxedBut-met : (width b : ℕ) → AreInBucket old width b nodes → IsRelaxedBut groups part old queue nodes → IsRelaxedBut groups part new queue' []
-  IsRelaxedBut-met width b values but u = elim (lowered.moves u) as (λ _. IsSome (get queue' u) ⊎ (Contains [] u ⊎ IsRelaxed groups part new u)) [
+  -- the part, where other nodes owe it too
+  pub IsRelaxedBut-rest : (width b : ℕ) → AreInBucket old width b nodes → (owed : List ℕ) → IsRelaxedBut groups part old queue (nodes ++ owed) → IsRelaxedBut groups part new queue' owed
+  IsRelaxedBut-rest width b values owed but u = elim (lowered.moves u) as (λ _. IsSome (get queue' u) ⊎ (Contains owed u ⊎ IsRelaxed groups part new u)) [
     | inr took ↦ inl (ap is_some took.queued)
     | inl same ↦
         let now : value_or (top_of groups) new u ≡ value_or (top_of groups) old u = ap (λ o. unwrap_or o (top_of groups)) same.0 in
-        elim (but u) as (λ _. IsSome (get queue' u) ⊎ (Contains [] u ⊎ IsRelaxed groups part new u)) [
+        elim (but u) as (λ _. IsSome (get queue' u) ⊎ (Contains owed u ⊎ IsRelaxed groups part new u)) [
           | inl queued ↦ inl (ap is_some same.1 ∙ queued)
-          | inr rest ↦ elim rest as (λ _. IsSome (get queue' u) ⊎ (Contains [] u ⊎ IsRelaxed groups part new u)) [
-            | inl owes ↦ inr (inr (λ leg c.
-                let has = values u owes in
-                let at_zero : value_or 0 old u ≡ has.value = value_or-some 0 old u has.value has.has in
-                let at_top : value_or (top_of groups) old u ≡ has.value = value_or-some (top_of groups) old u has.value has.has in
-                omega (arith, now, at_zero, at_top, lowered.met leg.head (value_or 0 old u + leg.length) (Contains-requests groups nodes old part u leg owes c))))
+          | inr rest ↦ elim rest as (λ _. IsSome (get queue' u) ⊎ (Contains owed u ⊎ IsRelaxed groups part new u)) [
+            | inl owes ↦ elim (Contains-append_cases nodes owed u owes) as (λ _. IsSome (get queue' u) ⊎ (Contains owed u ⊎ IsRelaxed groups part new u)) [
+              | inl here ↦ inr (inr (λ leg c.
+                  let has = values u here in
+                  let at_zero : value_or 0 old u ≡ has.value = value_or-some 0 old u has.value has.has in
+                  let at_top : value_or (top_of groups) old u ≡ has.value = value_or-some (top_of groups) old u has.value has.has in
+                  omega (arith, now, at_zero, at_top, lowered.met leg.head (value_or 0 old u + leg.length) (Contains-requests groups nodes old part u leg here c))))
+              | inr other ↦ inr (inl other)
+            ]
             | inr relaxed ↦ inr (inr (λ leg c.
                 omega (arith, relaxed leg c, now, value_or-le (top_of groups) _ old queue new queue' lowered leg.head)))
           ]
         ]
   ]
+
+  -- .. so that nothing is owed any more where these alone owed it
+  pub IsRelaxedBut-met : (width b : ℕ) → AreInBucket old width b nodes → IsRelaxedBut groups part old queue nodes → IsRelaxedBut groups part new queue' []
+  IsRelaxedBut-met width b values but = IsRelaxedBut-rest width b values [] (subst (λ (l : List ℕ). IsRelaxedBut groups part old queue l) (sym (append-nil nodes)) but)
 
   -- what a request asks for, where its node's value is in the bucket
   pub bucket-le_request : (b : ℕ) → 1 ≤ groups.delta → AreInBucket old groups.delta b nodes → (u value : ℕ) → Contains (requests_of groups nodes old part) (u, value) → b ≤ value / groups.delta

@@ -10,7 +10,6 @@ ghost use Rattle.deltastep.specs.Search.{IsBetweenBuckets, IsSuited, Suits};
 
 use crate::distances::RowError;
 use crate::known::NodeDistance;
-use crate::remembered::Remembered;
 use crate::search::Search;
 use crate::stepping::ring_size;
 use crate::target::drain;
@@ -66,23 +65,21 @@ impl<Q: BucketQueue> Search<Q> {
         snapshot: &Snapshot,
         asked: &A,
         team: &T,
-        remembered: &mut Remembered,
     ) -> Result<Option<u64>, RowError>
         requires suits { A.suits asked.now (snapshot.now.nodes + 1) }
         requires state { (source : ℕ) × IsBetweenBuckets snapshot.now source self.old.tentative (Q.entries self.old.buckets) }
         requires suited { IsSuited snapshot.now (Q.width self.old.buckets) (Q.span self.old.buckets) }
-        requires none { remembered.old ≡ record { limit = snapshot.now.nodes + 1; nodes = [] } }
         ensures state { OnOk result ((source : ℕ) → IsBetweenBuckets snapshot.now source self.old.tentative (Q.entries self.old.buckets) → IsBetweenBuckets snapshot.now source self.new.tentative (Q.entries self.new.buckets)) }
         ensures enough { IfOk result (λ end. IfSome end (λ e. A.suffices asked.now self.new.tentative e)) }
         ensures beyond { IfOk result (λ end. IsBeyond end (Q.entries self.new.buckets)) }
     {
         let delta = u64::from(snapshot.delta());
         let mut taken = Vec::new(alloc);
-        'buckets: while let Some(bucket) = self.settle_next(
-            alloc, snapshot, team, &mut taken, remembered,
+        'buckets: while let Some((bucket, is_settled)) = self.relax_next(
+            alloc, snapshot, team, &mut taken,
         )? {
             let end = last_of(bucket, delta);
-            if asked.is_enough(&self.tentative, end) {
+            if is_settled && asked.is_enough(&self.tentative, end) {
                 return Ok(Some(end));
             }
         }
@@ -101,17 +98,15 @@ fn answer_by<Q: BucketQueue + Drop, A: Asked, T: Team>(
     team: &T,
     values: Tentative,
     buckets: Q,
-    remembered: &mut Remembered,
 ) -> Result<(Vec<NodeDistance>, Tentative, Q), RowError>
     requires blank { values ≡ replicate (snapshot.now.nodes + 1) None }
     requires source { (1 ≤ source) × (source ≤ snapshot.now.nodes) }
     requires asked { A.suits asked.now (snapshot.now.nodes + 1) }
     requires suits { Suits snapshot.now (Q.entries buckets) (Q.accepts buckets) (Q.width buckets) (Q.span buckets) }
-    requires none { remembered.old ≡ record { limit = snapshot.now.nodes + 1; nodes = [] } }
     ensures told { IfOk result (λ found. (net : Net) → IsSnapshotOf net snapshot.now → A.answers asked.now net source found.0.items) }
 {
     let mut search = Search::begin(snapshot, source, values, buckets)?;
-    let end = search.settle_for(alloc, snapshot, asked, team, remembered)?;
+    let end = search.settle_for(alloc, snapshot, asked, team)?;
     let Search { tentative, buckets } = search;
     let told = asked.answer(alloc, &tentative, end)?;
     Ok((told, tentative, buckets))
@@ -134,16 +129,8 @@ fn answer_with<Q: BucketQueue + Drop, A: Asked, T: Team>(
     requires suits { Suits snapshot.now (Q.entries buckets) (Q.accepts buckets) (Q.width buckets) (Q.span buckets) }
     ensures told { IfOk result (λ told. (net : Net) → IsSnapshotOf net snapshot.now → A.answers asked.now net source told.items) }
 {
-    let mut remembered = Remembered::new(alloc, snapshot.nodes() as usize + 1)?;
     let (told, values, _buckets) = answer_by(
-        alloc,
-        snapshot,
-        source,
-        asked,
-        team,
-        values,
-        buckets,
-        &mut remembered,
+        alloc, snapshot, source, asked, team, values, buckets,
     )?;
     workspace.keep_values(values);
     Ok(told)
@@ -170,20 +157,10 @@ pub(crate) fn answer_in<A: Asked, T: Team>(
         );
     };
     let ring = workspace.take_ring(alloc, snapshot, size)?;
-    let mut remembered = workspace.take_remembered(alloc, snapshot.nodes() as usize + 1)?;
-    let (told, values, mut ring) = answer_by(
-        alloc,
-        snapshot,
-        source,
-        asked,
-        team,
-        values,
-        ring,
-        &mut remembered,
-    )?;
+    let (told, values, mut ring) = answer_by(alloc, snapshot, source, asked, team, values, ring)?;
     workspace.keep_values(values);
     if drain(alloc, &mut ring).is_ok() {
-        workspace.keep(ring, remembered);
+        workspace.keep_ring(ring);
     }
     Ok(told)
 }

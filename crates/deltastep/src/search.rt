@@ -302,7 +302,7 @@ impl<Q: BucketQueue> Search<Q> {
 
     /// Relaxes the legs of a part of the nodes, whose values are in the given bucket, and tells whether a node came into it.
     #[inline(always)]
-    fn relax<T: Team>(
+    pub(crate) fn relax<T: Team>(
         &mut self,
         alloc: Global,
         snapshot: &Snapshot,

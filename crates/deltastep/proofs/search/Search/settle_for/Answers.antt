@@ -1,4 +1,6 @@
 use Rattle.std.proofs.Common.{◌≡◌, ◌∙◌, ℕ, ◌+◌, ◌/◌, ◌≤◌, length, sym, subst}
+use Rattle.deltastep.specs.Search.{AreLater}
+use Rattle.deltastep.proofs.Phases.{on_true}
 use Rattle.deltastep.proofs.Ending.{beyond_later}
 use Rattle.deltastep.proofs.search.Search.settle_for.Goals as goal
 
@@ -9,7 +11,9 @@ is_enough-requires g c =
 
 pub returns-then-is_enough-clause-beyond : goal.returns-then-is_enough-clause-beyond
 returns-then-is_enough-clause-beyond g c =
-    beyond_later c.args.snapshot.now.delta c.in-Some.bucket c.last_of-end.result (g.Q.BucketQueue.entries c.settle_next.new.self.buckets) c.delta.ensures.grouped.delta (subst (λ (d : ℕ). c.last_of-end.result / d ≤ c.in-Some.bucket) (c.from-delta.ensures ∙ c.delta.ensures.value) c.last_of-end.ensures) (rw c.in-Some.is at c.in_ok-bucket.ensures.later)
+    let queue = g.Q.BucketQueue.entries c.relax_next.new.self.buckets in
+    let later : AreLater c.args.snapshot.now.delta c.in-Some.bucket queue = on_true c.in-Some.is_settled (AreLater c.args.snapshot.now.delta c.in-Some.bucket queue) c.if-is_settled.true (rw c.in-Some.is at c.in_ok-bucket.ensures.over) in
+    beyond_later c.args.snapshot.now.delta c.in-Some.bucket c.last_of-end.result queue c.delta.ensures.grouped.delta (subst (λ (d : ℕ). c.last_of-end.result / d ≤ c.in-Some.bucket) (c.from-delta.ensures ∙ c.delta.ensures.value) c.last_of-end.ensures) later
 
 pub returns-clause-beyond : goal.returns-clause-beyond
-returns-clause-beyond g c = rw c.in_default.is at c.in_ok-bucket.ensures.later
+returns-clause-beyond g c = rw c.in_default.is at c.in_ok-bucket.ensures.over

@@ -1,4 +1,4 @@
-use Rattle.std.proofs.Common.{◌≡◌, ℕ, ◌+◌, []}
+use Rattle.std.proofs.Common.{ℕ}
 use Rattle.deltastep.specs.Search.{IsBetweenBuckets, IsSuited, top_of, weight}
 use Rattle.deltastep.proofs.search.Search.settle_for.Given as goal
 
@@ -7,7 +7,6 @@ invariant-buckets g l =
     let queue = g.Q.BucketQueue in
     record {
       state : (source : ℕ) → IsBetweenBuckets l.snapshot source l.fn.self.tentative (queue.entries l.fn.self.buckets) → IsBetweenBuckets l.snapshot source l.self.tentative (queue.entries l.self.buckets);
-      none : l.remembered ≡ record { limit = l.snapshot.nodes + 1; nodes = [] };
       suited : IsSuited l.snapshot (queue.width l.self.buckets) (queue.span l.self.buckets);
     }
 

@@ -70,6 +70,7 @@ fn end_of(bucket: u64, window: u64, delta: u64) -> u64
 fn width_of_keys(snapshot: &Snapshot) -> u32
     ensures positive { 1 ≤ result }
     ensures narrow { result ≤ max (snapshot.now.delta / 8) 1 }
+    ensures greatest { max (snapshot.now.delta / 8) 1 < 2 * result }
 {
     let widest = (snapshot.delta() / 8).max(1);
     1 << widest.ilog2()

@@ -1,4 +1,5 @@
 pub mod ReplyLines
+pub mod AnsweredLines
 pub mod ReadTexts
 pub mod Looked
 pub mod PrintedRows

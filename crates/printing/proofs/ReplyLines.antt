@@ -1,20 +1,11 @@
--- A line ends with a number; and one reply more is printed.
-use Rattle.std.proofs.Common.{◌≡◌, ◌∙◌, ℕ, ◌+◌, ◌<◌, List, [], ◌∷◌, ◌++◌, Option, length, get_or, take, sym, ap, subst, append_assoc, append-nil, Result, Ok, Err}
-use Rattle.std.specs.Prelude.{OnOk, decimal}
+-- One reply more is printed.
+use Rattle.std.proofs.Common.{◌≡◌, ◌∙◌, ℕ, ◌+◌, ◌<◌, List, [], ◌∷◌, ◌++◌, Option, length, get_or, take, sym, ap, subst, append-nil}
 use Rattle.std.specs.Io.KnownBytes.{Appends}
 use Rattle.std.proofs.KnownBytes.{Appends-trans}
 use Rattle.std.proofs.lemmas.List.{take_more}
 use Rattle.std.proofs.lemmas.Grind.{flat_map-append}
-use lib.Chars.{codes}
 use Rattle.machine.specs.declared.events.Replied.{Replied}
-use Rattle.printing.specs.Replied.{number_line, printed_reply, printed_replies}
-
-pub line_end : {X E : Type 0} (r : Result X E) (old mid new : Option (List ℕ)) (before : List ℕ) (number : ℕ) → Appends old mid before
-    → OnOk r (Appends mid new (number_line (codes " ") number)) → OnOk r (Appends old new (before ++ codes " " ++ decimal number ++ codes "\n"))
-line_end (Ok x) old mid new before number first rest =
-    let parts = append_assoc (before ++ codes " ") (decimal number) (codes "\n") ∙ append_assoc before (codes " ") (decimal number ++ codes "\n") in
-    subst (Appends old new) (sym parts) (Appends-trans old mid new _ _ first rest)
-line_end (Err e) old mid new before number first rest = tt
+use Rattle.printing.specs.Replied.{printed_reply, printed_replies}
 
 lines_more : (replies : List Replied) (i : ℕ) (d : Replied) → i < length replies → printed_replies (take (i + 1) replies) ≡ printed_replies (take i replies) ++ printed_reply (get_or replies i d)
 lines_more replies i d lt =

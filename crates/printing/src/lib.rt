@@ -2,6 +2,7 @@
 //! failed calls.
 #![tactic(auto)]
 
+mod answered;
 mod done;
 mod exports;
 mod failed;

@@ -1,11 +1,12 @@
 //! Answer lines, as bytes.
-ghost use Rattle.std.specs.Prelude.{◌≡◌, ◌++◌, decimal, OnOk, IfErr};
+ghost use Rattle.std.specs.Prelude.{◌≡◌, ◌∷◌, ◌++◌, decimal, OnOk, IfErr};
 ghost use Rattle.std.specs.Io.KnownBytes.{Appends};
 ghost use lib.Chars.{codes};
 ghost use Rattle.printing.specs.Counting.{failed_writes, writer_of, IsSameWriter, CountsFailure};
 ghost use Rattle.printing.specs.Printed.{version_line, with_nodes, refusal_line, answer_line, lines_of};
 ghost use Rattle.printing.specs.Replied.{number_line};
 
+use crate::answered::{LINE_ROOM, length_line, no_walk_line};
 use crate::failed::Failed;
 use crate::writer::CountedWriter;
 use itoa::Buffer;
@@ -50,23 +51,6 @@ pub fn put_version<W: Write>(out: &mut CountedWriter<'_, W>, version: u64) -> Re
     put_numbered(out, b"v ", version)
 }
 
-/// A letter with a blank behind it, and the two nodes of a query.
-fn put_nodes<W: Write>(
-    out: &mut CountedWriter<'_, W>,
-    letter: &[u8],
-    query: &Query,
-) -> Result<(), Failed>
-    ensures ok { OnOk result (Appends (W.contents (writer_of out.old)) (W.contents (writer_of out.new)) (with_nodes letter.now query.now)) }
-    ensures refused { IfErr result (λ failed. failed ≡ Failed.Code Refusal.Write) }
-    ensures counts { CountsFailure (failed_writes out.old) (failed_writes out.new) result }
-    ensures same { IsSameWriter out.old out.new }
-{
-    out.write_all(letter)?;
-    put_number(out, query.source())?;
-    out.write_all(b" ")?;
-    put_number(out, query.target())
-}
-
 /// `no CODE`
 pub fn put_refusal<W: Write>(out: &mut CountedWriter<'_, W>, code: u8) -> Result<(), Failed>
     ensures ok { OnOk result (Appends (W.contents (writer_of out.old)) (W.contents (writer_of out.new)) (refusal_line code)) }
@@ -77,32 +61,33 @@ pub fn put_refusal<W: Write>(out: &mut CountedWriter<'_, W>, code: u8) -> Result
     put_numbered(out, b"no ", u64::from(code))
 }
 
-/// The letter with its blank, the nodes and a length: `d S T L` or `b S T L`
-#[tactic(auto, using(crate::proofs::ReplyLines::line_end))]
+/// The letter, the nodes and a length: `d S T L` or `b S T L`, by one write.
 fn put_length<W: Write>(
     out: &mut CountedWriter<'_, W>,
-    letter: &[u8],
+    letter: u8,
     query: &Query,
     length: u64,
 ) -> Result<(), Failed>
-    ensures ok { OnOk result (Appends (W.contents (writer_of out.old)) (W.contents (writer_of out.new)) (with_nodes letter.now query.now ++ codes " " ++ decimal length ++ codes "\n")) }
+    ensures ok { OnOk result (Appends (W.contents (writer_of out.old)) (W.contents (writer_of out.new)) (with_nodes (letter ∷ codes " ") query.now ++ codes " " ++ decimal length ++ codes "\n")) }
     ensures refused { IfErr result (λ failed. failed ≡ Failed.Code Refusal.Write) }
     ensures counts { CountsFailure (failed_writes out.old) (failed_writes out.new) result }
     ensures same { IsSameWriter out.old out.new }
 {
-    put_nodes(out, letter, query)?;
-    put_numbered(out, b" ", length)
+    let mut line = [0; LINE_ROOM];
+    let start = length_line(letter, query, length, &mut line);
+    out.write_all(&line[start..])
 }
 
-/// `x S T`
+/// `x S T`, by one write.
 fn put_no_walk<W: Write>(out: &mut CountedWriter<'_, W>, query: &Query) -> Result<(), Failed>
     ensures ok { OnOk result (Appends (W.contents (writer_of out.old)) (W.contents (writer_of out.new)) (answer_line query.now Reply.NoWalk)) }
     ensures refused { IfErr result (λ failed. failed ≡ Failed.Code Refusal.Write) }
     ensures counts { CountsFailure (failed_writes out.old) (failed_writes out.new) result }
     ensures same { IsSameWriter out.old out.new }
 {
-    put_nodes(out, b"x ", query)?;
-    out.write_all(b"\n")
+    let mut line = [0; LINE_ROOM];
+    let start = no_walk_line(query, &mut line);
+    out.write_all(&line[start..])
 }
 
 /// `d S T L`, `x S T`, `b S T L` or `no CODE`
@@ -117,9 +102,9 @@ pub fn put_answer<W: Write>(
     ensures same { IsSameWriter out.old out.new }
 {
     match reply {
-        Reply::Length(length) => put_length(out, b"d ", query, length),
+        Reply::Length(length) => put_length(out, b'd', query, length),
         Reply::NoWalk => put_no_walk(out, query),
-        Reply::AtLeast(bound) => put_length(out, b"b ", query, bound),
+        Reply::AtLeast(bound) => put_length(out, b'b', query, bound),
         Reply::Refused(refusal) => put_refusal(out, refusal.number()),
     }
 }

@@ -319,7 +319,7 @@ fn a_reader_of_a_network_fails_at_each_read(rt: HostRuntime) -> Result<(), Refus
     Ok(())
 }
 
-/// The writer fails at each of its calls, of which there are ten or more.
+/// The writer fails at each of its calls, of which there are five or more.
 #[test]
 fn a_writer_of_replies_fails_at_each_write(rt: HostRuntime) -> Result<(), Refusal> {
     for writes in 1..24 {
@@ -328,7 +328,7 @@ fn a_writer_of_replies_fails_at_each_write(rt: HostRuntime) -> Result<(), Refusa
         let check = come_of_check(rt.alloc(), writes)?;
         is_cut_by_writer(&rt, &check, 23);
         let all = joint.failed_writes == 1 && check.failed_writes == 1;
-        assert!(rt; all || writes > 8, "write {writes}");
+        assert!(rt; all || writes > 5, "write {writes}");
         let none = joint.failed_writes == 0 && check.failed_writes == 0;
         assert!(rt; none || writes < 20, "write {writes}");
     }

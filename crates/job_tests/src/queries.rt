@@ -142,10 +142,10 @@ fn nodes_that_are_reached(rt: HostRuntime) {
     }
 }
 
-/// Whether a call is done whose writer would fail in a later write than its last one, the ninth or a later one; or is refused for the one that failed.
+/// Whether a call is done whose writer would fail in a later write than its last one, the sixth or a later one; or is refused for the one that failed.
 fn is_written_or_told(outcome: Result<Done, Failed>, failed: u64, writes: u32) -> bool {
     if is_done(&outcome, Some(5)) {
-        failed == 0 && writes > 8
+        failed == 0 && writes > 5
     } else {
         failed == 1 && outcome == Err(Failed::Code(Refusal::Write))
     }

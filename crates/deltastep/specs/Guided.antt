@@ -9,7 +9,7 @@
 use Rattle.std.specs.Prelude.{◌≡◌, ℕ, ◌+◌, ◌<◌, ◌≤◌, ◌^◌, ◌⊎◌, List, length, IsSome, Contains, Option, Some, slice_set}
 use Rattle.relax.specs.Values.{value_at, value_or}
 use Rattle.std.specs.FinMap as map
-use Rattle.snapshot.specs.Groups.{Groups, legs_of}
+use Rattle.snapshot.specs.Groups.{Groups, IsGrouped, legs_of}
 use Rattle.buckets.specs.Queue.{Entries}
 use Rattle.snapshot.specs.declared.legs.Leg.{Leg}
 use Rattle.snapshot.specs.declared.legs.Part.{Part}
@@ -55,3 +55,12 @@ pub record GoesOn (groups : Groups) (target start : ℕ) (old : List (Option ℕ
 
 abbrev pub IsBest : Groups → List (Option ℕ) → ℕ → Type 0
 IsBest groups tentative target = (u : ℕ) (legs : List Leg) → Trip groups u target legs → value_or (top_of groups) tentative target ≤ value_or (top_of groups) tentative u + trip_length legs
+
+-- No trip to the target by way of a node of this value is shorter than the key, where none is shorter than the start.
+abbrev pub KeyStaysBelow : (Groups → Type 0) → (target node value start key : ℕ) → Type 0
+KeyStaysBelow Knows target node value start key =
+    (groups : Groups) → Knows groups → IsGrouped groups → 1 ≤ node → node ≤ groups.nodes → (legs : List Leg) → Trip groups node target legs → start ≤ value + trip_length legs → key ≤ value + trip_length legs
+
+-- a search by keys ends with values that are lengths of trips
+abbrev pub EndsReached : Groups → ℕ → List (Option ℕ) → Entries → List (Option ℕ) → Type 0
+EndsReached groups target old queue new = (source : ℕ) → IsGuided groups source target old queue → AreReached groups source new

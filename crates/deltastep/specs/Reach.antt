@@ -5,14 +5,14 @@
 --     nearer_first a b                      the order by distance, and then by node
 --     AreNearest net source among count told     of these nodes the nearest to the source, as many as the count
 --     AreFinal net source end values        up to the end the values are the distances from the source
-use Rattle.std.specs.Prelude.{◌≡◌, ℕ, ◌+◌, ◌≤◌, ◌<◌, ◌⊎◌, nat_le, min, Bool, true, false, List, map, length, count_by, All, Contains, Option, None, Some, IfSome}
+use Rattle.std.specs.Prelude.{◌≡◌, ℕ, ◌+◌, ◌≤◌, ◌<◌, ◌⊎◌, nat_le, min, Bool, true, false, List, map, length, count_by, All, Contains, Option, None, Some, IfSome, MatchOption}
 use Rattle.std.specs.List.Sorted.{IsStrictlyIncreasing, IsStrictlySortedBy}
 use Rattle.std.specs.Ordering.{nat_cmp, ordering_then}
 use Rattle.std.specs.declared.cmp.Ordering.{Ordering}
 use Rattle.std.specs.declared.cmp.Ordering.TheVariants.{Less}
 use Rattle.relax.specs.Values.{value_at, value_or}
 use Rattle.roadnet.specs.Net.{Net, IsNode}
-use Rattle.roadnet.specs.Walks.{Least}
+use Rattle.roadnet.specs.Walks.{Least, NoWalk, distance_at}
 use Rattle.snapshot.specs.Groups.{Groups}
 use Rattle.buckets.specs.Queue.{Entries}
 use Rattle.std.specs.FinMap as map_of
@@ -51,6 +51,14 @@ pub record AreNearest (net : Net) (source : ℕ) (among : List ℕ) (count : ℕ
   pub few : length told ≤ count
   pub right : (x d : ℕ) → Contains told (told_as x d) → Contains among x × Least net source x d
   pub nearest : (x d : ℕ) → Contains among x → Least net source x d → Contains told (told_as x d) ⊎ ComeBefore count told (told_as x d)
+
+-- the least length of a walk, or that there is none
+abbrev pub IsDistance : Net → ℕ → ℕ → Option ℕ → Type 0
+IsDistance net source target distance = MatchOption distance (NoWalk net source target) (Least net source target)
+
+-- of each node the distance to the target
+abbrev pub IsRowTo : Net → ℕ → List (Option ℕ) → Type 0
+IsRowTo net target row = (source : ℕ) → IsNode net source → IsDistance net source target (distance_at row source)
 
 -- ---- how far a search has come
 

@@ -12,7 +12,7 @@
 --     IsFinal groups tentative queue v  no queued value is below that of node v
 --     MeetsRequests top requests ..     the nodes that changed took the value of a request and are queued with it,
 --                                   and no request asks for less than is known now
-use Rattle.std.specs.Prelude.{◌≡◌, ℕ, ◌+◌, ◌*◌, ◌-◌, ◌/◌, ◌<◌, ◌≤◌, ◌⊎◌, ◌≢◌, List, [], ◌∷◌, ◌++◌, length, map as list_map, sum_by, unwrap_or, IsSome, Contains, Option, Some}
+use Rattle.std.specs.Prelude.{◌≡◌, ℕ, ◌+◌, ◌*◌, ◌-◌, ◌/◌, ◌<◌, ◌≤◌, ◌⊎◌, ◌≢◌, List, [], ◌∷◌, ◌++◌, length, map as list_map, sum_by, unwrap_or, IsSome, Contains, Option, Some, MatchOption}
 use Rattle.relax.specs.Values.{value_at, value_or}
 use Rattle.std.specs.FinMap as map
 use Rattle.snapshot.specs.Groups.{Groups, legs_of}
@@ -92,6 +92,10 @@ ring_buckets greatest width = (greatest + (width - 1)) / width + 1
 abbrev pub most_lists : ℕ
 most_lists = 65536
 
+-- so many lists does a ring need, or nothing where that is more than it may have
+abbrev pub IsRingSize : ℕ → ℕ → Option ℕ → Type 0
+IsRingSize greatest width size = MatchOption size (most_lists < ring_buckets greatest width) (λ n. (n ≡ ring_buckets greatest width) × (n ≤ most_lists))
+
 -- the values that a search may put while it settles bucket b fit
 abbrev pub FitsFrom : (ℕ → Type 0) → Groups → ℕ → Type 0
 FitsFrom accepts groups b = (value : ℕ) → b ≤ value / groups.delta → value / groups.delta < b + ring_buckets groups.greatest groups.delta → accepts value
@@ -160,3 +164,7 @@ pub record IsBetweenBuckets (groups : Groups) (source : ℕ) (tentative : List (
   pub reached : AreReached groups source tentative
   pub light : IsRelaxedBut groups Light tentative queue []
   pub heavy : IsRelaxedBut groups Heavy tentative queue []
+
+-- .. from each source from which the values are lengths of trips
+abbrev pub IsBetweenFromReached : Groups → List (Option ℕ) → Entries → Type 0
+IsBetweenFromReached groups tentative queue = (source : ℕ) → AreReached groups source tentative → IsBetweenBuckets groups source tentative queue

@@ -1,12 +1,13 @@
 //! Searches for what is asked of the nodes around a source, which end as soon as it can be answered.
 
-ghost use Rattle.std.specs.Prelude.{◌≡◌, ◌+◌, ◌*◌, ◌-◌, ◌/◌, ◌≤◌, ◌<◌, ◌^◌, ℕ, List, [], Option, None, length, replicate, IfOk, IfSome, OnOk};
+ghost use Rattle.std.specs.Prelude.{◌≡◌, ◌+◌, ◌-◌, ◌/◌, ◌≤◌, ℕ, List, Option, None, length, replicate, IfOk, IfSome, OnOk};
 ghost use Rattle.std.specs.Bool.{OnTrue};
 ghost use Rattle.roadnet.specs.Net.{Net};
 ghost use Rattle.snapshot.specs.Groups.{IsSnapshotOf};
 ghost use Rattle.deltastep.specs.declared.known.NodeDistance.{NodeDistance};
 ghost use Rattle.deltastep.specs.Reach.{AreFinal, IsBeyond};
-ghost use Rattle.deltastep.specs.Search.{IsBetweenBuckets, IsSuited, Suits};
+ghost use Rattle.deltastep.specs.Search.{Suits};
+ghost use Rattle.deltastep.specs.Stepping.{HasWidth, IsBetween, StaysBetween};
 
 use crate::distances::RowError;
 use crate::known::NodeDistance;
@@ -67,9 +68,9 @@ impl<Q: BucketQueue> Search<Q> {
         team: &T,
     ) -> Result<Option<u64>, RowError>
         requires suits { A.suits asked.now (snapshot.now.nodes + 1) }
-        requires state { (source : ℕ) × IsBetweenBuckets snapshot.now source self.old.tentative (Q.entries self.old.buckets) }
-        requires suited { IsSuited snapshot.now (Q.width self.old.buckets) (Q.span self.old.buckets) }
-        ensures state { OnOk result ((source : ℕ) → IsBetweenBuckets snapshot.now source self.old.tentative (Q.entries self.old.buckets) → IsBetweenBuckets snapshot.now source self.new.tentative (Q.entries self.new.buckets)) }
+        requires state { (source : ℕ) × IsBetween Q.BucketQueue snapshot.now source self.old }
+        requires suited { HasWidth Q.BucketQueue snapshot.now self.old }
+        ensures state { OnOk result (StaysBetween Q.BucketQueue snapshot.now self.old self.new) }
         ensures enough { IfOk result (λ end. IfSome end (λ e. A.suffices asked.now self.new.tentative e)) }
         ensures beyond { IfOk result (λ end. IsBeyond end (Q.entries self.new.buckets)) }
     {

@@ -1,11 +1,11 @@
 //! Buckets whose nodes are relaxed one after another, as soon as they are taken.
 
-ghost use Rattle.std.specs.Prelude.{◌≡◌, ℕ, ◌≤◌, ◌<◌, List, [], ◌∷◌, IfOk, IfSome, MatchOption, OnOk};
+ghost use Rattle.std.specs.Prelude.{ℕ, [], ◌∷◌, IfOk, IfSome, MatchOption, OnOk};
 ghost use Rattle.std.specs.Bool.{OnTrue, OnFalse};
-ghost use Rattle.std.specs.FinMap as map;
 ghost use Rattle.snapshot.specs.declared.legs.Part.{Part};
 ghost use Rattle.snapshot.specs.declared.legs.Part.TheVariants.{Light, Heavy};
-ghost use Rattle.deltastep.specs.Search.{AreInBucket, AreLater, AreReached, FitsFrom, IsBetweenBuckets, IsBucketEmpty, IsRelaxedBut, IsSearch, IsSuited, top_of, weight};
+ghost use Rattle.deltastep.specs.Search.{AreInBucket, top_of, weight};
+ghost use Rattle.deltastep.specs.Stepping.{IsUnderWay, OwesOnly, HasWidth, HasRoomFrom, IsBetween, StaysBetween, StaysReached, KeepsInBucket, WeighsNoMore, WeighsLess, KeepsEmpty, RelaxesNode, IsBehind, IsOver};
 
 use crate::distances::RowError;
 use crate::search::Search;
@@ -25,18 +25,18 @@ impl<Q: BucketQueue> Search<Q> {
         bucket: u64,
         node: u32,
     ) -> Result<bool, RowError>
-        requires search { IsSearch snapshot.now self.old.tentative (Q.entries self.old.buckets) bucket }
+        requires search { IsUnderWay Q.BucketQueue snapshot.now self.old bucket }
         requires node { AreInBucket self.old.tentative snapshot.now.delta bucket (node ∷ []) }
-        requires window { FitsFrom (Q.accepts self.old.buckets) snapshot.now bucket }
-        requires suited { IsSuited snapshot.now (Q.width self.old.buckets) (Q.span self.old.buckets) }
-        ensures search { OnOk result (IsSearch snapshot.now self.new.tentative (Q.entries self.new.buckets) bucket) }
-        ensures reached { OnOk result ((source : ℕ) → AreReached snapshot.now source self.old.tentative → AreReached snapshot.now source self.new.tentative) }
-        ensures relaxed { OnOk result ((part : Part) (owed : List ℕ) → IsRelaxedBut snapshot.now part self.old.tentative (Q.entries self.old.buckets) (node ∷ owed) → IsRelaxedBut snapshot.now part self.new.tentative (Q.entries self.new.buckets) owed) }
-        ensures stays { OnOk result ((others : List ℕ) → AreInBucket self.old.tentative snapshot.now.delta bucket others → AreInBucket self.new.tentative snapshot.now.delta bucket others) }
-        ensures none_came { IfOk result (λ came_back. OnFalse came_back (IsBucketEmpty snapshot.now.delta bucket (Q.entries self.old.buckets) → IsBucketEmpty snapshot.now.delta bucket (Q.entries self.new.buckets))) }
-        ensures weight { OnOk result (weight (top_of snapshot.now) self.new.tentative (Q.entries self.new.buckets) ≤ weight (top_of snapshot.now) self.old.tentative (Q.entries self.old.buckets)) }
-        ensures window { OnOk result (FitsFrom (Q.accepts self.new.buckets) snapshot.now bucket) }
-        ensures suited { OnOk result (IsSuited snapshot.now (Q.width self.new.buckets) (Q.span self.new.buckets)) }
+        requires window { HasRoomFrom Q.BucketQueue snapshot.now self.old bucket }
+        requires suited { HasWidth Q.BucketQueue snapshot.now self.old }
+        ensures search { OnOk result (IsUnderWay Q.BucketQueue snapshot.now self.new bucket) }
+        ensures reached { OnOk result (StaysReached snapshot.now self.old self.new) }
+        ensures relaxed { OnOk result (RelaxesNode Q.BucketQueue snapshot.now node self.old self.new) }
+        ensures stays { OnOk result (KeepsInBucket snapshot.now bucket self.old self.new) }
+        ensures none_came { IfOk result (λ came_back. OnFalse came_back (KeepsEmpty Q.BucketQueue snapshot.now.delta bucket self.old self.new)) }
+        ensures weight { OnOk result (WeighsNoMore Q.BucketQueue (top_of snapshot.now) self.old self.new) }
+        ensures window { OnOk result (HasRoomFrom Q.BucketQueue snapshot.now self.new bucket) }
+        ensures suited { OnOk result (HasWidth Q.BucketQueue snapshot.now self.new) }
     {
         let came_back = self.relax(alloc, snapshot, team, bucket, &[node], Part::Light)?;
         self.relax(alloc, snapshot, team, bucket, &[node], Part::Heavy)?;
@@ -53,17 +53,17 @@ impl<Q: BucketQueue> Search<Q> {
         bucket: u64,
         nodes: &[u32],
     ) -> Result<bool, RowError>
-        requires search { IsSearch snapshot.now self.old.tentative (Q.entries self.old.buckets) bucket }
-        requires owed { (part : Part) → IsRelaxedBut snapshot.now part self.old.tentative (Q.entries self.old.buckets) nodes.now }
+        requires search { IsUnderWay Q.BucketQueue snapshot.now self.old bucket }
+        requires owed { (part : Part) → OwesOnly Q.BucketQueue snapshot.now part self.old nodes.now }
         requires nodes { AreInBucket self.old.tentative snapshot.now.delta bucket nodes.now }
-        requires window { FitsFrom (Q.accepts self.old.buckets) snapshot.now bucket }
-        requires suited { IsSuited snapshot.now (Q.width self.old.buckets) (Q.span self.old.buckets) }
-        ensures search { OnOk result (IsSearch snapshot.now self.new.tentative (Q.entries self.new.buckets) bucket) }
-        ensures reached { OnOk result ((source : ℕ) → AreReached snapshot.now source self.old.tentative → AreReached snapshot.now source self.new.tentative) }
-        ensures relaxed { OnOk result ((part : Part) → IsRelaxedBut snapshot.now part self.new.tentative (Q.entries self.new.buckets) []) }
-        ensures none_came { IfOk result (λ came_back. OnFalse came_back (IsBucketEmpty snapshot.now.delta bucket (Q.entries self.old.buckets) → IsBucketEmpty snapshot.now.delta bucket (Q.entries self.new.buckets))) }
-        ensures weight { OnOk result (weight (top_of snapshot.now) self.new.tentative (Q.entries self.new.buckets) ≤ weight (top_of snapshot.now) self.old.tentative (Q.entries self.old.buckets)) }
-        ensures suited { OnOk result (IsSuited snapshot.now (Q.width self.new.buckets) (Q.span self.new.buckets)) }
+        requires window { HasRoomFrom Q.BucketQueue snapshot.now self.old bucket }
+        requires suited { HasWidth Q.BucketQueue snapshot.now self.old }
+        ensures search { OnOk result (IsUnderWay Q.BucketQueue snapshot.now self.new bucket) }
+        ensures reached { OnOk result (StaysReached snapshot.now self.old self.new) }
+        ensures relaxed { OnOk result ((part : Part) → OwesOnly Q.BucketQueue snapshot.now part self.new []) }
+        ensures none_came { IfOk result (λ came_back. OnFalse came_back (KeepsEmpty Q.BucketQueue snapshot.now.delta bucket self.old self.new)) }
+        ensures weight { OnOk result (WeighsNoMore Q.BucketQueue (top_of snapshot.now) self.old self.new) }
+        ensures suited { OnOk result (HasWidth Q.BucketQueue snapshot.now self.new) }
     {
         let mut came_back = false;
         for &node in nodes {
@@ -88,12 +88,12 @@ impl<Q: BucketQueue> Search<Q> {
         team: &T,
         taken: &mut Vec<u32>,
     ) -> Result<Option<(u64, bool)>, RowError>
-        requires state { (source : ℕ) × IsBetweenBuckets snapshot.now source self.old.tentative (Q.entries self.old.buckets) }
-        requires suited { IsSuited snapshot.now (Q.width self.old.buckets) (Q.span self.old.buckets) }
-        ensures state { OnOk result ((source : ℕ) → IsBetweenBuckets snapshot.now source self.old.tentative (Q.entries self.old.buckets) → IsBetweenBuckets snapshot.now source self.new.tentative (Q.entries self.new.buckets)) }
-        ensures over { IfOk result (λ found. MatchOption found (Q.entries self.new.buckets ≡ map.empty) (λ found. OnTrue found.1 (AreLater snapshot.now.delta found.0 (Q.entries self.new.buckets)))) }
-        ensures falls { IfOk result (λ found. IfSome found (λ _. weight (top_of snapshot.now) self.new.tentative (Q.entries self.new.buckets) < weight (top_of snapshot.now) self.old.tentative (Q.entries self.old.buckets))) }
-        ensures suited { OnOk result (IsSuited snapshot.now (Q.width self.new.buckets) (Q.span self.new.buckets)) }
+        requires state { (source : ℕ) × IsBetween Q.BucketQueue snapshot.now source self.old }
+        requires suited { HasWidth Q.BucketQueue snapshot.now self.old }
+        ensures state { OnOk result (StaysBetween Q.BucketQueue snapshot.now self.old self.new) }
+        ensures over { IfOk result (λ found. MatchOption found (IsOver Q.BucketQueue self.new) (λ found. OnTrue found.1 (IsBehind Q.BucketQueue snapshot.now.delta found.0 self.new))) }
+        ensures falls { IfOk result (λ found. IfSome found (λ _. WeighsLess Q.BucketQueue (top_of snapshot.now) self.old self.new)) }
+        ensures suited { OnOk result (HasWidth Q.BucketQueue snapshot.now self.new) }
     {
         let Some(bucket) = self.take_bucket(snapshot, taken)? else {
             return Ok(None);

@@ -1,15 +1,15 @@
 //! The distance to one target, by a search that lower bounds of the ways to it lead there.
 
-ghost use Rattle.std.specs.Prelude.{◌≡◌, ◌+◌, ◌*◌, ◌/◌, ◌≤◌, ◌<◌, ◌^◌, ◌↔◌, ℕ, List, Contains, None, false, length, max, replicate, IfOk, IfSome, IsTrue, OnOk, MatchOption};
+ghost use Rattle.std.specs.Prelude.{◌≡◌, ◌+◌, ◌*◌, ◌/◌, ◌≤◌, ◌<◌, ◌^◌, ◌↔◌, ℕ, Contains, None, false, length, max, replicate, IfOk, IfSome, IsTrue, OnOk, MatchOption};
 ghost use Rattle.std.specs.FinMap as map;
 ghost use Rattle.relax.specs.Values.{value_at, value_or};
 ghost use Rattle.roadnet.specs.Net.{Net};
-ghost use Rattle.roadnet.specs.Walks.{Least, NoWalk};
 ghost use Rattle.snapshot.specs.Groups.{Groups, IsGrouped, IsSnapshotOf};
-ghost use Rattle.snapshot.specs.declared.legs.Leg.{Leg};
 ghost use Rattle.snapshot.specs.declared.legs.Part.{Part};
-ghost use Rattle.deltastep.specs.Search.{AreReached, IsBetweenBuckets, Trip, trip_length};
-ghost use Rattle.deltastep.specs.Guided.{ConsistentIsLowerBound, GoesOn, IsBest, IsDone, IsGuided, IsKey, IsLowerBound, IsLoweredTo};
+ghost use Rattle.deltastep.specs.Search.{IsBetweenBuckets};
+ghost use Rattle.deltastep.specs.Guided.{ConsistentIsLowerBound, GoesOn, IsBest, IsDone, IsGuided, IsKey, IsLowerBound, KeyStaysBelow, EndsReached};
+ghost use Rattle.deltastep.specs.Stepping.{LowersByKey};
+ghost use Rattle.deltastep.specs.Reach.{IsDistance};
 
 use crate::distances::RowError;
 use crate::search::{Search, top};
@@ -47,7 +47,7 @@ fn key_of<G: Guide>(guide: &G, node: u32, value: u64, start: u64, end: u64) -> u
     requires window { start ≤ end }
     ensures from { start ≤ result }
     ensures to { result ≤ end }
-    ensures below { (groups : Groups) → G.knows guide.now groups → IsGrouped groups → 1 ≤ node → node ≤ groups.nodes → (legs : List Leg) → Trip groups node (G.target guide.now) legs → start ≤ value + trip_length legs → result ≤ value + trip_length legs }
+    ensures below { KeyStaysBelow (G.knows guide.now) (G.target guide.now) node value start result }
 {
     let wanted = value.saturating_add(guide.bound(node));
     wanted.min(end).max(start)
@@ -117,9 +117,9 @@ impl<Q: BucketQueue> Search<Q> {
         requires fits { (v : ℕ) → start ≤ v → v ≤ end → Q.accepts self.old.buckets v }
         requires small { top ≤ 2 ^ 56 }
         ensures lowered { IfOk result (λ key. MatchOption key (value_or top self.old.tentative node ≤ value) (λ _. value < value_or top self.old.tentative node)) }
-        ensures changed { IfOk result (λ key. MatchOption key ((self.new.tentative ≡ self.old.tentative) × (Q.entries self.new.buckets ≡ Q.entries self.old.buckets)) (λ key. IsLoweredTo self.old.tentative (Q.entries self.old.buckets) self.new.tentative (Q.entries self.new.buckets) node value key)) }
+        ensures changed { IfOk result (λ key. LowersByKey Q.BucketQueue node value self.old self.new key) }
         ensures to { IfOk result (λ key. IfSome key (λ key. key ≤ end)) }
-        ensures below { IfOk result (λ key. IfSome key (λ key. (groups : Groups) → G.knows guide.now groups → IsGrouped groups → 1 ≤ node → node ≤ groups.nodes → (legs : List Leg) → Trip groups node (G.target guide.now) legs → start ≤ value + trip_length legs → key ≤ value + trip_length legs)) }
+        ensures below { IfOk result (λ key. IfSome key (KeyStaysBelow (G.knows guide.now) (G.target guide.now) node value start)) }
         ensures accepts { (v : ℕ) → Q.accepts self.old.buckets v → Q.accepts self.new.buckets v }
         ensures width { Q.width self.new.buckets ≡ Q.width self.old.buckets }
         ensures span { Q.span self.new.buckets ≡ Q.span self.old.buckets }
@@ -249,7 +249,7 @@ impl<Q: BucketQueue> Search<Q> {
         requires wide { 1 ≤ Q.width self.old.buckets }
         requires window { 1 ≤ Q.span self.old.buckets }
         ensures places { OnOk result (length self.new.tentative ≡ snapshot.now.nodes + 1) }
-        ensures reached { OnOk result ((source : ℕ) → IsGuided snapshot.now source (G.target guide.now) self.old.tentative (Q.entries self.old.buckets) → AreReached snapshot.now source self.new.tentative) }
+        ensures reached { OnOk result (EndsReached snapshot.now (G.target guide.now) self.old.tentative (Q.entries self.old.buckets) self.new.tentative) }
         ensures best { OnOk result (IsBest snapshot.now self.new.tentative (G.target guide.now)) }
     {
         let delta = u64::from(self.buckets.delta());
@@ -287,7 +287,7 @@ fn guided_by<Q: BucketQueue + Drop, G: Guide>(
     requires first { Q.accepts buckets 0 }
     requires wide { 1 ≤ Q.width buckets }
     requires window { 1 ≤ Q.span buckets }
-    ensures distance { IfOk result (λ found. (net : Net) → IsSnapshotOf net snapshot.now → MatchOption found.0 (NoWalk net source target) (Least net source target)) }
+    ensures distance { IfOk result (λ found. (net : Net) → IsSnapshotOf net snapshot.now → IsDistance net source target found.0) }
 {
     let mut search = Search::begin_guided(snapshot, source, values, buckets)?;
     search.settle_guided(alloc, snapshot, target, guide)?;
@@ -311,7 +311,7 @@ pub fn distance_guided<G: Guide>(
     requires target { (1 ≤ target) × (target ≤ snapshot.now.nodes) }
     requires leads { G.target guide.now ≡ target }
     requires knows { G.knows guide.now snapshot.now }
-    ensures distance { IfOk result (λ distance. (net : Net) → IsSnapshotOf net snapshot.now → MatchOption distance (NoWalk net source target) (Least net source target)) }
+    ensures distance { IfOk result (λ distance. (net : Net) → IsSnapshotOf net snapshot.now → IsDistance net source target distance) }
 {
     distance_guided_in(
         alloc,
@@ -337,7 +337,7 @@ pub fn distance_guided_in<G: Guide>(
     requires target { (1 ≤ target) × (target ≤ snapshot.now.nodes) }
     requires leads { G.target guide.now ≡ target }
     requires knows { G.knows guide.now snapshot.now }
-    ensures distance { IfOk result (λ distance. (net : Net) → IsSnapshotOf net snapshot.now → MatchOption distance (NoWalk net source target) (Least net source target)) }
+    ensures distance { IfOk result (λ distance. (net : Net) → IsSnapshotOf net snapshot.now → IsDistance net source target distance) }
 {
     let values = workspace.take_values(alloc, snapshot.nodes())?;
     let delta = width_of_keys(snapshot);

@@ -1,14 +1,14 @@
 //! Where a repair begins its search, found by way of the legs that lead to what was lost, in place of a pass over all legs.
 
-ghost use Rattle.std.specs.Prelude.{◌≡◌, ℕ, ◌+◌, ◌≤◌, ◌<◌, ◌^◌, ◌⊎◌, Option, None, Some, IsSome, OnOk, IfOk, All, Contains, length};
+ghost use Rattle.std.specs.Prelude.{◌≡◌, ℕ, ◌+◌, ◌≤◌, ◌<◌, ◌^◌, None, IsSome, OnOk, IfOk, All, length};
 ghost use Rattle.std.specs.FinMap as map;
 ghost use Rattle.std.specs.Bool.{OnTrue, OnFalse};
 ghost use Rattle.roadnet.specs.Net.{Net};
 ghost use Rattle.roadnet.specs.Walks.{RowOf, distance_at};
-ghost use Rattle.snapshot.specs.Groups.{IsSnapshotOf, legs_of, IsGrouped};
+ghost use Rattle.snapshot.specs.Groups.{IsSnapshotOf};
 ghost use Rattle.snapshot.specs.declared.legs.Part.{Part};
 ghost use Rattle.relax.specs.Values.{value_at};
-ghost use Rattle.deltastep.specs.Search.{AreReached, IsBetweenBuckets, IsSearch, top_of};
+ghost use Rattle.deltastep.specs.Search.{IsSearch, top_of, IsBetweenFromReached};
 ghost use Rattle.deltastep.specs.Repair.{AreChanged, AreQueued, AreTails, AreTailsLooked, IsKeptOf, IsLooked};
 
 use crate::distances::{Distances, RowError};
@@ -152,7 +152,7 @@ pub(crate) fn queue_near<Q: BucketQueue>(
     requires kept { IsKeptOf source row.now tentative.now }
     requires search { IsSearch snapshot.now tentative.now map.empty 0 }
     requires empty { Q.entries buckets.old ≡ map.empty }
-    ensures state { IfOk result (λ fit. OnTrue fit ((source : ℕ) → AreReached snapshot.now source tentative.now → IsBetweenBuckets snapshot.now source tentative.now (Q.entries buckets.new))) }
+    ensures state { IfOk result (λ fit. OnTrue fit (IsBetweenFromReached snapshot.now tentative.now (Q.entries buckets.new))) }
     ensures width { OnOk result (Q.width buckets.new ≡ Q.width buckets.old) }
     ensures span { OnOk result (Q.span buckets.new ≡ Q.span buckets.old) }
 {

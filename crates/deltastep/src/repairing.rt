@@ -1,6 +1,6 @@
 //! A row repaired after a change of some arcs.
 
-ghost use Rattle.std.specs.Prelude.{◌≡◌, ℕ, ◌+◌, ◌≤◌, ◌<◌, ◌^◌, ◌⊎◌, ◌↔◌, List, [], ◌∷◌, Option, None, Some, IsTrue, IsSome, OnOk, IfOk, IfSome, All, Contains, length, unwrap_or};
+ghost use Rattle.std.specs.Prelude.{◌≡◌, ℕ, ◌+◌, ◌≤◌, ◌<◌, ◌^◌, ◌⊎◌, ◌↔◌, [], Option, None, Some, IsTrue, IsSome, OnOk, IfOk, IfSome, All, Contains, length, unwrap_or};
 ghost use Rattle.std.specs.FinMap as map;
 ghost use Rattle.std.specs.Bool.{OnTrue, OnFalse};
 ghost use Rattle.roadnet.specs.Net.{Net};
@@ -9,7 +9,7 @@ ghost use Rattle.snapshot.specs.Groups.{IsSnapshotOf, legs_of, IsGrouped};
 ghost use Rattle.snapshot.specs.declared.legs.Leg.{Leg};
 ghost use Rattle.snapshot.specs.declared.legs.Part.{Part};
 ghost use Rattle.relax.specs.Values.{value_at, value_or};
-ghost use Rattle.deltastep.specs.Search.{AreReached, IsBetweenBuckets, IsRelaxed, IsSearch, IsSuited, top_of};
+ghost use Rattle.deltastep.specs.Search.{AreReached, IsBetweenBuckets, IsRelaxed, IsSearch, IsSuited, top_of, IsBetweenFromReached};
 ghost use Rattle.deltastep.specs.Repair.{AreTails, AreQueued, AreChanged, HasLeg, IsLost, IsKeptOf, LeadToLost, AreThereOrLost, AreGoneLost, IsSpread, IsClosedBut, IsThinner, Thins};
 
 use crate::distances::{Distances, RowError};
@@ -343,7 +343,7 @@ fn queue_all_owing<Q: BucketQueue>(
 ) -> Result<bool, RowError>
     requires search { IsSearch snapshot.now tentative.now map.empty 0 }
     requires empty { Q.entries buckets.old ≡ map.empty }
-    ensures state { IfOk result (λ fit. OnTrue fit ((source : ℕ) → AreReached snapshot.now source tentative.now → IsBetweenBuckets snapshot.now source tentative.now (Q.entries buckets.new))) }
+    ensures state { IfOk result (λ fit. OnTrue fit (IsBetweenFromReached snapshot.now tentative.now (Q.entries buckets.new))) }
     ensures width { OnOk result (Q.width buckets.new ≡ Q.width buckets.old) }
     ensures span { OnOk result (Q.span buckets.new ≡ Q.span buckets.old) }
 {

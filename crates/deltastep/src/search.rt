@@ -1,15 +1,15 @@
 //! A search by delta-stepping: bucket after bucket is settled, the least first.
 
-ghost use Rattle.std.specs.Prelude.{◌≡◌, ◌↔◌, ℕ, ◌≤◌, ◌<◌, ◌/◌, ◌*◌, ◌+◌, min, IsTrue, ◌==◌, ◌^◌, List, [], ◌∷◌, ◌++◌, Contains, Option, IfOk, IfSome, OnOk, MatchBool, MatchOption, All, None, Some, replicate, slice_set, length, vec_len};
+ghost use Rattle.std.specs.Prelude.{◌≡◌, ◌↔◌, ℕ, ◌≤◌, ◌<◌, ◌/◌, ◌*◌, ◌+◌, min, IsTrue, ◌==◌, ◌^◌, [], Contains, Option, IfOk, IfSome, OnOk, MatchBool, MatchOption, All, None, Some, replicate, slice_set, length, vec_len};
 ghost use Rattle.std.specs.List.{IsDistinct};
 ghost use Rattle.std.specs.Bool.{OnTrue, OnFalse};
 ghost use Rattle.std.specs.FinMap as map;
 ghost use Rattle.snapshot.specs.Groups.{IsGrouped, legs_of};
 ghost use Rattle.snapshot.specs.declared.legs.Part.TheVariants.{Light, Heavy};
-ghost use Rattle.buckets.specs.Queue.{Entries, TakesLeast};
 ghost use Rattle.relax.specs.Values.{value_or};
 ghost use Rattle.relax.specs.Requests.{requests_of};
-ghost use Rattle.deltastep.specs.Search.{AreLater, AreLive, AreLiveFrom, AreReached, IsBetweenBuckets, EndsPhase, EmptiesBucket, IsSearch, IsRelaxedBut, IsBucketEmpty, AreInBucket, FitsFrom, IsSuited, Suits, top_of, MeetsRequests, requests_by, weight, HasQueued};
+ghost use Rattle.deltastep.specs.Search.{AreLiveFrom, IsBetweenBuckets, EndsPhase, EmptiesBucket, AreInBucket, IsSuited, Suits, top_of, requests_by, weight};
+ghost use Rattle.deltastep.specs.Stepping.{IsUnderWay, IsEmptyAt, IsQueuedAt, OwesOnly, HasWidth, HasRoomFrom, IsBetween, StaysBetween, StaysReached, KeepsInBucket, WeighsNoMore, WeighsLess, KeepsEmpty, KeepsQueued, StaysLive, Meets, MeetsOneMore, QueuesWhere, TakesBucket, TellsWindow, IsBehind, IsOver};
 
 use crate::distances::RowError;
 use crate::remembered::Remembered;
@@ -118,12 +118,12 @@ impl<Q: BucketQueue> Search<Q> {
         _snapshot: &Snapshot,
         taken: &mut Vec<u32>,
     ) -> Result<Option<u64>, RowError>
-        requires suited { IsSuited _snapshot.now (Q.width self.old.buckets) (Q.span self.old.buckets) }
-        ensures taken { IfOk result (λ bucket. MatchOption bucket (Q.entries self.old.buckets ≡ map.empty) (λ bucket. TakesLeast _snapshot.now.delta (Q.entries self.old.buckets) bucket taken.new.items (Q.entries self.new.buckets))) }
-        ensures live { IfOk result (λ bucket. MatchOption bucket (Q.entries self.new.buckets ≡ map.empty) (λ bucket. AreLive _snapshot.now (Q.entries self.old.buckets) → AreLiveFrom _snapshot.now bucket (Q.entries self.old.buckets))) }
-        ensures window { IfOk result (λ bucket. MatchOption bucket (Unit {0}) (λ bucket. FitsFrom (Q.accepts self.new.buckets) _snapshot.now bucket)) }
+        requires suited { HasWidth Q.BucketQueue _snapshot.now self.old }
+        ensures taken { IfOk result (λ bucket. TakesBucket Q.BucketQueue _snapshot.now.delta taken.new.items self.old self.new bucket) }
+        ensures live { IfOk result (λ bucket. TellsWindow Q.BucketQueue _snapshot.now self.old self.new bucket) }
+        ensures window { IfOk result (λ bucket. MatchOption bucket (Unit {0}) (λ bucket. HasRoomFrom Q.BucketQueue _snapshot.now self.new bucket)) }
         ensures tentative { self.new.tentative ≡ self.old.tentative }
-        ensures suited { IsSuited _snapshot.now (Q.width self.new.buckets) (Q.span self.new.buckets) }
+        ensures suited { HasWidth Q.BucketQueue _snapshot.now self.new }
     {
         Ok(self.buckets.take_least_into(taken)?)
     }
@@ -135,9 +135,9 @@ impl<Q: BucketQueue> Search<Q> {
         snapshot: &Snapshot,
         team: &T,
     ) -> Result<(), RowError>
-        requires state { (source : ℕ) × IsBetweenBuckets snapshot.now source self.old.tentative (Q.entries self.old.buckets) }
-        requires suited { IsSuited snapshot.now (Q.width self.old.buckets) (Q.span self.old.buckets) }
-        ensures settled { OnOk result ((source : ℕ) → IsBetweenBuckets snapshot.now source self.old.tentative (Q.entries self.old.buckets) → IsBetweenBuckets snapshot.now source self.new.tentative map.empty) }
+        requires state { (source : ℕ) × IsBetween Q.BucketQueue snapshot.now source self.old }
+        requires suited { HasWidth Q.BucketQueue snapshot.now self.old }
+        ensures settled { OnOk result ((source : ℕ) → IsBetween Q.BucketQueue snapshot.now source self.old → IsBetweenBuckets snapshot.now source self.new.tentative map.empty) }
     {
         let mut remembered = Remembered::new(alloc, snapshot.nodes() as usize + 1)?;
         self.settle_all(alloc, snapshot, team, &mut remembered)
@@ -152,10 +152,10 @@ impl<Q: BucketQueue> Search<Q> {
         team: &T,
         remembered: &mut Remembered,
     ) -> Result<(), RowError>
-        requires state { (source : ℕ) × IsBetweenBuckets snapshot.now source self.old.tentative (Q.entries self.old.buckets) }
-        requires suited { IsSuited snapshot.now (Q.width self.old.buckets) (Q.span self.old.buckets) }
+        requires state { (source : ℕ) × IsBetween Q.BucketQueue snapshot.now source self.old }
+        requires suited { HasWidth Q.BucketQueue snapshot.now self.old }
         requires none { remembered.old ≡ record { limit = snapshot.now.nodes + 1; nodes = [] } }
-        ensures settled { OnOk result ((source : ℕ) → IsBetweenBuckets snapshot.now source self.old.tentative (Q.entries self.old.buckets) → IsBetweenBuckets snapshot.now source self.new.tentative map.empty) }
+        ensures settled { OnOk result ((source : ℕ) → IsBetween Q.BucketQueue snapshot.now source self.old → IsBetweenBuckets snapshot.now source self.new.tentative map.empty) }
     {
         let mut taken = Vec::new(alloc);
         'buckets: while let Some(_bucket) = self.settle_next(
@@ -175,13 +175,13 @@ impl<Q: BucketQueue> Search<Q> {
         taken: &mut Vec<u32>,
         remembered: &mut Remembered,
     ) -> Result<Option<u64>, RowError>
-        requires state { (source : ℕ) × IsBetweenBuckets snapshot.now source self.old.tentative (Q.entries self.old.buckets) }
-        requires suited { IsSuited snapshot.now (Q.width self.old.buckets) (Q.span self.old.buckets) }
+        requires state { (source : ℕ) × IsBetween Q.BucketQueue snapshot.now source self.old }
+        requires suited { HasWidth Q.BucketQueue snapshot.now self.old }
         requires none { remembered.old ≡ record { limit = snapshot.now.nodes + 1; nodes = [] } }
-        ensures state { OnOk result ((source : ℕ) → IsBetweenBuckets snapshot.now source self.old.tentative (Q.entries self.old.buckets) → IsBetweenBuckets snapshot.now source self.new.tentative (Q.entries self.new.buckets)) }
-        ensures later { IfOk result (λ bucket. MatchOption bucket (Q.entries self.new.buckets ≡ map.empty) (λ bucket. AreLater snapshot.now.delta bucket (Q.entries self.new.buckets))) }
-        ensures falls { IfOk result (λ bucket. IfSome bucket (λ _. weight (top_of snapshot.now) self.new.tentative (Q.entries self.new.buckets) < weight (top_of snapshot.now) self.old.tentative (Q.entries self.old.buckets))) }
-        ensures suited { OnOk result (IsSuited snapshot.now (Q.width self.new.buckets) (Q.span self.new.buckets)) }
+        ensures state { OnOk result (StaysBetween Q.BucketQueue snapshot.now self.old self.new) }
+        ensures later { IfOk result (λ bucket. MatchOption bucket (IsOver Q.BucketQueue self.new) (λ bucket. IsBehind Q.BucketQueue snapshot.now.delta bucket self.new)) }
+        ensures falls { IfOk result (λ bucket. IfSome bucket (λ _. WeighsLess Q.BucketQueue (top_of snapshot.now) self.old self.new)) }
+        ensures suited { OnOk result (HasWidth Q.BucketQueue snapshot.now self.new) }
         ensures none { OnOk result (remembered.new ≡ record { limit = snapshot.now.nodes + 1; nodes = [] }) }
     {
         let Some(bucket) = self.take_bucket(snapshot, taken)? else {
@@ -203,19 +203,19 @@ impl<Q: BucketQueue> Search<Q> {
         taken: &mut Vec<u32>,
         remembered: &mut Remembered,
     ) -> Result<(), RowError>
-        requires search { IsSearch snapshot.now self.old.tentative (Q.entries self.old.buckets) bucket }
-        requires light { IsRelaxedBut snapshot.now Light self.old.tentative (Q.entries self.old.buckets) taken.old.items }
-        requires heavy { IsRelaxedBut snapshot.now Heavy self.old.tentative (Q.entries self.old.buckets) taken.old.items }
+        requires search { IsUnderWay Q.BucketQueue snapshot.now self.old bucket }
+        requires light { OwesOnly Q.BucketQueue snapshot.now Light self.old taken.old.items }
+        requires heavy { OwesOnly Q.BucketQueue snapshot.now Heavy self.old taken.old.items }
         requires taken { AreInBucket self.old.tentative snapshot.now.delta bucket taken.old.items }
-        requires emptied { IsBucketEmpty snapshot.now.delta bucket (Q.entries self.old.buckets) }
+        requires emptied { IsEmptyAt Q.BucketQueue snapshot.now.delta bucket self.old }
         requires none { remembered.old ≡ record { limit = snapshot.now.nodes + 1; nodes = [] } }
-        requires window { FitsFrom (Q.accepts self.old.buckets) snapshot.now bucket }
-        requires suited { IsSuited snapshot.now (Q.width self.old.buckets) (Q.span self.old.buckets) }
+        requires window { HasRoomFrom Q.BucketQueue snapshot.now self.old bucket }
+        requires suited { HasWidth Q.BucketQueue snapshot.now self.old }
         ensures settled { OnOk result (EmptiesBucket snapshot.now bucket self.old.tentative self.new.tentative (Q.entries self.new.buckets) []) }
-        ensures weight { OnOk result (weight (top_of snapshot.now) self.new.tentative (Q.entries self.new.buckets) ≤ weight (top_of snapshot.now) self.old.tentative (Q.entries self.old.buckets)) }
+        ensures weight { OnOk result (WeighsNoMore Q.BucketQueue (top_of snapshot.now) self.old self.new) }
         ensures none { OnOk result (remembered.new ≡ record { limit = snapshot.now.nodes + 1; nodes = [] }) }
-        ensures live { OnOk result (AreLiveFrom snapshot.now bucket (Q.entries self.old.buckets) → AreLiveFrom snapshot.now bucket (Q.entries self.new.buckets)) }
-        ensures suited { OnOk result (IsSuited snapshot.now (Q.width self.new.buckets) (Q.span self.new.buckets)) }
+        ensures live { OnOk result (StaysLive Q.BucketQueue snapshot.now bucket self.old self.new) }
+        ensures suited { OnOk result (HasWidth Q.BucketQueue snapshot.now self.new) }
     {
         if is_alone(snapshot, taken) {
             self.relax(alloc, snapshot, team, bucket, taken, Part::Heavy)?;
@@ -245,20 +245,20 @@ impl<Q: BucketQueue> Search<Q> {
         nodes: &mut Vec<u32>,
         remembered: &mut Remembered,
     ) -> Result<(), RowError>
-        requires search { IsSearch snapshot.now self.old.tentative (Q.entries self.old.buckets) bucket }
-        requires light { IsRelaxedBut snapshot.now Light self.old.tentative (Q.entries self.old.buckets) nodes.old.items }
-        requires heavy { IsRelaxedBut snapshot.now Heavy self.old.tentative (Q.entries self.old.buckets) nodes.old.items }
+        requires search { IsUnderWay Q.BucketQueue snapshot.now self.old bucket }
+        requires light { OwesOnly Q.BucketQueue snapshot.now Light self.old nodes.old.items }
+        requires heavy { OwesOnly Q.BucketQueue snapshot.now Heavy self.old nodes.old.items }
         requires nodes { AreInBucket self.old.tentative snapshot.now.delta bucket nodes.old.items }
-        requires emptied { IsBucketEmpty snapshot.now.delta bucket (Q.entries self.old.buckets) }
+        requires emptied { IsEmptyAt Q.BucketQueue snapshot.now.delta bucket self.old }
         requires none { remembered.old ≡ record { limit = snapshot.now.nodes + 1; nodes = [] } }
-        requires window { FitsFrom (Q.accepts self.old.buckets) snapshot.now bucket }
-        requires suited { IsSuited snapshot.now (Q.width self.old.buckets) (Q.span self.old.buckets) }
+        requires window { HasRoomFrom Q.BucketQueue snapshot.now self.old bucket }
+        requires suited { HasWidth Q.BucketQueue snapshot.now self.old }
         ensures emptied { OnOk result (EmptiesBucket snapshot.now bucket self.old.tentative self.new.tentative (Q.entries self.new.buckets) remembered.new.nodes) }
-        ensures weight { OnOk result (weight (top_of snapshot.now) self.new.tentative (Q.entries self.new.buckets) ≤ weight (top_of snapshot.now) self.old.tentative (Q.entries self.old.buckets)) }
+        ensures weight { OnOk result (WeighsNoMore Q.BucketQueue (top_of snapshot.now) self.old self.new) }
         ensures limit { OnOk result (remembered.new.limit ≡ snapshot.now.nodes + 1) }
-        ensures window { OnOk result (FitsFrom (Q.accepts self.new.buckets) snapshot.now bucket) }
-        ensures live { OnOk result (AreLiveFrom snapshot.now bucket (Q.entries self.old.buckets) → AreLiveFrom snapshot.now bucket (Q.entries self.new.buckets)) }
-        ensures suited { OnOk result (IsSuited snapshot.now (Q.width self.new.buckets) (Q.span self.new.buckets)) }
+        ensures window { OnOk result (HasRoomFrom Q.BucketQueue snapshot.now self.new bucket) }
+        ensures live { OnOk result (StaysLive Q.BucketQueue snapshot.now bucket self.old self.new) }
+        ensures suited { OnOk result (HasWidth Q.BucketQueue snapshot.now self.new) }
     {
         'phases: while !nodes.is_empty() {
             remembered.add_all(nodes)?;
@@ -278,19 +278,19 @@ impl<Q: BucketQueue> Search<Q> {
         bucket: u64,
         nodes: &mut Vec<u32>,
     ) -> Result<(), RowError>
-        requires search { IsSearch snapshot.now self.old.tentative (Q.entries self.old.buckets) bucket }
-        requires light { IsRelaxedBut snapshot.now Light self.old.tentative (Q.entries self.old.buckets) nodes.old.items }
+        requires search { IsUnderWay Q.BucketQueue snapshot.now self.old bucket }
+        requires light { OwesOnly Q.BucketQueue snapshot.now Light self.old nodes.old.items }
         requires nodes { AreInBucket self.old.tentative snapshot.now.delta bucket nodes.old.items }
-        requires emptied { IsBucketEmpty snapshot.now.delta bucket (Q.entries self.old.buckets) }
-        requires window { FitsFrom (Q.accepts self.old.buckets) snapshot.now bucket }
-        requires suited { IsSuited snapshot.now (Q.width self.old.buckets) (Q.span self.old.buckets) }
+        requires emptied { IsEmptyAt Q.BucketQueue snapshot.now.delta bucket self.old }
+        requires window { HasRoomFrom Q.BucketQueue snapshot.now self.old bucket }
+        requires suited { HasWidth Q.BucketQueue snapshot.now self.old }
         ensures phase { OnOk result (EndsPhase snapshot.now bucket self.old.tentative (Q.entries self.old.buckets) self.new.tentative (Q.entries self.new.buckets) nodes.new.items) }
-        ensures weight { OnOk result (weight (top_of snapshot.now) self.new.tentative (Q.entries self.new.buckets) ≤ weight (top_of snapshot.now) self.old.tentative (Q.entries self.old.buckets)) }
-        ensures emptied { OnOk result (IsBucketEmpty snapshot.now.delta bucket (Q.entries self.new.buckets)) }
-        ensures falls { OnOk result (0 < vec_len nodes.new → weight (top_of snapshot.now) self.new.tentative (Q.entries self.new.buckets) < weight (top_of snapshot.now) self.old.tentative (Q.entries self.old.buckets)) }
-        ensures window { OnOk result (FitsFrom (Q.accepts self.new.buckets) snapshot.now bucket) }
-        ensures live { OnOk result (AreLiveFrom snapshot.now bucket (Q.entries self.old.buckets) → AreLiveFrom snapshot.now bucket (Q.entries self.new.buckets)) }
-        ensures suited { OnOk result (IsSuited snapshot.now (Q.width self.new.buckets) (Q.span self.new.buckets)) }
+        ensures weight { OnOk result (WeighsNoMore Q.BucketQueue (top_of snapshot.now) self.old self.new) }
+        ensures emptied { OnOk result (IsEmptyAt Q.BucketQueue snapshot.now.delta bucket self.new) }
+        ensures falls { OnOk result (0 < vec_len nodes.new → WeighsLess Q.BucketQueue (top_of snapshot.now) self.old self.new) }
+        ensures window { OnOk result (HasRoomFrom Q.BucketQueue snapshot.now self.new bucket) }
+        ensures live { OnOk result (StaysLive Q.BucketQueue snapshot.now bucket self.old self.new) }
+        ensures suited { OnOk result (HasWidth Q.BucketQueue snapshot.now self.new) }
     {
         if self.relax(alloc, snapshot, team, bucket, nodes, Part::Light)? {
             self.buckets.take_least_into(nodes)?;
@@ -311,21 +311,21 @@ impl<Q: BucketQueue> Search<Q> {
         nodes: &[u32],
         part: Part,
     ) -> Result<bool, RowError>
-        requires search { IsSearch snapshot.now self.old.tentative (Q.entries self.old.buckets) bucket }
+        requires search { IsUnderWay Q.BucketQueue snapshot.now self.old bucket }
         requires nodes { AreInBucket self.old.tentative snapshot.now.delta bucket nodes.now }
         requires once { part ≡ Heavy → IsDistinct (λ a b. a == b) nodes.now }
-        requires window { FitsFrom (Q.accepts self.old.buckets) snapshot.now bucket }
-        requires suited { IsSuited snapshot.now (Q.width self.old.buckets) (Q.span self.old.buckets) }
-        ensures search { OnOk result (IsSearch snapshot.now self.new.tentative (Q.entries self.new.buckets) bucket) }
-        ensures reached { OnOk result ((source : ℕ) → AreReached snapshot.now source self.old.tentative → AreReached snapshot.now source self.new.tentative) }
-        ensures met { OnOk result (MeetsRequests (top_of snapshot.now) (requests_of snapshot.now nodes.now self.old.tentative part) self.old.tentative (Q.entries self.old.buckets) self.new.tentative (Q.entries self.new.buckets)) }
-        ensures stays { OnOk result ((others : List ℕ) → AreInBucket self.old.tentative snapshot.now.delta bucket others → AreInBucket self.new.tentative snapshot.now.delta bucket others) }
-        ensures came_back { IfOk result (λ came_back. OnTrue came_back (HasQueued self.new.tentative (Q.entries self.new.buckets) snapshot.now.delta bucket)) }
-        ensures none_came { IfOk result (λ came_back. OnFalse came_back (IsBucketEmpty snapshot.now.delta bucket (Q.entries self.old.buckets) → IsBucketEmpty snapshot.now.delta bucket (Q.entries self.new.buckets))) }
-        ensures weight { OnOk result (weight (top_of snapshot.now) self.new.tentative (Q.entries self.new.buckets) ≤ weight (top_of snapshot.now) self.old.tentative (Q.entries self.old.buckets)) }
-        ensures window { OnOk result (FitsFrom (Q.accepts self.new.buckets) snapshot.now bucket) }
-        ensures live { OnOk result (AreLiveFrom snapshot.now bucket (Q.entries self.old.buckets) → AreLiveFrom snapshot.now bucket (Q.entries self.new.buckets)) }
-        ensures suited { OnOk result (IsSuited snapshot.now (Q.width self.new.buckets) (Q.span self.new.buckets)) }
+        requires window { HasRoomFrom Q.BucketQueue snapshot.now self.old bucket }
+        requires suited { HasWidth Q.BucketQueue snapshot.now self.old }
+        ensures search { OnOk result (IsUnderWay Q.BucketQueue snapshot.now self.new bucket) }
+        ensures reached { OnOk result (StaysReached snapshot.now self.old self.new) }
+        ensures met { OnOk result (Meets Q.BucketQueue (top_of snapshot.now) (requests_of snapshot.now nodes.now self.old.tentative part) self.old self.new) }
+        ensures stays { OnOk result (KeepsInBucket snapshot.now bucket self.old self.new) }
+        ensures came_back { IfOk result (λ came_back. OnTrue came_back (IsQueuedAt Q.BucketQueue snapshot.now.delta bucket self.new)) }
+        ensures none_came { IfOk result (λ came_back. OnFalse came_back (KeepsEmpty Q.BucketQueue snapshot.now.delta bucket self.old self.new)) }
+        ensures weight { OnOk result (WeighsNoMore Q.BucketQueue (top_of snapshot.now) self.old self.new) }
+        ensures window { OnOk result (HasRoomFrom Q.BucketQueue snapshot.now self.new bucket) }
+        ensures live { OnOk result (StaysLive Q.BucketQueue snapshot.now bucket self.old self.new) }
+        ensures suited { OnOk result (HasWidth Q.BucketQueue snapshot.now self.new) }
         ensures grouped { OnOk result (IsGrouped snapshot.now) }
     {
         let top = top(snapshot);
@@ -349,14 +349,14 @@ impl<Q: BucketQueue> Search<Q> {
         requires top { top ≡ top_of snapshot.now }
         requires small { top ≤ 2 ^ 56 }
         requires grouped { IsGrouped snapshot.now }
-        requires search { IsSearch snapshot.now self.old.tentative (Q.entries self.old.buckets) bucket }
+        requires search { IsUnderWay Q.BucketQueue snapshot.now self.old bucket }
         requires nodes { AreInBucket self.old.tentative snapshot.now.delta bucket nodes.now }
-        requires window { FitsFrom (Q.accepts self.old.buckets) snapshot.now bucket }
+        requires window { HasRoomFrom Q.BucketQueue snapshot.now self.old bucket }
         requires width { Q.width self.old.buckets ≡ snapshot.now.delta }
-        ensures met { OnOk result (MeetsRequests top (requests_of snapshot.now nodes.now self.old.tentative part) self.old.tentative (Q.entries self.old.buckets) self.new.tentative (Q.entries self.new.buckets)) }
-        ensures came_back { IfOk result (λ came_back. OnTrue came_back (HasQueued self.new.tentative (Q.entries self.new.buckets) (Q.width self.old.buckets) bucket)) }
-        ensures none_came { IfOk result (λ came_back. OnFalse came_back (IsBucketEmpty (Q.width self.old.buckets) bucket (Q.entries self.old.buckets) → IsBucketEmpty (Q.width self.old.buckets) bucket (Q.entries self.new.buckets))) }
-        ensures weight { OnOk result (weight top self.new.tentative (Q.entries self.new.buckets) ≤ weight top self.old.tentative (Q.entries self.old.buckets)) }
+        ensures met { OnOk result (Meets Q.BucketQueue top (requests_of snapshot.now nodes.now self.old.tentative part) self.old self.new) }
+        ensures came_back { IfOk result (λ came_back. OnTrue came_back (IsQueuedAt Q.BucketQueue (Q.width self.old.buckets) bucket self.new)) }
+        ensures none_came { IfOk result (λ came_back. OnFalse came_back (KeepsEmpty Q.BucketQueue (Q.width self.old.buckets) bucket self.old self.new)) }
+        ensures weight { OnOk result (WeighsNoMore Q.BucketQueue top self.old self.new) }
         ensures accepts { OnOk result ((v : ℕ) → Q.accepts self.old.buckets v → Q.accepts self.new.buckets v) }
         ensures width { OnOk result (Q.width self.new.buckets ≡ Q.width self.old.buckets) }
         ensures span { OnOk result (Q.span self.new.buckets ≡ Q.span self.old.buckets) }
@@ -382,10 +382,10 @@ impl<Q: BucketQueue> Search<Q> {
         requires fits { All (λ r. Q.accepts self.old.buckets r.1) (requests_by value legs.now) }
         requires above { All (λ r. bucket ≤ r.1 / Q.width self.old.buckets) (requests_by value legs.now) }
         requires small { (top ≤ 2 ^ 56) × (value < 2 ^ 56) }
-        ensures met { OnOk result (MeetsRequests top (requests_by value legs.now) self.old.tentative (Q.entries self.old.buckets) self.new.tentative (Q.entries self.new.buckets)) }
-        ensures came_back { IfOk result (λ came_back. OnTrue came_back (HasQueued self.new.tentative (Q.entries self.new.buckets) (Q.width self.old.buckets) bucket)) }
-        ensures none_came { IfOk result (λ came_back. OnFalse came_back (IsBucketEmpty (Q.width self.old.buckets) bucket (Q.entries self.old.buckets) → IsBucketEmpty (Q.width self.old.buckets) bucket (Q.entries self.new.buckets))) }
-        ensures weight { OnOk result (weight top self.new.tentative (Q.entries self.new.buckets) ≤ weight top self.old.tentative (Q.entries self.old.buckets)) }
+        ensures met { OnOk result (Meets Q.BucketQueue top (requests_by value legs.now) self.old self.new) }
+        ensures came_back { IfOk result (λ came_back. OnTrue came_back (IsQueuedAt Q.BucketQueue (Q.width self.old.buckets) bucket self.new)) }
+        ensures none_came { IfOk result (λ came_back. OnFalse came_back (KeepsEmpty Q.BucketQueue (Q.width self.old.buckets) bucket self.old self.new)) }
+        ensures weight { OnOk result (WeighsNoMore Q.BucketQueue top self.old self.new) }
         ensures accepts { OnOk result ((v : ℕ) → Q.accepts self.old.buckets v → Q.accepts self.new.buckets v) }
         ensures width { OnOk result (Q.width self.new.buckets ≡ Q.width self.old.buckets) }
         ensures span { OnOk result (Q.span self.new.buckets ≡ Q.span self.old.buckets) }
@@ -408,10 +408,10 @@ impl<Q: BucketQueue> Search<Q> {
         requires fits { All (λ r. Q.accepts self.old.buckets r.1) requests.now }
         requires above { All (λ r. bucket ≤ r.1 / Q.width self.old.buckets) requests.now }
         requires small { top ≤ 2 ^ 56 }
-        ensures met { OnOk result (MeetsRequests top requests.now self.old.tentative (Q.entries self.old.buckets) self.new.tentative (Q.entries self.new.buckets)) }
-        ensures came_back { IfOk result (λ came_back. OnTrue came_back (HasQueued self.new.tentative (Q.entries self.new.buckets) (Q.width self.old.buckets) bucket)) }
-        ensures none_came { IfOk result (λ came_back. OnFalse came_back (IsBucketEmpty (Q.width self.old.buckets) bucket (Q.entries self.old.buckets) → IsBucketEmpty (Q.width self.old.buckets) bucket (Q.entries self.new.buckets))) }
-        ensures weight { OnOk result (weight top self.new.tentative (Q.entries self.new.buckets) ≤ weight top self.old.tentative (Q.entries self.old.buckets)) }
+        ensures met { OnOk result (Meets Q.BucketQueue top requests.now self.old self.new) }
+        ensures came_back { IfOk result (λ came_back. OnTrue came_back (IsQueuedAt Q.BucketQueue (Q.width self.old.buckets) bucket self.new)) }
+        ensures none_came { IfOk result (λ came_back. OnFalse came_back (KeepsEmpty Q.BucketQueue (Q.width self.old.buckets) bucket self.old self.new)) }
+        ensures weight { OnOk result (WeighsNoMore Q.BucketQueue top self.old self.new) }
         ensures accepts { OnOk result ((v : ℕ) → Q.accepts self.old.buckets v → Q.accepts self.new.buckets v) }
         ensures width { OnOk result (Q.width self.new.buckets ≡ Q.width self.old.buckets) }
         ensures span { OnOk result (Q.span self.new.buckets ≡ Q.span self.old.buckets) }
@@ -446,11 +446,11 @@ impl<Q: BucketQueue> Search<Q> {
         requires fits { Q.accepts self.old.buckets value }
         requires above { bucket ≤ value / Q.width self.old.buckets }
         requires small { top ≤ 2 ^ 56 }
-        ensures met { OnOk result ((requests : List (ℕ × ℕ)) (first : List (Option ℕ)) (queue : Entries) → MeetsRequests top requests first queue self.old.tentative (Q.entries self.old.buckets) → MeetsRequests top (requests ++ (node, value) ∷ []) first queue self.new.tentative (Q.entries self.new.buckets)) }
-        ensures came_back { IfOk result (λ came_back. OnTrue came_back (HasQueued self.new.tentative (Q.entries self.new.buckets) (Q.width self.old.buckets) bucket)) }
-        ensures stays { OnOk result (HasQueued self.old.tentative (Q.entries self.old.buckets) (Q.width self.old.buckets) bucket → HasQueued self.new.tentative (Q.entries self.new.buckets) (Q.width self.old.buckets) bucket) }
-        ensures none_came { IfOk result (λ came_back. OnFalse came_back (IsBucketEmpty (Q.width self.old.buckets) bucket (Q.entries self.old.buckets) → IsBucketEmpty (Q.width self.old.buckets) bucket (Q.entries self.new.buckets))) }
-        ensures weight { OnOk result (weight top self.new.tentative (Q.entries self.new.buckets) ≤ weight top self.old.tentative (Q.entries self.old.buckets)) }
+        ensures met { OnOk result (MeetsOneMore Q.BucketQueue top (node, value) self.old self.new) }
+        ensures came_back { IfOk result (λ came_back. OnTrue came_back (IsQueuedAt Q.BucketQueue (Q.width self.old.buckets) bucket self.new)) }
+        ensures stays { OnOk result (KeepsQueued Q.BucketQueue (Q.width self.old.buckets) bucket self.old self.new) }
+        ensures none_came { IfOk result (λ came_back. OnFalse came_back (KeepsEmpty Q.BucketQueue (Q.width self.old.buckets) bucket self.old self.new)) }
+        ensures weight { OnOk result (WeighsNoMore Q.BucketQueue top self.old self.new) }
         ensures accepts { OnOk result ((v : ℕ) → Q.accepts self.old.buckets v → Q.accepts self.new.buckets v) }
         ensures width { OnOk result (Q.width self.new.buckets ≡ Q.width self.old.buckets) }
         ensures span { OnOk result (Q.span self.new.buckets ≡ Q.span self.old.buckets) }
@@ -470,7 +470,7 @@ impl<Q: BucketQueue> Search<Q> {
         requires small { top ≤ 2 ^ 56 }
         ensures lowered { IfOk result (λ lowers. MatchBool lowers (value < value_or top self.old.tentative node) (value_or top self.old.tentative node ≤ value)) }
         ensures tentative { IfOk result (λ lowers. MatchBool lowers (self.new.tentative ≡ slice_set self.old.tentative node (Some value)) (self.new.tentative ≡ self.old.tentative)) }
-        ensures queued { IfOk result (λ lowers. MatchBool lowers (Q.entries self.new.buckets ≡ map.insert (Q.entries self.old.buckets) node value) (Q.entries self.new.buckets ≡ Q.entries self.old.buckets)) }
+        ensures queued { IfOk result (λ lowers. QueuesWhere Q.BucketQueue lowers node value self.old self.new) }
         ensures accepts { (v : ℕ) → Q.accepts self.old.buckets v → Q.accepts self.new.buckets v }
         ensures width { Q.width self.new.buckets ≡ Q.width self.old.buckets }
         ensures span { Q.span self.new.buckets ≡ Q.span self.old.buckets }

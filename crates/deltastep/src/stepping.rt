@@ -1,8 +1,8 @@
-ghost use Rattle.std.specs.Prelude.{◌≡◌, ◌+◌, ◌≤◌, ◌<◌, ◌↔◌, [], IfOk, IsTrue, MatchOption};
+ghost use Rattle.std.specs.Prelude.{◌≡◌, ◌+◌, ◌≤◌, ◌↔◌, [], IfOk, IsTrue};
 ghost use Rattle.roadnet.specs.Net.{Net};
 ghost use Rattle.roadnet.specs.Walks.{RowOf};
 ghost use Rattle.snapshot.specs.Groups.{IsSnapshotOf};
-ghost use Rattle.deltastep.specs.Search.{Suits, ring_buckets, most_lists};
+ghost use Rattle.deltastep.specs.Search.{Suits, ring_buckets, IsRingSize};
 
 use crate::distances::{Distances, RowError};
 use crate::remembered::Remembered;
@@ -84,7 +84,7 @@ fn live_buckets(snapshot: &Snapshot) -> u64
 ///
 /// Where the greatest length of an arc is 20, it is 5 for buckets of width 5, and 21 for buckets of width 1.
 pub fn ring_size(snapshot: &Snapshot) -> Option<u32>
-    ensures { MatchOption result (most_lists < ring_buckets snapshot.now.greatest snapshot.now.delta) (λ size. (size ≡ ring_buckets snapshot.now.greatest snapshot.now.delta) × (size ≤ most_lists)) }
+    ensures { IsRingSize snapshot.now.greatest snapshot.now.delta result }
 {
     let size = live_buckets(snapshot);
     if size <= MOST_LISTS {

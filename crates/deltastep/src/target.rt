@@ -3,11 +3,12 @@
 ghost use Rattle.std.specs.Prelude.{◌≡◌, ◌+◌, ◌/◌, ◌≤◌, ◌<◌, ◌↔◌, ℕ, [], None, false, length, replicate, IfOk, IsTrue, OnOk, MatchOption};
 ghost use Rattle.relax.specs.Values.{value_at};
 ghost use Rattle.std.specs.FinMap as map;
-ghost use Rattle.roadnet.specs.Net.{Net, IsNetwork, IsNode};
+ghost use Rattle.roadnet.specs.Net.{Net, IsNetwork};
 ghost use Rattle.roadnet.specs.Reversal.{reversed};
-ghost use Rattle.roadnet.specs.Walks.{Least, NoWalk, distance_at};
 ghost use Rattle.snapshot.specs.Groups.{IsSnapshotOf};
-ghost use Rattle.deltastep.specs.Search.{IsBetweenBuckets, IsFinal, IsSuited, Suits};
+ghost use Rattle.deltastep.specs.Search.{IsFinal, Suits};
+ghost use Rattle.deltastep.specs.Stepping.{HasWidth, IsBetween, StaysBetween};
+ghost use Rattle.deltastep.specs.Reach.{IsDistance, IsRowTo};
 
 use crate::distances::{Distances, RowError};
 use crate::remembered::Remembered;
@@ -32,10 +33,10 @@ impl<Q: BucketQueue> Search<Q> {
         remembered: &mut Remembered,
     ) -> Result<(), RowError>
         requires target { (1 ≤ target) × (target ≤ snapshot.now.nodes) }
-        requires state { (source : ℕ) × IsBetweenBuckets snapshot.now source self.old.tentative (Q.entries self.old.buckets) }
-        requires suited { IsSuited snapshot.now (Q.width self.old.buckets) (Q.span self.old.buckets) }
+        requires state { (source : ℕ) × IsBetween Q.BucketQueue snapshot.now source self.old }
+        requires suited { HasWidth Q.BucketQueue snapshot.now self.old }
         requires none { remembered.old ≡ record { limit = snapshot.now.nodes + 1; nodes = [] } }
-        ensures state { OnOk result ((source : ℕ) → IsBetweenBuckets snapshot.now source self.old.tentative (Q.entries self.old.buckets) → IsBetweenBuckets snapshot.now source self.new.tentative (Q.entries self.new.buckets)) }
+        ensures state { OnOk result (StaysBetween Q.BucketQueue snapshot.now self.old self.new) }
         ensures settled { OnOk result (IsFinal snapshot.now self.new.tentative (Q.entries self.new.buckets) target) }
     {
         let delta = u64::from(snapshot.delta());
@@ -79,7 +80,7 @@ fn distance_with<Q: BucketQueue + Drop, T: Team>(
     requires source { (1 ≤ source) × (source ≤ snapshot.now.nodes) }
     requires target { (1 ≤ target) × (target ≤ snapshot.now.nodes) }
     requires suits { Suits snapshot.now (Q.entries buckets) (Q.accepts buckets) (Q.width buckets) (Q.span buckets) }
-    ensures distance { IfOk result (λ distance. (net : Net) → IsSnapshotOf net snapshot.now → MatchOption distance (NoWalk net source target) (Least net source target)) }
+    ensures distance { IfOk result (λ distance. (net : Net) → IsSnapshotOf net snapshot.now → IsDistance net source target distance) }
 {
     let mut remembered = Remembered::new(alloc, snapshot.nodes() as usize + 1)?;
     let (distance, values, _buckets) = distance_by(
@@ -123,7 +124,7 @@ fn distance_by<Q: BucketQueue + Drop, T: Team>(
     requires target { (1 ≤ target) × (target ≤ snapshot.now.nodes) }
     requires suits { Suits snapshot.now (Q.entries buckets) (Q.accepts buckets) (Q.width buckets) (Q.span buckets) }
     requires none { remembered.old ≡ record { limit = snapshot.now.nodes + 1; nodes = [] } }
-    ensures distance { IfOk result (λ found. (net : Net) → IsSnapshotOf net snapshot.now → MatchOption found.0 (NoWalk net source target) (Least net source target)) }
+    ensures distance { IfOk result (λ found. (net : Net) → IsSnapshotOf net snapshot.now → IsDistance net source target found.0) }
 {
     let mut search = Search::begin(snapshot, source, values, buckets)?;
     search.settle_until(alloc, snapshot, target, team, remembered)?;
@@ -144,7 +145,7 @@ pub fn distance_to<T: Team>(
 ) -> Result<Option<u64>, RowError>
     requires source { (1 ≤ source) × (source ≤ snapshot.now.nodes) }
     requires target { (1 ≤ target) × (target ≤ snapshot.now.nodes) }
-    ensures distance { IfOk result (λ distance. (net : Net) → IsSnapshotOf net snapshot.now → MatchOption distance (NoWalk net source target) (Least net source target)) }
+    ensures distance { IfOk result (λ distance. (net : Net) → IsSnapshotOf net snapshot.now → IsDistance net source target distance) }
 {
     distance_to_in(alloc, snapshot, source, target, team, &mut Workspace::new())
 }
@@ -162,7 +163,7 @@ pub fn distance_to_in<T: Team>(
 ) -> Result<Option<u64>, RowError>
     requires source { (1 ≤ source) × (source ≤ snapshot.now.nodes) }
     requires target { (1 ≤ target) × (target ≤ snapshot.now.nodes) }
-    ensures distance { IfOk result (λ distance. (net : Net) → IsSnapshotOf net snapshot.now → MatchOption distance (NoWalk net source target) (Least net source target)) }
+    ensures distance { IfOk result (λ distance. (net : Net) → IsSnapshotOf net snapshot.now → IsDistance net source target distance) }
 {
     let values = workspace.take_values(alloc, snapshot.nodes())?;
     let Some(size) = ring_size(snapshot) else {
@@ -199,7 +200,7 @@ pub fn row_to<T: Team>(
     team: &T,
 ) -> Result<Distances, RowError>
     requires node { (1 ≤ target) × (target ≤ back.now.nodes) }
-    ensures row { IfOk result (λ row. (net : Net) → IsNetwork net → IsSnapshotOf (reversed net) back.now → (source : ℕ) → IsNode net source → MatchOption (distance_at row source) (NoWalk net source target) (Least net source target)) }
+    ensures row { IfOk result (λ row. (net : Net) → IsNetwork net → IsSnapshotOf (reversed net) back.now → IsRowTo net target row) }
 {
     row(alloc, back, target, team)
 }

@@ -147,6 +147,7 @@ impl Tentative {
     }
 
     /// Gives a node this value, which is below 2^64 - 1.
+    #[inline(always)]
     pub fn set(&mut self, node: u32, value: u64)
         requires node { (1 ≤ node) × (node < length self.old) }
         requires value { value < no_value }

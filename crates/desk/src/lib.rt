@@ -4,6 +4,7 @@
 
 mod attempts;
 mod awaited;
+mod bounds;
 mod building;
 mod desks;
 mod flushing;
@@ -26,6 +27,7 @@ mod sights;
 mod states;
 mod threads;
 
+pub use bounds::{ServeRuntime, ServedDisk, ServedGate, ServedNaming};
 pub use desks::{Desk, Setup};
 pub use gates::{Gate, NoGate};
 pub use handles::Handle;

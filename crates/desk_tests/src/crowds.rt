@@ -3,9 +3,13 @@ ghost use Rattle.std.specs.Prelude.{◌≡◌, ◌<◌, true};
 ghost use Rattle.store.specs.State.{CameTidy, is_calm};
 ghost use Rattle.desk.specs.Openings.{IsNewDesk};
 
-use crate::desks::{network, setup};
-use desk::{Closed, Desk, Handle, History, Naming, NoGate, Reader, Receipt};
+use crate::desks::setup;
+use desk::{
+    Closed, Desk, Handle, History, Naming, NoGate, Reader, Receipt, ServeRuntime, ServedDisk,
+    ServedNaming,
+};
 use disk::{Disk, MemDisk};
+use fixtures::network;
 use roadnet::{Command, Group, Refusal};
 use rows::Reply;
 use std::alloc::Global;
@@ -181,11 +185,7 @@ fn each_at_once<T: Sync, X: Send + Drop, R: Threads + Sync, F: Fn(&T, usize) -> 
 }
 
 /// What all note, each in a thread of its own.
-fn all_at_once<
-    N: Naming + Send + Sync + 'static,
-    D: Disk + Drop + Send + 'static,
-    R: Threads + Wait + Clock + Copy + Send + Sync + 'static,
->(
+fn all_at_once<N: ServedNaming, D: ServedDisk, R: ServeRuntime>(
     rt: &R,
     alloc: Global,
     desk: &Handle<N, D, NoGate, R>,
@@ -273,11 +273,7 @@ fn all_agree<N: Naming, D: Disk>(closed: &Closed<D>, made: &[Result<Noted<N>, Re
 }
 
 /// How many groups the closed desk has, and whether all agrees with them.
-fn agreed<
-    N: Naming + Send + Sync + 'static,
-    D: Disk + Drop + Send + 'static,
-    R: Threads + Wait + Clock + Copy + Send + Sync + 'static,
->(
+fn agreed<N: ServedNaming, D: ServedDisk, R: ServeRuntime>(
     desk: Desk<N, D, NoGate, R>,
     made: Vec<Result<Noted<N>, Refusal>>,
 ) -> Result<(usize, bool), Refusal> {
@@ -287,11 +283,12 @@ fn agreed<
 }
 
 /// Callers settle and readers look, all at once; the desk is closed behind them. Told is how many groups there were, and whether all agrees.
-fn crowd<
-    N: Naming + Send + Sync + 'static,
-    D: Disk + Drop + Send + 'static,
-    R: Threads + Wait + Clock + Copy + Send + Sync + 'static,
->(rt: R, alloc: Global, history: History, store: Store<D>) -> Result<(usize, bool), Refusal>
+fn crowd<N: ServedNaming, D: ServedDisk, R: ServeRuntime>(
+    rt: R,
+    alloc: Global,
+    history: History,
+    store: Store<D>,
+) -> Result<(usize, bool), Refusal>
     requires calm { is_calm store ≡ true }
     requires new { IsNewDesk N.origin history store }
     requires came_tidy { N.came_tidy → CameTidy D.honest D.content store.given }

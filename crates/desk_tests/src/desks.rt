@@ -2,9 +2,13 @@ ghost use Rattle.std.specs.Prelude.{◌≡◌, ◌≤◌, None, true, IfOk};
 ghost use Rattle.store.specs.State.{CameTidy, is_calm};
 ghost use Rattle.desk.specs.Openings.{IsNewDesk};
 
-use desk::{Desk, Gate, History, Naming, NoGate, Reader, Receipt, Setup, Shown, Ticket};
+use desk::{
+    Desk, Gate, History, Naming, NoGate, Reader, Receipt, ServeRuntime, ServedDisk, ServedGate,
+    ServedNaming, Setup, Shown, Ticket,
+};
 use disk::{Disk, MemDisk};
-use roadnet::{Command, Network, Refusal, RoadArc};
+use fixtures::six_with;
+use roadnet::{Command, Network, Refusal};
 use rows::Reply;
 use std::alloc::Global;
 use std::marker::Brand;
@@ -18,43 +22,6 @@ pub(crate) const CLOSE: Command = Command::Close { arc: 7 };
 
 pub(crate) const SHORTER: Command = Command::Set { arc: 8, length: 4 };
 
-/// The network of these open arcs, each given by tail, head and length, with these landmarks.
-pub(crate) fn network(
-    alloc: Global,
-    nodes: u32,
-    table: &[(u32, u32, u32)],
-    landmarks: &[u32],
-) -> Result<Network, Refusal> {
-    let mut arcs = Vec::new(alloc);
-    for &(tail, head, length) in table {
-        let arc = RoadArc {
-            tail,
-            head,
-            length,
-            opened: true,
-        };
-        if arcs.push(arc).is_err() {
-            return Err(Refusal::OutOfMemory);
-        }
-    }
-    Network::new(alloc, nodes, arcs, landmarks)
-}
-
-/// The network of the worked rows: six nodes and eight arcs.
-pub(crate) fn six(alloc: Global, landmarks: &[u32]) -> Result<Network, Refusal> {
-    let table = [
-        (1, 2, 17),
-        (1, 3, 10),
-        (2, 4, 2),
-        (3, 5, 0),
-        (4, 3, 0),
-        (4, 6, 3),
-        (5, 2, 0),
-        (5, 6, 20),
-    ];
-    network(alloc, 6, &table, landmarks)
-}
-
 /// A new store of the network of the worked rows, with so many pages of its journal.
 pub(crate) fn store_of_six(
     alloc: Global,
@@ -65,7 +32,7 @@ pub(crate) fn store_of_six(
     requires few { journal_pages ≤ 65536 }
     ensures calm { IfOk result (λ store. is_calm store ≡ true) }
 {
-    let network = six(alloc, landmarks)?;
+    let network = six_with(alloc, landmarks)?;
     match create(alloc, MemDisk::new(alloc), &network, journal_pages) {
         Ok(store) => Ok(store),
         Err((refusal, _)) => Err(refusal),
@@ -97,12 +64,10 @@ pub(crate) fn seen<N: Naming, R: Threads>(
 }
 
 /// A receipt for the command.
-pub(crate) fn settled<
-    N: Naming + Send + Sync + 'static,
-    D: Disk + Drop + Send + 'static,
-    G: Gate + Drop + Send + Sync + 'static,
-    R: Threads + Wait + Clock + Copy + Send + Sync + 'static,
->(desk: &Desk<N, D, G, R>, command: Command) -> Result<Receipt, Refusal>
+pub(crate) fn settled<N: ServedNaming, D: ServedDisk, G: ServedGate, R: ServeRuntime>(
+    desk: &Desk<N, D, G, R>,
+    command: Command,
+) -> Result<Receipt, Refusal>
     ensures { IfOk result (λ receipt. receipt.origin ≡ N.origin) }
 {
     match desk.settle(desk.submit(command)?) {
@@ -120,12 +85,10 @@ pub(crate) fn refusal_of<T: Drop>(answer: Result<T, Refusal>) -> Result<(), Refu
 }
 
 /// The number of the command that is settled.
-pub(crate) fn settled_number<
-    N: Naming + Send + Sync + 'static,
-    D: Disk + Drop + Send + 'static,
-    G: Gate + Drop + Send + Sync + 'static,
-    R: Threads + Wait + Clock + Copy + Send + Sync + 'static,
->(desk: &Desk<N, D, G, R>, ticket: Ticket) -> Result<u64, Refusal>
+pub(crate) fn settled_number<N: ServedNaming, D: ServedDisk, G: ServedGate, R: ServeRuntime>(
+    desk: &Desk<N, D, G, R>,
+    ticket: Ticket,
+) -> Result<u64, Refusal>
     requires { ticket.origin ≡ N.origin }
 {
     match desk.settle(ticket) {
@@ -138,12 +101,10 @@ pub(crate) fn settled_number<
 pub(crate) type Told = (Result<u64, Refusal>, Result<(), Refusal>);
 
 /// What is answered of the ticket's command.
-pub(crate) fn told_of<
-    N: Naming + Send + Sync + 'static,
-    D: Disk + Drop + Send + 'static,
-    G: Gate + Drop + Send + Sync + 'static,
-    R: Threads + Wait + Clock + Copy + Send + Sync + 'static,
->(desk: &Desk<N, D, G, R>, ticket: Ticket) -> Told
+pub(crate) fn told_of<N: ServedNaming, D: ServedDisk, G: ServedGate, R: ServeRuntime>(
+    desk: &Desk<N, D, G, R>,
+    ticket: Ticket,
+) -> Told
     requires { ticket.origin ≡ N.origin }
 {
     let shown = refusal_of(desk.wait_shown(&ticket));
@@ -152,24 +113,19 @@ pub(crate) fn told_of<
 }
 
 /// Closes the desk. How many commands it was left with is told beside the other.
-pub(crate) fn ended<
-    N: Naming + Send + Sync + 'static,
-    D: Disk + Drop + Send + 'static,
-    G: Gate + Drop + Send + Sync + 'static,
-    T: Drop,
-    R: Threads + Wait + Clock + Copy + Send + Sync + 'static,
->(desk: Desk<N, D, G, R>, told: Result<T, Refusal>) -> Result<(T, usize), Refusal> {
+pub(crate) fn ended<N: ServedNaming, D: ServedDisk, G: ServedGate, T: Drop, R: ServeRuntime>(
+    desk: Desk<N, D, G, R>,
+    told: Result<T, Refusal>,
+) -> Result<(T, usize), Refusal> {
     let closed = desk.close()?;
     let count = closed.history.len();
     Ok((told?, count))
 }
 
 /// A command is settled, and what is shown with it.
-fn written<
-    N: Naming + Send + Sync + 'static,
-    D: Disk + Drop + Send + 'static,
-    R: Threads + Wait + Clock + Copy + Send + Sync + 'static,
->(desk: &Desk<N, D, NoGate, R>) -> Result<Shown, Refusal>
+fn written<N: ServedNaming, D: ServedDisk, R: ServeRuntime>(
+    desk: &Desk<N, D, NoGate, R>,
+) -> Result<Shown, Refusal>
     ensures { IfOk result (λ shown. shown.origin ≡ N.origin) }
 {
     let receipt = settled(desk, CLOSE)?;
@@ -177,11 +133,10 @@ fn written<
 }
 
 /// A command is settled and shown, and the reader learns of it.
-fn write_and_learn<
-    N: Naming + Send + Sync + 'static,
-    D: Disk + Drop + Send + 'static,
-    R: Threads + Wait + Clock + Copy + Send + Sync + 'static,
->(desk: &Desk<N, D, NoGate, R>, reader: &mut Reader<N>) -> Result<(), Refusal> {
+fn write_and_learn<N: ServedNaming, D: ServedDisk, R: ServeRuntime>(
+    desk: &Desk<N, D, NoGate, R>,
+    reader: &mut Reader<N>,
+) -> Result<(), Refusal> {
     let shown = written(desk)?;
     reader.learn(&shown);
     Ok(())
@@ -191,11 +146,7 @@ fn write_and_learn<
 type Read = ((u64, Reply), (u64, Reply));
 
 /// A command is settled and shown; a reader that learns of it sees it.
-fn write_and_read<
-    N: Naming + Send + Sync + 'static,
-    D: Disk + Drop + Send + 'static,
-    R: Threads + Wait + Clock + Copy + Send + Sync + 'static,
->(
+fn write_and_read<N: ServedNaming, D: ServedDisk, R: ServeRuntime>(
     rt: &R,
     alloc: Global,
     desk: &Desk<N, D, NoGate, R>,
@@ -208,21 +159,22 @@ fn write_and_read<
 }
 
 /// The same by a reader of its own.
-fn read_once<
-    N: Naming + Send + Sync + 'static,
-    D: Disk + Drop + Send + 'static,
-    R: Threads + Wait + Clock + Copy + Send + Sync + 'static,
->(rt: &R, alloc: Global, desk: &Desk<N, D, NoGate, R>) -> Result<Read, Refusal> {
+fn read_once<N: ServedNaming, D: ServedDisk, R: ServeRuntime>(
+    rt: &R,
+    alloc: Global,
+    desk: &Desk<N, D, NoGate, R>,
+) -> Result<Read, Refusal> {
     let mut reader = desk.reader()?;
     write_and_read(rt, alloc, desk, &mut reader)
 }
 
 /// A command is written and read, and the desk is closed behind it.
-fn settle_and_read<
-    N: Naming + Send + Sync + 'static,
-    D: Disk + Drop + Send + 'static,
-    R: Threads + Wait + Clock + Copy + Send + Sync + 'static,
->(rt: R, alloc: Global, history: History, store: Store<D>) -> Result<(Read, usize), Refusal>
+fn settle_and_read<N: ServedNaming, D: ServedDisk, R: ServeRuntime>(
+    rt: R,
+    alloc: Global,
+    history: History,
+    store: Store<D>,
+) -> Result<(Read, usize), Refusal>
     requires calm { is_calm store ≡ true }
     requires new { IsNewDesk N.origin history store }
     requires came_tidy { N.came_tidy → CameTidy D.honest D.content store.given }

@@ -4,7 +4,10 @@ ghost use Rattle.store.specs.State.{CameTidy, is_calm};
 ghost use Rattle.desk.specs.Openings.{IsNewDesk};
 
 use crate::desks::{CLOSE, ended, refusal_of, settled, setup, store_of_six};
-use desk::{Desk, Gate, History, Naming, NoGate, Pinned, Reader};
+use desk::{
+    Desk, Gate, History, Naming, NoGate, Pinned, Reader, ServeRuntime, ServedDisk, ServedGate,
+    ServedNaming,
+};
 use disk::Disk;
 use roadnet::Refusal;
 use rows::Reply;
@@ -17,23 +20,15 @@ use std::time::Clock;
 use store::Store;
 
 /// A reader of a desk that has one command, which may be pending.
-fn reader_behind_one<
-    N: Naming + Send + Sync + 'static,
-    D: Disk + Drop + Send + 'static,
-    G: Gate + Drop + Send + Sync + 'static,
-    R: Threads + Wait + Clock + Copy + Send + Sync + 'static,
->(desk: &Desk<N, D, G, R>) -> Result<Reader<N>, Refusal> {
+fn reader_behind_one<N: ServedNaming, D: ServedDisk, G: ServedGate, R: ServeRuntime>(
+    desk: &Desk<N, D, G, R>,
+) -> Result<Reader<N>, Refusal> {
     desk.submit(CLOSE)?;
     desk.reader()
 }
 
 /// A desk is let go with a command pending. Its reader can't look then.
-fn let_go<
-    N: Naming + Send + Sync + 'static,
-    D: Disk + Drop + Send + 'static,
-    G: Gate + Drop + Send + Sync + 'static,
-    R: Threads + Wait + Clock + Copy + Send + Sync + 'static,
->(
+fn let_go<N: ServedNaming, D: ServedDisk, G: ServedGate, R: ServeRuntime>(
     rt: R,
     alloc: Global,
     history: History,
@@ -78,11 +73,7 @@ fn asked<N: Naming, R: Threads>(
 type Outlived = ((u64, Reply), usize);
 
 /// A command is settled, and the desk is closed behind it. The pin answers then.
-fn close_beside<
-    N: Naming + Send + Sync + 'static,
-    D: Disk + Drop + Send + 'static,
-    R: Threads + Wait + Clock + Copy + Send + Sync + 'static,
->(
+fn close_beside<N: ServedNaming, D: ServedDisk, R: ServeRuntime>(
     rt: &R,
     alloc: Global,
     desk: Desk<N, D, NoGate, R>,
@@ -94,11 +85,7 @@ fn close_beside<
 }
 
 /// The reader pins, and the desk is closed.
-fn pin_and_close<
-    N: Naming + Send + Sync + 'static,
-    D: Disk + Drop + Send + 'static,
-    R: Threads + Wait + Clock + Copy + Send + Sync + 'static,
->(
+fn pin_and_close<N: ServedNaming, D: ServedDisk, R: ServeRuntime>(
     rt: &R,
     alloc: Global,
     desk: Desk<N, D, NoGate, R>,
@@ -109,11 +96,7 @@ fn pin_and_close<
 }
 
 /// What the pin answers, and what the reader is told when it looks again.
-fn look_behind_close<
-    N: Naming + Send + Sync + 'static,
-    D: Disk + Drop + Send + 'static,
-    R: Threads + Wait + Clock + Copy + Send + Sync + 'static,
->(
+fn look_behind_close<N: ServedNaming, D: ServedDisk, R: ServeRuntime>(
     rt: &R,
     alloc: Global,
     desk: Desk<N, D, NoGate, R>,
@@ -124,11 +107,7 @@ fn look_behind_close<
 }
 
 /// The desk is closed while a reader holds a pin, which goes on to answer. The reader can't look again.
-fn close_beside_a_pin<
-    N: Naming + Send + Sync + 'static,
-    D: Disk + Drop + Send + 'static,
-    R: Threads + Wait + Clock + Copy + Send + Sync + 'static,
->(
+fn close_beside_a_pin<N: ServedNaming, D: ServedDisk, R: ServeRuntime>(
     rt: R,
     alloc: Global,
     history: History,

@@ -3,9 +3,12 @@ ghost use Rattle.std.specs.Prelude.{◌≡◌, true};
 ghost use Rattle.store.specs.State.{CameTidy, is_calm};
 ghost use Rattle.desk.specs.Openings.{IsNewDesk};
 
-use crate::desks::{CLOSE, SHORTER, Told, seen, settled, setup, six, store_of_six, told_of};
-use desk::{Closed, Desk, History, Naming, NoGate, Reader, Receipt};
+use crate::desks::{CLOSE, SHORTER, Told, seen, settled, setup, store_of_six, told_of};
+use desk::{
+    Closed, Desk, History, Naming, NoGate, Reader, Receipt, ServeRuntime, ServedDisk, ServedNaming,
+};
 use disk::{Disk, FailOnce, MemDisk, Pick, Stoppable};
+use fixtures::six_with;
 use roadnet::{Group, Network, Refusal};
 use rows::Reply;
 use std::alloc::Global;
@@ -28,11 +31,11 @@ struct Left<D: Disk> {
 }
 
 /// Waits until the receipt's command is shown, and tells the reader.
-fn show_to<
-    N: Naming + Send + Sync + 'static,
-    D: Disk + Drop + Send + 'static,
-    R: Threads + Wait + Clock + Copy + Send + Sync + 'static,
->(desk: &Desk<N, D, NoGate, R>, receipt: &Receipt, reader: &mut Reader<N>) -> Result<(), Refusal>
+fn show_to<N: ServedNaming, D: ServedDisk, R: ServeRuntime>(
+    desk: &Desk<N, D, NoGate, R>,
+    receipt: &Receipt,
+    reader: &mut Reader<N>,
+) -> Result<(), Refusal>
     requires { receipt.now.origin ≡ N.origin }
 {
     let shown = desk.wait_shown(receipt.ticket())?;
@@ -41,21 +44,15 @@ fn show_to<
 }
 
 /// What is answered of one command more.
-fn try_second<
-    N: Naming + Send + Sync + 'static,
-    D: Disk + Drop + Send + 'static,
-    R: Threads + Wait + Clock + Copy + Send + Sync + 'static,
->(desk: &Desk<N, D, NoGate, R>) -> Result<Told, Refusal> {
+fn try_second<N: ServedNaming, D: ServedDisk, R: ServeRuntime>(
+    desk: &Desk<N, D, NoGate, R>,
+) -> Result<Told, Refusal> {
     let ticket = desk.submit(SHORTER)?;
     Ok(told_of(desk, ticket))
 }
 
 /// The disk fails under a command; the reader pins behind it.
-fn fail_beside<
-    N: Naming + Send + Sync + 'static,
-    D: Disk + Drop + Send + 'static,
-    R: Threads + Wait + Clock + Copy + Send + Sync + 'static,
->(
+fn fail_beside<N: ServedNaming, D: ServedDisk, R: ServeRuntime>(
     rt: &R,
     alloc: Global,
     desk: &Desk<N, D, NoGate, R>,
@@ -66,11 +63,12 @@ fn fail_beside<
 }
 
 /// A reader is shown the first command, and the disk fails under the second.
-fn fail_behind<
-    N: Naming + Send + Sync + 'static,
-    D: Disk + Drop + Send + 'static,
-    R: Threads + Wait + Clock + Copy + Send + Sync + 'static,
->(rt: &R, alloc: Global, desk: &Desk<N, D, NoGate, R>, first: &Receipt) -> Result<Failed, Refusal>
+fn fail_behind<N: ServedNaming, D: ServedDisk, R: ServeRuntime>(
+    rt: &R,
+    alloc: Global,
+    desk: &Desk<N, D, NoGate, R>,
+    first: &Receipt,
+) -> Result<Failed, Refusal>
     requires { first.now.origin ≡ N.origin }
 {
     let mut reader = desk.reader()?;
@@ -79,11 +77,10 @@ fn fail_behind<
 }
 
 /// Closes the desk, and asks for the receipt's command.
-fn left_of<
-    N: Naming + Send + Sync + 'static,
-    D: Disk + Drop + Send + 'static,
-    R: Threads + Wait + Clock + Copy + Send + Sync + 'static,
->(desk: Desk<N, D, NoGate, R>, first: &Receipt) -> Result<Left<D>, Refusal>
+fn left_of<N: ServedNaming, D: ServedDisk, R: ServeRuntime>(
+    desk: Desk<N, D, NoGate, R>,
+    first: &Receipt,
+) -> Result<Left<D>, Refusal>
     requires { first.now.origin ≡ N.origin }
 {
     let closed = desk.close()?;
@@ -103,11 +100,7 @@ fn left_of<
 }
 
 /// The desk is closed behind a command under which the disk failed.
-fn fail_and_close<
-    N: Naming + Send + Sync + 'static,
-    D: Disk + Drop + Send + 'static,
-    R: Threads + Wait + Clock + Copy + Send + Sync + 'static,
->(
+fn fail_and_close<N: ServedNaming, D: ServedDisk, R: ServeRuntime>(
     rt: &R,
     alloc: Global,
     desk: Desk<N, D, NoGate, R>,
@@ -121,11 +114,12 @@ fn fail_and_close<
 }
 
 /// Of two commands the first is settled, and the disk fails under the second.
-fn fail_second<
-    N: Naming + Send + Sync + 'static,
-    D: Disk + Drop + Send + 'static,
-    R: Threads + Wait + Clock + Copy + Send + Sync + 'static,
->(rt: R, alloc: Global, history: History, store: Store<D>) -> Result<(Failed, Left<D>), Refusal>
+fn fail_second<N: ServedNaming, D: ServedDisk, R: ServeRuntime>(
+    rt: R,
+    alloc: Global,
+    history: History,
+    store: Store<D>,
+) -> Result<(Failed, Left<D>), Refusal>
     requires calm { is_calm store ≡ true }
     requires new { IsNewDesk N.origin history store }
     requires came_tidy { N.came_tidy → CameTidy D.honest D.content store.given }
@@ -136,7 +130,7 @@ fn fail_second<
 }
 
 /// The same over a disk that fails in this call.
-fn fail_at<R: Threads + Wait + Clock + Copy + Send + Sync + 'static>(
+fn fail_at<R: ServeRuntime>(
     rt: R,
     alloc: Global,
     call: u64,
@@ -153,7 +147,7 @@ fn fail_at<R: Threads + Wait + Clock + Copy + Send + Sync + 'static>(
 
 /// The network of the worked rows after these groups.
 fn after_these(alloc: Global, groups: &[Group]) -> Result<Network, Refusal> {
-    let mut network = six(alloc, &[3])?;
+    let mut network = six_with(alloc, &[3])?;
     for group in groups {
         network.apply_group(group)?;
     }

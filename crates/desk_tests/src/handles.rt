@@ -3,9 +3,13 @@ ghost use Rattle.std.specs.Prelude.{◌≡◌, ◌≤◌, true, IfOk};
 ghost use Rattle.store.specs.State.{CameTidy, is_calm};
 ghost use Rattle.desk.specs.Openings.{IsNewDesk};
 
-use crate::desks::{CLOSE, network, refusal_of, setup, store_of_six};
-use desk::{Desk, Glance, Handle, History, Naming, NoGate, Place, Ticket};
+use crate::desks::{CLOSE, refusal_of, setup, store_of_six};
+use desk::{
+    Desk, Glance, Handle, History, Naming, NoGate, Place, ServeRuntime, ServedDisk, ServedNaming,
+    Ticket,
+};
 use disk::{Disk, MemDisk};
+use fixtures::network;
 use roadnet::{Command, OutOfMemory, Refusal};
 use rows::Reply;
 use std::alloc::Global;
@@ -57,11 +61,7 @@ fn each_call<N: Naming, D: Disk + Drop, R: Wait + Copy>(
 }
 
 /// A desk is closed while a handle of it is held, with a ticket and a place. How many commands it was left with is told beside what the handle is told then.
-fn close_beside_place<
-    N: Naming + Send + Sync + 'static,
-    D: Disk + Drop + Send + 'static,
-    R: Threads + Wait + Clock + Copy + Send + Sync + 'static,
->(
+fn close_beside_place<N: ServedNaming, D: ServedDisk, R: ServeRuntime>(
     desk: Desk<N, D, NoGate, R>,
     handle: &Handle<N, D, NoGate, R>,
     place: &mut Place<N>,
@@ -72,11 +72,12 @@ fn close_beside_place<
 }
 
 /// The same of a new desk.
-fn close_beside<
-    N: Naming + Send + Sync + 'static,
-    D: Disk + Drop + Send + 'static,
-    R: Threads + Wait + Clock + Copy + Send + Sync + 'static,
->(rt: R, alloc: Global, history: History, store: Store<D>) -> Result<(Refused, usize), Refusal>
+fn close_beside<N: ServedNaming, D: ServedDisk, R: ServeRuntime>(
+    rt: R,
+    alloc: Global,
+    history: History,
+    store: Store<D>,
+) -> Result<(Refused, usize), Refusal>
     requires calm { is_calm store ≡ true }
     requires new { IsNewDesk N.origin history store }
     requires came_tidy { N.came_tidy → CameTidy D.honest D.content store.given }
@@ -191,22 +192,21 @@ fn ask_both<N: Naming, D: Disk + Drop, R: Threads + Wait + Copy>(
 }
 
 /// The same by a desk's own handle and another one.
-fn ask_in_turn<
-    N: Naming + Send + Sync + 'static,
-    D: Disk + Drop + Send + 'static,
-    R: Threads + Wait + Clock + Copy + Send + Sync + 'static,
->(desk: &Desk<N, D, NoGate, R>) -> Result<[bool; 4], Refusal> {
+fn ask_in_turn<N: ServedNaming, D: ServedDisk, R: ServeRuntime>(
+    desk: &Desk<N, D, NoGate, R>,
+) -> Result<[bool; 4], Refusal> {
     let other = desk.handle().again()?;
     let mut place = other.place()?;
     ask_both(desk.handle(), &other, &mut place)
 }
 
 /// The same, with a desk that is closed behind it.
-fn ask_by_handles<
-    N: Naming + Send + Sync + 'static,
-    D: Disk + Drop + Send + 'static,
-    R: Threads + Wait + Clock + Copy + Send + Sync + 'static,
->(rt: R, alloc: Global, history: History, store: Store<D>) -> Result<[bool; 4], Refusal>
+fn ask_by_handles<N: ServedNaming, D: ServedDisk, R: ServeRuntime>(
+    rt: R,
+    alloc: Global,
+    history: History,
+    store: Store<D>,
+) -> Result<[bool; 4], Refusal>
     requires calm { is_calm store ≡ true }
     requires new { IsNewDesk N.origin history store }
     requires came_tidy { N.came_tidy → CameTidy D.honest D.content store.given }

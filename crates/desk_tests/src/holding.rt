@@ -4,7 +4,9 @@ ghost use Rattle.store.specs.State.{CameTidy, is_calm};
 ghost use Rattle.desk.specs.Openings.{IsNewDesk};
 
 use crate::desks::{CLOSE, SHORTER, ended, seen, settled, setup, store_of_six};
-use desk::{Desk, Gate, History, Naming, Reader};
+use desk::{
+    Desk, Gate, History, Naming, Reader, ServeRuntime, ServedDisk, ServedGate, ServedNaming,
+};
 use disk::Disk;
 use roadnet::Refusal;
 use rows::Reply;
@@ -131,24 +133,21 @@ fn are_called<R: Clock>(rt: &R, signals: &Signals) -> bool {
 }
 
 /// A submit returns while the flusher is held.
-fn submit_first<
-    N: Naming + Send + Sync + 'static,
-    D: Disk + Drop + Send + 'static,
-    G: Gate + Drop + Send + Sync + 'static,
-    R: Threads + Wait + Clock + Copy + Send + Sync + 'static,
->(desk: &Desk<N, D, G, R>, signals: &Signals) -> Result<(), Refusal> {
+fn submit_first<N: ServedNaming, D: ServedDisk, G: ServedGate, R: ServeRuntime>(
+    desk: &Desk<N, D, G, R>,
+    signals: &Signals,
+) -> Result<(), Refusal> {
     desk.submit(CLOSE)?;
     signals.submitted.store(true, Ordering::SeqCst);
     Ok(())
 }
 
 /// Both row workers are called behind a submit, and a command more is settled while they are held.
-fn settle_beside_rows<
-    N: Naming + Send + Sync + 'static,
-    D: Disk + Drop + Send + 'static,
-    G: Gate + Drop + Send + Sync + 'static,
-    R: Threads + Wait + Clock + Copy + Send + Sync + 'static,
->(rt: &R, desk: &Desk<N, D, G, R>, signals: &Signals) -> Result<(), Refusal> {
+fn settle_beside_rows<N: ServedNaming, D: ServedDisk, G: ServedGate, R: ServeRuntime>(
+    rt: &R,
+    desk: &Desk<N, D, G, R>,
+    signals: &Signals,
+) -> Result<(), Refusal> {
     submit_first(desk, signals)?;
     if !are_called(rt, signals) {
         return Err(Refusal::NoThread);
@@ -158,12 +157,7 @@ fn settle_beside_rows<
 }
 
 /// A command is submitted; the answer is the distance in the version that comes with it.
-fn submit_and_watch<
-    N: Naming + Send + Sync + 'static,
-    D: Disk + Drop + Send + 'static,
-    G: Gate + Drop + Send + Sync + 'static,
-    R: Threads + Wait + Clock + Copy + Send + Sync + 'static,
->(
+fn submit_and_watch<N: ServedNaming, D: ServedDisk, G: ServedGate, R: ServeRuntime>(
     rt: &R,
     alloc: Global,
     desk: &Desk<N, D, G, R>,
@@ -175,12 +169,12 @@ fn submit_and_watch<
 }
 
 /// Whether the distance is 14 in each version: they come one after the other, without a call of the desk that asks for them.
-fn watch_on<
-    N: Naming + Send + Sync + 'static,
-    D: Disk + Drop + Send + 'static,
-    G: Gate + Drop + Send + Sync + 'static,
-    R: Threads + Wait + Clock + Copy + Send + Sync + 'static,
->(rt: &R, alloc: Global, desk: &Desk<N, D, G, R>, reader: &mut Reader<N>) -> Result<bool, Refusal> {
+fn watch_on<N: ServedNaming, D: ServedDisk, G: ServedGate, R: ServeRuntime>(
+    rt: &R,
+    alloc: Global,
+    desk: &Desk<N, D, G, R>,
+    reader: &mut Reader<N>,
+) -> Result<bool, Refusal> {
     if comes_to(rt, alloc, reader, 2)? != Reply::Length(14) {
         return Ok(false);
     }
@@ -196,12 +190,7 @@ fn watch_on<
 type Watched = ((u64, Reply), bool);
 
 /// The reader sees the version before while the rows are held, and later ones when they are let go.
-fn watch_by<
-    N: Naming + Send + Sync + 'static,
-    D: Disk + Drop + Send + 'static,
-    G: Gate + Drop + Send + Sync + 'static,
-    R: Threads + Wait + Clock + Copy + Send + Sync + 'static,
->(
+fn watch_by<N: ServedNaming, D: ServedDisk, G: ServedGate, R: ServeRuntime>(
     rt: &R,
     alloc: Global,
     desk: &Desk<N, D, G, R>,
@@ -215,24 +204,19 @@ fn watch_by<
 }
 
 /// The same by a reader that came first.
-fn watch_in<
-    N: Naming + Send + Sync + 'static,
-    D: Disk + Drop + Send + 'static,
-    G: Gate + Drop + Send + Sync + 'static,
-    R: Threads + Wait + Clock + Copy + Send + Sync + 'static,
->(rt: &R, alloc: Global, desk: &Desk<N, D, G, R>, signals: &Signals) -> Result<Watched, Refusal> {
+fn watch_in<N: ServedNaming, D: ServedDisk, G: ServedGate, R: ServeRuntime>(
+    rt: &R,
+    alloc: Global,
+    desk: &Desk<N, D, G, R>,
+    signals: &Signals,
+) -> Result<Watched, Refusal> {
     let mut reader = desk.reader()?;
     settle_beside_rows(rt, desk, signals)?;
     watch_by(rt, alloc, desk, signals, &mut reader)
 }
 
 /// What a reader sees of a desk whose flusher and builder are held at first.
-fn watch_views<
-    N: Naming + Send + Sync + 'static,
-    D: Disk + Drop + Send + 'static,
-    G: Gate + Drop + Send + Sync + 'static,
-    R: Threads + Wait + Clock + Copy + Send + Sync + 'static,
->(
+fn watch_views<N: ServedNaming, D: ServedDisk, G: ServedGate, R: ServeRuntime>(
     rt: R,
     alloc: Global,
     history: History,
@@ -250,10 +234,12 @@ fn watch_views<
 }
 
 /// The same over a new store with two landmarks.
-fn watch_on_six<
-    G: Gate + Drop + Send + Sync + 'static,
-    R: Threads + Wait + Clock + Copy + Send + Sync + 'static,
->(rt: R, alloc: Global, signals: &Signals, gate: G) -> Result<(Watched, usize), Refusal> {
+fn watch_on_six<G: ServedGate, R: ServeRuntime>(
+    rt: R,
+    alloc: Global,
+    signals: &Signals,
+    gate: G,
+) -> Result<(Watched, usize), Refusal> {
     let store = store_of_six(alloc, &[3, 6], 64)?;
     let history = History::new(store.network(), store.version());
     watch_views::<Brand, _, _, _>(rt, alloc, history, store, signals, gate)

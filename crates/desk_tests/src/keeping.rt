@@ -5,9 +5,12 @@ ghost use Rattle.store.specs.State.{CameTidy, is_calm};
 ghost use Rattle.office.specs.Left.{KeepsDesk};
 ghost use Rattle.desk.specs.Openings.{IsNewDesk};
 
-use crate::desks::{CLOSE, settled, setup, six};
-use desk::{Closed, Desk, History, Naming, NoGate, Receipt};
+use crate::desks::{CLOSE, settled, setup};
+use desk::{
+    Closed, Desk, History, Naming, NoGate, Receipt, ServeRuntime, ServedDisk, ServedNaming,
+};
 use disk::{Disk, MemDisk, Pick, Stoppable};
+use fixtures::six_with;
 use roadnet::Refusal;
 use std::alloc::Global;
 use std::marker::Brand;
@@ -18,11 +21,10 @@ use std::time::Clock;
 use store::{Store, create, open};
 
 /// Closes the desk, which confirms the receipt's command.
-fn close_behind<
-    N: Naming + Send + Sync + 'static,
-    D: Disk + Drop + Send + 'static,
-    R: Threads + Wait + Clock + Copy + Send + Sync + 'static,
->(desk: Desk<N, D, NoGate, R>, receipt: &Receipt) -> Result<Closed<D>, Refusal>
+fn close_behind<N: ServedNaming, D: ServedDisk, R: ServeRuntime>(
+    desk: Desk<N, D, NoGate, R>,
+    receipt: &Receipt,
+) -> Result<Closed<D>, Refusal>
     requires receipt { receipt.now.origin ≡ N.origin }
     requires tidy { N.came_tidy }
     ensures acknowledged { IfOk result (λ closed. closed.whole.origin.version < closed.whole.acknowledged) }
@@ -36,11 +38,12 @@ fn close_behind<
 }
 
 /// A desk settles a command, and is closed.
-fn settle_and_close<
-    N: Naming + Send + Sync + 'static,
-    D: Disk + Drop + Send + 'static,
-    R: Threads + Wait + Clock + Copy + Send + Sync + 'static,
->(rt: R, alloc: Global, history: History, store: Store<D>) -> Result<Closed<D>, Refusal>
+fn settle_and_close<N: ServedNaming, D: ServedDisk, R: ServeRuntime>(
+    rt: R,
+    alloc: Global,
+    history: History,
+    store: Store<D>,
+) -> Result<Closed<D>, Refusal>
     requires calm { is_calm store ≡ true }
     requires new { IsNewDesk N.origin history store }
     requires came_tidy { N.came_tidy → CameTidy D.honest D.content store.given }
@@ -55,14 +58,11 @@ fn settle_and_close<
 
 /// What is left of a desk over a new store, which settled a command: by contract alone each content that a stop may leave of its disk stands
 /// for the network after a beginning of its history that has this command.
-fn keep_one<R: Threads + Wait + Clock + Copy + Send + Sync + 'static>(
-    rt: R,
-    alloc: Global,
-) -> Result<Closed<MemDisk>, Refusal>
+fn keep_one<R: ServeRuntime>(rt: R, alloc: Global) -> Result<Closed<MemDisk>, Refusal>
     ensures acknowledged { IfOk result (λ closed. closed.whole.origin.version < closed.whole.acknowledged) }
     ensures left { IfOk result (λ closed. AreAmong (⟦<MemDisk as Disk>⟧.left closed.disk) (KeepsDesk closed.whole closed.shown closed.journal_pages)) }
 {
-    let network = six(alloc, &[3])?;
+    let network = six_with(alloc, &[3])?;
     let Ok(store) = create(alloc, MemDisk::new(alloc), &network, 64) else {
         return Err(Refusal::OutOfMemory);
     };

@@ -5,7 +5,7 @@ ghost use Rattle.desk.specs.Openings.{IsNewDesk};
 
 use crate::desks::{ended, setup};
 use crate::handles::{NODES, store_of_chain};
-use desk::{Desk, History, Naming, NoGate, Pinned, Reader};
+use desk::{Desk, History, Naming, NoGate, Pinned, Reader, ServeRuntime, ServedDisk, ServedNaming};
 use disk::Disk;
 use roadnet::{Command, Network, Refusal};
 use rows::{Query, answer_plain};
@@ -70,22 +70,18 @@ fn all_right<N: Naming, R: Threads>(
 }
 
 /// A command is carried out, and waited for; the reader learns of it.
-fn write_and_learn<
-    N: Naming + Send + Sync + 'static,
-    D: Disk + Drop + Send + 'static,
-    R: Threads + Wait + Clock + Copy + Send + Sync + 'static,
->(desk: &Desk<N, D, NoGate, R>, reader: &mut Reader<N>, command: Command) -> Result<(), Refusal> {
+fn write_and_learn<N: ServedNaming, D: ServedDisk, R: ServeRuntime>(
+    desk: &Desk<N, D, NoGate, R>,
+    reader: &mut Reader<N>,
+    command: Command,
+) -> Result<(), Refusal> {
     let ticket = desk.submit(command)?;
     reader.learn(&desk.wait_shown(&ticket)?);
     Ok(())
 }
 
 /// Whether each node's answers are right behind a command, which is waited for.
-fn are_right<
-    N: Naming + Send + Sync + 'static,
-    D: Disk + Drop + Send + 'static,
-    R: Threads + Wait + Clock + Copy + Send + Sync + 'static,
->(
+fn are_right<N: ServedNaming, D: ServedDisk, R: ServeRuntime>(
     rt: &R,
     alloc: Global,
     desk: &Desk<N, D, NoGate, R>,
@@ -100,11 +96,7 @@ fn are_right<
 }
 
 /// How many of the changes are answered right.
-fn count_right<
-    N: Naming + Send + Sync + 'static,
-    D: Disk + Drop + Send + 'static,
-    R: Threads + Wait + Clock + Copy + Send + Sync + 'static,
->(
+fn count_right<N: ServedNaming, D: ServedDisk, R: ServeRuntime>(
     rt: &R,
     alloc: Global,
     desk: &Desk<N, D, NoGate, R>,
@@ -120,11 +112,12 @@ fn count_right<
 }
 
 /// The same of a desk that is closed behind it, and how many commands it took.
-fn change_each<
-    N: Naming + Send + Sync + 'static,
-    D: Disk + Drop + Send + 'static,
-    R: Threads + Wait + Clock + Copy + Send + Sync + 'static,
->(rt: R, alloc: Global, history: History, store: Store<D>) -> Result<(usize, usize), Refusal>
+fn change_each<N: ServedNaming, D: ServedDisk, R: ServeRuntime>(
+    rt: R,
+    alloc: Global,
+    history: History,
+    store: Store<D>,
+) -> Result<(usize, usize), Refusal>
     requires calm { is_calm store ≡ true }
     requires new { IsNewDesk N.origin history store }
     requires came_tidy { N.came_tidy → CameTidy D.honest D.content store.given }

@@ -4,7 +4,7 @@ ghost use Rattle.store.specs.State.{CameTidy, is_calm};
 ghost use Rattle.desk.specs.Openings.{IsNewDesk};
 
 use crate::desks::{CLOSE, SHORTER, Told, ended, setup, store_of_six, told_of};
-use desk::{Desk, Gate, History, Naming};
+use desk::{Desk, Gate, History, Naming, ServeRuntime, ServedDisk, ServedGate, ServedNaming};
 use disk::Disk;
 use roadnet::Refusal;
 use std::alloc::Global;
@@ -153,12 +153,12 @@ enum Moves {
 }
 
 /// What is answered of the last command.
-fn play<
-    N: Naming + Send + Sync + 'static,
-    D: Disk + Drop + Send + 'static,
-    G: Gate + Drop + Send + Sync + 'static,
-    R: Threads + Wait + Clock + Copy + Send + Sync + 'static,
->(rt: &R, desk: &Desk<N, D, G, R>, noted: &Noted, moves: Moves) -> Result<Told, Refusal> {
+fn play<N: ServedNaming, D: ServedDisk, G: ServedGate, R: ServeRuntime>(
+    rt: &R,
+    desk: &Desk<N, D, G, R>,
+    noted: &Noted,
+    moves: Moves,
+) -> Result<Told, Refusal> {
     let ticket = desk.submit(CLOSE)?;
     if moves == Moves::One {
         return Ok(told_of(desk, ticket));
@@ -176,12 +176,7 @@ fn play<
 }
 
 /// The same of a new desk, and how many commands it had when it was closed.
-fn play_in<
-    N: Naming + Send + Sync + 'static,
-    D: Disk + Drop + Send + 'static,
-    G: Gate + Drop + Send + Sync + 'static,
-    R: Threads + Wait + Clock + Copy + Send + Sync + 'static,
->(
+fn play_in<N: ServedNaming, D: ServedDisk, G: ServedGate, R: ServeRuntime>(
     rt: R,
     alloc: Global,
     history: History,
@@ -200,10 +195,13 @@ fn play_in<
 }
 
 /// The same over a new store with two landmarks.
-fn play_on_six<
-    G: Gate + Drop + Send + Sync + 'static,
-    R: Threads + Wait + Clock + Copy + Send + Sync + 'static,
->(rt: R, alloc: Global, gate: G, noted: &Noted, moves: Moves) -> Result<(Told, usize), Refusal> {
+fn play_on_six<G: ServedGate, R: ServeRuntime>(
+    rt: R,
+    alloc: Global,
+    gate: G,
+    noted: &Noted,
+    moves: Moves,
+) -> Result<(Told, usize), Refusal> {
     let store = store_of_six(alloc, &[3, 6], 64)?;
     let history = History::new(store.network(), store.version());
     play_in::<Brand, _, _, _>(rt, alloc, history, store, gate, noted, moves)
@@ -214,7 +212,7 @@ fn play_on_six<
 type Played = ((Told, usize), u64, u64, u64);
 
 /// The same with a new gate.
-fn played<R: Threads + Wait + Clock + Copy + Send + Sync + 'static>(
+fn played<R: ServeRuntime>(
     rt: R,
     alloc: Global,
     flushes: Memory,
@@ -296,10 +294,7 @@ fn shortages_and_the_last_view(rt: HostRuntime) -> Result<(), Fail> {
 const MOST_ROUNDS: u32 = 50;
 
 /// Whether a halt was followed by the builder's third attempt before its rest was over, in one of the rounds.
-fn is_woken<R: Threads + Wait + Clock + Copy + Send + Sync + 'static>(
-    rt: R,
-    alloc: Global,
-) -> Result<bool, Refusal> {
+fn is_woken<R: ServeRuntime>(rt: R, alloc: Global) -> Result<bool, Refusal> {
     for _ in 0..MOST_ROUNDS {
         let told = played(rt, alloc, Memory::Always, Memory::Never, Moves::HaltAtRest)?;
         if told.2 == 1 && told.3 < 90 {

@@ -3,6 +3,7 @@ use crate::stores::created;
 use crate::streams::{FailingReader, FailingWriter};
 use dimacs::{Code, Counted, Fault};
 use disk::MemDisk;
+use fixtures::{JOINT, LANDMARKS, PAIRS, SIX};
 use printing::{CountedWriter, Failed};
 use querytexts::{batch_counted, once_counted};
 use rehearsals::{joint_counted, rehearse_counted};
@@ -13,20 +14,9 @@ use std::process::Abort;
 use std::thread::Threads;
 use storetexts::{apply_counted, ask_counted, check_counted, create_counted};
 
-/// The network of the worked rows.
-const SIX: &[u8] =
-    b"c S6\np sp 6 8\na 1 2 17\na 1 3 10\na 2 4 2\na 3 5 0\na 4 3 0\na 4 6 3\na 5 2 0\na 5 6 20\n";
-
-const LANDMARKS: &[u8] = b"p aux sp ss 3\ns 6\ns 3\ns 6\n";
-
 const COMMANDS: &[u8] = b"close 7\nclose 7\nset 8 4\n";
 
-const PAIRS: &[u8] = b"p aux sp p2p 2\nq 1 6\nq 6 1\n";
-
 const QUERY: &[u8] = b"dist 1 6\n";
-
-const JOINT: &[u8] =
-    b"p sp 6 8\na 1 2 17\na 1 3 10\na 2 4 2\na 3 5 0\na 4 3 0\na 4 6 3\na 5 2 0\na 5 6 20\nrun\ndist 1 6\n";
 
 /// What a call came to, how many calls of the reader and of the writer failed, and how many bytes were written.
 #[derive(Drop)]

@@ -2,8 +2,9 @@
 // turn, up to a run in which none is refused.
 ghost use Rattle.std.specs.Prelude.{◌≤◌};
 
-use crate::rehearsing::{CLOSED, SIX};
+use crate::rehearsing::CLOSED;
 use dimacs::Code;
+use fixtures::SIX;
 use printing::Failed;
 use rehearsals::rehearse_text;
 use roadnet::{Command, Refusal};

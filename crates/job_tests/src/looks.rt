@@ -1,8 +1,8 @@
 // Looks at the arcs of a store's network, and the texts in which it is written out.
 use crate::checks::applied;
-use crate::stores::{LANDMARKS, SIX};
 use crate::streams::FailingWriter;
 use disk::MemDisk;
+use fixtures::{LANDMARKS, SIX};
 use printing::{Exported, Failed, Look};
 use roadnet::Refusal;
 use std::alloc::Global;

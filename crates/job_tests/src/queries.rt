@@ -3,6 +3,7 @@ ghost use Rattle.std.specs.Prelude.{◌≤◌};
 use crate::outcomes::is_done;
 use crate::streams::{FailingReader, FailingWriter, sending_writer};
 use dimacs::{Code, Counted, Fault, Pair, parse_gr, parse_p2p};
+use fixtures::{PAIRS, SIX};
 use printing::{CountedWriter, Done, Failed};
 use querytexts::{
     Reach, answer_by, answer_pairs, batch_counted, batch_text, once_counted, once_text, reach_text,
@@ -15,13 +16,6 @@ use std::io::{BufRead, BufReader, Write};
 use std::process::Abort;
 use std::test::Fail;
 use std::thread::Threads;
-
-/// The network of the worked rows.
-const SIX: &[u8] =
-    b"c S6\np sp 6 8\na 1 2 17\na 1 3 10\na 2 4 2\na 3 5 0\na 4 3 0\na 4 6 3\na 5 2 0\na 5 6 20\n";
-
-/// The pairs of the worked rows.
-const PAIRS: &[u8] = b"p aux sp p2p 2\nq 1 6\nq 6 1\n";
 
 /// What is answered to them.
 const ANSWERS: &[u8] = b"v 0\nd 1 6 15\nx 6 1\n";

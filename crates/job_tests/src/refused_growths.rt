@@ -1,19 +1,12 @@
 // A store made, asked and changed where a growth of memory is refused. To be run with each allocation failing in turn.
 use dimacs::Code;
 use disk::MemDisk;
+use fixtures::{LANDMARKS, PAIRS, SIX};
 use printing::Failed;
 use roadnet::Refusal;
 use std::alloc::Global;
 use std::process::Abort;
 use storetexts::{apply_text, ask_text, create_text};
-
-/// The network of the worked rows.
-const SIX: &[u8] =
-    b"c S6\np sp 6 8\na 1 2 17\na 1 3 10\na 2 4 2\na 3 5 0\na 4 3 0\na 4 6 3\na 5 2 0\na 5 6 20\n";
-
-const LANDMARKS: &[u8] = b"p aux sp ss 3\ns 6\ns 3\ns 6\n";
-
-const PAIRS: &[u8] = b"p aux sp p2p 2\nq 1 6\nq 6 1\n";
 
 /// Want of memory, told of a text or of the call, or the failure of a disk in memory.
 fn is_want_of_memory(failed: &Failed) -> bool {

@@ -3,6 +3,7 @@ ghost use Rattle.std.specs.Prelude.{◌≤◌};
 use crate::outcomes::is_done;
 use crate::streams::{FailingReader, FailingWriter, sending_writer};
 use dimacs::{Code, Counted, Fault};
+use fixtures::SIX;
 use printing::{CountedWriter, Failed};
 use rehearsals::{joint_counted, joint_text, rehearse_counted, rehearse_text};
 use roadnet::Refusal;
@@ -10,10 +11,6 @@ use std::io::BufReader;
 use std::process::Abort;
 use std::test::Fail;
 use std::thread::Threads;
-
-/// The network of the worked rows.
-pub const SIX: &[u8] =
-    b"c S6\np sp 6 8\na 1 2 17\na 1 3 10\na 2 4 2\na 3 5 0\na 4 3 0\na 4 6 3\na 5 2 0\na 5 6 20\n";
 
 const PARALLEL: &[u8] = b"p sp 2 3\na 1 2 5\na 1 2 3\na 1 1 0\n";
 

@@ -4,6 +4,7 @@ use crate::outcomes::is_done;
 use crate::streams::{SendingWriter, sending_writer};
 use dimacs::{Code, Counted, Fault};
 use disk::{Disk, FailOnce, FuseDisk, MemDisk};
+use fixtures::{LANDMARKS, PAIR, SIX};
 use printing::{CountedWriter, Failed};
 use roadnet::Refusal;
 use std::alloc::Global;
@@ -14,14 +15,6 @@ use storetexts::{
     apply_counted, apply_text, ask_counted, ask_text, create_counted, create_store, create_text,
     read_planned,
 };
-
-/// The network of the worked rows.
-pub const SIX: &[u8] =
-    b"c S6\np sp 6 8\na 1 2 17\na 1 3 10\na 2 4 2\na 3 5 0\na 4 3 0\na 4 6 3\na 5 2 0\na 5 6 20\n";
-
-pub const LANDMARKS: &[u8] = b"p aux sp ss 3\ns 6\ns 3\ns 6\n";
-
-const PAIR: &[u8] = b"p aux sp p2p 1\nq 1 6\n";
 
 /// A store of the network with landmarks 3 and 6, and what was written.
 pub fn created(alloc: Global, journal_pages: u32) -> Result<(MemDisk, Vec<u8>), Refusal>

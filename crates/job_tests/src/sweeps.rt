@@ -4,7 +4,7 @@ ghost use Rattle.store.specs.State.{is_calm};
 
 use disk::{Disk, FuseDisk, MemDisk, Pick, Stoppable};
 use keeper::Ledger;
-use roadnet::{Command, Group, Network, Refusal, RoadArc};
+use roadnet::{Command, Group, Network, Refusal};
 use std::alloc::Global;
 use std::test::Fail;
 use store::{Store, create, open};
@@ -15,28 +15,9 @@ const JOURNAL_PAGES: u32 = 3;
 /// How many rounds a run has: in each a `set` and a flush, in each second one a checkpoint.
 const ROUNDS: u64 = 40;
 
-fn arc(tail: u32, head: u32, length: u32) -> RoadArc {
-    RoadArc {
-        tail,
-        head,
-        length,
-        opened: true,
-    }
-}
-
 /// A disk with a new store of six nodes and eight arcs.
 fn six(alloc: Global) -> Result<MemDisk, Refusal> {
-    let arcs = [
-        arc(1, 2, 17),
-        arc(1, 3, 10),
-        arc(2, 4, 2),
-        arc(3, 5, 0),
-        arc(4, 3, 0),
-        arc(4, 6, 3),
-        arc(5, 2, 0),
-        arc(5, 6, 20),
-    ];
-    let network = Network::new(alloc, 6, Vec::from_slice(alloc, &arcs)?, &[])?;
+    let network = fixtures::six(alloc)?;
     match create(alloc, MemDisk::new(alloc), &network, JOURNAL_PAGES) {
         Ok(store) => Ok(store.close()),
         Err((refusal, _)) => Err(refusal),

@@ -1,5 +1,5 @@
 -- The stops of a run: in which state each stopped the disk, what the disk held, and what the stop left of it.
-use Rattle.std.specs.Prelude.{◌≡◌, ◌≢◌, ◌⊎◌, ◌≤◌, ℕ, List, [], ◌∷◌, ◌++◌, map, Option, None, Some, IfSome}
+use Rattle.std.specs.Prelude.{◌≡◌, ◌≢◌, ◌⊎◌, ◌≤◌, ℕ, Bool, List, [], ◌∷◌, ◌++◌, map, Option, None, Some, IfSome}
 use Rattle.std.specs.List.{flat_map}
 use Rattle.roadnet.specs.declared.refusals.Refusal.{Refusal}
 use Rattle.roadnet.specs.declared.refusals.Refusal.TheVariants.{Device}
@@ -18,6 +18,10 @@ use Rattle.keeper.specs.Keeping.{IsDurableIn, Holds}
 use Rattle.keeper.specs.Rehearsing.{First}
 
 -- ---- one stop
+
+-- what a disk that can be stopped says of itself beside the disk
+abbrev pub stops_by : {D : Type 0} → (D → List ℕ) → (D → ℕ → Bool) → (D → Option ℕ) → StoppableGhosts D
+stops_by synced is_unsynced armed = record { synced = synced; is_unsynced = is_unsynced; armed = armed }
 
 -- a stop of the disk with these picks leaves this content
 abbrev pub IsCut : {D : Type 0} → Ghosts D → StoppableGhosts D → List Pick → D → List ℕ → Type 0

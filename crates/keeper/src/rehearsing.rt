@@ -10,7 +10,7 @@ ghost use Rattle.store.specs.State.{CameTidy, is_calm};
 ghost use Rattle.store.specs.Opening.{IsPassing, StandsForSome};
 ghost use Rattle.machine.specs.declared.events.Event.TheVariants.{Stop};
 ghost use Rattle.machine.specs.declared.events.Replied.TheVariants.{Refused};
-ghost use Rattle.keeper.specs.Cutting.{IsCut, picks_taken, HaveCut};
+ghost use Rattle.keeper.specs.Cutting.{IsCut, picks_taken, HaveCut, stops_by};
 ghost use Rattle.keeper.specs.Failures.{EndsAsTold};
 ghost use Rattle.keeper.specs.Rehearsing.{first_of};
 ghost use Rattle.keeper.specs.Running.{width_of, LeavesDurable, HasLivedTo, HasToldForGood, IsToldOrFailed, IsTidy, IsReady, GoesOrEnds, OfEachWithin, Takes};
@@ -86,8 +86,7 @@ fn stop_disk<D: Stoppable>(disk: &mut D, picks: &[Pick]) -> bool
     ensures honest { D.honest disk.old → D.honest disk.new }
     ensures failures { D.failures disk.new ≡ D.failures disk.old }
     ensures came { IsTrue result ↔ (D.armed disk.old ≡ Some 0) }
-    ensures cut { D.honest disk.old
-        → IsCut D.Disk (record { synced = D.synced; is_unsynced = D.is_unsynced; armed = D.armed }) (picks_taken picks.now) disk.old (D.content disk.new) }
+    ensures cut { D.honest disk.old → IsCut D.Disk (stops_by D.synced D.is_unsynced D.armed) (picks_taken picks.now) disk.old (D.content disk.new) }
 {
     if picks.is_empty() {
         disk.stop(&[Pick::Old])
@@ -361,8 +360,7 @@ pub fn rehearse<R: Threads, D: Stoppable>(
     // within, the call that it names was armed, on a disk that held what the state there allows. The armed call has come where no reply but the
     // stop's own is told, and has not where the event's own is 43.
     ensures cut { CameTidy D.honest D.content store.given
-        → HaveCut D.Disk (record { synced = D.synced; is_unsynced = D.is_unsynced; armed = D.armed })
-        (first_of store) events.now result.replies.items result.ended }
+        → HaveCut D.Disk (stops_by D.synced D.is_unsynced D.armed) (first_of store) events.now result.replies.items result.ended }
     // The disk that is handed back keeps the disk model.
     ensures honest { CameTidy D.honest D.content store.given → D.honest result.disk }
     // Whatever the disk, it ends early with a refusal of an opening alone: 11, or 40 to 43.

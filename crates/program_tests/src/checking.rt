@@ -1,5 +1,6 @@
 //! The word `check`: what it prints of a store in a file, and what is told of a damaged one.
 use crate::folders::{folder_of, has_bytes, read_in, remove, write_in};
+use crate::host::Host;
 use crate::runs::{are_refused, ends_with, is_done, is_refused};
 use crate::shell::{Shell, is_kept};
 use std::fs::File;
@@ -19,20 +20,7 @@ const ASK: &str = "ask six.store six.p2p";
 const CHECK: &str = "check six.store";
 
 /// A look at the store prints this, and reads its file alone.
-fn is_looked_at<
-    'a,
-    R: Abort
-        + AllocGlobal
-        + Files<File = File>
-        + Threads
-        + Wait
-        + Clock
-        + Eprint
-        + Copy
-        + Send
-        + Sync
-        + 'static,
->(rt: &'a R, folder: &str, out: &str)
+fn is_looked_at<'a, R: Host>(rt: &'a R, folder: &str, out: &str)
 where
     R::Dir: Send + 'static,
 {
@@ -45,20 +33,7 @@ where
 }
 
 /// A look at a store of two commands, whose file has the same bytes behind it.
-fn stays_as_it_is<
-    'a,
-    R: Abort
-        + AllocGlobal
-        + Files<File = File>
-        + Threads
-        + Wait
-        + Clock
-        + Eprint
-        + Copy
-        + Send
-        + Sync
-        + 'static,
->(rt: &'a R, folder: &str) -> Result<bool, Fail>
+fn stays_as_it_is<'a, R: Host>(rt: &'a R, folder: &str) -> Result<bool, Fail>
 where
     R::Dir: Send + 'static,
 {
@@ -93,20 +68,12 @@ const DAMAGES: [(usize, u8, &str); 8] = [
 ];
 
 /// The file with this byte at this place: whether it is the same behind each word, which tells this.
-fn is_told_of<
-    'a,
-    R: Abort
-        + AllocGlobal
-        + Files<File = File>
-        + Threads
-        + Wait
-        + Clock
-        + Eprint
-        + Copy
-        + Send
-        + Sync
-        + 'static,
->(rt: &'a R, folder: &str, bytes: &mut [u8], damage: (usize, u8, &str)) -> Result<bool, Fail>
+fn is_told_of<'a, R: Host>(
+    rt: &'a R,
+    folder: &str,
+    bytes: &mut [u8],
+    damage: (usize, u8, &str),
+) -> Result<bool, Fail>
 where
     R::Dir: Send + 'static,
 {
@@ -120,20 +87,12 @@ where
 }
 
 /// The same of a store that was whole.
-fn is_damaged<
-    'a,
-    R: Abort
-        + AllocGlobal
-        + Files<File = File>
-        + Threads
-        + Wait
-        + Clock
-        + Eprint
-        + Copy
-        + Send
-        + Sync
-        + 'static,
->(rt: &'a R, folder: &str, whole: &[u8], damage: (usize, u8, &str)) -> Result<bool, Fail>
+fn is_damaged<'a, R: Host>(
+    rt: &'a R,
+    folder: &str,
+    whole: &[u8],
+    damage: (usize, u8, &str),
+) -> Result<bool, Fail>
 where
     R::Dir: Send + 'static,
 {

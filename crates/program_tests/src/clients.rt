@@ -1,5 +1,6 @@
 //! Clients at pairs of pipes, beside a session on standard input.
 use crate::folders::{folder_of, remove};
+use crate::host::Host;
 use crate::runs::{is_done, is_refused};
 use desk::Setup;
 use dimacs::Counted;
@@ -237,19 +238,13 @@ fn or_pipe<'a>(name: &'a str, pipe: &'a str) -> &'a str {
 }
 
 /// A server at these names of pipes tells of this one that it is no pipe.
-fn is_no_pipe<
-    R: Abort
-        + AllocGlobal
-        + Files<File = File>
-        + Threads
-        + Wait
-        + Clock
-        + Eprint
-        + Copy
-        + Send
-        + Sync
-        + 'static,
->(rt: &R, folder: &str, input: &str, output: &str, named: &str) -> Result<(), Fail>
+fn is_no_pipe<R: Host>(
+    rt: &R,
+    folder: &str,
+    input: &str,
+    output: &str,
+    named: &str,
+) -> Result<(), Fail>
 where
     R::Dir: Send + 'static,
 {
@@ -260,19 +255,7 @@ where
 }
 
 /// The same of each pair of the table, and of a second pair.
-fn are_no_pipes<
-    R: Abort
-        + AllocGlobal
-        + Files<File = File>
-        + Threads
-        + Wait
-        + Clock
-        + Eprint
-        + Copy
-        + Send
-        + Sync
-        + 'static,
->(rt: &R, folder: &str, pipe: &str, other: &str) -> Result<(), Fail>
+fn are_no_pipes<R: Host>(rt: &R, folder: &str, pipe: &str, other: &str) -> Result<(), Fail>
 where
     R::Dir: Send + 'static,
 {
@@ -285,19 +268,7 @@ where
 }
 
 /// The same with the names of a client's pipes.
-fn pipes_of_a_client<
-    R: Abort
-        + AllocGlobal
-        + Files<File = File>
-        + Threads
-        + Wait
-        + Clock
-        + Eprint
-        + Copy
-        + Send
-        + Sync
-        + 'static,
->(rt: &R, folder: &str) -> Result<(), Fail>
+fn pipes_of_a_client<R: Host>(rt: &R, folder: &str) -> Result<(), Fail>
 where
     R::Dir: Send + 'static,
 {

@@ -14,6 +14,8 @@ mod exporting;
 #[cfg(test)]
 mod folders;
 #[cfg(test)]
+mod host;
+#[cfg(test)]
 mod migrating;
 #[cfg(test)]
 mod runs;

@@ -1,5 +1,6 @@
 //! Runs of the program on files: what each word prints, and with which status it ends.
 use crate::folders::{folder_of, remove, size_in, write_each};
+use crate::host::Host;
 use crate::shell::{Shell, Trouble, is_kept};
 use program::run_program;
 use std::fs::File;
@@ -50,20 +51,7 @@ pub fn new_folder<R: AllocGlobal + Env + Files>(rt: &R, name: &str) -> Result<St
 }
 
 /// The run of the shell ends with this status, and prints these texts on its output and as its fault line.
-pub fn ends_with<
-    'a,
-    R: Abort
-        + AllocGlobal
-        + Files<File = File>
-        + Threads
-        + Wait
-        + Clock
-        + Eprint
-        + Copy
-        + Send
-        + Sync
-        + 'static,
->(rt: &'a R, shell: &Shell<'a, R>, words: &str, told: (u8, &str, &str))
+pub fn ends_with<'a, R: Host>(rt: &'a R, shell: &Shell<'a, R>, words: &str, told: (u8, &str, &str))
 where
     R::Dir: Send + 'static,
 {
@@ -73,20 +61,13 @@ where
 }
 
 /// A run of these words, with this input, ends with this status, and prints these texts on its output and as its fault line.
-pub fn ends<
-    'a,
-    R: Abort
-        + AllocGlobal
-        + Files<File = File>
-        + Threads
-        + Wait
-        + Clock
-        + Eprint
-        + Copy
-        + Send
-        + Sync
-        + 'static,
->(rt: &'a R, folder: &str, words: &'a str, input: &'a str, told: (u8, &str, &str))
+pub fn ends<'a, R: Host>(
+    rt: &'a R,
+    folder: &str,
+    words: &'a str,
+    input: &'a str,
+    told: (u8, &str, &str),
+)
 where
     R::Dir: Send + 'static,
 {
@@ -98,20 +79,11 @@ where
 }
 
 /// The same of each of these runs: its words, its input, and what it tells.
-pub fn each_ends<
-    'a,
-    R: Abort
-        + AllocGlobal
-        + Files<File = File>
-        + Threads
-        + Wait
-        + Clock
-        + Eprint
-        + Copy
-        + Send
-        + Sync
-        + 'static,
->(rt: &'a R, folder: &str, table: &[(&'a str, &'a str, (u8, &str, &str))])
+pub fn each_ends<'a, R: Host>(
+    rt: &'a R,
+    folder: &str,
+    table: &[(&'a str, &'a str, (u8, &str, &str))],
+)
 where
     R::Dir: Send + 'static,
 {
@@ -121,20 +93,13 @@ where
 }
 
 /// A run of these words that is failed so ends with 1, and tells this as its fault line.
-pub fn fails_under<
-    'a,
-    R: Abort
-        + AllocGlobal
-        + Files<File = File>
-        + Threads
-        + Wait
-        + Clock
-        + Eprint
-        + Copy
-        + Send
-        + Sync
-        + 'static,
->(rt: &'a R, folder: &str, words: &'a str, trouble: Trouble, err: &str)
+pub fn fails_under<'a, R: Host>(
+    rt: &'a R,
+    folder: &str,
+    words: &'a str,
+    trouble: Trouble,
+    err: &str,
+)
 where
     R::Dir: Send + 'static,
 {
@@ -147,20 +112,7 @@ where
 }
 
 /// A run of these words without input prints this and ends with 0.
-pub fn is_done<
-    'a,
-    R: Abort
-        + AllocGlobal
-        + Files<File = File>
-        + Threads
-        + Wait
-        + Clock
-        + Eprint
-        + Copy
-        + Send
-        + Sync
-        + 'static,
->(rt: &'a R, folder: &str, words: &'a str, out: &str)
+pub fn is_done<'a, R: Host>(rt: &'a R, folder: &str, words: &'a str, out: &str)
 where
     R::Dir: Send + 'static,
 {
@@ -168,20 +120,7 @@ where
 }
 
 /// A run of these words without input prints this fault line alone and ends with 1.
-pub fn is_refused<
-    'a,
-    R: Abort
-        + AllocGlobal
-        + Files<File = File>
-        + Threads
-        + Wait
-        + Clock
-        + Eprint
-        + Copy
-        + Send
-        + Sync
-        + 'static,
->(rt: &'a R, folder: &str, words: &'a str, err: &str)
+pub fn is_refused<'a, R: Host>(rt: &'a R, folder: &str, words: &'a str, err: &str)
 where
     R::Dir: Send + 'static,
 {
@@ -189,20 +128,7 @@ where
 }
 
 /// Each of these runs without input prints what stands beside its words and ends with 0.
-pub fn are_done<
-    'a,
-    R: Abort
-        + AllocGlobal
-        + Files<File = File>
-        + Threads
-        + Wait
-        + Clock
-        + Eprint
-        + Copy
-        + Send
-        + Sync
-        + 'static,
->(rt: &'a R, folder: &str, table: &[(&'a str, &str)])
+pub fn are_done<'a, R: Host>(rt: &'a R, folder: &str, table: &[(&'a str, &str)])
 where
     R::Dir: Send + 'static,
 {
@@ -212,20 +138,7 @@ where
 }
 
 /// Each of these runs without input prints the fault line alone that stands beside its words, and ends with 1.
-pub fn are_refused<
-    'a,
-    R: Abort
-        + AllocGlobal
-        + Files<File = File>
-        + Threads
-        + Wait
-        + Clock
-        + Eprint
-        + Copy
-        + Send
-        + Sync
-        + 'static,
->(rt: &'a R, folder: &str, table: &[(&'a str, &str)])
+pub fn are_refused<'a, R: Host>(rt: &'a R, folder: &str, table: &[(&'a str, &str)])
 where
     R::Dir: Send + 'static,
 {
@@ -450,20 +363,7 @@ fn faults_of_files(rt: HostRuntime) -> Result<(), Fail> {
 }
 
 /// The run of these words, whose first write fails, ends with 12.
-pub fn is_cut<
-    'a,
-    R: Abort
-        + AllocGlobal
-        + Files<File = File>
-        + Threads
-        + Wait
-        + Clock
-        + Eprint
-        + Copy
-        + Send
-        + Sync
-        + 'static,
->(rt: &'a R, folder: &str, words: &'a str)
+pub fn is_cut<'a, R: Host>(rt: &'a R, folder: &str, words: &'a str)
 where
     R::Dir: Send + 'static,
 {
@@ -493,20 +393,7 @@ fn outputs_that_fail(rt: HostRuntime) -> Result<(), Fail> {
 }
 
 /// The run of these words prints nothing on one of its streams, and something on the other one.
-fn tells_on<
-    'a,
-    R: Abort
-        + AllocGlobal
-        + Files<File = File>
-        + Threads
-        + Wait
-        + Clock
-        + Eprint
-        + Copy
-        + Send
-        + Sync
-        + 'static,
->(rt: &'a R, words: &'a str, status: u8, on_output: bool)
+fn tells_on<'a, R: Host>(rt: &'a R, words: &'a str, status: u8, on_output: bool)
 where
     R::Dir: Send + 'static,
 {
@@ -519,20 +406,7 @@ where
 }
 
 /// The run of a network and a script on standard input, whose first write fails, ends with 12.
-fn joint_is_cut<
-    'a,
-    R: Abort
-        + AllocGlobal
-        + Files<File = File>
-        + Threads
-        + Wait
-        + Clock
-        + Eprint
-        + Copy
-        + Send
-        + Sync
-        + 'static,
->(rt: &'a R)
+fn joint_is_cut<'a, R: Host>(rt: &'a R)
 where
     R::Dir: Send + 'static,
 {
@@ -556,20 +430,7 @@ fn statuses(rt: HostRuntime) {
 }
 
 /// The run of these words ends with 1, opens these files, and tells this as its fault line, where this file can't be opened.
-fn fails_at<
-    'a,
-    R: Abort
-        + AllocGlobal
-        + Files<File = File>
-        + Threads
-        + Wait
-        + Clock
-        + Eprint
-        + Copy
-        + Send
-        + Sync
-        + 'static,
->(rt: &'a R, words: &'a str, absent: &'static str, opened: &str, err: &str)
+fn fails_at<'a, R: Host>(rt: &'a R, words: &'a str, absent: &'static str, opened: &str, err: &str)
 where
     R::Dir: Send + 'static,
 {

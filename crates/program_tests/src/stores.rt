@@ -1,5 +1,6 @@
 //! What the program does with the file of a store: when it is opened and how, who else may have it, and which file a refusal leaves.
 use crate::folders::{create_in, folder_of, remove, size_in, write_in};
+use crate::host::Host;
 use crate::runs::{are_done, are_refused, ends_with, fails_under, is_cut, is_done};
 use crate::shell::{Shell, Trouble, have_sizes, is_kept, is_kept_behind};
 use filedisk::{open_file, open_to_read};
@@ -28,20 +29,7 @@ const SERVE: &str = "serve new.store --workers 2";
 const STREAMS: &str = "read /dev/null\nread /dev/null\nread /dev/null\n";
 
 /// The run of these words is done, and opens these files behind the standard streams.
-fn opens<
-    'a,
-    R: Abort
-        + AllocGlobal
-        + Files<File = File>
-        + Threads
-        + Wait
-        + Clock
-        + Eprint
-        + Copy
-        + Send
-        + Sync
-        + 'static,
->(rt: &'a R, folder: &str, words: &'a str, opened: &str)
+fn opens<'a, R: Host>(rt: &'a R, folder: &str, words: &'a str, opened: &str)
 where
     R::Dir: Send + 'static,
 {
@@ -87,20 +75,7 @@ const READ_TOO: [(&str, &str); 2] = [
 ];
 
 /// Beside one who has the store of this path to change it nothing is done.
-fn is_owned<
-    'a,
-    R: Abort
-        + AllocGlobal
-        + Files<File = File>
-        + Threads
-        + Wait
-        + Clock
-        + Eprint
-        + Copy
-        + Send
-        + Sync
-        + 'static,
->(rt: &'a R, folder: &str, path: &str)
+fn is_owned<'a, R: Host>(rt: &'a R, folder: &str, path: &str)
 where
     R::Dir: Send + 'static,
 {
@@ -112,20 +87,7 @@ where
 }
 
 /// Beside one who reads the store of this path others read it too.
-fn is_shared<
-    'a,
-    R: Abort
-        + AllocGlobal
-        + Files<File = File>
-        + Threads
-        + Wait
-        + Clock
-        + Eprint
-        + Copy
-        + Send
-        + Sync
-        + 'static,
->(rt: &'a R, folder: &str, path: &str)
+fn is_shared<'a, R: Host>(rt: &'a R, folder: &str, path: &str)
 where
     R::Dir: Send + 'static,
 {
@@ -184,20 +146,7 @@ fn linked<R: AllocGlobal + Files>(rt: &R, folder: &str, made: &str) -> Result<()
 }
 
 /// A store is created by the link, at this path, and the folder there is synced.
-fn create_linked<
-    'a,
-    R: Abort
-        + AllocGlobal
-        + Files<File = File>
-        + Threads
-        + Wait
-        + Clock
-        + Eprint
-        + Copy
-        + Send
-        + Sync
-        + 'static,
->(rt: &'a R, folder: &str, made: &str) -> Result<(), Fail>
+fn create_linked<'a, R: Host>(rt: &'a R, folder: &str, made: &str) -> Result<(), Fail>
 where
     R::Dir: Send + 'static,
 {
@@ -228,20 +177,7 @@ fn many_commands(alloc: Global) -> Result<String, AllocError> {
 }
 
 /// `apply` writes its lines in writes of these sizes.
-fn writes_pages<
-    'a,
-    R: Abort
-        + AllocGlobal
-        + Files<File = File>
-        + Threads
-        + Wait
-        + Clock
-        + Eprint
-        + Copy
-        + Send
-        + Sync
-        + 'static,
->(rt: &'a R, folder: &str, sizes: &[usize])
+fn writes_pages<'a, R: Host>(rt: &'a R, folder: &str, sizes: &[usize])
 where
     R::Dir: Send + 'static,
 {
@@ -253,20 +189,7 @@ where
 }
 
 /// `apply` whose second write fails ends with 12, behind what the first one wrote.
-fn is_cut_behind_a_page<
-    'a,
-    R: Abort
-        + AllocGlobal
-        + Files<File = File>
-        + Threads
-        + Wait
-        + Clock
-        + Eprint
-        + Copy
-        + Send
-        + Sync
-        + 'static,
->(rt: &'a R, folder: &str)
+fn is_cut_behind_a_page<'a, R: Host>(rt: &'a R, folder: &str)
 where
     R::Dir: Send + 'static,
 {
@@ -295,20 +218,7 @@ fn lines_page_by_page(rt: HostRuntime) -> Result<(), Fail> {
 const COMMANDS: u32 = 1000;
 
 /// A session over streams that don't wait by themselves.
-fn serves_slowly<
-    'a,
-    R: Abort
-        + AllocGlobal
-        + Files<File = File>
-        + Threads
-        + Wait
-        + Clock
-        + Eprint
-        + Copy
-        + Send
-        + Sync
-        + 'static,
->(rt: &'a R, folder: &str)
+fn serves_slowly<'a, R: Host>(rt: &'a R, folder: &str)
 where
     R::Dir: Send + 'static,
 {
@@ -323,20 +233,7 @@ where
 }
 
 /// A session whose input fails.
-fn serves_unread<
-    'a,
-    R: Abort
-        + AllocGlobal
-        + Files<File = File>
-        + Threads
-        + Wait
-        + Clock
-        + Eprint
-        + Copy
-        + Send
-        + Sync
-        + 'static,
->(rt: &'a R, folder: &str)
+fn serves_unread<'a, R: Host>(rt: &'a R, folder: &str)
 where
     R::Dir: Send + 'static,
 {
@@ -396,20 +293,13 @@ fn many_answers(alloc: Global) -> Result<(String, Vec<usize>), AllocError> {
 }
 
 /// A session of these lines is answered so, each answer in a write of its own.
-fn serves_lines<
-    'a,
-    R: Abort
-        + AllocGlobal
-        + Files<File = File>
-        + Threads
-        + Wait
-        + Clock
-        + Eprint
-        + Copy
-        + Send
-        + Sync
-        + 'static,
->(rt: &'a R, folder: &str, lines: &'a [u8], answers: &str, sizes: &[usize])
+fn serves_lines<'a, R: Host>(
+    rt: &'a R,
+    folder: &str,
+    lines: &'a [u8],
+    answers: &str,
+    sizes: &[usize],
+)
 where
     R::Dir: Send + 'static,
 {
@@ -423,19 +313,7 @@ where
 }
 
 /// The long session, answered so.
-fn serves_many<
-    R: Abort
-        + AllocGlobal
-        + Files<File = File>
-        + Threads
-        + Wait
-        + Clock
-        + Eprint
-        + Copy
-        + Send
-        + Sync
-        + 'static,
->(rt: &R, folder: &str) -> Result<(), Fail>
+fn serves_many<R: Host>(rt: &R, folder: &str) -> Result<(), Fail>
 where
     R::Dir: Send + 'static,
 {
@@ -452,20 +330,7 @@ where
 }
 
 /// A session whose first answer can't be written ends with 12.
-fn serves_cut<
-    'a,
-    R: Abort
-        + AllocGlobal
-        + Files<File = File>
-        + Threads
-        + Wait
-        + Clock
-        + Eprint
-        + Copy
-        + Send
-        + Sync
-        + 'static,
->(rt: &'a R, folder: &str)
+fn serves_cut<'a, R: Host>(rt: &'a R, folder: &str)
 where
     R::Dir: Send + 'static,
 {

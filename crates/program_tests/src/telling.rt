@@ -1,5 +1,6 @@
 //! What `--verbose` tells on standard error, and that nothing else depends on it.
 use crate::folders::{folder_of, remove};
+use crate::host::Host;
 use crate::runs::{ends_with, is_done};
 use crate::shell::Shell;
 use desk::{DeskState, Working};
@@ -28,20 +29,7 @@ enum Told<'a> {
 }
 
 /// A run of these words ends with this status, prints this on its output, and this is told on its standard error.
-fn tells<
-    'a,
-    R: Abort
-        + AllocGlobal
-        + Files<File = File>
-        + Threads
-        + Wait
-        + Clock
-        + Eprint
-        + Copy
-        + Send
-        + Sync
-        + 'static,
->(rt: &'a R, folder: &str, words: &'a str, ends: (u8, &str), told: Told<'_>)
+fn tells<'a, R: Host>(rt: &'a R, folder: &str, words: &'a str, ends: (u8, &str), told: Told<'_>)
 where
     R::Dir: Send + 'static,
 {
@@ -178,20 +166,7 @@ const SERVED: [Row; 4] = [
 ];
 
 /// Each of these rows, with a clock that tells no time, and where nothing can be written.
-fn each_tells<
-    'a,
-    R: Abort
-        + AllocGlobal
-        + Files<File = File>
-        + Threads
-        + Wait
-        + Clock
-        + Eprint
-        + Copy
-        + Send
-        + Sync
-        + 'static,
->(rt: &'a R, folder: &str, rows: &[Row])
+fn each_tells<'a, R: Host>(rt: &'a R, folder: &str, rows: &[Row])
 where
     R::Dir: Send + 'static,
 {
@@ -202,20 +177,7 @@ where
 }
 
 /// The same beside one who has the store of this path to change it.
-fn each_tells_beside<
-    'a,
-    R: Abort
-        + AllocGlobal
-        + Files<File = File>
-        + Threads
-        + Wait
-        + Clock
-        + Eprint
-        + Copy
-        + Send
-        + Sync
-        + 'static,
->(rt: &'a R, folder: &str, path: &str, rows: &[Row])
+fn each_tells_beside<'a, R: Host>(rt: &'a R, folder: &str, path: &str, rows: &[Row])
 where
     R::Dir: Send + 'static,
 {

@@ -1,6 +1,7 @@
 // Lines that ask for copies.
 
 use crate::serving::{Found, answers_with};
+use desk::ServeRuntime;
 use roadnet::{Network, Refusal};
 use sessions::{Copies, NoCopies};
 use std::alloc::Global;
@@ -96,7 +97,7 @@ const COPIES: [(&[u8], Found, &[u8], u64); 8] = [
 ];
 
 /// Whether a session with these lines, by a desk that is found so, writes this; how many copies are asked for, and how many of them fit their version.
-fn looked_at<R: Threads + Wait + Clock + Copy + Send + Sync + 'static>(
+fn looked_at<R: ServeRuntime>(
     rt: R,
     alloc: Global,
     found: Found,

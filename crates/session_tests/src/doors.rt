@@ -4,7 +4,7 @@ ghost use Rattle.store.specs.State.{CameTidy, is_calm};
 ghost use Rattle.desk.specs.Openings.{IsNewDesk};
 
 use crate::serving::{settled_in, store_of_six};
-use desk::{Desk, Handle, History, Naming, NoGate, Setup};
+use desk::{Desk, Handle, History, Naming, NoGate, ServeRuntime, ServedDisk, ServedNaming, Setup};
 use disk::Disk;
 use fixtures::Flag;
 use printing::Failed;
@@ -59,11 +59,7 @@ impl Door<&'static [u8], Vec<u8>> for TextDoor {
 }
 
 /// Starts the doors.
-fn start_doors<
-    N: Naming + Send + Sync + 'static,
-    D: Disk + Drop + Send + 'static,
-    R: Threads + Wait + Clock + Copy + Send + Sync + 'static,
->(
+fn start_doors<N: ServedNaming, D: ServedDisk, R: ServeRuntime>(
     rt: R,
     alloc: Global,
     desk: &Handle<N, D, NoGate, R>,
@@ -89,11 +85,7 @@ fn start_doors<
 type Came = (u64, u64, usize, bool);
 
 /// The desk is closed once all have ended. Handles of it are alive then.
-fn serve_doors<
-    N: Naming + Send + Sync + 'static,
-    D: Disk + Drop + Send + 'static,
-    R: Threads + Wait + Clock + Copy + Send + Sync + 'static,
->(
+fn serve_doors<N: ServedNaming, D: ServedDisk, R: ServeRuntime>(
     rt: R,
     alloc: Global,
     history: History,

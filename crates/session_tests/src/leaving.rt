@@ -5,7 +5,7 @@ ghost use Rattle.desk.specs.Openings.{IsNewDesk};
 
 use crate::many::at_once;
 use crate::serving::{settled_in, store_of_six};
-use desk::{Desk, History, Naming, NoGate, Setup};
+use desk::{Desk, History, Naming, NoGate, ServeRuntime, ServedDisk, ServedNaming, Setup};
 use disk::Disk;
 use fixtures::FailingReader;
 use printing::Failed;
@@ -84,11 +84,12 @@ fn came_to<N: Naming>(alloc: Global, clients: &[Failing<N>]) -> Result<Vec<Came>
 }
 
 /// What becomes of them by one desk.
-fn serve_failing<
-    N: Naming + Send + Sync + 'static,
-    D: Disk + Drop + Send + 'static,
-    R: Threads + Wait + Clock + Copy + Send + Sync + 'static,
->(rt: R, alloc: Global, history: History, store: Store<D>) -> Result<Vec<Came>, Refusal>
+fn serve_failing<N: ServedNaming, D: ServedDisk, R: ServeRuntime>(
+    rt: R,
+    alloc: Global,
+    history: History,
+    store: Store<D>,
+) -> Result<Vec<Came>, Refusal>
     requires calm { is_calm store ≡ true }
     requires new { IsNewDesk N.origin history store }
     requires came_tidy { N.came_tidy → CameTidy D.honest D.content store.given }

@@ -5,7 +5,7 @@ ghost use Rattle.desk.specs.Openings.{IsNewDesk};
 
 use crate::agreeing::{Sent, are_right, drawn_lines, networks_of, text_of};
 use crate::serving::{left_by, store_of_six};
-use desk::{Closed, Desk, History, Naming, NoGate, Setup};
+use desk::{Closed, Desk, History, Naming, NoGate, ServeRuntime, ServedDisk, ServedNaming, Setup};
 use disk::{Disk, MemDisk};
 use fixtures::Draws;
 use roadnet::{Group, Network, Refusal};
@@ -90,11 +90,7 @@ pub(crate) type Left<D> = (Vec<Vec<u8>>, Closed<D>);
 
 /// A session with each of these texts, all at once. The desk is closed behind them. Refused with 50 is a session that ended badly, or told what is not
 /// kept.
-pub(crate) fn sessions_at_once<
-    N: Naming + Send + Sync + 'static,
-    D: Disk + Drop + Send + 'static,
-    R: Threads + Wait + Clock + Copy + Send + Sync + 'static,
->(
+pub(crate) fn sessions_at_once<N: ServedNaming, D: ServedDisk, R: ServeRuntime>(
     rt: R,
     alloc: Global,
     history: History,
@@ -121,7 +117,7 @@ pub(crate) fn sessions_at_once<
 }
 
 /// The same over a new store.
-pub(crate) fn at_once<R: Threads + Wait + Clock + Copy + Send + Sync + 'static>(
+pub(crate) fn at_once<R: ServeRuntime>(
     rt: R,
     alloc: Global,
     texts: &[Vec<u8>],
@@ -159,7 +155,7 @@ fn first_network(alloc: Global) -> Result<Network, Refusal> {
 }
 
 /// Whether sessions of these lines and texts at once are answered right, and the store that they leave has all that they told.
-fn agree_on<R: Threads + Wait + Clock + Copy + Send + Sync + 'static>(
+fn agree_on<R: ServeRuntime>(
     rt: R,
     alloc: Global,
     lines: &[Vec<Sent>],
@@ -173,11 +169,7 @@ fn agree_on<R: Threads + Wait + Clock + Copy + Send + Sync + 'static>(
 }
 
 /// The same of so many sessions.
-fn agree<R: Threads + Wait + Clock + Copy + Send + Sync + 'static>(
-    rt: R,
-    alloc: Global,
-    count: u32,
-) -> Result<bool, Refusal> {
+fn agree<R: ServeRuntime>(rt: R, alloc: Global, count: u32) -> Result<bool, Refusal> {
     let lines = lines_of(alloc, count)?;
     let texts = texts_of(alloc, &lines)?;
     agree_on(rt, alloc, &lines, &texts)

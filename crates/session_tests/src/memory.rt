@@ -1,6 +1,6 @@
 // What a session answers where its desk, or one of its lines, finds no memory.
 use crate::serving::{Found, answers_of, left_by, session_over, settled_in, store_of_six};
-use desk::{Gate, History};
+use desk::{Gate, History, ServeRuntime};
 use roadnet::Refusal;
 use sessions::NoCopies;
 use std::alloc::Global;
@@ -40,7 +40,7 @@ impl Gate for Misses {
 type Left = (Vec<u8>, u64, u64);
 
 /// A session with these lines by a desk that misses so.
-fn answers_past<R: Threads + Wait + Clock + Copy + Send + Sync + 'static>(
+fn answers_past<R: ServeRuntime>(
     rt: R,
     alloc: Global,
     gate: Misses,
@@ -75,7 +75,7 @@ const MISSED: [(u64, u64, &[u8], u64, u64); 4] = [
 
 /// Whether a session whose desk misses so many flushes and tasks writes this, and told nothing that is not there; how many commands are accepted, and how many
 /// durable.
-fn missed<R: Threads + Wait + Clock + Copy + Send + Sync + 'static>(
+fn missed<R: ServeRuntime>(
     rt: R,
     alloc: Global,
     flushes: u64,

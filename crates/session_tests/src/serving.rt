@@ -2,7 +2,10 @@ ghost use Rattle.std.specs.Prelude.{◌≡◌, true, IfOk};
 ghost use Rattle.store.specs.State.{CameTidy, is_calm};
 ghost use Rattle.desk.specs.Openings.{IsNewDesk};
 
-use desk::{Closed, Desk, Gate, History, Naming, NoGate, Reader, Setup};
+use desk::{
+    Closed, Desk, Gate, History, Naming, NoGate, Reader, ServeRuntime, ServedDisk, ServedGate,
+    ServedNaming, Setup,
+};
 use dimacs::Counted;
 use disk::{Disk, FailOnce, MemDisk};
 use printing::{CountedWriter, Failed};
@@ -73,12 +76,11 @@ pub(crate) enum Found {
 }
 
 /// As many readers of the desk as it may have, where a session finds it crowded, and else none.
-fn others_of<
-    N: Naming + Send + Sync + 'static,
-    D: Disk + Drop + Send + 'static,
-    G: Gate + Drop + Send + Sync + 'static,
-    R: Threads + Wait + Clock + Copy + Send + Sync + 'static,
->(alloc: Global, desk: &Desk<N, D, G, R>, found: Found) -> Result<Vec<Reader<N>>, Refusal> {
+fn others_of<N: ServedNaming, D: ServedDisk, G: ServedGate, R: ServeRuntime>(
+    alloc: Global,
+    desk: &Desk<N, D, G, R>,
+    found: Found,
+) -> Result<Vec<Reader<N>>, Refusal> {
     let mut others = Vec::new(alloc);
     if found != Found::Crowded {
         return Ok(others);
@@ -93,10 +95,10 @@ fn others_of<
 
 /// A session over a store. The desk is closed behind it.
 pub(crate) fn session_over<
-    N: Naming + Send + Sync + 'static,
-    D: Disk + Drop + Send + 'static,
-    G: Gate + Drop + Send + Sync + 'static,
-    R: Threads + Wait + Clock + Copy + Send + Sync + 'static,
+    N: ServedNaming,
+    D: ServedDisk,
+    G: ServedGate,
+    R: ServeRuntime,
     C: Copies,
     I: BufRead,
     W: Write,
@@ -145,12 +147,7 @@ pub(crate) fn session_over<
 }
 
 /// A session over a new store of the network of the worked rows.
-fn session<
-    R: Threads + Wait + Clock + Copy + Send + Sync + 'static,
-    C: Copies,
-    I: BufRead,
-    W: Write,
->(
+fn session<R: ServeRuntime, C: Copies, I: BufRead, W: Write>(
     rt: R,
     alloc: Global,
     found: Found,
@@ -166,7 +163,7 @@ fn session<
 }
 
 /// What a session with these lines writes that ends without a fault. No copies are made.
-pub(crate) fn answers_of<R: Threads + Wait + Clock + Copy + Send + Sync + 'static>(
+pub(crate) fn answers_of<R: ServeRuntime>(
     rt: R,
     alloc: Global,
     found: Found,
@@ -176,7 +173,7 @@ pub(crate) fn answers_of<R: Threads + Wait + Clock + Copy + Send + Sync + 'stati
 }
 
 /// What a session with these lines, for which these copies are made, writes that ends without a fault.
-pub(crate) fn answers_with<R: Threads + Wait + Clock + Copy + Send + Sync + 'static, C: Copies>(
+pub(crate) fn answers_with<R: ServeRuntime, C: Copies>(
     rt: R,
     alloc: Global,
     found: Found,
@@ -194,7 +191,7 @@ pub(crate) fn answers_with<R: Threads + Wait + Clock + Copy + Send + Sync + 'sta
 }
 
 /// Whether a session with these lines, by a desk that is found so, writes this and ends without a fault.
-fn is_answered<R: Threads + Wait + Clock + Copy + Send + Sync + 'static>(
+fn is_answered<R: ServeRuntime>(
     rt: R,
     alloc: Global,
     found: Found,
@@ -345,7 +342,7 @@ const LONG: [(&[u8], u8, usize, &[u8], &[u8]); 8] = [
 ];
 
 /// Whether a session with a text of a front, so many times one byte, and a back writes this.
-fn is_long_answered<R: Threads + Wait + Clock + Copy + Send + Sync + 'static>(
+fn is_long_answered<R: ServeRuntime>(
     rt: R,
     alloc: Global,
     (front, byte, count, back): (&[u8], u8, usize, &[u8]),
@@ -575,7 +572,7 @@ fn came_of(alloc: Global, ended: Ended<MemDisk>) -> Result<Came, Refusal> {
 }
 
 /// What comes of a session by this reader, and how many commands it is told to be durable.
-fn read_by<R: Threads + Wait + Clock + Copy + Send + Sync + 'static, I: BufRead>(
+fn read_by<R: ServeRuntime, I: BufRead>(
     rt: R,
     alloc: Global,
     input: &mut I,
@@ -587,11 +584,7 @@ fn read_by<R: Threads + Wait + Clock + Copy + Send + Sync + 'static, I: BufRead>
 }
 
 /// The same of a session whose reader fails at this read.
-fn failing_read<R: Threads + Wait + Clock + Copy + Send + Sync + 'static>(
-    rt: R,
-    alloc: Global,
-    reads: u32,
-) -> Result<(Came, u64), Refusal> {
+fn failing_read<R: ServeRuntime>(rt: R, alloc: Global, reads: u32) -> Result<(Came, u64), Refusal> {
     let bytes = LINES;
     let Ok(mut input) = BufReader::with_capacity(alloc, 3, FailingReader { bytes, reads }) else {
         return Err(Refusal::OutOfMemory);
@@ -629,7 +622,7 @@ fn reader_fails_at_each_call(rt: HostRuntime) -> Result<(), Fail> {
 }
 
 /// What comes of a session whose writer fails at this call, and how many commands it is told to be durable.
-fn failing_write<R: Threads + Wait + Clock + Copy + Send + Sync + 'static>(
+fn failing_write<R: ServeRuntime>(
     rt: R,
     alloc: Global,
     calls: u32,

@@ -8,7 +8,10 @@ ghost use Rattle.desk.specs.Openings.{IsNewDesk};
 use crate::boards::{Board, Post, Rule, Watch};
 use crate::stores::{Kept, store_of_six};
 use crate::waking::wake;
-use desk::{Closed, Desk, Gate, Handle, History, Naming, Reader, Setup, Ticket};
+use desk::{
+    Closed, Desk, Gate, Handle, History, Naming, Reader, ServeRuntime, ServedDisk, ServedGate,
+    ServedNaming, Setup, Ticket,
+};
 use disk::Disk;
 use roadnet::{Command, Group, Refusal};
 use rows::Reply;
@@ -266,12 +269,7 @@ fn crowd<N: Naming, D: Disk + Drop, G: Gate + Drop, R: Wait + Copy>(
 }
 
 /// Calls the desk or the gate once.
-fn play_move<
-    N: Naming + Send + Sync + 'static,
-    D: Disk + Drop + Send + 'static,
-    G: Gate + Drop + Send + Sync + 'static,
-    R: Threads + Wait + Clock + Copy + Send + Sync + 'static,
->(
+fn play_move<N: ServedNaming, D: ServedDisk, G: ServedGate, R: ServeRuntime>(
     rt: &R,
     alloc: Global,
     desk: &Handle<N, D, G, R>,
@@ -307,12 +305,7 @@ fn play_move<
 }
 
 /// Makes the moves in their order. Told are the answers.
-fn play_moves<
-    N: Naming + Send + Sync + 'static,
-    D: Disk + Drop + Send + 'static,
-    G: Gate + Drop + Send + Sync + 'static,
-    R: Threads + Wait + Clock + Copy + Send + Sync + 'static,
->(
+fn play_moves<N: ServedNaming, D: ServedDisk, G: ServedGate, R: ServeRuntime>(
     rt: &R,
     alloc: Global,
     desk: &Handle<N, D, G, R>,
@@ -364,12 +357,7 @@ fn left_of(alloc: Global, closed: Closed<Kept>) -> Result<String, Refusal> {
 }
 
 /// A desk is started, called and closed. Told are the answers, beside what it leaves.
-fn play_desk<
-    N: Naming + Send + Sync + 'static,
-    D: Disk + Drop + Send + 'static,
-    G: Gate + Drop + Send + Sync + 'static,
-    R: Threads + Wait + Clock + Copy + Send + Sync + 'static,
->(
+fn play_desk<N: ServedNaming, D: ServedDisk, G: ServedGate, R: ServeRuntime>(
     rt: R,
     alloc: Global,
     history: History,
@@ -409,7 +397,7 @@ fn gate_of<R: Wait + Clock + Copy>(
 
 /// What is told of a play: the answers, what the gate noted, and what the desk left. Refused (5) are also numbers of pages, workers and widths that no
 /// journal and no desk has.
-pub(crate) fn outcome_of<R: Threads + Wait + Clock + Copy + Send + Sync + 'static>(
+pub(crate) fn outcome_of<R: ServeRuntime>(
     rt: R,
     alloc: Global,
     play: &Play<'_>,

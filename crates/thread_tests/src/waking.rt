@@ -1,7 +1,7 @@
 // Callers that wait for one version at once.
 use crate::boards::{Board, reaches};
 use crate::playing::SHORTER;
-use desk::{Gate, Handle, Naming};
+use desk::{Gate, Handle, Naming, ServeRuntime, ServedDisk, ServedGate, ServedNaming};
 use disk::Disk;
 use roadnet::Refusal;
 use std::alloc::Global;
@@ -89,12 +89,7 @@ fn each_at_once<T: Sync, R: Threads + Sync, F: Fn(&T, u64) -> Result<u64, Refusa
 }
 
 /// What comes of the callers, each in a thread of its own, and of the one that lets the flush go.
-fn all_at_once<
-    N: Naming + Send + Sync + 'static,
-    D: Disk + Drop + Send + 'static,
-    G: Gate + Drop + Send + Sync + 'static,
-    R: Threads + Wait + Clock + Copy + Send + Sync + 'static,
->(
+fn all_at_once<N: ServedNaming, D: ServedDisk, G: ServedGate, R: ServeRuntime>(
     rt: &R,
     alloc: Global,
     desk: &Handle<N, D, G, R>,
@@ -111,12 +106,12 @@ fn all_at_once<
 }
 
 /// So many callers wait for one version. Told is how many of them come back.
-pub(crate) fn wake<
-    N: Naming + Send + Sync + 'static,
-    D: Disk + Drop + Send + 'static,
-    G: Gate + Drop + Send + Sync + 'static,
-    R: Threads + Wait + Clock + Copy + Send + Sync + 'static,
->(rt: &R, alloc: Global, desk: &Handle<N, D, G, R>, board: &Board) -> Result<u64, Refusal> {
+pub(crate) fn wake<N: ServedNaming, D: ServedDisk, G: ServedGate, R: ServeRuntime>(
+    rt: &R,
+    alloc: Global,
+    desk: &Handle<N, D, G, R>,
+    board: &Board,
+) -> Result<u64, Refusal> {
     let mut last = 0;
     for answer in all_at_once(rt, alloc, desk, board)? {
         last = answer?;

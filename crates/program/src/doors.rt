@@ -99,13 +99,20 @@ fn refusal_of(error: &io::Error) -> Refusal {
     }
 }
 
+/// A client at two open pipes, if there is memory for it.
+fn client_of(alloc: Global, input: File, output: File) -> io::Result<Client> {
+    let reader = BufReader::with_capacity(alloc, BUFFER, input)?;
+    let pipe = AnswerPipe {
+        file: output,
+        has_reader: true,
+    };
+    let writer = BufWriter::with_capacity(alloc, BUFFER, pipe)?;
+    Ok((reader, writer))
+}
+
 impl<T: Files<File = File>> PipeDoor<T> {
-    /// Opens the pipe that is read, and then the one that is written. It waits until a client has opened both.
-    fn open(&self) -> Result<Client, Unopened> {
-        let input = match fs::open(&self.rt, self.input.as_str()) {
-            Ok(input) => input,
-            Err(error) => return Err(unopened_by(Side::Input, &error)),
-        };
+    /// Opens the pipe that is written, beside the one that is read. It waits until a client has opened it.
+    fn open_beside(&self, input: File) -> Result<Client, Unopened> {
         let opened = OpenOptions::new()
             .write(true)
             .open(&self.rt, self.output.as_str());
@@ -113,19 +120,20 @@ impl<T: Files<File = File>> PipeDoor<T> {
             Ok(output) => output,
             Err(error) => return Err(unopened_by(Side::Output, &error)),
         };
-        let pipe = AnswerPipe {
-            file: output,
-            has_reader: true,
-        };
-        match (
-            BufReader::with_capacity(self.alloc, BUFFER, input),
-            BufWriter::with_capacity(self.alloc, BUFFER, pipe),
-        ) {
-            (Ok(reader), Ok(writer)) => Ok((reader, writer)),
-            (Err(_), _) | (_, Err(_)) => Err(Unopened {
+        match client_of(self.alloc, input, output) {
+            Ok(client) => Ok(client),
+            Err(_) => Err(Unopened {
                 side: Side::Input,
                 refusal: Refusal::OutOfMemory,
             }),
+        }
+    }
+
+    /// Opens the pipe that is read, and then the one that is written. It waits until a client has opened both.
+    fn open(&self) -> Result<Client, Unopened> {
+        match fs::open(&self.rt, self.input.as_str()) {
+            Ok(input) => self.open_beside(input),
+            Err(error) => Err(unopened_by(Side::Input, &error)),
         }
     }
 }
@@ -261,6 +269,13 @@ pub fn see_pipes<'a, 'w, P: TellsPipes>(
     Ok(SeenPipes { pairs: pipes })
 }
 
+/// The names of a pair's pipes: of the one that is read, and of the one that is written.
+fn names_in(alloc: Global, pair: &PipePair<'_>) -> Result<(String, String), AllocError> {
+    let input = String::from_str(alloc, pair.input)?;
+    let output = String::from_str(alloc, pair.output)?;
+    Ok((input, output))
+}
+
 /// The door of a pair.
 fn door_of<T: Copy + Drop>(
     rt: T,
@@ -269,14 +284,35 @@ fn door_of<T: Copy + Drop>(
     are_open: &Arc<Mutex<bool>>,
     guests: &Guests,
 ) -> Result<PipeDoor<T>, AllocError> {
+    let are_open = Arc::try_clone(are_open)?;
+    let guests = guests.again()?;
+    let (input, output) = names_in(alloc, pair)?;
     Ok(PipeDoor {
         rt,
         alloc,
-        input: String::from_str(alloc, pair.input)?,
-        output: String::from_str(alloc, pair.output)?,
-        are_open: Arc::try_clone(are_open)?,
-        guests: guests.again()?,
+        input,
+        output,
+        are_open,
+        guests,
     })
+}
+
+/// A door for each of these pairs.
+fn all_doors<T: Copy + Drop>(
+    rt: T,
+    alloc: Global,
+    pairs: &[PipePair<'_>],
+    are_open: &Arc<Mutex<bool>>,
+    guests: &Guests,
+) -> Result<Vec<PipeDoor<T>>, AllocError>
+    ensures { IfOk result (λ doors. vec_len doors ≡ length pairs.now) }
+{
+    let mut doors = Vec::new(alloc);
+    for pair in pairs {
+        let door = door_of(rt, alloc, pair, are_open, guests)?;
+        doors.push(door)?;
+    }
+    Ok(doors)
 }
 
 /// The doors of these pairs, which are closed yet. Where it is told who comes in, it is told how the whole server stands.
@@ -290,10 +326,7 @@ pub fn doors_of<T: Copy + Drop>(
 {
     let are_open = Arc::new(alloc, Mutex::new(false))?;
     let guests = Guests::new(alloc, are_told)?;
-    let mut doors = Vec::new(alloc);
-    for pair in pipes.pairs {
-        doors.push(door_of(rt, alloc, pair, &are_open, &guests)?)?;
-    }
+    let doors = all_doors(rt, alloc, pipes.pairs, &are_open, &guests)?;
     Ok(Doors {
         doors,
         are_open,

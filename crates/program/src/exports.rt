@@ -8,7 +8,7 @@ use filedisk::why_unopened;
 use printing::{CountedWriter, Exported, Failed};
 use progress::{Progress, TellingWriter};
 use roadnet::Refusal;
-use std::alloc::Global;
+use std::alloc::{AllocError, Global};
 use std::fs::{self, File, OpenOptions};
 use std::io::{self, ErrorKind};
 use std::os::unix::fs::OpenOptionsExt;
@@ -64,6 +64,33 @@ fn unopened_folder<R: Eprint>(progress: &Progress<'_, R>, name: &str, error: &io
     unopened(FOLDER)
 }
 
+/// The name of a text's file, in its folder.
+fn path_of(alloc: Global, folder: &str, text: Exported) -> Result<PathBuf, AllocError> {
+    let mut path = PathBuf::from_str(alloc, folder)?;
+    path.push(name_of(text))?;
+    Ok(path)
+}
+
+/// What is told of a text's file that is not made: there is one already (46), or the folder takes none (fault 10 of line 0); and it is told why.
+fn unmade<R: Eprint>(progress: &Progress<'_, R>, name: &str, error: &io::Error) -> Failed
+    ensures { IsTextUnmade result }
+{
+    match error.kind() {
+        ErrorKind::AlreadyExists => {
+            progress.tell(name, &"it is there already");
+            Failed::Code(Refusal::NotEmpty)
+        }
+        _ => unopened_folder(progress, name, error),
+    }
+}
+
+/// Makes a new file.
+fn make_file<R: Files<File = File>>(rt: &R, path: &PathBuf) -> io::Result<File> {
+    let mut options = OpenOptions::new();
+    options.write(true).create_new(true).mode(MODE);
+    options.open(rt, path.as_path())
+}
+
 /// The file of a text, which was made for it.
 #[derive(Drop)]
 struct TextFile {
@@ -82,21 +109,12 @@ impl TextFile {
     ) -> Result<TextFile, Failed>
         ensures { IfErr result IsTextUnmade }
     {
-        let Ok(mut path) = PathBuf::from_str(rt.alloc(), folder) else {
+        let Ok(path) = path_of(rt.alloc(), folder, text) else {
             return Err(Failed::Code(Refusal::OutOfMemory));
         };
-        if path.push(name_of(text)).is_err() {
-            return Err(Failed::Code(Refusal::OutOfMemory));
-        }
-        let mut options = OpenOptions::new();
-        options.write(true).create_new(true).mode(MODE);
-        match options.open(rt, path.as_path()) {
+        match make_file(rt, &path) {
             Ok(file) => Ok(TextFile { path, file }),
-            Err(error) if error.kind() == ErrorKind::AlreadyExists => {
-                progress.tell(path.as_str(), &"it is there already");
-                Err(Failed::Code(Refusal::NotEmpty))
-            }
-            Err(error) => Err(unopened_folder(progress, path.as_str(), &error)),
+            Err(error) => Err(unmade(progress, path.as_str(), &error)),
         }
     }
 
@@ -147,6 +165,48 @@ pub struct TextFiles {
 }
 
 impl TextFiles {
+    /// Makes the file of the landmarks beside that of the network, and then that of the closed arcs, or removes what was made.
+    fn make_beside<R: AllocGlobal + Eprint + Files<File = File>>(
+        rt: &R,
+        progress: &Progress<'_, R>,
+        folder: &str,
+        network: TextFile,
+    ) -> Result<TextFiles, Failed>
+        ensures { IfErr result IsTextUnmade }
+    {
+        match TextFile::make(rt, progress, folder, Exported::Landmarks) {
+            Ok(landmarks) => TextFiles::make_last(rt, progress, folder, network, landmarks),
+            Err(failed) => {
+                network.remove(rt);
+                Err(failed)
+            }
+        }
+    }
+
+    /// Makes the file of the closed arcs beside the two others, or removes them.
+    fn make_last<R: AllocGlobal + Eprint + Files<File = File>>(
+        rt: &R,
+        progress: &Progress<'_, R>,
+        folder: &str,
+        network: TextFile,
+        landmarks: TextFile,
+    ) -> Result<TextFiles, Failed>
+        ensures { IfErr result IsTextUnmade }
+    {
+        match TextFile::make(rt, progress, folder, Exported::Closings) {
+            Ok(closings) => Ok(TextFiles {
+                network,
+                landmarks,
+                closings,
+            }),
+            Err(failed) => {
+                landmarks.remove(rt);
+                network.remove(rt);
+                Err(failed)
+            }
+        }
+    }
+
     /// Makes all three, or none.
     pub fn make<R: AllocGlobal + Eprint + Files<File = File>>(
         rt: &R,
@@ -156,26 +216,7 @@ impl TextFiles {
         ensures { IfErr result IsTextUnmade }
     {
         let network = TextFile::make(rt, progress, folder, Exported::Network)?;
-        let landmarks = match TextFile::make(rt, progress, folder, Exported::Landmarks) {
-            Ok(landmarks) => landmarks,
-            Err(failed) => {
-                network.remove(rt);
-                return Err(failed);
-            }
-        };
-        let closings = match TextFile::make(rt, progress, folder, Exported::Closings) {
-            Ok(closings) => closings,
-            Err(failed) => {
-                landmarks.remove(rt);
-                network.remove(rt);
-                return Err(failed);
-            }
-        };
-        Ok(TextFiles {
-            network,
-            landmarks,
-            closings,
-        })
+        TextFiles::make_beside(rt, progress, folder, network)
     }
 
     /// Writes the texts of a store's network into them. Each is synced, and then their folder.

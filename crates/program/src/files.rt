@@ -166,6 +166,16 @@ pub fn open_text<'a, R: AllocGlobal + Clock + Eprint + Files + Input>(
     }
 }
 
+/// The first fault of a network, or else that the text behind it can't be opened.
+fn fault_of_network<I: BufRead + Drop>(alloc: Global, mut gr: I, failed: Failed) -> Failed
+    ensures { (is_of_first result ≡ true) ⊎ (result ≡ failed) }
+{
+    match read_gr(alloc, &mut gr) {
+        Ok(_) => failed,
+        Err(fault) => Failed::Text { which: 0, fault },
+    }
+}
+
 /// The files of a network and of the text that follows it. Where the second can't be opened, a fault of the network is still told first.
 pub fn open_texts<'a, R: AllocGlobal + Clock + Eprint + Files + Input>(
     rt: &'a R,
@@ -175,30 +185,27 @@ pub fn open_texts<'a, R: AllocGlobal + Clock + Eprint + Files + Input>(
 ) -> Result<(TextReader<'a, R>, TextReader<'a, R>), Failed>
     ensures { IfErr result IsFaultOrUnopened }
 {
-    let mut gr = open_text(rt, progress, 0, network)?;
+    let gr = open_text(rt, progress, 0, network)?;
     match open_text(rt, progress, 1, second) {
         Ok(second) => Ok((gr, second)),
-        Err(failed) => match read_gr(rt.alloc(), &mut gr) {
-            Ok(_) => Err(failed),
-            Err(fault) => Err(Failed::Text { which: 0, fault }),
-        },
+        Err(failed) => Err(fault_of_network(rt.alloc(), gr, failed)),
     }
 }
 
 /// The first fault of the network and of the text of sources that follows it, or else that a third text can't be opened.
-fn fault_before<R: BufRead, Q: BufRead>(
+fn fault_before<I: BufRead + Drop, J: BufRead + Drop>(
     alloc: Global,
-    gr: &mut R,
-    sources: &mut Q,
+    mut gr: I,
+    mut sources: J,
     failed: Failed,
 ) -> Failed
     ensures { (is_of_first result ≡ true) ⊎ (IsFaultOf 1 result ⊎ (result ≡ failed)) }
 {
-    let network = match of_text(0, read_gr(alloc, gr)) {
+    let network = match of_text(0, read_gr(alloc, &mut gr)) {
         Ok(network) => network,
         Err(fault) => return fault,
     };
-    fault_of_sources(alloc, network.nodes(), 1, sources, failed)
+    fault_of_sources(alloc, network.nodes(), 1, &mut sources, failed)
 }
 
 /// The first fault of the text `which`, of sources, or else that the text behind it can't be opened.
@@ -232,10 +239,10 @@ pub fn open_table<'a, R: AllocGlobal + Clock + Eprint + Files + Input>(
 ) -> Result<TableReaders<'a, R>, Failed>
     ensures { IfErr result IsTableUnread }
 {
-    let (mut gr, mut sources) = open_texts(rt, progress, network, sources)?;
+    let (gr, sources) = open_texts(rt, progress, network, sources)?;
     match open_text(rt, progress, 2, targets) {
         Ok(targets) => Ok((gr, sources, targets)),
-        Err(failed) => Err(fault_before(rt.alloc(), &mut gr, &mut sources, failed)),
+        Err(failed) => Err(fault_before(rt.alloc(), gr, sources, failed)),
     }
 }
 

@@ -21,7 +21,7 @@ ghost use Rattle.words.specs.Pipes.{AreFit};
 ghost use Rattle.words.specs.Words.{IsWorkers};
 
 use crate::copies::{FileCopies, see_folder};
-use crate::doors::{Doors, FileNames, doors_of, see_pipes};
+use crate::doors::{Doors, FileNames, PipeDoor, SeenPipes, doors_of, see_pipes};
 use crate::files::{FIRST_PIPE, open_served_store, standard_input, standard_output};
 use crate::standings::start_telling;
 use desk::{Closed, Desk, Gate, Handle, History, Naming, Setup};
@@ -31,7 +31,7 @@ use filedisk::FileLock;
 use printing::{CountedWriter, Done, Failed};
 use progress::Progress;
 use roadnet::Refusal;
-use sessions::{Copies, Door, LastLine, Terms, Visits, serve, serve_door};
+use sessions::{Answering, Copies, Door, LastLine, Terms, Visits, serve, serve_door};
 use std::alloc::Global;
 use std::fs::File;
 use std::io::{BufRead, Write};
@@ -86,6 +86,59 @@ pub struct Ended<D: Disk> {
 /// For how many milliseconds a server that ends lets sessions at doors send the answers that they are within.
 const LAST_ANSWERS: u64 = 1000;
 
+/// Starts a thread for a door. Refused is want of memory (11) and of threads (63).
+fn start_door<
+    N: Naming + Send + Sync + 'static,
+    D: Disk + Drop + Send + 'static,
+    G: Gate + Drop + Send + Sync + 'static,
+    T: Threads + Wait + Clock + Eprint + Copy + Send + Sync + 'static,
+    A: BufRead + Send + 'static,
+    B: Write + Send + 'static,
+    P: Door<A, B> + Drop + Send + 'static,
+    C: Copies + Drop + Send + Sync + 'static,
+>(
+    threads: T,
+    alloc: Global,
+    desk: &Handle<N, D, G, T>,
+    door: P,
+    visits: &Arc<Visits<N, C>>,
+) -> Result<(), Refusal>
+    ensures causes { IfErr result IsUnstarted }
+{
+    let Ok(desk) = desk.again() else {
+        return Err(Refusal::OutOfMemory);
+    };
+    let Ok(visits) = Arc::try_clone(visits) else {
+        return Err(Refusal::OutOfMemory);
+    };
+    serve_door(threads, alloc, desk, door, visits)
+}
+
+/// Starts a thread for each door. Refused is want of memory (11) and of threads (63).
+fn start_each<
+    N: Naming + Send + Sync + 'static,
+    D: Disk + Drop + Send + 'static,
+    G: Gate + Drop + Send + Sync + 'static,
+    T: Threads + Wait + Clock + Eprint + Copy + Send + Sync + 'static,
+    A: BufRead + Send + 'static,
+    B: Write + Send + 'static,
+    P: Door<A, B> + Drop + Send + 'static,
+    C: Copies + Drop + Send + Sync + 'static,
+>(
+    threads: T,
+    alloc: Global,
+    desk: &Handle<N, D, G, T>,
+    doors: Vec<P>,
+    visits: &Arc<Visits<N, C>>,
+) -> Result<(), Refusal>
+    ensures causes { IfErr result IsUnstarted }
+{
+    for door in doors {
+        start_door(threads, alloc, desk, door, visits)?;
+    }
+    Ok(())
+}
+
 /// Starts a thread for each door, whose sessions have these copies made, and opens them once all have one; where the clients are counted, one more tells from then
 /// on how the server stands. Refused is want of memory (11) and of threads (63); the doors stay closed then.
 fn start_doors<
@@ -116,15 +169,39 @@ fn start_doors<
         guests,
     } = doors;
     let mut are_open = are_open.lock(&threads);
-    for door in doors {
-        let (Ok(desk), Ok(visits)) = (desk.again(), Arc::try_clone(&visits)) else {
-            return Err(Refusal::OutOfMemory);
-        };
-        serve_door(threads, alloc, desk, door, visits)?;
-    }
+    start_each(threads, alloc, desk, doors, &visits)?;
     *are_open = true;
     start_telling(threads, desk, guests);
     Ok(visits)
+}
+
+/// Closes a desk behind its last session, and hands out what is left of it. Once nothing more is written the file's lock is let go: the desk's last
+/// view is built behind that. Sessions at doors that are within an answer then have a second to send it.
+///
+/// A desk that can't be closed (61) doesn't come.
+fn close_desk<
+    N: Naming + Send + Sync + 'static,
+    D: Disk + Drop + Send + 'static,
+    G: Gate + Drop + Send + Sync + 'static,
+    T: Threads + Wait + Clock + Copy + Send + Sync + 'static,
+>(
+    threads: T,
+    desk: Desk<N, D, G, T>,
+    lock: Option<FileLock>,
+    answering: &Answering,
+) -> Result<Closed<D>, Refusal>
+    ensures origin { IfOk result (λ closed. closed.whole.origin ≡ N.origin) }
+    ensures honest { N.came_tidy → IfOk result (λ closed. D.honest closed.disk) }
+    ensures left { N.came_tidy → IfOk result (λ closed. AreAmong (D.left closed.disk) (KeepsDesk closed.whole closed.shown closed.journal_pages)) }
+    ensures causes { IfErr result (λ refusal. refusal ≡ closed) }
+{
+    desk.end_writing();
+    if let Some(mut lock) = lock {
+        let _ = lock.let_go();
+    }
+    desk.end_showing();
+    let _ = answering.let_finish(&threads, LAST_ANSWERS);
+    desk.close()
 }
 
 /// A session over an opened store, and those with clients that come by doors: what it came to, and what is left of its desk, which is closed after it however it
@@ -186,13 +263,7 @@ fn serve_store<
     };
     let (outcome, session) = serve(&threads, alloc, desk.handle(), terms, reader, writer);
     let done = Done::by(&desk);
-    desk.end_writing();
-    if let Some(mut lock) = lock {
-        let _ = lock.let_go();
-    }
-    desk.end_showing();
-    let _ = visits.answering().let_finish(&threads, LAST_ANSWERS);
-    let closed = desk.close()?;
+    let closed = close_desk(threads, desk, lock, visits.answering())?;
     if !session.is_kept(&closed) || !visits.are_kept(&threads, &closed) {
         return Err(Refusal::Closed);
     }
@@ -278,6 +349,151 @@ fn tell_pipe<R: Eprint>(progress: &Progress<'_, R>, pipes: &[PipePair<'_>], fail
     }
 }
 
+/// What a server has before its first session.
+#[derive(Drop)]
+struct Opened<D, P> {
+    disk: D,
+    lock: Option<FileLock>,
+    doors: Doors<P>,
+    folder: Option<String>,
+    setup: Setup,
+}
+
+/// What the session on standard input and output came to, or how the desk built its views.
+fn outcome_of<D: Disk + Drop>(ended: Ended<D>) -> Result<Done, Failed>
+    ensures { IfOk result (λ done. done ≡ ended.done) }
+{
+    let Ended {
+        outcome,
+        closed: _,
+        done,
+    } = ended;
+    outcome?;
+    Ok(done)
+}
+
+/// A session with a reader, answered on standard output, and one with each client that comes by a door.
+fn serve_reader<
+    R: AllocGlobal + Clock + Print,
+    T: AllocGlobal
+        + Threads
+        + Wait
+        + Clock
+        + Eprint
+        + Files<File = File>
+        + Copy
+        + Send
+        + Sync
+        + 'static,
+    D: Disk + Drop + Send + 'static,
+    A: BufRead + Send + 'static,
+    B: Write + Send + 'static,
+    P: Door<A, B> + Drop + Send + 'static,
+    I: BufRead + Drop,
+>(rt: &R, threads: T, opened: Opened<D, P>, mut reader: I) -> Result<Done, Failed>
+where
+    T::Dir: Send + 'static,
+    requires width { ForSome opened.setup.delta IsWidth }
+    requires workers { IsWorkers opened.setup.workers }
+    ensures width { IfOk result (λ done. told_width done ≡ opened.setup.delta) }
+    ensures workers { IfOk result (λ done. told_workers done ≡ Some opened.setup.workers) }
+{
+    let mut writer = standard_output(rt)?;
+    let mut reader = Counted::new(&mut reader);
+    let mut writer = CountedWriter::new(&mut writer);
+    let Opened {
+        disk,
+        lock,
+        doors,
+        folder,
+        setup,
+    } = opened;
+    let gate = Teller { rt: threads };
+    match serve_disk(
+        threads,
+        rt.alloc(),
+        disk,
+        gate,
+        setup,
+        lock,
+        doors,
+        folder,
+        &mut reader,
+        &mut writer,
+    ) {
+        Ok(ended) => outcome_of(ended),
+        Err(refusal) => Err(Failed::Code(refusal)),
+    }
+}
+
+/// A session on standard input and output, and one with each client that comes by a door.
+fn serve_input<
+    R: AllocGlobal + Clock + Input + Print,
+    T: AllocGlobal
+        + Threads
+        + Wait
+        + Clock
+        + Eprint
+        + Files<File = File>
+        + Copy
+        + Send
+        + Sync
+        + 'static,
+    D: Disk + Drop + Send + 'static,
+    A: BufRead + Send + 'static,
+    B: Write + Send + 'static,
+    P: Door<A, B> + Drop + Send + 'static,
+>(rt: &R, threads: T, opened: Opened<D, P>) -> Result<Done, Failed>
+where
+    T::Dir: Send + 'static,
+    requires width { ForSome opened.setup.delta IsWidth }
+    requires workers { IsWorkers opened.setup.workers }
+    ensures width { IfOk result (λ done. told_width done ≡ opened.setup.delta) }
+    ensures workers { IfOk result (λ done. told_workers done ≡ Some opened.setup.workers) }
+{
+    let reader = standard_input(rt)?;
+    serve_reader(rt, threads, opened, reader)
+}
+
+/// The pairs of pipes, each of whose names is that of a named pipe. One that is none is told.
+fn seen_pipes<'a, 'w, R: Eprint + Files>(
+    rt: &R,
+    progress: &Progress<'_, R>,
+    pipes: &'a [PipePair<'w>],
+) -> Result<SeenPipes<'a, 'w>, Failed>
+    requires { AreFit pipes.now }
+{
+    match see_pipes(&FileNames { rt }, pipes) {
+        Ok(seen) => Ok(seen),
+        Err(failed) => {
+            tell_pipe(progress, pipes, &failed);
+            Err(failed)
+        }
+    }
+}
+
+/// The doors of a server, and the folder of its copies, if one is named.
+type DoorsAndFolder<T> = (Doors<PipeDoor<T>>, Option<String>);
+
+/// The doors at these pipes, which are closed yet, and the folder of copies, if one is named. A name that is none of a pipe is told (10 of line 0),
+/// and then one of a folder that is not there.
+fn doors_and_folder<R: AllocGlobal + Clock + Eprint + Files<File = File>, T: Copy + Drop>(
+    rt: &R,
+    threads: T,
+    progress: &Progress<'_, R>,
+    pipes: &[PipePair<'_>],
+    copies: Option<&str>,
+) -> Result<DoorsAndFolder<T>, Failed>
+    requires { AreFit pipes.now }
+{
+    let pipes = seen_pipes(rt, progress, pipes)?;
+    let folder = see_folder(rt, progress, copies)?;
+    match doors_of(threads, rt.alloc(), pipes, progress.is_asked()) {
+        Ok(doors) => Ok((doors, folder)),
+        Err(_) => Err(Failed::Code(Refusal::OutOfMemory)),
+    }
+}
+
 /// A session over the store of a file, which nobody else has while it may be written, and one with each client that comes by a pair of pipes.
 ///
 /// A name that is none of a pipe is told (10 of line 0) before anything is served, and then one of a folder that is not there.
@@ -312,51 +528,15 @@ where
     ensures workers { IfOk result (λ done. told_workers done ≡ Some workers) }
 {
     let disk = open_served_store(rt, progress, store)?;
-    let pipes = match see_pipes(&FileNames { rt }, pipes) {
-        Ok(pipes) => pipes,
-        Err(failed) => {
-            tell_pipe(progress, pipes, &failed);
-            return Err(failed);
-        }
-    };
-    let folder = see_folder(rt, progress, copies)?;
-    let Ok(doors) = doors_of(threads, rt.alloc(), pipes, progress.is_asked()) else {
-        return Err(Failed::Code(Refusal::OutOfMemory));
-    };
+    let (doors, folder) = doors_and_folder(rt, threads, progress, pipes, copies)?;
     progress.tell(store, &"opening");
     let lock = disk.lock().ok();
-    let mut reader = standard_input(rt)?;
-    let mut writer = standard_output(rt)?;
-    let mut reader = Counted::new(&mut reader);
-    let mut writer = CountedWriter::new(&mut writer);
-    let gate = Teller { rt: threads };
-    let setup = Setup { delta, workers };
-    match serve_disk(
-        threads,
-        rt.alloc(),
+    let opened = Opened {
         disk,
-        gate,
-        setup,
         lock,
         doors,
         folder,
-        &mut reader,
-        &mut writer,
-    ) {
-        Ok(
-            Ended {
-                outcome: Ok(()),
-                closed: _,
-                done,
-            },
-        ) => Ok(done),
-        Ok(
-            Ended {
-                outcome: Err(failed),
-                closed: _,
-                done: _,
-            },
-        ) => Err(failed),
-        Err(refusal) => Err(Failed::Code(refusal)),
-    }
+        setup: Setup { delta, workers },
+    };
+    serve_input(rt, threads, opened)
 }

@@ -17,6 +17,18 @@ pub struct Visits {
     pub went: u64,
 }
 
+impl Visits {
+    /// One more has come.
+    fn one_came(&mut self) {
+        self.came = self.came.saturating_add(1);
+    }
+
+    /// One of them has gone.
+    fn one_went(&mut self) {
+        self.went = self.went.saturating_add(1);
+    }
+}
+
 /// The clients of a server, counted where it is told how many there are.
 #[derive(Drop)]
 pub struct Guests {
@@ -26,37 +38,38 @@ pub struct Guests {
 impl Guests {
     /// Nobody has come yet.
     pub fn new(alloc: Global, are_told: bool) -> Result<Guests, AllocError> {
+        if !are_told {
+            return Ok(Guests { counted: None });
+        }
         let none = Visits { came: 0, went: 0 };
-        let counted = if are_told {
-            Some(Arc::new(alloc, Mutex::new(none))?)
-        } else {
-            None
-        };
-        Ok(Guests { counted })
+        let visits = Arc::new(alloc, Mutex::new(none))?;
+        Ok(Guests {
+            counted: Some(visits),
+        })
     }
 
     /// The same count, for another door.
     pub fn again(&self) -> Result<Guests, AllocError> {
-        let counted = match &self.counted {
-            Some(visits) => Some(Arc::try_clone(visits)?),
-            None => None,
+        let Some(visits) = &self.counted else {
+            return Ok(Guests { counted: None });
         };
-        Ok(Guests { counted })
+        let visits = Arc::try_clone(visits)?;
+        Ok(Guests {
+            counted: Some(visits),
+        })
     }
 
     /// One more has come.
     pub fn one_came<R: Wait>(&self, rt: &R) {
         if let Some(visits) = &self.counted {
-            let mut visits = visits.lock(rt);
-            visits.came = visits.came.saturating_add(1);
+            visits.lock(rt).one_came();
         }
     }
 
     /// One of them has gone.
     pub fn one_went<R: Wait>(&self, rt: &R) {
         if let Some(visits) = &self.counted {
-            let mut visits = visits.lock(rt);
-            visits.went = visits.went.saturating_add(1);
+            visits.lock(rt).one_went();
         }
     }
 }

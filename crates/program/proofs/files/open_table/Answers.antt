@@ -10,5 +10,5 @@ unread failed told unopened fault = ⊎_elim
     (λ (rest : IsFaultOf 1 told ⊎ (told ≡ failed)). ⊎_elim (λ (second : IsFaultOf 1 told). inr (inl second)) (λ (same : told ≡ failed). inr (inr (subst (IsUnopened 2) (sym same) unopened))) rest)
     fault
 
-pub returns : goal.returns
-returns g c = unread c.in-Err.failed c.fault_before.result c.in-Err.ensures c.fault_before.ensures
+pub returns-in-Err : goal.returns-in-Err
+returns-in-Err g c = unread c.in-Err.failed c.fault_before.result c.in-Err.ensures c.fault_before.ensures

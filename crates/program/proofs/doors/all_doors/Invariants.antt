@@ -1,5 +1,5 @@
 use Rattle.std.proofs.Common.{◌≡◌, vec_len}
-use Rattle.program.proofs.doors.doors_of.Given as goal
+use Rattle.program.proofs.doors.all_doors.Given as goal
 
 -- one door for each pair so far
 abbrev pub invariant-loop-pair : goal.invariant-loop-pair

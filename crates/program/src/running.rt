@@ -1,0 +1,246 @@
+//! A job of the program, done by what it works on.
+ghost use Rattle.std.specs.Prelude.{◌≡◌, None, Some, IfOk};
+ghost use Rattle.std.specs.Option.{ForSome};
+ghost use Rattle.rows.specs.Kept.{IsWidth};
+ghost use Rattle.program.specs.Kinds.{kind_of};
+ghost use Rattle.words.specs.Pipes.{AreFit};
+ghost use Rattle.words.specs.Words.{IsJournal, IsWorkers, delta_of, journal_of, pipes_of, workers_of, searched_width};
+ghost use Rattle.printing.specs.Widths.{told_width, told_workers};
+
+use crate::jobs::{run_batch, run_joint, run_once, run_reach, run_rehearse};
+use crate::making_jobs::{run_copy, run_create, run_migrate, run_upgrade};
+use crate::serve_jobs::run_serve;
+use crate::store_jobs::{run_apply, run_ask, run_check, run_export, run_show};
+use printing::{Done, Failed};
+use progress::Progress;
+use querytexts::Reach;
+use std::fs::File;
+use std::rt::Files;
+use std::sync::Wait;
+use std::thread::Threads;
+use std::time::Clock;
+use words::Job;
+
+/// What a job works on.
+#[derive(Clone, Copy)]
+pub enum Kind {
+    /// Texts alone.
+    Texts,
+    /// A store that it makes.
+    NewStore,
+    /// A store that is there.
+    OldStore,
+    /// A store that it serves.
+    Served,
+}
+
+/// What a job works on.
+fn kind_of(job: &Job<'_>) -> Kind
+    ensures { result ≡ kind_of job.now }
+{
+    match job {
+        Job::Joint { .. }
+        | Job::Once { .. }
+        | Job::Batch { .. }
+        | Job::Reach { .. }
+        | Job::Reached { .. }
+        | Job::Rehearse { .. } => Kind::Texts,
+        Job::Create { .. } | Job::Migrate { .. } | Job::Upgrade { .. } | Job::Copy { .. } =>
+            Kind::NewStore,
+        Job::Apply { .. }
+        | Job::Ask { .. }
+        | Job::Check { .. }
+        | Job::Show { .. }
+        | Job::Export { .. } => Kind::OldStore,
+        Job::Serve { .. } => Kind::Served,
+    }
+}
+
+/// Does a job on texts.
+fn run_on_texts<R: AllocGlobal + Clock + Eprint + Files<File = File> + Input + Print + Threads>(
+    rt: &R,
+    progress: &Progress<'_, R>,
+    job: &Job<'_>,
+) -> Result<Done, Failed>
+    requires kind { kind_of job.now ≡ Kind.Texts }
+    requires width { ForSome (delta_of job.now) IsWidth }
+    requires journal { ForSome (journal_of job.now) IsJournal }
+    ensures width { IfOk result (λ done. told_width done ≡ searched_width job.now) }
+    ensures workers { workers_of job.now ≡ None }
+{
+    match *job {
+        Job::Joint { delta } => run_joint(rt, delta),
+        Job::Once {
+            network,
+            source,
+            target,
+            delta,
+        } => run_once(rt, progress, network, source, target, delta),
+        Job::Batch {
+            network,
+            pairs,
+            delta,
+        } => run_batch(rt, progress, network, pairs, delta),
+        Job::Reach {
+            network,
+            source,
+            within,
+            delta,
+        } => run_reach(rt, progress, network, Reach::From { source }, within, delta),
+        Job::Reached {
+            network,
+            target,
+            within,
+            delta,
+        } => run_reach(rt, progress, network, Reach::To { target }, within, delta),
+        Job::Rehearse {
+            network,
+            script,
+            journal_pages,
+            room,
+            delta,
+        } => run_rehearse(rt, progress, network, script, journal_pages, room, delta),
+        _ => unreachable!(),
+    }
+}
+
+/// Does a job that makes a store.
+fn run_making<R: AllocGlobal + Clock + Eprint + Files<File = File> + Input + Print>(
+    rt: &R,
+    progress: &Progress<'_, R>,
+    job: &Job<'_>,
+) -> Result<Done, Failed>
+    requires kind { kind_of job.now ≡ Kind.NewStore }
+    requires journal { ForSome (journal_of job.now) IsJournal }
+    ensures width { IfOk result (λ done. told_width done ≡ searched_width job.now) }
+    ensures workers { workers_of job.now ≡ None }
+{
+    match *job {
+        Job::Create {
+            store,
+            network,
+            landmarks,
+            journal_pages,
+            room,
+        } => run_create(rt, progress, store, network, landmarks, journal_pages, room),
+        Job::Migrate { old, new, room } => run_migrate(rt, progress, old, new, room),
+        Job::Upgrade {
+            store,
+            old,
+            network,
+            new,
+            room,
+        } => run_upgrade(rt, progress, store, old, network, new, room),
+        Job::Copy {
+            store,
+            file,
+            room,
+            journal_pages,
+        } => run_copy(rt, progress, store, file, room, journal_pages),
+        _ => unreachable!(),
+    }
+}
+
+/// Does a job on a store that is there, unless it serves it.
+fn run_on_store<R: AllocGlobal + Clock + Eprint + Files<File = File> + Input + Print + Threads>(
+    rt: &R,
+    progress: &Progress<'_, R>,
+    job: &Job<'_>,
+) -> Result<Done, Failed>
+    requires kind { kind_of job.now ≡ Kind.OldStore }
+    requires width { ForSome (delta_of job.now) IsWidth }
+    ensures width { IfOk result (λ done. told_width done ≡ searched_width job.now) }
+    ensures workers { workers_of job.now ≡ None }
+{
+    match *job {
+        Job::Apply {
+            store,
+            commands,
+            delta: _,
+        } => run_apply(rt, progress, store, commands),
+        Job::Ask {
+            store,
+            pairs,
+            delta,
+        } => run_ask(rt, progress, store, pairs, delta),
+        Job::Check { store } => run_check(rt, progress, store),
+        Job::Show { store, look } => run_show(rt, progress, store, look),
+        Job::Export { store, folder } => run_export(rt, progress, store, folder),
+        _ => unreachable!(),
+    }
+}
+
+/// Does the job that serves a store. `threads` is the runtime of a desk's threads.
+fn run_serving<
+    R: AllocGlobal + Clock + Eprint + Files<File = File> + Input + Print,
+    T: AllocGlobal
+        + Threads
+        + Wait
+        + Clock
+        + Eprint
+        + Files<File = File>
+        + Copy
+        + Send
+        + Sync
+        + 'static,
+>(rt: &R, threads: T, progress: &Progress<'_, R>, job: &Job<'_>) -> Result<Done, Failed>
+where
+    T::Dir: Send + 'static,
+    requires kind { kind_of job.now ≡ Kind.Served }
+    requires width { ForSome (delta_of job.now) IsWidth }
+    requires workers { ForSome (workers_of job.now) IsWorkers }
+    requires pipes { AreFit (pipes_of job.now) }
+    ensures width { IfOk result (λ done. told_width done ≡ searched_width job.now) }
+    ensures workers { ForSome (workers_of job.now) (λ workers. IfOk result (λ done. told_workers done ≡ Some workers)) }
+{
+    match job {
+        Job::Serve {
+            store,
+            pipes,
+            copies,
+            delta,
+            workers,
+        } => run_serve(
+            rt,
+            threads,
+            progress,
+            store,
+            pipes.as_slice(),
+            *copies,
+            *delta,
+            *workers,
+        ),
+        _ => unreachable!(),
+    }
+}
+
+/// Does a job, with searches of the job's width. `threads` is the runtime of a desk's threads.
+pub fn run<
+    R: AllocGlobal + Clock + Eprint + Files<File = File> + Input + Print + Threads,
+    T: AllocGlobal
+        + Threads
+        + Wait
+        + Clock
+        + Eprint
+        + Files<File = File>
+        + Copy
+        + Send
+        + Sync
+        + 'static,
+>(rt: &R, threads: T, progress: &Progress<'_, R>, job: &Job<'_>) -> Result<Done, Failed>
+where
+    T::Dir: Send + 'static,
+    requires width { ForSome (delta_of job.now) IsWidth }
+    requires journal { ForSome (journal_of job.now) IsJournal }
+    requires workers { ForSome (workers_of job.now) IsWorkers }
+    requires pipes { AreFit (pipes_of job.now) }
+    ensures width { IfOk result (λ done. told_width done ≡ searched_width job.now) }
+    ensures workers { ForSome (workers_of job.now) (λ workers. IfOk result (λ done. told_workers done ≡ Some workers)) }
+{
+    match kind_of(job) {
+        Kind::Texts => run_on_texts(rt, progress, job),
+        Kind::NewStore => run_making(rt, progress, job),
+        Kind::OldStore => run_on_store(rt, progress, job),
+        Kind::Served => run_serving(rt, threads, progress, job),
+    }
+}

@@ -137,7 +137,7 @@ fn answer_with<Q: BucketQueue + Drop, A: Asked, T: Team>(
     Ok(told)
 }
 
-/// The answer to what is asked around `source`, whatever the workspace holds, which the search uses as `distance_to_in` does.
+/// The answer to what is asked around `source`, whatever the workspace holds: the search takes up its values and its queue.
 pub(crate) fn answer_in<A: Asked, T: Team>(
     alloc: Global,
     snapshot: &Snapshot,

@@ -82,7 +82,7 @@ impl<'a> Asked for Nearest<'a> {
 /// ascending by length, and of two as near the one of the lower number first. Its one error is want of memory.
 ///
 /// The search settles bucket after bucket until so many of the nodes are final, or all of them, and takes time and memory for the nodes that
-/// it comes to by then, whatever the workspace holds, which it uses as `distance_to_in` does.
+/// it comes to by then, whatever the workspace holds: it takes up its values and its queue, and leaves its memory of nodes as it is.
 ///
 /// Of the network of `examples/six.gr`, from 1 the two nearest of 2, 3, 4 and 6 are 2 and 3, both at 10, and from 3 the nearest of 1, 2 and
 /// 6 are 2 at 0 and 6 at 5, since no walk leads to 1.

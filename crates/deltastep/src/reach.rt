@@ -76,7 +76,7 @@ impl Asked for Within {
 /// with 0. Its one error is want of memory.
 ///
 /// The search settles bucket after bucket up to the one that the limit lies in, and takes time and memory for the nodes that it comes to by
-/// then, whatever the workspace holds, which it uses as `distance_to_in` does.
+/// then, whatever the workspace holds: it takes up its values and its queue, and leaves its memory of nodes as it is.
 ///
 /// Of the network of `examples/six.gr`, from 1 within 10 it gives 1, 2, 3 and 5, with the lengths 0, 10, 10 and 10, and from 6 the node 6
 /// alone.

@@ -19,8 +19,8 @@ use std::thread;
 use std::time::{Clock, Duration};
 use words::{PipePair, pipe_at};
 
-/// The bytes of a client that are read or written at once.
-const BUFFER: usize = 1 << 13;
+/// The bytes of a client that are read or written at once: it reads the first of its answers while what follows is made.
+const BUFFER: usize = 1 << 12;
 
 /// For how many milliseconds a door is let be that finds no memory for a client.
 const REST: u64 = 100;

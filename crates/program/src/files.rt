@@ -21,6 +21,9 @@ use words::is_input;
 /// The bytes that are read or written at once.
 const BUFFER: usize = 1 << 16;
 
+/// The bytes of answers that are written at once: who waits for them reads the first while what follows is made.
+const PIECE: usize = 1 << 12;
+
 /// By what number a failure names the store's file; the texts are 0 and 1.
 const STORE: u8 = 2;
 
@@ -42,16 +45,29 @@ pub fn buffered<F: Read + Drop>(alloc: Global, reader: F) -> Result<BufReader<F>
     }
 }
 
+/// A writer of pieces of so many bytes.
+fn writer_of<W: Write + Drop>(
+    alloc: Global,
+    piece: usize,
+    writer: W,
+) -> Result<BufWriter<W>, Failed>
+    ensures same { IfOk result (λ buffered. writer_inner buffered ≡ writer) }
+    ensures unwritten { IfOk result (λ buffered. writer_buffer buffered ≡ []) }
+    ensures refused { IfErr result (λ failed. failed ≡ Failed.Code Refusal.OutOfMemory) }
+{
+    match BufWriter::with_capacity(alloc, piece, writer) {
+        Ok(writer) => Ok(writer),
+        Err(_) => Err(Failed::Code(Refusal::OutOfMemory)),
+    }
+}
+
 /// A writer of larger pieces.
 pub fn buffered_writer<W: Write + Drop>(alloc: Global, writer: W) -> Result<BufWriter<W>, Failed>
     ensures same { IfOk result (λ buffered. writer_inner buffered ≡ writer) }
     ensures unwritten { IfOk result (λ buffered. writer_buffer buffered ≡ []) }
     ensures refused { IfErr result (λ failed. failed ≡ Failed.Code Refusal.OutOfMemory) }
 {
-    match BufWriter::with_capacity(alloc, BUFFER, writer) {
-        Ok(writer) => Ok(writer),
-        Err(_) => Err(Failed::Code(Refusal::OutOfMemory)),
-    }
+    writer_of(alloc, BUFFER, writer)
 }
 
 /// The standard input, which is waited for.
@@ -63,13 +79,13 @@ pub fn standard_input<R: AllocGlobal + Clock + Input>(
     buffered(rt.alloc(), Patient::new(rt, rt.reader()))
 }
 
-/// The standard output, which is waited for.
+/// The standard output for answers, which is waited for.
 pub fn standard_output<R: AllocGlobal + Clock + Print>(
     rt: &R,
 ) -> Result<BufWriter<Patient<'_, R, Printer<'_, R>>>, Failed>
     ensures { IfErr result (λ failed. failed ≡ Failed.Code Refusal.OutOfMemory) }
 {
-    buffered_writer(rt.alloc(), Patient::new(rt, io::writer(rt)))
+    writer_of(rt.alloc(), PIECE, Patient::new(rt, io::writer(rt)))
 }
 
 /// By what name it is told of the standard output.

@@ -1,13 +1,11 @@
 -- Views of one desk.
-use Rattle.std.proofs.Common.{◌≡◌, ◌∙◌, ℕ, List, length, Option, Some, sym, ap, subst, arith, [], Contains}
+use Rattle.std.proofs.Common.{◌≡◌, ◌∙◌, ℕ, List, length, Option, Some, sym, ap, subst, arith}
 use Rattle.std.specs.Prelude.{unwrap_or}
 use mathlib.Core.List.{IsPrefix}
 use Rattle.roadnet.specs.declared.groups.Group.{Group}
 use Rattle.roadnet.specs.Net.{Net}
 use Rattle.roadnet.specs.Step.{after}
 use Rattle.rows.specs.Views.{Viewed}
-use Rattle.rows.specs.Cached.{KeptRow, HasRowsOf, kept_row, rows_of}
-use Rattle.rows.specs.declared.caches.RowCache.{RowCache}
 use Rattle.history.specs.Origins.{Origin, Beginning}
 use Rattle.history.proofs.Beginnings.{prefix_whole, prefix_trans}
 use Rattle.desk.specs.Readings.{IsViewAfter, HasSeen}
@@ -29,9 +27,3 @@ still_seen known now view same begins has = record {
   begins = prefix_trans has.seen known.groups now.groups has.begins begins;
   after_seen = subst (λ (o : Origin). IsViewAfter o has.seen view) (sym same) has.after_seen;
 }
-
--- a cache that keeps nothing keeps rows of any network
-pub none_kept : (version : ℕ) (net : Net) (cache : RowCache) → rows_of cache ≡ [] → HasRowsOf version net cache
-none_kept version net cache empty source row there =
-    let none : Contains [] (kept_row version source row) = subst (λ (rows : List KeptRow). Contains rows (kept_row version source row)) empty there in
-    absurd (omega (arith, none.1))

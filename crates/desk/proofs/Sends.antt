@@ -10,7 +10,7 @@ use Rattle.store.proofs.paged.Paged.TheSendSync as Pages
 use Rattle.history.proofs.histories.History.TheSendSync as Histories
 use Rattle.published.proofs.publishers.Publisher.TheSendSync as Publishers
 use Rattle.keeper.proofs.tracked.Tracked.TheSendSync as Trackeds
-use Rattle.keeper.proofs.shown.Shown.TheSendSync as Showns
+use Rattle.rows.proofs.sights.Sight.TheSendSync as Sights
 use Rattle.store.specs.contracts.store.Store as Store
 use Rattle.store.specs.contracts.store.Store.TheInside as StoreInside
 use Rattle.keeper.specs.contracts.ledgers.Ledger as Ledger
@@ -45,7 +45,7 @@ ledger_inside D d s = search (entries, sendable, crosses) depth 20
 ledger_send : (D : RattleType) (d : DiskGhosts D.Denot) → IsSend D → IsSend (Ledger.the_row D d)
 ledger_send D d s = view_send _ _ _ _ _ (ledger_inside D d s)
 
-ruleset kept = (ledger_send, Showns.the_send, Trackeds.the_field_send)
+ruleset kept = (ledger_send, Sights.the_send, Trackeds.the_field_send)
 
 keeper_inside : (D : RattleType) (d : DiskGhosts D.Denot) → IsSend D → IsSend (KeeperInside.the_row D d)
 keeper_inside D d s = search (kept, sendable, crosses) depth 20

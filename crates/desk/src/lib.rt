@@ -23,7 +23,6 @@ mod repairs;
 mod row_workers;
 mod shared;
 mod shelves;
-mod sights;
 mod states;
 mod threads;
 

@@ -7,12 +7,11 @@ ghost use Rattle.published.specs.Showing.{IsUnseen};
 ghost use Rattle.desk.specs.Readings.{Reading, IsViewAfter, HasSeen};
 
 use crate::pins::Pinned;
-use crate::sights::Sight;
 use history::Front;
 use office::Naming;
 use published::Shown;
 use roadnet::{OutOfMemory, Refusal};
-use rows::Reply;
+use rows::{Reply, Sight};
 use std::alloc::Global;
 use std::marker::{Model, PhantomData};
 use std::thread::Threads;

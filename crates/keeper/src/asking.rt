@@ -28,6 +28,8 @@ impl<D: Disk> Keeper<D> {
         ensures landmark { (l t : ℕ) → query ≡ From l t → IsOk result }
         ensures lower { (s t : ℕ) → query ≡ Lower s t → IsOk result }
     {
-        self.shown.answer(rt, self.alloc, &query)
+        let version = self.shown.version();
+        let reply = self.shown.answer(rt, self.alloc, &query)?;
+        Ok(Answer { version, reply })
     }
 }

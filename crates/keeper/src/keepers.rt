@@ -1,7 +1,7 @@
 use crate::ledgers::Ledger;
-use crate::shown::Shown;
 use crate::tracked::Tracked;
 use disk::Disk;
+use rows::Sight;
 use std::alloc::Global;
 use std::marker::Model;
 
@@ -14,7 +14,7 @@ use std::marker::Model;
 pub struct Keeper<D: Disk> {
     pub(crate) alloc: Global,
     pub(crate) ledger: Ledger<D>,
-    pub(crate) shown: Shown,
+    pub(crate) shown: Sight,
     /// A network that was durable: that of the task which is out, where one is.
     pub(crate) tracked: Tracked,
     /// The version of the task that is out.

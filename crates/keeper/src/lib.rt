@@ -17,7 +17,6 @@ mod numbers;
 mod offices;
 mod rehearsing;
 mod same;
-mod shown;
 mod starting;
 mod submitting;
 mod tasks;

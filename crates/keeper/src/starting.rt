@@ -10,12 +10,11 @@ ghost use Rattle.keeper.specs.Keeping.{Holds, sizes_of};
 
 use crate::keepers::Keeper;
 use crate::ledgers::Ledger;
-use crate::shown::Shown;
 use crate::tracked::Tracked;
 use disk::{Disk, Stoppable};
 use relax::{CHUNK, Crew};
 use roadnet::{Group, Network, OutOfMemory};
-use rows::View;
+use rows::{Sight, View};
 use std::alloc::Global;
 use std::sync::Arc;
 use std::thread::Threads;
@@ -100,7 +99,7 @@ impl<D: Disk> Keeper<D> {
         Ok(Keeper {
             alloc,
             ledger,
-            shown: Shown::new(alloc, view),
+            shown: Sight::new(alloc, view),
             tracked: Tracked { version, network },
             task: None,
         })

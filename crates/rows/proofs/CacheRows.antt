@@ -141,3 +141,9 @@ module _ (version source : ℕ) where
       (λ (first : rows_of new ≡ rows_put version source row found).
       inr (none, (row, first ∙ ap (λ (r : Rows). put_entries key_eq r (key version source) row) (same_map (lru_cache (rows_of found) (capacity_of found)) (rows_of old) (capacity_of old) same size))))
       put
+
+-- a cache that keeps nothing keeps rows of any network
+pub none_kept : (version : ℕ) (net : Net) (cache : RowCache) → rows_of cache ≡ [] → HasRowsOf version net cache
+none_kept version net cache empty source row there =
+    let none : Contains [] (kept_row version source row) = subst (λ (rows : List KeptRow). Contains rows (kept_row version source row)) empty there in
+    absurd (omega (arith, none.1))

@@ -16,6 +16,7 @@ mod ran;
 mod reach;
 mod searches;
 mod side_by_side;
+mod sights;
 mod views;
 
 pub use answers::answer_plain;
@@ -29,4 +30,5 @@ pub use queries::{Query, Reply};
 pub use ran::Ran;
 pub use reach::turned_groups;
 pub use searches::Searches;
+pub use sights::Sight;
 pub use views::View;

@@ -1,19 +1,21 @@
-// The view that a reader looked at last, with the rows that its queries made.
-ghost use Rattle.std.specs.Prelude.{◌≡◌, [], IfOk, IsOk, IsSome};
+ghost use Rattle.std.specs.Prelude.{◌≡◌, ℕ, [], IfOk, IsOk, IsSome};
 ghost use Rattle.rows.specs.declared.queries.Query.TheVariants.{Dist, From, Lower};
 ghost use Rattle.rows.specs.Replies.{refusal_of, IsRight};
 ghost use Rattle.rows.specs.Views.{AreRight};
 
+use crate::caches::{DEFAULT_ROWS, RowCache};
+use crate::queries::{Query, Reply};
+use crate::views::View;
 use roadnet::OutOfMemory;
-use rows::{DEFAULT_ROWS, Reply, RowCache, View};
 use std::alloc::Global;
 use std::marker::Model;
 use std::sync::Arc;
 use std::thread::Threads;
 
-/// A view with rows that were made for it: up to 16, of 4 or 8 bytes a node.
+/// A view with the rows that queries of it made: up to 16, of 4 or 8 bytes a node. Whoever shows views, or looks at those that are shown,
+/// has one.
 #[derive(Drop)]
-pub(crate) struct Sight {
+pub struct Sight {
     alloc: Global,
     view: Arc<View>,
     cache: RowCache,
@@ -33,7 +35,7 @@ impl Model for Sight {
 
 impl Sight {
     /// No row is kept yet. It takes no memory.
-    pub(crate) fn new(alloc: Global, view: Arc<View>) -> Sight
+    pub fn new(alloc: Global, view: Arc<View>) -> Sight
         ensures { result ≡ view.value }
     {
         Sight {
@@ -44,21 +46,36 @@ impl Sight {
     }
 
     /// Its version.
-    pub(crate) fn version(&self) -> u64
+    pub fn version(&self) -> u64
         ensures { result ≡ self.now.version }
     {
         self.view.version()
     }
 
+    /// The view.
+    pub fn view(&self) -> &Arc<View>
+        ensures { result.now.value ≡ self.now }
+    {
+        &self.view
+    }
+
     /// The width of the buckets of its searches.
-    pub(crate) fn width(&self) -> u32
+    pub fn width(&self) -> u32
         ensures { result ≡ self.now.delta }
     {
         self.view.width()
     }
 
-    /// Another view of the desk. The rows are kept where it is of the same version.
-    pub(crate) fn look_at(&mut self, view: Arc<View>)
+    /// Another view, of any network. No row is kept.
+    pub fn show(&mut self, view: Arc<View>)
+        ensures { self.new ≡ view.value }
+    {
+        self.cache.clear();
+        self.view = view;
+    }
+
+    /// Another view of the same history. The rows are kept where it is of the same version.
+    pub fn look_at(&mut self, view: Arc<View>)
         requires { view.value.version ≡ self.old.version → view.value.network ≡ self.old.network }
         ensures { self.new ≡ view.value }
     {
@@ -68,8 +85,25 @@ impl Sight {
         self.view = view;
     }
 
+    /// The reply to a query. The one error is want of memory for a row; a refused query takes none, nor does `From` or `Lower`.
+    pub fn answer<R: Threads>(
+        &mut self,
+        rt: &R,
+        alloc: Global,
+        query: &Query,
+    ) -> Result<Reply, OutOfMemory>
+        ensures right { IfOk result (IsRight self.old.network query.now) }
+        ensures refused { IsSome (refusal_of self.old.network query.now) → IsOk result }
+        ensures landmark { (l t : ℕ) → query.now ≡ From l t → IsOk result }
+        ensures lower { (s t : ℕ) → query.now ≡ Lower s t → IsOk result }
+        ensures same { self.new ≡ self.old }
+    {
+        let mut pinned = self.view.pinned(&mut self.cache);
+        pinned.answer(rt, alloc, query)
+    }
+
     /// The reply to `Dist`. The one error is want of memory for a row; a refused query takes none.
-    pub(crate) fn dist<R: Threads>(
+    pub fn dist<R: Threads>(
         &mut self,
         rt: &R,
         alloc: Global,
@@ -85,7 +119,7 @@ impl Sight {
     }
 
     /// The replies to `Dist` for pairs.
-    pub(crate) fn batch<R: Threads>(
+    pub fn batch<R: Threads>(
         &mut self,
         rt: &R,
         alloc: Global,
@@ -100,7 +134,7 @@ impl Sight {
     }
 
     /// The reply to `From`. It takes no memory.
-    pub(crate) fn from_landmark(&self, landmark: u64, target: u64) -> Reply
+    pub fn from_landmark(&self, landmark: u64, target: u64) -> Reply
         ensures { IsRight self.now.network (From landmark target) result }
     {
         let mut none = RowCache::new(self.alloc, 1);
@@ -109,7 +143,7 @@ impl Sight {
     }
 
     /// The reply to `Lower`. It takes no memory.
-    pub(crate) fn lower(&self, source: u64, target: u64) -> Reply
+    pub fn lower(&self, source: u64, target: u64) -> Reply
         ensures { IsRight self.now.network (Lower source target) result }
     {
         let mut none = RowCache::new(self.alloc, 1);

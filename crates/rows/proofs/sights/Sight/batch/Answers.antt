@@ -1,7 +1,7 @@
 use Rattle.std.proofs.Common.{◌∙◌, ap, sym, subst}
 use Rattle.rows.specs.Views.{Viewed}
 use Rattle.rows.specs.Cached.{capacity_of, HasRowsOf}
-use Rattle.desk.proofs.sights.Sight.batch.Goals as goal
+use Rattle.rows.proofs.sights.Sight.batch.Goals as goal
 
 pub pinned-pinned-requires : goal.pinned-pinned-requires
 pinned-pinned-requires g c = subst (λ (v : Viewed). HasRowsOf v.version v.network c.self.inside.cache) (sym c.deref.ensures) c.self.invariant.0

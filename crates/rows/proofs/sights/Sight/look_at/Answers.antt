@@ -3,9 +3,9 @@ use Rattle.roadnet.specs.Net.{Net}
 use Rattle.rows.specs.Views.{Viewed}
 use Rattle.rows.specs.declared.caches.RowCache.{RowCache}
 use Rattle.rows.specs.Cached.{capacity_of, HasRowsOf, rows_of}
-use Rattle.desk.proofs.Looks.{none_kept}
-use Rattle.desk.proofs.sights.Sight.look_at.Goals as goal
-use Rattle.desk.proofs.sights.Sight.look_at.Goals.{then-version, else-version}
+use Rattle.rows.proofs.CacheRows.{none_kept}
+use Rattle.rows.proofs.sights.Sight.look_at.Goals as goal
+use Rattle.rows.proofs.sights.Sight.look_at.Goals.{then-version, else-version}
 
 pub invariant_of-self : goal.invariant_of-self
 invariant_of-self c =

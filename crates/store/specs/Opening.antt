@@ -121,5 +121,5 @@ MayRefuseToOpenIn format file refusal = IsPassing refusal ⊎ (judged_in format 
 abbrev pub MayRefuseToOpen : List ℕ → Refusal → Type 0
 MayRefuseToOpen file refusal = MayRefuseToOpenIn Two file refusal
 
-abbrev pub StandsForSome : List ℕ → Type 0
-StandsForSome file = (net : Net) × (version : ℕ) × (next : ℕ) × StandsFor file net version next
+abbrev pub IsStoreFile : List ℕ → Type 0
+IsStoreFile file = (net : Net) × (version : ℕ) × (next : ℕ) × StandsFor file net version next

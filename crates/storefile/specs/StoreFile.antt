@@ -126,14 +126,14 @@ pub record Gives (s : Stored) (net : Net) (version : ℕ) : Type 0 where
   pub version_is : version ≡ s.version + length (groups_of s)
 
 -- the same, with what is stored shown: the file stores it, it gives this network and version, and the page of this sequence is written next
-pub record StandsBy (file : List ℕ) (s : Stored) (net : Net) (version next : ℕ) : Type 0 where
+pub record HoldsNetwork (file : List ℕ) (s : Stored) (net : Net) (version next : ℕ) : Type 0 where
   pub is : IsStoreOf file s
   pub gives : Gives s net version
   pub next_is : next ≡ next_sequence s
 
 -- The file, in this format, stands for this network at this version, and the page of this sequence is written next.
 abbrev pub StandsIn : Format → List ℕ → Net → ℕ → ℕ → Type 0
-StandsIn format file net version next = (s : Stored) × StandsBy file s net version next × (s.header.format ≡ format)
+StandsIn format file net version next = (s : Stored) × HoldsNetwork file s net version next × (s.header.format ≡ format)
 
 -- The same in the format in which stores are made and opened.
 abbrev pub StandsFor : List ℕ → Net → ℕ → ℕ → Type 0
@@ -146,11 +146,11 @@ abbrev pub HasNoLaterPage : (ℕ → List ℕ) → Header → ℕ → Type 0
 HasNoLaterPage pages h next = (q : ℕ) → next ≤ q → is_standing pages h q ≡ false
 
 -- the file stands for this network, version and next sequence by what it stores, and no page of its journal is of that sequence or a later one
-pub record StandsTidyBy (file : List ℕ) (s : Stored) (net : Net) (version next : ℕ) : Type 0 where
-  pub stands : StandsBy file s net version next
+pub record HoldsNetworkTidily (file : List ℕ) (s : Stored) (net : Net) (version next : ℕ) : Type 0 where
+  pub stands : HoldsNetwork file s net version next
   pub tidy : HasNoLaterPage (page file) s.header next
 
 -- The file is tidy, its journal has so many pages and a checkpoint writes so many, and it stands for this network at this version.
 abbrev pub StandsTidyFor : ℕ → ℕ → List ℕ → Net → ℕ → Type 0
 StandsTidyFor journal_pages checkpoint_pages file net version =
-    (s : Stored) × (next : ℕ) × StandsTidyBy file s net version next × (s.header.journal_pages ≡ journal_pages) × (slot_pages s.header ≡ checkpoint_pages) × (s.header.format ≡ Two)
+    (s : Stored) × (next : ℕ) × HoldsNetworkTidily file s net version next × (s.header.journal_pages ≡ journal_pages) × (slot_pages s.header ≡ checkpoint_pages) × (s.header.format ≡ Two)

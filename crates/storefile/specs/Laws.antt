@@ -13,7 +13,7 @@ use Rattle.pages.specs.Layout.{HeadOf, other, slot_pages, page_number}
 use Rattle.storefile.specs.StoreFile.{page, is_open, head_of, Stored, Stores, HoldsSlot, HasNoLaterPage, StandsIn, HoldsNetwork, HoldsNetworkTidily, journal_page_at}
 use Rattle.storefile.specs.Standing.{IsStoredAs, Standing, standing_of, with_groups, with_other_slot, LeadsTo}
 use Rattle.storefile.specs.Judging.{judged_in}
-use Rattle.pages.specs.Limits.{most_versions}
+use Rattle.pages.specs.Limits.{page_size, most_versions}
 
 -- ---- what a file stands for
 
@@ -56,14 +56,14 @@ SameBut k pages pages' = (j : ℕ) → j ≢ k → pages' j ≡ pages j
 abbrev pub ClosedPageMeansNothing : Type 0
 ClosedPageMeansNothing =
     (file file' : List ℕ) (s : Stored) (net : Net) (v q : ℕ) → HoldsNetworkTidily file s net v q → length s.unchecked < s.header.journal_pages
-    → SameOutside (4096 * journal_page_at s.header q) 4096 file file' → is_open (page file' (journal_page_at s.header q)) ≡ false
+    → SameOutside (page_size * journal_page_at s.header q) page_size file file' → is_open (page file' (journal_page_at s.header q)) ≡ false
     → HoldsNetworkTidily file' s net v q
 
 -- Once that page is open and spells groups that follow, the file stands for the network after them, with one page more, and stays tidy.
 abbrev pub OpenPageIsOneMore : Type 0
 OpenPageIsOneMore =
     (file file' : List ℕ) (s : Stored) (net net' : Net) (v q : ℕ) (groups : List (List Command)) → HoldsNetworkTidily file s net v q → length s.unchecked < s.header.journal_pages
-    → SameOutside (4096 * journal_page_at s.header q) 4096 file file' → is_open (page file' (journal_page_at s.header q)) ≡ true
+    → SameOutside (page_size * journal_page_at s.header q) page_size file file' → is_open (page file' (journal_page_at s.header q)) ≡ true
     → SpelledEntry s.header.format (page file' (journal_page_at s.header q)) (record { sequence = q; first_number = v + 1; groups = groups })
     → v + length groups ≤ most_versions → after net groups ≡ Some net'
     → HoldsNetworkTidily file' (with_groups s groups) net' (v + length groups) (q + 1)
@@ -72,7 +72,7 @@ OpenPageIsOneMore =
 abbrev pub ClosedSlotMeansNothing : Type 0
 ClosedSlotMeansNothing =
     (file file' : List ℕ) (s : Stored) (net : Net) (v q : ℕ) → HoldsNetwork file s net v q
-    → SameOutside (4096 * page_number s.header (HeadOf (other s.slot))) (4096 * (slot_pages s.header + 1)) file file'
+    → SameOutside (page_size * page_number s.header (HeadOf (other s.slot))) (page_size * (slot_pages s.header + 1)) file file'
     → is_open (page file' (page_number s.header (HeadOf (other s.slot)))) ≡ false
     → HoldsNetwork file' s net v q
 
@@ -81,7 +81,7 @@ ClosedSlotMeansNothing =
 abbrev pub OpenSlotIsCurrent : Type 0
 OpenSlotIsCurrent =
     (file file' : List ℕ) (s : Stored) (net from : Net) (v q epoch from_version from_next : ℕ) (behind : List (List (List Command))) → HoldsNetwork file s net v q
-    → SameOutside (4096 * page_number s.header (HeadOf (other s.slot))) (4096 * (slot_pages s.header + 1)) file file'
+    → SameOutside (page_size * page_number s.header (HeadOf (other s.slot))) (page_size * (slot_pages s.header + 1)) file file'
     → is_open (page file' (page_number s.header (HeadOf (other s.slot)))) ≡ true
     → s.epoch < epoch → LeadsTo (page file) s.header from from_version from_next behind net v q → length behind ≤ s.header.journal_pages
     → HoldsSlot (page file') s.header (other s.slot) (head_of (with_other_slot s epoch from from_version from_next behind)) from
@@ -91,5 +91,5 @@ OpenSlotIsCurrent =
 abbrev pub SlotsKeepTidy : Type 0
 SlotsKeepTidy =
     (file file' : List ℕ) (h : Header) (slot : Slot) (q : ℕ) → HasNoLaterPage (page file) h q
-    → SameOutside (4096 * page_number h (HeadOf (other slot))) (4096 * (slot_pages h + 1)) file file'
+    → SameOutside (page_size * page_number h (HeadOf (other slot))) (page_size * (slot_pages h + 1)) file file'
     → HasNoLaterPage (page file') h q

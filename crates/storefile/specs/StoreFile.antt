@@ -13,13 +13,13 @@ use Rattle.pages.specs.declared.content.Format.TheVariants.{Two}
 use Rattle.pages.specs.Contents.{Head}
 use Rattle.pages.specs.Spelling.{SpelledHeader, SpelledArcs, SpelledWords, SpelledHead, SpelledEntry, ends_of, word_of}
 use Rattle.pages.specs.Layout.{Arcs, HeadOf, Words, EndsOf, Journal, places_in_use, arc_pages, word_pages, end_pages, slot_pages, other, page_number, page_count, place_of}
-use Rattle.pages.specs.Limits.{most_versions}
+use Rattle.pages.specs.Limits.{page_size, gate_at, most_versions}
 
 -- ---- pages
 
 -- the page of this number of a file
 abbrev pub page : List ℕ → ℕ → List ℕ
-page file k = take 4096 (drop (4096 * k) file)
+page file k = take page_size (drop (page_size * k) file)
 
 -- In what follows a file is seen by its pages: `pages k` is its page k.
 
@@ -29,7 +29,7 @@ part places i xs = take places (drop (places * i) xs)
 
 -- the gate of a page, its last byte, is open
 abbrev pub is_open : List ℕ → Bool
-is_open page = slice_index page 4095 == open_byte
+is_open page = slice_index page gate_at == open_byte
 
 -- a page's first number: the epoch of a slot's head, the sequence of a journal page
 abbrev pub first_field : List ℕ → ℕ
@@ -105,7 +105,7 @@ HoldsJournal pages h q v (groups ∷ rest) =
 pub record Stores (size : ℕ) (pages : ℕ → List ℕ) (s : Stored) : Type 0 where
   pub header : SpelledHeader (pages 0) s.header
   pub opened : IsTrue (is_open (pages 0))
-  pub size_is : size ≡ 4096 * page_count s.header
+  pub size_is : size ≡ page_size * page_count s.header
   pub arcs : HoldsArcs pages s.header s.network
   pub current : IsCurrent pages s.header s.slot
   pub held : HoldsSlot pages s.header s.slot (head_of s) s.network

@@ -15,7 +15,7 @@ use Rattle.pages.specs.Layout.{page_count}
 use Rattle.storefile.specs.Judging.{◌>>=◌, unless_so, spelled_at, begins_as_store, format_of, header_in, entry_in, ends_from, current_slot, journal_from, judged_in}
 use Rattle.checkpoint.specs.declared.slots.Checkpoint.{Checkpoint}
 use Rattle.checkpoint.specs.Loading.{head_of, loaded_from}
-use Rattle.pages.specs.Limits.{most_versions}
+use Rattle.pages.specs.Limits.{page_size, most_versions}
 use Rattle.pages.specs.declared.content.Format.{Format}
 use Rattle.pages.specs.declared.content.Format.TheVariants.{Two}
 use Rattle.pages.specs.Formats.{number_of}
@@ -26,7 +26,7 @@ header_from format size page = do
   _ ← unless_so (begins_as_store size page) NotAStore
   _ ← unless_so (format_of page == number_of format) WrongFormat
   h ← spelled_at 0 (header_in page)
-  _ ← unless_so (size == 4096 * page_count h) (Damaged 0)
+  _ ← unless_so (size == page_size * page_count h) (Damaged 0)
   Ok h
 
 -- what is found there, as the file's standing

@@ -7,6 +7,7 @@ use Rattle.pages.specs.declared.content.Slot.{Slot}
 use Rattle.pages.specs.Contents.{Head}
 use Rattle.pages.specs.Spelling.{body, arc_page, word_page, head_page, ends_of, word_of}
 use Rattle.pages.specs.Layout.{HeadOf, word_pages, slot_pages, page_number}
+use Rattle.pages.specs.Limits.{page_size, gate_at}
 use Rattle.storefile.specs.StoreFile.{page, part, is_open}
 
 -- A checkpoint that is being written: its slot, the epoch, version and next sequence of its head, and how many of the pages behind its head
@@ -26,13 +27,13 @@ head_of d net = record { epoch = d.epoch; version = d.version; next_sequence = d
 
 -- where they begin, how many bytes they have, and where the slot's gate is
 abbrev pub slot_at : Header → Slot → ℕ
-slot_at h slot = 4096 * page_number h (HeadOf slot)
+slot_at h slot = page_size * page_number h (HeadOf slot)
 
 abbrev pub slot_size : Header → ℕ
-slot_size h = 4096 * (slot_pages h + 1)
+slot_size h = page_size * (slot_pages h + 1)
 
 abbrev pub slot_gate : Header → Slot → ℕ
-slot_gate h slot = slot_at h slot + 4095
+slot_gate h slot = slot_at h slot + gate_at
 
 -- the i-th word page of a network
 abbrev pub words_page : Net → ℕ → List ℕ
@@ -51,7 +52,7 @@ slot_page_at h slot i = page_number h (HeadOf slot) + 1 + i
 
 -- its first byte in the file
 abbrev pub slot_byte_at : Header → Slot → ℕ → ℕ
-slot_byte_at h slot i = 4096 * slot_page_at h slot i
+slot_byte_at h slot i = page_size * slot_page_at h slot i
 
 -- the first pages behind this slot's head, so many, are those of the network
 abbrev pub HoldsPages : (ℕ → List ℕ) → Header → Slot → Net → ℕ → Type 0

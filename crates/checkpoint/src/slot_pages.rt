@@ -4,6 +4,7 @@ ghost use Rattle.disk.specs.Calling.{WritesUnsynced};
 ghost use Rattle.disk.specs.Contents.{overwritten};
 ghost use Rattle.pages.specs.Spelling.{IsHeader, body};
 ghost use Rattle.pages.specs.Layout.{slot_pages};
+ghost use Rattle.pages.specs.Limits.{page_size};
 ghost use Rattle.pagereader.specs.Reading.{HasFileOf};
 ghost use Rattle.storefile.specs.StoreFile.{page, part};
 ghost use Rattle.checkpoint.specs.Writing.{slot_at, slot_gate, words_page, ends_page, slot_page, slot_page_at, slot_byte_at, IsSlotShut, LeavesSlotShut};
@@ -34,7 +35,7 @@ pub fn part_of(arcs: &[RoadArc], i: u64, places: usize) -> &[RoadArc]
 
 /// Puts a page at the `i`-th place of the buffer.
 fn put_page(buffer: &mut [u8], i: usize, bytes: &[u8; PAGE_SIZE])
-    requires { 4096 * (i + 1) ≤ length buffer.old }
+    requires { page_size * (i + 1) ≤ length buffer.old }
     ensures put { page buffer.new i ≡ bytes.now }
     ensures others { (j : ℕ) → j ≢ i → page buffer.new j ≡ page buffer.old j }
     ensures size { length buffer.new ≡ length buffer.old }
@@ -80,7 +81,7 @@ fn page_behind(header: &Header, network: &Network, i: u64) -> [u8; PAGE_SIZE]
 /// Puts so many of the pages behind a slot's head, from the `first` on, at the front of the buffer.
 pub fn put_pages(buffer: &mut [u8], header: &Header, network: &Network, first: u64, count: usize)
     requires few { first + count ≤ 2 ^ 32 }
-    requires room { 4096 * count ≤ length buffer.old }
+    requires room { page_size * count ≤ length buffer.old }
     ensures pages { (i : ℕ) → i < count → page buffer.new i ≡ slot_page header.now network.now (first + i) }
     ensures size { length buffer.new ≡ length buffer.old }
 {
@@ -100,7 +101,7 @@ pub fn write_pages<D: Disk>(
 ) -> Result<(), DiskError>
     requires file { HasFileOf D.Disk header.now disk.old }
     requires within { first < slot_pages header.now }
-    requires room { 4096 * first + length pages.now ≤ 4096 * slot_pages header.now }
+    requires room { page_size * first + length pages.now ≤ page_size * slot_pages header.now }
     requires shut { D.honest disk.old → LeavesSlotShut header.now slot (D.content disk.old) (D.left disk.old) }
     ensures written { D.honest disk.old → OnOk result (D.content disk.new ≡ overwritten (D.content disk.old) (slot_byte_at header.now slot first) pages.now) }
     ensures content { D.honest disk.old → IsSlotShut header.now slot (D.content disk.old) (D.content disk.new) }

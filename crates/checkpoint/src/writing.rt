@@ -39,12 +39,13 @@ pub struct NextCheckpoint {
 impl Model for NextCheckpoint {
     ghost use Rattle.std.specs.Prelude.{◌≡◌, ◌*◌, length};
     ghost use Rattle.checkpoint.specs.Writing.{Draft};
+    ghost use Rattle.pages.specs.Limits.{page_size};
 
     ghost Value = { Draft };
 
     ghost view = { λ c. record { slot = c.slot; epoch = c.epoch; version = c.version; next_sequence = c.next_sequence; written = c.written } };
 
-    ghost invariant = { λ c. length c.buffer.items ≡ 64 * 4096 };
+    ghost invariant = { λ c. length c.buffer.items ≡ 64 * page_size };
 }
 
 impl NextCheckpoint {

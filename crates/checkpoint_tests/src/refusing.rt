@@ -2,7 +2,7 @@
 // the store that is opened then gives what it would have given at first.
 ghost use Rattle.std.specs.Prelude.{IfErr, IfOk};
 ghost use Rattle.store.specs.Opening.{MayRefuseToOpen};
-ghost use Rattle.store.specs.State.{StandsAs, told};
+ghost use Rattle.store.specs.State.{HasTold, told};
 
 use crate::checkpointing::{full, reused, set};
 use crate::parts::{PLANS, one_closed};
@@ -15,7 +15,7 @@ use store_fixtures::opened;
 // Opens the disk, and once more where it failed. The second opening gives what the first would have: both are judged by the content as it
 // was at first.
 fn opened_again<D: Disk>(alloc: Global, disk: D) -> Result<Store<D>, (Refusal, D)>
-    ensures told { D.honest disk → IfOk result (λ store. StandsAs (D.content disk) (told store)) }
+    ensures told { D.honest disk → IfOk result (λ store. HasTold (D.content disk) (told store)) }
     ensures judged { D.honest disk → IfErr result (λ refused. MayRefuseToOpen (D.content disk) refused.0) }
 {
     match open(alloc, disk) {

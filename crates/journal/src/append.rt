@@ -7,7 +7,7 @@ ghost use Rattle.pages.specs.declared.content.Format.TheVariants.{Two as two};
 ghost use Rattle.roadnet.specs.Groups.{commands_of, count_of};
 ghost use Rattle.pagereader.specs.Reading.{HasFileOf};
 ghost use Rattle.storefile.specs.StoreFile.{journal_page_at};
-ghost use Rattle.pages.specs.Limits.{most_commands};
+ghost use Rattle.pages.specs.Limits.{page_size, gate_at, most_commands};
 
 use disk::{Disk, DiskError, write_gated};
 use pages::{GATE_AT, Header, PAGE_SIZE, encode_journal_page};
@@ -16,7 +16,7 @@ use roadnet::Group;
 /// All of a page but its gate.
 fn body_of(page: &[u8; PAGE_SIZE]) -> &[u8]
     ensures bytes { result.now ≡ body page.now }
-    ensures size { length result.now ≡ 4095 }
+    ensures size { length result.now ≡ gate_at }
 {
     &page[..GATE_AT]
 }
@@ -38,9 +38,9 @@ pub fn append_page<D: Disk>(
     requires few { count_of groups.now ≤ most_commands }
     requires fits { All (FitsRecord two) (commands_of groups.now) }
     requires at_rest { D.honest disk.old → Only (D.content disk.old) (D.left disk.old) }
-    ensures written { D.honest disk.old → OnOk result (D.content disk.new ≡ with_page (D.content disk.old) (4096 * journal_page_at header.now sequence) (body (entry_page (record { sequence = sequence; first_number = first_number; groups = groups.now })))) }
+    ensures written { D.honest disk.old → OnOk result (D.content disk.new ≡ with_page (D.content disk.old) (page_size * journal_page_at header.now sequence) (body (entry_page (record { sequence = sequence; first_number = first_number; groups = groups.now })))) }
     // A stop at any moment of the call leaves the old page whole, the new one whole, or a closed gate.
-    ensures writes { Writes D.Disk (IsWholeOrShut (D.content disk.old) (4096 * journal_page_at header.now sequence) (body (entry_page (record { sequence = sequence; first_number = first_number; groups = groups.now })))) result disk.old disk.new }
+    ensures writes { Writes D.Disk (IsWholeOrShut (D.content disk.old) (page_size * journal_page_at header.now sequence) (body (entry_page (record { sequence = sequence; first_number = first_number; groups = groups.now })))) result disk.old disk.new }
 {
     let page = encode_journal_page(sequence, first_number, groups);
     let body = body_of(&page);

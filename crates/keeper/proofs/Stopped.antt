@@ -9,7 +9,7 @@ use Rattle.pages.specs.Layout.{slot_pages}
 use Rattle.storefile.specs.StoreFile.{StandsTidyFor}
 use Rattle.storefile.specs.Standing.{Standing, standing_of}
 use Rattle.storefile.proofs.Rests.{stored_as}
-use Rattle.store.specs.Committing.{StandsTidily}
+use Rattle.store.specs.Committing.{HasTidyStanding}
 use Rattle.machine.specs.Machine.{Sizes, Machine, IsState, start, network_at, groups_to}
 use Rattle.machine.specs.Calls.{StopsAndOpens}
 use Rattle.machine.specs.LifeInRun.{within}
@@ -28,7 +28,7 @@ pub record IsOpened (journal_pages checkpoint_pages : ℕ) (content : List ℕ) 
   pub version_is : x.version ≡ version
   pub pages_are : x.header.journal_pages ≡ journal_pages
   pub slot_is : slot_pages x.header ≡ checkpoint_pages
-  pub stands : StandsTidily content x
+  pub stands : HasTidyStanding content x
 
 pub is_opened : (journal_pages checkpoint_pages : ℕ) (content : List ℕ) (net : Net) (version : ℕ) (x : Standing) → StandsTidyFor journal_pages checkpoint_pages content net version → standing_of content ≡ Some x → IsOpened journal_pages checkpoint_pages content net version x
 is_opened journal_pages checkpoint_pages content net version x stands told =
@@ -75,7 +75,7 @@ module _ (m : Machine) (content : List ℕ) (x : Standing) (s : IsState m) (held
   stands_as_told next t same begins =
       (held, sym (ap (λ (z : Machine). z.base_version) begins ∙ (ap (λ (y : Told). y.version) (sym same) ∙ o.version_is)))
 
-  pub stands_after : StandsTidily content x
+  pub stands_after : HasTidyStanding content x
   stands_after = o.stands
 
 -- ---- the life that begins, within the run

@@ -7,7 +7,7 @@ ghost use Rattle.pagereader.specs.Outcomes.{failures_with, MayEndOpening};
 ghost use Rattle.rows.specs.Kept.{IsWidth};
 ghost use Rattle.roadnet.specs.declared.refusals.Refusal.TheVariants.{OutOfMemory as out_of_memory, Device as device};
 ghost use Rattle.store.specs.State.{CameTidy, is_calm};
-ghost use Rattle.store.specs.Opening.{IsPassing, StandsForSome};
+ghost use Rattle.store.specs.Opening.{IsPassing, IsStoreFile};
 ghost use Rattle.machine.specs.declared.events.Event.TheVariants.{Stop};
 ghost use Rattle.machine.specs.declared.events.Replied.TheVariants.{Refused};
 ghost use Rattle.keeper.specs.Cutting.{IsCut, picks_taken, HaveCut, stops_by};
@@ -127,7 +127,7 @@ fn reopen<R: Threads, D: Stoppable>(
     ensures delta { IfOk result (λ life. life.delta ≡ delta) }
     ensures causes { IfErr result (λ refused. MayEndOpening refused.0) }
     ensures honest { D.honest disk → IfErr result (λ refused. D.honest refused.1) }
-    ensures passing { D.honest disk → ((c : List ℕ) → D.left disk c → StandsForSome c) → IfErr result (λ refused. IsPassing refused.0) }
+    ensures passing { D.honest disk → ((c : List ℕ) → D.left disk c → IsStoreFile c) → IfErr result (λ refused. IsPassing refused.0) }
     ensures among { D.honest disk → IfErr result (λ refused. AreAmong (D.left refused.1) (D.left disk)) }
     // The count of failures rises by one where 43 is told, and else not at all.
     ensures counted { MatchResult result (λ life. D.failures life.keeper.disk ≡ D.failures disk)

@@ -6,12 +6,13 @@ use Rattle.roadnet.specs.declared.refusals.Refusal.{Refusal}
 use Rattle.pages.specs.declared.header.Header.{Header}
 use Rattle.pages.specs.Spelling.{IsHeader}
 use Rattle.pages.specs.Layout.{page_count}
+use Rattle.pages.specs.Limits.{page_size}
 use Rattle.pagereader.specs.Outcomes.{failures_told, IsQuiet, MayEndOpening}
 
 -- The disk has the file of a store with this header: over an honest disk it has as many pages as the header announces.
 pub record HasFileOf {D : Type 0} (disk : Ghosts D) (h : Header) (d : D) : Type 0 where
   pub header : IsHeader h
-  pub whole : disk.honest d → length (disk.content d) ≡ 4096 * page_count h
+  pub whole : disk.honest d → length (disk.content d) ≡ page_size * page_count h
 
 -- The call reads alone, as `Reads` says, and may refuse as an opening may. The count of failures rises by one where 43 is told, and else not at all.
 pub record ReadsToOpen {D T : Type 0} (disk : Ghosts D) (result : Result T Refusal) (old new : D) : Type 0 where

@@ -1,5 +1,6 @@
 -- Pages of a file, one after the other.
 use Rattle.std.specs.Prelude.{◌≡◌, ℕ, ◌+◌, ◌-◌, ◌*◌, ◌≤◌, List, length, take, drop}
+use Rattle.pages.specs.Limits.{page_size}
 
 -- the pages from this number on, one behind the other
 pub record Run : Type 0 where
@@ -8,8 +9,8 @@ pub record Run : Type 0 where
 
 -- the run is one of the file
 abbrev pub IsRunOf : List ℕ → Run → Type 0
-IsRunOf file run = run.bytes ≡ take (length run.bytes) (drop (4096 * run.first) file)
+IsRunOf file run = run.bytes ≡ take (length run.bytes) (drop (page_size * run.first) file)
 
 -- this page is one of the run's
 abbrev pub Holds : Run → ℕ → Type 0
-Holds run k = (run.first ≤ k) × (4096 * (k - run.first + 1) ≤ length run.bytes)
+Holds run k = (run.first ≤ k) × (page_size * (k - run.first + 1) ≤ length run.bytes)

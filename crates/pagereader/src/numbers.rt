@@ -2,6 +2,7 @@ ghost use Rattle.std.specs.Prelude.{◌≡◌, ◌+◌, ◌*◌, ◌<◌, ◌≤
 ghost use Rattle.disk.specs.Calling.{Reads};
 ghost use Rattle.storefile.specs.StoreFile.{page};
 ghost use Rattle.pages.specs.Gates.{open_number};
+ghost use Rattle.pages.specs.Limits.{page_size};
 
 use crate::reader::read_page;
 use disk::{Disk, DiskError};
@@ -10,7 +11,7 @@ use pages::{PAGE_SIZE, open_number};
 /// The first eight bytes of page `k` as a number, where the page's gate is open. Nothing is changed.
 pub fn read_open_number<D: Disk>(disk: &mut D, k: u64) -> Result<Option<u64>, DiskError>
     requires fits { k < 2 ^ 52 }
-    requires within { D.honest disk.old → 4096 * (k + 1) ≤ length (D.content disk.old) }
+    requires within { D.honest disk.old → page_size * (k + 1) ≤ length (D.content disk.old) }
     ensures number { D.honest disk.old → IfOk result (λ found. found ≡ open_number (page (D.content disk.old) k)) }
     ensures reads { Reads D.Disk result disk.old disk.new }
 {

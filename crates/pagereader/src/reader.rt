@@ -1,6 +1,7 @@
 ghost use Rattle.std.specs.Prelude.{◌≡◌, ◌+◌, ◌-◌, ◌*◌, ◌<◌, ◌≤◌, ◌^◌, ◌↔◌, [], IsTrue, length, take, drop, IfOk, OnOk};
 ghost use Rattle.disk.specs.Calling.{Reads};
 ghost use Rattle.storefile.specs.StoreFile.{page};
+ghost use Rattle.pages.specs.Limits.{page_size};
 ghost use Rattle.pagereader.specs.Runs.{IsRunOf, Holds};
 
 use disk::{Disk, DiskError, read_at};
@@ -13,7 +14,7 @@ const BUFFER_SIZE: usize = PAGES_AT_ONCE * PAGE_SIZE;
 /// Reads page `k` of the file. Nothing is changed.
 pub fn read_page<D: Disk>(disk: &mut D, k: u64, into: &mut [u8; PAGE_SIZE]) -> Result<(), DiskError>
     requires fits { k < 2 ^ 52 }
-    requires within { D.honest disk.old → 4096 * (k + 1) ≤ length (D.content disk.old) }
+    requires within { D.honest disk.old → page_size * (k + 1) ≤ length (D.content disk.old) }
     ensures bytes { D.honest disk.old → OnOk result (into.new ≡ page (D.content disk.old) k) }
     ensures reads { Reads D.Disk result disk.old disk.new }
 {
@@ -23,9 +24,9 @@ pub fn read_page<D: Disk>(disk: &mut D, k: u64, into: &mut [u8; PAGE_SIZE]) -> R
 // Reads so many pages from page `k` on into the front of the buffer.
 fn read_run<D: Disk>(disk: &mut D, k: u64, count: u64, buffer: &mut [u8]) -> Result<(), DiskError>
     requires fits { k < 2 ^ 52 }
-    requires room { 4096 * count ≤ length buffer.old }
-    requires within { D.honest disk.old → 4096 * (k + count) ≤ length (D.content disk.old) }
-    ensures bytes { D.honest disk.old → OnOk result (take (4096 * count) buffer.new ≡ take (4096 * count) (drop (4096 * k) (D.content disk.old))) }
+    requires room { page_size * count ≤ length buffer.old }
+    requires within { D.honest disk.old → page_size * (k + count) ≤ length (D.content disk.old) }
+    ensures bytes { D.honest disk.old → OnOk result (take (page_size * count) buffer.new ≡ take (page_size * count) (drop (page_size * k) (D.content disk.old))) }
     ensures reads { Reads D.Disk result disk.old disk.new }
 {
     read_at(
@@ -47,12 +48,13 @@ pub struct PageReader {
 impl Model for PageReader {
     ghost use Rattle.std.specs.Prelude.{◌≡◌, ◌*◌, ◌≤◌, take, length};
     ghost use Rattle.pagereader.specs.Runs.{Run};
+    ghost use Rattle.pages.specs.Limits.{page_size};
 
     ghost Value = { Run };
 
-    ghost view = { λ r. record { first = r.first; bytes = take (4096 * r.count) r.buffer.items } };
+    ghost view = { λ r. record { first = r.first; bytes = take (page_size * r.count) r.buffer.items } };
 
-    ghost invariant = { λ r. (r.count ≤ 64) × (length r.buffer.items ≡ 64 * 4096) };
+    ghost invariant = { λ r. (r.count ≤ 64) × (length r.buffer.items ≡ 64 * page_size) };
 }
 
 impl PageReader {
@@ -70,7 +72,7 @@ impl PageReader {
 
     // Whether page `k` is held.
     fn holds(&self, k: u64) -> bool
-        ensures { IsTrue result ↔ ((self.now.first ≤ k) × (4096 * (k - self.now.first + 1) ≤ length self.now.bytes)) }
+        ensures { IsTrue result ↔ ((self.now.first ≤ k) × (page_size * (k - self.now.first + 1) ≤ length self.now.bytes)) }
     {
         self.first <= k && k - self.first < self.count
     }
@@ -78,8 +80,8 @@ impl PageReader {
     // Copies page `k`, which is held.
     fn copy(&self, k: u64, into: &mut [u8; PAGE_SIZE])
         requires from { self.now.first ≤ k }
-        requires to { 4096 * (k - self.now.first + 1) ≤ length self.now.bytes }
-        ensures { into.new ≡ take 4096 (drop (4096 * (k - self.now.first)) self.now.bytes) }
+        requires to { page_size * (k - self.now.first + 1) ≤ length self.now.bytes }
+        ensures { into.new ≡ take page_size (drop (page_size * (k - self.now.first)) self.now.bytes) }
     {
         let at = (k - self.first) as usize * PAGE_SIZE;
         into.copy_from_slice(&self.buffer[at..at + PAGE_SIZE]);
@@ -89,10 +91,10 @@ impl PageReader {
     fn hold<D: Disk>(&mut self, disk: &mut D, k: u64, end: u64) -> Result<(), DiskError>
         requires some { k < end }
         requires fits { k < 2 ^ 52 }
-        requires within { D.honest disk.old → 4096 * end ≤ length (D.content disk.old) }
+        requires within { D.honest disk.old → page_size * end ≤ length (D.content disk.old) }
         requires run { D.honest disk.old → IsRunOf (D.content disk.old) self.old }
         ensures from { OnOk result (self.new.first ≤ k) }
-        ensures to { OnOk result (4096 * (k - self.new.first + 1) ≤ length self.new.bytes) }
+        ensures to { OnOk result (page_size * (k - self.new.first + 1) ≤ length self.new.bytes) }
         ensures run { D.honest disk.old → IsRunOf (D.content disk.old) self.new }
         ensures reads { Reads D.Disk result disk.old disk.new }
     {
@@ -106,9 +108,9 @@ impl PageReader {
     fn fill<D: Disk>(&mut self, disk: &mut D, k: u64, end: u64) -> Result<(), DiskError>
         requires some { k < end }
         requires fits { k < 2 ^ 52 }
-        requires within { D.honest disk.old → 4096 * end ≤ length (D.content disk.old) }
+        requires within { D.honest disk.old → page_size * end ≤ length (D.content disk.old) }
         ensures from { OnOk result (self.new.first ≤ k) }
-        ensures to { OnOk result (4096 * (k - self.new.first + 1) ≤ length self.new.bytes) }
+        ensures to { OnOk result (page_size * (k - self.new.first + 1) ≤ length self.new.bytes) }
         ensures run { D.honest disk.old → IsRunOf (D.content disk.old) self.new }
         ensures reads { Reads D.Disk result disk.old disk.new }
     {
@@ -131,7 +133,7 @@ impl PageReader {
     ) -> Result<(), DiskError>
         requires some { k < end }
         requires fits { k < 2 ^ 52 }
-        requires within { D.honest disk.old → 4096 * end ≤ length (D.content disk.old) }
+        requires within { D.honest disk.old → page_size * end ≤ length (D.content disk.old) }
         requires run { D.honest disk.old → IsRunOf (D.content disk.old) self.old }
         ensures bytes { D.honest disk.old → OnOk result (into.new ≡ page (D.content disk.old) k) }
         ensures run { D.honest disk.old → IsRunOf (D.content disk.old) self.new }

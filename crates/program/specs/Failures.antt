@@ -3,7 +3,7 @@ use Rattle.std.specs.Prelude.{◌≡◌, ◌⊎◌, ◌+◌, ℕ, Bool, true, fa
 use lib.Chars.{codes}
 use Rattle.roadnet.specs.declared.refusals.Refusal.{Refusal}
 use Rattle.roadnet.specs.declared.refusals.Refusal.TheVariants.{Damaged, Device, NotAStore, NotEmpty, OutOfMemory, WrongFormat, Write}
-use Rattle.store.specs.Opening.{MayRefuseToOpen, StandsForSome}
+use Rattle.store.specs.Opening.{MayRefuseToOpen, IsStoreFile}
 use Rattle.dimacs.specs.declared.fault.Code.TheVariants.{Read}
 use Rattle.printing.specs.declared.failed.Failed.{Failed}
 use Rattle.printing.specs.declared.failed.Failed.TheVariants.{Text, Code}
@@ -123,12 +123,12 @@ IsTableUnread failed = IsFaultOrUnopened failed ⊎ (IsFaultOf 1 failed ⊎ IsUn
 -- what is told of a store in this file, and of a text that is not read: that failure where the store opens, else a refusal of the store
 abbrev pub IsToldAfterOpening : List ℕ → Failed → Failed → Type 0
 IsToldAfterOpening file failed told =
-    (StandsForSome file × (told ≡ failed)) ⊎ ((refusal : Refusal) × (told ≡ Code refusal) × MayRefuseToOpen file refusal)
+    (IsStoreFile file × (told ≡ failed)) ⊎ ((refusal : Refusal) × (told ≡ Code refusal) × MayRefuseToOpen file refusal)
 
 -- the same where a text stands before it, which is read for the store: its fault is told first
 abbrev pub IsToldAfterSources : List ℕ → Failed → Failed → Type 0
 IsToldAfterSources file failed told =
-    (StandsForSome file × (IsFaultOf 0 told ⊎ (told ≡ failed))) ⊎ ((refusal : Refusal) × (told ≡ Code refusal) × MayRefuseToOpen file refusal)
+    (IsStoreFile file × (IsFaultOf 0 told ⊎ (told ≡ failed))) ⊎ ((refusal : Refusal) × (told ≡ Code refusal) × MayRefuseToOpen file refusal)
 
 -- there is no file for a new store: it can't be opened, its name can't be made durable, or memory ran out
 abbrev pub IsFileUnmade : Failed → Type 0

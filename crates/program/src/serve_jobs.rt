@@ -9,7 +9,7 @@ ghost use Rattle.printing.specs.Counting.{failed_writes, writer_of};
 ghost use Rattle.printing.specs.Failing.{CountsWrites};
 ghost use Rattle.printing.specs.Widths.{told_width, told_workers};
 ghost use Rattle.disk.specs.Contents.{AreAmong};
-ghost use Rattle.store.specs.State.{CameTidy, StandsAt, is_calm};
+ghost use Rattle.store.specs.State.{CameTidy, HasVersion, is_calm};
 ghost use Rattle.office.specs.Left.{KeepsDesk};
 ghost use Rattle.desk.specs.Openings.{IsNewDesk, IsUnstarted};
 ghost use Rattle.storetexts.specs.Asked.{IsUnopened};
@@ -321,7 +321,7 @@ where
     // leaves of the closed desk, which begins with all commands after which a query was answered.
     ensures answered { IfOk result (λ ended. IfSome (I.remaining (reader_of reader.old)) (λ text. Serves (copies_in folder) Taken ended.closed.whole.origin text (I.remaining (reader_of reader.new)) (W.contents (writer_of writer.old)) (W.contents (writer_of writer.new)) (IsKept ended.closed.whole ended.closed.shown) ended.outcome)) }
     // The history is of the network and version that the disk's content stood for.
-    ensures opened { D.honest disk → IfOk result (λ ended. StandsAt (D.content disk) ended.closed.whole.origin.base ended.closed.whole.origin.version) }
+    ensures opened { D.honest disk → IfOk result (λ ended. HasVersion (D.content disk) ended.closed.whole.origin.base ended.closed.whole.origin.version) }
     // Where that content was tidy, the closed disk keeps the disk model, and what a stop may leave of it stands for the network after a beginning of the history, with all
     // that was acknowledged or shown.
     ensures honest { CameTidy D.honest D.content disk → IfOk result (λ ended. D.honest ended.closed.disk) }

@@ -5,11 +5,11 @@ use Rattle.pages.specs.Layout.{slot_pages}
 use Rattle.storefile.specs.StoreFile.{StandsTidyFor}
 use Rattle.storefile.specs.Standing.{Standing, standing_of, IsTidyAt}
 use Rattle.storefile.proofs.Rests.{standing_is}
-use Rattle.store.specs.Committing.{StandsTidily}
+use Rattle.store.specs.Committing.{HasTidyStanding}
 
 -- A content that a stop left, once it is opened: what is told is what the content stood for, it has those sizes, and it is tidy.
 pub reopened : (journal_pages checkpoint_pages : ℕ) (c : List ℕ) (net : Net) (version : ℕ) (x : Standing) → StandsTidyFor journal_pages checkpoint_pages c net version → standing_of c ≡ Some x
-    → (x.network ≡ net) × (x.version ≡ version) × StandsTidily c x × (x.header.journal_pages ≡ journal_pages) × (slot_pages x.header ≡ checkpoint_pages)
+    → (x.network ≡ net) × (x.version ≡ version) × HasTidyStanding c x × (x.header.journal_pages ≡ journal_pages) × (slot_pages x.header ≡ checkpoint_pages)
 reopened journal_pages checkpoint_pages c net version x stood told =
     let s = stood.0 in
     let y : Standing = record { header = s.header; slot = s.slot; epoch = s.epoch; network = net; version = version; next = stood.1; unchecked = length s.unchecked } in

@@ -13,7 +13,7 @@ use Rattle.storefile.proofs.OtherSlot.{after_ends}
 use Rattle.storefile.proofs.Rests.{stored_as, standing_is}
 use Rattle.storefile.proofs.SlotWrite.{slot_stays, tidy_stays}
 use Rattle.checkpoint.specs.Writing.{IsSlotShut}
-use Rattle.store.specs.Committing.{StandsTidily}
+use Rattle.store.specs.Committing.{HasTidyStanding}
 use Rattle.store.proofs.ArcsKept.{net_of_header}
 
 -- The network of what stands has the sizes of its header.
@@ -31,16 +31,16 @@ tidy_for : (c : List ℕ) (h : Header) (slot : Slot) (epoch : ℕ) (net : Net) (
 tidy_for c h slot epoch net version next unchecked held tidy =
     (held.stored, next, record { stands = held.stands; tidy = subst (λ (y : Header). HasNoLaterPage (page c) y next) (sym held.header_is) tidy }, ap (λ (y : Header). y.journal_pages) held.header_is, ap slot_pages held.header_is, held.format_is)
 
-pub still_stands : (old : List ℕ) (x : Standing) → StandsTidily old x → StandsTidyFor x.header.journal_pages (slot_pages x.header) old x.network x.version
+pub still_stands : (old : List ℕ) (x : Standing) → HasTidyStanding old x → StandsTidyFor x.header.journal_pages (slot_pages x.header) old x.network x.version
 still_stands old x stands = tidy_for old x.header x.slot x.epoch x.network x.version x.next x.unchecked (stored_as old x stands.0) stands.1
 
 -- nothing is written
-pub only_stands : (old : List ℕ) (left : List ℕ → Type 0) (x : Standing) → Only old left → StandsTidily old x → (c : List ℕ) → left c → StandsTidyFor x.header.journal_pages (slot_pages x.header) c x.network x.version
+pub only_stands : (old : List ℕ) (left : List ℕ → Type 0) (x : Standing) → Only old left → HasTidyStanding old x → (c : List ℕ) → left c → StandsTidyFor x.header.journal_pages (slot_pages x.header) c x.network x.version
 only_stands old left x only stands c was = subst (λ (d : List ℕ). StandsTidyFor x.header.journal_pages (slot_pages x.header) d x.network x.version) (sym (only c was)) (still_stands old x stands)
 
 -- where no call of the disk is made
 pub no_call : {D : Type 0} (content : D → List ℕ) (left : D → List ℕ → Type 0) (moment : D → ℕ) (left_since : D → ℕ → List ℕ → Type 0) (disk : D) (x : Standing) → Only (content disk) (left disk)
-    → ((c : List ℕ) → left_since disk (moment disk) c → left disk c) → StandsTidily (content disk) x → LeavesOnly moment left_since disk disk (λ c. StandsTidyFor x.header.journal_pages (slot_pages x.header) c x.network x.version)
+    → ((c : List ℕ) → left_since disk (moment disk) c → left disk c) → HasTidyStanding (content disk) x → LeavesOnly moment left_since disk disk (λ c. StandsTidyFor x.header.journal_pages (slot_pages x.header) c x.network x.version)
 no_call content left moment left_since disk x only now stands =
     started moment left_since disk (λ c. StandsTidyFor x.header.journal_pages (slot_pages x.header) c x.network x.version) (λ c since. only_stands (content disk) (left disk) x only stands c (now c since))
 
@@ -49,8 +49,8 @@ pub shut_told : (old c : List ℕ) (x : Standing) → standing_of old ≡ Some x
 shut_told old c x told shut =
     standing_is c x.header x.slot x.epoch x.network x.version x.next x.unchecked (slot_stays old c x.header x.slot x.epoch x.network x.version x.next x.unchecked (stored_as old x told) shut)
 
-pub shut_tidily : (old c : List ℕ) (x : Standing) → StandsTidily old x → IsSlotShut x.header (other x.slot) old c → StandsTidily c x
+pub shut_tidily : (old c : List ℕ) (x : Standing) → HasTidyStanding old x → IsSlotShut x.header (other x.slot) old c → HasTidyStanding c x
 shut_tidily old c x stands shut = (shut_told old c x stands.0 shut, tidy_stays old c x.header x.slot x.next stands.1 shut)
 
-pub shut_stands : (old c : List ℕ) (x : Standing) → StandsTidily old x → IsSlotShut x.header (other x.slot) old c → StandsTidyFor x.header.journal_pages (slot_pages x.header) c x.network x.version
+pub shut_stands : (old c : List ℕ) (x : Standing) → HasTidyStanding old x → IsSlotShut x.header (other x.slot) old c → StandsTidyFor x.header.journal_pages (slot_pages x.header) c x.network x.version
 shut_stands old c x stands shut = still_stands c x (shut_tidily old c x stands shut)

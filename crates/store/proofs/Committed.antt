@@ -25,13 +25,13 @@ use Rattle.roadnet.specs.Groups.{commands_of, count_of}
 use Rattle.pages.specs.Grouping.{has_more, records_of, records_in}
 use Rattle.pages.proofs.Grouped.{length-records_in}
 use Rattle.pages.specs.Spelling.{body, entry_page, FitsRecord, MayGoOn, IsRecord, AreRecords}
-use Rattle.storefile.specs.StoreFile.{page, journal_page_at, HasNoLaterPage, StandsTidyBy, StandsTidyFor}
+use Rattle.storefile.specs.StoreFile.{page, journal_page_at, HasNoLaterPage, HoldsNetworkTidily, StandsTidyFor}
 use Rattle.storefile.specs.Standing.{Standing, HasFitNumbers, IsBeforeOrAfter}
 use Rattle.storefile.proofs.PageBytes.{written_outside}
 use Rattle.storefile.proofs.Meaning.{IsPage, is_page, page_size, page_within, stored_more, tidy_more, before_or_after, rests}
 use Rattle.storefile.proofs.Rests.{stored_as, standing_is}
 use Rattle.pagereader.specs.Outcomes.{failures_with}
-use Rattle.store.specs.Committing.{StandsTidily}
+use Rattle.store.specs.Committing.{HasTidyStanding}
 
 -- ---- the commands
 
@@ -155,13 +155,13 @@ not_told GroupSize n other = refl
 -- ---- what a stop leaves
 
 -- before the first call of the disk
-pub before : (content : List ℕ) (left : List ℕ → Type 0) (x : Standing) (commands : List (List Command)) → Only content left → StandsTidily content x → (c : List ℕ) → left c → IsBeforeOrAfter x.header.journal_pages (slot_pages x.header) x.network x.version commands c
+pub before : (content : List ℕ) (left : List ℕ → Type 0) (x : Standing) (commands : List (List Command)) → Only content left → HasTidyStanding content x → (c : List ℕ) → left c → IsBeforeOrAfter x.header.journal_pages (slot_pages x.header) x.network x.version commands c
 before content left x commands only stands =
     rests content left x.header x.slot x.epoch x.network x.version x.next x.unchecked commands only (stored_as content x stands.0) stands.1
 
 -- where no call of the disk is made
 pub no_call : {D : Type 0} (content : D → List ℕ) (left : D → List ℕ → Type 0) (moment : D → ℕ) (left_since : D → ℕ → List ℕ → Type 0) (disk : D) (x : Standing) (commands : List (List Command)) → Only (content disk) (left disk)
-    → ((c : List ℕ) → left_since disk (moment disk) c → left disk c) → StandsTidily (content disk) x → LeavesOnly moment left_since disk disk (IsBeforeOrAfter x.header.journal_pages (slot_pages x.header) x.network x.version commands)
+    → ((c : List ℕ) → left_since disk (moment disk) c → left disk c) → HasTidyStanding (content disk) x → LeavesOnly moment left_since disk disk (IsBeforeOrAfter x.header.journal_pages (slot_pages x.header) x.network x.version commands)
 no_call content left moment left_since disk x commands only now stands =
     started moment left_since disk (IsBeforeOrAfter x.header.journal_pages (slot_pages x.header) x.network x.version commands) (λ c since. before (content disk) (left disk) x commands only stands c (now c since))
 
@@ -207,25 +207,25 @@ module _ (old : List ℕ) (x : Standing) (net : Net) (commands : List (List Comm
       written_outside (journal_page_at x.header x.next) old (page_body x commands ++ 165 ∷ []) (page_within x.header x.next (length old) follow.numbers.header size) whole in
       ap length is ∙ outside.same_length ∙ size
 
-  module _ (stands : StandsTidily old x) where
+  module _ (stands : HasTidyStanding old x) where
     -- at each moment while the page is written
     pub meanwhile : (c : List ℕ) → IsWholeOrShut old (4096 * journal_page_at x.header x.next) (page_body x commands) c → IsBeforeOrAfter x.header.journal_pages (slot_pages x.header) x.network x.version commands c
     meanwhile = before_or_after old x.header x.slot x.epoch x.network net x.version x.next x.unchecked commands (page_body x commands) (stored_as old x stands.0) stands.1 follow.room wrote follow.goes
 
-    pub stands_more_tidily : (new : List ℕ) → new ≡ with_page old (4096 * journal_page_at x.header x.next) (page_body x commands) → StandsTidily new (more x net commands)
-    stands_more_tidily new is = subst (λ (d : List ℕ). StandsTidily d (more x net commands)) (sym is) (
+    pub stands_more_tidily : (new : List ℕ) → new ≡ with_page old (4096 * journal_page_at x.header x.next) (page_body x commands) → HasTidyStanding new (more x net commands)
+    stands_more_tidily new is = subst (λ (d : List ℕ). HasTidyStanding d (more x net commands)) (sym is) (
       standing_is (with_page old (4096 * journal_page_at x.header x.next) (page_body x commands)) x.header x.slot x.epoch net (x.version + length commands) (x.next + 1) (x.unchecked + 1)
           (stored_more old x.header x.slot x.epoch x.network net x.version x.next x.unchecked commands (page_body x commands) (stored_as old x stands.0) stands.1 follow.room wrote follow.goes),
       tidy_more old x.header x.slot x.epoch x.network net x.version x.next x.unchecked commands (page_body x commands) (stored_as old x stands.0) stands.1 follow.room wrote follow.goes,
     )
 
 -- what a stop leaves of a content that stands and is tidy
-pub left_stands : (content : List ℕ) (left : List ℕ → Type 0) (x : Standing) → Only content left → StandsTidily content x → (c : List ℕ) → left c → StandsTidyFor x.header.journal_pages (slot_pages x.header) c x.network x.version
+pub left_stands : (content : List ℕ) (left : List ℕ → Type 0) (x : Standing) → Only content left → HasTidyStanding content x → (c : List ℕ) → left c → StandsTidyFor x.header.journal_pages (slot_pages x.header) c x.network x.version
 left_stands content left x only stands c was =
     let held = stored_as content x stands.0 in (
       held.stored,
       x.next,
-      subst (λ (d : List ℕ). StandsTidyBy d held.stored x.network x.version x.next) (sym (only c was))
+      subst (λ (d : List ℕ). HoldsNetworkTidily d held.stored x.network x.version x.next) (sym (only c was))
           (record { stands = held.stands; tidy = subst (λ (h : Header). HasNoLaterPage (page content) h x.next) (sym held.header_is) stands.1 }),
       ap (λ (h : Header). h.journal_pages) held.header_is,
       ap slot_pages held.header_is,

@@ -12,7 +12,7 @@ use Rattle.pages.specs.declared.header.Header.{Header}
 use Rattle.pages.specs.declared.content.Slot.{Slot}
 use Rattle.pages.specs.Spelling.{AreFit, SpelledEntry}
 use Rattle.pages.specs.Layout.{HeadOf, other, slot_pages, page_number, page_count}
-use Rattle.storefile.specs.StoreFile.{page, is_open, is_standing, joined, journal_page_at, HoldsSlot, StandsBy, StandsTidyFor}
+use Rattle.storefile.specs.StoreFile.{page, is_open, is_standing, joined, journal_page_at, HoldsSlot, HoldsNetwork, StandsTidyFor}
 use Rattle.storefile.specs.Standing.{Standing, standing_of, IsStoredAs, IsTidyAt, HasFitNumbers, LeadsTo, with_other_slot}
 use Rattle.storefile.proofs.JournalWrite.{leads_more}
 use Rattle.storefile.proofs.Meaning.{IsPage, is_page, page_outside, page_spells, page_stands}
@@ -23,7 +23,7 @@ use Rattle.storefile.proofs.Torn.{head_below}
 use Rattle.checkpoint.specs.Writing.{Draft, head_of, slot_at, slot_size, slot_gate, slot_page_at, HoldsPages, IsSlotShut, IsSlotWhole, IsSlotShutOrWhole}
 use Rattle.checkpoint.proofs.SlotHeld.{holds_slot, gate_shut, while_beginning}
 use Rattle.store.specs.declared.going.GoingCheckpoint.{GoingCheckpoint}
-use Rattle.store.specs.Committing.{StandsTidily}
+use Rattle.store.specs.Committing.{HasTidyStanding}
 use Rattle.store.specs.Going.{FitsStore, GoesOn, with_one_more}
 use Rattle.store.proofs.Checkpointed.{still_stands, shut_told, shut_tidily, shut_stands, nodes_told, room_told}
 use Rattle.store.proofs.Committed.{Follow, are_records, page_body}
@@ -174,7 +174,7 @@ module _ (old : List ℕ) (x : Standing) (draft : Draft) (frozen : Net) (committ
     few : length goes.since ≤ held.stored.header.journal_pages
     few = omega (arith, goes.committed_is, fits.one_before, numbers.unchecked_to, ap (λ (h : Header). h.journal_pages) held.header_is)
 
-    taken : StandsBy c (with_other_slot held.stored draft.epoch frozen draft.version draft.next_sequence goes.since) x.network x.version x.next
+    taken : HoldsNetwork c (with_other_slot held.stored draft.epoch frozen draft.version draft.next_sequence goes.since) x.network x.version x.next
     taken = slot_leads_on old c held.stored x.network frozen x.version x.next draft.epoch draft.version draft.next_sequence goes.since held.stands
         same_outside opened (omega (arith, held.epoch_is, fits.epoch_is)) leads few holds_it
 
@@ -198,12 +198,12 @@ module _ (old : List ℕ) (x : Standing) (draft : Draft) (frozen : Net) (committ
   tidy_by_parts tidy c whole =
       slots_keep_tidy old c x.header x.slot x.next tidy (subst (λ (s : Slot). SameOutside (slot_at x.header s) (slot_size x.header) old c) fits.slot_is whole.outside)
 
-  pub stands_by_parts : StandsTidily old x → ∥ GoesOn old x.header draft frozen committed x.network x.version x.next ∥₁ → (c : List ℕ) → IsSlotWhole x.header draft.slot (head_of draft frozen) frozen old c
-      → StandsTidily c (taken_over x draft committed)
+  pub stands_by_parts : HasTidyStanding old x → ∥ GoesOn old x.header draft frozen committed x.network x.version x.next ∥₁ → (c : List ℕ) → IsSlotWhole x.header draft.slot (head_of draft frozen) frozen old c
+      → HasTidyStanding c (taken_over x draft committed)
   stands_by_parts stands goes c whole = (told_by_parts stands.0 goes c whole, tidy_by_parts stands.1 c whole)
 
   -- at each moment of a part
-  pub during_part : StandsTidily old x → ∥ GoesOn old x.header draft frozen committed x.network x.version x.next ∥₁ → (c : List ℕ) → IsSlotShutOrWhole x.header draft.slot (head_of draft frozen) frozen old c → StandsTidyFor x.header.journal_pages (slot_pages x.header) c x.network x.version
+  pub during_part : HasTidyStanding old x → ∥ GoesOn old x.header draft frozen committed x.network x.version x.next ∥₁ → (c : List ℕ) → IsSlotShutOrWhole x.header draft.slot (head_of draft frozen) frozen old c → StandsTidyFor x.header.journal_pages (slot_pages x.header) c x.network x.version
   during_part stands goes c way = ⊎_elim
       (λ shut. shut_stands old c x stands (subst (λ (s : Slot). IsSlotShut x.header s old c) fits.slot_is shut))
       (λ whole. still_stands c (taken_over x draft committed) (stands_by_parts stands goes c whole))
@@ -253,12 +253,12 @@ module _ (c : List ℕ) (x : Standing) (draft : Draft) (committed : ℕ) (slot :
   pub told_as : standing_of c ≡ Some (taken_over x draft committed) → standing_of c ≡ Some as_it_is
   told_as told = told ∙ ap Some (sym it_is)
 
-  pub stands_as : StandsTidily c (taken_over x draft committed) → StandsTidily c as_it_is
-  stands_as stands = subst (StandsTidily c) (sym it_is) stands
+  pub stands_as : HasTidyStanding c (taken_over x draft committed) → HasTidyStanding c as_it_is
+  stands_as stands = subst (HasTidyStanding c) (sym it_is) stands
 
 -- at each moment of a run of calls by which a part is written
 pub moments_of_part : {D : Type 0} (content : D → List ℕ) (moment : D → ℕ) (left_since : D → ℕ → List ℕ → Type 0) (old new : D) (x : Standing) (draft : Draft) (frozen : Net) (committed : ℕ)
-    → HasFitNumbers x.header x.epoch x.version x.next x.unchecked → FitsStore x.header x.slot x.epoch x.version x.next x.unchecked draft committed → StandsTidily (content old) x
+    → HasFitNumbers x.header x.epoch x.version x.next x.unchecked → FitsStore x.header x.slot x.epoch x.version x.next x.unchecked draft committed → HasTidyStanding (content old) x
     → ∥ GoesOn (content old) x.header draft frozen committed x.network x.version x.next ∥₁ → LeavesOnly moment left_since old new (IsSlotShutOrWhole x.header draft.slot (head_of draft frozen) frozen (content old))
     → LeavesOnly moment left_since old new (λ c. StandsTidyFor x.header.journal_pages (slot_pages x.header) c x.network x.version)
 moments_of_part content moment left_since old new x draft frozen committed numbers fits stands goes run =
@@ -266,7 +266,7 @@ moments_of_part content moment left_since old new x draft frozen committed numbe
     (λ c way. during_part (content old) x draft frozen committed numbers fits stands goes c way)
 
 -- at each moment while the gate is closed
-pub moments_of_beginning : {D : Type 0} (content : D → List ℕ) (moment : D → ℕ) (left_since : D → ℕ → List ℕ → Type 0) (old new : D) (x : Standing) (slot : Slot) → slot ≡ other x.slot → StandsTidily (content old) x
+pub moments_of_beginning : {D : Type 0} (content : D → List ℕ) (moment : D → ℕ) (left_since : D → ℕ → List ℕ → Type 0) (old new : D) (x : Standing) (slot : Slot) → slot ≡ other x.slot → HasTidyStanding (content old) x
     → LeavesOnly moment left_since old new (IsOldOrShut (content old) (slot_gate x.header slot)) → LeavesOnly moment left_since old new (λ c. StandsTidyFor x.header.journal_pages (slot_pages x.header) c x.network x.version)
 moments_of_beginning content moment left_since old new x slot is stands run =
     weaker moment left_since old new (IsOldOrShut (content old) (slot_gate x.header slot)) (λ c. StandsTidyFor x.header.journal_pages (slot_pages x.header) c x.network x.version) run
@@ -278,7 +278,7 @@ moments_of_beginning content moment left_since old new x slot is stands run =
 pub begun_told : (old c : List ℕ) (x : Standing) (slot : Slot) → slot ≡ other x.slot → standing_of old ≡ Some x → IsShut (slot_gate x.header slot) 1 (slot_gate x.header slot) old c → standing_of c ≡ Some x
 begun_told old c x slot is told shut = shut_told old c x told (subst (λ (s : Slot). IsSlotShut x.header s old c) is (gate_shut x.header slot old c shut))
 
-pub begun_tidily : (old c : List ℕ) (x : Standing) (slot : Slot) → slot ≡ other x.slot → StandsTidily old x → IsShut (slot_gate x.header slot) 1 (slot_gate x.header slot) old c → StandsTidily c x
+pub begun_tidily : (old c : List ℕ) (x : Standing) (slot : Slot) → slot ≡ other x.slot → HasTidyStanding old x → IsShut (slot_gate x.header slot) 1 (slot_gate x.header slot) old c → HasTidyStanding c x
 begun_tidily old c x slot is stands shut = shut_tidily old c x stands (subst (λ (s : Slot). IsSlotShut x.header s old c) is (gate_shut x.header slot old c shut))
 
 -- a checkpoint begins, and then its first part is written

@@ -6,7 +6,7 @@ use Rattle.roadnet.specs.Net.{Net, IsRoomFor}
 use Rattle.pages.specs.declared.header.Header.{Header}
 use Rattle.pages.specs.declared.content.Format.{Format}
 use Rattle.disk.specs.Contents.{Only}
-use Rattle.storefile.specs.StoreFile.{page, Stored, StandsBy, StandsTidyFor, groups_of, next_sequence}
+use Rattle.storefile.specs.StoreFile.{page, Stored, HoldsNetwork, StandsTidyFor, groups_of, next_sequence}
 use Rattle.storefile.specs.Judging.{opened_in}
 use Rattle.storefile.specs.Standing.{Standing, standing_in}
 use Rattle.storefile.proofs.Whole.{opened_is}
@@ -23,7 +23,7 @@ told (Err d) x e = absurd cc
 -- what a file of this format stands for, as opening it tells
 record StoodFor (f : Format) (file : List ℕ) (x : Standing) : Type 0 where
   pub stored : Stored
-  pub stands : StandsBy file stored x.network x.version x.next
+  pub stands : HoldsNetwork file stored x.network x.version x.next
   pub header_is : stored.header ≡ x.header
   pub format_is : stored.header.format ≡ f
 
@@ -42,7 +42,7 @@ copied format file x net version journal_pages room journal e version_is pages_a
       stored = s.stored;
       before = x.network;
       next = x.next;
-      stands = subst (λ (v : ℕ). StandsBy file s.stored x.network v x.next) (sym version_is) s.stands;
+      stands = subst (λ (v : ℕ). HoldsNetwork file s.stored x.network v x.next) (sym version_is) s.stands;
       format_is = s.format_is;
       pages_are = pages_are ∙ ap (λ (h : Header). unwrap_or journal h.journal_pages) (sym s.header_is);
       network_is = net_is;

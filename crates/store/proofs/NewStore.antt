@@ -12,7 +12,7 @@ use Rattle.pages.specs.declared.content.Format.TheVariants.{Two}
 use Rattle.pages.specs.Limits.{most_versions}
 use Rattle.pages.specs.Spelling.{zeros, page_of, body, header_page, IsHeader, IsEnds, ends_of, SpelledArcs, IsWord, word_of, head_page}
 use Rattle.pages.specs.Layout.{Front, Arcs, HeadOf, Words, EndsOf, Journal, places_in_use, slot_pages, page_number}
-use Rattle.storefile.specs.StoreFile.{page, part, is_open, journal_page_at, is_standing, Stored, Stores, HoldsArcs, HoldsSlot, StandsBy, StandsTidyFor, head_of}
+use Rattle.storefile.specs.StoreFile.{page, part, is_open, journal_page_at, is_standing, Stored, Stores, HoldsArcs, HoldsSlot, HoldsNetwork, StandsTidyFor, head_of}
 use Rattle.storefile.specs.Standing.{IsStoredAs, IsTidyAt, standing_of, HasFitNumbers}
 use Rattle.storefile.proofs.PageBytes.{gate_pages, gate_body, gate_opens, gate_length}
 use Rattle.storefile.proofs.Rests.{standing_is}
@@ -169,7 +169,7 @@ module _ (file : List ℕ) (net : Net) (v j : ℕ) (few_versions : v ≤ most_ve
     versions_to = omega (arith, few_versions);
   }
 
-  pub stands_by : StandsBy whole (first_stored net v j) net v 0
+  pub stands_by : HoldsNetwork whole (first_stored net v j) net v 0
   stands_by = record { is = stores; gives = record { network = refl; version_is = omega arith }; next_is = refl }
 
   pub tidy : IsTidyAt whole h 0

@@ -14,11 +14,11 @@ use Rattle.storefile.specs.StoreFile.{StandsTidyFor}
 use Rattle.storefile.specs.Standing.{Standing, IsStoredAs, standing_of}
 use Rattle.storefile.proofs.Rests.{standing_is}
 use Rattle.store.specs.declared.paged.Paged.{Paged}
-use Rattle.store.specs.Committing.{StandsTidily, MayRefuseCommit, refusal_of_commit}
+use Rattle.store.specs.Committing.{HasTidyStanding, MayRefuseCommit, refusal_of_commit}
 use Rattle.store.specs.Checkpointing.{refusal_of_checkpoint}
 use Rattle.store.specs.Durable.{told_by, KeepsTold}
 use Rattle.store.specs.Going.{Progress}
-use Rattle.store.specs.State.{StoreState, IsTidy, IsDurable, StandsAs, StandsAt, is_calm, told, state_of}
+use Rattle.store.specs.State.{StoreState, IsTidy, IsDurable, HasTold, HasVersion, is_calm, told, state_of}
 use Rattle.store.proofs.Committed.{left_stands}
 
 -- ---- a calm store
@@ -53,18 +53,18 @@ few_pages h few =
     let ends : end_pages h < 131330 = (div-lt_iff_lt-mul (omega arith)).1 (omega (arith, few)) in
     omega (arith, words, ends)
 
-pub durable_of : {D : Type 0} {disk : Ghosts D} (pages : Paged D disk) (content : List ℕ) → StandsTidily content (told_by pages) → StandsTidyFor pages.header.journal_pages (slot_pages pages.header) content pages.network pages.version
+pub durable_of : {D : Type 0} {disk : Ghosts D} (pages : Paged D disk) (content : List ℕ) → HasTidyStanding content (told_by pages) → StandsTidyFor pages.header.journal_pages (slot_pages pages.header) content pages.network pages.version
 durable_of pages content stands = left_stands content (λ c. c ≡ content) (told_by pages) (λ c is. is) stands content refl
 
 -- ---- a store that came tidy
 
 -- what a tidy content stands for is what is told of it
-pub tidily : (content : List ℕ) (x : Standing) → IsTidy content → standing_of content ≡ Some x → StandsTidily content x
+pub tidily : (content : List ℕ) (x : Standing) → IsTidy content → standing_of content ≡ Some x → HasTidyStanding content x
 tidily content x tidy told =
     let y : Standing = tidy.0 in
     let is : Some y ≡ Some x = sym tidy.1.0 ∙ told in
     let same : y ≡ x = cc in
-    subst (StandsTidily content) same tidy.1
+    subst (HasTidyStanding content) same tidy.1
 
 -- ---- a call of a store
 
@@ -93,11 +93,11 @@ at_ok_with Z (Err e) there f = tt
 module _ {D : Type 0} {disk : Ghosts D} where
   -- the disk is at rest, and its content stands, tidy, for what the store says
   abbrev pub RestsTidily : Paged D disk → Type 0
-  RestsTidily pages = Only (disk.content pages.disk) (disk.left pages.disk) × StandsTidily (disk.content pages.disk) (told_by pages)
+  RestsTidily pages = Only (disk.content pages.disk) (disk.left pages.disk) × HasTidyStanding (disk.content pages.disk) (told_by pages)
 
   -- a call that changes nothing unless it ends with Ok or breaks the store
   pub rests_after : {T : Type 0} (result : Result T Refusal) (old new : Paged D disk) → IfErr result (λ refusal. (refusal ≡ Device → ⊥) → new ≡ old) → IfErr result (λ refusal. refusal ≡ Device → new.broken ≡ true)
-      → OnOk result (old.broken ≡ false) → OnOk result (Only (disk.content new.disk) (disk.left new.disk)) → (StandsTidily (disk.content old.disk) (told_by old) → OnOk result (StandsTidily (disk.content new.disk) (told_by new)))
+      → OnOk result (old.broken ≡ false) → OnOk result (Only (disk.content new.disk) (disk.left new.disk)) → (HasTidyStanding (disk.content old.disk) (told_by old) → OnOk result (HasTidyStanding (disk.content new.disk) (told_by new)))
       → (old.broken ≡ false → RestsTidily old) → new.broken ≡ false → RestsTidily new
   rests_after (Ok v) old new same breaks worked only stands held works = (only, stands (held worked).1)
   rests_after (Err e) old new same breaks worked only stands held works =
@@ -144,7 +144,7 @@ module _ {D : Type 0} {disk : Ghosts D} where
       (honest, omega (arith, version), λ none works. stands honest)
 
   -- nothing was committed
-  pub told_before_commit : (given : D) (pages : Paged D disk) → KeepsTold given pages → disk.honest given → StandsAt (disk.content given) pages.network pages.version → pages.broken ≡ false
+  pub told_before_commit : (given : D) (pages : Paged D disk) → KeepsTold given pages → disk.honest given → HasVersion (disk.content given) pages.network pages.version → pages.broken ≡ false
       → standing_of (disk.content pages.disk) ≡ Some (told_by pages)
   told_before_commit given pages keeps honest at works =
       let next = at.0 in
@@ -154,14 +154,14 @@ module _ {D : Type 0} {disk : Ghosts D} where
       record { stored = s; stands = at.1.1; header_is = refl; format_is = at.1.2; slot_is = refl; epoch_is = refl; unchecked_is = refl } in
       (keeps honest x (standing_is (disk.content given) s.header s.slot s.epoch pages.network pages.version next (length s.unchecked) held)).2 refl works
 
-  pub stands_as_told : (pages : Paged D disk) (given : D) (in_flight : List (List Command)) (content : List ℕ) → standing_of content ≡ Some (told_by pages) → StandsAs content (told (state_of pages given in_flight))
+  pub stands_as_told : (pages : Paged D disk) (given : D) (in_flight : List (List Command)) (content : List ℕ) → standing_of content ≡ Some (told_by pages) → HasTold content (told (state_of pages given in_flight))
   stands_as_told pages given in_flight content is = record { standing = told_by pages; is = is; told_is = refl }
 
   pub told_still : {T : Type 0} (result : Result T Refusal) (given : D) (old new : Paged D disk) (in_flight : List (List Command)) → new.network ≡ old.network → new.version ≡ old.version → OnOk result (new.broken ≡ false)
-      → KeepsTold given new → disk.honest given → StandsAt (disk.content given) old.network old.version → OnOk result (StandsAs (disk.content new.disk) (told (state_of new given in_flight)))
+      → KeepsTold given new → disk.honest given → HasVersion (disk.content given) old.network old.version → OnOk result (HasTold (disk.content new.disk) (told (state_of new given in_flight)))
   told_still (Ok v) given old new in_flight network version works keeps honest at =
       stands_as_told new given in_flight (disk.content new.disk)
-      (told_before_commit given new keeps honest (subst (λ (v : ℕ). StandsAt (disk.content given) new.network v) (sym version) (subst (λ (n : Net). StandsAt (disk.content given) n old.version) (sym network) at)) works)
+      (told_before_commit given new keeps honest (subst (λ (v : ℕ). HasVersion (disk.content given) new.network v) (sym version) (subst (λ (n : Net). HasVersion (disk.content given) n old.version) (sym network) at)) works)
   told_still (Err e) given old new in_flight network version works keeps honest at = tt
 
   pub told_armed : (given : D) (old new : Paged D disk) → told_by new ≡ told_by old → new.broken ≡ old.broken → disk.content new.disk ≡ disk.content old.disk → disk.honest new.disk ↔ disk.honest old.disk

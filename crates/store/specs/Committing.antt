@@ -30,5 +30,5 @@ abbrev pub RefusesCommit : {T : Type 0} → Option Refusal → Result T Refusal 
 RefusesCommit cause result = MatchResult result (λ _. cause ≡ None) (MayRefuseCommit cause)
 
 -- The content stands for this, and no page of its journal is of the next sequence or a later one.
-abbrev pub StandsTidily : List ℕ → Standing → Type 0
-StandsTidily content standing = (standing_of content ≡ Some standing) × IsTidyAt content standing.header standing.next
+abbrev pub HasTidyStanding : List ℕ → Standing → Type 0
+HasTidyStanding content standing = (standing_of content ≡ Some standing) × IsTidyAt content standing.header standing.next

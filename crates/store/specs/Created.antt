@@ -7,6 +7,7 @@ use Rattle.pages.specs.Contents.{Head}
 use Rattle.pages.specs.Spelling.{page_of, header_page, arc_page, word_page, head_page, ends_of, word_of}
 use Rattle.pages.specs.Layout.{Part, Front, Arcs, HeadOf, Words, EndsOf, Journal, IsPart, arc_pages, word_pages, page_number, page_count}
 use Rattle.pages.specs.declared.content.Format.TheVariants.{Two}
+use Rattle.pages.specs.Limits.{page_size, gate_at}
 use Rattle.storefile.specs.StoreFile.{page, part}
 use Rattle.disk.specs.Contents.{overwritten}
 use Rattle.disk.specs.Gated.{open_byte}
@@ -43,7 +44,7 @@ new_page h net version (Journal place) = blank_page
 
 -- the file has these pages and no others
 pub record IsLaidOut (file : List ℕ) (h : Header) (net : Net) (version : ℕ) : Type 0 where
-  pub size : length file ≡ 4096 * page_count h
+  pub size : length file ≡ page_size * page_count h
   pub each : (part : Part) → IsPart h part → page file (page_number h part) ≡ new_page h net version part
 
 -- the bytes of the first pages, so many, one behind the other
@@ -63,7 +64,7 @@ blank_bytes count = first_pages (λ _. blank_page) count
 
 -- the file with the gate of this page open
 abbrev pub with_gate : List ℕ → ℕ → List ℕ
-with_gate file k = overwritten file (4096 * k + 4095) (open_byte ∷ [])
+with_gate file k = overwritten file (page_size * k + gate_at) (open_byte ∷ [])
 
 -- with those of slot A's head and of the header open
 abbrev pub with_both_gates : Header → List ℕ → List ℕ
@@ -86,4 +87,4 @@ Adds bytes content waiting content' waiting' = so_far content' waiting' ≡ so_f
 
 -- the next page comes behind all these
 abbrev pub IsInStep : List ℕ → Waiting → Type 0
-IsInStep content waiting = length content + length waiting.bytes ≡ 4096 * waiting.next
+IsInStep content waiting = length content + length waiting.bytes ≡ page_size * waiting.next

@@ -6,7 +6,7 @@ use Rattle.roadnet.specs.Net.{Net, IsRoomFor}
 use Rattle.pages.specs.declared.content.Format.{Format}
 use Rattle.pages.specs.declared.content.Format.TheVariants.{One, Two}
 use Rattle.pagereader.specs.Outcomes.{ends_opening}
-use Rattle.storefile.specs.StoreFile.{Stored, StandsBy}
+use Rattle.storefile.specs.StoreFile.{Stored, HoldsNetwork}
 use Rattle.disk.specs.Contents.{Rose}
 use Rattle.store.specs.Opening.{IsPassing}
 use Rattle.store.specs.State.{StoreState}
@@ -27,7 +27,7 @@ pub record IsCopyIn (format : Format) (old : List ℕ) (net : Net) (version jour
   pub stored : Stored
   pub before : Net
   pub next : ℕ
-  pub stands : StandsBy old stored before version next
+  pub stands : HoldsNetwork old stored before version next
   pub format_is : stored.header.format ≡ format
   pub pages_are : journal_pages ≡ unwrap_or journal stored.header.journal_pages
   pub network_is : net ≡ roomed before room
@@ -46,7 +46,7 @@ pub record HasNoSuchRoom (old : List ℕ) (room : Option ℕ) : Type 0 where
   pub before : Net
   pub version : ℕ
   pub next : ℕ
-  pub stands : StandsBy old stored before version next
+  pub stands : HoldsNetwork old stored before version next
   pub unfit : ¬ IsRoomFor before (room_of before room)
 
 -- With what a copy may be refused, where its disks have these contents: passingly; as the new disk is not empty; as opening the old store in this

@@ -15,7 +15,7 @@ use Rattle.pages.specs.Layout.{page_count}
 use Rattle.storefile.specs.Judging.{◌>>=◌, unless_so, spelled_at, begins_as_store, format_of, header_in, entry_in, ends_from, current_slot, journal_from, judged_in}
 use Rattle.checkpoint.specs.declared.slots.Checkpoint.{Checkpoint}
 use Rattle.checkpoint.specs.Loading.{head_of, loaded_from}
-use Rattle.pages.specs.Limits.{most_versions}
+use Rattle.pages.specs.Limits.{page_size, most_versions}
 use Rattle.pages.specs.declared.content.Format.{Format}
 use Rattle.pages.specs.declared.content.Format.TheVariants.{Two}
 use Rattle.pages.specs.Formats.{number_of}
@@ -26,7 +26,7 @@ header_from format size page = do
   _ ← unless_so (begins_as_store size page) NotAStore
   _ ← unless_so (format_of page == number_of format) WrongFormat
   h ← spelled_at 0 (header_in page)
-  _ ← unless_so (size == 4096 * page_count h) (Damaged 0)
+  _ ← unless_so (size == page_size * page_count h) (Damaged 0)
   Ok h
 
 -- what is found there, as the file's standing
@@ -121,5 +121,5 @@ MayRefuseToOpenIn format file refusal = IsPassing refusal ⊎ (judged_in format 
 abbrev pub MayRefuseToOpen : List ℕ → Refusal → Type 0
 MayRefuseToOpen file refusal = MayRefuseToOpenIn Two file refusal
 
-abbrev pub StandsForSome : List ℕ → Type 0
-StandsForSome file = (net : Net) × (version : ℕ) × (next : ℕ) × StandsFor file net version next
+abbrev pub IsStoreFile : List ℕ → Type 0
+IsStoreFile file = (net : Net) × (version : ℕ) × (next : ℕ) × StandsFor file net version next

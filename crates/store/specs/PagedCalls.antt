@@ -11,7 +11,7 @@ use Rattle.pagereader.specs.Outcomes.{failures_told}
 use Rattle.storefile.specs.StoreFile.{StandsTidyFor}
 use Rattle.storefile.specs.Standing.{standing_of, IsBeforeOrAfter}
 use Rattle.store.specs.declared.paged.Paged.{Paged}
-use Rattle.store.specs.Committing.{StandsTidily, refusal_of_commit, MayRefuseCommit}
+use Rattle.store.specs.Committing.{HasTidyStanding, refusal_of_commit, MayRefuseCommit}
 use Rattle.store.specs.Checkpointing.{refusal_of_checkpoint, MayRefuseCheckpoint}
 use Rattle.store.specs.Durable.{told_by, going_of}
 
@@ -51,12 +51,12 @@ KeepsNumbers old new = (new.network ≡ old.network) × (new.version ≡ old.ver
 -- ---- what the content stands for, over an honest disk
 
 -- the content stands, tidily, for what the fields tell
-abbrev pub StandsAsTold : {D : Type 0} {disk : Ghosts D} → Paged D disk → Type 0
-StandsAsTold {D} {disk} s = StandsTidily (disk.content s.disk) (told_by s)
+abbrev pub AreTidyPages : {D : Type 0} {disk : Ghosts D} → Paged D disk → Type 0
+AreTidyPages {D} {disk} s = HasTidyStanding (disk.content s.disk) (told_by s)
 
 -- so it does after Ok, where it did before
 abbrev pub KeepsStanding : {D T : Type 0} {disk : Ghosts D} → Result T Refusal → Paged D disk → Paged D disk → Type 0
-KeepsStanding {D} {T} {disk} result old new = disk.honest old.disk → StandsAsTold old → OnOk result (StandsAsTold new)
+KeepsStanding {D} {T} {disk} result old new = disk.honest old.disk → AreTidyPages old → OnOk result (AreTidyPages new)
 
 -- the same, tidily or not
 abbrev pub KeepsAsTold : {D T : Type 0} {disk : Ghosts D} → Result T Refusal → Paged D disk → Paged D disk → Type 0
@@ -72,15 +72,15 @@ IsForOrAfter s groups c = IsBeforeOrAfter s.header.journal_pages (slot_pages s.h
 
 -- a stop at any moment of the call leaves such a content
 abbrev pub LeavesFor : {D : Type 0} {disk : Ghosts D} → Paged D disk → Paged D disk → Type 0
-LeavesFor {D} {disk} old new = disk.honest old.disk → StandsAsTold old → LeavesOnly disk.moment disk.left_since old.disk new.disk (IsFor old)
+LeavesFor {D} {disk} old new = disk.honest old.disk → AreTidyPages old → LeavesOnly disk.moment disk.left_since old.disk new.disk (IsFor old)
 
 abbrev pub LeavesForOrAfter : {D : Type 0} {disk : Ghosts D} → List (List Command) → Paged D disk → Paged D disk → Type 0
 LeavesForOrAfter {D} {disk} groups old new =
-    disk.honest old.disk → StandsAsTold old → LeavesOnly disk.moment disk.left_since old.disk new.disk (IsForOrAfter old groups)
+    disk.honest old.disk → AreTidyPages old → LeavesOnly disk.moment disk.left_since old.disk new.disk (IsForOrAfter old groups)
 
 -- so does a stop after the call
 abbrev pub StaysFor : {D : Type 0} {disk : Ghosts D} → Paged D disk → Paged D disk → Type 0
-StaysFor {D} {disk} old new = disk.honest old.disk → StandsAsTold old → (c : List ℕ) → disk.left new.disk c → IsFor old c
+StaysFor {D} {disk} old new = disk.honest old.disk → AreTidyPages old → (c : List ℕ) → disk.left new.disk c → IsFor old c
 
 abbrev pub StaysForOrAfter : {D : Type 0} {disk : Ghosts D} → List (List Command) → Paged D disk → Paged D disk → Type 0
-StaysForOrAfter {D} {disk} groups old new = disk.honest old.disk → StandsAsTold old → (c : List ℕ) → disk.left new.disk c → IsForOrAfter old groups c
+StaysForOrAfter {D} {disk} groups old new = disk.honest old.disk → AreTidyPages old → (c : List ℕ) → disk.left new.disk c → IsForOrAfter old groups c

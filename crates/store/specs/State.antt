@@ -13,7 +13,7 @@ use Rattle.pagereader.specs.Outcomes.{failures_with}
 use Rattle.storefile.specs.StoreFile.{StandsFor, StandsTidyFor}
 use Rattle.storefile.specs.Standing.{Standing, standing_of, IsBeforeOrAfter}
 use Rattle.store.specs.declared.paged.Paged.{Paged}
-use Rattle.store.specs.Committing.{StandsTidily, refusal_of_commit}
+use Rattle.store.specs.Committing.{HasTidyStanding, refusal_of_commit}
 use Rattle.store.specs.Durable.{going_of}
 use Rattle.store.specs.Going.{Progress}
 
@@ -75,7 +75,7 @@ state_of pages given in_flight = record {
 
 -- the content stands for something, tidily
 abbrev pub IsTidy : List ℕ → Type 0
-IsTidy content = (x : Standing) × StandsTidily content x
+IsTidy content = (x : Standing) × HasTidyStanding content x
 
 -- The store came tidy: the disk that it was given keeps the disk model, and its content stood for something, tidily.
 abbrev pub CameTidy : {D : Type 0} → (D → Type 0) → (D → List ℕ) → D → Type 0
@@ -98,11 +98,11 @@ abbrev pub told_of : Standing → Told
 told_of x = record { network = x.network; version = x.version; slot = x.slot; epoch = x.epoch; unchecked = x.unchecked; journal_pages = x.header.journal_pages; checkpoint_pages = slot_pages x.header }
 
 -- the content stands for this network at this version
-abbrev pub StandsAt : List ℕ → Net → ℕ → Type 0
-StandsAt content net version = (next : ℕ) × StandsFor content net version next
+abbrev pub HasVersion : List ℕ → Net → ℕ → Type 0
+HasVersion content net version = (next : ℕ) × StandsFor content net version next
 
 -- The content stands for what is told.
-pub record StandsAs (content : List ℕ) (t : Told) : Type 0 where
+pub record HasTold (content : List ℕ) (t : Told) : Type 0 where
   pub standing : Standing
   pub is : standing_of content ≡ Some standing
   pub told_is : told_of standing ≡ t
@@ -110,7 +110,7 @@ pub record StandsAs (content : List ℕ) (t : Told) : Type 0 where
 -- Nothing was committed since the store was made or opened: the disk that it was given keeps the disk model, and its content stood, tidy or not,
 -- for the network and version that the store has now.
 abbrev pub HasCommittedNothing : {D : Type 0} → (D → Type 0) → (D → List ℕ) → StoreState D → Type 0
-HasCommittedNothing honest content s = honest s.given × StandsAt (content s.given) s.network s.version
+HasCommittedNothing honest content s = honest s.given × HasVersion (content s.given) s.network s.version
 
 -- the content stands, tidy, for the network and version of the store
 abbrev pub IsDurable : {D : Type 0} → StoreState D → List ℕ → Type 0

@@ -20,10 +20,11 @@ pub struct Batch {
 impl Model for Batch {
     ghost use Rattle.std.specs.Prelude.{◌≡◌, ◌*◌, ◌≤◌, ◌<◌, length, take};
     ghost use Rattle.store.specs.Created.{Waiting};
+    ghost use Rattle.pages.specs.Limits.{page_size};
 
     ghost Value = { Waiting };
 
-    ghost view = { λ b. record { next = b.next; bytes = take (4096 * b.count) b.bytes.items } };
+    ghost view = { λ b. record { next = b.next; bytes = take (page_size * b.count) b.bytes.items } };
 
     ghost invariant = { λ b. (length b.bytes.items ≡ 262144) × (b.count < 64) × (b.count ≤ b.next) };
 }

@@ -10,7 +10,7 @@ ghost use Rattle.store.specs.Durable.{going_of};
 ghost use Rattle.store.specs.Committing.{RefusesCommit};
 ghost use Rattle.pages.specs.Limits.{most_commands};
 ghost use Rattle.store.specs.Going.{with_page_committed};
-ghost use Rattle.store.specs.PagedCalls.{commit_refusal_by, TellsFailures, KeepsNumbers, KeepsStanding, StandsAsTold, IsFor, LeavesForOrAfter, StaysForOrAfter};
+ghost use Rattle.store.specs.PagedCalls.{commit_refusal_by, TellsFailures, KeepsNumbers, KeepsStanding, AreTidyPages, IsFor, LeavesForOrAfter, StaysForOrAfter};
 
 use crate::going::count_page;
 use crate::paged::Paged;
@@ -55,7 +55,7 @@ impl<D: Disk> Paged<D> {
         ensures any_moment { self.old.broken ≡ false → LeavesForOrAfter groups.now self.old self.new }
         // So does one after the call; and after Ok, what stands for the network after them.
         ensures in_flight { self.old.broken ≡ false → StaysForOrAfter groups.now self.old self.new }
-        ensures durable { D.honest self.old.disk → StandsAsTold self.old → OnOk result ((c : List ℕ) → D.left self.new.disk c → IsFor self.new c) }
+        ensures durable { D.honest self.old.disk → AreTidyPages self.old → OnOk result ((c : List ℕ) → D.left self.new.disk c → IsFor self.new c) }
         ensures only { D.honest self.old.disk → OnOk result (Only (D.content self.new.disk) (D.left self.new.disk)) }
         ensures stands { KeepsStanding result self.old self.new }
     {

@@ -2,6 +2,7 @@ ghost use Rattle.std.specs.Prelude.{◌≡◌, ◌≢◌, ◌*◌, ◌↔◌, Ok
 ghost use Rattle.roadnet.specs.declared.refusals.Refusal.TheVariants.{OutOfMemory as out_of_memory};
 ghost use Rattle.pages.specs.Spelling.{IsHeader};
 ghost use Rattle.pages.specs.Layout.{page_count};
+ghost use Rattle.pages.specs.Limits.{page_size};
 ghost use Rattle.storefile.specs.StoreFile.{page, is_open};
 ghost use Rattle.storefile.specs.Judging.{begins_as_store};
 ghost use Rattle.pagereader.specs.Outcomes.{MayRefuse};
@@ -40,7 +41,7 @@ fn judge_header(page: &[u8; PAGE_SIZE], length: u64, format: Format) -> Result<H
     ensures header { header_from format length page.now ≡ result }
     ensures fits { IfOk result IsHeader }
     ensures format { IfOk result (λ header. header.format ≡ format) }
-    ensures size { IfOk result (λ header. length ≡ 4096 * page_count header) }
+    ensures size { IfOk result (λ header. length ≡ page_size * page_count header) }
     ensures judges { JudgesToOpen result }
     ensures memory { IfErr result (λ refusal. refusal ≢ out_of_memory) }
 {
@@ -64,7 +65,7 @@ pub fn read_header<D: Disk>(disk: &mut D, format: Format) -> Result<Header, Refu
     ensures header { D.honest disk.old → IfOk result (λ header. header_from format (length (D.content disk.old)) (page (D.content disk.old) 0) ≡ Ok header) }
     ensures fits { IfOk result IsHeader }
     ensures format { IfOk result (λ header. header.format ≡ format) }
-    ensures size { D.honest disk.old → IfOk result (λ header. length (D.content disk.old) ≡ 4096 * page_count header) }
+    ensures size { D.honest disk.old → IfOk result (λ header. length (D.content disk.old) ≡ page_size * page_count header) }
     ensures refused { D.honest disk.old → IfErr result (MayRefuse (header_from format (length (D.content disk.old)) (page (D.content disk.old) 0))) }
     ensures reads { ReadsToOpen D.Disk result disk.old disk.new }
     ensures memory { IfErr result (λ refusal. refusal ≢ out_of_memory) }

@@ -6,8 +6,8 @@ ghost use Rattle.disk.specs.Moments.{StaysSame};
 ghost use Rattle.pagereader.specs.Outcomes.{MayEndOpening};
 ghost use Rattle.pages.specs.declared.content.Slot.TheVariants.{A as slot_a};
 ghost use Rattle.pages.specs.Limits.{most_versions};
-ghost use Rattle.store.specs.Opening.{HeaderFits, IsPassing, MayRefuseToOpen, StandsForSome};
-ghost use Rattle.store.specs.State.{checkpoint_pages_of, IsCountedBy, IsNewFor, IsTidy, StandsAs, StandsAt, told};
+ghost use Rattle.store.specs.Opening.{HeaderFits, IsPassing, MayRefuseToOpen, IsStoreFile};
+ghost use Rattle.store.specs.State.{checkpoint_pages_of, IsCountedBy, IsNewFor, IsTidy, HasTold, HasVersion, told};
 
 use crate::creation::create_paged;
 use crate::in_flight::InFlight;
@@ -47,7 +47,7 @@ pub fn create_at<D: Disk>(
     ensures stands { D.honest disk → IfOk result (λ store. IsNewFor journal_pages network.now version (D.content store.disk)) }
     ensures only { D.honest disk → IfOk result (λ store. Only (D.content store.disk) (D.left store.disk)) }
     ensures tidy { D.honest disk → IfOk result (λ store. IsTidy (D.content store.disk)) }
-    ensures told { D.honest disk → IfOk result (λ store. StandsAs (D.content store.disk) (told store)) }
+    ensures told { D.honest disk → IfOk result (λ store. HasTold (D.content store.disk) (told store)) }
     ensures empty { D.honest disk → IfOk result (λ store. D.content disk ≡ []) }
     ensures refused { IfErr result (λ refused. (refused.0 ≡ not_empty) ⊎ ((refused.0 ≡ device) ⊎ (refused.0 ≡ out_of_memory))) }
     ensures not_empty { D.honest disk → IfErr result (λ refused. refused.0 ≡ not_empty → D.content disk ≢ []) }
@@ -98,7 +98,7 @@ pub fn create<D: Disk>(
     ensures stands { D.honest disk → IfOk result (λ store. IsNewFor journal_pages network.now 0 (D.content store.disk)) }
     ensures only { D.honest disk → IfOk result (λ store. Only (D.content store.disk) (D.left store.disk)) }
     ensures tidy { D.honest disk → IfOk result (λ store. IsTidy (D.content store.disk)) }
-    ensures told { D.honest disk → IfOk result (λ store. StandsAs (D.content store.disk) (told store)) }
+    ensures told { D.honest disk → IfOk result (λ store. HasTold (D.content store.disk) (told store)) }
     ensures empty { D.honest disk → IfOk result (λ store. D.content disk ≡ []) }
     ensures refused { IfErr result (λ refused. (refused.0 ≡ not_empty) ⊎ ((refused.0 ≡ device) ⊎ (refused.0 ≡ out_of_memory))) }
     ensures not_empty { D.honest disk → IfErr result (λ refused. refused.0 ≡ not_empty → D.content disk ≢ []) }
@@ -122,8 +122,8 @@ pub fn create<D: Disk>(
 /// cut to 69 pages `Damaged { page: 0 }`.
 pub fn open<D: Disk>(alloc: Global, disk: D) -> Result<Store<D>, (Refusal, D)>
     // The content stands for what the store tells, and is all that a stop may leave.
-    ensures stands { D.honest disk → IfOk result (λ store. StandsAt (D.content disk) store.network store.version) }
-    ensures told { D.honest disk → IfOk result (λ store. StandsAs (D.content disk) (told store)) }
+    ensures stands { D.honest disk → IfOk result (λ store. HasVersion (D.content disk) store.network store.version) }
+    ensures told { D.honest disk → IfOk result (λ store. HasTold (D.content disk) (told store)) }
     ensures at_rest { D.honest disk → IfOk result (λ store. Only (D.content store.disk) (D.left store.disk)) }
     ensures works { IfOk result (λ store. store.broken ≡ false) }
     ensures none_going { IfOk result (λ store. store.going ≡ None) }
@@ -140,7 +140,7 @@ pub fn open<D: Disk>(alloc: Global, disk: D) -> Result<Store<D>, (Refusal, D)>
     ensures causes { IfErr result (λ refused. MayEndOpening refused.0) }
     ensures counted { MatchResult result (λ store. D.failures store.disk ≡ D.failures disk) (IsCountedBy D.failures disk) }
     ensures failed { IfErr result (λ refused. refused.0 ≡ device → Rose (D.failures disk) (D.failures refused.1)) }
-    ensures opens { D.honest disk → ((c : List ℕ) → D.left disk c → StandsForSome c) → IfErr result (λ refused. IsPassing refused.0) }
+    ensures opens { D.honest disk → ((c : List ℕ) → D.left disk c → IsStoreFile c) → IfErr result (λ refused. IsPassing refused.0) }
     ensures honest { (IfOk result (λ store. D.honest store.disk ↔ D.honest disk)) × (IfErr result (λ refused. D.honest refused.1 ↔ D.honest disk)) }
 {
     let pages = open_paged(alloc, disk)?;

@@ -4,7 +4,7 @@ ghost use Rattle.roadnet.specs.declared.refusals.Refusal.TheVariants.{Device as 
 ghost use Rattle.disk.specs.Contents.{Only};
 ghost use Rattle.disk.specs.Moments.{StaysSame};
 ghost use Rattle.pages.specs.declared.content.Slot.TheVariants.{A as slot_a};
-ghost use Rattle.store.specs.State.{checkpoint_pages_of, IsDurable, IsTidy, StandsAs, told};
+ghost use Rattle.store.specs.State.{checkpoint_pages_of, IsDurable, IsTidy, HasTold, told};
 ghost use Rattle.store.specs.Migrating.{CountsCopy, OneRose, IsMigrated, MayEndCopying, MayRefuseToMigrate};
 
 use crate::copying::copy_in;
@@ -35,7 +35,7 @@ pub fn migrate<O: Disk, D: Disk>(
     ensures only { D.honest new → IfOk result (λ store. Only (D.content store.disk) (D.left store.disk)) }
     ensures left { D.honest new → IfOk result (λ store. (c : List ℕ) → D.left store.disk c → IsDurable store c) }
     ensures tidy { D.honest new → IfOk result (λ store. IsTidy (D.content store.disk)) }
-    ensures told { D.honest new → IfOk result (λ store. StandsAs (D.content store.disk) (told store)) }
+    ensures told { D.honest new → IfOk result (λ store. HasTold (D.content store.disk) (told store)) }
     ensures checkpoint_pages { IfOk result (λ store. store.checkpoint_pages ≡ checkpoint_pages_of (length store.network.arcs) store.network) }
     ensures unchecked { IfOk result (λ store. store.unchecked ≡ 0) }
     ensures slot { IfOk result (λ store. (store.slot ≡ slot_a) × (store.epoch ≡ 1)) }

@@ -10,7 +10,7 @@ ghost use Rattle.pagereader.specs.Outcomes.{MayRefuse, MayEndOpening};
 ghost use Rattle.pagereader.specs.Reading.{HasFileOf, ReadsToOpen};
 ghost use Rattle.checkpoint.specs.Loading.{head_of};
 ghost use Rattle.store.specs.Durable.{told_by, going_of};
-ghost use Rattle.store.specs.Opening.{header_from, standing_by, HeaderFits, HeaderFitsIn, current_from, current_of, journal_behind, IsFoundBehind, HasJournalOf, IsPassing, MayRefuseToOpen, StandsForSome};
+ghost use Rattle.store.specs.Opening.{header_from, standing_by, HeaderFits, HeaderFitsIn, current_from, current_of, journal_behind, IsFoundBehind, HasJournalOf, IsPassing, MayRefuseToOpen, IsStoreFile};
 ghost use Rattle.store.specs.State.{IsCountedBy};
 
 use crate::found::Found;
@@ -93,7 +93,11 @@ fn read_journal<D: Disk>(
 }
 
 // The same of a file with this header.
-fn read_behind<D: Disk>(alloc: Global, disk: &mut D, header: &Header) -> Result<Found, Refusal>
+fn read_slot_and_journal<D: Disk>(
+    alloc: Global,
+    disk: &mut D,
+    header: &Header,
+) -> Result<Found, Refusal>
     requires file { HasFileOf D.Disk header.now disk.old }
     requires spelled { D.honest disk.old → header_from header.now.format (length (D.content disk.old)) (page (D.content disk.old) 0) ≡ Ok header.now }
     ensures standing { D.honest disk.old → IfOk result (λ found. standing_in (opened_in header.now.format (D.content disk.old)) ≡ Some (standing_by found)) }
@@ -114,7 +118,7 @@ fn read_synced<D: Disk>(alloc: Global, disk: &mut D, format: Format) -> Result<F
     ensures reads { ReadsToOpen D.Disk result disk.old disk.new }
 {
     let header = read_header(disk, format)?;
-    read_behind(alloc, disk, &header)
+    read_slot_and_journal(alloc, disk, &header)
 }
 
 /// Syncs, and then judges and reads the whole file of this format, in its order. Nothing is written. The first refusal ends it: no store (40),
@@ -152,7 +156,7 @@ pub fn open_paged<D: Disk>(alloc: Global, disk: D) -> Result<Paged<D>, (Refusal,
     ensures causes { IfErr result (λ refused. MayEndOpening refused.0) }
     ensures counted { MatchResult result (λ store. D.failures store.disk ≡ D.failures disk) (IsCountedBy D.failures disk) }
     ensures failed { IfErr result (λ refused. refused.0 ≡ device → Rose (D.failures disk) (D.failures refused.1)) }
-    ensures opens { D.honest disk → ((c : List ℕ) → D.left disk c → StandsForSome c) → IfErr result (λ refused. IsPassing refused.0) }
+    ensures opens { D.honest disk → ((c : List ℕ) → D.left disk c → IsStoreFile c) → IfErr result (λ refused. IsPassing refused.0) }
     ensures honest { (IfOk result (λ store. D.honest store.disk ↔ D.honest disk)) × (IfErr result (λ refused. D.honest refused.1 ↔ D.honest disk)) }
 {
     let mut disk = disk;

@@ -46,7 +46,7 @@ fn apply_all(network: &mut Network, records: &[Record]) -> Result<bool, OutOfMem
 }
 
 // Judges the journal page of this number, and carries its commands out. Answers the version after them.
-fn judge_page(
+fn apply_page(
     alloc: Global,
     page: &[u8; PAGE_SIZE],
     number: u64,
@@ -108,7 +108,7 @@ fn replay_page<D: Disk>(
     let Ok(()) = read_page(disk, number, &mut page) else {
         return Err(Refusal::Device);
     };
-    judge_page(alloc, &page, number, header.format, version, network)
+    apply_page(alloc, &page, number, header.format, version, network)
 }
 
 /// Carries out the commands of the unchecked pages, page by page. Answers the version after them: each group counts one. The first page that isn't spelled rightly,

@@ -5,7 +5,7 @@ ghost use Rattle.disk.specs.Moments.{StaysSame};
 ghost use Rattle.roadnet.specs.declared.refusals.Refusal.TheVariants.{OutOfMemory as out_of_memory};
 ghost use Rattle.roadnet.specs.Net.{Net};
 ghost use Rattle.pagereader.specs.Outcomes.{failures_told, MayEndOpening};
-ghost use Rattle.store.specs.Inspecting.{StandsThus};
+ghost use Rattle.store.specs.Inspecting.{HasStanding};
 ghost use Rattle.store.specs.Opening.{HeaderFits, MayRefuseToOpen};
 ghost use Rattle.store.specs.State.{WhileTidy, BeforeCommit};
 
@@ -43,8 +43,8 @@ impl<D: Disk> Store<D> {
         ensures slot { result.slot ≡ self.now.slot }
         ensures epoch { result.epoch ≡ self.now.epoch }
         ensures unchecked { result.unchecked ≡ self.now.unchecked }
-        ensures stands { WhileTidy D.honest D.content self.now (StandsThus (D.content self.now.disk) self.now.network self.now.version result) }
-        ensures before_commit { BeforeCommit D.honest D.content self.now (StandsThus (D.content self.now.disk) self.now.network self.now.version result) }
+        ensures stands { WhileTidy D.honest D.content self.now (HasStanding (D.content self.now.disk) self.now.network self.now.version result) }
+        ensures before_commit { BeforeCommit D.honest D.content self.now (HasStanding (D.content self.now.disk) self.now.network self.now.version result) }
     {
         Standing {
             slot: self.pages.slot,
@@ -62,7 +62,7 @@ impl<D: Disk> Store<D> {
 /// unchecked; behind a checkpoint then slot B of epoch 2 is current, and no page is unchecked.
 pub fn inspect<D: Disk>(alloc: Global, disk: &mut D) -> Result<Inspected, Refusal>
     // The content stands for a network at this version, and so.
-    ensures stands { D.honest disk.old → IfOk result (λ found. (net : Net) × StandsThus (D.content disk.old) net found.version found.standing) }
+    ensures stands { D.honest disk.old → IfOk result (λ found. (net : Net) × HasStanding (D.content disk.old) net found.version found.standing) }
     // It refuses what the format refuses. Other refusals come for want of memory, or where the disk failed in this call.
     ensures judged { D.honest disk.old → IfErr result (MayRefuseToOpen (D.content disk.old)) }
     // Want of memory is told only where the header fits the file.

@@ -11,7 +11,7 @@ ghost use Rattle.store.specs.Committing.{alone, MayRefuseCommit, RefusesCommit};
 ghost use Rattle.store.specs.Checkpointing.{refusal_of_checkpoint, MayRefuseCheckpoint};
 ghost use Rattle.pages.specs.Layout.{other, slot_pages};
 ghost use Rattle.store.specs.Going.{part_by, progress_by, slot_by, epoch_by, unchecked_by, with_page_committed};
-ghost use Rattle.store.specs.State.{CameTidy, WhileTidy, LeavesDurableOrAfter, HasCommittedNothing, HasRoom, HasCheckpointPages, IsDurable, IsDurableOrAfter, StandsAs, told, commit_refusal, is_calm, checkpoint_of, has_all_checked};
+ghost use Rattle.store.specs.State.{CameTidy, WhileTidy, LeavesDurableOrAfter, HasCommittedNothing, HasRoom, HasCheckpointPages, IsDurable, IsDurableOrAfter, HasTold, told, commit_refusal, is_calm, checkpoint_of, has_all_checked};
 
 use crate::alone::groups_of;
 use crate::in_flight::{InFlight, Made, has_failed};
@@ -38,7 +38,7 @@ impl<D: Disk> Model for Store<D> {
     ghost use Rattle.std.specs.Prelude.{◌≡◌, true, false, List, [], ℕ};
     ghost use Rattle.disk.specs.Contents.{Only};
     ghost use Rattle.pages.specs.Layout.{slot_pages};
-    ghost use Rattle.store.specs.Committing.{StandsTidily};
+    ghost use Rattle.store.specs.Committing.{HasTidyStanding};
     ghost use Rattle.store.specs.Durable.{told_by, KeepsTold};
     ghost use Rattle.storefile.specs.Standing.{IsBeforeOrAfter};
     ghost use Rattle.store.specs.State.{StoreState, CameTidy, state_of};
@@ -51,7 +51,7 @@ impl<D: Disk> Model for Store<D> {
         (s.pages.broken ≡ false → s.in_flight.groups ≡ [])
         × (CameTidy D.honest D.content s.given.value
         → D.honest s.pages.disk
-        × (s.pages.broken ≡ false → Only (D.content s.pages.disk) (D.left s.pages.disk) × StandsTidily (D.content s.pages.disk) (told_by s.pages))
+        × (s.pages.broken ≡ false → Only (D.content s.pages.disk) (D.left s.pages.disk) × HasTidyStanding (D.content s.pages.disk) (told_by s.pages))
         × (s.pages.broken ≡ true → (c : List ℕ) → D.left s.pages.disk c → IsBeforeOrAfter s.pages.header.journal_pages (slot_pages s.pages.header) s.pages.network s.pages.version s.in_flight.groups c))
         × KeepsTold s.given.value s.pages };
 }
@@ -75,7 +75,7 @@ impl<D: Disk> Store<D> {
         ensures only { D.honest self.now.disk → self.now.broken ≡ false → Only (D.content self.now.disk) (D.left self.now.disk) }
         ensures stands { CameTidy D.honest D.content self.now.given → self.now.broken ≡ false → IsDurable self.now (D.content self.now.disk) }
         // Tidy or not, before a commit the content stands as the store tells.
-        ensures before_commit { HasCommittedNothing D.honest D.content self.now → self.now.broken ≡ false → StandsAs (D.content self.now.disk) (told self.now) }
+        ensures before_commit { HasCommittedNothing D.honest D.content self.now → self.now.broken ≡ false → HasTold (D.content self.now.disk) (told self.now) }
         ensures left { CameTidy D.honest D.content self.now.given → (c : List ℕ) → D.left self.now.disk c → IsDurableOrAfter self.now self.now.in_flight c }
         ensures none_in_flight { self.now.broken ≡ false → self.now.in_flight ≡ [] }
         ensures checkpoint_pages { CameTidy D.honest D.content self.now.given → self.now.broken ≡ false → HasCheckpointPages self.now }
@@ -87,8 +87,8 @@ impl<D: Disk> Store<D> {
     /// that keeps the disk model, and it is not broken, so many stand behind it in the content.
     pub fn unchecked(&self) -> u32
         ensures unchecked { result ≡ self.now.unchecked }
-        ensures stands { CameTidy D.honest D.content self.now.given → self.now.broken ≡ false → StandsAs (D.content self.now.disk) (told self.now) }
-        ensures before_commit { HasCommittedNothing D.honest D.content self.now → self.now.broken ≡ false → StandsAs (D.content self.now.disk) (told self.now) }
+        ensures stands { CameTidy D.honest D.content self.now.given → self.now.broken ≡ false → HasTold (D.content self.now.disk) (told self.now) }
+        ensures before_commit { HasCommittedNothing D.honest D.content self.now → self.now.broken ≡ false → HasTold (D.content self.now.disk) (told self.now) }
     {
         self.pages.unchecked
     }
@@ -259,7 +259,7 @@ impl<D: Disk> Store<D> {
         ensures any_moment { WhileTidy D.honest D.content self.old (LeavesOnly D.moment D.left_since self.old.disk self.new.disk (IsDurable self.old)) }
         ensures left { CameTidy D.honest D.content self.old.given → self.old.broken ≡ false → (c : List ℕ) → D.left self.new.disk c → IsDurable self.old c }
         // Tidy or not, before a commit the content stands, after Ok, as the store tells then.
-        ensures before_commit { HasCommittedNothing D.honest D.content self.old → OnOk result (StandsAs (D.content self.new.disk) (told self.new)) }
+        ensures before_commit { HasCommittedNothing D.honest D.content self.old → OnOk result (HasTold (D.content self.new.disk) (told self.new)) }
         ensures only { D.honest self.old.disk → OnOk result (Only (D.content self.new.disk) (D.left self.new.disk)) }
         ensures honest { D.honest self.new.disk ↔ D.honest self.old.disk }
     {
@@ -302,7 +302,7 @@ impl<D: Disk> Store<D> {
         ensures any_moment { WhileTidy D.honest D.content self.old (LeavesOnly D.moment D.left_since self.old.disk self.new.disk (IsDurable self.old)) }
         ensures left { CameTidy D.honest D.content self.old.given → self.old.broken ≡ false → (c : List ℕ) → D.left self.new.disk c → IsDurable self.old c }
         // Tidy or not, before a commit the content stands, after Ok, as the store tells then.
-        ensures before_commit { HasCommittedNothing D.honest D.content self.old → OnOk result (StandsAs (D.content self.new.disk) (told self.new)) }
+        ensures before_commit { HasCommittedNothing D.honest D.content self.old → OnOk result (HasTold (D.content self.new.disk) (told self.new)) }
         ensures only { D.honest self.old.disk → OnOk result (Only (D.content self.new.disk) (D.left self.new.disk)) }
         ensures honest { D.honest self.new.disk ↔ D.honest self.old.disk }
     {

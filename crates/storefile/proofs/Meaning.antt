@@ -18,7 +18,7 @@ use Rattle.pages.specs.Grouping.{records_in}
 use Rattle.pages.specs.Layout.{slot_pages, page_count}
 use Rattle.pages.proofs.Padding.{length-zeros}
 use Rattle.pages.proofs.Entries.{fields_of, length-fields, entry_read}
-use Rattle.storefile.specs.StoreFile.{page, is_open, first_field, is_standing, journal_page_at, StandsTidyBy}
+use Rattle.storefile.specs.StoreFile.{page, is_open, first_field, is_standing, journal_page_at, HoldsNetworkTidily}
 use Rattle.storefile.specs.Standing.{IsStoredAs, IsTidyAt, IsBeforeOrAfter, with_groups}
 use Rattle.storefile.proofs.PageBytes.{shut_gate, body_front, gate_behind, written_outside, written_page}
 use Rattle.storefile.proofs.JournalWrite.{closed_page, open_page, this_one}
@@ -93,7 +93,7 @@ module _ (old : List ℕ) (h : Header) (slot : Slot) (epoch : ℕ) (net net' : N
   has_room : length held.stored.unchecked < held.stored.header.journal_pages
   has_room = omega (arith, room, held.unchecked_is, ap (λ (x : Header). x.journal_pages) held.header_is)
 
-  tidy_by : StandsTidyBy old held.stored net version next
+  tidy_by : HoldsNetworkTidily old held.stored net version next
   tidy_by = record { stands = held.stands; tidy = subst (λ (x : Header). IsTidyAt old x next) (sym held.header_is) tidy }
 
   same_pages : held.stored.header.journal_pages ≡ h.journal_pages
@@ -109,14 +109,14 @@ module _ (old : List ℕ) (h : Header) (slot : Slot) (epoch : ℕ) (net net' : N
   whole = omega (arith, length-append b (165 ∷ []), long)
 
   -- a closed gate at the place of the next sequence
-  pub stays : (c : List ℕ) → IsShut (4096 * journal_page_at h next) (length b + 1) (4096 * journal_page_at h next + length b) old c → StandsTidyBy c held.stored net version next
+  pub stays : (c : List ℕ) → IsShut (4096 * journal_page_at h next) (length b + 1) (4096 * journal_page_at h next + length b) old c → HoldsNetworkTidily c held.stored net version next
   stays c shut =
       let there : IsShut (4096 * journal_page_at held.stored.header next) 4096 (4096 * journal_page_at held.stored.header next + 4095) old c =
       subst (λ (k : ℕ). IsShut (4096 * k) 4096 (4096 * k + 4095) old c) (sym place) (subst (λ (n : ℕ). IsShut (4096 * journal_page_at h next) (n + 1) (4096 * journal_page_at h next + n) old c) long shut) in
       closed_page old c held.stored net version next tidy_by has_room there.outside (shut_gate (journal_page_at held.stored.header next) (4096 * journal_page_at held.stored.header next) 4096 old c there)
 
   -- written whole: the file stands for the network after the commands
-  pub stands_more : StandsTidyBy (with_page old (4096 * journal_page_at h next) b) (with_groups held.stored commands) net' (version + length commands) (next + 1)
+  pub stands_more : HoldsNetworkTidily (with_page old (4096 * journal_page_at h next) b) (with_groups held.stored commands) net' (version + length commands) (next + 1)
   stands_more =
       let k : ℕ = journal_page_at held.stored.header next in
       let new : page (with_page old (4096 * journal_page_at held.stored.header next) b) (journal_page_at held.stored.header next) ≡ b ++ 165 ∷ [] = written_page (journal_page_at held.stored.header next) old (b ++ 165 ∷ []) within whole in
@@ -124,7 +124,7 @@ module _ (old : List ℕ) (h : Header) (slot : Slot) (epoch : ℕ) (net net' : N
       let spells : SpelledEntry held.stored.header.format (page (with_page old (4096 * journal_page_at held.stored.header next) b) (journal_page_at held.stored.header next)) (record { sequence = next; first_number = version + 1; groups = commands }) =
       subst (λ (f : Format). SpelledEntry f (page (with_page old (4096 * journal_page_at held.stored.header next) b) (journal_page_at held.stored.header next)) (record { sequence = next; first_number = version + 1; groups = commands })) (sym held.format_is)
       (record { fits = wrote.fits; spelled = ap body new ∙ body_front b 165 long ∙ wrote.is }) in
-      subst (λ (j : ℕ). StandsTidyBy (with_page old (4096 * j) b) (with_groups held.stored commands) net' (version + length commands) (next + 1)) place
+      subst (λ (j : ℕ). HoldsNetworkTidily (with_page old (4096 * j) b) (with_groups held.stored commands) net' (version + length commands) (next + 1)) place
       (open_page old (with_page old (4096 * journal_page_at held.stored.header next) b) held.stored net net' version next commands tidy_by has_room outside (ap is_open new ∙ gate_behind b long) spells wrote.versions goes)
 
   pub stored_more : IsStoredAs (with_page old (4096 * journal_page_at h next) b) h slot epoch net' (version + length commands) (next + 1) (unchecked + 1)
@@ -146,8 +146,8 @@ module _ (old : List ℕ) (h : Header) (slot : Slot) (epoch : ℕ) (net net' : N
   before_or_after c way = ⊎_elim
       (λ shut. inl (held.stored, next, stays c shut, same_pages, same_slots, held.format_is))
       (λ whole_way. ⊎_elim
-      (λ same. inl (held.stored, next, subst (λ (d : List ℕ). StandsTidyBy d held.stored net version next) (sym same) tidy_by, same_pages, same_slots, held.format_is))
-      (λ new. inr (net', goes, (with_groups held.stored commands, next + 1, subst (λ (d : List ℕ). StandsTidyBy d (with_groups held.stored commands) net' (version + length commands) (next + 1)) (sym new) stands_more, same_pages, same_slots, held.format_is)))
+      (λ same. inl (held.stored, next, subst (λ (d : List ℕ). HoldsNetworkTidily d held.stored net version next) (sym same) tidy_by, same_pages, same_slots, held.format_is))
+      (λ new. inr (net', goes, (with_groups held.stored commands, next + 1, subst (λ (d : List ℕ). HoldsNetworkTidily d (with_groups held.stored commands) net' (version + length commands) (next + 1)) (sym new) stands_more, same_pages, same_slots, held.format_is)))
       whole_way)
       way
 
@@ -158,7 +158,7 @@ rests content left h slot epoch net version next unchecked commands only held ti
     inl (
       held.stored,
       next,
-      subst (λ (d : List ℕ). StandsTidyBy d held.stored net version next) (sym (only c was))
+      subst (λ (d : List ℕ). HoldsNetworkTidily d held.stored net version next) (sym (only c was))
           (record { stands = held.stands; tidy = subst (λ (x : Header). IsTidyAt content x next) (sym held.header_is) tidy }),
       ap (λ (x : Header). x.journal_pages) held.header_is,
       ap slot_pages held.header_is,

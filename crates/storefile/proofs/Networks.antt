@@ -8,7 +8,7 @@ use Rattle.roadnet.specs.Net.{IsArcAmong}
 use Rattle.roadnet.proofs.Kept.{after_is_network}
 use Rattle.pages.specs.Spelling.{IsEnds, IsWord, ends_of, word_of}
 use Rattle.storefile.specs.StoreFile.{page, part, groups_of}
-use Rattle.storefile.specs.Laws.{StoresNetworks, StandsForNetworks}
+use Rattle.storefile.specs.Laws.{StoresNetworks, GivesNetworks}
 
 all_append : {X : Type 0} (P : X → Type 0) (xs ys : List X) → AllByRecursion P xs → AllByRecursion P ys → AllByRecursion P (xs ++ ys)
 all_append P [] ys hx hy = hy
@@ -60,5 +60,5 @@ stores_networks size pages s is =
       landmarks_to = is.held.head_is.fits.numbers.count_to;
     }
 
-pub stands_for_networks : StandsForNetworks
+pub stands_for_networks : GivesNetworks
 stands_for_networks format file net v q a = (after_is_network a.0.network net (groups_of a.0) (stores_networks (length file) (page file) a.0 a.1.is) a.1.gives.network, omega (arith, a.1.gives.version_is, a.1.is.versions_to))

@@ -10,6 +10,7 @@ use Rattle.pages.specs.Contents.{Head}
 use Rattle.pages.specs.Spelling.{body, header_page, arc_page, word_page, head_page}
 use Rattle.pages.specs.Vectors.{six, old_six}
 use Rattle.pages.specs.declared.content.Format.TheVariants.{One, Two}
+use Rattle.pages.specs.Limits.{page_size}
 use Rattle.storefile.specs.StoreFile.{Stored, groups_of}
 
 abbrev pub arc : ℕ → ℕ → Ends
@@ -23,7 +24,7 @@ abbrev pub opened_page : List ℕ → List ℕ
 opened_page page = body page ++ open_byte ∷ []
 
 abbrev pub blank_page : List ℕ
-blank_page = replicate 4096 0
+blank_page = replicate page_size 0
 
 abbrev pub file_of : List (List ℕ) → List ℕ
 file_of [] = []

@@ -25,7 +25,7 @@ use Rattle.pages.specs.Grouping.{grouped, are_whole, is_of_format}
 use Rattle.pages.specs.Reading.{read_header, read_records, read_items, read_ends, read_word, is_ends}
 use Rattle.pages.specs.Layout.{Arcs, HeadOf, Words, EndsOf, places_in_use, arc_pages, word_pages, end_pages, page_number, page_count}
 use Rattle.storefile.specs.StoreFile.{page, is_open, first_field, journal_page_at, is_standing, Stored}
-use Rattle.pages.specs.Limits.{magic, most_versions, most_commands}
+use Rattle.pages.specs.Limits.{page_size, magic, most_versions, most_commands}
 
 -- ---- the content that a page spells, if it spells one: what is read at the places of its fields, where the page is spelled so
 
@@ -131,7 +131,7 @@ all_spelled decode number i (suc n) = do
 
 -- the first bytes are those of a store, and the gate is open
 abbrev pub begins_as_store : ℕ → List ℕ → Bool
-begins_as_store size page = nat_le 4096 size && bytes_eq (take 8 page) magic && is_open page
+begins_as_store size page = nat_le page_size size && bytes_eq (take 8 page) magic && is_open page
 
 -- the number of the format
 abbrev pub format_of : List ℕ → ℕ
@@ -188,7 +188,7 @@ opened_from format size pages = do
   _ ← unless_so (begins_as_store size (pages 0)) NotAStore
   _ ← unless_so (format_of (pages 0) == number_of format) WrongFormat
   h ← spelled_at 0 (header_in (pages 0))
-  _ ← unless_so (size == 4096 * page_count h) (Damaged 0)
+  _ ← unless_so (size == page_size * page_count h) (Damaged 0)
   ends ← ends_from pages h
   slot ← current_slot pages h
   head ← spelled_at (page_number h (HeadOf slot)) (head_in h (pages (page_number h (HeadOf slot))))

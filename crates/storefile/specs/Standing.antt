@@ -10,7 +10,7 @@ use Rattle.pages.specs.declared.content.Format.TheVariants.{Two}
 use Rattle.pages.specs.Contents.{Entry}
 use Rattle.pages.specs.Spelling.{IsHeader}
 use Rattle.pages.specs.Layout.{other}
-use Rattle.storefile.specs.StoreFile.{page, joined, Stored, HoldsJournal, StandsBy, StandsTidyFor, HasNoLaterPage, groups_of, next_sequence}
+use Rattle.storefile.specs.StoreFile.{page, joined, Stored, HoldsJournal, HoldsNetwork, StandsTidyFor, HasNoLaterPage, groups_of, next_sequence}
 use Rattle.storefile.specs.Judging.{opened}
 use Rattle.pages.specs.Limits.{most_versions}
 
@@ -18,7 +18,7 @@ use Rattle.pages.specs.Limits.{most_versions}
 -- version, the page of this sequence is written next, and so many pages of its journal are unchecked.
 pub record IsStoredAs (file : List ℕ) (h : Header) (slot : Slot) (epoch : ℕ) (net : Net) (version next unchecked : ℕ) : Type 0 where
   pub stored : Stored
-  pub stands : StandsBy file stored net version next
+  pub stands : HoldsNetwork file stored net version next
   pub header_is : stored.header ≡ h
   pub format_is : stored.header.format ≡ Two
   pub slot_is : stored.slot ≡ slot
@@ -85,11 +85,8 @@ pub record LeadsTo (pages : ℕ → List ℕ) (h : Header) (from : Net) (from_ve
 abbrev pub entry_behind : Stored → List (List Command) → Entry
 entry_behind s groups = record { sequence = next_sequence s; first_number = s.version + length (groups_of s) + 1; groups = groups }
 
--- the file is tidy, has these sizes, and stands for the network after these groups, each counted
-abbrev pub StandsTidyAfter : ℕ → ℕ → List ℕ → Net → ℕ → List (List Command) → Type 0
-StandsTidyAfter journal_pages checkpoint_pages file net version groups = (net' : Net) × (after net groups ≡ Some net') × StandsTidyFor journal_pages checkpoint_pages file net' (version + length groups)
-
 -- what a stop within the commit of these groups may leave: the file stands for what it stood for, or for what it stands for after them
 abbrev pub IsBeforeOrAfter : ℕ → ℕ → Net → ℕ → List (List Command) → List ℕ → Type 0
 IsBeforeOrAfter journal_pages checkpoint_pages net version groups file =
-    StandsTidyFor journal_pages checkpoint_pages file net version ⊎ StandsTidyAfter journal_pages checkpoint_pages file net version groups
+    StandsTidyFor journal_pages checkpoint_pages file net version
+    ⊎ ((net' : Net) × (after net groups ≡ Some net') × StandsTidyFor journal_pages checkpoint_pages file net' (version + length groups))

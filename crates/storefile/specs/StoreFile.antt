@@ -13,13 +13,13 @@ use Rattle.pages.specs.declared.content.Format.TheVariants.{Two}
 use Rattle.pages.specs.Contents.{Head}
 use Rattle.pages.specs.Spelling.{SpelledHeader, SpelledArcs, SpelledWords, SpelledHead, SpelledEntry, ends_of, word_of}
 use Rattle.pages.specs.Layout.{Arcs, HeadOf, Words, EndsOf, Journal, places_in_use, arc_pages, word_pages, end_pages, slot_pages, other, page_number, page_count, place_of}
-use Rattle.pages.specs.Limits.{most_versions}
+use Rattle.pages.specs.Limits.{page_size, gate_at, most_versions}
 
 -- ---- pages
 
 -- the page of this number of a file
 abbrev pub page : List ℕ → ℕ → List ℕ
-page file k = take 4096 (drop (4096 * k) file)
+page file k = take page_size (drop (page_size * k) file)
 
 -- In what follows a file is seen by its pages: `pages k` is its page k.
 
@@ -29,7 +29,7 @@ part places i xs = take places (drop (places * i) xs)
 
 -- the gate of a page, its last byte, is open
 abbrev pub is_open : List ℕ → Bool
-is_open page = slice_index page 4095 == open_byte
+is_open page = slice_index page gate_at == open_byte
 
 -- a page's first number: the epoch of a slot's head, the sequence of a journal page
 abbrev pub first_field : List ℕ → ℕ
@@ -105,7 +105,7 @@ HoldsJournal pages h q v (groups ∷ rest) =
 pub record Stores (size : ℕ) (pages : ℕ → List ℕ) (s : Stored) : Type 0 where
   pub header : SpelledHeader (pages 0) s.header
   pub opened : IsTrue (is_open (pages 0))
-  pub size_is : size ≡ 4096 * page_count s.header
+  pub size_is : size ≡ page_size * page_count s.header
   pub arcs : HoldsArcs pages s.header s.network
   pub current : IsCurrent pages s.header s.slot
   pub held : HoldsSlot pages s.header s.slot (head_of s) s.network
@@ -126,14 +126,14 @@ pub record Gives (s : Stored) (net : Net) (version : ℕ) : Type 0 where
   pub version_is : version ≡ s.version + length (groups_of s)
 
 -- the same, with what is stored shown: the file stores it, it gives this network and version, and the page of this sequence is written next
-pub record StandsBy (file : List ℕ) (s : Stored) (net : Net) (version next : ℕ) : Type 0 where
+pub record HoldsNetwork (file : List ℕ) (s : Stored) (net : Net) (version next : ℕ) : Type 0 where
   pub is : IsStoreOf file s
   pub gives : Gives s net version
   pub next_is : next ≡ next_sequence s
 
 -- The file, in this format, stands for this network at this version, and the page of this sequence is written next.
 abbrev pub StandsIn : Format → List ℕ → Net → ℕ → ℕ → Type 0
-StandsIn format file net version next = (s : Stored) × StandsBy file s net version next × (s.header.format ≡ format)
+StandsIn format file net version next = (s : Stored) × HoldsNetwork file s net version next × (s.header.format ≡ format)
 
 -- The same in the format in which stores are made and opened.
 abbrev pub StandsFor : List ℕ → Net → ℕ → ℕ → Type 0
@@ -146,11 +146,11 @@ abbrev pub HasNoLaterPage : (ℕ → List ℕ) → Header → ℕ → Type 0
 HasNoLaterPage pages h next = (q : ℕ) → next ≤ q → is_standing pages h q ≡ false
 
 -- the file stands for this network, version and next sequence by what it stores, and no page of its journal is of that sequence or a later one
-pub record StandsTidyBy (file : List ℕ) (s : Stored) (net : Net) (version next : ℕ) : Type 0 where
-  pub stands : StandsBy file s net version next
+pub record HoldsNetworkTidily (file : List ℕ) (s : Stored) (net : Net) (version next : ℕ) : Type 0 where
+  pub stands : HoldsNetwork file s net version next
   pub tidy : HasNoLaterPage (page file) s.header next
 
 -- The file is tidy, its journal has so many pages and a checkpoint writes so many, and it stands for this network at this version.
 abbrev pub StandsTidyFor : ℕ → ℕ → List ℕ → Net → ℕ → Type 0
 StandsTidyFor journal_pages checkpoint_pages file net version =
-    (s : Stored) × (next : ℕ) × StandsTidyBy file s net version next × (s.header.journal_pages ≡ journal_pages) × (slot_pages s.header ≡ checkpoint_pages) × (s.header.format ≡ Two)
+    (s : Stored) × (next : ℕ) × HoldsNetworkTidily file s net version next × (s.header.journal_pages ≡ journal_pages) × (slot_pages s.header ≡ checkpoint_pages) × (s.header.format ≡ Two)

@@ -5,13 +5,14 @@ use Rattle.roadnet.specs.declared.refusals.Refusal.TheVariants.{NotAStore, Wrong
 use Rattle.pages.specs.declared.content.Slot.TheVariants.{A}
 use Rattle.pages.specs.Spelling.{arc_page, word_page, head_page, entry_page}
 use Rattle.pages.specs.declared.content.Format.TheVariants.{One, Two}
+use Rattle.pages.specs.Limits.{page_size}
 use Rattle.storefile.specs.Judging.{judged, judged_in, opened, opened_in}
 use Rattle.storefile.specs.Examples.{arc, open_word, six_words, new_head, opened_page, blank_page, created, sixty_four, roomy, nine_head, old_file, standing}
 
 -- files of the six nodes with 64 journal pages
 pub record FileExamples : Type 0 where
   pub none : standing (opened created) ≡ Some (A, 1, 0, 8, 0)
-  pub cut : judged (take (4096 * 69) created) ≡ Some (Damaged 0)
+  pub cut : judged (take (page_size * 69) created) ≡ Some (Damaged 0)
   pub other_magic : judged (slice_set created 0 0) ≡ Some NotAStore
   pub other_format : judged (slice_set created 11 9) ≡ Some WrongFormat
   pub no_command : judged (sixty_four (opened_page (entry_page (record { sequence = 0; first_number = 1; groups = [] })))) ≡ Some (Damaged 6)

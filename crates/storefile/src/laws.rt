@@ -1,6 +1,6 @@
 // Laws of the definitions.
 
-ghost use Rattle.storefile.specs.Laws.{AtMostOne, InOneFormat, IsNotRefused, StandsUnlessRefused, StoresNetworks, StandsForNetworks, StandingIsStored, ClosedPageMeansNothing, OpenPageIsOneMore, ClosedSlotMeansNothing, OpenSlotIsCurrent, SlotsKeepTidy};
+ghost use Rattle.storefile.specs.Laws.{AtMostOne, InOneFormat, IsNotRefused, UnrefusedMeansSomething, StoresNetworks, GivesNetworks, StandingIsStored, ClosedPageMeansNothing, OpenPageIsOneMore, ClosedSlotMeansNothing, OpenSlotIsCurrent, SlotsKeepTidy};
 ghost use Rattle.storefile.specs.Vectors.{FileExamples, GroupExamples, RoomExamples, OldExamples};
 
 /// A file stands for at most one network, version and next sequence, and for one exactly where opening refuses it nowhere.
@@ -8,9 +8,9 @@ pub fn meaning_of_a_file()
     ensures at_most_one { AtMostOne }
     ensures one_format { InOneFormat }
     ensures not_refused { IsNotRefused }
-    ensures unless_refused { StandsUnlessRefused }
+    ensures unless_refused { UnrefusedMeansSomething }
     ensures networks { StoresNetworks }
-    ensures stands_for_networks { StandsForNetworks }
+    ensures stands_for_networks { GivesNetworks }
     ensures told { StandingIsStored }
 {}
 

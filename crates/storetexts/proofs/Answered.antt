@@ -8,7 +8,7 @@ use Rattle.dimacs.specs.declared.pairs.Pair.{Pair}
 use Rattle.dimacs.specs.Lines.{rows}
 use Rattle.dimacs.specs.Pairs.{p2p_text}
 use Rattle.dimacs.specs.Texts.{Source, OfReader, FaultOf, content_by, Reads}
-use Rattle.store.specs.State.{StandsAt}
+use Rattle.store.specs.State.{HasVersion}
 use Rattle.printing.specs.declared.failed.Failed.{Failed}
 use Rattle.printing.specs.declared.failed.Failed.TheVariants.{Text, Code}
 use Rattle.querytexts.specs.Batch.{AnswersAll}
@@ -16,7 +16,7 @@ use Rattle.querytexts.specs.Once.{IsUnanswered}
 use Rattle.storetexts.specs.Asked.{OfStore, GivesPairs, IsAsked, IsRefusedAsk}
 use Rattle.storetexts.specs.Refused.{IsOfStore, CountsDevice}
 
-module _ (Honest : Type 0) (file : List ℕ) (net : Net) (version nodes : ℕ) (stands : Honest → StandsAt file net version) (is : nodes ≡ net.nodes) where
+module _ (Honest : Type 0) (file : List ℕ) (net : Net) (version nodes : ℕ) (stands : Honest → HasVersion file net version) (is : nodes ≡ net.nodes) where
   asked_one : (text : List ℕ) (list : List Pair) (old new : Option (List ℕ)) → content_by (p2p_text nodes) (rows text) ≡ Ok list → AnswersAll net version list old new → IsAsked Honest file text old new
   asked_one text list old new said answers = record {
     net = net;

@@ -10,7 +10,7 @@ use Rattle.printing.specs.Failing.{CountsWrites, LeavesUnwritten}
 use Rattle.printing.specs.declared.failed.Failed.{Failed}
 use Rattle.printing.specs.declared.failed.Failed.TheVariants.{Code}
 use Rattle.store.specs.declared.standing.Standing.{Standing}
-use Rattle.store.specs.Inspecting.{StandsThus}
+use Rattle.store.specs.Inspecting.{HasStanding}
 use Rattle.storetexts.specs.Asked.{IsUnopened}
 use Rattle.storetexts.specs.Checked.{standing_lines, IsChecked, IsRefusedCheck}
 use Rattle.storetexts.specs.Refused.{IfNoMemory, CountsDevice}
@@ -23,7 +23,7 @@ pub memory_told : (refusal : Refusal) (P : Type 0) → (refusal ≡ OutOfMemory 
 memory_told OutOfMemory P told = told refl
 memory_told _ P told = tt
 
-pub told_so : (r : Result (Unit {0}) Failed) (Honest : Type 0) (file : List ℕ) (version : ℕ) (told : Standing) (old new : Option (List ℕ)) → (Honest → (net : Net) × StandsThus file net version told)
+pub told_so : (r : Result (Unit {0}) Failed) (Honest : Type 0) (file : List ℕ) (version : ℕ) (told : Standing) (old new : Option (List ℕ)) → (Honest → (net : Net) × HasStanding file net version told)
     → OnOk r (Appends old new (standing_lines version told)) → OnOk r (IsChecked Honest file old new)
 told_so (Ok done) Honest file version told old new stands written = record { version = version; told = told; stands = stands; written = written }
 told_so (Err failed) Honest file version told old new stands written = tt
@@ -34,7 +34,7 @@ by_write : (P : Failed → Type 0) (r : Result (Unit {0}) Failed) → P (Code Wr
 by_write P (Ok done) p is = tt
 by_write P (Err failed) p is = subst P (sym is) p
 
-pub write_refused : (r : Result (Unit {0}) Failed) (Honest : Type 0) (file : List ℕ) (version : ℕ) (told : Standing) → (Honest → (net : Net) × StandsThus file net version told)
+pub write_refused : (r : Result (Unit {0}) Failed) (Honest : Type 0) (file : List ℕ) (version : ℕ) (told : Standing) → (Honest → (net : Net) × HasStanding file net version told)
     → IfErr r (λ failed. failed ≡ Code Write) → IfErr r (IsRefusedCheck Honest file)
 write_refused r Honest file version told stands is = by_write (IsRefusedCheck Honest file) r (version, told, stands) is
 

@@ -9,7 +9,7 @@ use Rattle.printing.specs.Looks.{look_lines}
 use Rattle.printing.specs.declared.failed.Failed.{Failed}
 use Rattle.printing.specs.declared.failed.Failed.TheVariants.{Code}
 use Rattle.printing.specs.declared.looks.Look.{Look}
-use Rattle.store.specs.State.{StandsAt}
+use Rattle.store.specs.State.{HasVersion}
 use Rattle.storetexts.specs.Asked.{IsUnopened}
 use Rattle.storetexts.specs.Shown.{IsShown, IsRefusedShow}
 
@@ -17,7 +17,7 @@ pub unopened : (Honest : Type 0) (file : List ℕ) (refusal : Refusal) → IsUno
 unopened Honest file Write may = absurd (let never : false ≡ true = may.0 in cc)
 unopened Honest file _ may = may
 
-module _ (Honest : Type 0) (file : List ℕ) (net : Net) (version : ℕ) (stands : Honest → StandsAt file net version) where
+module _ (Honest : Type 0) (file : List ℕ) (net : Net) (version : ℕ) (stands : Honest → HasVersion file net version) where
   pub shown_so : (r : Result (Unit {0}) Failed) (look : Look) (old new : Option (List ℕ)) → OnOk r (Appends old new (look_lines net version look)) → OnOk r (IsShown Honest file look old new)
   shown_so (Ok done) look old new written = record { net = net; version = version; stands = stands; holds = written }
   shown_so (Err failed) look old new written = tt

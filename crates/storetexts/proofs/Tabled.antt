@@ -10,7 +10,7 @@ use Rattle.dimacs.specs.Lines.{rows}
 use Rattle.dimacs.specs.Landmarks.{nodes_text}
 use Rattle.dimacs.specs.Texts.{Source, OfReader, FaultOf, content_by, Reads}
 use Rattle.pagereader.specs.Outcomes.{MayEndOpening}
-use Rattle.store.specs.State.{StandsAt}
+use Rattle.store.specs.State.{HasVersion}
 use Rattle.printing.specs.declared.failed.Failed.{Failed}
 use Rattle.printing.specs.declared.failed.Failed.TheVariants.{Text, Code}
 use Rattle.querytexts.specs.Batch.{AnswersAll}
@@ -39,7 +39,7 @@ opening_of_two Write may = tt
 opening_of_two _ may = may
 
 -- ---- a store was opened
-module _ (Honest : Type 0) (file : List ℕ) (net : Net) (version nodes : ℕ) (stands : Honest → StandsAt file net version) (is : nodes ≡ net.nodes) where
+module _ (Honest : Type 0) (file : List ℕ) (net : Net) (version nodes : ℕ) (stands : Honest → HasVersion file net version) (is : nodes ≡ net.nodes) where
   -- the text lists these nodes
   abbrev pub Lists : List ℕ → List ℕ → Type 0
   Lists text list = content_by (nodes_text nodes) (rows text) ≡ Ok list

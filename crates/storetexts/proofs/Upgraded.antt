@@ -12,7 +12,7 @@ use Rattle.storefile.specs.Judging.{opened}
 use Rattle.storefile.specs.Standing.{Standing, standing_in}
 use Rattle.storefile.proofs.Whole.{opened_is}
 use Rattle.store.specs.Migrating.{room_of, roomed}
-use Rattle.store.specs.State.{Told, StandsAs}
+use Rattle.store.specs.State.{Told, HasTold}
 use Rattle.dimacs.specs.Content.{content}
 use Rattle.dimacs.specs.Texts.{Source}
 use Rattle.printing.specs.declared.failed.Failed.{Failed}
@@ -77,7 +77,7 @@ opened_so : (r : Result (Stored × Net) Refusal) (x : Standing) → standing_in 
 opened_so (Ok y) x e = (y, refl, cc)
 opened_so (Err d) x e = absurd cc
 
-pub journal_fits : (file : List ℕ) (told : Told) → StandsAs file told → fit_pages told.journal_pages ≡ told.journal_pages
+pub journal_fits : (file : List ℕ) (told : Told) → HasTold file told → fit_pages told.journal_pages ≡ told.journal_pages
 journal_fits file told stands =
     let found = opened_so (opened file) stands.standing stands.is in
     let fits = (opened_is Two (length file) (page file) found.0 found.1).0.header.fits in

@@ -8,7 +8,7 @@ use Rattle.dimacs.specs.Landmarks.{nodes_text}
 use Rattle.dimacs.specs.Pairs.{p2p_text}
 use Rattle.dimacs.specs.Texts.{Source, InMemory, OfReader, FaultOf}
 use Rattle.pagereader.specs.Outcomes.{MayEndOpening}
-use Rattle.store.specs.State.{StandsAt}
+use Rattle.store.specs.State.{HasVersion}
 use Rattle.store.specs.Opening.{MayRefuseToOpen}
 use Rattle.printing.specs.declared.failed.Failed.{Failed}
 use Rattle.printing.specs.declared.failed.Failed.TheVariants.{Text, Code}
@@ -19,7 +19,7 @@ use Rattle.querytexts.specs.Table.{GivesTable, HasTargetFault}
 pub record OfStore (Honest : Type 0) (file : List ℕ) (Holds : Net → ℕ → Type 0) : Type 0 where
   pub net : Net
   pub version : ℕ
-  pub stands : Honest → StandsAt file net version
+  pub stands : Honest → HasVersion file net version
   pub holds : Holds net version
 
 -- With what opening may be refused over any disk; where it keeps the disk model, 40 to 42 are what its file says.

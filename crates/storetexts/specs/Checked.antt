@@ -11,7 +11,7 @@ use Rattle.printing.specs.Replied.{number_line}
 use Rattle.printing.specs.declared.failed.Failed.{Failed}
 use Rattle.printing.specs.declared.failed.Failed.TheVariants.{Text, Code}
 use Rattle.store.specs.declared.standing.Standing.{Standing}
-use Rattle.store.specs.Inspecting.{StandsThus}
+use Rattle.store.specs.Inspecting.{HasStanding}
 use Rattle.storetexts.specs.Asked.{IsUnopened}
 
 -- `slot A E` or `slot B E`
@@ -27,12 +27,12 @@ standing_lines version told = version_line version ++ slot_line told.slot told.e
 pub record IsChecked (Honest : Type 0) (file : List ℕ) (old new : Option (List ℕ)) : Type 0 where
   pub version : ℕ
   pub told : Standing
-  pub stands : Honest → (net : Net) × StandsThus file net version told
+  pub stands : Honest → (net : Net) × HasStanding file net version told
   pub written : Appends old new (standing_lines version told)
 
 -- where the disk keeps the disk model its file stands for a store
 abbrev pub IsSomeStore : Type 0 → List ℕ → Type 0
-IsSomeStore Honest file = (version : ℕ) × (told : Standing) × (Honest → (net : Net) × StandsThus file net version told)
+IsSomeStore Honest file = (version : ℕ) × (told : Standing) × (Honest → (net : Net) × HasStanding file net version told)
 
 -- opening is refused, or the store was read and the writer failed
 abbrev pub IsRefusedCheck : Type 0 → List ℕ → Failed → Type 0

@@ -8,7 +8,7 @@ use Rattle.roadnet.specs.Net.{Net, IsRoomFor}
 use Rattle.dimacs.specs.Content.{gr_text, content}
 use Rattle.dimacs.specs.Texts.{Source, FaultOf}
 use Rattle.store.specs.Migrating.{room_of, roomed}
-use Rattle.store.specs.State.{Told, StandsAs}
+use Rattle.store.specs.State.{Told, HasTold}
 use Rattle.printing.specs.Replied.{number_line}
 use Rattle.printing.specs.declared.failed.Failed.{Failed}
 use Rattle.printing.specs.declared.failed.Failed.TheVariants.{Text, Code}
@@ -64,14 +64,14 @@ fit_pages pages = if pages == 0 then 1 else if nat_lt 65536 pages then 65536 els
 -- the new one, the counts, and the pages of the journal.
 pub record IsUpgradeBy (Honest : Type 0) (file : List ℕ) (old new made : Net) (counts : Counts) (journal_pages : ℕ) : Type 0 where
   pub stored : Told
-  pub stands : Honest → StandsAs file stored
+  pub stands : Honest → HasTold file stored
   pub made_is : IsUpgraded stored.network old new made
   pub counts_are : AreCounts stored.network new counts
   pub pages_are : Honest → journal_pages ≡ stored.journal_pages
 
 -- opening is refused; or a store was opened, and its network could not be brought to the new map
 abbrev pub MayRefuseStored : Type 0 → List ℕ → Net → Refusal → Type 0
-MayRefuseStored Honest file old refusal = IsUnopened Honest file refusal ⊎ ((stored : Told) × (Honest → StandsAs file stored) × MayRefuseUpgrade stored.network old refusal)
+MayRefuseStored Honest file old refusal = IsUnopened Honest file refusal ⊎ ((stored : Told) × (Honest → HasTold file stored) × MayRefuseUpgrade stored.network old refusal)
 
 -- the same of the maps of two texts, with the room that is given, if one is
 pub record IsUpgradeOf (Honest : Type 0) (file before after : List ℕ) (room : Option ℕ) (made : Net) (counts : Counts) (journal_pages : ℕ) : Type 0 where

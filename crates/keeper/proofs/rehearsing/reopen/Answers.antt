@@ -1,6 +1,6 @@
 use Rattle.std.proofs.Common.{ℕ, List, sym, ◌∙◌, ap, subst}
 use Rattle.std.proofs.lemmas.Result.{err_from_is_err_and}
-use Rattle.store.specs.Committing.{StandsTidily}
+use Rattle.store.specs.Committing.{HasTidyStanding}
 use Rattle.store.specs.State.{CameTidy}
 use Rattle.keeper.proofs.Stopped.{begins_after, stands_after, stands_as_told}
 use Rattle.keeper.proofs.rehearsing.reopen.Goals as goal
@@ -12,7 +12,7 @@ returns-in-Ok-clause-begins g c m s honest held =
     let content = g.D.Disk.content c.args.disk in
     let begun = c.in-Ok.life.keeper.machine in
     let tidy = stands_after m content stands.standing s held stands.is in
-    let there : CameTidy g.D.Disk.honest g.D.Disk.content store.disk = (c.in_ok-store.ensures.honest.0.1 honest, (stands.standing, subst (λ (d : List ℕ). StandsTidily d stands.standing) (sym (c.in_ok-store.ensures.same honest).same_content) tidy)) in
+    let there : CameTidy g.D.Disk.honest g.D.Disk.content store.disk = (c.in_ok-store.ensures.honest.0.1 honest, (stands.standing, subst (λ (d : List ℕ). HasTidyStanding d stands.standing) (sym (c.in_ok-store.ensures.same honest).same_content) tidy)) in
     record {
       begins = begins_after m content stands.standing s held stands.is begun _ stands.told_is c.in-Ok.ensures.begins.machine;
       came = subst (λ (d : g.row.D.Denot). CameTidy g.D.Disk.honest g.D.Disk.content d) (sym (c.in-Ok.ensures.begins.given ∙ c.in_ok-store.ensures.given)) there;

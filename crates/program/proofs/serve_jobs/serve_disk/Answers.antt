@@ -3,7 +3,7 @@ use Rattle.std.proofs.Common.{◌≡◌, ◌∙◌, ℕ, List, Result, Ok, Err, 
 use Rattle.std.specs.Prelude.{IfSome}
 use Rattle.roadnet.specs.declared.refusals.Refusal.{Refusal}
 use Rattle.roadnet.specs.Net.{Net}
-use Rattle.store.specs.State.{CameTidy, StandsAt, IsTidy}
+use Rattle.store.specs.State.{CameTidy, HasVersion, IsTidy}
 use Rattle.history.specs.Origins.{Origin}
 use Rattle.dimacs.specs.Counts.{reader_of}
 use Rattle.printing.specs.Counting.{writer_of}
@@ -13,9 +13,9 @@ use Rattle.program.specs.Copied.{copies_in}
 use Rattle.program.proofs.serve_jobs.serve_disk.Goals as goal
 
 stands_for_origin : {X : Type 0} (content : List ℕ) (answer : Result X Refusal) (origin_of : X → Origin) (origin : Origin)
-    → StandsAt content origin.base origin.version → IfOk answer (λ x. origin_of x ≡ origin)
-    → IfOk answer (λ x. StandsAt content (origin_of x).base (origin_of x).version)
-stands_for_origin content (Ok x) origin_of origin stands same = subst (λ (o : Origin). StandsAt content o.base o.version) (sym same) stands
+    → HasVersion content origin.base origin.version → IfOk answer (λ x. origin_of x ≡ origin)
+    → IfOk answer (λ x. HasVersion content (origin_of x).base (origin_of x).version)
+stands_for_origin content (Ok x) origin_of origin stands same = subst (λ (o : Origin). HasVersion content o.base o.version) (sym same) stands
 stands_for_origin content (Err e) origin_of origin stands same = tt
 
 pub returns-clause-opened : goal.returns-clause-opened
@@ -25,8 +25,8 @@ returns-clause-opened g c honest =
     let base = c.new-history.ensures.base.0 ∙ c.network.ensures in
     let version = c.new-history.ensures.base.1 ∙ c.version.ensures.version in
     stands_for_origin content c.serve_store.result (λ ended. ended.closed.whole.origin) origin
-    (subst (λ (v : ℕ). StandsAt content origin.base v) (sym version)
-    (subst (λ (n : Net). StandsAt content n c.in-Ok.store.version) (sym base) (c.in-Ok.ensures.stands honest)))
+    (subst (λ (v : ℕ). HasVersion content origin.base v) (sym version)
+    (subst (λ (n : Net). HasVersion content n c.in-Ok.store.version) (sym base) (c.in-Ok.ensures.stands honest)))
     c.serve_store.ensures.origin
 
 -- what holds of an answer by its origin holds by each that is the same

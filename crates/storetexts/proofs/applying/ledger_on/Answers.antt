@@ -1,6 +1,6 @@
 use Rattle.std.proofs.Common.{◌≡◌, ℕ, List, refl, sym, ◌∙◌, ap, subst}
 use Rattle.std.proofs.lemmas.Result.{err_from_is_err_and}
-use Rattle.store.specs.Committing.{StandsTidily}
+use Rattle.store.specs.Committing.{HasTidyStanding}
 use Rattle.store.specs.State.{CameTidy, Told}
 use Rattle.keeper.proofs.Stopped.{IsOpened, is_opened}
 use Rattle.storetexts.proofs.Beginning.{none_come}
@@ -19,7 +19,7 @@ pub returns-in-Ok-clause-came : goal.returns-in-Ok-clause-came
 returns-in-Ok-clause-came g c honest pages slots net version stands =
     let tells = c.in_ok-store.ensures.told honest in
     let o : IsOpened pages slots (g.D.Disk.content c.args.disk) net version tells.standing = is_opened pages slots (g.D.Disk.content c.args.disk) net version tells.standing stands tells.is in
-    let there : CameTidy g.D.Disk.honest g.D.Disk.content c.in_ok-store.store.disk = (c.in_ok-store.ensures.honest.0.1 honest, (tells.standing, subst (λ (d : List ℕ). StandsTidily d tells.standing) (sym (c.in_ok-store.ensures.same honest).same_content) o.stands)) in
+    let there : CameTidy g.D.Disk.honest g.D.Disk.content c.in_ok-store.store.disk = (c.in_ok-store.ensures.honest.0.1 honest, (tells.standing, subst (λ (d : List ℕ). HasTidyStanding d tells.standing) (sym (c.in_ok-store.ensures.same honest).same_content) o.stands)) in
     subst (λ (d : g.row.D.Denot). CameTidy g.D.Disk.honest g.D.Disk.content d) (sym (c.in-Ok.ensures.given ∙ c.in_ok-store.ensures.given)) there
 
 pub returns-in-Ok-clause-opened : goal.returns-in-Ok-clause-opened

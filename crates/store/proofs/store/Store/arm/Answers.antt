@@ -1,6 +1,6 @@
 use Rattle.std.proofs.Common.{◌≡◌, ℕ, List, ◌∙◌, sym, ap, subst}
 use Rattle.storefile.specs.Standing.{Standing}
-use Rattle.store.specs.Committing.{StandsTidily}
+use Rattle.store.specs.Committing.{HasTidyStanding}
 use Rattle.store.specs.Durable.{told_by}
 use Rattle.store.specs.State.{told_of}
 use Rattle.store.proofs.InFlight.{stands_still}
@@ -23,7 +23,7 @@ invariant_of-self g c =
             λ works.
                 let rests = held.1 (sym e.broken ∙ works) in (
                   λ d was. rests.0 d ((e.arms.left d).0 was) ∙ sym e.arms.content,
-                  subst (λ (x : Standing). StandsTidily (g.D.Disk.content n.disk) x) (sym told) (subst (λ (d : List ℕ). StandsTidily d (told_by p)) (sym e.arms.content) rests.1),
+                  subst (λ (x : Standing). HasTidyStanding (g.D.Disk.content n.disk) x) (sym told) (subst (λ (d : List ℕ). HasTidyStanding d (told_by p)) (sym e.arms.content) rests.1),
                 ),
             λ broke d was. stands_still p n c.self.inside.in_flight.groups header network version d (held.2 (sym e.broken ∙ broke) d ((e.arms.left d).0 was)),
           ),

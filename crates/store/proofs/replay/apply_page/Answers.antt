@@ -10,7 +10,7 @@ use Rattle.store.proofs.ArcsKept.{arcs_grow}
 use Rattle.store.proofs.Applied.{after_groups, groups_few}
 use Rattle.storefile.proofs.Decoded.{decoded_entry}
 use Rattle.store.proofs.Replayed.{no_entry, wrong_number, past_last, judged_so}
-use Rattle.store.proofs.replay.judge_page.Goals as goal
+use Rattle.store.proofs.replay.apply_page.Goals as goal
 
 pub overflow_add-new : goal.overflow_add-new
 overflow_add-new c =

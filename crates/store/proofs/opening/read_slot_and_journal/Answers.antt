@@ -7,7 +7,7 @@ use Rattle.pagereader.proofs.Outcomes.{may_refuse_whole}
 use Rattle.checkpoint.specs.Loading.{head_of}
 use Rattle.store.specs.Opening.{current_from}
 use Rattle.store.proofs.Steps.{no_current, no_journal, all_known, same_standing, of_found}
-use Rattle.store.proofs.opening.read_behind.Goals as goal
+use Rattle.store.proofs.opening.read_slot_and_journal.Goals as goal
 
 pub returns-in_err-slot-clause-refused : goal.returns-in_err-slot-clause-refused
 returns-in_err-slot-clause-refused g c h =

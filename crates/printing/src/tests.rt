@@ -93,41 +93,68 @@ fn what_is_flushed(rt: HostRuntime) {
     assert!(rt; out.waiting.as_slice() == b"d 1 6 15\n".as_slice());
 }
 
+const QUERY: Query = Query::Dist {
+    source: 1,
+    target: 6,
+};
+
+/// The replies of a script.
+const REPLIES: [Replied; 11] = [
+    Replied::Accepted { number: 1 },
+    Replied::Durable { version: 1 },
+    Replied::Answered {
+        query: QUERY,
+        answer: Answer {
+            version: 0,
+            reply: Reply::Length(15),
+        },
+    },
+    Replied::Task { version: 1 },
+    Replied::Shown { version: 1 },
+    Replied::Answered {
+        query: QUERY,
+        answer: Answer {
+            version: 1,
+            reply: Reply::NoWalk,
+        },
+    },
+    Replied::Answered {
+        query: QUERY,
+        answer: Answer {
+            version: 1,
+            reply: Reply::AtLeast(5),
+        },
+    },
+    Replied::Answered {
+        query: QUERY,
+        answer: Answer {
+            version: 1,
+            reply: Reply::Refused(Refusal::NotALandmark),
+        },
+    },
+    Replied::Refused {
+        refusal: Refusal::NothingPending,
+    },
+    Replied::Opened { version: 1 },
+    Replied::Stopped,
+];
+
+/// What is printed of them.
+const PRINTED: &str =
+    "t 1\nok 1\nv 0\nd 1 6 15\ntask 1\nshown 1\nv 1\nx 1 6\nv 1\nb 1 6 5\nv 1\nno 26\nno 53\nstopped\nv 1\nstopped\n";
+
+/// Whether putting the replies into this writer ends so, with so many failed calls of it.
+fn put_as<W: Write>(out: &mut W, outcome: Result<(), Failed>, failed_writes: u64) -> bool {
+    let mut writer = CountedWriter::new(out);
+    put_replies(&mut writer, &REPLIES) == outcome && writer.failed_writes() == failed_writes
+}
+
 #[test]
 fn replies_are_printed(rt: HostRuntime) {
-    let query = Query::Dist {
-        source: 1,
-        target: 6,
-    };
-    let answer = |version, reply| Replied::Answered {
-        query,
-        answer: Answer { version, reply },
-    };
-    let replies = [
-        Replied::Accepted { number: 1 },
-        Replied::Durable { version: 1 },
-        answer(0, Reply::Length(15)),
-        Replied::Task { version: 1 },
-        Replied::Shown { version: 1 },
-        answer(1, Reply::NoWalk),
-        answer(1, Reply::AtLeast(5)),
-        answer(1, Reply::Refused(Refusal::NotALandmark)),
-        Replied::Refused {
-            refusal: Refusal::NothingPending,
-        },
-        Replied::Opened { version: 1 },
-        Replied::Stopped,
-    ];
-    let want =
-        "t 1\nok 1\nv 0\nd 1 6 15\ntask 1\nshown 1\nv 1\nx 1 6\nv 1\nb 1 6 5\nv 1\nno 26\nno 53\nstopped\nv 1\nstopped\n";
     let mut out = Vec::new(rt.alloc());
-    let mut writer = CountedWriter::new(&mut out);
-    let outcome = put_replies(&mut writer, &replies);
-    assert!(rt; outcome == Ok(()) && writer.failed_writes() == 0);
-    assert!(rt; out.as_slice() == want.as_bytes());
+    assert!(rt; put_as(&mut out, Ok(()), 0));
+    assert!(rt; out.as_slice() == PRINTED.as_bytes());
     let mut short = [0; 3];
     let mut rest = short.as_mut_slice();
-    let mut writer = CountedWriter::new(&mut rest);
-    let outcome = put_replies(&mut writer, &replies);
-    assert!(rt; outcome == Err(Failed::Code(Refusal::Write)) && writer.failed_writes() == 1);
+    assert!(rt; put_as(&mut rest, Err(Failed::Code(Refusal::Write)), 1));
 }

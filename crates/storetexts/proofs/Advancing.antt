@@ -17,7 +17,7 @@ use Rattle.storetexts.specs.declared.applying.Applying.{Applying}
 use Rattle.storetexts.specs.declared.outcomes.Outcome.{Outcome}
 use Rattle.storetexts.specs.Outcomes.{IsUnsettledAt}
 use Rattle.storetexts.specs.Applied.{IfNotWrite}
-use Rattle.storetexts.specs.Applying.{IsSteady, IsCutOffBy, Leaves, Goes, Saves, Advances, StopsAt, progress}
+use Rattle.storetexts.specs.Applying.{IsSteady, IsCutOffBy, Leaves, Goes, Saves, Advances}
 use Rattle.storetexts.proofs.Meanwhile.{goes_both, counts_from, counts_code}
 
 -- the ledger stays, and so do the outcomes
@@ -73,7 +73,7 @@ module _ {D W : Type 0} (disk : Ghosts D) where
 
   -- nothing failed behind it
   pub advances_saved : (old mid new : Applying D) (before after : CountedWriter W) (r : Result (Unit {0}) Refusal) (told : Result (Unit {0}) Failed) → Saves disk r old mid → new.ledger ≡ mid.ledger → new.outcomes ≡ mid.outcomes
-      → pending old.ledger.machine ≤ 505 → new.told ≤ length mid.outcomes.items → StopsAt (progress mid) new.told → IfErr r IsPassing → failed_writes after ≡ failed_writes before → IsSameWriter before after
+      → pending old.ledger.machine ≤ 505 → new.told ≤ length mid.outcomes.items → IsUnsettledAt mid.ledger.machine.durable mid.outcomes.items new.told → IfErr r IsPassing → failed_writes after ≡ failed_writes before → IsSameWriter before after
       → MatchResult r (λ x. told ≡ Ok x) (λ refusal. told ≡ Err (Code refusal)) → Advances disk told old new before after
   advances_saved old mid new before after r told saves same outcomes few told_to next refused counts writer is = go r told saves refused is
     where
@@ -98,7 +98,7 @@ module _ {D W : Type 0} (disk : Ghosts D) where
             calm = tt;
             waiting = subst (λ (k : LedgerState D). pending k.machine ≤ 505) (sym same) (omega (arith, fewer, few));
             told_to = still_to mid new outcomes told_to;
-            next = not_written refusal (StopsAt (progress new) new.told) refused
+            next = not_written refusal (IsUnsettledAt new.ledger.machine.durable new.outcomes.items new.told) refused
                 (subst (λ (k : LedgerState D). IsUnsettledAt k.machine.durable new.outcomes.items new.told) (sym same)
                 (subst (λ (o : List Outcome). IsUnsettledAt mid.ledger.machine.durable o new.told) (sym (ap (λ v. v.items) outcomes)) next));
             refused = cut_off_by refusal refused;

@@ -20,8 +20,8 @@ use Rattle.keeper.specs.Keeping.{LedgerState, IsDurableIn}
 use Rattle.printing.specs.declared.failed.Failed.{Failed}
 use Rattle.printing.specs.declared.failed.Failed.TheVariants.{Code}
 use Rattle.store.specs.State.{CameTidy}
-use Rattle.storetexts.specs.Applied.{StandsWithin}
-use Rattle.storetexts.specs.Applying.{IsSteady, IsReady, KeepsAccepted, StandsIn, Leaves, Goes}
+use Rattle.storetexts.specs.Applied.{StandsForBeginning}
+use Rattle.storetexts.specs.Applying.{IsSteady, IsReady, KeepsAccepted, StandsForMachine, Leaves, Goes}
 use Rattle.storetexts.specs.declared.applying.Applying.{Applying}
 use Rattle.storetexts.specs.Refused.{CountsDevice}
 
@@ -33,7 +33,7 @@ pub record Grows (old new : Machine) : Type 0 where
   pub more : List Group
   pub accepted : new.accepted ≡ old.accepted ++ more
 
-pub within_more : (net : Net) (version : ℕ) (accepted more : List Group) (c : List ℕ) → StandsWithin net version accepted c → StandsWithin net version (accepted ++ more) c
+pub within_more : (net : Net) (version : ℕ) (accepted more : List Group) (c : List ℕ) → StandsForBeginning net version accepted c → StandsForBeginning net version (accepted ++ more) c
 within_more net version accepted more c w = record {
   count = w.count;
   count_to = omega (arith, w.count_to, length-append accepted more);
@@ -44,12 +44,12 @@ within_more net version accepted more c w = record {
   stands = w.stands;
 }
 
-pub in_more : (m n : Machine) → Grows m n → (c : List ℕ) → StandsIn m c → StandsIn n c
+pub in_more : (m n : Machine) → Grows m n → (c : List ℕ) → StandsForMachine m c → StandsForMachine n c
 in_more m n g c w =
-    let more : StandsWithin m.base m.base_version (m.accepted ++ g.more) c = within_more m.base m.base_version m.accepted g.more c w in
-    let of_base : StandsWithin n.base m.base_version (m.accepted ++ g.more) c = subst (λ (b : Net). StandsWithin b m.base_version (m.accepted ++ g.more) c) (sym g.base) more in
-    let of_version : StandsWithin n.base n.base_version (m.accepted ++ g.more) c = subst (λ (v : ℕ). StandsWithin n.base v (m.accepted ++ g.more) c) (sym g.base_version) of_base in
-    subst (λ (l : List Group). StandsWithin n.base n.base_version l c) (sym g.accepted) of_version
+    let more : StandsForBeginning m.base m.base_version (m.accepted ++ g.more) c = within_more m.base m.base_version m.accepted g.more c w in
+    let of_base : StandsForBeginning n.base m.base_version (m.accepted ++ g.more) c = subst (λ (b : Net). StandsForBeginning b m.base_version (m.accepted ++ g.more) c) (sym g.base) more in
+    let of_version : StandsForBeginning n.base n.base_version (m.accepted ++ g.more) c = subst (λ (v : ℕ). StandsForBeginning n.base v (m.accepted ++ g.more) c) (sym g.base_version) of_base in
+    subst (λ (l : List Group). StandsForBeginning n.base n.base_version l c) (sym g.accepted) of_version
 
 pub grows_none : (m : Machine) → Grows m m
 grows_none m = record { base = refl; base_version = refl; more = []; accepted = sym (append-nil m.accepted) }
@@ -76,7 +76,7 @@ grows_flush m n (Err r) h = ⊎_elim (λ refused. subst (Grows m) (sym refused.1
     (λ broke. subst (Grows m) (sym broke.2) (record { base = refl; base_version = refl; more = []; accepted = sym (append-nil m.accepted) })) h
 
 -- ---- what a flush and a checkpoint leave
-pub durable_within : (m : Machine) → IsState m → (c : List ℕ) → IsDurableIn m c → StandsIn m c
+pub durable_within : (m : Machine) → IsState m → (c : List ℕ) → IsDurableIn m c → StandsForMachine m c
 durable_within m s c held =
     let v = held.version in
     let between = left_between m s v held.left in
@@ -94,7 +94,7 @@ durable_within m s c held =
       stands = subst (StandsTidyFor m.sizes.journal_pages m.sizes.checkpoint_pages c held.network) counted held.stands;
     }
 
-pub in_flight_within : (m : Machine) → IsState m → (c : List ℕ) → IsDurableIn (failed m (batch m)) c → StandsIn m c
+pub in_flight_within : (m : Machine) → IsState m → (c : List ℕ) → IsDurableIn (failed m (batch m)) c → StandsForMachine m c
 in_flight_within m s c held =
     durable_within (failed m (batch m)) (broken m s (batch m) (batch_count m s)) c held
 
@@ -102,7 +102,7 @@ in_flight_within m s c held =
 module _ {D : Type 0} (disk : Ghosts D) where
   -- a stop leaves what it might have left of the first disk, or this
   abbrev LeftOr : D → Machine → List ℕ → Type 0
-  LeftOr first m c = disk.left first c ⊎ StandsIn m c
+  LeftOr first m c = disk.left first c ⊎ StandsForMachine m c
 
   grown : (first now : D) (m n : Machine) → Grows m n → LeavesOnly disk.moment disk.left_since first now (LeftOr first m) → LeavesOnly disk.moment disk.left_since first now (LeftOr first n)
   grown first now m n g was = weaker disk.moment disk.left_since first now (LeftOr first m) (LeftOr first n) was (λ c. ⊎_elim (λ left. inl left) (λ stands. inr (in_more m n g c stands)))
@@ -113,7 +113,7 @@ module _ {D : Type 0} (disk : Ghosts D) where
   pub leaves_same : (old new : LedgerState D) → new.disk ≡ old.disk → Grows old.machine new.machine → Leaves disk old new
   leaves_same old new same g came first was = subst (λ (d : D). LeavesOnly disk.moment disk.left_since first d (LeftOr first new.machine)) (sym same) (grown first old.disk old.machine new.machine g was)
 
-  leaves_by : (old new : LedgerState D) (P : List ℕ → Type 0) → ((c : List ℕ) → P c → StandsIn old.machine c) → Grows old.machine new.machine
+  leaves_by : (old new : LedgerState D) (P : List ℕ → Type 0) → ((c : List ℕ) → P c → StandsForMachine old.machine c) → Grows old.machine new.machine
       → (CameTidy disk.honest disk.content old.given → LeavesOnly disk.moment disk.left_since old.disk new.disk P) → Leaves disk old new
   leaves_by old new P f g leaves came first was =
       and_then disk.moment disk.left_since first old.disk new.disk (LeftOr first new.machine) P (grown first old.disk old.machine new.machine g was) (leaves came)

@@ -22,8 +22,8 @@ use Rattle.roadnet.specs.declared.refusals.Refusal.TheVariants.{Write}
 use Rattle.storetexts.specs.declared.outcomes.Outcome.{Outcome}
 use Rattle.storetexts.specs.declared.outcomes.Outcome.TheVariants.{Accepted, Refused}
 use Rattle.storetexts.specs.Outcomes.{ComesTo, accepted_in, outcome_lines, IsSettled, IsUnsettledAt}
-use Rattle.storetexts.specs.Applied.{groups_of, StandsAfter, AppliesAll, IsApplied, KeepsTold, TellsFront, AppliesSome, IsCutOff, IfNotWrite, TellsAll, StandsWithin, StandsAmong}
-use Rattle.storetexts.specs.Applying.{IsSteady, HaveCome, FirstHaveCome, KeepsAccepted, AreTold, IfTold, IfEndedEarly, StandsIn}
+use Rattle.storetexts.specs.Applied.{groups_of, StandsForAccepted, AppliesAll, IsApplied, KeepsTold, TellsFront, AppliesSome, IsCutOff, IfNotWrite, TellsAll, StandsForBeginning, StandsForBeginningOfGroups}
+use Rattle.storetexts.specs.Applying.{IsSteady, GroupsTaken, FirstGroupsTaken, KeepsAccepted, LinesTold, IfTold, IfEndedEarly, StandsForMachine}
 use Rattle.storetexts.proofs.Comings.{IsPlace, place, as_many}
 use Rattle.storetexts.proofs.Stepping.{latest_is, settled_all, come_kept, come_told}
 
@@ -31,7 +31,7 @@ settled_later : (a b : ℕ) → a ≤ b → (o : Outcome) → IsSettled a o → 
 settled_later a b le (Accepted n) s = omega (arith, s, le)
 settled_later a b le (Refused r) s = tt
 
-module _ (net : Net) (version told : ℕ) (cs : List Group) (os : List Outcome) (m : Machine) (h : HaveCome net version cs os told m) (s : IsSteady m) where
+module _ (net : Net) (version told : ℕ) (cs : List Group) (os : List Outcome) (m : Machine) (h : GroupsTaken net version cs os told m) (s : IsSteady m) where
   network_there : (v : ℕ) → network_at m v ≡ after net (take (v - version) (accepted_in cs os))
   network_there v =
       ap (λ (n : Net). after n (take (v - m.base_version) m.accepted)) h.base_is
@@ -63,15 +63,15 @@ module _ (net : Net) (version told : ℕ) (cs : List Group) (os : List Outcome) 
       }
 
 -- where all is told, it keeps all
-pub kept_all : (net : Net) (version durable : ℕ) (cs : List Group) (os : List Outcome) (content : List ℕ) → ComesTo 0 net version cs os → KeepsTold net version cs os (length os) durable content → StandsAfter net version cs os content
+pub kept_all : (net : Net) (version durable : ℕ) (cs : List Group) (os : List Outcome) (content : List ℕ) → ComesTo 0 net version cs os → KeepsTold net version cs os (length os) durable content → StandsForAccepted net version cs os content
 kept_all net version durable cs os content come k =
     let long : length os ≡ length cs = as_many 0 net version cs os come in
     let same_cs : take k.kept cs ≡ cs = take_all k.kept cs (omega (arith, k.told_kept, long)) in
     let same_os : take k.kept os ≡ os = take_all k.kept os k.told_kept in
-    subst (λ (l : List Outcome). StandsAfter net version cs l content) same_os (subst (λ (l : List Group). StandsAfter net version l (take k.kept os) content) same_cs k.stands)
+    subst (λ (l : List Outcome). StandsForAccepted net version cs l content) same_os (subst (λ (l : List Group). StandsForAccepted net version l (take k.kept os) content) same_cs k.stands)
 
 pub applies_all : (net : Net) (version : ℕ) (cs : List Group) (os : List Outcome) (told : ℕ) (m : Machine) (content : List ℕ) (left : List ℕ → Type 0) (old new : Option (List ℕ))
-    → HaveCome net version cs os (length os) m → IsSteady m → m.broken ≡ false → Holds content left m → left content → told ≡ length os → AreTold old new os told
+    → GroupsTaken net version cs os (length os) m → IsSteady m → m.broken ≡ false → Holds content left m → left content → told ≡ length os → LinesTold old new os told
     → AppliesAll net version cs content left old new
 applies_all net version cs os told m content left old new h s calm holds now all lines = record {
   outcomes = os;
@@ -84,12 +84,12 @@ applies_all net version cs os told m content left old new h s calm holds now all
 }
 
 front_of : (failed : Failed) (durable : ℕ) (os : List Outcome) (told : ℕ) (old new : Option (List ℕ)) → All (IsSettled durable) (take told os)
-    → IfNotWrite failed (AreTold old new os told) → IfNotWrite failed (IsUnsettledAt durable os told) → IfNotWrite failed (TellsFront durable os told old new)
+    → IfNotWrite failed (LinesTold old new os told) → IfNotWrite failed (IsUnsettledAt durable os told) → IfNotWrite failed (TellsFront durable os told old new)
 front_of (Code Write) durable os told old new settled lines next = tt
 front_of _ durable os told old new settled lines next = record { written = lines; settled = settled; next = next }
 
 pub applies_some : (net : Net) (version : ℕ) (cs : List Group) (os : List Outcome) (told : ℕ) (m : Machine) (content : List ℕ) (left : List ℕ → Type 0) (old new : Option (List ℕ)) (failed : Failed)
-    → FirstHaveCome net version cs os told m → IsSteady m → pending m ≤ 505 → Holds content left m → IfNotWrite failed (AreTold old new os told) → IfNotWrite failed (IsUnsettledAt m.durable os told)
+    → FirstGroupsTaken net version cs os told m → IsSteady m → pending m ≤ 505 → Holds content left m → IfNotWrite failed (LinesTold old new os told) → IfNotWrite failed (IsUnsettledAt m.durable os told)
     → AppliesSome net version cs left old new failed
 applies_some net version cs os told m content left old new failed h s waiting holds lines next = record {
   taken = h.taken;
@@ -109,7 +109,7 @@ applies_some net version cs os told m content left old new failed h s waiting ho
 -- ---- a flush, and what is told behind it
 pub settle_come : (net : Net) (version told told' : ℕ) (cs : List Group) (os : List Outcome) (m m' : Machine)
     → KeepsAccepted m m' → told' ≤ length os → (All (IsSettled m'.durable) (take told os) → All (IsSettled m'.durable) (take told' os))
-    → HaveCome net version cs os told m → HaveCome net version cs os told' m'
+    → GroupsTaken net version cs os told m → GroupsTaken net version cs os told' m'
 settle_come net version told told' cs os m m' k to more h =
     let later = come_kept net version told cs os m h m' k in
     come_told net version told cs os m' later told' to (more later.settled)
@@ -129,7 +129,7 @@ all_if_unsettled durable os told to next all = ⊎_elim
 
 pub settle_all : (net : Net) (version told told' : ℕ) (cs : List Group) (os : List Outcome) (m m' : Machine)
     → KeepsAccepted m m' → IsSteady m' → pending m' ≡ 0 → told' ≤ length os → IsUnsettledAt m'.durable os told'
-    → HaveCome net version cs os told m → told' ≡ length os
+    → GroupsTaken net version cs os told m → told' ≡ length os
 settle_all net version told told' cs os m m' k s none to next h =
     let later = come_kept net version told cs os m h m' k in
     let within = s.state.durable_accepted in
@@ -138,12 +138,12 @@ settle_all net version told told' cs os m m' k s none to next h =
 
 -- ---- groups taken one by one
 pub come_next : (net : Net) (version : ℕ) (cs : List Group) (i : ℕ) (d : Group) (os : List Outcome) (told : ℕ) (m : Machine) → i < length cs
-    → HaveCome net version (take i cs ++ get_or cs i d ∷ []) os told m → HaveCome net version (take (i + 1) cs) os told m
-come_next net version cs i d os told m lt h = subst (λ (l : List Group). HaveCome net version l os told m) (sym (take_more cs i d lt)) h
+    → GroupsTaken net version (take i cs ++ get_or cs i d ∷ []) os told m → GroupsTaken net version (take (i + 1) cs) os told m
+come_next net version cs i d os told m lt h = subst (λ (l : List Group). GroupsTaken net version l os told m) (sym (take_more cs i d lt)) h
 
 pub come_end : (net : Net) (version : ℕ) (cs : List Group) (i : ℕ) (os : List Outcome) (told : ℕ) (m : Machine) → length cs ≤ i
-    → HaveCome net version (take i cs) os told m → HaveCome net version cs os told m
-come_end net version cs i os told m end h = subst (λ (l : List Group). HaveCome net version l os told m) (take_all i cs end) h
+    → GroupsTaken net version (take i cs) os told m → GroupsTaken net version cs os told m
+come_end net version cs i os told m end h = subst (λ (l : List Group). GroupsTaken net version l os told m) (take_all i cs end) h
 
 pub on_ok_any : {X E : Type 0} (r : Result X E) (P : Type 0) → P → OnOk r P
 on_ok_any (Ok x) P p = p
@@ -158,22 +158,22 @@ on_ok_both (Ok x) P Q R p q f = f p q
 on_ok_both (Err e) P Q R p q f = tt
 
 -- ---- how it ends
-module _ (net : Net) (version : ℕ) (first m : Machine) (cs : List Group) (os : List Outcome) (told : ℕ) (content : List ℕ) (left : List ℕ → Type 0) (old new : Option (List ℕ)) (begun : HaveCome net version [] [] 0 first) (s : IsSteady m) (holds : Holds content left m) where
-  pub ended_all : (r : Result (Unit {0}) Failed) → OnOk r ((n : Net) (v : ℕ) → HaveCome n v [] [] 0 first → HaveCome n v cs os told m) → OnOk r (m.broken ≡ false)
-      → OnOk r ((n : Net) (v : ℕ) → HaveCome n v [] [] 0 first → told ≡ length os) → IfTold r (AreTold old new os told) → left content → OnOk r (AppliesAll net version cs content left old new)
+module _ (net : Net) (version : ℕ) (first m : Machine) (cs : List Group) (os : List Outcome) (told : ℕ) (content : List ℕ) (left : List ℕ → Type 0) (old new : Option (List ℕ)) (begun : GroupsTaken net version [] [] 0 first) (s : IsSteady m) (holds : Holds content left m) where
+  pub ended_all : (r : Result (Unit {0}) Failed) → OnOk r ((n : Net) (v : ℕ) → GroupsTaken n v [] [] 0 first → GroupsTaken n v cs os told m) → OnOk r (m.broken ≡ false)
+      → OnOk r ((n : Net) (v : ℕ) → GroupsTaken n v [] [] 0 first → told ≡ length os) → IfTold r (LinesTold old new os told) → left content → OnOk r (AppliesAll net version cs content left old new)
   ended_all (Ok done) come calm all lines now =
       let whole : told ≡ length os = all net version begun in
-      applies_all net version cs os told m content left old new (subst (λ (n : ℕ). HaveCome net version cs os n m) whole (come net version begun)) s calm holds now whole lines
+      applies_all net version cs os told m content left old new (subst (λ (n : ℕ). GroupsTaken net version cs os n m) whole (come net version begun)) s calm holds now whole lines
   ended_all (Err failed) come calm all lines now = tt
 
-  pub ended_some : (r : Result (Unit {0}) Failed) → ((n : Net) (v : ℕ) → HaveCome n v [] [] 0 first → FirstHaveCome n v cs os told m) → pending m ≤ 505 → IfTold r (AreTold old new os told) → IfEndedEarly r (IsUnsettledAt m.durable os told)
+  pub ended_some : (r : Result (Unit {0}) Failed) → ((n : Net) (v : ℕ) → GroupsTaken n v [] [] 0 first → FirstGroupsTaken n v cs os told m) → pending m ≤ 505 → IfTold r (LinesTold old new os told) → IfEndedEarly r (IsUnsettledAt m.durable os told)
       → IfErr r (AppliesSome net version cs left old new)
   ended_some (Ok done) some waiting lines next = tt
   ended_some (Err failed) some waiting lines next = applies_some net version cs os told m content left old new failed (some net version begun) s waiting holds lines next
 
 -- all that was told, also where the content isn't known
-pub told_all : (net : Net) (version : ℕ) (first m : Machine) (cs : List Group) (os : List Outcome) (told : ℕ) (old new : Option (List ℕ)) → HaveCome net version [] [] 0 first → (r : Result (Unit {0}) Failed)
-    → OnOk r ((n : Net) (v : ℕ) → HaveCome n v [] [] 0 first → HaveCome n v cs os told m) → OnOk r ((n : Net) (v : ℕ) → HaveCome n v [] [] 0 first → told ≡ length os) → IfTold r (AreTold old new os told)
+pub told_all : (net : Net) (version : ℕ) (first m : Machine) (cs : List Group) (os : List Outcome) (told : ℕ) (old new : Option (List ℕ)) → GroupsTaken net version [] [] 0 first → (r : Result (Unit {0}) Failed)
+    → OnOk r ((n : Net) (v : ℕ) → GroupsTaken n v [] [] 0 first → GroupsTaken n v cs os told m) → OnOk r ((n : Net) (v : ℕ) → GroupsTaken n v [] [] 0 first → told ≡ length os) → IfTold r (LinesTold old new os told)
     → OnOk r (TellsAll net version cs old new)
 told_all net version first m cs os told old new begun (Ok done) come all lines = record {
   outcomes = os;
@@ -186,11 +186,11 @@ told_all net version first m cs os told old new begun (Ok done) come all lines =
 told_all net version first m cs os told old new begun (Err failed) come all lines = tt
 
 -- a stop at any moment leaves a beginning of what was accepted of the first groups
-pub among : (net : Net) (version : ℕ) (cs : List Group) (os : List Outcome) (told : ℕ) (m : Machine) → FirstHaveCome net version cs os told m → (c : List ℕ) → StandsIn m c → StandsAmong net version cs c
+pub among : (net : Net) (version : ℕ) (cs : List Group) (os : List Outcome) (told : ℕ) (m : Machine) → FirstGroupsTaken net version cs os told m → (c : List ℕ) → StandsForMachine m c → StandsForBeginningOfGroups net version cs c
 among net version cs os told m h c w =
-    let of_base : StandsWithin net m.base_version m.accepted c = subst (λ (n : Net). StandsWithin n m.base_version m.accepted c) h.come.base_is w in
-    let of_version : StandsWithin net version m.accepted c = subst (λ (v : ℕ). StandsWithin net v m.accepted c) h.come.version_is of_base in
-    record { taken = h.taken; outcomes = os; come = h.come.come; stands = subst (λ (l : List Group). StandsWithin net version l c) h.come.accepted_is of_version }
+    let of_base : StandsForBeginning net m.base_version m.accepted c = subst (λ (n : Net). StandsForBeginning n m.base_version m.accepted c) h.come.base_is w in
+    let of_version : StandsForBeginning net version m.accepted c = subst (λ (v : ℕ). StandsForBeginning net v m.accepted c) h.come.version_is of_base in
+    record { taken = h.taken; outcomes = os; come = h.come.come; stands = subst (λ (l : List Group). StandsForBeginning net version l c) h.come.accepted_is of_version }
 
 -- ---- the same of a text
 pub if_known : (known : Option (List ℕ)) (P : List ℕ → Type 0) → ((text : List ℕ) → P text) → IfSome known P

@@ -20,7 +20,7 @@ use Rattle.machine.proofs.Kept.{states_kept}
 use Rattle.storetexts.specs.declared.outcomes.Outcome.{Outcome}
 use Rattle.storetexts.specs.declared.outcomes.Outcome.TheVariants.{Accepted, Refused}
 use Rattle.storetexts.specs.Outcomes.{refusal_at, IsRefusedFor, accepted_in, IsSettled}
-use Rattle.storetexts.specs.Applying.{IsSteady, HaveCome, KeepsAccepted}
+use Rattle.storetexts.specs.Applying.{IsSteady, GroupsTaken, KeepsAccepted}
 use Rattle.storetexts.proofs.Comings.{one_accepted, one_refused, accepted_more, accepted_same, after_come, all_settled}
 
 -- ---- a submit
@@ -40,7 +40,7 @@ refusal_here m c there calm few is =
     ∙ (ap (λ (q : Bool). by false full past q rest) none
     ∙ ap (λ (o : Option Net). by false full past false (option_and_then (λ net. first_refusal net c) o)) is)
 
-module _ (net : Net) (version told : ℕ) (cs : List Group) (os : List Outcome) (m : Machine) (h : HaveCome net version cs os told m) where
+module _ (net : Net) (version told : ℕ) (cs : List Group) (os : List Outcome) (m : Machine) (h : GroupsTaken net version cs os told m) where
   there : Net
   there = changed_by_all net (accepted_in cs os)
 
@@ -63,10 +63,10 @@ module _ (net : Net) (version told : ℕ) (cs : List Group) (os : List Outcome) 
   first_told o = take-append-le told os (o ∷ []) h.told_to
 
   come_accepted : (c : Group) (n : ℕ) (m' : Machine) → m.opened ≡ m.base_version → m.broken ≡ false → pending m + length c ≤ 4096
-      → refusal_of_submit m c ≡ None → n ≡ latest m + 1 → m' ≡ with_group m c → HaveCome net version (cs ++ c ∷ []) (os ++ Accepted n ∷ []) told m'
+      → refusal_of_submit m c ≡ None → n ≡ latest m + 1 → m' ≡ with_group m c → GroupsTaken net version (cs ++ c ∷ []) (os ++ Accepted n ∷ []) told m'
   unfolding there
   come_accepted c n m' opened calm few free numbered is =
-      subst (HaveCome net version (cs ++ c ∷ []) (os ++ Accepted n ∷ []) told) (sym is) (record {
+      subst (GroupsTaken net version (cs ++ c ∷ []) (os ++ Accepted n ∷ []) told) (sym is) (record {
         base_is = h.base_is;
         version_is = h.version_is;
         come = one_accepted 0 net there version (latest m) (of_life m) cs os c n h.come refl latest_is (omega (arith, life_is opened)) (sym (refusal_is c calm few) ∙ free) numbered;
@@ -76,11 +76,11 @@ module _ (net : Net) (version told : ℕ) (cs : List Group) (os : List Outcome) 
       })
 
   come_refused : (c : Group) (r : Refusal) (m' : Machine) → m.opened ≡ m.base_version → m.broken ≡ false → pending m + length c ≤ 4096
-      → IsRefused (refusal_of_submit m c) r m m' → HaveCome net version (cs ++ c ∷ []) (os ++ Refused r ∷ []) told m'
+      → IsRefused (refusal_of_submit m c) r m m' → GroupsTaken net version (cs ++ c ∷ []) (os ++ Refused r ∷ []) told m'
   unfolding there
   come_refused c r m' opened calm few why =
       let cause : IsRefusedFor (refusal_at (of_life m) there (latest m) c) r = subst (λ (o : Option Refusal). IsRefusedFor o r) (refusal_is c calm few) why.0 in
-      subst (HaveCome net version (cs ++ c ∷ []) (os ++ Refused r ∷ []) told) (sym why.1) (record {
+      subst (GroupsTaken net version (cs ++ c ∷ []) (os ++ Refused r ∷ []) told) (sym why.1) (record {
         base_is = h.base_is;
         version_is = h.version_is;
         come = one_refused 0 net there version (latest m) (of_life m) cs os c r h.come refl latest_is (omega (arith, life_is opened)) cause;
@@ -93,7 +93,7 @@ module _ (net : Net) (version told : ℕ) (cs : List Group) (os : List Outcome) 
   pub settled_all : m.durable ≡ latest m → All (IsSettled m.durable) os
   settled_all done = all_settled 0 net version m.durable cs os h.come (omega (arith, latest_is, done))
 
-  pub come_kept : (m' : Machine) → KeepsAccepted m m' → HaveCome net version cs os told m'
+  pub come_kept : (m' : Machine) → KeepsAccepted m m' → GroupsTaken net version cs os told m'
   come_kept m' k = record {
     base_is = k.base ∙ h.base_is;
     version_is = k.base_version ∙ h.version_is;
@@ -107,7 +107,7 @@ module _ (net : Net) (version told : ℕ) (cs : List Group) (os : List Outcome) 
       later a b le (Accepted n) s = omega (arith, s, le)
       later a b le (Refused r) s = tt
 
-  pub come_told : (told' : ℕ) → told' ≤ length os → All (IsSettled m.durable) (take told' os) → HaveCome net version cs os told' m
+  pub come_told : (told' : ℕ) → told' ≤ length os → All (IsSettled m.durable) (take told' os) → GroupsTaken net version cs os told' m
   come_told told' to settled = record { base_is = h.base_is; version_is = h.version_is; come = h.come; accepted_is = h.accepted_is; told_to = to; settled = settled }
 
 -- the outcome of a submit
@@ -116,7 +116,7 @@ outcome_of (Ok ticket) = Accepted ticket.number
 outcome_of (Err refusal) = Refused refusal
 
 pub come_submit : (net : Net) (version told : ℕ) (cs : List Group) (os : List Outcome) (m m' : Machine) (c : Group) (result : Result Ticket Refusal)
-    → IsSteady m → m.broken ≡ false → pending m + length c ≤ 4096 → Submits m c result m' → HaveCome net version cs os told m → HaveCome net version (cs ++ c ∷ []) (os ++ outcome_of result ∷ []) told m'
+    → IsSteady m → m.broken ≡ false → pending m + length c ≤ 4096 → Submits m c result m' → GroupsTaken net version cs os told m → GroupsTaken net version (cs ++ c ∷ []) (os ++ outcome_of result ∷ []) told m'
 come_submit net version told cs os m m' c (Ok ticket) s calm few step h =
     let numbered : ticket.number ≡ latest m + 1 = ap (λ (t : Ticket). t.number) step.1 in
     come_accepted net version told cs os m h c ticket.number m' s.opened_is calm few step.0 numbered step.2

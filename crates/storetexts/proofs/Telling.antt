@@ -9,7 +9,7 @@ use Rattle.std.proofs.lemmas.Grind.{flat_map-append}
 use Rattle.printing.specs.Replied.{printed_reply, printed_replies}
 use Rattle.storetexts.specs.declared.outcomes.Outcome.{Outcome}
 use Rattle.storetexts.specs.Outcomes.{reply_of, outcome_lines, IsSettled}
-use Rattle.storetexts.specs.Applying.{AreTold}
+use Rattle.storetexts.specs.Applying.{LinesTold}
 
 line_of_one_more : (os : List Outcome) (i : ℕ) (d : Outcome) → i < length os → outcome_lines (take (i + 1) os) ≡ outcome_lines (take i os) ++ printed_reply (reply_of (get_or os i d))
 line_of_one_more os i d lt =
@@ -19,7 +19,7 @@ line_of_one_more os i d lt =
     ∙ (flat_map-append printed_reply (map reply_of (take i os)) (reply_of last ∷ [])
     ∙ ap (λ (l : List ℕ). outcome_lines (take i os) ++ l) (append-nil (printed_reply (reply_of last)))))
 
-pub told_more : (os : List Outcome) (i : ℕ) (d : Outcome) (before mid new : Option (List ℕ)) → i < length os → AreTold before mid os i → Appends mid new (printed_reply (reply_of (get_or os i d))) → AreTold before new os (i + 1)
+pub told_more : (os : List Outcome) (i : ℕ) (d : Outcome) (before mid new : Option (List ℕ)) → i < length os → LinesTold before mid os i → Appends mid new (printed_reply (reply_of (get_or os i d))) → LinesTold before new os (i + 1)
 told_more os i d before mid new lt told here = subst (Appends before new) (sym (line_of_one_more os i d lt)) (Appends-trans before mid new _ _ told here)
 
 pub settled_more : (durable : ℕ) (os : List Outcome) (i : ℕ) (d : Outcome) → i < length os → All (IsSettled durable) (take i os) → IsSettled durable (get_or os i d) → All (IsSettled durable) (take (i + 1) os)

@@ -12,8 +12,8 @@ use Rattle.disk.proofs.Steps.{started, nothing_leaves, and_then}
 use Rattle.machine.specs.Machine.{Machine}
 use Rattle.printing.specs.declared.failed.Failed.{Failed}
 use Rattle.printing.specs.declared.failed.Failed.TheVariants.{Text}
-use Rattle.storetexts.specs.Applied.{groups_of, TellsAll, IsTold, StandsAmong, IsWithin, AtAnyMoment, IsRefusedApply}
-use Rattle.storetexts.specs.Applying.{HaveCome}
+use Rattle.storetexts.specs.Applied.{groups_of, TellsAll, IsTold, StandsForBeginningOfGroups, StandsForBeginningOfText, AtAnyMoment, IsRefusedApply}
+use Rattle.storetexts.specs.Applying.{GroupsTaken}
 use Rattle.storetexts.specs.Asked.{OfStore}
 
 -- ---- a fault of the text, which is read behind the opening
@@ -26,8 +26,8 @@ module _ (Honest : Type 0) (file : List ℕ) (Begun : Net → ℕ → Type 0) (o
   fault_known (Some text) left fault said = fault_of text (OfReader left) fault said
 
 -- ---- all of it told
-module _ {X : Type 0} (Honest : Type 0) (file : List ℕ) (first : Machine) (o : OfStore Honest file (λ net version. HaveCome net version [] [] 0 first)) (list : List Group) (r : Result X Failed) where
-  pub told_known : (known rest : Option (List ℕ)) (old new : Option (List ℕ)) → ((net : Net) (version : ℕ) → HaveCome net version [] [] 0 first → OnOk r (TellsAll net version list old new))
+module _ {X : Type 0} (Honest : Type 0) (file : List ℕ) (first : Machine) (o : OfStore Honest file (λ net version. GroupsTaken net version [] [] 0 first)) (list : List Group) (r : Result X Failed) where
+  pub told_known : (known rest : Option (List ℕ)) (old new : Option (List ℕ)) → ((net : Net) (version : ℕ) → GroupsTaken net version [] [] 0 first → OnOk r (TellsAll net version list old new))
       → IfSome known (λ text. Reads group_text text rest (Ok list)) → OnOk r (IfSome known (λ text. IsTold Honest file text old new))
   told_known known rest old new tells read = go r (tells o.net o.version o.holds)
     where
@@ -39,7 +39,7 @@ module _ {X : Type 0} (Honest : Type 0) (file : List ℕ) (first : Machine) (o :
       go (Ok done) t = read_so known read t
       go (Err failed) t = tt
 
-  pub told_text : (text : List ℕ) (old new : Option (List ℕ)) → ((net : Net) (version : ℕ) → HaveCome net version [] [] 0 first → OnOk r (TellsAll net version list old new))
+  pub told_text : (text : List ℕ) (old new : Option (List ℕ)) → ((net : Net) (version : ℕ) → GroupsTaken net version [] [] 0 first → OnOk r (TellsAll net version list old new))
       → groups_of text ≡ Ok list → OnOk r (IsTold Honest file text old new)
   told_text text old new tells said = go r (tells o.net o.version o.holds)
     where
@@ -64,11 +64,11 @@ module _ {D : Type 0} (disk : Ghosts D) (first mid : D) (only_now : (c : List �
         (λ c. ⊎_elim (λ left. inl (opened.among c left)) (λ p. inr (f c p)))
 
     pub text_since : (new : D) (net : Net) (version : ℕ) (list : List Group) (text : List ℕ) → groups_of text ≡ Ok list
-        → AtAnyMoment disk.moment disk.left_since disk.left mid new (StandsAmong net version list) → AtAnyMoment disk.moment disk.left_since disk.left first new (IsWithin net version text)
-    text_since new net version list text said a = since_opening new (StandsAmong net version list) (IsWithin net version text) (λ c s. record { list = list; list_is = said; stands = s }) a
+        → AtAnyMoment disk.moment disk.left_since disk.left mid new (StandsForBeginningOfGroups net version list) → AtAnyMoment disk.moment disk.left_since disk.left first new (StandsForBeginningOfText net version text)
+    text_since new net version list text said a = since_opening new (StandsForBeginningOfGroups net version list) (StandsForBeginningOfText net version text) (λ c s. record { list = list; list_is = said; stands = s }) a
 
     pub known_since : (new : D) (net : Net) (version : ℕ) (list : List Group) (known rest : Option (List ℕ)) → IfSome known (λ text. Reads group_text text rest (Ok list))
-        → AtAnyMoment disk.moment disk.left_since disk.left mid new (StandsAmong net version list)
-        → IfSome known (λ text. AtAnyMoment disk.moment disk.left_since disk.left first new (IsWithin net version text))
+        → AtAnyMoment disk.moment disk.left_since disk.left mid new (StandsForBeginningOfGroups net version list)
+        → IfSome known (λ text. AtAnyMoment disk.moment disk.left_since disk.left first new (StandsForBeginningOfText net version text))
     known_since new net version list None rest said a = tt
     known_since new net version list (Some text) rest said a = text_since new net version list text said.0 a

@@ -24,7 +24,7 @@ abbrev pub groups_of : List ℕ → Result (List Group) Fault
 groups_of text = content_by group_text (rows text)
 
 -- the content, whatever its sizes, is tidy and stands for the network after the accepted ones of these groups, each counted
-pub record StandsAfter (net : Net) (version : ℕ) (groups : List Group) (outcomes : List Outcome) (content : List ℕ) : Type 0 where
+pub record StandsForAccepted (net : Net) (version : ℕ) (groups : List Group) (outcomes : List Outcome) (content : List ℕ) : Type 0 where
   pub network : Net
   pub network_is : after net (accepted_in groups outcomes) ≡ Some network
   pub journal_pages : ℕ
@@ -35,7 +35,7 @@ pub record StandsAfter (net : Net) (version : ℕ) (groups : List Group) (outcom
 pub record AppliesAll (net : Net) (version : ℕ) (list : List Group) (content : List ℕ) (left : List ℕ → Type 0) (old new : Option (List ℕ)) : Type 0 where
   pub outcomes : List Outcome
   pub come : ComesTo 0 net version list outcomes
-  pub stands : StandsAfter net version list outcomes content
+  pub stands : StandsForAccepted net version list outcomes content
   pub only : Only content left
   pub written : Appends old new (outcome_lines outcomes)
 
@@ -52,7 +52,7 @@ pub record KeepsTold (net : Net) (version : ℕ) (groups : List Group) (outcomes
   pub told_kept : told ≤ kept
   pub kept_to : kept ≤ length outcomes
   pub durable_kept : durable ≤ version + length (accepted_in (take kept groups) (take kept outcomes))
-  pub stands : StandsAfter net version (take kept groups) (take kept outcomes) content
+  pub stands : StandsForAccepted net version (take kept groups) (take kept outcomes) content
 
 -- what holds where the writer did not fail
 abbrev pub IfNotWrite : Failed → Type 0 → Type 0
@@ -105,7 +105,7 @@ IsTold Honest file text old new = OfStore Honest file (TellsText text old new)
 -- ---- a stop at any moment
 
 -- the content, whatever its sizes, is tidy and stands for the network after a beginning of these groups, each counted
-pub record StandsWithin (net : Net) (version : ℕ) (accepted : List Group) (content : List ℕ) : Type 0 where
+pub record StandsForBeginning (net : Net) (version : ℕ) (accepted : List Group) (content : List ℕ) : Type 0 where
   pub count : ℕ
   pub count_to : count ≤ length accepted
   pub network : Net
@@ -115,17 +115,17 @@ pub record StandsWithin (net : Net) (version : ℕ) (accepted : List Group) (con
   pub stands : StandsTidyFor journal_pages checkpoint_pages content network (version + count)
 
 -- the same for the accepted ones of the first of these groups
-pub record StandsAmong (net : Net) (version : ℕ) (list : List Group) (content : List ℕ) : Type 0 where
+pub record StandsForBeginningOfGroups (net : Net) (version : ℕ) (list : List Group) (content : List ℕ) : Type 0 where
   pub taken : ℕ
   pub outcomes : List Outcome
   pub come : ComesTo 0 net version (take taken list) outcomes
-  pub stands : StandsWithin net version (accepted_in (take taken list) outcomes) content
+  pub stands : StandsForBeginning net version (accepted_in (take taken list) outcomes) content
 
 -- the same for the groups of a text
-pub record IsWithin (net : Net) (version : ℕ) (text content : List ℕ) : Type 0 where
+pub record StandsForBeginningOfText (net : Net) (version : ℕ) (text content : List ℕ) : Type 0 where
   pub list : List Group
   pub list_is : groups_of text ≡ Ok list
-  pub stands : StandsAmong net version list content
+  pub stands : StandsForBeginningOfGroups net version list content
 
 -- a stop at any moment from old to new leaves what it might have left before, or what has P
 abbrev pub AtAnyMoment : {D : Type 0} → (D → ℕ) → (D → ℕ → List ℕ → Type 0) → (D → List ℕ → Type 0) → D → D → (List ℕ → Type 0) → Type 0

@@ -16,7 +16,7 @@ use Rattle.storetexts.specs.declared.outcomes.Outcome.{Outcome}
 use Rattle.printing.specs.declared.writer.CountedWriter.{CountedWriter}
 use Rattle.printing.specs.declared.failed.Failed.{Failed}
 use Rattle.printing.specs.declared.failed.Failed.TheVariants.{Text, Code}
-use Rattle.storetexts.specs.Applied.{AtAnyMoment, IfNotWrite, StandsWithin, StandsAmong, AppliesAll, AppliesSome, TellsAll}
+use Rattle.storetexts.specs.Applied.{AtAnyMoment, IfNotWrite, StandsForBeginning, StandsForBeginningOfGroups, AppliesAll, AppliesSome, TellsAll}
 use Rattle.storetexts.specs.Outcomes.{ComesTo, accepted_in, outcome_lines, IsSettled, IsUnsettledAt}
 use Rattle.storetexts.specs.Refused.{CountsDevice}
 use Rattle.storetexts.specs.Writers.{KeepsWriter}
@@ -40,7 +40,7 @@ pub record IsIdle (m : Machine) : Type 0 where
 
 -- Groups on this network at this version came to these outcomes; the machine has accepted just the accepted ones, and the first
 -- outcomes, so many, are settled.
-pub record HaveCome (net : Net) (version : ℕ) (groups : List Group) (outcomes : List Outcome) (told : ℕ) (m : Machine) : Type 0 where
+pub record GroupsTaken (net : Net) (version : ℕ) (groups : List Group) (outcomes : List Outcome) (told : ℕ) (m : Machine) : Type 0 where
   pub base_is : m.base ≡ net
   pub version_is : m.base_version ≡ version
   pub come : ComesTo 0 net version groups outcomes
@@ -56,8 +56,8 @@ pub record KeepsAccepted (old new : Machine) : Type 0 where
   pub durable : old.durable ≤ new.durable
 
 -- the lines of the first outcomes, so many, are what was written since
-abbrev pub AreTold : Option (List ℕ) → Option (List ℕ) → List Outcome → ℕ → Type 0
-AreTold before now outcomes told = Appends before now (outcome_lines (take told outcomes))
+abbrev pub LinesTold : Option (List ℕ) → Option (List ℕ) → List Outcome → ℕ → Type 0
+LinesTold before now outcomes told = Appends before now (outcome_lines (take told outcomes))
 
 -- the lines are known unless the writer failed
 abbrev pub IfTold : Result (Unit {0}) Failed → Type 0 → Type 0
@@ -75,10 +75,10 @@ IsCutOffBy (Text which fault) = ⊥
 IsCutOffBy (Code Write) = ⊤
 IsCutOffBy (Code refusal) = IsPassing refusal
 
--- the same as `HaveCome` of the first of these groups
-pub record FirstHaveCome (net : Net) (version : ℕ) (groups : List Group) (outcomes : List Outcome) (told : ℕ) (m : Machine) : Type 0 where
+-- the same as `GroupsTaken` of the first of these groups
+pub record FirstGroupsTaken (net : Net) (version : ℕ) (groups : List Group) (outcomes : List Outcome) (told : ℕ) (m : Machine) : Type 0 where
   pub taken : ℕ
-  pub come : HaveCome net version (take taken groups) outcomes told m
+  pub come : GroupsTaken net version (take taken groups) outcomes told m
 
 -- ---- from one state of the applying to a later one
 
@@ -92,66 +92,55 @@ abbrev pub progress : {D : Type 0} → Applying D → Progress
 progress a = record { outcomes = a.outcomes.items; told = a.told; machine = a.ledger.machine }
 
 -- whatever groups came to the old outcomes came, with this one behind them, to the new ones
-abbrev pub ComesBehind : Group → Progress → Progress → Type 0
-ComesBehind group old new = (net : Net) (version : ℕ) (groups : List Group)
-    → HaveCome net version groups old.outcomes old.told old.machine → HaveCome net version (groups ++ group ∷ []) new.outcomes new.told new.machine
+abbrev pub TakesGroup : Group → Progress → Progress → Type 0
+TakesGroup group old new = (net : Net) (version : ℕ) (groups : List Group)
+    → GroupsTaken net version groups old.outcomes old.told old.machine → GroupsTaken net version (groups ++ group ∷ []) new.outcomes new.told new.machine
 
 -- whatever groups came to the old outcomes came to the new ones
-abbrev pub ComesStill : Progress → Progress → Type 0
-ComesStill old new = (net : Net) (version : ℕ) (groups : List Group)
-    → HaveCome net version groups old.outcomes old.told old.machine → HaveCome net version groups new.outcomes new.told new.machine
+abbrev pub KeepsGroups : Progress → Progress → Type 0
+KeepsGroups old new = (net : Net) (version : ℕ) (groups : List Group)
+    → GroupsTaken net version groups old.outcomes old.told old.machine → GroupsTaken net version groups new.outcomes new.told new.machine
 
 -- where groups came to the old outcomes, each of the new ones is told
-abbrev pub AllTold : Progress → Progress → Type 0
-AllTold old new = (net : Net) (version : ℕ) (groups : List Group)
-    → HaveCome net version groups old.outcomes old.told old.machine → new.told ≡ length new.outcomes
-
--- what was told is still the same
-abbrev pub SameTold : Progress → List Outcome → Type 0
-SameTold old new = old.told ≤ length old.outcomes → take old.told new ≡ take old.told old.outcomes
+abbrev pub OutcomesTold : Progress → Progress → Type 0
+OutcomesTold old new = (net : Net) (version : ℕ) (groups : List Group)
+    → GroupsTaken net version groups old.outcomes old.told old.machine → new.told ≡ length new.outcomes
 
 -- the first outcomes, so many, are settled
-abbrev pub SettledTo : Progress → ℕ → Type 0
-SettledTo p told = All (IsSettled p.machine.durable) (take told p.outcomes)
-
--- so many outcomes are told, and the next one, if there is one, isn't settled
-abbrev pub StopsAt : Progress → ℕ → Type 0
-StopsAt p told = IsUnsettledAt p.machine.durable p.outcomes told
+abbrev pub OutcomesSettled : Progress → ℕ → Type 0
+OutcomesSettled p told = All (IsSettled p.machine.durable) (take told p.outcomes)
 
 -- where the lines of what was told before were written, those of what is told now are
-abbrev pub TellsTo : Option (List ℕ) → Option (List ℕ) → Progress → ℕ → Type 0
-TellsTo mid now p told = (before : Option (List ℕ)) → AreTold before mid p.outcomes p.told → AreTold before now p.outcomes told
-
-abbrev pub TellsOn : Option (List ℕ) → Option (List ℕ) → Progress → Progress → Type 0
-TellsOn mid now old new = (before : Option (List ℕ)) → AreTold before mid old.outcomes old.told → AreTold before now new.outcomes new.told
+abbrev pub LinesFollow : Option (List ℕ) → Option (List ℕ) → Progress → Progress → Type 0
+LinesFollow mid now old new = (before : Option (List ℕ)) → LinesTold before mid old.outcomes old.told → LinesTold before now new.outcomes new.told
 
 -- of a ledger that has just begun, with this machine: what holds of its network and version
-abbrev pub ForBegun : Machine → (Net → ℕ → Type 0) → Type 0
-ForBegun first Holds = (net : Net) (version : ℕ) → HaveCome net version [] [] 0 first → Holds net version
+abbrev pub ForNewLedger : Machine → (Net → ℕ → Type 0) → Type 0
+ForNewLedger first Holds = (net : Net) (version : ℕ) → GroupsTaken net version [] [] 0 first → Holds net version
 
 -- the same of a ledger whose store came tidy
-abbrev pub ForCame : {D : Type 0} → (D → Type 0) → (D → List ℕ) → LedgerState D → (Net → ℕ → Type 0) → Type 0
-ForCame honest content ledger Holds = CameTidy honest content ledger.given → ForBegun ledger.machine Holds
+abbrev pub ForTidyLedger : {D : Type 0} → (D → Type 0) → (D → List ℕ) → LedgerState D → (Net → ℕ → Type 0) → Type 0
+ForTidyLedger honest content ledger Holds = CameTidy honest content ledger.given → ForNewLedger ledger.machine Holds
 
 -- all of these groups have come so far, or the first of them
-abbrev pub ComeTo : Machine → List Group → Progress → Type 0
-ComeTo first groups p = ForBegun first (λ net version. HaveCome net version groups p.outcomes p.told p.machine)
+abbrev pub GroupsTakenSince : Machine → List Group → Progress → Type 0
+GroupsTakenSince first groups p = ForNewLedger first (λ net version. GroupsTaken net version groups p.outcomes p.told p.machine)
 
-abbrev pub FirstComeTo : Machine → List Group → Progress → Type 0
-FirstComeTo first groups p = ForBegun first (λ net version. FirstHaveCome net version groups p.outcomes p.told p.machine)
+abbrev pub FirstGroupsTakenSince : Machine → List Group → Progress → Type 0
+FirstGroupsTakenSince first groups p = ForNewLedger first (λ net version. FirstGroupsTaken net version groups p.outcomes p.told p.machine)
 
 -- ---- what the calls have in common
 
 -- the content stands for the network after a beginning of the machine's accepted groups
-abbrev pub StandsIn : Machine → List ℕ → Type 0
-StandsIn m content = StandsWithin m.base m.base_version m.accepted content
+abbrev pub StandsForMachine : Machine → List ℕ → Type 0
+StandsForMachine m content = StandsForBeginning m.base m.base_version m.accepted content
 
 -- Where the store came tidy: if a stop at any moment since the first disk left what it might have left of that one, or a beginning of the accepted
 -- groups, then so it does after the call.
 abbrev pub Leaves : {D : Type 0} → Ghosts D → LedgerState D → LedgerState D → Type 0
 Leaves {D} disk old new = CameTidy disk.honest disk.content old.given → (first : D)
-    → AtAnyMoment disk.moment disk.left_since disk.left first old.disk (StandsIn old.machine)
-    → AtAnyMoment disk.moment disk.left_since disk.left first new.disk (StandsIn new.machine)
+    → AtAnyMoment disk.moment disk.left_since disk.left first old.disk (StandsForMachine old.machine)
+    → AtAnyMoment disk.moment disk.left_since disk.left first new.disk (StandsForMachine new.machine)
 
 -- no group has come yet
 pub record IsNew {D : Type 0} (a : Applying D) : Type 0 where
@@ -184,17 +173,17 @@ pub record Advances {D W : Type 0} (disk : Ghosts D) (result : Result (Unit {0})
   pub calm : OnOk result (new.ledger.machine.broken ≡ false)
   pub waiting : pending new.ledger.machine ≤ 505
   pub told_to : new.told ≤ length new.outcomes.items
-  pub next : IfEndedEarly result (StopsAt (progress new) new.told)
+  pub next : IfEndedEarly result (IsUnsettledAt new.ledger.machine.durable new.outcomes.items new.told)
   pub refused : IfErr result IsCutOffBy
   pub counted : CountsDevice (disk.failures old.ledger.disk) (disk.failures new.ledger.disk) result
   pub writer : KeepsWriter result before after
 
 -- What applying these groups to the store of a ledger that has just begun comes to: with the disk, and with what was written before and after.
 pub record Applies {D : Type 0} (disk : Ghosts D) (ledger : LedgerState D) (groups : List Group) (result : Result (Unit {0}) Failed) (new : D) (before after : Option (List ℕ)) : Type 0 where
-  pub applied : ForCame disk.honest disk.content ledger (λ net version. OnOk result (AppliesAll net version groups (disk.content new) (disk.left new) before after))
-  pub cut_off : ForCame disk.honest disk.content ledger (λ net version. IfErr result (AppliesSome net version groups (disk.left new) before after))
-  pub told : ForBegun ledger.machine (λ net version. OnOk result (TellsAll net version groups before after))
-  pub any_moment : ForCame disk.honest disk.content ledger (λ net version. AtAnyMoment disk.moment disk.left_since disk.left ledger.disk new (StandsAmong net version groups))
+  pub applied : ForTidyLedger disk.honest disk.content ledger (λ net version. OnOk result (AppliesAll net version groups (disk.content new) (disk.left new) before after))
+  pub cut_off : ForTidyLedger disk.honest disk.content ledger (λ net version. IfErr result (AppliesSome net version groups (disk.left new) before after))
+  pub told : ForNewLedger ledger.machine (λ net version. OnOk result (TellsAll net version groups before after))
+  pub any_moment : ForTidyLedger disk.honest disk.content ledger (λ net version. AtAnyMoment disk.moment disk.left_since disk.left ledger.disk new (StandsForBeginningOfGroups net version groups))
   pub refused : IfErr result IsCutOffBy
   pub counted : CountsDevice (disk.failures ledger.disk) (disk.failures new) result
   pub honest : disk.honest new ↔ disk.honest ledger.disk

@@ -1,5 +1,5 @@
 // The groups of a text, applied to a store.
-ghost use Rattle.std.specs.Prelude.{◌≡◌, ◌⊎◌, ◌+◌, ◌≤◌, ◌<◌, ◌↔◌, [], false, length, vec_capacity};
+ghost use Rattle.std.specs.Prelude.{◌≡◌, ◌⊎◌, ◌+◌, ◌≤◌, ◌<◌, ◌↔◌, [], false, length, take, vec_capacity};
 ghost use Rattle.std.specs.Prelude.{OnOk, IfOk, IfErr, IfSome, MatchResult};
 ghost use Rattle.std.specs.Bool.{Decides};
 ghost use Rattle.dimacs.specs.Counts.{failed_calls, reader_of, IsSameReader};
@@ -12,13 +12,13 @@ ghost use Rattle.machine.specs.Machine.{pending};
 ghost use Rattle.store.specs.State.{CameTidy};
 ghost use Rattle.printing.specs.Counting.{failed_writes, writer_of, IsSameWriter};
 ghost use Rattle.printing.specs.Failing.{CountsReads, CountsWrites};
-ghost use Rattle.storetexts.specs.Applied.{ForTidy, IsApplied, IsCutOff, IsTold, IsWithin, AtAnyMoment, IsRefusedApply, IfTextOrFileRefused};
-ghost use Rattle.storetexts.specs.Applying.{IsReady, IsIdle, IsNew, HaveCome, ForBegun, IfTold, AreTold};
-ghost use Rattle.storetexts.specs.Applying.{progress, ComesBehind, ComesStill, ComeTo, FirstComeTo, SameTold, SettledTo, StopsAt};
-ghost use Rattle.storetexts.specs.Applying.{TellsTo, TellsOn, AllTold, Goes, Saves, Advances, Applies};
+ghost use Rattle.storetexts.specs.Applied.{ForTidy, IsApplied, IsCutOff, IsTold, StandsForBeginningOfText, AtAnyMoment, IsRefusedApply, IfTextOrFileRefused};
+ghost use Rattle.storetexts.specs.Applying.{IsReady, IsIdle, IsNew, GroupsTaken, ForNewLedger, IfTold, LinesTold};
+ghost use Rattle.storetexts.specs.Applying.{progress, TakesGroup, KeepsGroups, GroupsTakenSince, FirstGroupsTakenSince, OutcomesSettled};
+ghost use Rattle.storetexts.specs.Applying.{LinesFollow, OutcomesTold, Goes, Saves, Advances, Applies};
 ghost use Rattle.store.specs.Opening.{HeaderFits, IsPassing};
 ghost use Rattle.storetexts.specs.Asked.{OfStore, IsUnopened};
-ghost use Rattle.storetexts.specs.Outcomes.{IsSettled};
+ghost use Rattle.storetexts.specs.Outcomes.{IsSettled, IsUnsettledAt};
 ghost use Rattle.storetexts.specs.Refused.{ComesBack, CountsDevice, IfNoMemory, IsOfStore};
 ghost use Rattle.storetexts.specs.Writers.{KeepsWriter, Puts};
 
@@ -58,11 +58,12 @@ impl<D: Disk> Applying<D> {
         requires room { length self.old.outcomes.items < vec_capacity self.old.outcomes }
         ensures goes { Goes D.Disk self.old self.new }
         ensures calm { self.new.ledger.machine.broken ≡ false }
-        ensures come { ComesBehind group.now (progress self.old) (progress self.new) }
+        ensures come { TakesGroup group.now (progress self.old) (progress self.new) }
         ensures waiting { pending self.new.ledger.machine ≤ 505 }
         ensures noted { length self.new.outcomes.items ≡ length self.old.outcomes.items + 1 }
         ensures told { self.new.told ≡ self.old.told }
-        ensures first { SameTold (progress self.old) self.new.outcomes.items }
+        ensures first { self.old.told ≤ length self.old.outcomes.items →
+            take self.old.told self.new.outcomes.items ≡ take self.old.told self.old.outcomes.items }
         ensures disk { self.new.ledger.disk ≡ self.old.ledger.disk }
     {
         let _size = group.commands().len();
@@ -143,9 +144,9 @@ impl<D: Disk> Applying<D> {
         ensures ledger { self.new.ledger ≡ self.old.ledger }
         ensures outcomes { self.new.outcomes ≡ self.old.outcomes }
         ensures told_to { self.new.told ≤ length self.old.outcomes.items }
-        ensures settled { SettledTo (progress self.old) self.old.told → SettledTo (progress self.old) self.new.told }
-        ensures next { OnOk result (StopsAt (progress self.old) self.new.told) }
-        ensures lines { OnOk result (TellsTo (W.contents (writer_of out.old)) (W.contents (writer_of out.new)) (progress self.old) self.new.told) }
+        ensures settled { OutcomesSettled (progress self.old) self.old.told → OutcomesSettled (progress self.old) self.new.told }
+        ensures next { OnOk result (IsUnsettledAt self.old.ledger.machine.durable self.old.outcomes.items self.new.told) }
+        ensures lines { OnOk result (LinesFollow (W.contents (writer_of out.old)) (W.contents (writer_of out.new)) (progress self.old) (progress self.new)) }
         ensures puts { Puts result out.old out.new }
     {
         for index in self.told..self.outcomes.len() {
@@ -165,10 +166,10 @@ impl<D: Disk> Applying<D> {
         requires some { 1 ≤ limit }
         requires few { pending self.old.ledger.machine ≤ 505 }
         requires told_to { self.old.told ≤ length self.old.outcomes.items }
-        ensures come { ComesStill (progress self.old) (progress self.new) }
+        ensures come { KeepsGroups (progress self.old) (progress self.new) }
         ensures done { OnOk result (pending self.new.ledger.machine < limit) }
-        ensures all { OnOk result (pending self.new.ledger.machine ≡ 0 → AllTold (progress self.old) (progress self.new)) }
-        ensures lines { IfTold result (TellsOn (W.contents (writer_of out.old)) (W.contents (writer_of out.new)) (progress self.old) (progress self.new)) }
+        ensures all { OnOk result (pending self.new.ledger.machine ≡ 0 → OutcomesTold (progress self.old) (progress self.new)) }
+        ensures lines { IfTold result (LinesFollow (W.contents (writer_of out.old)) (W.contents (writer_of out.new)) (progress self.old) (progress self.new)) }
         ensures outcomes { self.new.outcomes ≡ self.old.outcomes }
         ensures advances { Advances D.Disk result self.old self.new out.old out.new }
     {
@@ -188,10 +189,10 @@ impl<D: Disk> Applying<D> {
         requires few { pending self.old.ledger.machine < 253 }
         requires told_to { self.old.told ≤ length self.old.outcomes.items }
         requires room { length self.old.outcomes.items < vec_capacity self.old.outcomes }
-        ensures come { ComesBehind group.now (progress self.old) (progress self.new) }
+        ensures come { TakesGroup group.now (progress self.old) (progress self.new) }
         ensures few { OnOk result (pending self.new.ledger.machine < 253) }
         ensures noted { length self.new.outcomes.items ≡ length self.old.outcomes.items + 1 }
-        ensures lines { IfTold result (TellsOn (W.contents (writer_of out.old)) (W.contents (writer_of out.new)) (progress self.old) (progress self.new)) }
+        ensures lines { IfTold result (LinesFollow (W.contents (writer_of out.old)) (W.contents (writer_of out.new)) (progress self.old) (progress self.new)) }
         ensures advances { Advances D.Disk result self.old self.new out.old out.new }
     {
         self.take(group);
@@ -209,9 +210,9 @@ impl<D: Disk> Applying<D> {
     ) -> Result<(), Failed>
         requires new { IsNew self.old }
         requires room { length groups.now ≤ vec_capacity self.old.outcomes }
-        ensures some { FirstComeTo self.old.ledger.machine groups.now (progress self.new) }
-        ensures come { OnOk result (ComeTo self.old.ledger.machine groups.now (progress self.new)) }
-        ensures lines { IfTold result (AreTold (W.contents (writer_of out.old)) (W.contents (writer_of out.new)) self.new.outcomes.items self.new.told) }
+        ensures some { FirstGroupsTakenSince self.old.ledger.machine groups.now (progress self.new) }
+        ensures come { OnOk result (GroupsTakenSince self.old.ledger.machine groups.now (progress self.new)) }
+        ensures lines { IfTold result (LinesTold (W.contents (writer_of out.old)) (W.contents (writer_of out.new)) self.new.outcomes.items self.new.told) }
         ensures advances { Advances D.Disk result self.old self.new out.old out.new }
     {
         for index in 0..groups.len() {
@@ -228,11 +229,11 @@ impl<D: Disk> Applying<D> {
     ) -> Result<(), Failed>
         requires new { IsNew self.old }
         requires room { length groups.now ≤ vec_capacity self.old.outcomes }
-        ensures some { FirstComeTo self.old.ledger.machine groups.now (progress self.new) }
-        ensures come { OnOk result (ComeTo self.old.ledger.machine groups.now (progress self.new)) }
+        ensures some { FirstGroupsTakenSince self.old.ledger.machine groups.now (progress self.new) }
+        ensures come { OnOk result (GroupsTakenSince self.old.ledger.machine groups.now (progress self.new)) }
         ensures done { OnOk result (pending self.new.ledger.machine ≡ 0) }
-        ensures lines { IfTold result (AreTold (W.contents (writer_of out.old)) (W.contents (writer_of out.new)) self.new.outcomes.items self.new.told) }
-        ensures all { OnOk result (ForBegun self.old.ledger.machine (λ net version. self.new.told ≡ length self.new.outcomes.items)) }
+        ensures lines { IfTold result (LinesTold (W.contents (writer_of out.old)) (W.contents (writer_of out.new)) self.new.outcomes.items self.new.told) }
+        ensures all { OnOk result (ForNewLedger self.old.ledger.machine (λ net version. self.new.told ≡ length self.new.outcomes.items)) }
         ensures advances { Advances D.Disk result self.old self.new out.old out.new }
     {
         self.take_all(groups, out)?;
@@ -258,10 +259,10 @@ impl<D: Disk> Applying<D> {
 /// The ledger of the store on a disk.
 fn ledger_on<D: Disk>(alloc: Global, disk: D) -> Result<Ledger<D>, (Refusal, D)>
     ensures idle { IfOk result (λ ledger. IsIdle ledger.machine) }
-    ensures begins { ForTidy D.honest D.content disk (λ net version. IfOk result (λ ledger. HaveCome net version [] [] 0 ledger.machine)) }
+    ensures begins { ForTidy D.honest D.content disk (λ net version. IfOk result (λ ledger. GroupsTaken net version [] [] 0 ledger.machine)) }
     ensures came { ForTidy D.honest D.content disk (λ net version. IfOk result (λ ledger. CameTidy D.honest D.content ledger.given)) }
     // It is the ledger of a store, which the disk stands for where it keeps the disk model.
-    ensures opened { IfOk result (λ ledger. OfStore (D.honest disk) (D.content disk) (λ net version. HaveCome net version [] [] 0 ledger.machine)) }
+    ensures opened { IfOk result (λ ledger. OfStore (D.honest disk) (D.content disk) (λ net version. GroupsTaken net version [] [] 0 ledger.machine)) }
     ensures disk { MatchResult result (λ ledger. ComesBack D.Disk (D.failures disk) disk ledger.disk)
         (λ refused. ComesBack D.Disk (failures_with refused.0 (D.failures disk)) disk refused.1) }
     ensures refused { IfErr result (λ refused. IsUnopened (D.honest disk) (D.content disk) refused.0) }
@@ -346,7 +347,7 @@ pub fn apply_counted<D: Disk, R: BufRead, W: Write>(
     // A stop at any moment of the call leaves what it might have left before, or what stands for the network after a beginning of the
     // text's accepted groups.
     ensures any_moment { ForTidy D.honest D.content disk (λ net version. IfSome (R.remaining (reader_of commands.old))
-        (λ text. AtAnyMoment D.moment D.left_since D.left disk result.1 (IsWithin net version text))) }
+        (λ text. AtAnyMoment D.moment D.left_since D.left disk result.1 (StandsForBeginningOfText net version text))) }
     // Over any disk: Ok comes where a store was opened, and all groups of the text are told.
     ensures told { OnOk result.0 (IfSome (R.remaining (reader_of commands.old))
         (λ text. IsTold (D.honest disk) (D.content disk) text (W.contents (writer_of out.old)) (W.contents (writer_of out.new)))) }
@@ -393,7 +394,7 @@ pub fn apply_text<D: Disk, W: Write>(
         (λ failed. (StaysSame D.content D.left D.moment D.left_since disk result.1 × (out.new ≡ out.old))
         ⊎ IsCutOff net version commands.now (D.left result.1) (W.contents out.old) (W.contents out.new) failed)) }
     ensures any_moment { ForTidy D.honest D.content disk (λ net version.
-        AtAnyMoment D.moment D.left_since D.left disk result.1 (IsWithin net version commands.now)) }
+        AtAnyMoment D.moment D.left_since D.left disk result.1 (StandsForBeginningOfText net version commands.now)) }
     ensures told { OnOk result.0 (IsTold (D.honest disk) (D.content disk) commands.now (W.contents out.old) (W.contents out.new)) }
     ensures refused { IfErr result.0 (IsRefusedApply (D.honest disk) (D.content disk) commands.now InMemory) }
     ensures order { D.honest disk → IfErr result.0 (λ failed. IfNoMemory failed (HeaderFits (D.content disk))) }

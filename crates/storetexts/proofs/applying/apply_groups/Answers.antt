@@ -5,8 +5,8 @@ use Rattle.roadnet.specs.declared.refusals.Refusal.TheVariants.{OutOfMemory}
 use Rattle.printing.specs.Counting.{writer_of}
 use Rattle.printing.specs.declared.failed.Failed.TheVariants.{Code}
 use Rattle.store.specs.State.{CameTidy}
-use Rattle.storetexts.specs.Applied.{StandsAmong}
-use Rattle.storetexts.specs.Applying.{StandsIn}
+use Rattle.storetexts.specs.Applied.{StandsForBeginningOfGroups}
+use Rattle.storetexts.specs.Applying.{StandsForMachine}
 use Rattle.disk.proofs.Steps.{weaker}
 use Rattle.storetexts.proofs.TextApplied.{at_once}
 use Rattle.storetexts.proofs.Remaining.{applies_some, ended_all, ended_some, told_all, among}
@@ -51,7 +51,7 @@ returns-clause-applies g c =
       any_moment = λ was net version begun.
           let came = subst (λ (d : g.row.D.Denot). CameTidy g.D.Disk.honest g.D.Disk.content d) (sym run.advances.goes.given) was in
           let honest = run.advances.goes.honest.0 (c.close.ensures.honest came) in
-          weaker g.D.Disk.moment g.D.Disk.left_since first new.ledger.disk (λ x. g.D.Disk.left first x ⊎ StandsIn new.ledger.machine x) (λ x. g.D.Disk.left first x ⊎ StandsAmong net version c.args.groups.now x)
+          weaker g.D.Disk.moment g.D.Disk.left_since first new.ledger.disk (λ x. g.D.Disk.left first x ⊎ StandsForMachine new.ledger.machine x) (λ x. g.D.Disk.left first x ⊎ StandsForBeginningOfGroups net version c.args.groups.now x)
           (run.advances.goes.leaves was first (at_once g.D.Disk first first (λ x. g.met.D.Disk.only_now first x honest) _))
           (λ x. ⊎_elim (λ left. inl left) (λ stands. inr (among net version c.args.groups.now new.outcomes.items new.told new.ledger.machine (run.some net version begun) x stands)));
       refused = run.advances.refused;

@@ -1,7 +1,7 @@
 use Rattle.std.proofs.Common.{rules, ◌≡◌, ◌∙◌, ◌+◌, ◌≤◌, List, [], ◌∷◌, ◌++◌, length, Ok, Err, take, sym, ap, subst, arith}
 use Rattle.std.proofs.lemmas.List.{take-append-le}
 use Rattle.storetexts.specs.declared.outcomes.Outcome.{Outcome}
-use Rattle.storetexts.specs.Applying.{IsSteady, HaveCome}
+use Rattle.storetexts.specs.Applying.{IsSteady, GroupsTaken}
 use Rattle.machine.specs.Machine.{pending}
 use Rattle.keeper.specs.Parts.{ticket_for}
 use Rattle.storetexts.proofs.Stepping.{come_submit, steady_submit, waiting_submit}
@@ -38,10 +38,10 @@ returns-clause-come g c net version groups have =
     let pushed : c.push_reserved.new.self.items ≡ items ++ c.match-submit_copy.outcome ∷ [] = c.push_reserved.ensures.items in
     elim c.match-submit_copy.branch [
       | in-Ok w ↦
-          subst (λ (l : List Outcome). HaveCome net version (groups ++ c.args.group.now ∷ []) l told c.submit_copy.new.self.machine) (sym (pushed ∙ ap (λ (o : Outcome). items ++ o ∷ []) w.outcome-is))
+          subst (λ (l : List Outcome). GroupsTaken net version (groups ++ c.args.group.now ∷ []) l told c.submit_copy.new.self.machine) (sym (pushed ∙ ap (λ (o : Outcome). items ++ o ∷ []) w.outcome-is))
           (come_submit net version told groups items _ c.submit_copy.new.self.machine c.args.group.now (ticket_for c.args.group.now (Ok w.in-Ok.number)) c.requires.ready.steady c.requires.ready.calm few w.in-Ok.ensures.step have)
       | in-Err w ↦
-          subst (λ (l : List Outcome). HaveCome net version (groups ++ c.args.group.now ∷ []) l told c.submit_copy.new.self.machine) (sym (pushed ∙ ap (λ (o : Outcome). items ++ o ∷ []) w.outcome-is))
+          subst (λ (l : List Outcome). GroupsTaken net version (groups ++ c.args.group.now ∷ []) l told c.submit_copy.new.self.machine) (sym (pushed ∙ ap (λ (o : Outcome). items ++ o ∷ []) w.outcome-is))
           (come_submit net version told groups items _ c.submit_copy.new.self.machine c.args.group.now (ticket_for c.args.group.now (Err w.in-Err.refusal)) c.requires.ready.steady c.requires.ready.calm few w.in-Err.ensures.step have)
     ]
 

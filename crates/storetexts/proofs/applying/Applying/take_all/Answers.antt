@@ -2,7 +2,7 @@ use Rattle.std.proofs.Common.{◌+◌, ◌<◌, [], ◌∷◌, ◌++◌, length,
 use Rattle.std.proofs.KnownBytes.{Appends-nil}
 use Rattle.std.proofs.lemmas.Result.{err_from_is_err_and}
 use Rattle.roadnet.specs.declared.groups.Group.{Group}
-use Rattle.storetexts.specs.Applying.{HaveCome}
+use Rattle.storetexts.specs.Applying.{GroupsTaken}
 use Rattle.storetexts.proofs.Advancing.{advances_none, advances_both}
 use Rattle.storetexts.proofs.Meanwhile.{goes_none}
 use Rattle.storetexts.proofs.Remaining.{come_next, come_end}
@@ -16,7 +16,7 @@ returns-in_err-advance-clause-some g c net version have =
     record {
       taken = i + 1;
       come = come_next net version c.args.groups.now i c.index-groups-index.result new.outcomes.items new.told new.ledger.machine lt
-          (subst (λ (x : Group). HaveCome net version (take i c.args.groups.now ++ x ∷ []) new.outcomes.items new.told new.ledger.machine) c.index-groups-index.is
+          (subst (λ (x : Group). GroupsTaken net version (take i c.args.groups.now ++ x ∷ []) new.outcomes.items new.told new.ledger.machine) c.index-groups-index.is
           (c.advance.ensures.come net version (take i c.args.groups.now) (c.loop-index.invariant.come net version have)));
     }
 
@@ -43,7 +43,7 @@ loop-index-preserved g c =
       noted = omega (arith, c.in_ok-advance.ensures.noted, before.noted);
       come = λ net version have.
           come_next net version c.args.groups.now i c.index-groups-index.result new.outcomes.items new.told new.ledger.machine lt
-          (subst (λ (x : Group). HaveCome net version (take i c.args.groups.now ++ x ∷ []) new.outcomes.items new.told new.ledger.machine) c.index-groups-index.is
+          (subst (λ (x : Group). GroupsTaken net version (take i c.args.groups.now ++ x ∷ []) new.outcomes.items new.told new.ledger.machine) c.index-groups-index.is
           (c.in_ok-advance.ensures.come net version (take i c.args.groups.now) (before.come net version have)));
       lines = c.in_ok-advance.ensures.lines _ before.lines;
     }

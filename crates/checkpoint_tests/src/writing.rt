@@ -3,9 +3,9 @@ ghost use Rattle.pages.specs.Spelling.{IsHeader};
 
 use checkpoint::NextCheckpoint;
 use disk::{Disk, DiskError, MemDisk, Pick, Stoppable, length_of, settle};
-use fixtures::arc;
+use fixtures::{arc, six_with};
 use pages::{Format, Header, Slot};
-use roadnet::{Network, Refusal, RoadArc};
+use roadnet::{Command, Network, Refusal};
 use std::alloc::Global;
 use store_fixtures::{PageRow, first_other_page};
 
@@ -31,23 +31,9 @@ const WORDS: [u8; 32] =
 
 // Six nodes and eight arcs, the seventh of them closed.
 fn six(alloc: Global, landmarks: &[u32]) -> Result<Network, Refusal> {
-    let closed = RoadArc {
-        tail: 5,
-        head: 2,
-        length: 0,
-        opened: false,
-    };
-    let arcs = [
-        arc(1, 2, 17),
-        arc(1, 3, 10),
-        arc(2, 4, 2),
-        arc(3, 5, 0),
-        arc(4, 3, 0),
-        arc(4, 6, 3),
-        closed,
-        arc(5, 6, 20),
-    ];
-    Network::new(alloc, 6, Vec::from_slice(alloc, &arcs)?, landmarks)
+    let mut network = six_with(alloc, landmarks)?;
+    network.apply(Command::Close { arc: 7 })?;
+    Ok(network)
 }
 
 const SIX: Header = Header {

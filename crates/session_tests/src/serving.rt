@@ -8,8 +8,9 @@ use desk::{
 };
 use dimacs::Counted;
 use disk::{Disk, FailOnce, MemDisk};
+use fixtures::six;
 use printing::{CountedWriter, Failed};
-use roadnet::{Network, Refusal, RoadArc};
+use roadnet::Refusal;
 use sessions::{Answering, Copies, LastLine, NoCopies, Terms, serve};
 use std::alloc::Global;
 use std::io::{self, BufRead, BufReader, ErrorKind, Read, Write};
@@ -21,33 +22,11 @@ use std::thread::Threads;
 use std::time::Clock;
 use store::{Store, create, open};
 
-/// A new store of the network of the worked rows, with six nodes, eight arcs and these landmarks.
+/// A new store of the network of the worked rows, with six nodes and eight arcs, without landmarks.
 pub(crate) fn store_of_six(alloc: Global) -> Result<Store<MemDisk>, Refusal>
     ensures calm { IfOk result (λ store. is_calm store ≡ true) }
 {
-    let table = [
-        (1, 2, 17),
-        (1, 3, 10),
-        (2, 4, 2),
-        (3, 5, 0),
-        (4, 3, 0),
-        (4, 6, 3),
-        (5, 2, 0),
-        (5, 6, 20),
-    ];
-    let mut arcs = Vec::new(alloc);
-    for (tail, head, length) in table {
-        let arc = RoadArc {
-            tail,
-            head,
-            length,
-            opened: true,
-        };
-        if arcs.push(arc).is_err() {
-            return Err(Refusal::OutOfMemory);
-        }
-    }
-    let network = Network::new(alloc, 6, arcs, &[])?;
+    let network = six(alloc)?;
     match create(alloc, MemDisk::new(alloc), &network, 64) {
         Ok(store) => Ok(store),
         Err((refusal, _)) => Err(refusal),

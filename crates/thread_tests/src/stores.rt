@@ -3,51 +3,19 @@ ghost use Rattle.std.specs.Prelude.{◌≡◌, ◌≤◌, true, IfOk};
 ghost use Rattle.store.specs.State.{is_calm};
 
 use disk::{FailOnce, MemDisk};
-use roadnet::{Network, Refusal, RoadArc};
-use std::alloc::Global;
+use fixtures::arc;
+use roadnet::{Network, Refusal};
+use std::alloc::{AllocError, Global};
 use store::{Store, create, open};
 
 /// A disk in memory that may fail once.
 pub(crate) type Kept = FailOnce<MemDisk>;
 
-/// The arcs of the worked rows, by tail, head and length.
-const ARCS: [(u32, u32, u32); 8] = [
-    (1, 2, 17),
-    (1, 3, 10),
-    (2, 4, 2),
-    (3, 5, 0),
-    (4, 3, 0),
-    (4, 6, 3),
-    (5, 2, 0),
-    (5, 6, 20),
-];
-
-/// Adds an open arc, given by tail, head and length.
-fn push_arc(arcs: &mut Vec<RoadArc>, arc: (u32, u32, u32)) -> Result<(), Refusal> {
-    let (tail, head, length) = arc;
-    let arc = RoadArc {
-        tail,
-        head,
-        length,
-        opened: true,
-    };
-    arcs.push(arc).or(Err(Refusal::OutOfMemory))
-}
-
-/// The arcs of the worked rows.
-fn arcs_of_six(alloc: Global) -> Result<Vec<RoadArc>, Refusal> {
-    let mut arcs = Vec::new(alloc);
-    for arc in &ARCS {
-        push_arc(&mut arcs, *arc)?;
-    }
-    Ok(arcs)
-}
-
 /// The network of the worked rows with these landmarks, and so many arcs from 1 to 2 beside its own, as long as the first.
 fn six(alloc: Global, landmarks: &[u32], more: u32) -> Result<Network, Refusal> {
-    let mut arcs = arcs_of_six(alloc)?;
+    let mut arcs = Vec::from_slice(alloc, fixtures::six(alloc)?.arcs())?;
     for _ in 0..more {
-        push_arc(&mut arcs, (1, 2, 17))?;
+        arcs.push(arc(1, 2, 17)).map_err(AllocError::from)?;
     }
     Network::new(alloc, 6, arcs, landmarks)
 }

@@ -3,6 +3,7 @@ ghost use Rattle.std.specs.Prelude.{◌≡◌, ◌≤◌, ◌++◌, Some, None};
 ghost use Rattle.machine.specs.Machine.{IsState, groups_to, network_at, pending};
 ghost use Rattle.machine.specs.Calls.{IsTicketOf, receipt_for};
 ghost use Rattle.store.specs.State.{CameTidy};
+ghost use Rattle.keeper.specs.Cutting.{HoldsFor};
 ghost use Rattle.keeper.specs.Keeping.{Holds, with_views};
 
 use crate::ledgers::Ledger;
@@ -14,6 +15,13 @@ impl<D: Disk> Ledger<D> {
     /// It shows the version that its store was opened at, and no task of it is out.
     pub(crate) fn shows_nothing(&self)
         ensures { self.now.machine ≡ with_views self.now.machine self.now.machine.base_version None }
+    {
+        let _ = &self.store;
+    }
+
+    /// Where its store came tidy, over a disk that keeps the disk model, the disk holds what is durable, whatever was called since.
+    pub(crate) fn holds_durable(&self)
+        ensures { CameTidy D.honest D.content self.now.given → HoldsFor D.Disk self.now.disk self.now.machine }
     {
         let _ = &self.store;
     }

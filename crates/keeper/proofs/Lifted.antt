@@ -1,13 +1,16 @@
 -- A ledger's calls are a keeper's: with a view shown and a task out the machine takes the same step.
-use Rattle.std.proofs.Common.{◌≡◌, ⊎_elim, inl, inr, ℕ, suc, zero, Bool, true, false, cond, List, Option, Some, None, Result, Ok, Err, refl, ◌∙◌, ap}
+use Rattle.std.proofs.Common.{◌≡◌, ⊎_elim, inl, inr, ℕ, suc, zero, Bool, true, false, cond, List, Option, Some, None, Result, Ok, Err, refl, ◌∙◌, ap, subst}
 use Rattle.std.specs.Prelude.{IfOk, IfErr, nat_lt}
 use Rattle.roadnet.specs.declared.groups.Group.{Group}
 use Rattle.roadnet.specs.declared.refusals.Refusal.{Refusal}
+use Rattle.disk.specs.declared.disk.Disk.{Ghosts}
+use Rattle.store.specs.State.{CameTidy}
 use Rattle.machine.specs.declared.calls.Ticket.{Ticket}
 use Rattle.machine.specs.Machine.{Machine, batch}
 use Rattle.machine.specs.Calls.{failed, Submits, Flushes, StepsCheckpoint, has_nothing_unchecked, checkpoint_of, with_part, with_pages_written}
 use Rattle.machine.specs.Lives.{GoesOn, EndsCheckpoint, Checkpoints, pages_of_step}
-use Rattle.keeper.specs.Keeping.{with_views, Holds, IsDurableIn, IsLeftByFlush}
+use Rattle.keeper.specs.Cutting.{HoldsFor}
+use Rattle.keeper.specs.Keeping.{LedgerState, Keeping, with_views, ledger_of, Holds, IsDurableIn, IsLeftByFlush}
 
 module _ (shown : ℕ) (task : Option ℕ) where
   abbrev V : Machine → Machine
@@ -69,3 +72,10 @@ module _ (shown : ℕ) (task : Option ℕ) where
 
   pub lift_holds : (content : List ℕ) (left : List ℕ → Type 0) (m : Machine) → Holds content left m → Holds content left (V m)
   lift_holds content left m h = record { only = h.only; each_left = λ c was. lift_durable m c (h.each_left c was) }
+
+-- what the disk of a keeper's ledger holds for the ledger it holds for the keeper
+pub lift_held : {D : Type 0} (disk : Ghosts D) (k : Keeping D) (ledger : LedgerState D) → ledger ≡ ledger_of k
+    → (CameTidy disk.honest disk.content ledger.given → HoldsFor disk ledger.disk ledger.machine) → CameTidy disk.honest disk.content k.given → HoldsFor disk k.disk k.machine
+lift_held disk k ledger is held came =
+    let here : HoldsFor disk k.disk (ledger_of k).machine = subst (λ (l : LedgerState _). CameTidy disk.honest disk.content l.given → HoldsFor disk l.disk l.machine) is held came in
+    (here.0, lift_holds k.machine.shown k.machine.task (disk.content k.disk) (disk.left k.disk) (ledger_of k).machine here.1)

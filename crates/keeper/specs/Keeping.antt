@@ -1,5 +1,5 @@
 -- What a keeper is to its callers, and what its disk holds.
-use Rattle.std.specs.Prelude.{◌≡◌, ◌≤◌, ℕ, Bool, false, List, Option, Some, IfSome, option_map, if◌then◌else◌}
+use Rattle.std.specs.Prelude.{◌≡◌, ◌≤◌, ℕ, Bool, false, List, Option, None, Some, IfSome, option_map, if◌then◌else◌}
 use Rattle.roadnet.specs.declared.groups.Group.{Group}
 use Rattle.roadnet.specs.Batches.{changed_by_all}
 use Rattle.roadnet.specs.Net.{Net}
@@ -74,6 +74,10 @@ pub record Keeping (D : Type 0) : Type 0 where
   -- the width of the buckets of the searches in the view that is shown
   pub width : ℕ
   pub given : D
+
+-- the ledger of such a keeper
+abbrev pub ledger_of : {D : Type 0} → Keeping D → LedgerState D
+ledger_of k = record { machine = with_views k.machine k.machine.base_version None; disk = k.disk; given = k.given }
 
 -- The content has the machine's sizes and stands, tidy, for what is durable, with the groups in flight or without.
 abbrev pub IsDurableIn : Machine → List ℕ → Type 0

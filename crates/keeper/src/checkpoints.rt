@@ -4,11 +4,9 @@ ghost use Rattle.disk.specs.Contents.{Rose};
 ghost use Rattle.pagereader.specs.Outcomes.{failures_told};
 ghost use Rattle.disk.specs.Moments.{AddsNothing};
 ghost use Rattle.roadnet.specs.declared.refusals.Refusal.TheVariants.{Device as device, OutOfMemory as out_of_memory};
-ghost use Rattle.store.specs.State.{CameTidy};
 ghost use Rattle.machine.specs.Machine.{IsState};
 ghost use Rattle.machine.specs.Calls.{StepsCheckpoint, has_nothing_unchecked};
 ghost use Rattle.machine.specs.Lives.{Checkpoints};
-ghost use Rattle.keeper.specs.Cutting.{HoldsFor};
 ghost use Rattle.keeper.specs.Keeping.{IsDurableIn, LeavesAtAnyMoment};
 ghost use Rattle.keeper.specs.Parts.{told_as};
 
@@ -74,6 +72,7 @@ impl<D: Disk> Ledger<D> {
         ensures any_moment { LeavesAtAnyMoment D.Disk (IsDurableIn self.old.machine) self.old.machine self.old.given self.old.disk self.new.disk }
         ensures honest { D.honest self.new.disk ↔ D.honest self.old.disk }
     {
+        self.holds_durable();
         for _ in 0..self.most_steps() {
             match self.checkpoint_step(PAGES_OF_STEP)? {
                 Part::Going => {}
@@ -87,7 +86,6 @@ impl<D: Disk> Ledger<D> {
     fn most_steps(&self) -> u32
         ensures enough { self.now.machine.sizes.checkpoint_pages < 64 * result }
         ensures state { IsState self.now.machine }
-        ensures held { CameTidy D.honest D.content self.now.given → HoldsFor D.Disk self.now.disk self.now.machine }
     {
         let _ = self.store.version();
         MOST_STEPS

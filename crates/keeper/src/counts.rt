@@ -1,8 +1,7 @@
-// How far a life has come, as a ledger and a keeper tell it. None of these takes memory.
+// How far a life has come, as a ledger tells it. None of these takes memory.
 ghost use Rattle.std.specs.Prelude.{◌≡◌, ◌≤◌};
 ghost use Rattle.machine.specs.Machine.{latest, most_of_life, of_life};
 
-use crate::keepers::Keeper;
 use crate::ledgers::Ledger;
 use disk::Disk;
 
@@ -20,22 +19,5 @@ impl<D: Disk> Ledger<D> {
         ensures { result ≡ latest self.now.machine }
     {
         self.opened + self.history.len() as u64
-    }
-}
-
-impl<D: Disk> Keeper<D> {
-    /// How many commands the groups have that were accepted in this life: at most 16,777,216.
-    pub fn of_life(&self) -> u64
-        ensures count { result ≡ of_life self.now.machine }
-        ensures most { result ≤ most_of_life }
-    {
-        self.ledger.of_life()
-    }
-
-    /// The version after all accepted groups.
-    pub fn latest(&self) -> u64
-        ensures { result ≡ latest self.now.machine }
-    {
-        self.ledger.latest()
     }
 }

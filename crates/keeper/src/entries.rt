@@ -1,9 +1,10 @@
 // What a ledger tells of itself: numbers of its machine, its groups and network, and receipts. None of these takes memory.
-ghost use Rattle.std.specs.Prelude.{◌≡◌, ◌≤◌, ◌++◌, Some};
+ghost use Rattle.std.specs.Prelude.{◌≡◌, ◌≤◌, ◌++◌, Some, None};
 ghost use Rattle.machine.specs.Machine.{IsState, groups_to, network_at, pending};
 ghost use Rattle.machine.specs.Calls.{IsTicketOf, receipt_for};
 ghost use Rattle.store.specs.State.{CameTidy};
-ghost use Rattle.keeper.specs.Keeping.{Holds};
+ghost use Rattle.keeper.specs.Cutting.{HoldsFor};
+ghost use Rattle.keeper.specs.Keeping.{Holds, with_views};
 
 use crate::ledgers::Ledger;
 use disk::Disk;
@@ -11,6 +12,20 @@ use machine::{Receipt, Ticket};
 use roadnet::{Group, Network, Refusal};
 
 impl<D: Disk> Ledger<D> {
+    /// It shows the version that its store was opened at, and no task of it is out.
+    pub(crate) fn shows_nothing(&self)
+        ensures { self.now.machine ≡ with_views self.now.machine self.now.machine.base_version None }
+    {
+        let _ = &self.store;
+    }
+
+    /// Where its store came tidy, over a disk that keeps the disk model, the disk holds what is durable, whatever was called since.
+    pub(crate) fn holds_durable(&self)
+        ensures { CameTidy D.honest D.content self.now.given → HoldsFor D.Disk self.now.disk self.now.machine }
+    {
+        let _ = &self.store;
+    }
+
     /// How many commands the groups have that are accepted and not durable: at most 4,096.
     pub fn pending(&self) -> u64
         ensures { result ≡ pending self.now.machine }

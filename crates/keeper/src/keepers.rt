@@ -4,9 +4,10 @@ use disk::Disk;
 use rows::Sight;
 use std::alloc::Global;
 use std::marker::Model;
+use std::ops::Deref;
 
 /// The keeper of a store: the ledger of the commands accepted since it was opened, and the view that answers are given from. It is plain
-/// data: whoever has it alone may call it.
+/// data: whoever has it alone may call it. It lends its ledger, so what a ledger tells of itself it tells too.
 ///
 /// It takes what its ledger takes, 16 bytes an arc for a network of its own, which goes on by groups to the version of each task, 4 or 8 bytes a
 /// node for each of up to 16 rows, and 14 to 27 bytes a node that one search leaves to the next.
@@ -36,4 +37,18 @@ impl<D: Disk> Model for Keeper<D> {
     ghost invariant = { λ k.
         let m = with_views k.ledger.machine k.shown.version k.task in
         IsViewed m k.shown.network (k.tracked.version, k.tracked.network) };
+}
+
+impl<D: Disk> Deref for Keeper<D> {
+    type Target = Ledger<D>;
+
+    ghost use Rattle.std.specs.Prelude.{◌≡◌};
+    ghost use Rattle.keeper.specs.Keeping.{ledger_of};
+
+    ghost deref_gives = { λ keeper ledger. ledger ≡ ledger_of keeper };
+
+    fn deref(&self) -> &Ledger<D> {
+        self.ledger.shows_nothing();
+        &self.ledger
+    }
 }

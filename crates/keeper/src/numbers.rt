@@ -1,25 +1,15 @@
-// What a keeper tells of itself: numbers of its machine, and receipts. None of these takes memory.
+// What a keeper tells of itself beyond what its ledger does. None of these takes memory.
 ghost use Rattle.std.specs.Prelude.{◌≡◌, Some};
-ghost use Rattle.machine.specs.Machine.{network_at, pending};
-ghost use Rattle.machine.specs.Calls.{IsTicketOf, receipt_for};
+ghost use Rattle.machine.specs.Machine.{network_at};
 ghost use Rattle.store.specs.State.{CameTidy};
 ghost use Rattle.keeper.specs.Keeping.{Holds};
 
 use crate::keepers::Keeper;
 use disk::Disk;
-use machine::{Receipt, Ticket};
-use roadnet::{Group, Refusal};
 use rows::View;
 use std::sync::Arc;
 
 impl<D: Disk> Keeper<D> {
-    /// How many commands the groups have that are accepted and not durable: at most 4,096.
-    pub fn pending(&self) -> u64
-        ensures { result ≡ pending self.now.machine }
-    {
-        self.ledger.pending()
-    }
-
     /// The versions up to this one are durable. Where the keeper's store came tidy, over a disk that keeps the disk model, the disk holds
     /// them, whatever was called since: that is a fact of the keeper, so who shares one under a lock needs no premise.
     pub fn durable(&self) -> u64
@@ -37,13 +27,6 @@ impl<D: Disk> Keeper<D> {
         self.shown.version()
     }
 
-    /// Whether a write failed: nothing is written before the store is opened again.
-    pub fn broken(&self) -> bool
-        ensures { result ≡ self.now.machine.broken }
-    {
-        self.ledger.broken()
-    }
-
     /// The view that answers are given from: it is of the shown version and of the network at it.
     pub fn view(&self) -> &Arc<View>
         ensures version { result.now.value.version ≡ self.now.machine.shown }
@@ -51,38 +34,5 @@ impl<D: Disk> Keeper<D> {
         ensures width { result.now.value.delta ≡ self.now.width }
     {
         self.shown.view()
-    }
-
-    /// The groups accepted in this life, in order.
-    pub fn groups(&self) -> &[Group]
-        ensures { result.now ≡ self.now.machine.accepted }
-    {
-        self.ledger.groups()
-    }
-
-    /// How many pages of the journal no checkpoint has made needless.
-    pub fn unchecked(&self) -> u32
-        ensures { result ≡ self.now.machine.unchecked }
-    {
-        self.ledger.unchecked()
-    }
-
-    /// How many pages the journal has.
-    pub fn journal_pages(&self) -> u32
-        ensures { result ≡ self.now.machine.sizes.journal_pages }
-    {
-        self.ledger.journal_pages()
-    }
-
-    /// A receipt, where the ticket's group is durable: no stop takes it back. The ticket is one of this life.
-    ///
-    /// Refused is a number that is not durable: with 45 where the store is broken, else with 54. The ticket is handed back then.
-    ///
-    /// Of the first ticket of a new store it is `NotYet` before a flush, and behind it the receipt of number 1 with its group.
-    pub fn receipt(&self, ticket: Ticket) -> Result<Receipt, (Refusal, Ticket)>
-        requires { IsTicketOf self.now.machine ticket }
-        ensures { result ≡ receipt_for self.now.machine ticket }
-    {
-        self.ledger.receipt(ticket)
     }
 }

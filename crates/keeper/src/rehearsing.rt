@@ -265,8 +265,8 @@ impl<D: Stoppable> Run<D> {
     {
         let mut run = self;
         run.life.arm(call);
-        // The keeper tells what its armed disk holds.
-        let _ = run.life.keeper.durable();
+        // What the armed disk holds.
+        run.life.keeper.holds_durable();
         let written = run.life.write(writing);
         let (mut halted, came) = run.halt(picks);
         tell_write(&mut halted.replies, came, written);

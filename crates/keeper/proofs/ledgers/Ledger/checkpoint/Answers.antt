@@ -21,7 +21,7 @@ loop-init g c =
       counted = refl;
       given = refl;
       run = λ came calm.
-          let held = c.most_steps-end.ensures.held came in
+          let held = c.holds_durable.ensures came in
           no_call g.D.Disk.left g.D.Disk.moment g.D.Disk.left_since s.disk (IsDurableIn s.machine) (λ d since. g.met.D.Disk.only_now s.disk d held.0 since) held.1.each_left;
       honest = (λ h. h, λ h. h);
     }

@@ -6,6 +6,3 @@ returns-clause-enough g c = rw (← c.self.view_is) (omega (arith, c.version.ens
 
 pub returns-clause-state : goal.returns-clause-state
 returns-clause-state g c = rw (← c.self.view_is) c.self.invariant.0.state
-
-pub returns-clause-held : goal.returns-clause-held
-returns-clause-held g c = rw (← c.self.view_is) (λ came. c.self.invariant.2 came)

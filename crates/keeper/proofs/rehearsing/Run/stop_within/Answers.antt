@@ -8,8 +8,8 @@ use Rattle.roadnet.specs.declared.refusals.Refusal.TheVariants.{Device}
 use Rattle.machine.specs.Machine.{Machine, groups_to}
 use Rattle.machine.specs.Lives.{Writes}
 use Rattle.keeper.specs.Cutting.{HoldsFor}
-use Rattle.keeper.specs.Keeping.{Holds}
 use Rattle.keeper.specs.Failures.{failures_by}
+use Rattle.keeper.proofs.Lifted.{lift_held}
 use Rattle.keeper.proofs.Failing.{match_both, fails_as, ends_told, no_stop_written, stop_told}
 use Rattle.keeper.proofs.LivesInRun.{writes_later, writes_same}
 use Rattle.keeper.proofs.Cut.{came_alone, own_failure, armed_so}
@@ -75,7 +75,8 @@ returns-clause-takes g c event within names picks =
           (λ yes failed. c.tell_write.ensures.within yes failed ∙ replies) written told.is two in
           let before = c.arm.new.self.keeper.disk in
           let began = subst (λ (d : g.row.D.Denot). CameTidy g.D.Disk.honest g.D.Disk.content d) (sym c.arm.ensures.same.given) going.came in
-          let held : HoldsFor g.D.Disk before m = (c.durable.ensures.honest began, subst (λ (x : Machine). Holds (g.D.Disk.content before) (g.D.Disk.left before) x) c.arm.ensures.same.machine (c.durable.ensures.holds began)) in
+          let held : HoldsFor g.D.Disk before m =
+          subst (λ (x : Machine). HoldsFor g.D.Disk before x) c.arm.ensures.same.machine (lift_held g.D.Disk c.arm.new.self.keeper _ c.deref.ensures c.holds_durable.ensures began) in
           let was = was_armed g.D.Disk g.D.Stoppable first done self.replies.items self.history.items m run mid later c.args.call before disk state held
           (λ some. armed_so c.args.call _ _ (c.arm.ensures.armed some)) (c.write-written.ensures.later began) in
           match_both c.resume.result _ _ _ _ _ _

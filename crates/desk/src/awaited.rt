@@ -29,7 +29,7 @@ impl<N: Naming, D: Disk> Locked<Office<N, D>> {
         ensures ended { IfErr result (λ refusal. refusal ≡ closed → is_lost self.now.office.machine version ≡ false) }
         ensures causes { IfErr result IsUnserved }
     {
-        let _ = self.office.durable();
+        self.runs();
         if version <= self.office.shown() {
             return Ok(self.office.tell());
         }

@@ -1,6 +1,5 @@
 // Who waits until a version is shown, whoever's groups lead to it.
-ghost use Rattle.std.specs.Prelude.{◌≡◌, ◌≢◌, ◌≤◌, ◌<◌, ◌+◌, Err, None, length, true, false, IfOk, IfErr, IsOk};
-ghost use Rattle.std.specs.Option.{ForSome};
+ghost use Rattle.std.specs.Prelude.{◌≡◌, ◌≢◌, ◌≤◌, ◌<◌, ◌+◌, length, true, false, IfOk, IfErr};
 ghost use Rattle.roadnet.specs.declared.refusals.Refusal.TheVariants.{Closed as closed, Broken as broken};
 ghost use Rattle.desk.specs.Turns.{is_lost, IsUnserved, WereShown};
 
@@ -23,13 +22,12 @@ impl<N: Naming, D: Disk> Locked<Office<N, D>> {
         ensures origin { IfOk result (λ shown. shown.origin ≡ N.origin) }
         ensures there { IfOk result (λ shown. version ≤ N.origin.version + length shown.groups) }
         ensures state { IfOk result (λ shown. WereShown N.origin shown.groups) }
-        ensures served { version ≤ self.now.office.machine.shown → IsOk result }
         ensures refused { IfErr result (λ _. self.now.office.machine.shown < version) }
         ensures lost { IfErr result (λ refusal. refusal ≢ closed → (refusal ≡ broken) × (is_lost self.now.office.machine version ≡ true)) }
         ensures ended { IfErr result (λ refusal. refusal ≡ closed → is_lost self.now.office.machine version ≡ false) }
         ensures causes { IfErr result IsUnserved }
     {
-        let _ = self.office.durable();
+        self.runs();
         if version <= self.office.shown() {
             return Ok(self.office.tell());
         }
@@ -37,23 +35,6 @@ impl<N: Naming, D: Disk> Locked<Office<N, D>> {
             return Err(Refusal::Broken);
         }
         Err(Refusal::Closed)
-    }
-}
-
-impl<N: Naming, D: Disk> Held<Office<N, D>> {
-    /// What is shown, where that is this version or a later one.
-    pub(crate) fn shown_at(&self, version: u64) -> Result<Shown, Refusal>
-        ensures origin { IfOk result (λ shown. shown.origin ≡ N.origin) }
-        ensures there { IfOk result (λ shown. version ≤ N.origin.version + length shown.groups) }
-        ensures state { IfOk result (λ shown. WereShown N.origin shown.groups) }
-        ensures served { ForSome self.now.locked (λ locked. version ≤ locked.office.machine.shown → IsOk result) }
-        ensures causes { IfErr result IsUnserved }
-        ensures taken { self.now.locked ≡ None → result ≡ Err closed }
-    {
-        match &self.locked {
-            Some(locked) => locked.shown_at(version),
-            None => Err(Refusal::Closed),
-        }
     }
 }
 
@@ -73,6 +54,6 @@ impl<N: Naming, D: Disk + Drop, G: Gate + Drop, R: Wait + Copy> Handle<N, D, G, 
             self.shared.held.lock(&self.rt),
             |held: &mut Held<Office<N, D>>| held.is_unseen(version),
         );
-        guard.shown_at(version)
+        guard.there()?.shown_at(version)
     }
 }

@@ -105,7 +105,7 @@ impl<N: Naming, D: Disk + Drop, G: Gate + Drop, R: Wait + Copy> Handle<N, D, G, 
             self.shared.held.lock(&self.rt),
             |held: &mut Held<Office<N, D>>| held.is_unseen(number),
         );
-        guard.shown_since(ticket)
+        guard.there()?.shown_since(ticket)
     }
 
     /// A reader of the views that are shown. It has looked once, and knows the groups after which it saw the view.

@@ -3,16 +3,15 @@
 ghost use Rattle.std.specs.Prelude.{◌≡◌, ◌≤◌, Err, None, Some, false, true, IfOk, IfErr, IsOk, not, option_map, ◌&&◌};
 ghost use Rattle.std.specs.Option.{ForSome};
 ghost use Rattle.roadnet.specs.declared.refusals.Refusal.TheVariants.{Closed as closed};
-ghost use Rattle.machine.specs.Laws.{IsAt};
 ghost use Rattle.desk.specs.declared.locked.FlusherTurn.TheVariants.{End as flusher_end};
 ghost use Rattle.desk.specs.declared.locked.BuilderTurn.TheVariants.{End as builder_end};
 ghost use Rattle.desk.specs.Readings.{IsNoReader};
-ghost use Rattle.desk.specs.Turns.{flusher_turn_of, builder_turn_of, is_unsettled, is_unseen, IsUnserved, IsUntaken, WereShown};
+ghost use Rattle.desk.specs.Turns.{flusher_turn_of, builder_turn_of, is_unsettled, is_unseen, IsUnserved, IsUntaken};
 
 use crate::locked::{BuilderTurn, FlusherTurn, Locked};
 use disk::Disk;
 use office::{Naming, Office, Receipt, Ticket};
-use published::{Reader, Shown};
+use published::Reader;
 use roadnet::{Group, Refusal};
 
 /// The office under the lock, unless it was taken out.
@@ -28,6 +27,17 @@ impl<O> Held<O> {
     {
         Held {
             locked: Some(Locked::new(office)),
+        }
+    }
+
+    /// The office, with how far the desk has come to its end. Refused (61) is an office that was taken out.
+    pub(crate) fn there(&self) -> Result<&Locked<O>, Refusal>
+        ensures there { IfOk result (λ locked. self.now.locked ≡ Some locked.now) }
+        ensures taken { IfErr result (λ refusal. (refusal ≡ closed) × (self.now.locked ≡ None)) }
+    {
+        match &self.locked {
+            Some(locked) => Ok(locked),
+            None => Err(Refusal::Closed),
         }
     }
 
@@ -169,22 +179,6 @@ impl<N: Naming, D: Disk> Held<Office<N, D>> {
         match &mut self.locked {
             Some(locked) => locked.settle(ticket),
             None => Err((Refusal::Closed, ticket)),
-        }
-    }
-
-    /// What is shown, where that is the ticket's group or behind it.
-    pub(crate) fn shown_since(&self, ticket: &Ticket) -> Result<Shown, Refusal>
-        requires { ticket.now.origin ≡ N.origin }
-        ensures origin { IfOk result (λ shown. shown.origin ≡ N.origin) }
-        ensures there { IfOk result (λ shown. IsAt N.origin.version shown.groups ticket.now.ticket) }
-        ensures state { IfOk result (λ shown. WereShown N.origin shown.groups) }
-        ensures served { ForSome self.now.locked (λ locked. ticket.now.ticket.number ≤ locked.office.machine.shown → IsOk result) }
-        ensures causes { IfErr result IsUnserved }
-        ensures taken { self.now.locked ≡ None → result ≡ Err closed }
-    {
-        match &self.locked {
-            Some(locked) => locked.shown_since(ticket),
-            None => Err(Refusal::Closed),
         }
     }
 

@@ -2,6 +2,7 @@
 ghost use Rattle.std.specs.Prelude.{◌≡◌, ◌≢◌, ◌≤◌, ◌<◌, ◌*◌, Err, false, true, IfOk, IfErr, IsOk, OnOk};
 ghost use Rattle.roadnet.specs.declared.refusals.Refusal.TheVariants.{Closed as closed, Broken as broken};
 ghost use Rattle.machine.specs.Laws.{IsAt};
+ghost use Rattle.office.specs.Offices.{RunsFrom};
 ghost use Rattle.desk.specs.Turns.{is_checkpoint_due, flusher_turn_of, builder_turn_of, is_unsettled, is_lost, is_unseen, IsUnserved, IsUntaken, WereShown};
 
 use disk::Disk;
@@ -54,6 +55,13 @@ impl<O> Locked<O> {
 }
 
 impl<N: Naming, D: Disk> Locked<Office<N, D>> {
+    /// What holds each time the lock is got: the keeper's machine runs from the desk's network and version.
+    pub(crate) fn runs(&self)
+        ensures { RunsFrom N.origin self.now.office.machine }
+    {
+        let _ = self.office.durable();
+    }
+
     /// Whether as many pages of the journal are unchecked as half of them, rounded up.
     fn is_checkpoint_due(&self) -> bool
         ensures { result ≡ is_checkpoint_due self.now.office.machine }
@@ -137,7 +145,7 @@ impl<N: Naming, D: Disk> Locked<Office<N, D>> {
         if self.halted {
             return Err(Refusal::Closed);
         }
-        let _ = self.office.durable();
+        self.runs();
         self.office.submit_group(group)
     }
 
@@ -176,7 +184,7 @@ impl<N: Naming, D: Disk> Locked<Office<N, D>> {
         ensures causes { IfErr result IsUnserved }
         ensures ended { IfErr result (λ refusal. refusal ≡ closed → is_lost self.now.office.machine ticket.now.ticket.number ≡ false) }
     {
-        let _ = self.office.durable();
+        self.runs();
         match self.office.shown_since(ticket) {
             Some(shown) => Ok(shown),
             None => {

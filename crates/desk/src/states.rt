@@ -1,12 +1,10 @@
 //! How a desk stands at one moment.
-ghost use Rattle.std.specs.Prelude.{◌≡◌, Err, None, IfOk, IfErr};
-ghost use Rattle.std.specs.Option.{ForSome};
+ghost use Rattle.std.specs.Prelude.{◌≡◌, IfOk, IfErr};
 ghost use Rattle.roadnet.specs.declared.refusals.Refusal.TheVariants.{Closed as closed};
 ghost use Rattle.desk.specs.States.{StoodSo, flusher_of, working_of};
 
 use crate::gates::Gate;
 use crate::handles::Handle;
-use crate::held::Held;
 use crate::locked::Locked;
 use disk::Disk;
 use machine::MOST_OF_LIFE;
@@ -87,20 +85,6 @@ impl<N: Naming, D: Disk> Locked<Office<N, D>> {
     }
 }
 
-impl<N: Naming, D: Disk> Held<Office<N, D>> {
-    /// How the desk stands. Refused (61) is an office that was taken out.
-    fn state(&self) -> Result<DeskState, Refusal>
-        ensures stood { IfOk result (StoodSo N.origin) }
-        ensures causes { IfErr result (λ refusal. refusal ≡ closed) }
-        ensures taken { self.now.locked ≡ None → result ≡ Err closed }
-    {
-        match &self.locked {
-            Some(locked) => Ok(locked.state()),
-            None => Err(Refusal::Closed),
-        }
-    }
-}
-
 impl<N: Naming, D: Disk + Drop, G: Gate + Drop, R: Wait + Copy> Handle<N, D, G, R> {
     /// How the desk stands: all numbers are taken under its lock, at one moment. It takes no memory.
     ///
@@ -109,6 +93,7 @@ impl<N: Naming, D: Disk + Drop, G: Gate + Drop, R: Wait + Copy> Handle<N, D, G, 
         ensures stood { IfOk result (StoodSo N.origin) }
         ensures causes { IfErr result (λ refusal. refusal ≡ closed) }
     {
-        self.shared.held.lock(&self.rt).state()
+        let guard = self.shared.held.lock(&self.rt);
+        Ok(guard.there()?.state())
     }
 }

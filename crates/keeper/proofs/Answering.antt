@@ -1,6 +1,6 @@
 -- Answers from the view that is shown.
 use Rattle.std.proofs.Common.{◌≡◌, ℕ, Option, None, Some, Result, Ok, Err, refl, ◌∙◌, subst}
-use Rattle.std.specs.Prelude.{IfOk, IsOk, IsSome}
+use Rattle.std.specs.Prelude.{IsErr, IsSome}
 use Rattle.roadnet.specs.declared.refusals.OutOfMemory.{OutOfMemory}
 use Rattle.roadnet.specs.declared.refusals.Refusal.{Refusal}
 use Rattle.roadnet.specs.Net.{Net}
@@ -23,11 +23,13 @@ takes_row net (Dist s t) refused landmark lower = none_of (refusal_of net (Dist 
 takes_row net (From l t) refused landmark lower = landmark l t refl
 takes_row net (Lower s t) refused landmark lower = lower s t refl
 
--- an answer from a view of the shown version and network
-pub asked : (m : Machine) (shown : Net) (tracked : ℕ × Net) (query : Query) (version : ℕ) (network : Net) (result : Result Answer OutOfMemory) → IsViewed m shown tracked → version ≡ m.shown → network ≡ shown
-    → IfOk result (λ answer. answer.version ≡ version) → IfOk result (λ answer. IsRight network query answer.reply)
-    → (IsSome (refusal_of network query) → IsOk result) → ((l t : ℕ) → query ≡ From l t → IsOk result) → ((s t : ℕ) → query ≡ Lower s t → IsOk result)
-    → Asks m query (or_out_of_memory result) m
-asked m shown tracked query version network (Ok answer) k v n told right refused landmark lower = (told ∙ v, (shown, k.shown_is, subst (λ (x : Net). IsRight x query answer.reply) n right), refl)
-asked m shown tracked query version network (Err e) k v n told right refused landmark lower =
-    (refl, (shown, k.shown_is, subst (TakesRow query) n (takes_row network query (λ some. let never = refused some in cc) (λ l t is. let never = landmark l t is in cc) (λ s t is. let never = lower s t is in cc))), refl)
+-- a reply from a view of the shown version and network
+pub asked : (m : Machine) (shown : Net) (tracked : ℕ × Net) (query : Query) (version : ℕ) (network : Net) (answer : Answer) → IsViewed m shown tracked → version ≡ m.shown → network ≡ shown
+    → answer.version ≡ version → IsRight network query answer.reply → Asks m query (Ok answer) m
+asked m shown tracked query version network answer k v n told right = (told ∙ v, (shown, k.shown_is, subst (λ (x : Net). IsRight x query answer.reply) n right), refl)
+
+-- want of memory, which only a query that takes a row meets
+pub unanswered : (m : Machine) (shown : Net) (tracked : ℕ × Net) (query : Query) (network : Net) (result : Result Answer OutOfMemory) → IsErr result → IsViewed m shown tracked → network ≡ shown
+    → (IsSome (refusal_of network query) → ⊥) → ((l t : ℕ) → query ≡ From l t → ⊥) → ((s t : ℕ) → query ≡ Lower s t → ⊥) → Asks m query (or_out_of_memory result) m
+unanswered m shown tracked query network (Ok answer) is k n refused landmark lower = cc
+unanswered m shown tracked query network (Err e) is k n refused landmark lower = (refl, (shown, k.shown_is, subst (TakesRow query) n (takes_row network query refused landmark lower)), refl)

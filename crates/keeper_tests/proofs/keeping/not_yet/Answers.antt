@@ -8,4 +8,4 @@ pub receipt-requires : goal.receipt-requires
 receipt-requires g c = subst (λ (ledger : LedgerState _). IsTicketOf ledger.machine c.args.ticket) (sym c.deref.ensures) c.requires
 
 pub returns-in-Err : goal.returns-in-Err
-returns-in-Err g c = subst (IsTicketOf c.args.keeper.now.machine) (sym (handed_back _ c.args.ticket c.in-Err.told c.in-Err.ensures)) c.requires
+returns-in-Err g c = subst (IsTicketOf c.args.keeper.now.machine) (sym (handed_back c.deref.result.now.machine c.args.ticket c.in-Err.told c.in-Err.ensures)) c.requires

@@ -283,7 +283,7 @@ fn agreed<N: ServedNaming, D: ServedDisk, R: ServeRuntime>(
 }
 
 /// Callers settle and readers look, all at once; the desk is closed behind them. Told is how many groups there were, and whether all agrees.
-fn crowd<N: ServedNaming, D: ServedDisk, R: ServeRuntime>(
+fn crowd<N: Naming + Send + Sync + 'static, D: ServedDisk, R: ServeRuntime>(
     rt: R,
     alloc: Global,
     history: History,

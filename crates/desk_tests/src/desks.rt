@@ -169,7 +169,7 @@ fn read_once<N: ServedNaming, D: ServedDisk, R: ServeRuntime>(
 }
 
 /// A command is written and read, and the desk is closed behind it.
-fn settle_and_read<N: ServedNaming, D: ServedDisk, R: ServeRuntime>(
+fn settle_and_read<N: Naming + Send + Sync + 'static, D: ServedDisk, R: ServeRuntime>(
     rt: R,
     alloc: Global,
     history: History,

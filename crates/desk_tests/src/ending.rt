@@ -28,7 +28,7 @@ fn reader_behind_one<N: ServedNaming, D: ServedDisk, G: ServedGate, R: ServeRunt
 }
 
 /// A desk is let go with a command pending. Its reader can't look then.
-fn let_go<N: ServedNaming, D: ServedDisk, G: ServedGate, R: ServeRuntime>(
+fn let_go<N: Naming + Send + Sync + 'static, D: ServedDisk, G: ServedGate, R: ServeRuntime>(
     rt: R,
     alloc: Global,
     history: History,
@@ -73,7 +73,7 @@ fn asked<N: Naming, R: Threads>(
 type Outlived = ((u64, Reply), usize);
 
 /// A command is settled, and the desk is closed behind it. The pin answers then.
-fn close_beside<N: ServedNaming, D: ServedDisk, R: ServeRuntime>(
+fn close_beside<N: Naming + Send + Sync + 'static, D: ServedDisk, R: ServeRuntime>(
     rt: &R,
     alloc: Global,
     desk: Desk<N, D, NoGate, R>,
@@ -107,7 +107,7 @@ fn look_behind_close<N: ServedNaming, D: ServedDisk, R: ServeRuntime>(
 }
 
 /// The desk is closed while a reader holds a pin, which goes on to answer. The reader can't look again.
-fn close_beside_a_pin<N: ServedNaming, D: ServedDisk, R: ServeRuntime>(
+fn close_beside_a_pin<N: Naming + Send + Sync + 'static, D: ServedDisk, R: ServeRuntime>(
     rt: R,
     alloc: Global,
     history: History,

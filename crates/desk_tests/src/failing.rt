@@ -114,7 +114,7 @@ fn fail_and_close<N: ServedNaming, D: ServedDisk, R: ServeRuntime>(
 }
 
 /// Of two commands the first is settled, and the disk fails under the second.
-fn fail_second<N: ServedNaming, D: ServedDisk, R: ServeRuntime>(
+fn fail_second<N: Naming + Send + Sync + 'static, D: ServedDisk, R: ServeRuntime>(
     rt: R,
     alloc: Global,
     history: History,

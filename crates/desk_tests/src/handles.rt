@@ -72,7 +72,7 @@ fn close_beside_place<N: ServedNaming, D: ServedDisk, R: ServeRuntime>(
 }
 
 /// The same of a new desk.
-fn close_beside<N: ServedNaming, D: ServedDisk, R: ServeRuntime>(
+fn close_beside<N: Naming + Send + Sync + 'static, D: ServedDisk, R: ServeRuntime>(
     rt: R,
     alloc: Global,
     history: History,
@@ -201,7 +201,7 @@ fn ask_in_turn<N: ServedNaming, D: ServedDisk, R: ServeRuntime>(
 }
 
 /// The same, with a desk that is closed behind it.
-fn ask_by_handles<N: ServedNaming, D: ServedDisk, R: ServeRuntime>(
+fn ask_by_handles<N: Naming + Send + Sync + 'static, D: ServedDisk, R: ServeRuntime>(
     rt: R,
     alloc: Global,
     history: History,

@@ -216,7 +216,7 @@ fn watch_in<N: ServedNaming, D: ServedDisk, G: ServedGate, R: ServeRuntime>(
 }
 
 /// What a reader sees of a desk whose flusher and builder are held at first.
-fn watch_views<N: ServedNaming, D: ServedDisk, G: ServedGate, R: ServeRuntime>(
+fn watch_views<N: Naming + Send + Sync + 'static, D: ServedDisk, G: ServedGate, R: ServeRuntime>(
     rt: R,
     alloc: Global,
     history: History,

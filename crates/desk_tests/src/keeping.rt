@@ -38,7 +38,7 @@ fn close_behind<N: ServedNaming, D: ServedDisk, R: ServeRuntime>(
 }
 
 /// A desk settles a command, and is closed.
-fn settle_and_close<N: ServedNaming, D: ServedDisk, R: ServeRuntime>(
+fn settle_and_close<N: Naming + Send + Sync + 'static, D: ServedDisk, R: ServeRuntime>(
     rt: R,
     alloc: Global,
     history: History,

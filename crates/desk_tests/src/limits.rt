@@ -4,7 +4,7 @@ ghost use Rattle.store.specs.State.{CameTidy, is_calm};
 ghost use Rattle.desk.specs.Openings.{IsNewDesk};
 
 use crate::desks::{CLOSE, ended, refusal_of, setup, store_of_six};
-use desk::{Desk, History, Naming, NoGate, ServeRuntime, ServedDisk, ServedNaming};
+use desk::{Desk, History, Naming, NoGate, ServeRuntime, ServedDisk};
 use disk::{Disk, MemDisk};
 use roadnet::{Command, Network, Refusal};
 use std::alloc::Global;
@@ -19,7 +19,7 @@ use store::{Store, create, open};
 type Asked = (Result<(), Refusal>, usize);
 
 /// For what a desk of this store refuses a command.
-fn ask_desk<N: ServedNaming, D: ServedDisk, R: ServeRuntime>(
+fn ask_desk<N: Naming + Send + Sync + 'static, D: ServedDisk, R: ServeRuntime>(
     rt: R,
     alloc: Global,
     history: History,

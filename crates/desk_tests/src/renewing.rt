@@ -112,7 +112,7 @@ fn count_right<N: ServedNaming, D: ServedDisk, R: ServeRuntime>(
 }
 
 /// The same of a desk that is closed behind it, and how many commands it took.
-fn change_each<N: ServedNaming, D: ServedDisk, R: ServeRuntime>(
+fn change_each<N: Naming + Send + Sync + 'static, D: ServedDisk, R: ServeRuntime>(
     rt: R,
     alloc: Global,
     history: History,

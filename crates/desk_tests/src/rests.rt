@@ -176,7 +176,7 @@ fn play<N: ServedNaming, D: ServedDisk, G: ServedGate, R: ServeRuntime>(
 }
 
 /// The same of a new desk, and how many commands it had when it was closed.
-fn play_in<N: ServedNaming, D: ServedDisk, G: ServedGate, R: ServeRuntime>(
+fn play_in<N: Naming + Send + Sync + 'static, D: ServedDisk, G: ServedGate, R: ServeRuntime>(
     rt: R,
     alloc: Global,
     history: History,

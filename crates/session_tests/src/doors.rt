@@ -85,7 +85,7 @@ fn start_doors<N: ServedNaming, D: ServedDisk, R: ServeRuntime>(
 type Came = (u64, u64, usize, bool);
 
 /// The desk is closed once all have ended. Handles of it are alive then.
-fn serve_doors<N: ServedNaming, D: ServedDisk, R: ServeRuntime>(
+fn serve_doors<N: Naming + Send + Sync + 'static, D: ServedDisk, R: ServeRuntime>(
     rt: R,
     alloc: Global,
     history: History,

@@ -5,7 +5,7 @@ ghost use Rattle.desk.specs.Openings.{IsNewDesk};
 
 use crate::many::at_once;
 use crate::serving::{settled_in, store_of_six};
-use desk::{Desk, History, Naming, NoGate, ServeRuntime, ServedDisk, ServedNaming, Setup};
+use desk::{Desk, History, Naming, NoGate, ServeRuntime, ServedDisk, Setup};
 use disk::Disk;
 use fixtures::FailingReader;
 use printing::Failed;
@@ -84,7 +84,7 @@ fn came_to<N: Naming>(alloc: Global, clients: &[Failing<N>]) -> Result<Vec<Came>
 }
 
 /// What becomes of them by one desk.
-fn serve_failing<N: ServedNaming, D: ServedDisk, R: ServeRuntime>(
+fn serve_failing<N: Naming + Send + Sync + 'static, D: ServedDisk, R: ServeRuntime>(
     rt: R,
     alloc: Global,
     history: History,

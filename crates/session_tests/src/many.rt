@@ -5,7 +5,7 @@ ghost use Rattle.desk.specs.Openings.{IsNewDesk};
 
 use crate::agreeing::{Sent, are_right, drawn_lines, networks_of, text_of};
 use crate::serving::{left_by, store_of_six};
-use desk::{Closed, Desk, History, Naming, NoGate, ServeRuntime, ServedDisk, ServedNaming, Setup};
+use desk::{Closed, Desk, History, Naming, NoGate, ServeRuntime, ServedDisk, Setup};
 use disk::{Disk, MemDisk};
 use fixtures::Draws;
 use roadnet::{Group, Network, Refusal};
@@ -90,7 +90,7 @@ pub(crate) type Left<D> = (Vec<Vec<u8>>, Closed<D>);
 
 /// A session with each of these texts, all at once. The desk is closed behind them. Refused with 50 is a session that ended badly, or told what is not
 /// kept.
-pub(crate) fn sessions_at_once<N: ServedNaming, D: ServedDisk, R: ServeRuntime>(
+pub(crate) fn sessions_at_once<N: Naming + Send + Sync + 'static, D: ServedDisk, R: ServeRuntime>(
     rt: R,
     alloc: Global,
     history: History,

@@ -74,7 +74,7 @@ fn others_of<N: ServedNaming, D: ServedDisk, G: ServedGate, R: ServeRuntime>(
 
 /// A session over a store. The desk is closed behind it.
 pub(crate) fn session_over<
-    N: ServedNaming,
+    N: Naming + Send + Sync + 'static,
     D: ServedDisk,
     G: ServedGate,
     R: ServeRuntime,

@@ -357,7 +357,7 @@ fn left_of(alloc: Global, closed: Closed<Kept>) -> Result<String, Refusal> {
 }
 
 /// A desk is started, called and closed. Told are the answers, beside what it leaves.
-fn play_desk<N: ServedNaming, D: ServedDisk, G: ServedGate, R: ServeRuntime>(
+fn play_desk<N: Naming + Send + Sync + 'static, D: ServedDisk, G: ServedGate, R: ServeRuntime>(
     rt: R,
     alloc: Global,
     history: History,

@@ -3,7 +3,7 @@
 #   tools/tour.sh [PROGRAM]
 # A tour is a code block, four blanks wide, whose first line begins with `$ `. Such a line is run, and the lines after it are what it prints on both streams. Each heading
 # `## ` begins in a new folder with the examples and the program as ./roadmark. Then the words and options of help are compared with those of the man page, the clauses
-# and quotations of the pages with the sources, and the pages' links are followed.
+# and quotations of the pages with the sources, the pages' links are followed, and wrong bodies are fitted to the sources.
 set -u
 top=$(cd "$(dirname "${BASH_SOURCE[0]}")/.." && pwd)
 program=$(realpath "${1:-$top/crates/roadmark/out/roadmark}")
@@ -67,4 +67,5 @@ echo "$steps commands of the tours, $wrong with another output"
 "$top/tools/compare_clauses.py" || wrong=$((wrong + 1))
 "$top/tools/compare_quotations.py" || wrong=$((wrong + 1))
 "$top/tools/check_pages.py" || wrong=$((wrong + 1))
+"$top/tools/try_wrong_bodies.py" --fit || wrong=$((wrong + 1))
 [ "$wrong" = 0 ]

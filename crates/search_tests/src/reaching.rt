@@ -1,6 +1,7 @@
 //! Nodes within a limit, as they were worked out by hand, and beside rows.
 
-use deltastep::{Distances, NodeDistance, RowError, Workspace, plain_row, reach_in, reached_in};
+use crate::worked::{plain_of, snapshot_of};
+use deltastep::{Distances, NodeDistance, RowError, Workspace, reach_in, reached_in};
 use fixtures::{drawn, six};
 use relax::Solo;
 use roadnet::{Network, Refusal};
@@ -77,27 +78,68 @@ fn expected(
     Ok(want)
 }
 
-/// How many searches for the nodes within a limit tell others than the rows of the plain search.
-fn differences(alloc: Global, network: &Network, delta: u32) -> Result<u64, Refusal> {
-    if delta == 0 || delta > 2147483647 {
-        return Err(Refusal::NumberRange);
-    }
-    let snapshot = Snapshot::build(alloc, network, delta)?;
-    let mut workspace = Workspace::new();
+/// Whether the nodes that the source reaches within the limit are those of its row.
+fn is_reach_of_row(
+    alloc: Global,
+    snapshot: &Snapshot,
+    source: u32,
+    limit: u64,
+    row: &Distances,
+    workspace: &mut Workspace,
+) -> Result<bool, Refusal> {
+    let told = reach(alloc, snapshot, source, limit, workspace)?;
+    let want = expected(alloc, row, snapshot.nodes(), limit)?;
+    Ok(are(&told, &want))
+}
+
+/// How many searches from the source, for the nodes within a limit, tell others than its row.
+fn differences_from(
+    alloc: Global,
+    snapshot: &Snapshot,
+    source: u32,
+    row: &Distances,
+    workspace: &mut Workspace,
+) -> Result<u64, Refusal> {
     let mut count: u64 = 0;
-    for source in 1..network.nodes().min(100) + 1 {
-        let Ok(row) = plain_row(alloc, network, source) else {
-            return Err(Refusal::OutOfMemory);
-        };
-        for limit in [0, 1, 4, 5, 9, 13, 1000] {
-            let told = reach(alloc, &snapshot, source, limit, &mut workspace)?;
-            let want = expected(alloc, &row, network.nodes(), limit)?;
-            if !are(&told, &want) {
-                count = count.saturating_add(1);
-            }
+    for limit in [0, 1, 4, 5, 9, 13, 1000] {
+        if !is_reach_of_row(alloc, snapshot, source, limit, row, workspace)? {
+            count = count.saturating_add(1);
         }
     }
     Ok(count)
+}
+
+/// The same beside its row by the plain search.
+fn differences_of(
+    alloc: Global,
+    network: &Network,
+    snapshot: &Snapshot,
+    source: u32,
+    workspace: &mut Workspace,
+) -> Result<u64, Refusal> {
+    let row = plain_of(alloc, network, source)?;
+    differences_from(alloc, snapshot, source, &row, workspace)
+}
+
+/// The same of all sources of a network.
+fn differences_in(
+    alloc: Global,
+    network: &Network,
+    snapshot: &Snapshot,
+    workspace: &mut Workspace,
+) -> Result<u64, Refusal> {
+    let mut count: u64 = 0;
+    for source in 1..network.nodes().min(100) + 1 {
+        let more = differences_of(alloc, network, snapshot, source, workspace)?;
+        count = count.saturating_add(more);
+    }
+    Ok(count)
+}
+
+/// The same under this delta.
+fn differences(alloc: Global, network: &Network, delta: u32) -> Result<u64, Refusal> {
+    let snapshot = snapshot_of(alloc, network, delta)?;
+    differences_in(alloc, network, &snapshot, &mut Workspace::new())
 }
 
 /// A node, a limit, and the nodes within it.
@@ -132,19 +174,62 @@ const REACHED: [Row; 4] = [
     (1, u64::MAX, &[(1, 0)]),
 ];
 
+/// Whether a snapshot tells this row.
+fn is_reach(
+    alloc: Global,
+    snapshot: &Snapshot,
+    row: &Row,
+    workspace: &mut Workspace,
+) -> Result<bool, Refusal> {
+    let &(source, limit, want) = row;
+    let told = reach(alloc, snapshot, source, limit, workspace)?;
+    Ok(are(&told, want))
+}
+
+/// How many of these rows a snapshot tells otherwise.
+fn reach_differences(
+    alloc: Global,
+    snapshot: &Snapshot,
+    table: &[Row],
+    workspace: &mut Workspace,
+) -> Result<u64, Refusal> {
+    let mut count: u64 = 0;
+    for row in table {
+        if !is_reach(alloc, snapshot, row, workspace)? {
+            count = count.saturating_add(1);
+        }
+    }
+    Ok(count)
+}
+
 /// How many of these rows of the worked network are told otherwise.
 fn reach_otherwise(alloc: Global, delta: u32, table: &[Row]) -> Result<u64, Refusal> {
-    if delta == 0 || delta > 2147483647 {
-        return Err(Refusal::NumberRange);
-    }
-    let snapshot = Snapshot::build(alloc, &six(alloc)?, delta)?;
-    let mut workspace = Workspace::new();
+    let snapshot = snapshot_of(alloc, &six(alloc)?, delta)?;
+    reach_differences(alloc, &snapshot, table, &mut Workspace::new())
+}
+
+/// Whether a snapshot of the reversed network tells this row.
+fn is_reached(
+    alloc: Global,
+    back: &Snapshot,
+    row: &Row,
+    workspace: &mut Workspace,
+) -> Result<bool, Refusal> {
+    let &(target, limit, want) = row;
+    let told = reached(alloc, back, target, limit, workspace)?;
+    Ok(are(&told, want))
+}
+
+/// How many of these rows a snapshot of the reversed network tells otherwise.
+fn reached_differences(
+    alloc: Global,
+    back: &Snapshot,
+    table: &[Row],
+    workspace: &mut Workspace,
+) -> Result<u64, Refusal> {
     let mut count: u64 = 0;
-    for &(source, limit, want) in table {
-        if !are(
-            &reach(alloc, &snapshot, source, limit, &mut workspace)?,
-            want,
-        ) {
+    for row in table {
+        if !is_reached(alloc, back, row, workspace)? {
             count = count.saturating_add(1);
         }
     }
@@ -153,18 +238,8 @@ fn reach_otherwise(alloc: Global, delta: u32, table: &[Row]) -> Result<u64, Refu
 
 /// How many of these rows, of the worked network the other way round, are told otherwise.
 fn reached_otherwise(alloc: Global, delta: u32, table: &[Row]) -> Result<u64, Refusal> {
-    if delta == 0 || delta > 2147483647 {
-        return Err(Refusal::NumberRange);
-    }
-    let back = Snapshot::build(alloc, &six(alloc)?.reversed()?, delta)?;
-    let mut workspace = Workspace::new();
-    let mut count: u64 = 0;
-    for &(target, limit, want) in table {
-        if !are(&reached(alloc, &back, target, limit, &mut workspace)?, want) {
-            count = count.saturating_add(1);
-        }
-    }
-    Ok(count)
+    let back = snapshot_of(alloc, &six(alloc)?.reversed()?, delta)?;
+    reached_differences(alloc, &back, table, &mut Workspace::new())
 }
 
 #[test]

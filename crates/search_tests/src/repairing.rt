@@ -2,7 +2,9 @@
 
 use crate::searching::agree;
 use crate::worked::plain_of;
-use deltastep::{Workspace, back_of, changed_nodes, row, row_after, row_after_near};
+use deltastep::{
+    Distances, RowError, Workspace, back_of, changed_nodes, row, row_after, row_after_near,
+};
 use fixtures::{Draws, arc, network};
 use relax::Solo;
 use roadnet::{Command, Network, Refusal};
@@ -11,6 +13,25 @@ use std::alloc::{AllocError, Global};
 
 /// So many nodes has a network whose rows are repaired: an eighth of them may lose their distance before a row is made anew.
 const NODES: u32 = 240;
+
+/// Whether a row of a node, where there was memory for it, is the plain one.
+fn is_plain(
+    alloc: Global,
+    network: &Network,
+    source: u32,
+    row: Result<Distances, RowError>,
+) -> Result<bool, Refusal> {
+    let Ok(row) = row else {
+        return Err(Refusal::OutOfMemory);
+    };
+    let plain = plain_of(alloc, network, source)?;
+    Ok(agree(&row, &plain, NODES))
+}
+
+/// Whether both are so.
+fn are_both(one: Result<bool, Refusal>, other: Result<bool, Refusal>) -> Result<bool, Refusal> {
+    Ok(one? && other?)
+}
 
 /// Whether the row of a node in a network after changes, made out of its row before them, is the plain one: by a pass over all legs, and by way of
 /// the arcs that lead to what was lost.
@@ -39,16 +60,21 @@ fn is_repaired(
     let Ok(back) = back_of(alloc, after) else {
         return Err(Refusal::OutOfMemory);
     };
-    let Ok(passed) = row_after(alloc, &newer, source, &older, &old, &changed, &Solo) else {
-        return Err(Refusal::OutOfMemory);
-    };
-    let Ok(near) = row_after_near(
-        alloc, &newer, source, &older, &old, &changed, &back, &Solo, workspace,
-    ) else {
-        return Err(Refusal::OutOfMemory);
-    };
-    let plain = plain_of(alloc, after, source)?;
-    Ok(agree(&passed, &plain, NODES) && agree(&near, &plain, NODES))
+    let passed = is_plain(
+        alloc,
+        after,
+        source,
+        row_after(alloc, &newer, source, &older, &old, &changed, &Solo),
+    );
+    let near = is_plain(
+        alloc,
+        after,
+        source,
+        row_after_near(
+            alloc, &newer, source, &older, &old, &changed, &back, &Solo, workspace,
+        ),
+    );
+    are_both(passed, near)
 }
 
 /// Nodes in a row, each with an arc to the next one, and as many arcs that are drawn: of lengths 0 to 9, some of them closed, parallel or loops. No
@@ -101,18 +127,43 @@ fn change_some(network: &mut Network, draws: &mut Draws, count: u64) -> Result<(
     Ok(())
 }
 
-/// Whether the rows of three nodes stay plain after some changes of a drawn network and some more.
+/// How many changes come, and then the node whose row is repaired, and the delta.
+const STEPS: [(u64, u32, u32); 4] = [(1, 2, 1), (2, 2, 4), (5, 120, 4), (40, 1, 2147483647)];
+
+/// Whether the row of a node is repaired after so many changes of a network that are drawn.
+fn stays_plain(
+    alloc: Global,
+    network: &mut Network,
+    draws: &mut Draws,
+    step: (u64, u32, u32),
+    workspace: &mut Workspace,
+) -> Result<bool, Refusal> {
+    let (count, source, delta) = step;
+    let before = network.copy()?;
+    change_some(network, draws, count)?;
+    is_repaired(alloc, &before, network, source, delta, workspace)
+}
+
+/// Whether the rows of three nodes stay plain after some changes of a network that are drawn and some more.
+fn stay_plain_in(
+    alloc: Global,
+    network: &mut Network,
+    draws: &mut Draws,
+    workspace: &mut Workspace,
+) -> Result<bool, Refusal> {
+    for step in STEPS {
+        if !stays_plain(alloc, network, draws, step, workspace)? {
+            return Ok(false);
+        }
+    }
+    Ok(true)
+}
+
+/// The same of a network that is drawn itself.
 fn stay_plain(alloc: Global, seed: u64) -> Result<bool, Refusal> {
     let mut draws = Draws::new(seed);
-    let mut workspace = Workspace::new();
     let mut network = long_drawn(alloc, &mut draws)?;
-    let mut same = true;
-    for (count, source, delta) in [(1, 2, 1), (2, 2, 4), (5, 120, 4), (40, 1, 2147483647)] {
-        let before = network.copy()?;
-        change_some(&mut network, &mut draws, count)?;
-        same = same && is_repaired(alloc, &before, &network, source, delta, &mut workspace)?;
-    }
-    Ok(same)
+    stay_plain_in(alloc, &mut network, &mut draws, &mut Workspace::new())
 }
 
 #[test]
@@ -123,34 +174,64 @@ fn repaired_rows_are_plain(rt: HostRuntime) -> Result<(), Refusal> {
     Ok(())
 }
 
-/// The command that gives an arc another length.
-fn set(arc: u64, length: u64) -> Command {
-    Command::Set { arc, length }
+/// Three nodes in a round of zeros, to which arc 1 leads, and a fifth one beside them. There is room for an arc more.
+fn round_of_zeros(alloc: Global) -> Result<Network, Refusal> {
+    let table = [(1, 2, 5), (2, 3, 0), (3, 4, 0), (4, 2, 0), (1, 5, 9)];
+    match network(alloc, NODES, &table, &[])?.with_room(6) {
+        Ok(network) => Ok(network),
+        Err((refusal, _)) => Err(refusal),
+    }
 }
 
-/// Three nodes in a round of zeros, to which arc 1 leads, lose their walk when it is closed, and get another one by an arc that is laid. Then an arc
-/// on no least walk changes, which leaves the row as it is, one on some, and one that opens a shorter way.
-#[test]
-fn a_round_of_zeros_keeps_nothing(rt: HostRuntime) -> Result<(), Refusal> {
-    let alloc = rt.alloc();
-    let table = [(1, 2, 5), (2, 3, 0), (3, 4, 0), (4, 2, 0), (1, 5, 9)];
-    let mut workspace = Workspace::new();
-    let Ok(mut now) = network(alloc, NODES, &table, &[])?.with_room(6) else {
-        return Err(Refusal::NoRoom);
-    };
-    let lay = Command::Lay {
+/// The round loses its walk when arc 1 is closed, and gets another one by an arc that is laid. Then an arc on no least walk changes, which leaves the
+/// row as it is, one on some, and one that opens a shorter way.
+const CHANGES: [Command; 6] = [
+    Command::Close { arc: 1 },
+    Command::Lay {
         tail: 5,
         head: 3,
         length: 1,
-    };
-    let (close, reopen) = (Command::Close { arc: 1 }, Command::Reopen { arc: 1 });
-    for command in [close, lay, reopen, set(6, 2), set(1, 20), set(1, 3)] {
-        let before = now.copy()?;
-        now.apply(command)?;
-        assert!(rt;
-            is_repaired(alloc, &before, &now, 1, 4, &mut workspace)?,
-            "{command:?}"
-        );
+    },
+    Command::Reopen { arc: 1 },
+    Command::Set { arc: 6, length: 2 },
+    Command::Set { arc: 1, length: 20 },
+    Command::Set { arc: 1, length: 3 },
+];
+
+/// Whether the row of node 1 is repaired after a change of the network.
+fn is_repaired_behind(
+    alloc: Global,
+    network: &mut Network,
+    command: Command,
+    workspace: &mut Workspace,
+) -> Result<bool, Refusal> {
+    let before = network.copy()?;
+    network.apply(command)?;
+    is_repaired(alloc, &before, network, 1, 4, workspace)
+}
+
+/// The first of the changes of a network after which the row of node 1 is not repaired.
+fn first_kept_in(
+    alloc: Global,
+    network: &mut Network,
+    workspace: &mut Workspace,
+) -> Result<Option<Command>, Refusal> {
+    for command in CHANGES {
+        if !is_repaired_behind(alloc, network, command, workspace)? {
+            return Ok(Some(command));
+        }
     }
+    Ok(None)
+}
+
+/// The same of the round of zeros.
+fn first_kept(alloc: Global) -> Result<Option<Command>, Refusal> {
+    let mut network = round_of_zeros(alloc)?;
+    first_kept_in(alloc, &mut network, &mut Workspace::new())
+}
+
+#[test]
+fn a_round_of_zeros_keeps_nothing(rt: HostRuntime) -> Result<(), Refusal> {
+    assert_eq!(rt; first_kept(rt.alloc())?, None);
     Ok(())
 }

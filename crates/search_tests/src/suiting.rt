@@ -99,14 +99,33 @@ fn ring(alloc: Global, delta: u32, size: u32) -> Result<RingBuckets, Refusal>
     }
 }
 
+/// Whether ordered buckets under delta 5 are taken from so.
+fn ordered_takes_as_told(alloc: Global, snapshot: &Snapshot) -> Result<bool, Refusal> {
+    takes_as_told(alloc, snapshot, OrderedBuckets::new(alloc, 5))
+}
+
+/// Whether a ring of five under delta 5 is taken from so.
+fn ring_takes_as_told(alloc: Global, snapshot: &Snapshot) -> Result<bool, Refusal> {
+    takes_as_told(alloc, snapshot, ring(alloc, 5, 5)?)
+}
+
+/// Whether ordered buckets suit under delta 4.
+fn ordered_suits(alloc: Global, snapshot: &Snapshot) -> bool {
+    suits(&OrderedBuckets::new(alloc, 4), snapshot)
+}
+
+/// Whether a ring of four suits under delta 5.
+fn ring_suits(alloc: Global, snapshot: &Snapshot) -> Result<bool, Refusal> {
+    Ok(suits(&ring(alloc, 5, 4)?, snapshot))
+}
+
 #[test]
 fn which_queues_suit(rt: HostRuntime) -> Result<(), Refusal> {
-    let alloc = rt.alloc();
-    let snapshot = Snapshot::build(alloc, &six(alloc)?, 5)?;
-    assert!(rt; takes_as_told(alloc, &snapshot, OrderedBuckets::new(alloc, 5))?);
-    assert!(rt; takes_as_told(alloc, &snapshot, ring(alloc, 5, 5)?)?);
-    assert!(rt; !suits(&OrderedBuckets::new(alloc, 4), &snapshot));
-    assert!(rt; !suits(&ring(alloc, 5, 4)?, &snapshot));
+    let snapshot = Snapshot::build(rt.alloc(), &six(rt.alloc())?, 5)?;
+    assert!(rt; ordered_takes_as_told(rt.alloc(), &snapshot)?);
+    assert!(rt; ring_takes_as_told(rt.alloc(), &snapshot)?);
+    assert!(rt; !ordered_suits(rt.alloc(), &snapshot));
+    assert!(rt; !ring_suits(rt.alloc(), &snapshot)?);
     Ok(())
 }
 

@@ -21,6 +21,14 @@ pub fn plain_of(alloc: Global, network: &Network, source: u32) -> Result<Distanc
     }
 }
 
+/// The snapshot of a network under this delta.
+pub fn snapshot_of(alloc: Global, network: &Network, delta: u32) -> Result<Snapshot, Refusal> {
+    if delta == 0 || delta > 2147483647 {
+        return Err(Refusal::NumberRange);
+    }
+    Ok(Snapshot::build(alloc, network, delta)?)
+}
+
 /// The row of a node under this delta, by this team.
 pub fn row_by<T: Team>(
     alloc: Global,
@@ -29,10 +37,7 @@ pub fn row_by<T: Team>(
     delta: u32,
     team: &T,
 ) -> Result<Distances, Refusal> {
-    if delta == 0 || delta > 2147483647 {
-        return Err(Refusal::NumberRange);
-    }
-    let snapshot = Snapshot::build(alloc, network, delta)?;
+    let snapshot = snapshot_of(alloc, network, delta)?;
     if !snapshot.has_node(source) {
         return Err(Refusal::NoSuchNode);
     }

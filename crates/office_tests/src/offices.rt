@@ -5,6 +5,7 @@ ghost use Rattle.machine.specs.Laws.{IsAt};
 use crate::networks::one_arc;
 use disk::{Disk, MemDisk};
 use history::{Claim, History, Settled};
+use keeper::Task;
 use office::{Closed, Naming, Office};
 use published::{Reader, Shown};
 use relax::Solo;
@@ -21,19 +22,38 @@ const CLOSE: Command = Command::Close { arc: 1 };
 
 const MARK: Command = Command::Mark { node: 2 };
 
+/// A share of a view.
+fn shared(alloc: Global, view: View) -> Result<Arc<View>, Refusal>
+    ensures { IfOk result (λ shared. shared.value ≡ view) }
+{
+    match Arc::new(alloc, view) {
+        Ok(shared) => Ok(shared),
+        Err(_) => Err(Refusal::OutOfMemory),
+    }
+}
+
 /// A view of a network at a version.
 pub(crate) fn view_of(alloc: Global, version: u64, network: &Network) -> Result<Arc<View>, Refusal>
     ensures { IfOk result (λ view. (view.value.network ≡ network.now) × (view.value.version ≡ version)) }
 {
-    let Ok(network) = network.copy() else {
-        return Err(Refusal::OutOfMemory);
-    };
-    let Ok(view) = View::build(alloc, version, network, None, &Solo) else {
-        return Err(Refusal::OutOfMemory);
-    };
-    match Arc::new(alloc, view) {
-        Ok(view) => Ok(view),
-        Err(_) => Err(Refusal::OutOfMemory),
+    let copy = network.copy()?;
+    let view = View::build(alloc, version, copy, None, &Solo)?;
+    shared(alloc, view)
+}
+
+/// A receipt for a ticket whose command is durable.
+fn receipt<N: Naming, D: Disk + Drop, R: Wait>(
+    rt: &R,
+    lock: &Mutex<Office<N, D>>,
+    ticket: Claim,
+) -> Result<Settled, Refusal>
+    requires { ticket.origin ≡ N.origin }
+    ensures { IfOk result (λ receipt. receipt ≡ ticket) }
+{
+    let answer = lock.lock(rt).receipt(ticket);
+    match answer {
+        Ok(receipt) => Ok(receipt),
+        Err((refusal, _)) => Err(refusal),
     }
 }
 
@@ -46,9 +66,51 @@ fn settle<N: Naming, D: Disk + Drop, R: Wait>(
     requires { ticket.origin ≡ N.origin }
     ensures { IfOk result (λ receipt. receipt ≡ ticket) }
 {
-    lock.lock(rt).flush()?;
-    match lock.lock(rt).receipt(ticket) {
-        Ok(receipt) => Ok(receipt),
+    let flushed = lock.lock(rt).flush();
+    flushed?;
+    receipt(rt, lock, ticket)
+}
+
+/// The task that is to be taken.
+fn task_of<N: Naming, D: Disk + Drop, R: Wait>(
+    rt: &R,
+    lock: &Mutex<Office<N, D>>,
+) -> Result<Task, Refusal> {
+    let taken = lock.lock(rt).take_task();
+    match taken {
+        Ok(Some(task)) => Ok(task),
+        Ok(None) => Err(Refusal::NoTask),
+        Err(_) => Err(Refusal::OutOfMemory),
+    }
+}
+
+/// The view of the durable version.
+fn view_of_task<N: Naming, D: Disk + Drop, R: Wait>(
+    rt: &R,
+    alloc: Global,
+    lock: &Mutex<Office<N, D>>,
+) -> Result<Arc<View>, Refusal> {
+    let task = task_of(rt, lock)?;
+    view_of(alloc, task.version, &task.network)
+}
+
+/// What is told where a view is offered; the view is handed back where it is not shown.
+fn offer<N: Naming, D: Disk + Drop, R: Wait>(
+    rt: &R,
+    lock: &Mutex<Office<N, D>>,
+    view: Arc<View>,
+) -> Result<u64, (Refusal, Arc<View>)> {
+    lock.lock(rt).publish(rt, view)
+}
+
+/// What is told where a view is offered for the last time.
+fn offer_again<N: Naming, D: Disk + Drop, R: Wait>(
+    rt: &R,
+    lock: &Mutex<Office<N, D>>,
+    view: Arc<View>,
+) -> Result<u64, Refusal> {
+    match offer(rt, lock, view) {
+        Ok(shown) => Ok(shown),
         Err((refusal, _)) => Err(refusal),
     }
 }
@@ -59,18 +121,10 @@ fn show<N: Naming, D: Disk + Drop, R: Wait>(
     alloc: Global,
     lock: &Mutex<Office<N, D>>,
 ) -> Result<u64, Refusal> {
-    let task = match lock.lock(rt).take_task() {
-        Ok(Some(task)) => task,
-        Ok(None) => return Err(Refusal::NoTask),
-        Err(_) => return Err(Refusal::OutOfMemory),
-    };
-    let view = view_of(alloc, task.version, &task.network)?;
-    let mut answer = lock.lock(rt).publish(rt, view);
-    if let Err((Refusal::OutOfMemory, view)) = answer {
-        answer = lock.lock(rt).publish(rt, view);
-    }
-    match answer {
+    let view = view_of_task(rt, alloc, lock)?;
+    match offer(rt, lock, view) {
         Ok(shown) => Ok(shown),
+        Err((Refusal::OutOfMemory, view)) => offer_again(rt, lock, view),
         Err((refusal, _)) => Err(refusal),
     }
 }
@@ -84,7 +138,8 @@ fn shown_since<N: Naming, D: Disk + Drop, R: Wait>(
     requires { ticket.now.origin ≡ N.origin }
     ensures { IfOk result (λ shown. (shown.origin ≡ N.origin) × IsAt N.origin.version shown.groups ticket.now.ticket) }
 {
-    match lock.lock(rt).shown_since(ticket) {
+    let since = lock.lock(rt).shown_since(ticket);
+    match since {
         Some(shown) => Ok(shown),
         None => Err(Refusal::NotYet),
     }

@@ -4,13 +4,12 @@ ghost use Rattle.published.specs.Rules.{Follows};
 ghost use Rattle.published.specs.Showing.{Showing};
 
 use crate::networks::one_arc;
+use crate::offices::view_of;
 use history::{Front, History};
 use published::{Published, Publisher, Reader};
-use relax::Solo;
-use roadnet::{Command, Group, Network, OutOfMemory, Refusal};
-use rows::View;
+use roadnet::{Command, Group, Network, Refusal};
 use std::alloc::Global;
-use std::sync::{Arc, Wait};
+use std::sync::Wait;
 
 const CLOSE: Command = Command::Close { arc: 1 };
 
@@ -22,17 +21,13 @@ fn shown_after(
     version: u64,
     network: &Network,
     groups: Front,
-) -> Result<Published, OutOfMemory>
+) -> Result<Published, Refusal>
     requires network { after groups.origin.base groups.groups ≡ Some network.now }
     requires version { version ≡ groups.origin.version + length groups.groups }
     ensures { IfOk result (λ shown. shown.shown ≡ groups) }
 {
-    let copy = network.copy()?;
-    let view = View::build(alloc, version, copy, None, &Solo)?;
-    match Arc::new(alloc, view) {
-        Ok(view) => Ok(Published::new(view, groups)),
-        Err(_) => Err(OutOfMemory),
-    }
+    let view = view_of(alloc, version, network)?;
+    Ok(Published::new(view, groups))
 }
 
 /// Writes a command that the network takes, as a group of one. Then these are the desk's groups and its network.
@@ -92,6 +87,21 @@ fn shows<R: Wait>(rt: &R, publisher: &mut Publisher, next: Published) -> bool
     publisher.switch(rt, next).is_ok()
 }
 
+/// What a reader sees behind a switch of which it learned.
+fn look_behind<R: Wait>(
+    rt: &R,
+    publisher: &mut Publisher,
+    reader: &mut Reader,
+    next: Published,
+) -> Result<u64, Refusal>
+    requires next { Follows (Some publisher.old.shown) next.shown }
+    requires reader { reader.old.origin ≡ publisher.old.shown.origin }
+{
+    publisher.switch(rt, next)?;
+    reader.learn(&publisher.tell());
+    seen(reader)
+}
+
 /// What a reader sees before a switch, and behind it when it has learned of it.
 fn learn_and_look<R: Wait>(
     rt: &R,
@@ -102,9 +112,7 @@ fn learn_and_look<R: Wait>(
 {
     let mut reader = publisher.reader()?;
     let before = seen(&mut reader)?;
-    publisher.switch(rt, next)?;
-    reader.learn(&publisher.tell());
-    Ok((before, seen(&mut reader)?))
+    Ok((before, look_behind(rt, publisher, &mut reader, next)?))
 }
 
 #[test]
@@ -117,6 +125,21 @@ fn looks_behind_what_it_learned(rt: HostRuntime) -> Result<(), Refusal> {
 }
 
 /// What two readers see behind a switch of which the first learned, and the second did not.
+fn both_behind<R: Wait>(
+    rt: &R,
+    publisher: &mut Publisher,
+    told: &mut Reader,
+    other: &mut Reader,
+    next: Published,
+) -> Result<(u64, u64), Refusal>
+    requires next { Follows (Some publisher.old.shown) next.shown }
+    requires told { told.old.origin ≡ publisher.old.shown.origin }
+{
+    let learned = look_behind(rt, publisher, told, next)?;
+    Ok((learned, seen(other)?))
+}
+
+/// The same of two new readers.
 fn look_beside<R: Wait>(
     rt: &R,
     publisher: &mut Publisher,
@@ -126,9 +149,7 @@ fn look_beside<R: Wait>(
 {
     let mut told = publisher.reader()?;
     let mut other = publisher.reader()?;
-    publisher.switch(rt, next)?;
-    told.learn(&publisher.tell());
-    Ok((seen(&mut told)?, seen(&mut other)?))
+    both_behind(rt, publisher, &mut told, &mut other, next)
 }
 
 #[test]

@@ -13,12 +13,20 @@ use std::sync::Wait;
 use std::test::Fail;
 use store::{Store, create};
 
+/// A command is made durable.
+fn make_durable<N: Naming, D: Disk>(
+    office: &mut Office<N, D>,
+    command: Command,
+) -> Result<u64, Refusal> {
+    let _ = office.submit_group(Group::one(command))?;
+    office.flush()
+}
+
 /// A command is made durable, and the work that follows is taken.
 fn take<N: Naming, D: Disk>(office: &mut Office<N, D>, command: Command) -> Result<Work, Refusal>
     ensures { IfOk result (λ work. work.origin ≡ N.origin) }
 {
-    office.submit_group(Group::one(command))?;
-    office.flush()?;
+    make_durable(office, command)?;
     match office.take_work() {
         Ok(Some(work)) => Ok(work),
         Ok(None) => Err(Refusal::NoTask),
@@ -77,6 +85,28 @@ fn shows_first<N: Naming, D: Disk, R: Wait>(
     Ok(([once, twice], older))
 }
 
+/// What the shows of two views tell, one behind the other.
+fn show_both<N: Naming, D: Disk, R: Wait>(
+    rt: &R,
+    office: &mut Office<N, D>,
+    older: Built,
+    newer: Built,
+) -> [Result<u64, Refusal>; 2]
+    requires older { older.shown.origin ≡ N.origin }
+    requires newer { newer.shown.origin ≡ N.origin }
+{
+    let before = show(rt, office, older);
+    [before, show(rt, office, newer)]
+}
+
+/// Whether the arc is closed and has its new length.
+fn is_closed_and_set(network: &Network) -> bool {
+    match network.arc(1) {
+        Some(arc) => !arc.opened && arc.length == 9,
+        None => false,
+    }
+}
+
 /// What is told behind the second work: of what was built of the first, and of the second work's view. The arc is closed and has its new length in the second
 /// work's network.
 fn shows_second<N: Naming, D: Disk, R: Wait>(
@@ -89,11 +119,11 @@ fn shows_second<N: Naming, D: Disk, R: Wait>(
 {
     let second = take(office, Command::Set { arc: 1, length: 9 })?;
     let (built, network) = build(alloc, &second)?;
-    let before = show(rt, office, older);
-    let last = show(rt, office, built);
-    match network.arc(1) {
-        Some(arc) if !arc.opened && arc.length == 9 => Ok([before, last]),
-        _ => Err(Refusal::NoSuchArc),
+    let told = show_both(rt, office, older, built);
+    if is_closed_and_set(&network) {
+        Ok(told)
+    } else {
+        Err(Refusal::NoSuchArc)
     }
 }
 

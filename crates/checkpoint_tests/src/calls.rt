@@ -452,8 +452,10 @@ const ROWS: [Row; 26] = [
 // Opens the store on this disk, does these works and closes it.
 fn worked_on(alloc: Global, disk: MemDisk, works: &[Work]) -> Result<MemDisk, Refusal> {
     let mut store = opened(alloc, disk)?;
-    work_on(&mut store, works)?;
-    Ok(store.close())
+    let worked = work_on(&mut store, works);
+    let disk = store.close();
+    worked?;
+    Ok(disk)
 }
 
 // The disk of a new store of a row, once it was worked on. All of it is synced: a stop changes nothing, and the record begins anew.

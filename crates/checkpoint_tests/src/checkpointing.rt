@@ -117,25 +117,44 @@ pub const LAY: Command = Command::Lay {
     length: 7,
 };
 
+// Commits a group that lays an arc and sets the length of another.
+fn lay_and_set(alloc: Global, store: &mut Store<MemDisk>) -> Result<u64, Refusal> {
+    let two = Vec::from_slice(alloc, &[LAY, set(1, 2)])?;
+    store.commit_groups(&[Group::new(two)?])
+}
+
+// Two commits, with which a journal of two pages is full.
+fn fill(alloc: Global, store: &mut Store<MemDisk>, room: u64) -> Result<u64, Refusal> {
+    store.commit(&[set(1, 1)])?;
+    if room == 8 {
+        store.commit(&[set(1, 2)])
+    } else {
+        lay_and_set(alloc, store)
+    }
+}
+
 // A journal of two pages that is full, of a store with room for so many arcs. Where there is room for one more, the second version lays it.
 pub fn full(alloc: Global, room: u64) -> Result<MemDisk, Refusal> {
     let mut store = opened(alloc, roomy_disk(alloc, room, 2)?)?;
-    store.commit(&[set(1, 1)])?;
-    if room == 8 {
-        store.commit(&[set(1, 2)])?;
-    } else {
-        let two = Vec::from_slice(alloc, &[LAY, set(1, 2)])?;
-        store.commit_groups(&[Group::new(two)?])?;
-    }
-    Ok(store.close())
+    let filled = fill(alloc, &mut store, room);
+    let disk = store.close();
+    filled?;
+    Ok(disk)
+}
+
+// A checkpoint, and one commit more.
+fn reuse(store: &mut Store<MemDisk>) -> Result<u64, Refusal> {
+    store.checkpoint()?;
+    store.commit(&[set(1, 3)])
 }
 
 // The same after a checkpoint, and one commit more.
 pub fn reused(alloc: Global, room: u64) -> Result<MemDisk, Refusal> {
     let mut store = opened(alloc, full(alloc, room)?)?;
-    store.checkpoint()?;
-    store.commit(&[set(1, 3)])?;
-    Ok(store.close())
+    let done = reuse(&mut store);
+    let disk = store.close();
+    done?;
+    Ok(disk)
 }
 
 const FULL: [Row; 4] = [
@@ -321,6 +340,18 @@ const CUT_CHECKPOINT: [Row; 2] = [
     ),
 ];
 
+// Whether a checkpoint that is cut in its gate's write, and stopped with this pick, leaves these pages; and the disk.
+fn gate_cut(
+    alloc: Global,
+    disk: MemDisk,
+    pick: Pick,
+    pages: &[PageRow],
+) -> Result<(bool, MemDisk), Refusal> {
+    let (other, mut disk) = cut(alloc, disk, 4, &CUT_CHECKPOINT, pick)?;
+    let page = first_other_page(&mut disk, pages)?;
+    Ok((other.is_none() && page.is_none(), disk))
+}
+
 // The pages of slot B, where the gate's write is missing, and where it is made.
 const SHUT: [PageRow; 1] = [(4, &HEAD_2, 0)];
 
@@ -336,11 +367,9 @@ fn found_seventh(alloc: Global, disk: MemDisk) -> Result<(Told, Option<RoadArc>)
 fn stop_within_checkpoint(rt: HostRuntime) -> Result<(), Refusal> {
     let alloc = rt.alloc();
     let (closed, disk) = lived(alloc, six_disk(alloc, 64)?, &CLOSED)?;
-    let (once, mut disk) = cut(alloc, disk, 4, &CUT_CHECKPOINT, Pick::Old)?;
-    assert_eq!(rt; first_other_page(&mut disk, &SHUT)?, None);
-    let (again, mut disk) = cut(alloc, disk, 4, &CUT_CHECKPOINT, Pick::New)?;
-    assert_eq!(rt; first_other_page(&mut disk, &OPENED)?, None);
-    assert!(rt; (closed, once, again) == (None, None, None));
+    let (once, disk) = gate_cut(alloc, disk, Pick::Old, &SHUT)?;
+    let (again, disk) = gate_cut(alloc, disk, Pick::New, &OPENED)?;
+    assert!(rt; closed.is_none() && once && again);
     let seventh = RoadArc {
         opened: false,
         ..arc(5, 2, 0)

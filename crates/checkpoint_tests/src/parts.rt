@@ -61,8 +61,10 @@ fn close<D: Disk>(alloc: Global, store: &mut Store<D>, arc: u64) -> Result<u64, 
 // The same disk with a journal of two pages, after arc 1 was closed.
 pub fn one_closed(alloc: Global, plan: &Plan) -> Result<MemDisk, Refusal> {
     let mut store = opened(alloc, new_disk(alloc, plan, 2)?)?;
-    close(alloc, &mut store, 1)?;
-    Ok(store.close())
+    let closed = close(alloc, &mut store, 1);
+    let disk = store.close();
+    closed?;
+    Ok(disk)
 }
 
 // Whether just the first arcs, so many as the version, are closed, and as many are laid where there is room.
@@ -251,8 +253,10 @@ fn ran<D: Disk>(alloc: Global, store: &mut Store<D>, plan: &Plan) -> Result<(boo
 // Cuts the run at the k-th write or sync, and stops. Answers whether it was cut, which version was told, and what the stop leaves.
 fn cut_at(alloc: Global, plan: &Plan, pick: Pick, k: u64) -> Result<(bool, u64, MemDisk), Refusal> {
     let mut store = fused(alloc, new_disk(alloc, plan, 2)?, k)?;
-    let (cut, told) = ran(alloc, &mut store, plan)?;
-    Ok((cut, told, stopped(store, &[pick])))
+    let ran = ran(alloc, &mut store, plan);
+    let disk = stopped(store, &[pick]);
+    let (cut, told) = ran?;
+    Ok((cut, told, disk))
 }
 
 // Whether the store on this disk has a version that was told, or may have been, and is right, also behind a checkpoint and a commit; and the
@@ -279,12 +283,23 @@ fn stands_on(alloc: Global, plan: &Plan, disk: MemDisk, version: u64) -> Result<
     Ok(stands(&store, plan, version, 1))
 }
 
+// The same, and whether it stands so once it is opened again.
+fn goes_on_and_stands(
+    alloc: Global,
+    plan: &Plan,
+    disk: MemDisk,
+    (cut, told): (bool, u64),
+) -> Result<bool, Refusal> {
+    let (right, next, disk) = goes_on(alloc, plan, disk, (cut, told))?;
+    let stands = stands_on(alloc, plan, disk, next)?;
+    Ok(right && stands)
+}
+
 // Cuts the run at the k-th write or sync, stops, and opens again. Answers whether all was told rightly, and whether the run was cut.
 fn stopped_at(alloc: Global, plan: &Plan, pick: Pick, k: u64) -> Result<(bool, bool), Refusal> {
     let (cut, told, disk) = cut_at(alloc, plan, pick, k)?;
-    let (right, next, disk) = goes_on(alloc, plan, disk, (cut, told))?;
-    let stands = stands_on(alloc, plan, disk, next)?;
-    Ok((right && stands, cut))
+    let right = goes_on_and_stands(alloc, plan, disk, (cut, told))?;
+    Ok((right, cut))
 }
 
 // The first of 23 calls at which a run is not stopped rightly, if there is one; the 24th is not made.

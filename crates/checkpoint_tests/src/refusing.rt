@@ -39,8 +39,10 @@ fn disk_for(alloc: Global, work: Work) -> Result<MemDisk, Refusal> {
     match work {
         Work::Commit => {
             let mut store = opened(alloc, full(alloc, 8)?)?;
-            store.checkpoint()?;
-            Ok(store.close())
+            let checked = store.checkpoint();
+            let disk = store.close();
+            checked?;
+            Ok(disk)
         }
         Work::Checkpoint => reused(alloc, 9),
         Work::Parts(plan) => one_closed(alloc, &PLANS[plan % 2]),
@@ -90,8 +92,9 @@ fn tried(alloc: Global, work: Work, k: u64) -> Result<(Option<Refusal>, MemDisk)
     match open(alloc, FailOnce::new(disk_for(alloc, work)?, k)) {
         Ok(store) => {
             let mut store = store;
-            let refusal = refusal_of(&mut store, work)?;
-            Ok((refusal, store.close().into_inner()))
+            let refusal = refusal_of(&mut store, work);
+            let disk = store.close().into_inner();
+            Ok((refusal?, disk))
         }
         Err((refusal, disk)) => Ok((Some(refusal), disk.into_inner())),
     }
@@ -104,10 +107,14 @@ fn tried_again(alloc: Global, work: Work, disk: MemDisk) -> Result<MemDisk, Refu
         Work::Commit => store.version() == 3,
         _ => false,
     };
-    if !is_there {
-        work_on(&mut store, work)?;
-    }
-    Ok(store.close())
+    let worked = if is_there {
+        Ok(())
+    } else {
+        work_on(&mut store, work)
+    };
+    let disk = store.close();
+    worked?;
+    Ok(disk)
 }
 
 // What was refused while the k-th call failed, and what stands in the end.

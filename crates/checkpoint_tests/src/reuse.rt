@@ -128,8 +128,9 @@ fn run_stopped(alloc: Global, k: u64, picks: &[Pick]) -> Result<(Ran, MemDisk), 
     requires { 1 ≤ length picks.now }
 {
     let mut store = fused(alloc, six_disk(alloc, 3)?, k)?;
-    let ran = run(&mut store)?;
-    Ok((ran, stopped(store, picks)))
+    let ran = run(&mut store);
+    let disk = stopped(store, picks);
+    Ok((ran?, disk))
 }
 
 // Whether the store on this disk is right behind such a run, and behind stops of the next commit.

@@ -32,7 +32,23 @@ fn six_behind(alloc: Global, commands: &[Command]) -> Result<Network, Refusal> {
     Ok(network)
 }
 
-/// The first two numbers of the table whose query gets another slow reply behind these commands.
+/// The first two numbers of the table whose query gets another slow reply in this network.
+fn first_other_in(
+    alloc: Global,
+    network: &Network,
+    kind: Kind,
+    table: &[(u64, u64, Reply)],
+) -> Result<Option<usize>, Refusal> {
+    for at in 0..table.len() {
+        let (source, target, want) = table[at];
+        if answer_plain(alloc, network, &query(kind, source, target))? != want {
+            return Ok(Some(at));
+        }
+    }
+    Ok(None)
+}
+
+/// The same behind these commands.
 fn first_other(
     alloc: Global,
     commands: &[Command],
@@ -40,13 +56,7 @@ fn first_other(
     table: &[(u64, u64, Reply)],
 ) -> Result<Option<usize>, Refusal> {
     let network = six_behind(alloc, commands)?;
-    for at in 0..table.len() {
-        let (source, target, want) = table[at];
-        if answer_plain(alloc, &network, &query(kind, source, target))? != want {
-            return Ok(Some(at));
-        }
-    }
-    Ok(None)
+    first_other_in(alloc, &network, kind, table)
 }
 
 const LENGTHS: [(u64, u64, Reply); 6] = [

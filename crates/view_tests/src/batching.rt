@@ -1,5 +1,6 @@
 // Batches of pairs, in any order, beside plain answers to each of them.
 ghost use Rattle.std.specs.Prelude.{◌≤◌};
+ghost use Rattle.rows.specs.Cached.{HasRowsOf};
 
 use fixtures::{Draws, drawn, six};
 use relax::Solo;
@@ -46,6 +47,20 @@ fn first_other(
     Ok(None)
 }
 
+/// The same of a batch by a cache.
+fn asked_of<R: Threads>(
+    rt: &R,
+    alloc: Global,
+    view: &View,
+    pairs: &[(u64, u64)],
+    cache: &mut RowCache,
+) -> Result<Option<usize>, OutOfMemory>
+    requires { HasRowsOf view.now.version view.now.network cache.old }
+{
+    let replies = view.pinned(cache).batch(rt, alloc, pairs)?;
+    first_other(alloc, view, pairs, &replies)
+}
+
 /// The same of a batch by a cache of so many rows, and how many rows it leaves.
 fn asked_together<R: Threads>(
     rt: &R,
@@ -57,12 +72,23 @@ fn asked_together<R: Threads>(
     requires { (1 ≤ capacity) × (capacity ≤ 64) }
 {
     let mut cache = RowCache::new(alloc, capacity);
-    let replies = view.pinned(&mut cache).batch(rt, alloc, pairs)?;
-    let other = first_other(alloc, view, pairs, &replies)?;
+    let other = asked_of(rt, alloc, view, pairs, &mut cache)?;
     Ok((other, cache.len()))
 }
 
-/// The same of a batch in a network of ten nodes that is drawn by the seed, by a cache of four rows. The number 11 is that of no node.
+/// The same of a batch in a network of ten nodes that is drawn by the seed, by a cache of four rows.
+fn differs_at<R: Threads>(
+    rt: &R,
+    alloc: Global,
+    seed: u64,
+    pairs: &[(u64, u64)],
+) -> Result<Option<usize>, Refusal> {
+    let view = View::build(alloc, 0, drawn(alloc, seed)?, None, &Solo)?;
+    let (other, _) = asked_together(rt, alloc, &view, pairs, 4)?;
+    Ok(other)
+}
+
+/// The same of pairs that are drawn by the same seed. The number 11 is that of no node.
 fn batch_differs_at<R: Threads>(
     rt: &R,
     alloc: Global,
@@ -74,9 +100,7 @@ fn batch_differs_at<R: Threads>(
     requires targets { 1 ≤ targets }
 {
     let pairs = drawn_pairs(alloc, seed, sources, targets)?;
-    let view = View::build(alloc, 0, drawn(alloc, seed)?, None, &Solo)?;
-    let (other, _) = asked_together(rt, alloc, &view, &pairs, 4)?;
-    Ok(other)
+    differs_at(rt, alloc, seed, &pairs)
 }
 
 /// A seed, and up to which numbers sources and targets go: as many, one of either, fewer of either, more sources than rows are kept.

@@ -77,12 +77,20 @@ fn differs_at<R: Threads>(
     Ok(None)
 }
 
-/// The same of the network of this seed, by a view of it and a cache of three rows.
-fn differs_on<R: Threads>(rt: &R, alloc: Global, seed: u64) -> Result<Option<u64>, Refusal> {
-    let network = drawn(alloc, seed)?;
-    let view = View::build(alloc, seed, network, None, &Solo)?;
+/// The same by a cache of three rows.
+fn differs_by_three<R: Threads>(
+    rt: &R,
+    alloc: Global,
+    view: &View,
+) -> Result<Option<u64>, OutOfMemory> {
     let mut cache = RowCache::new(alloc, 3);
-    Ok(differs_at(rt, alloc, &view, &mut cache)?)
+    differs_at(rt, alloc, view, &mut cache)
+}
+
+/// The same of the network of this seed, by a view of it.
+fn differs_on<R: Threads>(rt: &R, alloc: Global, seed: u64) -> Result<Option<u64>, Refusal> {
+    let view = View::build(alloc, seed, drawn(alloc, seed)?, None, &Solo)?;
+    Ok(differs_by_three(rt, alloc, &view)?)
 }
 
 #[test]

@@ -54,13 +54,22 @@ fn known_from(alloc: Global, view: &View, source: u32) -> Result<Distances, Refu
     }
 }
 
+/// How many nodes have one distance from this one by its row in the view's groups and another by a guided search.
+fn differences_of(
+    alloc: Global,
+    view: &View,
+    source: u32,
+    workspace: &mut Workspace,
+) -> Result<u64, Refusal> {
+    let known = known_from(alloc, view, source)?;
+    differences_from(alloc, view, source, &known, workspace)
+}
+
 /// How many pairs of nodes have one distance by the row of the first and another by a guided search.
-fn differences(alloc: Global, view: &View) -> Result<u64, Refusal> {
-    let mut workspace = Workspace::new();
+fn differences(alloc: Global, view: &View, workspace: &mut Workspace) -> Result<u64, Refusal> {
     let mut count: u64 = 0;
     for source in 1..view.network().nodes().min(100) + 1 {
-        let known = known_from(alloc, view, source)?;
-        let more = differences_from(alloc, view, source, &known, &mut workspace)?;
+        let more = differences_of(alloc, view, source, workspace)?;
         count = count.saturating_add(more);
     }
     Ok(count)
@@ -82,7 +91,7 @@ fn differences_in(alloc: Global, seed: u64, landmarks: &[u64], delta: u32) -> Re
     }
     let network = drawn_with(alloc, seed, landmarks)?;
     let view = View::build(alloc, 1, network, Some(delta), &Solo)?;
-    differences(alloc, &view)
+    differences(alloc, &view, &mut Workspace::new())
 }
 
 /// A source, a target, and the distance in the network of the worked rows.
@@ -95,11 +104,14 @@ const WORKED: [(u32, u32, Option<u64>); 5] = [
 ];
 
 /// The first of them that a guided search finds otherwise.
-fn first_other(alloc: Global, view: &View) -> Result<Option<usize>, Refusal> {
-    let mut workspace = Workspace::new();
+fn first_other(
+    alloc: Global,
+    view: &View,
+    workspace: &mut Workspace,
+) -> Result<Option<usize>, Refusal> {
     for at in 0..WORKED.len() {
         let (source, target, want) = WORKED[at];
-        if distance(alloc, view, source, target, &mut workspace)? != want {
+        if distance(alloc, view, source, target, workspace)? != want {
             return Ok(Some(at));
         }
     }
@@ -113,7 +125,7 @@ fn first_other_under(alloc: Global, delta: u32) -> Result<Option<usize>, Refusal
     }
     let network = six_with(alloc, &[1, 3])?;
     let view = View::build(alloc, 1, network, Some(delta), &Solo)?;
-    first_other(alloc, &view)
+    first_other(alloc, &view, &mut Workspace::new())
 }
 
 #[test]

@@ -68,26 +68,39 @@ fn tells(
     Ok(are(&told, want))
 }
 
-/// How many rows of a table a view of the worked network with these landmarks tells otherwise.
+/// How many rows of a table a view tells otherwise.
+fn others_of(
+    alloc: Global,
+    view: &View,
+    table: &[(u32, Asked, &[(u32, u64)])],
+    workspace: &mut Workspace,
+) -> Result<u64, Refusal> {
+    let mut others: u64 = 0;
+    for &(node, asked, want) in table {
+        if !tells(alloc, view, node, asked, want, workspace)? {
+            others = others.saturating_add(1);
+        }
+    }
+    Ok(others)
+}
+
+/// A view of a network under this delta.
+fn view_of(alloc: Global, network: Network, delta: u32) -> Result<View, Refusal> {
+    if delta == 0 || delta > 2147483647 {
+        return Err(Refusal::NumberRange);
+    }
+    Ok(View::build(alloc, 1, network, Some(delta), &Solo)?)
+}
+
+/// The same of a view of the worked network with these landmarks.
 fn told_otherwise(
     alloc: Global,
     landmarks: &[u32],
     delta: u32,
     table: &[(u32, Asked, &[(u32, u64)])],
 ) -> Result<u64, Refusal> {
-    if delta == 0 || delta > 2147483647 {
-        return Err(Refusal::NumberRange);
-    }
-    let six = six_with(alloc, landmarks)?;
-    let view = View::build(alloc, 1, six, Some(delta), &Solo)?;
-    let mut workspace = Workspace::new();
-    let mut others: u64 = 0;
-    for &(node, asked, want) in table {
-        if !tells(alloc, &view, node, asked, want, &mut workspace)? {
-            others = others.saturating_add(1);
-        }
-    }
-    Ok(others)
+    let view = view_of(alloc, six_with(alloc, landmarks)?, delta)?;
+    others_of(alloc, &view, table, &mut Workspace::new())
 }
 
 const AROUND: [(u32, Asked, &[(u32, u64)]); 6] = [
@@ -216,11 +229,10 @@ fn differences_of(
 }
 
 /// The same of all nodes of a view.
-fn differences(alloc: Global, view: &View) -> Result<u64, Refusal> {
-    let mut workspace = Workspace::new();
+fn differences(alloc: Global, view: &View, workspace: &mut Workspace) -> Result<u64, Refusal> {
     let mut differ: u64 = 0;
     for node in 1..view.network().nodes().min(100) + 1 {
-        let more = differences_of(alloc, view, node, &mut workspace)?;
+        let more = differences_of(alloc, view, node, workspace)?;
         differ = differ.saturating_add(more);
     }
     Ok(differ)
@@ -237,12 +249,8 @@ fn drawn_with_landmarks(alloc: Global, seed: u64) -> Result<Network, Refusal> {
 
 /// How many searches tell others than the rows of the plain search, in such a network.
 fn differences_in(alloc: Global, seed: u64, delta: u32) -> Result<u64, Refusal> {
-    if delta == 0 || delta > 2147483647 {
-        return Err(Refusal::NumberRange);
-    }
-    let network = drawn_with_landmarks(alloc, seed)?;
-    let view = View::build(alloc, 1, network, Some(delta), &Solo)?;
-    differences(alloc, &view)
+    let view = view_of(alloc, drawn_with_landmarks(alloc, seed)?, delta)?;
+    differences(alloc, &view, &mut Workspace::new())
 }
 
 #[test]

@@ -25,23 +25,20 @@ fn agree(one: &View, other: &View) -> bool {
     same
 }
 
+/// Whether a view of the network has the same rows as one that is made anew.
+fn is_as_anew(alloc: Global, view: &View, network: &Network) -> Result<bool, Refusal> {
+    let anew = View::build(alloc, view.version(), network.copy()?, Some(3), &Solo)?;
+    Ok(agree(view, &anew))
+}
+
 /// A view of the network made out of the older one, where that has the same rows as one that is made anew.
-fn renewed(
-    alloc: Global,
-    old: &View,
-    network: &Network,
-    delta: Option<u32>,
-) -> Result<Option<View>, Refusal> {
-    if delta.is_some_and(|width| width == 0 || width > 2147483647) {
-        return Err(Refusal::NumberRange);
-    }
+fn renewed(alloc: Global, old: &View, network: &Network) -> Result<View, Refusal> {
     let version = old.version().saturating_add(1);
-    let anew = View::build(alloc, version, network.copy()?, delta, &Solo)?;
-    let after = View::build_after(alloc, old, version, network.copy()?, delta, &Solo)?;
-    if agree(&after, &anew) {
-        return Ok(Some(after));
+    let after = View::build_after(alloc, old, version, network.copy()?, Some(3), &Solo)?;
+    if !is_as_anew(alloc, &after, network)? {
+        return Err(Refusal::NoSuchArc);
     }
-    Ok(None)
+    Ok(after)
 }
 
 /// An arc is closed, two are given other lengths, one is laid, and landmarks come and go, one after another.
@@ -67,27 +64,30 @@ fn changed(
     command: Command,
 ) -> Result<View, Refusal> {
     network.apply(command)?;
-    match renewed(alloc, old, network, Some(3))? {
-        Some(after) => Ok(after),
-        None => Err(Refusal::NoSuchArc),
-    }
+    renewed(alloc, old, network)
 }
 
 /// The view behind all changes of a network, each made out of the one before.
-fn changed_in_turn(alloc: Global, mut network: Network) -> Result<View, Refusal> {
+fn changed_in_turn(alloc: Global, network: &mut Network) -> Result<View, Refusal> {
     let mut view = View::build(alloc, 1, network.copy()?, None, &Solo)?;
     for command in CHANGES {
-        view = changed(alloc, &view, &mut network, command)?;
+        view = changed(alloc, &view, network, command)?;
     }
     Ok(view)
 }
 
+/// A network that is drawn by the seed, with room for more arcs.
+fn drawn_with_room(alloc: Global, seed: u64) -> Result<Network, Refusal> {
+    match drawn(alloc, seed)?.with_room(30) {
+        Ok(network) => Ok(network),
+        Err((refusal, _)) => Err(refusal),
+    }
+}
+
 /// Whether the last view of a network that is drawn by the seed has the landmark that stays, and not the one that is gone.
 fn has_landmarks_left(alloc: Global, seed: u64) -> Result<bool, Refusal> {
-    let Ok(network) = drawn(alloc, seed)?.with_room(30) else {
-        return Err(Refusal::NoRoom);
-    };
-    let view = changed_in_turn(alloc, network)?;
+    let mut network = drawn_with_room(alloc, seed)?;
+    let view = changed_in_turn(alloc, &mut network)?;
     Ok(view.find_row(7).is_some() && view.find_row(2).is_none())
 }
 

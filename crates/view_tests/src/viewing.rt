@@ -1,11 +1,12 @@
 ghost use Rattle.std.specs.Prelude.{◌≡◌, ◌≢◌, ◌≤◌, [], IfOk};
 ghost use Rattle.rows.specs.Cached.{HasRowsOf, KeepsOthers, rows_of};
+ghost use Rattle.rows.specs.Pins.{HasOwnRows};
 
 use crate::answering::{Kind, query};
 use fixtures::{arc, six, six_with};
 use relax::Solo;
 use roadnet::{Command, Network, OutOfMemory, Refusal, RoadArc};
-use rows::{Reply, Row, RowCache, Searches, View, answer_plain};
+use rows::{Pinned, Reply, Row, RowCache, Searches, View, answer_plain};
 use std::alloc::Global;
 use std::thread::Threads;
 
@@ -36,17 +37,22 @@ const ROWS: [(u64, u64, Reply); 8] = [
     (u64::MAX, 0, Reply::Refused(Refusal::NoSuchNode)),
 ];
 
+/// The first row that a pinned view answers otherwise.
+fn first_other_pinned(pinned: &Pinned<'_>) -> Option<usize> {
+    for at in 0..ROWS.len() {
+        let (landmark, target, want) = ROWS[at];
+        if pinned.from_landmark(landmark, target) != want {
+            return Some(at);
+        }
+    }
+    None
+}
+
 /// The first row that a view answers otherwise, and the version that it tells.
 fn first_other_row(alloc: Global, view: &View) -> (Option<usize>, u64) {
     let mut cache = RowCache::new(alloc, 16);
     let pinned = view.pinned(&mut cache);
-    for at in 0..ROWS.len() {
-        let (landmark, target, want) = ROWS[at];
-        if pinned.from_landmark(landmark, target) != want {
-            return (Some(at), pinned.version());
-        }
-    }
-    (None, pinned.version())
+    (first_other_pinned(&pinned), pinned.version())
 }
 
 #[test]
@@ -86,8 +92,8 @@ fn first_other_bound(alloc: Global, view: &View) -> Result<Option<usize>, OutOfM
 
 #[test]
 fn bounds_by_landmarks(rt: HostRuntime) -> Result<(), Refusal> {
-    let view = view_of_six(rt.alloc(), 2, &[1, 3])?;
-    assert_eq!(rt; first_other_bound(rt.alloc(), &view)?, None);
+    let other = first_other_bound(rt.alloc(), &view_of_six(rt.alloc(), 2, &[1, 3])?)?;
+    assert_eq!(rt; other, None);
     Ok(())
 }
 
@@ -139,14 +145,25 @@ fn ask_two_versions<R: Threads>(
     Ok((told, cache.len()))
 }
 
+/// The same of the network of the worked rows, of a view behind it, and of the first again.
+fn ask_before<R: Threads>(
+    rt: &R,
+    alloc: Global,
+    after: &View,
+) -> Result<((Reply, Reply, Reply), usize), Refusal>
+    requires { after.now.version ≡ 1 }
+{
+    let before = View::build(alloc, 0, six(alloc)?, Some(1), &Solo)?;
+    Ok(ask_two_versions(rt, alloc, &before, after)?)
+}
+
 /// The replies by the network of the worked rows, by that with its seventh arc closed, and by the first again, and how many rows are kept.
 fn ask_before_and_after<R: Threads>(
     rt: &R,
     alloc: Global,
 ) -> Result<((Reply, Reply, Reply), usize), Refusal> {
-    let before = View::build(alloc, 0, six(alloc)?, Some(1), &Solo)?;
     let after = view_of_closed(alloc, 1)?;
-    Ok(ask_two_versions(rt, alloc, &before, &after)?)
+    ask_before(rt, alloc, &after)
 }
 
 /// The row of node 1 is kept for each of the two versions.
@@ -164,13 +181,24 @@ fn closed_arc_lengthens(rt: HostRuntime) -> Result<(), Refusal> {
 }
 
 /// The answers of one pinned view to a query of each kind.
-fn answer_each<R: Threads>(rt: &R, alloc: Global, view: &View) -> Result<[Reply; 3], OutOfMemory> {
-    let mut cache = RowCache::new(alloc, 1);
-    let mut pinned = view.pinned(&mut cache);
+fn answer_pinned<R: Threads>(
+    rt: &R,
+    alloc: Global,
+    pinned: &mut Pinned<'_>,
+) -> Result<[Reply; 3], OutOfMemory>
+    requires { HasOwnRows pinned.old }
+{
     let length = pinned.answer(rt, alloc, &query(Kind::Dist, 1, 6))?;
     let row = pinned.answer(rt, alloc, &query(Kind::From, 1, 4))?;
     let least = pinned.answer(rt, alloc, &query(Kind::Lower, 1, 4))?;
     Ok([length, row, least])
+}
+
+/// The same by a cache of one row.
+fn answer_each<R: Threads>(rt: &R, alloc: Global, view: &View) -> Result<[Reply; 3], OutOfMemory> {
+    let mut cache = RowCache::new(alloc, 1);
+    let mut pinned = view.pinned(&mut cache);
+    answer_pinned(rt, alloc, &mut pinned)
 }
 
 #[test]
@@ -178,6 +206,21 @@ fn answers_of_a_pinned_view(rt: HostRuntime) -> Result<(), Refusal> {
     let told = answer_each(&rt, rt.alloc(), &view_of_closed(rt.alloc(), 1)?)?;
     let refused = Reply::Refused(Refusal::NotALandmark);
     assert!(rt; told == [Reply::Length(22), refused, Reply::AtLeast(0)]);
+    Ok(())
+}
+
+/// Asks for the rows of three sources in turn, twice.
+fn ask_three_sources<R: Threads>(
+    rt: &R,
+    alloc: Global,
+    view: &View,
+    cache: &mut RowCache,
+) -> Result<(), OutOfMemory>
+    requires { HasRowsOf view.now.version view.now.network cache.old }
+{
+    let pairs = [(1, 6), (2, 5), (3, 4), (1, 6), (2, 5), (3, 4)];
+    let mut pinned = view.pinned(cache);
+    pinned.batch(rt, alloc, &pairs)?;
     Ok(())
 }
 
@@ -191,9 +234,7 @@ fn kept_of_three<R: Threads>(
     requires { (1 ≤ capacity) × (capacity ≤ 64) }
 {
     let mut cache = RowCache::new(alloc, capacity);
-    let pairs = [(1, 6), (2, 5), (3, 4), (1, 6), (2, 5), (3, 4)];
-    let mut pinned = view.pinned(&mut cache);
-    pinned.batch(rt, alloc, &pairs)?;
+    ask_three_sources(rt, alloc, view, &mut cache)?;
     Ok(cache.len())
 }
 
@@ -211,18 +252,51 @@ fn cleared<R: Threads>(
     Ok((reply, [before, behind, cache.len()]))
 }
 
+/// The first size of a cache that keeps another number of rows than it has to.
+fn first_other_size<R: Threads>(
+    rt: &R,
+    alloc: Global,
+    view: &View,
+) -> Result<Option<u32>, OutOfMemory> {
+    for (capacity, kept) in [(1, 1), (2, 2), (3, 3), (16, 3)] {
+        if kept_of_three(rt, alloc, view, capacity)? != kept {
+            return Ok(Some(capacity));
+        }
+    }
+    Ok(None)
+}
+
+/// How many rows a new cache of 16 rows tells that it keeps at most.
+fn capacity_of_sixteen(alloc: Global) -> usize {
+    RowCache::new(alloc, 16).capacity()
+}
+
+/// The first of these sizes in the network of the worked rows, and what a cache of one row has there that is cleared.
+fn kept_and_cleared<R: Threads>(
+    rt: &R,
+    alloc: Global,
+) -> Result<(Option<u32>, (Reply, [usize; 3])), Refusal> {
+    let view = view_of_six(alloc, 0, &[])?;
+    let other = first_other_size(rt, alloc, &view)?;
+    Ok((other, cleared(rt, alloc, &view)?))
+}
+
 #[test]
 fn rows_give_way(rt: HostRuntime) -> Result<(), Refusal> {
-    let view = view_of_six(rt.alloc(), 0, &[])?;
-    for (capacity, kept) in [(1, 1), (2, 2), (3, 3), (16, 3)] {
-        assert!(rt;
-            kept_of_three(&rt, rt.alloc(), &view, capacity)? == kept,
-            "{capacity}"
-        );
-    }
-    assert!(rt; cleared(&rt, rt.alloc(), &view)? == (Reply::Length(15), [0, 1, 0]));
-    assert_eq!(rt; RowCache::new(rt.alloc(), 16).capacity(), 16);
+    let (other, told) = kept_and_cleared(&rt, rt.alloc())?;
+    assert_eq!(rt; other, None);
+    assert!(rt; told == (Reply::Length(15), [0, 1, 0]));
+    assert_eq!(rt; capacity_of_sixteen(rt.alloc()), 16);
     Ok(())
+}
+
+/// The three replies, if memory was wanting for none.
+fn all_three(
+    first: Result<Reply, OutOfMemory>,
+    second: Result<Reply, OutOfMemory>,
+    again: Result<Reply, OutOfMemory>,
+) -> Result<(Reply, Reply, Reply), OutOfMemory> {
+    Ok((first?, second?, again?))
 }
 
 /// The replies to `Dist` of two sources in turn, by searches that keep so many rows.
@@ -235,10 +309,11 @@ fn search_in_turn<R: Threads>(
     requires { (1 ≤ capacity) × (capacity ≤ 64) }
 {
     let mut searches = Searches::new(alloc, None, capacity);
-    let first = searches.dist(rt, alloc, network, 1, 6)?;
-    let second = searches.dist(rt, alloc, network, 2, 1)?;
-    let again = searches.dist(rt, alloc, network, 1, 4)?;
-    Ok((first, second, again))
+    all_three(
+        searches.dist(rt, alloc, network, 1, 6),
+        searches.dist(rt, alloc, network, 2, 1),
+        searches.dist(rt, alloc, network, 1, 4),
+    )
 }
 
 #[test]
@@ -265,6 +340,32 @@ const REPLIES: [Reply; 6] = [
     Reply::Refused(Refusal::NoSuchNode),
 ];
 
+/// Whether pairs get their replies by a pinned view.
+fn are_answered<R: Threads>(
+    rt: &R,
+    alloc: Global,
+    pinned: &mut Pinned<'_>,
+) -> Result<bool, OutOfMemory>
+    requires { HasOwnRows pinned.old }
+    ensures kept { HasOwnRows pinned.new }
+{
+    let replies = pinned.batch(rt, alloc, &PAIRS)?;
+    Ok(replies.as_slice() == REPLIES.as_slice())
+}
+
+/// The same, and once more.
+fn are_answered_again<R: Threads>(
+    rt: &R,
+    alloc: Global,
+    pinned: &mut Pinned<'_>,
+) -> Result<bool, OutOfMemory>
+    requires { HasOwnRows pinned.old }
+{
+    let first = are_answered(rt, alloc, pinned)?;
+    let again = are_answered(rt, alloc, pinned)?;
+    Ok(first && again)
+}
+
 /// Whether pairs get their replies, and the same once more, by a cache of this size.
 fn are_answered_twice<R: Threads>(
     rt: &R,
@@ -276,20 +377,27 @@ fn are_answered_twice<R: Threads>(
 {
     let mut cache = RowCache::new(alloc, capacity);
     let mut pinned = view.pinned(&mut cache);
-    let first = pinned.batch(rt, alloc, &PAIRS)?;
-    let again = pinned.batch(rt, alloc, &PAIRS)?;
-    Ok(first.as_slice() == REPLIES.as_slice() && again.as_slice() == REPLIES.as_slice())
+    are_answered_again(rt, alloc, &mut pinned)
+}
+
+/// The first size of a cache by which pairs get other replies.
+fn first_unanswered<R: Threads>(
+    rt: &R,
+    alloc: Global,
+    view: &View,
+) -> Result<Option<u32>, OutOfMemory> {
+    for capacity in [1, 16, 64] {
+        if !are_answered_twice(rt, alloc, view, capacity)? {
+            return Ok(Some(capacity));
+        }
+    }
+    Ok(None)
 }
 
 #[test]
 fn batch_of_pairs(rt: HostRuntime) -> Result<(), Refusal> {
-    let view = view_of_six(rt.alloc(), 0, &[])?;
-    for capacity in [1, 16, 64] {
-        assert!(rt;
-            are_answered_twice(&rt, rt.alloc(), &view, capacity)?,
-            "{capacity}"
-        );
-    }
+    let other = first_unanswered(&rt, rt.alloc(), &view_of_six(rt.alloc(), 0, &[])?)?;
+    assert_eq!(rt; other, None);
     Ok(())
 }
 

@@ -4,7 +4,7 @@ ghost use Rattle.machine.specs.Calls.{IsTicketOf};
 
 use disk::{Disk, FailOnce, MemDisk, Pick, Stoppable};
 use fixtures::{parallel, six};
-use keeper::{Keeper, carry_out_in_turn};
+use keeper::{GroupTask, Keeper, Task, carry_out_in_turn};
 use machine::{Receipt, Ticket};
 use relax::Solo;
 use roadnet::{Command, Network, Refusal};
@@ -133,15 +133,18 @@ fn stopped<R: Threads, D: Stoppable + Drop>(
     (reopened(rt, alloc, disk), history.len(), came)
 }
 
-// A view of this network.
-fn view(alloc: Global, version: u64, network: Network) -> Result<Arc<View>, Refusal> {
-    let Ok(view) = View::build(alloc, version, network, None, &Solo) else {
-        return Err(Refusal::OutOfMemory);
-    };
+// A share of a view.
+fn shared(alloc: Global, view: View) -> Result<Arc<View>, Refusal> {
     match Arc::new(alloc, view) {
-        Ok(view) => Ok(view),
+        Ok(shared) => Ok(shared),
         Err(_) => Err(Refusal::OutOfMemory),
     }
+}
+
+// A view of this network.
+fn view(alloc: Global, version: u64, network: Network) -> Result<Arc<View>, Refusal> {
+    let view = View::build(alloc, version, network, None, &Solo)?;
+    shared(alloc, view)
 }
 
 fn number(told: Result<u64, Refusal>) -> Told {
@@ -185,59 +188,87 @@ fn task<D: Disk>(keeper: &mut Keeper<D>) -> Told {
     }
 }
 
-// The view is published, and it is known before what is told.
-fn publish<D: Disk>(keeper: &mut Keeper<D>, view: Arc<View>) -> Told {
-    let may = keeper.may_publish(&view);
+// What is answered where a view is published.
+fn published<D: Disk>(keeper: &mut Keeper<D>, view: Arc<View>) -> Result<u64, Refusal> {
     match keeper.publish(view) {
-        Ok(_) if may.is_err() => Told::Nothing,
-        Ok(version) => Told::Number(version),
-        Err((refusal, _)) if may == Err(refusal) => Told::Refused(refusal),
-        Err(_) => Told::Nothing,
+        Ok(version) => Ok(version),
+        Err((refusal, _)) => Err(refusal),
     }
 }
 
-fn show<D: Disk>(alloc: Global, keeper: &mut Keeper<D>) -> Told {
-    let Ok(task) = keeper.take_task() else {
-        return Told::Refused(Refusal::OutOfMemory);
-    };
-    let Some(task) = task else {
-        return Told::Nothing;
-    };
-    let Ok(network) = task.network.copy() else {
-        return Told::Refused(Refusal::OutOfMemory);
-    };
-    match view(alloc, task.version, network) {
+// The view is published, and it is known before what is told.
+fn publish<D: Disk>(keeper: &mut Keeper<D>, view: Arc<View>) -> Told {
+    let may = keeper.may_publish(&view);
+    let answer = published(keeper, view);
+    if may.err() == answer.err() {
+        number(answer)
+    } else {
+        Told::Nothing
+    }
+}
+
+// A view that was made is published.
+fn publish_made<D: Disk>(keeper: &mut Keeper<D>, view: Result<Arc<View>, Refusal>) -> Told {
+    match view {
         Ok(view) => publish(keeper, view),
+        Err(refusal) => Told::Refused(refusal),
+    }
+}
+
+// The view of a task.
+fn view_of(alloc: Global, task: &Task) -> Result<Arc<View>, Refusal> {
+    let network = task.network.copy()?;
+    view(alloc, task.version, network)
+}
+
+fn show<D: Disk>(alloc: Global, keeper: &mut Keeper<D>) -> Told {
+    match keeper.take_task() {
+        Ok(Some(task)) => publish_made(keeper, view_of(alloc, &task)),
+        Ok(None) => Told::Nothing,
+        Err(_) => Told::Refused(Refusal::OutOfMemory),
+    }
+}
+
+// The network of a task by its groups; none where one of them is not carried out.
+fn carried_out(task: &GroupTask) -> Result<Option<Network>, Refusal> {
+    let mut network = task.view.network().copy()?;
+    if carry_out_in_turn(&mut network, &task.groups) < task.groups.len() {
+        return Ok(None);
+    }
+    Ok(Some(network))
+}
+
+// The view of a task by its groups is published, where it is out and each of them is carried out.
+fn publish_by_groups<D: Disk>(alloc: Global, keeper: &mut Keeper<D>, task: &GroupTask) -> Told {
+    if keeper.task() != Some(task.version) {
+        return Told::Nothing;
+    }
+    match carried_out(task) {
+        Ok(Some(network)) => publish_made(keeper, view(alloc, task.version, network)),
+        Ok(None) => Told::Nothing,
         Err(refusal) => Told::Refused(refusal),
     }
 }
 
 fn show_by_groups<D: Disk>(alloc: Global, keeper: &mut Keeper<D>) -> Told {
-    let Ok(Some(task)) = keeper.take_groups() else {
-        return Told::Nothing;
-    };
-    let Ok(mut network) = task.view.network().copy() else {
-        return Told::Refused(Refusal::OutOfMemory);
-    };
-    let count = carry_out_in_turn(&mut network, &task.groups);
-    if count < task.groups.len() || keeper.task() != Some(task.version) {
-        return Told::Nothing;
-    }
-    match view(alloc, task.version, network) {
-        Ok(view) => publish(keeper, view),
-        Err(refusal) => Told::Refused(refusal),
+    match keeper.take_groups() {
+        Ok(Some(task)) => publish_by_groups(alloc, keeper, &task),
+        _ => Told::Nothing,
     }
 }
 
-fn offer<D: Disk>(alloc: Global, keeper: &mut Keeper<D>, version: u64, closed: bool) -> Told {
-    let Ok(mut network) = six(alloc) else {
-        return Told::Refused(Refusal::OutOfMemory);
-    };
+// The network of the worked rows, with the seventh arc closed or not.
+fn six_or_closed(alloc: Global, closed: bool) -> Result<Network, Refusal> {
+    let mut network = six(alloc)?;
     if closed {
         let _ = network.apply(CLOSE);
     }
-    match view(alloc, version, network) {
-        Ok(view) => publish(keeper, view),
+    Ok(network)
+}
+
+fn offer<D: Disk>(alloc: Global, keeper: &mut Keeper<D>, version: u64, closed: bool) -> Told {
+    match six_or_closed(alloc, closed) {
+        Ok(network) => publish_made(keeper, view(alloc, version, network)),
         Err(refusal) => Told::Refused(refusal),
     }
 }

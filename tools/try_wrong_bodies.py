@@ -130,7 +130,7 @@ def of(functions, names):
     found = []
     for path, function, is_method in functions:
         module = "".join(f"{it}::" for it in pathlib.Path(path).with_suffix("").parts[1:] if it not in ("lib", "main"))
-        before = r"[A-Z]\w*::" if is_method else module
+        before = r"[A-Z][\w+]*::" if is_method else module
         found += [name for name in names if re.search(rf"::{before}{re.escape(function)}(\b|$)", name)]
     return found
 

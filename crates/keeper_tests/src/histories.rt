@@ -1,7 +1,7 @@
 ghost use Rattle.std.specs.Prelude.{◌≡◌, IfSome};
 
 use fixtures::network;
-use history::{Front, History};
+use history::{Claim, Front, History, Settled};
 use machine::Ticket;
 use roadnet::{Command, Group, Network, Refusal};
 use std::test::Fail;
@@ -75,6 +75,34 @@ fn fronts_of_a_history(rt: HostRuntime) -> Result<(), Refusal> {
     Ok(())
 }
 
+// Whether a claim is that of the reopening as number 9, in a history of two groups.
+fn is_claimed(history: &History, claim: &Claim) -> bool
+    requires { claim.now.origin ≡ history.now.origin }
+{
+    history.holds(claim)
+        && claim.front().len() == 2
+        && claim.ticket().number == 9
+        && is_reopened(&claim.ticket().group)
+}
+
+// Whether a receipt is that of number 9, and both it and the longer of two beginnings are of two groups.
+fn is_settled(settled: &Settled, one: &Front, two: &Front) -> bool
+    requires { one.now.origin ≡ two.now.origin }
+{
+    settled.ticket().ticket().number == 9
+        && (settled.front().len(), one.joined(two).len()) == (2, 2)
+}
+
+// Whether a history, once it is closed, confirms the receipt of the reopening.
+fn is_confirmed(history: History, one: &Front, settled: &Settled) -> bool
+    requires one { one.now.origin ≡ history.origin }
+    requires settled { settled.now.origin ≡ history.origin }
+{
+    let whole = history.close();
+    whole.holds(one);
+    is_reopened(whole.confirm(settled))
+}
+
 #[test]
 fn a_receipt_is_confirmed(rt: HostRuntime) -> Result<(), Fail> {
     let network = network(rt.alloc(), 2, &[(1, 2, 5)], &[])?;
@@ -90,14 +118,10 @@ fn a_receipt_is_confirmed(rt: HostRuntime) -> Result<(), Fail> {
         group: Group::one(REOPEN),
     };
     let claim = history.claim(ticket);
-    assert!(rt; history.holds(&claim) && claim.front().len() == 2);
-    assert!(rt; claim.ticket().number == 9 && is_reopened(&claim.ticket().group));
+    assert!(rt; is_claimed(&history, &claim));
     history.acknowledge(9);
     let settled = history.settled(claim);
-    assert!(rt; settled.ticket().ticket().number == 9);
-    assert_eq!(rt; (settled.front().len(), one.joined(&two).len()), (2, 2));
-    let whole = history.close();
-    whole.holds(&one);
-    assert!(rt; is_reopened(whole.confirm(&settled)));
+    assert!(rt; is_settled(&settled, &one, &two));
+    assert!(rt; is_confirmed(history, &one, &settled));
     Ok(())
 }

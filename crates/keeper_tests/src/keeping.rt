@@ -374,6 +374,16 @@ fn plays_and_stops<R: Threads, D: Stoppable + Drop>(
     Ok((accepted, came))
 }
 
+// A keeper of what the disk of this one has, once it is closed.
+fn opened_again<R: Threads, D: Disk + Drop>(
+    rt: &R,
+    alloc: Global,
+    keeper: Keeper<D>,
+) -> Result<Keeper<D>, Refusal> {
+    let (_, disk) = keeper.close();
+    reopened(rt, alloc, disk)
+}
+
 // The keeper of a disk that was closed once the table was told, and opened again, once it was told what is left.
 fn plays_and_opens<R: Threads, D: Disk + Drop>(
     rt: &R,
@@ -383,8 +393,7 @@ fn plays_and_opens<R: Threads, D: Disk + Drop>(
     left: &[(Call, Told)],
 ) -> Result<Keeper<D>, Wrong> {
     let keeper = played(rt, alloc, keeper, table)?;
-    let (_, disk) = keeper.close();
-    played(rt, alloc, reopened(rt, alloc, disk), left)
+    played(rt, alloc, opened_again(rt, alloc, keeper), left)
 }
 
 fn plays_on_six<R: Threads>(rt: &R, alloc: Global, table: &[(Call, Told)]) -> Result<(), Wrong> {
@@ -478,30 +487,42 @@ fn second_close_refused(rt: HostRuntime) -> Result<(), Wrong> {
     plays_on_six(&rt, rt.alloc(), &table)
 }
 
-// A `set` that is refused with this.
-fn unset(arc: u64, length: u64, refusal: Refusal) -> (Call, Told) {
+const REFUSED: [(Call, Told); 9] = [
     (
-        Call::Submit(Command::Set { arc, length }),
-        Told::Refused(refusal),
-    )
-}
+        Call::Submit(Command::Set { arc: 9, length: 1 }),
+        Told::Refused(Refusal::NoSuchArc),
+    ),
+    (
+        Call::Submit(Command::Set {
+            arc: 1,
+            length: 2147483648,
+        }),
+        Told::Refused(Refusal::LengthRange),
+    ),
+    (
+        Call::Submit(Command::Set {
+            arc: 9,
+            length: 2147483648,
+        }),
+        Told::Refused(Refusal::NoSuchArc),
+    ),
+    (
+        Call::Submit(Command::Mark { node: 7 }),
+        Told::Refused(Refusal::NoSuchNode),
+    ),
+    (
+        Call::Submit(Command::Unmark { node: 3 }),
+        Told::Refused(Refusal::NotALandmark),
+    ),
+    (Call::Submit(OPEN), Told::Refused(Refusal::AlreadyOpen)),
+    (Call::Pending, Told::Number(0)),
+    (Call::Durable, Told::Number(0)),
+    (Call::Shown, Told::Number(0)),
+];
 
 #[test]
 fn refusals_of_commands(rt: HostRuntime) -> Result<(), Wrong> {
-    let mark = Call::Submit(Command::Mark { node: 7 });
-    let unmark = Call::Submit(Command::Unmark { node: 3 });
-    let table = [
-        unset(9, 1, Refusal::NoSuchArc),
-        unset(1, 2147483648, Refusal::LengthRange),
-        unset(9, 2147483648, Refusal::NoSuchArc),
-        (mark, Told::Refused(Refusal::NoSuchNode)),
-        (unmark, Told::Refused(Refusal::NotALandmark)),
-        (Call::Submit(OPEN), Told::Refused(Refusal::AlreadyOpen)),
-        (Call::Pending, Told::Number(0)),
-        (Call::Durable, Told::Number(0)),
-        (Call::Shown, Told::Number(0)),
-    ];
-    plays_on_six(&rt, rt.alloc(), &table)
+    plays_on_six(&rt, rt.alloc(), &REFUSED)
 }
 
 // A keeper of two nodes, with two arcs between them and a loop.
@@ -659,10 +680,15 @@ fn is_received<D: Disk>(keeper: &mut Keeper<D>, command: Command) -> Result<bool
     Ok(told == (Refusal::NotYet, Ok(1), 1) && receipt.group.commands() == [command].as_slice())
 }
 
+// The same of a new keeper.
+fn is_received_by_six<R: Threads>(rt: &R, alloc: Global) -> Result<bool, Refusal> {
+    let mut keeper = keeper_of_six(rt, alloc, 64)?;
+    is_received(&mut keeper, CLOSE)
+}
+
 #[test]
 fn receipt_behind_a_flush(rt: HostRuntime) -> Result<(), Refusal> {
-    let mut keeper = keeper_of_six(&rt, rt.alloc(), 64)?;
-    assert!(rt; is_received(&mut keeper, CLOSE)?);
+    assert!(rt; is_received_by_six(&rt, rt.alloc())?);
     Ok(())
 }
 

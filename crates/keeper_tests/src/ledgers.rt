@@ -221,6 +221,7 @@ fn stopped_ledger_is_opened_again(rt: HostRuntime) -> Result<(), Refusal> {
     assert_eq!(rt; fail_second(&mut ledger)?, Err(Refusal::Device));
     assert!(rt; ledger.broken());
     let (alone, disk) = closed_and_stopped(ledger, &[CLOSE, OPEN]);
-    assert!(rt; alone && told_of(alloc, disk)? == ONE_DURABLE);
+    let told = told_of(alloc, disk)?;
+    assert!(rt; alone && told == ONE_DURABLE);
     Ok(())
 }

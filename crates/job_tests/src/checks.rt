@@ -1,4 +1,4 @@
-use crate::stores::{bytes_of, created, with_bytes};
+use crate::stores::{changed, created};
 use disk::{Disk, FailOnce, MemDisk};
 use printing::{CountedWriter, Failed};
 use roadnet::Refusal;
@@ -23,6 +23,19 @@ fn checked<D: Disk + Drop>(alloc: Global, disk: D) -> Result<(Vec<u8>, D), Faile
     }
 }
 
+/// Whether this is written of the store of a disk behind these commands, and the disk.
+fn is_checked(
+    alloc: Global,
+    disk: MemDisk,
+    commands: &[u8],
+    wanted: &[u8],
+) -> Result<(bool, MemDisk), Refusal> {
+    match checked(alloc, applied(alloc, disk, commands)?) {
+        Ok((out, disk)) => Ok((out.as_slice() == wanted, disk)),
+        Err(_) => Err(Refusal::Broken),
+    }
+}
+
 #[test]
 fn a_store_is_checked(rt: HostRuntime) -> Result<(), Refusal> {
     let alloc = rt.alloc();
@@ -34,10 +47,8 @@ fn a_store_is_checked(rt: HostRuntime) -> Result<(), Refusal> {
     ];
     let (mut disk, _) = created(alloc, 1)?;
     for (commands, wanted) in table {
-        let Ok((out, same)) = checked(alloc, applied(alloc, disk, commands)?) else {
-            return Err(Refusal::Broken);
-        };
-        assert!(rt; out.as_slice() == wanted);
+        let (is_so, same) = is_checked(alloc, disk, commands, wanted)?;
+        assert!(rt; is_so);
         disk = same;
     }
     Ok(())
@@ -45,12 +56,7 @@ fn a_store_is_checked(rt: HostRuntime) -> Result<(), Refusal> {
 
 /// What a look at a new store is refused for, this byte of it changed, or nothing.
 fn failure(alloc: Global, at: usize, byte: u8) -> Result<Option<Failed>, Refusal> {
-    let (mut disk, _) = created(alloc, 64)?;
-    let mut bytes = bytes_of(alloc, &mut disk)?;
-    if let Some(place) = bytes.get_mut(at) {
-        *place = byte;
-    }
-    match checked(alloc, with_bytes(alloc, &bytes)?) {
+    match checked(alloc, changed(alloc, at, byte)?) {
         Ok(_) => Ok(None),
         Err(failed) => Ok(Some(failed)),
     }
@@ -79,24 +85,35 @@ fn damage_is_told(rt: HostRuntime) -> Result<(), Refusal> {
     Ok(())
 }
 
+/// What a look at the store of a disk comes to that fails in this call, and whether this is written; and the disk.
+fn look_failing(alloc: Global, disk: MemDisk, call: u64) -> (Result<(), Failed>, bool, MemDisk) {
+    let mut out = Vec::new(alloc);
+    let mut writer = CountedWriter::new(&mut out);
+    let (told, failing) = check_counted(alloc, FailOnce::new(disk, call), &mut writer);
+    let wanted: &[u8] = if told.is_ok() {
+        b"v 0\nslot A 1\njournal 0\n"
+    } else {
+        b""
+    };
+    (told, out.as_slice() == wanted, failing.into_inner())
+}
+
 /// Each call of the disk that fails is told, and nothing is written then. A look makes nine calls or more, and fewer than twelve.
 #[test]
 fn a_failed_call_is_told(rt: HostRuntime) -> Result<(), Refusal> {
     let (mut disk, _) = created(rt.alloc(), 1)?;
     let mut whole = false;
     for call in 1..=12 {
-        let mut out = Vec::new(rt.alloc());
-        let mut writer = CountedWriter::new(&mut out);
-        let (told, failing) = check_counted(rt.alloc(), FailOnce::new(disk, call), &mut writer);
-        disk = failing.into_inner();
+        let (told, is_right, same) = look_failing(rt.alloc(), disk, call);
+        disk = same;
+        assert!(rt; is_right);
         match told {
             Ok(()) => {
                 whole = true;
-                assert!(rt; out.as_slice() == b"v 0\nslot A 1\njournal 0\n".as_slice());
                 assert!(rt; call > 9);
             }
             Err(failed) => {
-                assert!(rt; failed == Failed::Code(Refusal::Device) && out.is_empty());
+                assert!(rt; failed == Failed::Code(Refusal::Device));
                 assert!(rt; !whole);
             }
         }

@@ -70,13 +70,21 @@ fn opened(alloc: Global, disk: MemDisk) -> Result<Store<MemDisk>, Refusal> {
     }
 }
 
-/// One of the texts in which the store's network is written out.
-fn exported(alloc: Global, store: &Store<MemDisk>, text: Exported) -> Result<Vec<u8>, Refusal> {
+/// The store of these texts behind these commands.
+fn commanded(
+    alloc: Global,
+    network: &[u8],
+    landmarks: &[u8],
+    commands: &[u8],
+) -> Result<Store<MemDisk>, Refusal> {
+    let disk = applied(alloc, roomy(alloc, network, landmarks)?, commands)?;
+    opened(alloc, disk)
+}
+
+/// Whether the store's network is written out so in one of the texts.
+fn is_exported(alloc: Global, store: &Store<MemDisk>, text: Exported, wanted: &[u8]) -> bool {
     let mut out = Vec::new(alloc);
-    match export_text(store, text, &mut out) {
-        Ok(()) => Ok(out),
-        Err(_) => Err(Refusal::Write),
-    }
+    export_text(store, text, &mut out) == Ok(()) && out.as_slice() == wanted
 }
 
 const COMMANDS: &[u8] = b"close 7\nmark 1\nset 8 4\nclose 2\n";
@@ -90,17 +98,14 @@ const CLOSED: &[u8] = b"# roadmark version 4 room 9 journal 64\nclose 2\nclose 7
 
 #[test]
 fn a_network_is_written_out(rt: HostRuntime) -> Result<(), Refusal> {
-    let alloc = rt.alloc();
-    let disk = applied(alloc, roomy(alloc, SIX, LANDMARKS)?, COMMANDS)?;
-    let store = opened(alloc, disk)?;
+    let store = commanded(rt.alloc(), SIX, LANDMARKS, COMMANDS)?;
     let table: [(Exported, &[u8]); 3] = [
         (Exported::Network, GR),
         (Exported::Landmarks, SS),
         (Exported::Closings, CLOSED),
     ];
     for (text, wanted) in table {
-        let out = exported(alloc, &store, text)?;
-        assert!(rt; out.as_slice() == wanted);
+        assert!(rt; is_exported(rt.alloc(), &store, text, wanted));
     }
     Ok(())
 }
@@ -114,14 +119,18 @@ fn are_alike(one: &Store<MemDisk>, other: &Store<MemDisk>) -> bool {
         && one.room() == other.room()
 }
 
+/// Whether a store that is made of the texts is at version 2, and has the network of this one.
+fn is_made_again(alloc: Global, store: &Store<MemDisk>) -> bool {
+    match commanded(alloc, GR, SS, CLOSED) {
+        Ok(again) => are_alike(store, &again) && again.version() == 2,
+        Err(_) => false,
+    }
+}
+
 #[test]
 fn a_store_is_made_of_the_texts(rt: HostRuntime) -> Result<(), Refusal> {
-    let alloc = rt.alloc();
-    let disk = applied(alloc, roomy(alloc, SIX, LANDMARKS)?, COMMANDS)?;
-    let store = opened(alloc, disk)?;
-    let disk = applied(alloc, roomy(alloc, GR, SS)?, CLOSED)?;
-    let again = opened(alloc, disk)?;
-    assert!(rt; are_alike(&store, &again) && again.version() == 2);
+    let store = commanded(rt.alloc(), SIX, LANDMARKS, COMMANDS)?;
+    assert!(rt; is_made_again(rt.alloc(), &store));
     Ok(())
 }
 

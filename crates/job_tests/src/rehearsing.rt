@@ -7,6 +7,7 @@ use fixtures::SIX;
 use printing::{CountedWriter, Failed};
 use rehearsals::{joint_counted, joint_text, rehearse_counted, rehearse_text};
 use roadnet::Refusal;
+use std::alloc::Global;
 use std::io::BufReader;
 use std::process::Abort;
 use std::test::Fail;
@@ -198,20 +199,55 @@ fn arcs_are_laid(rt: HostRuntime) {
     }
 }
 
+/// Picks, and the version that a stop leaves with them where a flush is about to sync its gate.
+const PICKS: [(&str, u64); 4] = [("old", 0), ("new", 1), ("165", 1), ("17", 0)];
+
+/// A group whose flush is stopped with this pick is told of so, with the version that is left.
+fn is_group_stopped(
+    rt: &(impl Abort + AllocGlobal + Threads),
+    pick: &str,
+    left: u64,
+) -> Result<(), Fail> {
+    let script = format!(in rt.alloc(); "begin\nclose 7\nset 8 4\nend\nstop 3 {pick} flush\n")?;
+    let want = format!(in rt.alloc(); "t 1\nstopped\nv {left}\n")?;
+    let bytes = script.as_bytes();
+    is_rehearsed(rt, script.as_str(), SIX, 64, bytes, want.as_bytes());
+    Ok(())
+}
+
 /// A stop within the flush of a group leaves all of it or nothing.
 #[test]
 fn stop_within_a_group(rt: HostRuntime) -> Result<(), Fail> {
-    for (pick, left) in [("old", 0), ("new", 1), ("165", 1), ("17", 0)] {
-        let script = format!(in rt.alloc(); "begin\nclose 7\nset 8 4\nend\nstop 3 {pick} flush\n")?;
-        let want = format!(in rt.alloc(); "t 1\nstopped\nv {left}\n")?;
-        is_rehearsed(
-            &rt,
-            script.as_str(),
-            SIX,
-            64,
-            script.as_bytes(),
-            want.as_bytes(),
-        );
+    for (pick, left) in PICKS {
+        is_group_stopped(&rt, pick, left)?;
+    }
+    Ok(())
+}
+
+/// A flush that is stopped at this call with this pick is told of so: it says this, and leaves this version.
+fn is_flush_stopped(
+    rt: &(impl Abort + AllocGlobal + Threads),
+    call: u64,
+    pick: &str,
+    said: &str,
+    left: u64,
+) -> Result<(), Fail> {
+    let script = format!(in rt.alloc(); "close 7\nstop {call} {pick} flush\n")?;
+    let want = format!(in rt.alloc(); "t 1\n{said}stopped\nv {left}\n")?;
+    let bytes = script.as_bytes();
+    is_rehearsed(rt, script.as_str(), SIX, 64, bytes, want.as_bytes());
+    Ok(())
+}
+
+/// The same with each pick: the first two calls leave nothing, the next two what the pick makes of the gate, and others all.
+fn is_flush_stopped_at(rt: &(impl Abort + AllocGlobal + Threads), call: u64) -> Result<(), Fail> {
+    for (pick, left) in PICKS {
+        let (said, left) = match call {
+            1 | 2 => ("", 0),
+            3 | 4 => ("", left),
+            _ => ("ok 1\n", 1),
+        };
+        is_flush_stopped(rt, call, pick, said, left)?;
     }
     Ok(())
 }
@@ -219,22 +255,7 @@ fn stop_within_a_group(rt: HostRuntime) -> Result<(), Fail> {
 #[test]
 fn stop_within_flush(rt: HostRuntime) -> Result<(), Fail> {
     for call in 1..6 {
-        for (pick, left) in [("old", 0), ("new", 1), ("165", 1), ("17", 0)] {
-            let script = format!(in rt.alloc(); "close 7\nstop {call} {pick} flush\n")?;
-            let want = match call {
-                1 | 2 => format!(in rt.alloc(); "t 1\nstopped\nv 0\n")?,
-                3 | 4 => format!(in rt.alloc(); "t 1\nstopped\nv {left}\n")?,
-                _ => format!(in rt.alloc(); "t 1\nok 1\nstopped\nv 1\n")?,
-            };
-            is_rehearsed(
-                &rt,
-                script.as_str(),
-                SIX,
-                64,
-                script.as_bytes(),
-                want.as_bytes(),
-            );
-        }
+        is_flush_stopped_at(&rt, call)?;
     }
     Ok(())
 }
@@ -279,17 +300,37 @@ fn stop_with_several_picks(rt: HostRuntime) {
     }
 }
 
-#[test]
-fn full_page_of_commands(rt: HostRuntime) -> Result<(), Fail> {
-    let mut script = Vec::new(rt.alloc());
-    let mut want = Vec::new(rt.alloc());
-    for number in 1..255 {
+/// A script that sets an arc's length 254 times, flushes and stops.
+fn page_of_commands(alloc: Global) -> Result<Vec<u8>, Fail> {
+    let mut script = Vec::new(alloc);
+    for _ in 1..255 {
         script.extend_from_slice(b"set 1 17\n")?;
-        let line = format!(in rt.alloc(); "t {number}\n")?;
-        want.extend_from_slice(line.as_bytes())?;
     }
     script.extend_from_slice(b"flush\nstop\n")?;
-    want.extend_from_slice(b"ok 253\nstopped\nv 253\n")?;
+    Ok(script)
+}
+
+/// A command's line is added to what is told.
+fn add_told(alloc: Global, number: u64, told: &mut Vec<u8>) -> Result<(), Fail> {
+    let line = format!(in alloc; "t {number}\n")?;
+    told.extend_from_slice(line.as_bytes())?;
+    Ok(())
+}
+
+/// What is told of that script.
+fn told_of_page(alloc: Global) -> Result<Vec<u8>, Fail> {
+    let mut told = Vec::new(alloc);
+    for number in 1..255 {
+        add_told(alloc, number, &mut told)?;
+    }
+    told.extend_from_slice(b"ok 253\nstopped\nv 253\n")?;
+    Ok(told)
+}
+
+#[test]
+fn full_page_of_commands(rt: HostRuntime) -> Result<(), Fail> {
+    let script = page_of_commands(rt.alloc())?;
+    let want = told_of_page(rt.alloc())?;
     is_rehearsed(&rt, "full_page_of_commands", SIX, 64, &script, &want);
     Ok(())
 }
@@ -501,7 +542,7 @@ fn replies_are_sent_out(rt: HostRuntime) {
 }
 
 /// A network of two nodes and 2,047 arcs from 1 to 2, of length 5: three word pages.
-fn three_word_pages(rt: &(impl Abort + AllocGlobal)) -> Result<Vec<u8>, Fail> {
+pub fn three_word_pages(rt: &impl AllocGlobal) -> Result<Vec<u8>, Fail> {
     let mut text = Vec::new(rt.alloc());
     text.extend_from_slice(b"p sp 2 2047\n")?;
     for _ in 0..2047 {

@@ -1,5 +1,7 @@
 use crate::outcomes::is_done;
+use crate::rehearsing::three_word_pages;
 use rehearsals::rehearse_text;
+use std::alloc::Global;
 use std::process::Abort;
 use std::test::Fail;
 use std::thread::Threads;
@@ -106,41 +108,54 @@ impl Numbers {
     }
 }
 
+/// A script of 24 random lines is written, and what is printed of it.
+fn draw_script(
+    rt: &impl AllocGlobal,
+    random: &mut u64,
+    script: &mut Vec<u8>,
+    want: &mut Vec<u8>,
+) -> Result<(), Fail> {
+    let mut numbers = Numbers {
+        latest: 0,
+        durable: 0,
+        unchecked: 0,
+        going: None,
+    };
+    for _ in 0..24 {
+        *random = random
+            .wrapping_mul(6364136223846793005)
+            .wrapping_add(1442695040888963407);
+        numbers.line(rt, *random >> 40, script, want)?;
+    }
+    Ok(())
+}
+
+/// Whether just these bytes are printed of a script on this network.
+fn prints<R: Threads>(rt: &R, alloc: Global, gr: &[u8], script: &[u8], want: &[u8]) -> bool {
+    let mut out = Vec::new(alloc);
+    let pages = JOURNAL_PAGES as u32;
+    let outcome = rehearse_text(rt, alloc, gr, script, pages, Some(ROOM), None, &mut out);
+    is_done(&outcome, None) && out.as_slice() == want
+}
+
+/// Whether the next random script on this network prints what the numbers say.
+fn is_next_printed<R: AllocGlobal + Threads>(
+    rt: &R,
+    gr: &[u8],
+    random: &mut u64,
+) -> Result<bool, Fail> {
+    let mut script = Vec::new(rt.alloc());
+    let mut want = Vec::new(rt.alloc());
+    draw_script(rt, random, &mut script, &mut want)?;
+    Ok(prints(rt, rt.alloc(), gr, &script, &want))
+}
+
 /// Random scripts from this seed on, each on a network of three word pages and room for two end pages.
 fn random_scripts(rt: &(impl Abort + AllocGlobal + Threads), seed: u64) -> Result<(), Fail> {
-    let mut gr = Vec::new(rt.alloc());
-    gr.extend_from_slice(b"p sp 2 2047\n")?;
-    for _ in 0..2047 {
-        gr.extend_from_slice(b"a 1 2 5\n")?;
-    }
+    let gr = three_word_pages(rt)?;
     let mut random = seed;
     for _ in 0..25 {
-        let mut numbers = Numbers {
-            latest: 0,
-            durable: 0,
-            unchecked: 0,
-            going: None,
-        };
-        let mut script = Vec::new(rt.alloc());
-        let mut want = Vec::new(rt.alloc());
-        for _ in 0..24 {
-            random = random
-                .wrapping_mul(6364136223846793005)
-                .wrapping_add(1442695040888963407);
-            numbers.line(rt, random >> 40, &mut script, &mut want)?;
-        }
-        let mut out = Vec::new(rt.alloc());
-        let outcome = rehearse_text(
-            rt,
-            rt.alloc(),
-            &gr,
-            &script,
-            JOURNAL_PAGES as u32,
-            Some(ROOM),
-            None,
-            &mut out,
-        );
-        assert!(rt; is_done(&outcome, None) && out == want);
+        assert!(rt; is_next_printed(rt, &gr, &mut random)?);
     }
     Ok(())
 }

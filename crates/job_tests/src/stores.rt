@@ -37,7 +37,7 @@ pub fn created(alloc: Global, journal_pages: u32) -> Result<(MemDisk, Vec<u8>), 
 }
 
 /// The bytes of a disk.
-pub fn bytes_of(alloc: Global, disk: &mut MemDisk) -> Result<Vec<u8>, Refusal> {
+fn bytes_of(alloc: Global, disk: &mut MemDisk) -> Result<Vec<u8>, Refusal> {
     let Ok(length) = disk.len() else {
         return Err(Refusal::Device);
     };
@@ -51,7 +51,7 @@ pub fn bytes_of(alloc: Global, disk: &mut MemDisk) -> Result<Vec<u8>, Refusal> {
 }
 
 /// A disk with these bytes, all of them synced.
-pub fn with_bytes(alloc: Global, bytes: &[u8]) -> Result<MemDisk, Refusal> {
+fn with_bytes(alloc: Global, bytes: &[u8]) -> Result<MemDisk, Refusal> {
     let mut disk = MemDisk::new(alloc);
     if disk.write_at(0, bytes).is_err() || disk.sync().is_err() {
         return Err(Refusal::Device);
@@ -325,7 +325,7 @@ fn faults_of_texts(rt: HostRuntime) -> Result<(), Refusal> {
 }
 
 /// The disk of a new store with this byte at this place.
-fn changed(alloc: Global, place: usize, byte: u8) -> Result<MemDisk, Refusal> {
+pub fn changed(alloc: Global, place: usize, byte: u8) -> Result<MemDisk, Refusal> {
     let (mut disk, _) = created(alloc, 64)?;
     let mut bytes = bytes_of(alloc, &mut disk)?;
     if let Some(found) = bytes.get_mut(place) {

@@ -86,9 +86,52 @@ fn run<D: Disk>(ledger: &mut Ledger<D>, from: u64, to: u64) -> Result<(u64, bool
     Ok((to, false))
 }
 
-/// Opens this disk, runs the rounds from this one on, up to that one, on a disk that takes so many writes and syncs behind that of the opening,
-/// and stops. Answers the disk, the version that is then on it, and whether the disk failed. What was acknowledged is there, at most one
-/// round more is, and the network is that after so many rounds.
+/// How a run went: how many rounds were acknowledged, and whether the disk failed.
+type Ran = (u64, bool);
+
+/// Opens this disk and runs the rounds from this one on, up to that one, on a disk that takes so many writes and syncs behind that of the opening.
+/// Answers how it went, and the disk.
+fn ran(
+    alloc: Global,
+    disk: MemDisk,
+    rounds: (u64, u64),
+    calls: u64,
+) -> Result<(Ran, MemDisk), Refusal> {
+    let fused = FuseDisk::new(disk, calls.saturating_add(1));
+    let mut ledger = match Ledger::new(alloc, opened(alloc, fused)?) {
+        Ok(ledger) => ledger,
+        Err((_, _)) => return Err(Refusal::OutOfMemory),
+    };
+    let went = run(&mut ledger, rounds.0, rounds.1);
+    let (_, fused) = ledger.close();
+    let disk = fused.into_inner();
+    Ok((went?, disk))
+}
+
+/// Opens the disk that such a run left. Answers the disk, and the version that is on it: what was acknowledged is there, at most one round more is, and
+/// the network is that after so many rounds.
+fn left(
+    alloc: Global,
+    disk: MemDisk,
+    (acknowledged, failed): Ran,
+) -> Result<(MemDisk, u64), Refusal> {
+    let store = opened(alloc, disk)?;
+    let version = store.version();
+    let most = if failed {
+        acknowledged.wrapping_add(1)
+    } else {
+        acknowledged
+    };
+    let is_right = version >= acknowledged && version <= most && is_after(store.network(), version);
+    let disk = store.close();
+    if is_right {
+        Ok((disk, version))
+    } else {
+        Err(Refusal::NotYet)
+    }
+}
+
+/// Runs these rounds on this disk, and stops. Answers the disk, the version that is then on it, and whether the disk failed.
 fn stopped(
     alloc: Global,
     disk: MemDisk,
@@ -98,46 +141,46 @@ fn stopped(
 ) -> Result<(MemDisk, u64, bool), Refusal>
     requires { 0 < length picks.now }
 {
-    let fused = FuseDisk::new(disk, calls.saturating_add(1));
-    let mut ledger = match Ledger::new(alloc, opened(alloc, fused)?) {
-        Ok(ledger) => ledger,
-        Err((_, _)) => return Err(Refusal::OutOfMemory),
-    };
-    let (acknowledged, failed) = run(&mut ledger, rounds.0, rounds.1)?;
-    let (_, fused) = ledger.close();
-    let mut disk = fused.into_inner();
+    let (went, mut disk) = ran(alloc, disk, rounds, calls)?;
     let _ = disk.stop(picks);
-    let store = opened(alloc, disk)?;
-    let version = store.version();
-    let most = if failed {
-        acknowledged.wrapping_add(1)
-    } else {
-        acknowledged
-    };
-    if version < acknowledged || version > most || !is_after(store.network(), version) {
-        return Err(Refusal::NotYet);
-    }
-    Ok((store.close(), version, failed))
+    let (disk, version) = left(alloc, disk, went)?;
+    Ok((disk, version, went.1))
 }
 
-/// Stops the run at each of its calls, and then the next rounds at each of theirs.
+/// Stops the next rounds at each of their calls.
+fn next_are_stopped(
+    alloc: Global,
+    mut disk: MemDisk,
+    mut version: u64,
+    picks: &[Pick],
+) -> Result<(), Refusal>
+    requires { 0 < length picks.now }
+{
+    for more in 0..7u64 {
+        let next = version.saturating_add(1);
+        (disk, version, _) = stopped(alloc, disk, (version, next), more, picks)?;
+    }
+    Ok(())
+}
+
+/// Stops the run at this call, and then the next rounds at each of theirs. Answers whether the disk failed.
+fn is_stopped_at(alloc: Global, calls: u64, picks: &[Pick]) -> Result<bool, Refusal>
+    requires { 0 < length picks.now }
+{
+    let (disk, version, failed) = stopped(alloc, six(alloc)?, (0, ROUNDS), calls, picks)?;
+    if failed {
+        next_are_stopped(alloc, disk, version, picks)?;
+    }
+    Ok(failed)
+}
+
+/// Stops the run at each of its calls. Answers how many there are.
 fn sweep(alloc: Global, picks: &[Pick]) -> Result<u64, Refusal>
     requires { 0 < length picks.now }
 {
     for calls in 0..600u64 {
-        let (mut disk, mut version, failed) = stopped(
-            alloc,
-            six(alloc)?,
-            (0, ROUNDS),
-            calls,
-            picks,
-        )?;
-        if !failed {
+        if !is_stopped_at(alloc, calls, picks)? {
             return Ok(calls);
-        }
-        for more in 0..7u64 {
-            let next = version.saturating_add(1);
-            (disk, version, _) = stopped(alloc, disk, (version, next), more, picks)?;
         }
     }
     Err(Refusal::NotYet)

@@ -680,15 +680,10 @@ fn is_received<D: Disk>(keeper: &mut Keeper<D>, command: Command) -> Result<bool
     Ok(told == (Refusal::NotYet, Ok(1), 1) && receipt.group.commands() == [command].as_slice())
 }
 
-// The same of a new keeper.
-fn is_received_by_six<R: Threads>(rt: &R, alloc: Global) -> Result<bool, Refusal> {
-    let mut keeper = keeper_of_six(rt, alloc, 64)?;
-    is_received(&mut keeper, CLOSE)
-}
-
 #[test]
 fn receipt_behind_a_flush(rt: HostRuntime) -> Result<(), Refusal> {
-    assert!(rt; is_received_by_six(&rt, rt.alloc())?);
+    let mut keeper = keeper_of_six(&rt, rt.alloc(), 64)?;
+    assert!(rt; is_received(&mut keeper, CLOSE)?);
     Ok(())
 }
 

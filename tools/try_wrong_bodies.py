@@ -1,16 +1,19 @@
 #!/usr/bin/env python3
 """Tries the wrong bodies of tools/wrong_bodies/CRATE.txt: the proof of each function that one of them changes has to fail.
 
-    tools/try_wrong_bodies.py CRATE [NAME..]          those of the crate, or some of them
-    tools/try_wrong_bodies.py --gate CRATE [NAME..]   the edits of crates/CRATE/must-fail in their place
-    tools/try_wrong_bodies.py --fit                   whether all of both fit the sources, without a proof
+    tools/try_wrong_bodies.py [CRATE | CRATE/NAME]..          those of these crates, or these; all where none is named
+    tools/try_wrong_bodies.py --gate [CRATE | CRATE/NAME]..   the edits of crates/CRATE/must-fail in their place
+    tools/try_wrong_bodies.py --workers N ..                  so many crates side by side; a kit that keeps no proved work between checkouts gains little by it
+    tools/try_wrong_bodies.py --fit                           whether all of both fit the sources, without a proof
 
 Each function is proved over the contracts of those that it calls, so bodies of different functions are tried in one check: as many at once as
 change different functions. One whose function is not looked at, since one that it calls is not proved, is tried once more with the rest. It
 works on a copy of the crates; what was proved here before is taken over. Below a crate whose libraries are not built it builds these first.
 
 A line of each: `refused`, with the functions that were not proved; `NOT REFUSED`; or `BAD`, where it does not fit the sources or does not compile.
+Then a line of each crate, with its minutes by the clock, and at the end `N passed, M failed`.
 """
+import concurrent.futures
 import os
 import pathlib
 import re
@@ -18,6 +21,8 @@ import shutil
 import subprocess
 import sys
 import tempfile
+import threading
+import time
 
 TOP = pathlib.Path(__file__).resolve().parent.parent
 FAILED = re.compile(r"^fn (\S+): ((?:not proved|no proof|could not tell).*)$", re.M)
@@ -89,28 +94,41 @@ def linked(folder, to):
     shutil.copytree(folder, to, copy_function=os.link)
 
 
-class Copy:
-    """A copy of the crates in which one of them is checked with wrong bodies."""
+def copy_crates(room):
+    """Copies the crates, without what the kit keeps, into a folder."""
+    shutil.copytree(TOP / "crates", room / "crates", ignore=shutil.ignore_patterns("out"))
+    for file in ("crates.txt", "HANDLES"):
+        shutil.copy2(TOP / file, room / file)
 
-    def __init__(self, room, name):
-        self.crate, self.seed = room / "crates" / name, room / "seed"
-        shutil.copytree(TOP / "crates", room / "crates", ignore=shutil.ignore_patterns("out"))
-        for file in ("crates.txt", "HANDLES"):
-            shutil.copy2(TOP / file, room / file)
+
+class NotProved(Exception):
+    """The crate is not proved as it stands."""
+
+
+class Copy:
+    """A crate in a copy of the crates, which is checked with wrong bodies."""
+
+    def __init__(self, room, name, words):
+        self.crate, self.seed, self.words = room / "crates" / name, room / "seed", words
         self.work = self.crate / "out" / "incremental"
         self.before = {file: file.read_text() for part in ("src", "specs", "proofs") for file in self.crate.glob(f"{part}/**/*") if file.is_file()}
 
     def check(self):
         """Checks the crate as it stands there. Answers its status and what is said."""
-        ran = subprocess.run(["rt", "check"], cwd=self.crate, stdin=subprocess.DEVNULL, stdout=subprocess.PIPE, stderr=subprocess.STDOUT, text=True, errors="replace")
+        ran = subprocess.run(["rt", "check", *self.words], cwd=self.crate, stdin=subprocess.DEVNULL, stdout=subprocess.PIPE, stderr=subprocess.STDOUT, text=True, errors="replace")
         return ran.returncode, ran.stdout
 
-    def begin(self):
+    def __enter__(self):
         """Proves the crate as it is, and keeps that work."""
         status, said = self.check()
         if status:
-            sys.exit(f"{self.crate.name} is not proved as it stands:\n{said[-2000:]}")
+            raise NotProved(said[-2000:])
         linked(self.work, self.seed)
+        return self
+
+    def __exit__(self, *_):
+        """Puts that work back, for the crates above."""
+        linked(self.seed, self.work)
 
     def tried(self, bodies):
         """Checks the crate with these bodies. Answers those that did not fit, what failed, what waited, and what was said."""
@@ -195,24 +213,58 @@ def do_not_fit():
     return wrong
 
 
+def asked(words, of_gate):
+    """The crates with wrong bodies that are asked for, lowest first, each with these."""
+    order = re.findall(r"^(\w+):", (TOP / "crates.txt").read_text(), re.M)
+    every = {name: bodies_of(name, of_gate) for name in order}
+    wanted = {}
+    for word in words or [name for name in order if every[name]]:
+        name, _, body = word.partition("/")
+        found = [it for it in every.get(name, []) if body in ("", it.name)]
+        if not found:
+            sys.exit(f"there is no wrong body {word}")
+        wanted.setdefault(name, []).extend(it for it in found if it not in wanted.get(name, []))
+    return [(name, wanted[name]) for name in order if name in wanted]
+
+
+def try_crate(room, name, bodies, words):
+    """Tries wrong bodies of a crate in a copy of the crates, and prints a line of it. Answers how many were not refused."""
+    begun = time.monotonic()
+    try:
+        with Copy(room, name, words) as copy:
+            missed = try_all(copy, bodies)
+    except NotProved as said:
+        print(f"{name} is not proved as it stands:\n{said}", flush=True)
+        missed = len(bodies)
+    print(f"{name}: {len(bodies) - missed} of {len(bodies)} refused, {(time.monotonic() - begun) / 60:.1f} minutes", flush=True)
+    return missed
+
+
+def try_crates(crates, workers):
+    """Tries the wrong bodies of crates, each worker in a copy of its own. Answers how many were not refused."""
+    place, words = threading.local(), ["--jobs", "1"] if workers > 1 else []
+
+    def one(crate):
+        if not hasattr(place, "room"):
+            place.room = pathlib.Path(tempfile.mkdtemp(dir=top))
+            copy_crates(place.room)
+        return try_crate(place.room, *crate, words)
+
+    with tempfile.TemporaryDirectory(prefix="wrong-bodies-") as top, concurrent.futures.ThreadPoolExecutor(workers) as pool:
+        return sum(pool.map(one, crates))
+
+
 def main(words):
     if words == ["--fit"]:
         return do_not_fit() > 0
-    of_gate = "--gate" in words
-    words = [word for word in words if word != "--gate"]
-    if not words or not (TOP / "crates" / words[0]).is_dir():
-        sys.exit(__doc__.split("\n\n")[1])
-    bodies = bodies_of(words[0], of_gate)
-    lacking = set(words[1:]) - {body.name for body in bodies}
-    if lacking:
-        sys.exit(f"there is no such wrong body of {words[0]}: {' '.join(sorted(lacking))}")
-    if words[1:]:
-        bodies = [body for body in bodies if body.name in words[1:]]
-    with tempfile.TemporaryDirectory(prefix="wrong-bodies-") as room:
-        copy = Copy(pathlib.Path(room), words[0])
-        copy.begin()
-        missed = try_all(copy, bodies)
-    print(f"{words[0]}: {len(bodies) - missed} of {len(bodies)} refused")
+    of_gate, workers = "--gate" in words, 1
+    if "--workers" in words:
+        at = words.index("--workers")
+        workers, words = int(words[at + 1]), words[:at] + words[at + 2 :]
+    crates = asked([word for word in words if word != "--gate"], of_gate)
+    count = sum(len(bodies) for _, bodies in crates)
+    missed = try_crates(crates, workers)
+    print(f"{count - missed} passed, {missed} failed")
     return missed > 0
 
 

@@ -20,6 +20,3 @@ pub use nodes::{put_nearest, put_pairs, put_reach, put_reached};
 pub use printed::{put_answer, put_lines, put_number, put_numbered, put_refusal, put_version};
 pub use replied::{put_replies, put_reply};
 pub use writer::CountedWriter;
-
-#[cfg(test)]
-mod tests;

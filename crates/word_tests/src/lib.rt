@@ -1,5 +1,7 @@
-//! Tests of the program's words.
+//! Tests of the program's words, and of what it prints.
 #![tactic(auto)]
 
 #[cfg(test)]
 mod asked;
+#[cfg(test)]
+mod printed;

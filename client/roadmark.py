@@ -38,7 +38,7 @@ from typing import NamedTuple
 from roadmark_answers import (ANSWERS, CODES, COMMANDS, OVER_A_LOG, Expected, Fault, Garbled, Late, Lost, Refused, Row, Shape, Talk, Unknown, digits_of, fields_of, shortened)
 from roadmark_wires import Address, Connection, Pair, Path, Process, Wire, leased
 
-__all__ = ["ANSWERS", "CODES", "COMMANDS", "OVER_A_LOG", "Answer", "Arc", "Expected", "Fault", "Garbled", "Late", "Lost", "Refused", "Row", "Session", "Shape", "Talk", "Unknown",
+__all__ = ["ANSWERS", "CODES", "COMMANDS", "OVER_A_LOG", "Answer", "Arc", "Expected", "Fault", "Garbled", "Late", "Length", "Lost", "Refused", "Row", "Session", "Shape", "Talk", "Unknown",
            "Wire", "digits_of", "fields_of"]
 
 PATIENCE = 30.0

@@ -30,7 +30,7 @@ split_page() {
 # Runs the steps of a folder in one shell, each with its own output.
 run_steps() {
   local folder=$1 step
-  cp -r "$top/examples" "$folder/run/examples"
+  cp -r "$top/examples" "$top/client" "$folder/run"
   ln -s "$program" "$folder/run/roadmark"
   for step in "$folder"/*.command; do
     printf '{\n%s\n} > %s.seen 2>&1\n' "$(cat "$step")" "${step%.command}"

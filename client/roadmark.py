@@ -35,10 +35,10 @@ import time
 from collections.abc import Iterable, Iterator, Mapping, Sequence
 from typing import NamedTuple
 
-from roadmark_answers import (ANSWERS, CODES, COMMANDS, OVER_A_LOG, Expected, Fault, Garbled, Late, Lost, Refused, Row, Shape, Talk, Unknown, digits_of, fields_of, shortened)
+from roadmark_answers import (ANSWERS, CODES, COMMANDS, OTHER, OVER_A_LOG, Expected, Fault, Garbled, Late, Lost, Refused, Row, Shape, Talk, Unknown, digits_of, fields_of, shortened)
 from roadmark_wires import Address, Connection, Pair, Path, Process, Wire, leased
 
-__all__ = ["ANSWERS", "CODES", "COMMANDS", "OVER_A_LOG", "Answer", "Arc", "Expected", "Fault", "Garbled", "Late", "Length", "Lost", "Refused", "Row", "Session", "Shape", "Talk", "Unknown",
+__all__ = ["ANSWERS", "CODES", "COMMANDS", "OTHER", "OVER_A_LOG", "Answer", "Arc", "Expected", "Fault", "Garbled", "Late", "Length", "Lost", "Refused", "Row", "Session", "Shape", "Talk", "Unknown",
            "Wire", "digits_of", "fields_of"]
 
 PATIENCE = 30.0

@@ -126,18 +126,26 @@ class Process(Wire):
             self.child.kill()
             return self.child.wait()
 
+def connected(address: Address, seconds: float) -> socket.socket:
+    if isinstance(address, tuple):
+        made = socket.create_connection(address, seconds)
+        made.setsockopt(socket.IPPROTO_TCP, socket.TCP_NODELAY, 1)
+        return made
+    made = socket.socket(socket.AF_UNIX)
+    try:
+        made.settimeout(seconds)
+        made.connect(os.fspath(address))
+        return made
+    except OSError:
+        made.close()
+        raise
+
 class Connection(Wire):
     """A connection by a local socket, or by TCP."""
 
     def __init__(self, address: Address, seconds: float) -> None:
         try:
-            if isinstance(address, tuple):
-                self.socket = socket.create_connection(address, seconds)
-                self.socket.setsockopt(socket.IPPROTO_TCP, socket.TCP_NODELAY, 1)
-            else:
-                self.socket = socket.socket(socket.AF_UNIX)
-                self.socket.settimeout(seconds)
-                self.socket.connect(os.fspath(address))
+            self.socket = connected(address, seconds)
         except TimeoutError:
             raise Late(f"{address}: no connection in time") from None
         except OSError as why:

@@ -141,6 +141,8 @@ class Session:
             self.fault = fault
             raise
         self.open = expected[-1] if expected else None
+        if self.talk.is_over:
+            self.fault = Lost("the session was told to quit")
         return self.open
 
     def hear(self, until: float) -> str:

@@ -50,7 +50,7 @@ class Garbled(Fault):
 class Shape(enum.Enum):
     """How many lines an answer has. `no CODE` may stand in place of its first line, and of the one behind the version, and is the last one then."""
     SILENT = "none"
-    END = "none, and the session ends"
+    END = "none, and the session ends, also within a group, which is dropped"
     GROUP = "none, nor have the lines behind it, until `end` has one"
     LINE = "one"
     VIEW = "the version, and one"
@@ -178,7 +178,7 @@ class Talk:
     """Which answers the lines of one session have; it is asked for each line in its turn."""
 
     def __init__(self, answers: Mapping[str, Row] = ANSWERS) -> None:
-        self.answers = answers
+        self.answers, self.is_over = answers, False
         self.group: Row | None = None
 
     def expect(self, line: str) -> Expected | None:
@@ -186,12 +186,15 @@ class Talk:
         first, *rest = fields_of(line) or ["#"]
         if first.startswith("#"):
             return None
+        row = self.answers.get(first, OTHER)
+        if row.shape is Shape.END and not rest:
+            self.is_over = True
+            return None
         if self.group is not None:
             if first != "end" or rest:
                 return None
             row, self.group = self.group, None
             return Expected(line, row)
-        row = self.answers.get(first, OTHER)
         if not row.spelled:
             return Expected(line, row, rest)
         if not re.fullmatch(row.spelled, " ".join([first, *rest])):

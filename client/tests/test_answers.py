@@ -83,7 +83,7 @@ class Groups(unittest.TestCase):
     def test_a_group_is_answered_at_its_end(self) -> None:
         for word, answer in (("begin", "ok 1"), ("suppose", "suppose 1"), ("begin", "no 23"), ("suppose", "no 13")):
             talk = Talk()
-            for line in (word, "close 7", "# night works", "", "dist 1 6", "quit", "begin", "suppose", "end 7", "  "):
+            for line in (word, "close 7", "# night works", "", "dist 1 6", "quit 7", "begin", "suppose", "end 7", "  "):
                 self.assertIsNone(talk.expect(line))
             whole = talk.expect(" end\r")
             assert whole is not None
@@ -97,6 +97,12 @@ class Groups(unittest.TestCase):
             whole = talk.expect("end")
             assert whole is not None
             self.assertRaises(Garbled, whole.take, wrong)
+
+    def test_quit_ends_it_within_a_group_too(self) -> None:
+        for lines in (["quit"], [" quit\r"], ["begin", "quit"], ["suppose", "close 7", "quit"]):
+            talk = Talk()
+            self.assertEqual([talk.expect(line) for line in lines], [None] * len(lines))
+            self.assertTrue(talk.is_over)
 
     def test_lines_without_an_answer(self) -> None:
         for line in ("", " \t", "# any", "#", "quit", " quit", "\r"):

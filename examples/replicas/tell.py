@@ -161,10 +161,10 @@ class Teller:
         fields = fields_of(text)
         if not fields or fields[0].startswith("#"):
             return []
-        if self.group is not None:
-            return self.grouped(self.group, text, fields)
         if fields == ["quit"]:
             return None
+        if self.group is not None:
+            return self.grouped(self.group, text, fields)
         if fields in (["begin"], ["suppose"]):
             self.group = Group(MOST) if fields == ["begin"] else Group(MOST + 1, supposed=True)
             return []

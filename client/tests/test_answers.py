@@ -5,7 +5,7 @@ import pathlib
 import re
 import unittest
 
-from roadmark import ANSWERS, COMMANDS, OVER_A_LOG, Expected, Garbled, Talk, fields_of
+from roadmark import ANSWERS, CODES, COMMANDS, OVER_A_LOG, Expected, Garbled, Talk, fields_of
 
 MANUAL = pathlib.Path(__file__).resolve().parents[2] / "docs" / "PROGRAM.md"
 
@@ -48,6 +48,10 @@ class Answers(unittest.TestCase):
         rows = MANUAL.read_text().split("\n## A session\n")[1].split("\n## ")[0].split("\n| Line | Answer |\n|---|---|\n")[1].split("\n\n")[0].split("\n")
         words = {words.split()[0] for row in rows for words in re.findall("`([a-z][^`]*)`", row.split(" | ")[0])}
         self.assertEqual(words, {*ANSWERS, "end"})
+
+    def test_each_number_of_the_manual_has_its_name(self) -> None:
+        rows = MANUAL.read_text().split("\n| Number | Means | Do |\n|---|---|---|\n")[1].split("\n\n")[0].split("\n")
+        self.assertEqual({int(number): name for row in rows for number, name in re.findall("([0-9]+) ([A-Z][A-Za-z]+)", row.split(" | ")[0])}, CODES)
 
     def test_right_answers_end_where_they_end(self) -> None:
         for line, answer in RIGHT:

@@ -11,9 +11,11 @@ import unittest
 from collections.abc import Iterator
 from contextlib import contextmanager
 
-from roadmark import Arc, Lost, Refused, Session
+from roadmark import Arc, Late, Lost, Refused, Session
 
 PROGRAM = os.environ.get("ROADMARK", "")
+# A machine that has much else to do may stand still for a while.
+PATIENCE = 120.0
 EXAMPLES = pathlib.Path(__file__).resolve().parents[2] / "examples"
 
 @unittest.skipUnless(PROGRAM, "the program")
@@ -26,9 +28,12 @@ class Program(unittest.TestCase):
         subprocess.run([PROGRAM, "create", self.store, EXAMPLES / "six.gr", EXAMPLES / "six.ss", "--room", "10"], check=True, stdout=subprocess.DEVNULL)
 
     def start(self, *words: str | os.PathLike[str]) -> Session:
-        session = Session.start([PROGRAM, "serve", self.store, *words])
+        session = Session.start([PROGRAM, "serve", self.store, *words], PATIENCE)
         self.addCleanup(session.close)
         return session
+
+    def lease(self, folder: pathlib.Path) -> Session:
+        return Session.lease(folder, PATIENCE, PATIENCE)
 
     def refused(self, session: Session, line: str, code: int) -> None:
         with self.assertRaises(Refused) as refused:
@@ -117,32 +122,32 @@ class Program(unittest.TestCase):
 
     def test_leases(self) -> None:
         with self.pairs(3) as (folder, server):
-            with Session.lease(folder) as one, Session.lease(folder) as other:
+            with self.lease(folder) as one, self.lease(folder) as other:
                 self.assertEqual(one.change("close 7"), 1)
                 self.assertEqual(other.until(1), 1)
                 self.assertEqual(other.distance(1, 6), (1, 22))
                 # attach.sh takes the third, by the same locks.
-                told = subprocess.run([EXAMPLES / "attach.sh", folder], input=b"dist 1 6\n", stdout=subprocess.PIPE, timeout=30).stdout
+                told = subprocess.run([EXAMPLES / "attach.sh", folder], input=b"dist 1 6\n", stdout=subprocess.PIPE, timeout=PATIENCE).stdout
                 self.assertEqual(told, b"v 1\nd 1 6 22\n")
                 attached = subprocess.Popen([EXAMPLES / "attach.sh", folder], stdin=subprocess.PIPE, stdout=subprocess.PIPE)
                 assert attached.stdin and attached.stdout
                 attached.stdin.write(b"wait\n")
                 attached.stdin.flush()
                 self.assertEqual(attached.stdout.readline(), b"v 1\n")
-                self.assertRaises(Exception, Session.lease, folder, seconds=0.3)
-                attached.communicate(timeout=30)
+                self.assertRaises(Late, Session.lease, folder, seconds=0.3)
+                attached.communicate(timeout=PATIENCE)
             server.kill()
             server.wait()
 
     def test_a_server_that_is_killed_and_started_again(self) -> None:
         with self.pairs(1) as (folder, server):
-            session = Session.lease(folder)
+            session = self.lease(folder)
             self.assertEqual(session.change("close 7"), 1)
             server.kill()
             server.wait()
             self.assertRaises(Lost, session.wait)
             session.close()
-        with self.pairs(1) as (folder, server), Session.lease(folder, seconds=30) as session:
+        with self.pairs(1) as (folder, server), self.lease(folder) as session:
             self.assertEqual(session.distance(1, 6), (1, 22))
 
     def test_many_leases_at_once(self) -> None:
@@ -150,7 +155,7 @@ class Program(unittest.TestCase):
         with self.pairs(2) as (folder, _):
             def lease() -> None:
                 for _ in range(5):
-                    with Session.lease(folder, seconds=60) as session:
+                    with self.lease(folder) as session:
                         number = session.change("set 1 9")
                         if session.wait() >= number:
                             told.append(number)
@@ -174,7 +179,7 @@ class Examples(unittest.TestCase):
         (self.folder / "roadmark").symlink_to(PROGRAM)
 
     def run_it(self, *words: str) -> subprocess.CompletedProcess[str]:
-        return subprocess.run(words, cwd=self.folder, capture_output=True, text=True, timeout=60)
+        return subprocess.run(words, cwd=self.folder, capture_output=True, text=True, timeout=PATIENCE)
 
     def test_client(self) -> None:
         self.run_it("./roadmark", "create", "python.store", "examples/six.gr", "examples/six.ss")

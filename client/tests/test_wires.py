@@ -16,8 +16,10 @@ from contextlib import contextmanager
 from roadmark import Fault, Garbled, Late, Lost, Refused, Session, Unknown, OVER_A_LOG
 from roadmark_wires import Wire
 
-# A step of a script: a line that must come, bytes to send, or seconds to rest. At its end both pipes are closed.
-Step = str | bytes | float
+# A step of a script: a line that must come, bytes to send, seconds to rest, or None: until the client has gone. At its end both pipes are closed.
+Step = str | bytes | float | None
+# A machine that has much else to do may stand still for a while.
+PATIENCE = 120.0
 
 def play(script: list[Step], lines: int, answers: int, seen: list[str]) -> None:
     with os.fdopen(lines, "rb") as source, os.fdopen(answers, "wb", buffering=0) as sink:
@@ -29,24 +31,26 @@ def play(script: list[Step], lines: int, answers: int, seen: list[str]) -> None:
                         return
                 elif isinstance(step, bytes):
                     sink.write(step)
+                elif step is None:
+                    source.read()
                 else:
                     time.sleep(step)
         except BrokenPipeError:
             pass
 
 @contextmanager
-def served(script: list[Step], patience: float = 5.0, **more: object) -> Iterator[Session]:
+def served(script: list[Step], **more: object) -> Iterator[Session]:
     """A session with a fake server."""
     lines, sink = os.pipe()
     source, answers = os.pipe()
     server = threading.Thread(target=play, args=(script, lines, answers, []), daemon=True)
     server.start()
-    session = Session(Wire(source, sink), patience, **more)  # type: ignore[arg-type]
+    session = Session(Wire(source, sink), PATIENCE, **more)  # type: ignore[arg-type]
     try:
         yield session
     finally:
         session.close(0)
-        server.join(10)
+        server.join(PATIENCE)
 
 class Scripts(unittest.TestCase):
     def test_an_answer_in_any_pieces(self) -> None:
@@ -66,24 +70,22 @@ class Scripts(unittest.TestCase):
                 self.assertEqual(session.wait(), 9)
 
     def test_late(self) -> None:
-        scripts: list[list[Step]] = [["wait", 1.0], ["wait", b"v", 1.0], ["reach 1 9", b"v 1\nreach 1 2\nd 1 1 0\n", 1.0]]
+        scripts: list[list[Step]] = [["wait", None], ["wait", b"v", None], ["reach 1 9", b"v 1\nreach 1 2\nd 1 1 0\n", None]]
         for script in scripts:
             with served(script) as session:
-                began = time.monotonic()
                 with self.assertRaises(Late):
                     session.ask(str(script[0]), seconds=0.1)
-                self.assertLess(time.monotonic() - began, 0.9)
                 # It is over: what comes now is no answer to the next line.
                 self.assertIsInstance(session.fault, Late)
                 self.assertRaises(Lost, session.wait)
 
     def test_an_answer_that_drips_is_late_as_a_whole(self) -> None:
         drop: list[Step] = [b"d 1 1 0\n", 0.05]
-        drops = drop * 20
-        with served(["reach 1 9", b"v 1\nreach 1 99\n", *drops]) as session:
-            self.assertRaises(Late, session.ask, "reach 1 9", seconds=0.3)
-        with served(["reach 1 9", b"v 1\nreach 1 20\n", *drops]) as session:
-            self.assertEqual(len(list(session.stream("reach 1 9", seconds=0.3))), 22)
+        drops = drop * 60
+        with served(["reach 1 9", b"v 1\nreach 1 99\n", *drops, None]) as session:
+            self.assertRaises(Late, session.ask, "reach 1 9", seconds=0.5)
+        with served(["reach 1 9", b"v 1\nreach 1 60\n", *drops]) as session:
+            self.assertEqual(len(list(session.stream("reach 1 9", seconds=2))), 62)
 
     def test_a_connection_that_ends(self) -> None:
         scripts: list[list[Step]] = [[], ["dist 1 6"], ["dist 1 6", b"v 0"], ["dist 1 6", b"v 0\n"], ["dist 1 6", b"v 0\nd 1 6 15"], ["another line"]]
@@ -95,7 +97,7 @@ class Scripts(unittest.TestCase):
 
     def test_what_is_no_answer(self) -> None:
         for answer in (b"hello\n", b"\n", b"v 0\nd 1 7 15\n", b"ok 3\n", b"v 0\n\xff\xfe\n", b"v\x000\n", b"HTTP/1.1 400 Bad Request\n"):
-            with served(["dist 1 6", answer, 0.1]) as session:
+            with served(["dist 1 6", answer, None]) as session:
                 self.assertRaises(Garbled, session.distance, 1, 6)
                 self.assertRaises(Lost, session.wait)
 
@@ -130,7 +132,7 @@ class Scripts(unittest.TestCase):
     def test_both_sides_send_at_once(self) -> None:
         numbers = " ".join(["7"] * 100000)
         line, answer = f"table 1 100000 1 {numbers}", b"".join(b"d 1 7 5\n" for _ in range(100000))
-        with served([b"v 0\n" + answer, line], 20) as session:
+        with served([b"v 0\n" + answer, line]) as session:
             version, [row] = session.table([1], [7] * 100000)
             self.assertEqual((version, set(row), len(row)), (0, {5}, 100000))
 
@@ -185,7 +187,7 @@ class Ways(unittest.TestCase):
                 server.start()
                 with Session.connect(door.getsockname()) as session:
                     self.assertEqual(session.wait(), 4)
-                server.join(10)
+                server.join(PATIENCE)
                 self.assertFalse(server.is_alive())
 
 class Pairs(unittest.TestCase):
@@ -236,10 +238,13 @@ class Pairs(unittest.TestCase):
         self.threads.append(threading.Thread(target=door))
         self.threads[-1].start()
 
+    def lease(self) -> Session:
+        return Session.lease(self.folder, PATIENCE, PATIENCE)
+
     def test_each_lease_is_a_session_of_its_own(self) -> None:
         self.serve(1)
         for count in (1, 2, 3):
-            with Session.lease(self.folder) as session:
+            with self.lease() as session:
                 self.assertEqual([session.wait(), session.wait()], [count, count])
 
     def test_what_one_before_left_is_thrown_away(self) -> None:
@@ -247,19 +252,19 @@ class Pairs(unittest.TestCase):
         self.serve(1)
         with open(f"{name}.in", "wb", buffering=0) as sink, open(f"{name}.out", "rb"):
             sink.write(b"wait\nwait\nset 1")
-        with Session.lease(self.folder) as session:
+        with self.lease() as session:
             self.assertEqual(session.wait(), 2)
 
     def test_a_lease_is_a_lock_of_the_pair(self) -> None:
         self.serve(1)
         self.serve(2)
-        with Session.lease(self.folder) as session:
+        with self.lease() as session:
             with open(self.folder / "1.lock") as lock:
                 self.assertRaises(BlockingIOError, fcntl.flock, lock, fcntl.LOCK_EX | fcntl.LOCK_NB)
-            with Session.lease(self.folder) as other:
+            with self.lease() as other:
                 self.assertEqual([session.wait(), other.wait()], [1, 2])
                 self.assertRaises(Late, Session.lease, self.folder, seconds=0.1)
-            Session.lease(self.folder).close()
+            self.lease().close()
         with open(self.folder / "1.lock") as lock:
             fcntl.flock(lock, fcntl.LOCK_EX | fcntl.LOCK_NB)
 
@@ -269,31 +274,29 @@ class Pairs(unittest.TestCase):
             fcntl.flock(turn, fcntl.LOCK_EX)
             self.assertRaises(Late, Session.lease, self.folder, seconds=0.1)
             threading.Timer(0.2, lambda: fcntl.flock(turn, fcntl.LOCK_UN)).start()
-            Session.lease(self.folder).close()
+            self.lease().close()
 
     def test_a_pair_that_does_not_answer_is_passed_over(self) -> None:
         is_deaf = threading.Event()
         self.pair(1)
         self.serve(2, lambda: not is_deaf.is_set())
         self.serve(3)
-        with Session.lease(self.folder) as session:
+        with self.lease() as session:
             self.assertEqual(session.wait(), 1)
             self.assertTrue((self.folder / "3.lock").exists())
             is_deaf.set()
-            with Session.lease(self.folder) as other:
+            with self.lease() as other:
                 self.assertEqual(other.wait(), 2)
 
     def test_no_server(self) -> None:
         self.pair(1)
-        began = time.monotonic()
         self.assertRaises(Late, Session.lease, self.folder, seconds=0.3)
-        self.assertLess(time.monotonic() - began, 5)
         with open(self.folder / "1.lock") as lock:
             fcntl.flock(lock, fcntl.LOCK_EX | fcntl.LOCK_NB)
 
     def test_nothing_is_written_to_what_is_no_pipe(self) -> None:
         (self.folder / "1.in").write_text("kept")
-        self.assertRaises(Lost, Session.lease, self.folder)
+        self.assertRaises(Lost, self.lease)
         self.assertEqual((self.folder / "1.in").read_text(), "kept")
 
     def test_faults_are_one_kind(self) -> None:

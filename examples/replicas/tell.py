@@ -77,8 +77,8 @@ class Local:
         """The first lines of the answer, and the others as they come."""
         if self.session is None:
             self.session = Session.lease(self.folder, seconds=max(0, until - time.monotonic()))
-        # A server that is there has a second at least.
-        answer = self.session.stream(*lines, seconds=max(1, until - time.monotonic()))
+        # A server that is there has some seconds at least, also where the patience has gone by in waiting for something else.
+        answer = self.session.stream(*lines, seconds=max(5, until - time.monotonic()))
         return list(itertools.islice(answer, KEPT)), answer
 
     def answer(self, lines: list[str], until: float) -> Iterator[str]:

@@ -9,7 +9,7 @@ import tempfile
 import time
 import unittest
 
-from roadmark import OVER_A_LOG, Session
+from roadmark import OVER_A_LOG, Session, Unknown
 
 PROGRAM = os.environ.get("ROADMARK", "")
 EXAMPLES = pathlib.Path(__file__).resolve().parents[1]
@@ -17,6 +17,8 @@ REPLICAS = EXAMPLES / "replicas"
 # Arc 9, a loop, keeps the number of the last entry.
 SIX = "p sp 6 9\na 1 2 17\na 1 3 10\na 2 4 2\na 3 5 0\na 4 3 0\na 4 6 3\na 5 2 0\na 5 6 20\na 1 1 0\n"
 LOOP, ROOM, NAME = 9, 14, "roads"
+# A machine that has much else to do may stand still for a while.
+PATIENCE = 120.0
 
 class InFolder(unittest.TestCase):
     """Each test has a folder, which goes with all that was started in it."""
@@ -27,7 +29,7 @@ class InFolder(unittest.TestCase):
         self.folder = pathlib.Path(folder.name)
 
     def run_program(self, *words: str | os.PathLike[str]) -> str:
-        return subprocess.run([PROGRAM, *words], capture_output=True, text=True, check=True, cwd=self.folder, timeout=60).stdout
+        return subprocess.run([PROGRAM, *words], capture_output=True, text=True, check=True, cwd=self.folder, timeout=PATIENCE).stdout
 
     def create(self, name: str, text: str = SIX, room: int = ROOM) -> pathlib.Path:
         (self.folder / f"{name}.gr").write_text(text)
@@ -49,29 +51,29 @@ class Machine:
         """Ends it in order, and its server with it."""
         if self.child.poll() is None:
             self.child.terminate()
-        return self.child.wait(60)
+        return self.child.wait(PATIENCE)
 
     def said(self) -> str:
         return self.errors.read_text()
 
     def is_up(self) -> None:
-        until = time.monotonic() + 60
+        until = time.monotonic() + PATIENCE
         while "at entry" not in self.said():
             assert self.child.poll() is None and time.monotonic() < until, self.said()
             time.sleep(0.02)
 
     def status(self) -> int:
-        return self.child.wait(60)
+        return self.child.wait(PATIENCE)
 
     def server(self) -> int:
         """The server's process, the follower's child."""
         children = pathlib.Path(f"/proc/{self.child.pid}/task/{self.child.pid}/children")
         return int(children.read_text().split()[0])
 
-    def tell(self, test: InFolder, patience: float = 20) -> Session:
+    def tell(self, test: InFolder, patience: float = PATIENCE) -> Session:
         """A session by tell.py, whose words on standard error go to a file."""
         with self.telling().open("a") as errors:
-            session = Session.start([sys.executable, "-B", REPLICAS / "tell.py", "--patience", str(patience), self.url, NAME, self.pairs], 60, OVER_A_LOG, errors.fileno())
+            session = Session.start([sys.executable, "-B", REPLICAS / "tell.py", "--patience", str(patience), self.url, NAME, self.pairs], 2 * PATIENCE, OVER_A_LOG, errors.fileno())
         test.addCleanup(session.close)
         return session
 
@@ -79,7 +81,16 @@ class Machine:
         return self.store.with_suffix(".told")
 
 def begin(url: str, store: pathlib.Path) -> subprocess.CompletedProcess[str]:
-    return subprocess.run([sys.executable, "-B", REPLICAS / "follow.py", "--program", PROGRAM, "--begin", str(LOOP), url, NAME, store], capture_output=True, text=True, timeout=60)
+    return subprocess.run([sys.executable, "-B", REPLICAS / "follow.py", "--program", PROGRAM, "--begin", str(LOOP), url, NAME, store], capture_output=True, text=True, timeout=PATIENCE)
+
+def settled(session: Session, command: str, identity: str) -> int:
+    """The version of a change that is told under its id until an answer is there."""
+    until = time.monotonic() + PATIENCE
+    while True:
+        try:
+            return session.change(command, identity)
+        except Unknown:
+            assert time.monotonic() < until
 
 def answers(session: Session, lines: list[str]) -> list[list[str]]:
     """The answer to each of the lines, as it came. What was changed is shown before the next one is told: over a log it is, and with a server alone it is waited for."""

@@ -5,7 +5,7 @@ import shutil
 import subprocess
 import unittest
 
-from fronts import EXAMPLES, PROGRAM, InFolder
+from fronts import EXAMPLES, PATIENCE, PROGRAM, InFolder
 
 # A server that has the network of six nodes: it carries out any `set` of an arc up to 8, and does as its store is called.
 FAKE = """#!/usr/bin/env python3
@@ -54,7 +54,7 @@ class WithFeed(InFolder):
         shutil.copytree(EXAMPLES, self.folder / "examples")
 
     def feed(self, text: str, store: str = "six.store", gr: str = "examples/six.gr") -> subprocess.CompletedProcess[str]:
-        ended = subprocess.run(["examples/feed.sh", gr, store], input=text, capture_output=True, text=True, cwd=self.folder, timeout=60)
+        ended = subprocess.run(["examples/feed.sh", gr, store], input=text, capture_output=True, text=True, cwd=self.folder, timeout=PATIENCE)
         self.assertFalse((self.folder / "pwned").exists())
         return ended
 
@@ -140,6 +140,6 @@ class FeedOfTheProgram(WithFeed):
             server.stdin.flush()
             server.stdout.readline()
             ended = self.feed("4,6,1\n" * 1000)
-            server.communicate(timeout=60)
+            server.communicate(timeout=PATIENCE)
         self.assertEqual((ended.returncode, ended.stdout), (1, ""))
         self.assertIn("feed: six.store can't be served (is it in use by another program?): the server has ended with status 1\n", ended.stderr)

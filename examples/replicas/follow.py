@@ -244,7 +244,7 @@ class Follower:
             tail.is_let_go = True
 
     def stand(self, server: Server, begin: Begin) -> tuple[int, int]:
-        """The version and the entry that the store has, which is held against the log: what stays for the life of a file, and the counts that are known of the entry."""
+        """The version and the entry that the store has, which is held against the log: what stays for the life of a file, and what is known of the entry."""
         if (server.room, server.nodes) != (begin.room, begin.nodes):
             raise Astray(f"the store has room for {server.room} arcs and {server.nodes} nodes, and the log {self.told.name} was begun with room for {begin.room} arcs and {begin.nodes} nodes: "
                          "such a store would refuse what the others accept, so this machine begins with a copy of another one's store")
@@ -252,12 +252,15 @@ class Follower:
         number = begin.entry + version - begin.version
         if number < begin.entry or number % LENGTHS != mark:
             raise Astray(f"at version {version} the store should have entry {number}, and arc {begin.arc} has {mark}: it is no copy of the others, or somebody else wrote to it")
-        counts = self.arcs, *_ = server.counts() if number == begin.entry else (server.arcs(),)
-        first = (begin.arcs, begin.landmarks, begin.closed)
-        if number == begin.entry and counts != first:
-            raise Astray("the store has {} arcs, {} landmarks and {} closed arcs where the log begins, and the log has {}, {} and {}: it is no copy of the others".format(*counts, *first))
+        if number == begin.entry:
+            self.begins_alike(server.counts(), (begin.arcs, begin.landmarks, begin.closed))
+        self.arcs = server.arcs()
         self.agree(number, self.steadily(server, lambda: self.log.count(number, self.arcs, False)))
         return version, number
+
+    def begins_alike(self, counts: tuple[int, int, int], first: tuple[int, int, int]) -> None:
+        if counts != first:
+            raise Astray("the store has {} arcs, {} landmarks and {} closed arcs where the log begins, and the log has {}, {} and {}: it is no copy of the others".format(*counts, *first))
 
     def agree(self, number: int, other: str) -> None:
         if other:

@@ -5,79 +5,41 @@ It needs five pairs of pipes: a connection that finds none free waits, and after
     examples/clients.py SOCKET        (docs/PROGRAM.md, "Many clients", has the server and the socket)
 """
 import concurrent.futures
+import pathlib
 import queue
-import socket
 import sys
 
-class Refused(Exception):
-    """An answer `no CODE`."""
+sys.path.insert(0, str(pathlib.Path(__file__).resolve().parent.parent / "client"))
+from roadmark import Fault, Late, Length, Refused, Session
 
 PATIENCE = 10
-
-class Connection:
-    """A session with the server. One line is told, and its whole answer read, before the next one."""
-
-    def __init__(self, path):
-        self.socket = socket.socket(socket.AF_UNIX)
-        self.socket.settimeout(PATIENCE)
-        self.socket.connect(path)
-        self.lines = self.socket.makefile("rw", newline="\n")
-
-    def tell(self, line):
-        self.lines.write(line + "\n")
-        self.lines.flush()
-        return self.hear()
-
-    def hear(self):
-        answer = self.lines.readline().split()
-        if not answer:
-            raise EOFError("the server has gone")
-        if answer[0] == "no":
-            raise Refused(int(answer[1]))
-        return answer
-
-    def change(self, line):
-        return int(self.tell(line)[1])
-
-    def wait(self):
-        return int(self.tell("wait")[1])
-
-    def distance(self, source, target):
-        """The version, and the least length of a walk, or None where there is none."""
-        version = int(self.tell(f"dist {source} {target}")[1])
-        answer = self.hear()
-        return version, int(answer[3]) if answer[0] == "d" else None
-
-    def close(self):
-        self.lines.close()
-        self.socket.close()
 
 class Clients:
     """Connections that are kept, and lent to one caller at a time."""
 
-    def __init__(self, path, count):
-        self.free = queue.SimpleQueue()
+    def __init__(self, path: str, count: int) -> None:
+        self.free: queue.SimpleQueue[Session] = queue.SimpleQueue()
         for _ in range(count):
-            self.free.put(Connection(path))
+            self.free.put(Session.connect(path, PATIENCE))
 
-    def distance(self, pair):
-        connection = self.free.get()
+    def distance(self, pair: tuple[int, int]) -> tuple[int, Length]:
+        session = self.free.get()
         try:
-            return connection.distance(*pair)
+            return session.distance(*pair)
         finally:
-            self.free.put(connection)
+            self.free.put(session)
 
-    def close(self):
+    def close(self) -> None:
         while not self.free.empty():
             self.free.get().close()
 
-def run(path):
+def run(path: str) -> None:
     """Asks for all pairs of nodes before and after arc 7 is closed, and opens it again."""
     clients = Clients(path, 4)
     pairs = [(source, target) for source in range(1, 7) for target in range(1, 7)]
     with concurrent.futures.ThreadPoolExecutor(8) as callers:
         before = list(callers.map(clients.distance, pairs))
-        writer = Connection(path)
+        writer = Session.connect(path, PATIENCE)
         # A query first: where no pair is free, no change has been sent when the script gives up.
         writer.distance(1, 6)
         number = writer.change("close 7")
@@ -90,14 +52,19 @@ def run(path):
     writer.close()
     clients.close()
 
-if len(sys.argv) != 2:
-    print("usage: examples/clients.py SOCKET", file=sys.stderr)
-    sys.exit(2)
-try:
-    run(sys.argv[1])
-except TimeoutError:
-    sys.exit(f"clients: no answer within {PATIENCE} seconds: are there five pairs, and all of them free?")
-except Refused as refused:
-    sys.exit(f"clients: refused, code {refused}: is arc 7 open, and the network that of examples/six.gr?")
-except (EOFError, OSError) as fault:
-    sys.exit(f"clients: {fault}")
+def main() -> int | str:
+    if len(sys.argv) != 2:
+        print("usage: examples/clients.py SOCKET", file=sys.stderr)
+        return 2
+    try:
+        run(sys.argv[1])
+    except Late:
+        return f"clients: no answer within {PATIENCE} seconds: are there five pairs, and all of them free?"
+    except Refused as refused:
+        return f"clients: {refused}: is arc 7 open, and the network that of examples/six.gr?"
+    except Fault as fault:
+        return f"clients: {fault}"
+    return 0
+
+if __name__ == "__main__":
+    sys.exit(main())

@@ -13,7 +13,7 @@ TOP = pathlib.Path(__file__).resolve().parent.parent
 PAGES = [TOP / "README.md", *sorted((TOP / "docs").glob("*.md"))]
 LINK = re.compile(r"\]\(([^)\s]+)\)")
 # A path of the repository, as pages name it: `docs/X.md` with or without marks, and files of crates between marks.
-NAMED = re.compile(r"(?<![\w/`.-])(?:docs|tools|examples)/[\w.-]*\w|`((?:crates|docs|tools|examples)/[\w./-]+)`")
+NAMED = re.compile(r"(?<![\w/`.-])(?:docs|tools|examples|client)/[\w.-]*\w|`((?:crates|docs|tools|examples|client)/[\w./-]+)`")
 # Not there before the program is built, or made by a tour.
 MADE = ("crates/roadmark/out", "crates/NAME")
 # A number of edits, as pages tell it.

@@ -15,7 +15,6 @@ import pathlib
 import random
 import select
 import signal
-import socket
 import subprocess
 import sys
 import tempfile
@@ -23,59 +22,31 @@ import threading
 import time
 
 TOP = pathlib.Path(__file__).resolve().parent.parent
+sys.path.insert(0, str(TOP / "client"))
+from roadmark import Late, Lost, Session
+
 ATTACH = TOP / "examples" / "attach.sh"
 PAIRS = TOP / "examples" / "pairs.sh"
 SIX = [(1, 2, 17), (1, 3, 10), (2, 4, 2), (3, 5, 0), (4, 3, 0), (4, 6, 3), (5, 2, 0), (5, 6, 20)]
 LANDMARKS = (3, 6)
 
-class Gone(Exception):
-    """The server closed the connection."""
-
-class Line:
-    """A connection with the server: one line is told, and its whole answer read."""
-
-    def __init__(self, path):
-        for _ in range(100):
-            self.socket = socket.socket(socket.AF_UNIX)
-            try:
-                self.socket.connect(path)
-                break
-            except OSError:
-                self.socket.close()
-                time.sleep(0.01)
-        else:
-            raise Gone
-        self.kept = b""
-
-    def send(self, text):
+def connect(path):
+    """A session over the socket, which may not be there yet."""
+    for _ in range(99):
         try:
-            self.socket.sendall(text.encode())
-        except OSError:
-            raise Gone from None
+            return Session.connect(path)
+        except Lost:
+            time.sleep(0.01)
+    return Session.connect(path)
 
-    def hear(self):
-        while b"\n" not in self.kept:
-            try:
-                part = self.socket.recv(65536)
-            except OSError:
-                raise Gone from None
-            if not part:
-                raise Gone
-            self.kept += part
-        line, self.kept = self.kept.split(b"\n", 1)
-        return line.decode().split()
+def tell(session, *lines):
+    """The fields of the first line of the answer."""
+    return next(session.stream(*lines)).split()
 
-    def tell(self, line):
-        self.send(line + "\n")
-        return self.hear()
-
-    def ask(self, line):
-        """The version and the answer line, or the code and None."""
-        first = self.tell(line)
-        return (int(first[1]), self.hear()) if first[0] == "v" else (int(first[1]), None)
-
-    def close(self):
-        self.socket.close()
+def ask(session, line):
+    """The version and the answer line, or the code and None."""
+    first, *rest = map(str.split, session.stream(line))
+    return int(first[1]), rest[0] if rest else None
 
 class Server:
     """A server with so many pairs, and a socket in front of it."""
@@ -89,9 +60,6 @@ class Server:
         if os.path.exists(self.path):
             os.remove(self.path)
         self.front = subprocess.Popen(["socat", "-t", "60", f"UNIX-LISTEN:{self.path},fork,backlog=100", f"EXEC:{ATTACH} {folder}/pairs"], stderr=subprocess.DEVNULL, start_new_session=True)
-
-    def connect(self):
-        return Line(self.path)
 
     def end_front(self):
         try:
@@ -177,16 +145,17 @@ class Client(threading.Thread):
     def __init__(self, server, until, asks=True):
         super().__init__(daemon=True)
         self.server, self.until, self.asks = server, until, asks
-        self.oks, self.answers, self.refused, self.sessions, self.falls, self.unread = [], [], 0, 0, 0, []
+        self.oks, self.answers, self.refused, self.sessions, self.falls = [], [], 0, 0, 0
 
     def run(self):
         while time.monotonic() < self.until:
             try:
-                self.session(self.server.connect())
-            except Gone:
+                with connect(self.server.path) as session:
+                    self.session(session)
+            except (Late, Lost):
                 pass
 
-    def session(self, line):
+    def session(self, session):
         self.sessions += 1
         seen = accepted = 0
         for _ in range(random.choice([3, 30, 3000])):
@@ -195,24 +164,21 @@ class Client(threading.Thread):
             kind = random.random()
             if kind < 0.5 or not self.asks:
                 group = [random_change() for _ in range(random.choice([1, 1, 1, 2, 5]))]
-                text = group[0] if len(group) == 1 else "\n".join(["begin", *group, "end"])
-                self.unread.append(group)
-                answer = line.tell(text)
-                self.unread.pop()
+                answer = tell(session, *(group if len(group) == 1 else ["begin", *group, "end"]))
                 if answer[0] == "ok":
                     accepted = int(answer[1])
                     self.oks.append((accepted, group))
                 else:
                     self.refused += 1
                     if answer[1] not in ("22", "23", "25", "26"):
-                        raise SystemExit(f"{text!r} was told {answer}")
+                        raise SystemExit(f"{group} was told {answer}")
             elif kind < 0.6:
-                version = int(line.tell("wait")[1])
+                version = session.wait()
                 self.falls += version < max(seen, accepted)
                 seen = max(seen, version)
             else:
                 query = f"{random.choice(['dist', 'from', 'lower'])} {random.randint(1, 6)} {random.randint(1, 6)}"
-                version, answer = line.ask(query)
+                version, answer = ask(session, query)
                 if answer is None:
                     if version == 26 and query.startswith("from"):
                         continue
@@ -220,7 +186,6 @@ class Client(threading.Thread):
                 self.falls += version < seen
                 seen = max(seen, version)
                 self.answers.append((version, query, answer))
-        line.close()
 
 def judge(clients, first, groups):
     """Compares all that was told with the model; `groups` are those told before, by their numbers."""
@@ -391,14 +356,14 @@ def try_deaf(program, folder):
         except BlockingIOError:
             still += 1
             time.sleep(0.05)
-    other = server.connect()
+    other = connect(server.path)
     slowest = 0
     for _ in range(2000):
         began = time.monotonic()
-        version, answer = other.ask(f"from 1 {random.randint(2, nodes)}")
+        version, answer = ask(other, f"from 1 {random.randint(2, nodes)}")
         slowest = max(slowest, time.monotonic() - began)
         assert answer is not None
-    assert other.tell("set 1 7") == ["ok", "1"]
+    assert other.change("set 1 7") == 1
     status, took = server.quit()
     assert status == 0 and took < 5, (status, took)
     assert version_of(program, store) == 1

@@ -2,7 +2,7 @@
 # Runs every tour of README.md, docs/PROGRAM.md, the man page and, where etcd is there, docs/REPLICAS.md with the built program, and compares what is printed with what stands there.
 #   tools/tour.sh [PROGRAM]
 # A tour is a code block, four blanks wide, whose first line begins with `$ `. Such a line is run, and the lines after it are what it prints on both streams. Each heading
-# `## ` begins in a new folder with the examples and the program as ./roadmark. Then the words and options of help are compared with those of the man page, the clauses
+# `## ` begins in a new folder with the examples, the client module and the program as ./roadmark. Then the words and options of help are compared with those of the man page, the clauses
 # and quotations of the pages with the sources, the pages' links are followed, and wrong bodies are fitted to the sources.
 set -u
 top=$(cd "$(dirname "${BASH_SOURCE[0]}")/.." && pwd)
@@ -30,7 +30,7 @@ split_page() {
 # Runs the steps of a folder in one shell, each with its own output.
 run_steps() {
   local folder=$1 step
-  cp -r "$top/examples" "$folder/run/examples"
+  cp -r "$top/examples" "$top/client" "$folder/run"
   ln -s "$program" "$folder/run/roadmark"
   for step in "$folder"/*.command; do
     printf '{\n%s\n} > %s.seen 2>&1\n' "$(cat "$step")" "${step%.command}"

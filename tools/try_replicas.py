@@ -13,7 +13,6 @@ Needs the built program, etcd and flock. All is in a folder of its own, on ports
 import os
 import pathlib
 import random
-import select
 import shutil
 import signal
 import socket
@@ -25,14 +24,12 @@ import time
 
 TOP = pathlib.Path(__file__).resolve().parent.parent
 REPLICAS = TOP / "examples" / "replicas"
-sys.path.insert(0, str(REPLICAS))
-from log import Begin, Log, NoLog, Unreachable
+sys.path[:0] = [str(REPLICAS), str(TOP / "client")]
+from log import Log, NoLog, Unreachable
+from roadmark import OVER_A_LOG, Fault, Lost, Session
 
 SIX = [(1, 2, 17), (1, 3, 10), (2, 4, 2), (3, 5, 0), (4, 3, 0), (4, 6, 3), (5, 2, 0), (5, 6, 20), (1, 1, 0)]
 LANDMARKS, ARC, ROOM, NAME, PATIENCE, LONGEST = (3, 6), 9, 14, "roads", 5, 120
-
-class Gone(Exception):
-    """The process at the other end has ended."""
 
 def process(words, folder, name, **streams):
     """A process in a session of its own, whose errors go to a file."""
@@ -105,52 +102,20 @@ class Machine:
     def errors(self):
         return (self.all.folder / f"follow-{self.name}.errors").read_text()
 
-class Talk:
-    """A session by tell.py with one machine."""
+def tell(talk, *lines):
+    """The fields of the first line of the answer."""
+    return next(talk.stream(*lines)).split()
 
-    def __init__(self, all, machine):
-        self.child, self.kept = all.tell(machine), b""
-
-    def send(self, lines):
-        try:
-            self.child.stdin.write("".join(line + "\n" for line in lines).encode())
-            self.child.stdin.flush()
-        except OSError:
-            raise Gone from None
-
-    def hear(self):
-        until = time.monotonic() + LONGEST
-        while b"\n" not in self.kept:
-            assert select.select([self.child.stdout], [], [], max(0, until - time.monotonic()))[0], "tell.py brought no answer"
-            part = os.read(self.child.stdout.fileno(), 65536)
-            if not part:
-                raise Gone
-            self.kept += part
-        line, self.kept = self.kept.split(b"\n", 1)
-        return line.decode().split()
-
-    def tell(self, *lines):
-        self.send(lines)
-        return self.hear()
-
-    def ask(self, line):
-        """The version and the answer line, or the code and None."""
-        first = self.tell(line)
-        return (int(first[1]), self.hear()) if first[0] == "v" else (int(first[1]), None)
-
-    def end(self):
-        try:
-            self.child.stdin.close()
-        except OSError:
-            pass
-        self.child.wait(LONGEST)
-        self.child.stdout.close()
+def ask(talk, line):
+    """The version and the answer line, or the code and None."""
+    first, *rest = map(str.split, talk.stream(line))
+    return int(first[1]), rest[0] if rest else None
 
 class All:
     """Members, machines, and what is in front of them."""
 
     def __init__(self, program, folder):
-        self.program, self.folder, self.tells = program, folder, 0
+        self.program, self.folder = program, folder
         places = [socket.socket() for _ in range(6)]
         for place in places:
             place.bind(("127.0.0.1", 0))
@@ -162,9 +127,10 @@ class All:
         # The one that will be away: its place in the log goes soon.
         self.machines[3].options = ["--lease", 8]
 
-    def tell(self, machine):
-        self.tells += 1
-        return process([REPLICAS / "tell.py", "--patience", PATIENCE, machine.urls, NAME, machine.pairs], self.folder, f"tell-{machine.name}", stdin=subprocess.PIPE, stdout=subprocess.PIPE)
+    def talk(self, machine):
+        """A session by tell.py with one machine."""
+        with open(self.folder / f"tell-{machine.name}.errors", "a") as errors:
+            return Session.start([REPLICAS / "tell.py", "--patience", str(PATIENCE), machine.urls, NAME, machine.pairs], LONGEST, OVER_A_LOG, errors.fileno())
 
     def log(self, name=NAME):
         return Log([member.url for member in self.members], name)
@@ -202,11 +168,10 @@ class All:
         began, took = time.monotonic(), []
         _, head, _ = self.log().entries(1, 1)
         for machine in machines:
-            talk = Talk(self, machine)
-            while talk.tell(f"until {head}")[0] != "v":
-                assert time.monotonic() < began + 5 * LONGEST, f"machine {machine.name} does not catch up"
+            with self.talk(machine) as talk:
+                while tell(talk, f"until {head}")[0] != "v":
+                    assert time.monotonic() < began + 5 * LONGEST, f"machine {machine.name} does not catch up"
             took.append(time.monotonic() - began)
-            talk.end()
         return took
 
     def end(self):
@@ -287,10 +252,10 @@ class Client(threading.Thread):
 
     def run(self):
         try:
-            talk = Talk(self.all, self.machine)
+            talk = self.all.talk(self.machine)
             while not self.is_let_go:
                 talk = self.change(talk, f"{self.name}-{len(self.told)}", self.group())
-            talk.end()
+            talk.close()
         except BaseException as fault:
             self.fault = fault
 
@@ -298,16 +263,16 @@ class Client(threading.Thread):
         lines = group if len(group) == 1 else ["begin", *group, "end"]
         while True:
             try:
-                talk.send([f"id {identity}", *lines])
+                answers = talk.stream(f"id {identity}", *lines)
                 if self.kills and random.random() < 0.01:
                     time.sleep(random.random() * 0.03)
-                    talk.child.kill()
+                    talk.wire.child.kill()
                     self.killed += 1
-                answer = talk.hear()
-            except Gone:
+                answer = next(answers).split()
+            except Lost:
                 # Told again, maybe on another machine.
-                talk.end()
-                talk = Talk(self.all, random.choice(self.all.machines[:3]) if self.kills else self.machine)
+                talk.close()
+                talk = self.all.talk(random.choice(self.all.machines[:3]) if self.kills else self.machine)
                 self.again += 1
                 continue
             if answer[0] != "unknown":
@@ -323,17 +288,17 @@ class Client(threading.Thread):
     def look(self, version):
         """One's own write is read on another machine."""
         other = random.choice([machine for machine in self.all.machines[:3] if machine is not self.machine])
-        talk = Talk(self.all, other)
+        talk = self.all.talk(other)
         try:
-            shown = talk.tell(f"until {version}")
+            shown = tell(talk, f"until {version}")
             assert shown[0] == "no" or int(shown[1]) >= version, "`until` told an earlier version"
             if shown[0] == "v":
-                seen, _ = talk.ask(f"arc {ARC}")
+                seen, _ = ask(talk, f"arc {ARC}")
                 assert seen >= version, "one's own write is not seen"
                 self.looked += 1
-        except Gone:
+        except Lost:
             pass
-        talk.end()
+        talk.close()
 
 class Reader(threading.Thread):
     """Asks one machine until it is let go."""
@@ -345,10 +310,10 @@ class Reader(threading.Thread):
 
     def run(self):
         try:
-            talk, seen, before = Talk(self.all, self.machine), 0, time.monotonic()
+            talk, seen, before = self.all.talk(self.machine), 0, time.monotonic()
             while not self.is_let_go:
                 source, target = random.randint(1, 6), random.randint(1, 6)
-                version, answer = talk.ask(f"dist {source} {target}")
+                version, answer = ask(talk, f"dist {source} {target}")
                 now = time.monotonic()
                 if answer is None:
                     self.refused += 1
@@ -359,7 +324,7 @@ class Reader(threading.Thread):
                     self.when.append(now)
                     self.longest, before = max(self.longest, now - before), now
                 time.sleep(0.01)
-            talk.end()
+            talk.close()
         except BaseException as fault:
             self.fault = fault
 
@@ -527,11 +492,8 @@ def try_faults(all, count):
 
 def write(all, count, machine=0):
     """So many changes, by one client."""
-    talk = Talk(all, all.machines[machine])
-    told = [talk.tell(f"set {1 + number % 8} {number}") for number in range(count)]
-    talk.end()
-    assert {answer[0] for answer in told} == {"ok"}, told[:3]
-    return int(told[-1][1])
+    with all.talk(all.machines[machine]) as talk:
+        return [talk.change(f"set {1 + number % 8} {number}") for number in range(count)][-1]
 
 def try_cut(all, _):
     """Old entries go where each machine has them; a machine that was away too long is told so, and begins with a copy."""
@@ -560,7 +522,7 @@ def try_cut(all, _):
             all.run("apply", away.store, all.folder / "stray")
         if kind == "lost":
             name = "lost"
-            all.log(name).make(Begin(0, 0, ARC))
+            all.log(name).make(all.log().begin())
         away.start(name)
         assert away.child.wait(LONGEST) == 3 and text in away.errors().split("\n")[-2], (kind, away.errors()[-300:])
         print("cut: " + away.errors().split("\n")[-2], flush=True)
@@ -636,25 +598,23 @@ def try_measure(all, _, seconds=15):
     for machine in all.machines[:3]:
         if machine.child.poll() is not None:
             machine.start()
-    all.log("alone").make(Begin(0, 0, ARC))
+    all.log("alone").make(all.log().begin())
     for count in (1, 3):
         print(f"measure: {count} clients: etcd alone {appended(all, 'alone', count, seconds):.0f} entries a second; by tell.py {told(all, count, seconds):.0f} changes a second, each shown on its machine", flush=True)
     print(f"measure: 3 clients, 252 commands a change: {252 * told(all, 3, seconds, 252):.0f} commands a second", flush=True)
     print(f"measure: a server alone, one session: {served(all, seconds):.0f} changes a second", flush=True)
-    talks = [Talk(all, machine) for machine in all.machines[:3]]
+    talks = [all.talk(machine) for machine in all.machines[:3]]
     log, times, whole = all.log(), [], []
     for number in range(300):
         began = time.monotonic()
-        answer = talks[0].tell(f"set {1 + number % 8} {number}")
+        version = talks[0].change(f"set {1 + number % 8} {number}")
         heard = time.monotonic()
-        for talk in talks[1:]:
-            talk.send([f"until {answer[1]}"])
-        for talk in talks[1:]:
-            assert talk.hear()[0] == "v", "a told version was not shown on another machine"
+        for answer in [talk.stream(f"until {version}") for talk in talks[1:]]:
+            assert next(answer).startswith("v"), "a told version was not shown on another machine"
         times.append(time.monotonic() - heard)
         whole.append(heard - began)
     for talk in talks:
-        talk.end()
+        talk.close()
     times.sort()
     whole.sort()
     print(f"measure: from sent to told {1000 * whole[150]:.1f} ms, the slowest in a hundred {1000 * whole[297]:.1f} ms; from told to shown on all three {1000 * times[150]:.1f} ms, "
@@ -683,7 +643,7 @@ def main(words):
         all.start()
         for part in rest or PARTS:
             PARTS[part](all, count)
-    except (AssertionError, subprocess.SubprocessError) as fault:
+    except (AssertionError, Fault, subprocess.SubprocessError) as fault:
         print(f"try_replicas: {type(fault).__name__}: {fault}; all that was said stands in {folder}", file=sys.stderr)
         return 1
     finally:

@@ -1,0 +1,221 @@
+#!/usr/bin/env bash
+# The steps of tools/try_units.sh, which runs them as a service of its container. Each is a process of its own with a time limit; a line is told of each thing that is looked at.
+set -u
+store=/var/lib/roadmark/roads.store
+examples=/usr/share/doc/roadmark/examples
+pairs=/run/roadmark/pairs
+client=/run/roadmark-client.sock
+units='roadmark.service roadmark-client.socket'
+
+# is NAME WANTED SEEN
+is() {
+  if [ "$2" = "$3" ]; then echo "ok      $1"; else echo "FAILED  $1: wanted ${2@Q}, seen ${3@Q}"; fi
+}
+# holds NAME COMMAND..
+holds() {
+  local name=$1
+  shift
+  if "$@" > /dev/null 2>&1; then echo "ok      $name"; else echo "FAILED  $name: ${*@Q}"; fi
+}
+# within NAME SECONDS COMMAND..: it succeeds in so many seconds
+within() {
+  local name=$1 seconds=$2 began=$SECONDS
+  shift 2
+  if timeout "$seconds" "$@" > /dev/null 2>&1; then echo "ok      $name ($((SECONDS - began)) s)"; else echo "FAILED  $name: not within $seconds s: ${*@Q}"; fi
+}
+# The answers to lines, on one line.
+ask() { printf "$1" | timeout "${2:-20}" socat -t "${2:-20}" - "UNIX-CONNECT:$client" 2>&1 | paste -sd /; }
+# until_answers SECONDS: the seconds until a client is answered
+until_answers() {
+  local began=$SECONDS
+  while [ $((SECONDS - began)) -lt "$1" ]; do
+    case $(ask 'dist 1 6\n' 5) in *'d 1 6 '*) echo "$((SECONDS - began))"; return ;; esac
+    sleep 0.2
+  done
+  return 1
+}
+answered() { until_answers "$1" > /dev/null; }
+main_pid() { systemctl show --property MainPID --value roadmark.service; }
+# stops NAME: a stop of the service ends within ten seconds
+stops() {
+  within "$1" 10 systemctl stop roadmark.service
+  systemctl is-active --quiet roadmark.service || [ "$(main_pid)" = 0 ] || systemctl kill --kill-whom=all --signal=KILL roadmark.service
+}
+fresh_store() {
+  systemctl stop roadmark.service
+  rm -rf "$store" /var/lib/roadmark/copies
+  runuser -u roadmark -- roadmark create "$store" "$examples/six.gr" "$examples/six.ss" > /dev/null
+}
+
+step_install() {
+  holds 'the package is installed' dpkg --install /try/old.deb
+  holds 'the user is made' id roadmark
+  id roadmark > /dev/null 2>&1 || systemd-sysusers
+  is 'nothing is enabled or started' 'disabled inactive' "$(systemctl is-enabled roadmark.service) $(systemctl is-active roadmark.service)"
+  install -d -o roadmark -g roadmark /var/lib/roadmark
+  fresh_store
+  within 'the service and its socket start' 20 systemctl enable --now $units
+  is 'a client is answered' 'v 0/d 1 6 15' "$(ask 'dist 1 6\n')"
+  is 'a hot copy is made as installed' 'copied 0' "$(ask 'copy monday\n')"
+  is 'the copy is a store' 'v 0/d 1 6 15/x 6 1' "$(roadmark ask /var/lib/roadmark/copies/monday "$examples/six.p2p" 2>&1 | paste -sd /)"
+}
+
+step_stop() {
+  local round
+  for round in 1 2 3; do
+    systemctl start --no-block roadmark.service
+    stops "start and stop at once, $round"
+    systemctl start roadmark.service
+    stops "start, and stop at once behind it, $round"
+  done
+  holds 'the store is let go' roadmark check "$store"
+  holds 'a client of a stopped service is refused' bash -c "! socat -u OPEN:/dev/null UNIX-CONNECT:$client"
+  systemctl start roadmark.service
+  (sleep 1; printf 'dist 1 6\n'; sleep 30) | timeout 20 socat -t 1 - "UNIX-CONNECT:$client" > /try/held &
+  sleep 3
+  stops 'a stop does not wait for a silent client'
+  within 'that client is told the end' 5 tail --pid=$! -f /dev/null
+  is 'and had its answer' 'v 0/d 1 6 15' "$(paste -sd / /try/held)"
+  systemctl start $units
+}
+
+step_comes_back() {
+  systemctl start roadmark.service
+  answered 20
+  systemctl kill --kill-whom=all --signal=KILL roadmark.service
+  within 'killed, it is back' 20 bash "$0" --answered 20
+  echo quit > /run/roadmark/input
+  sleep 0.5
+  within 'ended by its standard input, it is back' 20 bash "$0" --answered 20
+  systemctl stop roadmark.service
+  flock --shared "$store" sleep 4 &
+  sleep 0.5
+  systemctl start --no-block $units
+  wait
+  within 'a lock of four seconds at its start is waited out' 20 bash "$0" --answered 20
+}
+
+step_burst() {
+  systemctl restart roadmark.service
+  systemctl reset-failed
+  systemctl start $units
+  python3 - "$client" <<'PYTHON'
+import socket, sys, time
+begun, told = time.monotonic(), 0
+for _ in range(3):
+    held = []
+    for _ in range(1000):
+        one = socket.socket(socket.AF_UNIX)
+        try:
+            one.connect(sys.argv[1])
+            held.append(one)
+        except OSError:
+            told += 1
+    for one in held:
+        one.close()
+print(f"        3,000 connections in {time.monotonic() - begun:.1f} s, {told} refused")
+PYTHON
+  within 'after 3,000 connections in a burst a client is answered' 80 bash "$0" --answered 80
+  is 'and the socket is there' 'active' "$(systemctl is-active roadmark-client.socket)"
+}
+
+step_kill() {
+  answered 60
+  holds 'kill -9 under twelve clients: nothing told is lost' python3 /try/try_units_clients.py "$client" 12 3
+}
+
+# Clients that come while no server holds the pipes: all are answered or told the end, none hangs.
+step_no_server() {
+  systemctl start $units
+  answered 60
+  local began=$SECONDS status=0 one
+  mkdir -p /try/nobody && mkfifo /try/nobody/1.in /try/nobody/1.out /try/nobody/2.in /try/nobody/2.out
+  printf 'dist 1 6\n' | timeout 60 /usr/lib/roadmark/attach.sh /try/nobody > /try/told 2>&1 || status=$?
+  is 'attach.sh without a server ends with status 1' 1 "$status"
+  holds "and says so, within 15 s ($((SECONDS - began)) s)" test "$((SECONDS - began))" -le 15 -a -s /try/told
+  flock --shared "$store" sleep 6 &
+  sleep 0.2
+  systemctl kill --signal=KILL roadmark.service
+  for one in 1 2 3; do
+    (sleep "$one"; printf 'dist 1 6\n' | timeout 60 socat -t 60 - "UNIX-CONNECT:$client" > "/try/came.$one"; echo "status $?" >> "/try/came.$one") &
+  done
+  wait
+  holds 'clients that came while it was started again do not hang' bash -c '! grep -l "status 124" /try/came.*'
+  within 'no client process is left of them' 20 bash -c 'while systemctl list-units --no-legend --all "roadmark-client@*" | grep -q .; do sleep 0.5; done'
+  within 'the next one is answered' 20 bash "$0" --answered 20
+}
+
+# A client that says `until` of a version that does not come, and leaves.
+step_gone_client() {
+  answered 60
+  local one
+  for one in 1 2; do
+    printf 'until 99999999\n' | timeout 1 runuser -u roadmark -- /usr/lib/roadmark/attach.sh "$pairs"
+  done
+  is 'its pair is passed over' 'd 1 6' "$(ask 'dist 1 6\n' 15 | sed 's/.*\(d 1 6\).*/\1/')"
+}
+
+step_full_disk() {
+  systemctl stop $units
+  mount -t tmpfs -o size=400k,mode=755 tmpfs /var/lib/roadmark
+  chown roadmark: /var/lib/roadmark
+  runuser -u roadmark -- roadmark create "$store" "$examples/six.gr" "$examples/six.ss" > /dev/null
+  systemctl start $units
+  answered 20
+  dd if=/dev/zero of=/var/lib/roadmark/filler bs=4k status=none 2> /dev/null
+  is 'with a full disk 300 changes are durable' 300 "$(seq 300 | sed 's/.*/set 8 &/' | timeout 20 socat -t 20 - "UNIX-CONNECT:$client" | grep -c '^ok ')"
+  is 'a copy is refused' 'no 43' "$(ask 'copy full\n')"
+  is 'and leaves nothing' '' "$(ls /var/lib/roadmark/copies)"
+  systemctl kill --signal=KILL roadmark.service
+  answered 20
+  is 'killed then, the last change is there' 'a 8 5 6 300 open' "$(ask 'arc 8\n' | sed 's/.*\///')"
+  systemctl stop $units
+  umount /var/lib/roadmark
+}
+
+step_security() {
+  local unit score
+  for unit in roadmark.service roadmark-client@.service roadmark-follow.service roadmark-tell@.service; do
+    score=$(systemd-analyze security --offline=true "/lib/systemd/system/$unit" 2> /dev/null | sed -n 's/.*exposure level for .*: \([0-9.]*\) .*/\1/p')
+    holds "exposure of $unit: $score, below 3" awk "BEGIN { exit !(${score:-10} < 3) }"
+  done
+}
+
+# The two servers take turns, each with a folder of its own below /run.
+step_turns() {
+  systemctl start $units
+  answered 20
+  systemctl start --no-block roadmark-follow.service
+  sleep 3
+  is 'roadmark-follow.service takes its place' 'inactive' "$(systemctl is-active roadmark.service)"
+  systemctl start $units
+  within 'and gives it back' 20 bash "$0" --answered 20
+  is 'each has a folder of its own' '' "$(journalctl --boot --unit roadmark-follow.service --unit roadmark.service | grep -o Traceback | head -n 1)"
+  is 'roadmark-follow.service has ended' 'inactive' "$(systemctl is-active roadmark-follow.service | sed 's/failed/inactive/')"
+}
+
+step_package() {
+  systemctl start $units
+  answered 20
+  local version=$(ask 'set 3 77\nwait\n')
+  within 'the package is upgraded' 60 dpkg --install /try/later.deb
+  within 'a client is answered' 20 bash "$0" --answered 20
+  is 'by the new program' '/usr/bin/roadmark' "$(readlink "/proc/$(main_pid)/exe")"
+  is 'with what the old one was told' 'a 3 1 3 77 open' "$(ask 'arc 3\n' | sed 's/.*\///' | cut -d' ' -f1-7 | sed 's/a 3 [0-9]* [0-9]* /a 3 1 3 /')"
+  within 'the package is removed' 60 dpkg --remove roadmark
+  is 'its units are stopped' 'inactive inactive' "$(systemctl is-active $units | sed 's/unknown/inactive/' | paste -sd ' ')"
+  is 'no process of it is left' '' "$(pgrep -u roadmark)"
+  holds 'the store is let go, and there' flock --exclusive --nonblock "$store" true
+  within 'the package is purged' 60 dpkg --purge roadmark
+  is 'no link and no file is left' '' "$(find /etc/systemd /lib/systemd /usr/lib/systemd /usr/lib/sysusers.d /usr/bin /usr/lib/roadmark /usr/share/doc /run /var/lib/systemd -name '*roadmark*' 2> /dev/null)"
+}
+
+case ${1:-} in
+  --step) "step_$2"; exit ;;
+  --answered) answered "$2"; exit ;;
+esac
+for step in install ${*:-stop comes_back burst kill no_server gone_client full_disk security turns package}; do
+  echo "$step"
+  timeout -k 5 100 bash "$0" --step "$step" || echo "FAILED  $step: it ended with $?"
+done
+echo "$(grep -c '^ok  ' /try/said) passed, $(grep -c '^FAILED' /try/said) failed"

@@ -18,7 +18,8 @@ contain() {
   local root=$work/space/root
   mkdir "$root/try"
   cp "$work"/*.deb "$here/try_units_steps.sh" "$here/try_units_clients.py" "$root/try"
-  rm -rf "$root/etc/machine-id" "$root/var/lib/roadmark"
+  # a new machine, which may start services as packages are installed
+  rm -rf "$root/etc/machine-id" "$root/var/lib/roadmark" "$root/usr/sbin/policy-rc.d"
   cat > "$root/etc/systemd/system/try.service" <<UNIT
 [Unit]
 SuccessAction=poweroff
@@ -35,6 +36,7 @@ UNIT
     systemd.unit=try.service systemd.wants=basic.target > "$work/console" 2>&1 < /dev/null || true
   sleep 1
   cp "$root/try/said" "$work/said"
+  [ ! -e "$root/try/journal" ] || cat "$root/try/journal"
 }
 
 # A control group for the container, in each hierarchy by which a systemd may go.
@@ -76,7 +78,7 @@ mv "$work"/roadmark_*.deb "$work/old.deb"
 # The package of a later version, to which the first one is upgraded.
 dpkg-deb --raw-extract "$work/old.deb" "$work/later"
 sed -i 's/^Version: .*/&.later/' "$work/later/DEBIAN/control"
-dpkg-deb --root-owner-group --build "$work/later" "$work/later.deb" > /dev/null
+dpkg-deb -Znone --root-owner-group --build "$work/later" "$work/later.deb" > /dev/null
 
 enter_groups
 unshare --mount --propagation private --pid --fork --kill-child --mount-proc "$0" --contain "$work" "${@:2}" &

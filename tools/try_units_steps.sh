@@ -218,4 +218,6 @@ for step in install ${*:-stop comes_back burst kill no_server gone_client full_d
   echo "$step"
   timeout -k 5 100 bash "$0" --step "$step" || echo "FAILED  $step: it ended with $?"
 done
+# What the units told, where something failed.
+! grep -q '^FAILED' /try/said || journalctl --boot --no-pager --output short-precise --unit 'roadmark*' --unit haproxy.service | grep -v 'A client of roadmark\|roadmark-client@' | tail -n 150 > /try/journal
 echo "$(grep -c '^ok  ' /try/said) passed, $(grep -c '^FAILED' /try/said) failed"

@@ -2,7 +2,11 @@
 # Makes pairs of named pipes in a folder, where they are not there yet, and prints their names in the order that `roadmark serve` takes.
 #   roadmark serve STORE $(examples/pairs.sh FOLDER COUNT)
 set -eu
-[ $# = 2 ] || { echo "usage: examples/pairs.sh FOLDER COUNT" >&2; exit 2; }
+usage() { echo "usage: examples/pairs.sh FOLDER COUNT: COUNT from 1 to 60, no blank in FOLDER" >&2; exit 2; }
+[ $# = 2 ] || usage
+# A name with a blank would be two words of `serve`.
+case $1 in *[[:space:]]*) usage ;; esac
+case $2 in [1-9] | [1-5][0-9] | 60) ;; *) usage ;; esac
 mkdir -p "$1"
 for pair in $(seq "$2"); do
     for end in in out; do

@@ -29,15 +29,16 @@ ATTACH = TOP / "examples" / "attach.sh"
 PAIRS = TOP / "examples" / "pairs.sh"
 SIX = [(1, 2, 17), (1, 3, 10), (2, 4, 2), (3, 5, 0), (4, 3, 0), (4, 6, 3), (5, 2, 0), (5, 6, 20)]
 LANDMARKS = (3, 6)
+PATIENCE = 120
 
 def connect(path):
-    """A session over the socket, which may not be there yet."""
+    """A session over the socket, which may not be there yet, with a server that may be opening its store yet."""
     for _ in range(99):
         try:
-            return Session.connect(path)
+            return Session.connect(path, PATIENCE)
         except Lost:
             time.sleep(0.01)
-    return Session.connect(path)
+    return Session.connect(path, PATIENCE)
 
 def tell(session, *lines):
     """The fields of the first line of the answer."""

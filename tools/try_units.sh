@@ -18,8 +18,9 @@ contain() {
   local root=$work/space/root
   mkdir "$root/try"
   cp "$work"/*.deb "$here/try_units_steps.sh" "$here/try_units_clients.py" "$root/try"
-  # a new machine, which may start services as packages are installed
+  # A new machine, which starts services as packages are installed, and waits for no network.
   rm -rf "$root/etc/machine-id" "$root/var/lib/roadmark" "$root/usr/sbin/policy-rc.d"
+  ln -sf /dev/null "$root/etc/systemd/system/systemd-networkd-wait-online.service"
   cat > "$root/etc/systemd/system/try.service" <<UNIT
 [Unit]
 SuccessAction=poweroff

@@ -1,9 +1,11 @@
 #!/usr/bin/env python3
-"""Clients of roadmark.service that change arcs of their own while its server is killed (-9): each last change that was told is there afterwards.
+"""Clients of roadmark.service, for steps of tools/try_units.sh.
 
-    tools/try_units_clients.py SOCKET CLIENTS KILLS        (a step of tools/try_units.sh)
+    tools/try_units_clients.py kill SOCKET CLIENTS KILLS        they change arcs while the server is killed (-9): each last change that was told is there afterwards
+    tools/try_units_clients.py queue PORT CLIENTS               so many are served by haproxy, and one more is told the end within seconds
 """
 import socket
+import ssl
 import subprocess
 import sys
 import threading
@@ -41,17 +43,24 @@ class Client(threading.Thread):
                 self.told, self.count = self.sent, self.count + 1
 
 def length_of(path: str, arc: int) -> int:
-    with socket.socket(socket.AF_UNIX) as connection:
-        connection.settimeout(30)
-        connection.connect(path)
-        connection.sendall(f"arc {arc}\n".encode())
-        answers = connection.makefile("r")
-        answers.readline()
-        return int(answers.readline().split()[4])
+    """By a session that is tried again while the server is being started."""
+    until = time.monotonic() + 60
+    while True:
+        try:
+            with socket.socket(socket.AF_UNIX) as connection:
+                connection.settimeout(30)
+                connection.connect(path)
+                connection.sendall(f"arc {arc}\n".encode())
+                answers = connection.makefile("r")
+                answers.readline()
+                return int(answers.readline().split()[4])
+        except (OSError, IndexError):
+            if time.monotonic() > until:
+                raise
+            time.sleep(0.5)
 
-def main() -> int:
-    path, clients, kills = sys.argv[1], int(sys.argv[2]), int(sys.argv[3])
-    writers = [Client(path, 1 + number) for number in range(min(clients, ARCS))]
+def kill(path: str, clients: int, kills: int) -> bool:
+    writers = [Client(path, 1 + number % ARCS) for number in range(clients)]
     for _ in range(kills):
         time.sleep(3)
         subprocess.run(["systemctl", "kill", "--signal=KILL", "roadmark.service"], check=True)
@@ -60,9 +69,37 @@ def main() -> int:
         writer.is_over = True
     for writer in writers:
         writer.join(40)
-    lost = [writer.arc for writer in writers if not writer.told <= length_of(path, writer.arc) <= writer.sent]
-    print(f"{sum(writer.count for writer in writers)} changes told, lost at the arcs {lost}")
-    return 1 if lost or any(writer.count == 0 for writer in writers) else 0
+    lost = [arc for arc in range(1, 1 + min(clients, ARCS)) if not is_kept(path, arc, [writer for writer in writers if writer.arc == arc])]
+    print(f"        {sum(writer.count for writer in writers)} changes told, lost at the arcs {lost}")
+    return not lost and all(writer.count for writer in writers)
+
+def is_kept(path: str, arc: int, writers: list[Client]) -> bool:
+    """The arc has what one of its clients was told last, or has sent since."""
+    length = length_of(path, arc)
+    return any(writer.told <= length <= writer.sent for writer in writers)
+
+def by_haproxy(port: int) -> ssl.SSLSocket:
+    context = ssl.create_default_context(cafile="/try/known.crt")
+    context.check_hostname = False
+    context.load_cert_chain("/try/known.client.pem")
+    connection = context.wrap_socket(socket.create_connection(("127.0.0.1", port), 10))
+    connection.settimeout(20)
+    connection.sendall(b"dist 1 6\n")
+    return connection
+
+def queue(port: int, clients: int) -> bool:
+    held = [by_haproxy(port) for _ in range(clients)]
+    served = [connection.recv(100).startswith(b"v ") for connection in held]
+    begun = time.monotonic()
+    answer = by_haproxy(port).recv(100)
+    seconds = time.monotonic() - begun
+    print(f"        {sum(served)} served; the next was told {answer!r} after {seconds:.1f} s")
+    return all(served) and answer == b"" and seconds < 8
+
+def main() -> int:
+    if sys.argv[1] == "kill":
+        return 0 if kill(sys.argv[2], int(sys.argv[3]), int(sys.argv[4])) else 1
+    return 0 if queue(int(sys.argv[2]), int(sys.argv[3])) else 1
 
 if __name__ == "__main__":
     sys.exit(main())

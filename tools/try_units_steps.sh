@@ -15,7 +15,7 @@ is() {
 holds() {
   local name=$1
   shift
-  if "$@" > /dev/null 2>&1; then echo "ok      $name"; else echo "FAILED  $name: ${*@Q}"; fi
+  if "$@" > /try/heard 2>&1; then echo "ok      $name"; else echo "FAILED  $name: ${*@Q}"; head -n 5 /try/heard; fi
 }
 # within NAME SECONDS COMMAND..: it succeeds in so many seconds
 within() {
@@ -24,7 +24,7 @@ within() {
   if timeout "$seconds" "$@" > /dev/null 2>&1; then echo "ok      $name ($((SECONDS - began)) s)"; else echo "FAILED  $name: not within $seconds s: ${*@Q}"; fi
 }
 # The answers to lines, on one line.
-ask() { printf "$1" | timeout "${2:-20}" socat -t "${2:-20}" - "UNIX-CONNECT:$client" 2>&1 | paste -sd /; }
+ask() { printf "$1" 2> /dev/null | timeout "${2:-20}" socat -t "${2:-20}" - "UNIX-CONNECT:$client" 2>&1 | paste -sd /; }
 # until_answers SECONDS: the seconds until a client is answered
 until_answers() {
   local began=$SECONDS
@@ -121,7 +121,7 @@ PYTHON
 
 step_kill() {
   answered 60
-  holds 'kill -9 under twelve clients: nothing told is lost' python3 /try/try_units_clients.py "$client" 12 3
+  holds 'kill -9 under twelve clients: nothing told is lost' python3 /try/try_units_clients.py kill "$client" 12 3
 }
 
 # Clients that come while no server holds the pipes: all are answered or told the end, none hangs.
@@ -150,7 +150,7 @@ step_gone_client() {
   answered 60
   local one
   for one in 1 2; do
-    printf 'until 99999999\n' | timeout 1 runuser -u roadmark -- /usr/lib/roadmark/attach.sh "$pairs"
+    printf 'until 99999999\n' | runuser -u roadmark -- timeout 1 /usr/lib/roadmark/attach.sh "$pairs"
   done
   is 'its pair is passed over' 'd 1 6' "$(ask 'dist 1 6\n' 15 | sed 's/.*\(d 1 6\).*/\1/')"
 }
@@ -171,6 +171,54 @@ step_full_disk() {
   is 'killed then, the last change is there' 'a 8 5 6 300 open' "$(ask 'arc 8\n' | sed 's/.*\///')"
   systemctl stop $units
   umount /var/lib/roadmark
+}
+
+# Certificates: an authority for clients and the server, and another one of which nobody knows.
+make_certificates() {
+  local name
+  for name in known unknown; do
+    openssl req -x509 -newkey rsa:2048 -nodes -keyout "/try/$name.key" -out "/try/$name.crt" -days 2 -subj "/CN=$name" 2> /dev/null
+  done
+  for name in localhost known.client unknown.client; do
+    openssl req -newkey rsa:2048 -nodes -keyout "/try/$name.key" -out "/try/$name.csr" -subj "/CN=$name" 2> /dev/null
+    openssl x509 -req -in "/try/$name.csr" -CA "/try/$(case $name in unknown*) echo unknown ;; *) echo known ;; esac).crt" -CAkey "/try/$(case $name in unknown*) echo unknown ;; *) echo known ;; esac).key" \
+      -CAcreateserial -days 2 -out "/try/$name.crt" 2> /dev/null
+    cat "/try/$name.crt" "/try/$name.key" > "/try/$name.pem"
+  done
+}
+# health STATE SECONDS: haproxy's metrics tell that state of the server
+health() {
+  local began=$SECONDS
+  while [ $((SECONDS - began)) -lt "$2" ]; do
+    ! printf 'GET /metrics HTTP/1.0\r\n\r\n' | timeout 5 socat -t 5 - TCP:127.0.0.1:8405 | grep -q "^haproxy_server_status{proxy=\"roadmark\",server=\"local\",state=\"$1\"} 1" || return 0
+    sleep 0.5
+  done
+  return 1
+}
+# by_network CERTIFICATE: the answer to a client with that certificate
+by_network() { printf 'dist 1 6\n' | timeout 15 socat -t 10 - "OPENSSL:127.0.0.1:7322,commonname=localhost,cafile=/try/known.crt$1" 2> /dev/null | paste -sd /; }
+
+step_haproxy() {
+  systemctl start $units
+  answered 60
+  make_certificates
+  cp "$examples/haproxy.cfg" /etc/haproxy/haproxy.cfg
+  cp /try/localhost.pem /etc/haproxy/roadmark.pem
+  cp /try/known.crt /etc/haproxy/roadmark-clients.crt
+  within 'haproxy starts with examples/haproxy.cfg' 20 systemctl restart haproxy.service
+  within 'it finds the server well' 20 bash "$0" --health UP 20
+  is 'a client with a certificate is answered' 'v 0/d 1 6 15' "$(by_network ,cert=/try/known.client.pem)"
+  is 'one without has no answer' '' "$(by_network '')"
+  is 'nor has one of another authority' '' "$(by_network ,cert=/try/unknown.client.pem)"
+  holds 'fourteen are served, the next is told the end within seconds' python3 /try/try_units_clients.py queue 7322 14
+  systemctl kill --signal=STOP roadmark.service
+  within 'a server that stands still is told DOWN' 20 bash "$0" --health DOWN 20
+  systemctl kill --signal=CONT roadmark.service
+  within 'and UP when it goes on' 30 bash "$0" --health UP 30
+  systemctl stop roadmark.service
+  within 'a stopped one is told DOWN' 20 bash "$0" --health DOWN 20
+  systemctl stop haproxy.service
+  systemctl start $units
 }
 
 step_security() {
@@ -213,8 +261,9 @@ step_package() {
 case ${1:-} in
   --step) "step_$2"; exit ;;
   --answered) answered "$2"; exit ;;
+  --health) health "$2" "$3"; exit ;;
 esac
-for step in install ${*:-stop comes_back burst kill no_server gone_client full_disk security turns package}; do
+for step in install ${*:-stop comes_back burst kill no_server gone_client full_disk haproxy security turns package}; do
   echo "$step"
   timeout -k 5 100 bash "$0" --step "$step" || echo "FAILED  $step: it ended with $?"
 done

@@ -65,6 +65,14 @@ lay_out() {
   cp "$top"/examples/{,replicas/}*.{service,socket} "$tree/lib/systemd/system"
   cp "$top/examples/attach.sh" "$top/examples/pairs.sh" "$tree/lib/roadmark"
   cp "$top"/examples/replicas/*.py "$tree/lib/roadmark/replicas"
+  # The module by which scripts and examples speak with a server.
+  if [ -d "$top/client" ]; then
+    mkdir "$tree/lib/roadmark/client"
+    cp "$top"/client/*.py "$tree/lib/roadmark/client"
+    echo 'usr/lib/roadmark/client usr/share/doc/roadmark/client' >> "$tree/debian/roadmark.links"
+  else
+    cp "$top/examples/client.py" "$tree/lib/roadmark"
+  fi
   # Units name the program and the scripts where the package has them.
   sed -i 's#/usr/local/bin/roadmark#/usr/bin/roadmark#g; s#/usr/local/bin/\([a-z]*\.sh\)#/usr/lib/roadmark/\1#g; s#/usr/local/lib/roadmark#/usr/lib/roadmark#g; s#, the built program and the scripts attach.sh and pairs.sh of this folder in /usr/local/bin,##; s#, with the three units in /etc/systemd/system##' "$tree"/lib/systemd/system/*
   sed -i "s#\${MAINTAINER}#$maintainer#" "$tree/debian/control"

@@ -229,17 +229,26 @@ step_security() {
   done
 }
 
-# The two servers take turns, each with a folder of its own below /run.
-step_turns() {
+# The follower of a log takes the place of the server, and gives it back; each has a folder of its own below /run.
+step_follow() {
+  local roads='roadmark-follow.service roadmark-tell.socket' follow='python3 /usr/lib/roadmark/replicas/follow.py'
+  command -v etcd > /dev/null || { echo '        no etcd here: left out'; return; }
+  systemd-run --quiet --unit try-etcd etcd --data-dir /try/etcd
+  systemctl stop roadmark.service
+  rm -f "$store"
+  { echo 'p sp 6 9'; grep '^a' "$examples/six.gr"; echo 'a 1 1 0'; } > /try/loop.gr
+  runuser -u roadmark -- roadmark create "$store" /try/loop.gr "$examples/six.ss" --room 20 > /dev/null
+  within 'a log is begun' 60 runuser -u roadmark -- bash -c "until $follow --program /usr/bin/roadmark --begin 9 http://127.0.0.1:2379 roads $store; do sleep 1; done"
   systemctl start $units
-  answered 20
-  systemctl start --no-block roadmark-follow.service
-  sleep 3
-  is 'roadmark-follow.service takes its place' 'inactive' "$(systemctl is-active roadmark.service)"
-  systemctl start $units
-  within 'and gives it back' 20 bash "$0" --answered 20
-  is 'each has a folder of its own' '' "$(journalctl --boot --unit roadmark-follow.service --unit roadmark.service | grep -o Traceback | head -n 1)"
-  is 'roadmark-follow.service has ended' 'inactive' "$(systemctl is-active roadmark-follow.service | sed 's/failed/inactive/')"
+  within 'the follower starts in the place of the server' 20 systemctl start $roads
+  is 'the server has ended' 'inactive inactive' "$(systemctl is-active $units | paste -sd ' ')"
+  is 'a change goes through the log' 'ok 1/v 1/d 1 6 22' "$(printf 'close 7\ndist 1 6\n' | timeout 40 socat -t 40 - UNIX-CONNECT:/run/roadmark-tell.sock | paste -sd /)"
+  systemctl kill --kill-whom=all --signal=KILL roadmark-follow.service
+  is 'killed, it is back with that change' 'v 1/d 1 6 22' "$(sleep 2; timeout 40 bash -c 'until printf "dist 1 6\n" | socat -t 30 - UNIX-CONNECT:/run/roadmark-tell.sock 2> /dev/null | grep ""; do sleep 0.5; done' | paste -sd /)"
+  within 'the server takes its place again' 20 systemctl start $units
+  within 'and answers' 20 bash "$0" --answered 20
+  is 'the follower has ended' 'inactive inactive' "$(systemctl is-active $roads | paste -sd ' ')"
+  systemctl stop try-etcd
 }
 
 step_package() {
@@ -263,7 +272,7 @@ case ${1:-} in
   --answered) answered "$2"; exit ;;
   --health) health "$2" "$3"; exit ;;
 esac
-for step in install ${*:-stop comes_back burst kill no_server gone_client full_disk haproxy security turns package}; do
+for step in install ${*:-stop comes_back burst kill no_server gone_client full_disk haproxy security follow package}; do
   echo "$step"
   timeout -k 5 100 bash "$0" --step "$step" || echo "FAILED  $step: it ended with $?"
 done

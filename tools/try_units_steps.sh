@@ -54,7 +54,7 @@ step_install() {
   is 'nothing is enabled or started' 'disabled inactive' "$(systemctl is-enabled roadmark.service) $(systemctl is-active roadmark.service)"
   install -d -o roadmark -g roadmark /var/lib/roadmark
   fresh_store
-  within 'the service and its socket start' 20 systemctl enable --now $units
+  within 'the service and its socket start' 20 systemctl enable --now roadmark.service
   is 'a client is answered' 'v 0/d 1 6 15' "$(ask 'dist 1 6\n')"
   is 'a hot copy is made as installed' 'copied 0' "$(ask 'copy monday\n')"
   is 'the copy is a store' 'v 0/d 1 6 15/x 6 1' "$(roadmark ask /var/lib/roadmark/copies/monday "$examples/six.p2p" 2>&1 | paste -sd /)"
@@ -76,7 +76,7 @@ step_stop() {
   stops 'a stop does not wait for a silent client'
   within 'that client is told the end' 5 tail --pid=$! -f /dev/null
   is 'and had its answer' 'v 0/d 1 6 15' "$(paste -sd / /try/held)"
-  systemctl start $units
+  systemctl start roadmark.service
 }
 
 step_comes_back() {
@@ -90,7 +90,7 @@ step_comes_back() {
   systemctl stop roadmark.service
   flock --shared "$store" sleep 4 &
   sleep 0.5
-  systemctl start --no-block $units
+  systemctl start --no-block roadmark.service
   wait
   within 'a lock of four seconds at its start is waited out' 20 bash "$0" --answered 20
 }
@@ -98,7 +98,7 @@ step_comes_back() {
 step_burst() {
   systemctl restart roadmark.service
   systemctl reset-failed
-  systemctl start $units
+  systemctl start roadmark.service
   python3 - "$client" <<'PYTHON'
 import socket, sys, time
 begun, told = time.monotonic(), 0
@@ -126,7 +126,7 @@ step_kill() {
 
 # Clients that come while no server holds the pipes: all are answered or told the end, none hangs.
 step_no_server() {
-  systemctl start $units
+  systemctl start roadmark.service
   answered 60
   local began=$SECONDS status=0 one
   mkdir -p /try/nobody && mkfifo /try/nobody/1.in /try/nobody/1.out /try/nobody/2.in /try/nobody/2.out
@@ -156,11 +156,11 @@ step_gone_client() {
 }
 
 step_full_disk() {
-  systemctl stop $units
+  systemctl stop roadmark.service
   mount -t tmpfs -o size=400k,mode=755 tmpfs /var/lib/roadmark
   chown roadmark: /var/lib/roadmark
   runuser -u roadmark -- roadmark create "$store" "$examples/six.gr" "$examples/six.ss" > /dev/null
-  systemctl start $units
+  systemctl start roadmark.service
   answered 20
   dd if=/dev/zero of=/var/lib/roadmark/filler bs=4k status=none 2> /dev/null
   is 'with a full disk 300 changes are durable' 300 "$(seq 300 | sed 's/.*/set 8 &/' | timeout 20 socat -t 20 - "UNIX-CONNECT:$client" | grep -c '^ok ')"
@@ -169,7 +169,7 @@ step_full_disk() {
   systemctl kill --signal=KILL roadmark.service
   answered 20
   is 'killed then, the last change is there' 'a 8 5 6 300 open' "$(ask 'arc 8\n' | sed 's/.*\///')"
-  systemctl stop $units
+  systemctl stop roadmark.service
   umount /var/lib/roadmark
 }
 
@@ -199,7 +199,7 @@ health() {
 by_network() { printf 'dist 1 6\n' | timeout 15 socat -t 10 - "OPENSSL:127.0.0.1:7322,commonname=localhost,cafile=/try/known.crt$1" 2> /dev/null | paste -sd /; }
 
 step_haproxy() {
-  systemctl start $units
+  systemctl start roadmark.service
   answered 60
   make_certificates
   cp "$examples/haproxy.cfg" /etc/haproxy/haproxy.cfg
@@ -218,7 +218,7 @@ step_haproxy() {
   systemctl stop roadmark.service
   within 'a stopped one is told DOWN' 20 bash "$0" --health DOWN 20
   systemctl stop haproxy.service
-  systemctl start $units
+  systemctl start roadmark.service
 }
 
 step_security() {
@@ -239,20 +239,20 @@ step_follow() {
   { echo 'p sp 6 9'; grep '^a' "$examples/six.gr"; echo 'a 1 1 0'; } > /try/loop.gr
   runuser -u roadmark -- roadmark create "$store" /try/loop.gr "$examples/six.ss" --room 20 > /dev/null
   within 'a log is begun' 60 runuser -u roadmark -- bash -c "until $follow --program /usr/bin/roadmark --begin 9 http://127.0.0.1:2379 roads $store; do sleep 1; done"
-  systemctl start $units
-  within 'the follower starts in the place of the server' 20 systemctl start $roads
+  systemctl start roadmark.service
+  within 'the follower starts in the place of the server' 20 systemctl start roadmark-follow.service
   is 'the server has ended' 'inactive inactive' "$(systemctl is-active $units | paste -sd ' ')"
   is 'a change goes through the log' 'ok 1/v 1/d 1 6 22' "$(printf 'close 7\ndist 1 6\n' | timeout 40 socat -t 40 - UNIX-CONNECT:/run/roadmark-tell.sock | paste -sd /)"
   systemctl kill --kill-whom=all --signal=KILL roadmark-follow.service
   is 'killed, it is back with that change' 'v 1/d 1 6 22' "$(sleep 2; timeout 40 bash -c 'until printf "dist 1 6\n" | socat -t 30 - UNIX-CONNECT:/run/roadmark-tell.sock 2> /dev/null | grep ""; do sleep 0.5; done' | paste -sd /)"
-  within 'the server takes its place again' 20 systemctl start $units
+  within 'the server takes its place again' 20 systemctl start roadmark.service
   within 'and answers' 20 bash "$0" --answered 20
   is 'the follower has ended' 'inactive inactive' "$(systemctl is-active $roads | paste -sd ' ')"
   systemctl stop try-etcd
 }
 
 step_package() {
-  systemctl start $units
+  systemctl start roadmark.service
   answered 20
   local version=$(ask 'set 3 77\nwait\n')
   within 'the package is upgraded' 60 dpkg --install /try/later.deb

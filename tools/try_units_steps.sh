@@ -233,7 +233,7 @@ step_security() {
 step_follow() {
   local roads='roadmark-follow.service roadmark-tell.socket' follow='python3 /usr/lib/roadmark/replicas/follow.py'
   command -v etcd > /dev/null || { echo '        no etcd here: left out'; return; }
-  systemd-run --quiet --unit try-etcd etcd --data-dir /try/etcd
+  systemd-run --quiet --collect --unit try-etcd etcd --data-dir /try/etcd
   systemctl stop roadmark.service
   rm -f "$store"
   { echo 'p sp 6 9'; grep '^a' "$examples/six.gr"; echo 'a 1 1 0'; } > /try/loop.gr

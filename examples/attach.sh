@@ -24,6 +24,7 @@ is_served() {
 }
 
 # The first in the queue looks for a free pair; the others wait for their turn.
+[ -d "$folder" ] || fail "there is no folder $folder"
 tries=0
 exec 5>"$folder/turn.lock"
 flock 5

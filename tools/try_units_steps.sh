@@ -199,6 +199,7 @@ health() {
 by_network() { printf 'dist 1 6\n' | timeout 15 socat -t 10 - "OPENSSL:127.0.0.1:7322,commonname=localhost,cafile=/try/known.crt$1" 2> /dev/null | paste -sd /; }
 
 step_haproxy() {
+  fresh_store
   systemctl start roadmark.service
   answered 60
   make_certificates

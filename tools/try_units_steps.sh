@@ -255,7 +255,7 @@ step_follow() {
 step_package() {
   systemctl start roadmark.service
   answered 20
-  local version=$(ask 'set 3 77\nwait\n')
+  ask 'set 3 77\nwait\n' > /dev/null
   within 'the package is upgraded' 60 dpkg --install /try/later.deb
   within 'a client is answered' 20 bash "$0" --answered 20
   is 'by the new program' '/usr/bin/roadmark' "$(readlink "/proc/$(main_pid)/exe")"

@@ -14,6 +14,7 @@ import pathlib
 import re
 import sys
 import time
+import traceback
 from collections.abc import AsyncIterator, Awaitable, Callable
 from typing import Any
 
@@ -307,8 +308,11 @@ async def serve(given: argparse.Namespace) -> None:
 
 
 def is_fault(record: logging.LogRecord) -> bool:
-    """Whether an error is the gateway's own: what a client sends that is no HTTP is answered by 400, and no matter of a log."""
-    return not (record.exc_info and isinstance(record.exc_info[1], (HttpProcessingError, ConnectionError)))
+    """Whether an error is the gateway's own, and no client's who sends what is no HTTP, or is gone before aiohttp has his request (it then fails in its own file)."""
+    if not record.exc_info or record.exc_info[2] is None:
+        return True
+    *_, (frame, _) = traceback.walk_tb(record.exc_info[2])
+    return not isinstance(record.exc_info[1], (HttpProcessingError, ConnectionError)) and not frame.f_code.co_filename.endswith("aiohttp/web_protocol.py")
 
 
 def main() -> int:

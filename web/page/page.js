@@ -11,7 +11,7 @@ const arcs = new Map();
 const layers = { arcs: L.layerGroup().addTo(map), area: L.layerGroup().addTo(map), ends: L.layerGroup().addTo(map) };
 const state = { network: null, closed: new Set(), supposed: new Map(), ends: [], centre: null, version: null };
 // A later answer to the same question takes the place of an earlier one, whichever comes first.
-const turns = { distance: 0, area: 0, arcs: 0 };
+const turns = { distance: 0, area: 0, arcs: 0, followed: 0 };
 
 // What a click does: "distance", "isochrone" or "road".
 const clickDoes = () => document.querySelector("input[name=click]:checked").value;
@@ -120,7 +120,8 @@ async function tellArea() {
 }
 
 async function followed() {
-  const done = await Promise.allSettled([tellDistance(), tellArea()]);
+  const turn = ++turns.followed, done = await Promise.allSettled([tellDistance(), tellArea()]);
+  if (turn !== turns.followed) return;
   const failed = done.find((each) => each.status === "rejected");
   say(failed ? failed.reason.message : "");
 }

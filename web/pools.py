@@ -96,9 +96,9 @@ class Job:
 class Worker(threading.Thread):
     """One session, which is leased again wherever it was lost."""
 
-    def __init__(self, folder: pathlib.Path) -> None:
+    def __init__(self, folder: pathlib.Path, is_up: threading.Event) -> None:
         super().__init__(daemon=True)
-        self.folder, self.session, self.leases = folder, None, 0
+        self.folder, self.is_up, self.session, self.leases = folder, is_up, None, 0
         self.jobs: queue.SimpleQueue[Job | None] = queue.SimpleQueue()
         self.lock, self.load = threading.Lock(), 0
         self.tried, self.why = -math.inf, ""
@@ -164,7 +164,7 @@ class Worker(threading.Thread):
         """Whether a session is there, or can be had by then."""
         if self.session is not None:
             return True
-        if time.monotonic() < self.tried + AGAIN:
+        if time.monotonic() < self.tried + AGAIN and not self.is_up.is_set():
             return False
         try:
             self.session = Session.lease(self.folder, seconds=max(0.001, until - time.monotonic()))
@@ -182,9 +182,9 @@ class Worker(threading.Thread):
 class Pool:
     """So many sessions at the pairs of a folder."""
 
-    def __init__(self, folder: pathlib.Path, count: int, longest: int) -> None:
+    def __init__(self, folder: pathlib.Path, count: int, longest: int, is_up: threading.Event) -> None:
         self.longest = longest
-        self.workers = [Worker(folder) for _ in range(count)]
+        self.workers = [Worker(folder, is_up) for _ in range(count)]
         self.seconds = 0.01
 
     def start(self) -> None:
@@ -229,9 +229,11 @@ class Pools:
     """The one place where sessions for queries and those for changes are told apart. All pairs of a server are alike, so both are leased from one folder."""
 
     def __init__(self, pairs: pathlib.Path, queries: int, changes: int, longest: int) -> None:
-        self.queries = Pool(pairs, queries, longest)
-        self.changes = Pool(pairs, changes, longest)
-        self.watch = Pool(pairs, 1, longest)
+        # Set while the server answers: then a lease is tried at once.
+        self.is_up = threading.Event()
+        self.queries = Pool(pairs, queries, longest, self.is_up)
+        self.changes = Pool(pairs, changes, longest, self.is_up)
+        self.watch = Pool(pairs, 1, longest, self.is_up)
         self.all = {"queries": self.queries, "changes": self.changes, "watch": self.watch}
 
     def start(self) -> None:

@@ -64,8 +64,10 @@ class Watch:
             try:
                 await self.look()
                 self.why, self.other, self.noted = "", False, ""
+                self.pools.is_up.set()
             except (Away, Busy, Cut, TooLate, OtherMap, Fault) as fault:
                 self.note(fault)
+                self.pools.is_up.clear()
                 self.why, self.other = str(fault) or "no answer in time", isinstance(fault, OtherMap)
             now = json.dumps(self.told())
             if now != self.text:

@@ -21,7 +21,7 @@ function say(text) { $("message").textContent = text; }
 async function fetched(address, options) {
   const response = await fetch(address, options);
   const body = await response.json();
-  if (!response.ok) throw new Error(response.status === 503 ? `no answer now (${body.message})` : body.message);
+  if (!response.ok) throw Object.assign(new Error(response.status === 503 ? `no answer now (${body.message})` : body.message), { again: response.status === 503 });
   return body;
 }
 
@@ -124,6 +124,7 @@ async function followed() {
   if (turn !== turns.followed) return;
   const failed = done.find((each) => each.status === "rejected");
   say(failed ? failed.reason.message : "");
+  if (failed?.reason.again) setTimeout(() => { if (turn === turns.followed) followed(); }, 3000);
 }
 
 map.on("click", (event) => {

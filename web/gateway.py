@@ -298,6 +298,7 @@ async def serve(given: argparse.Namespace) -> None:
     await runner.setup()
     connections = Connections(runner.server, given.connections)
     server = await asyncio.get_running_loop().create_server(connections.door, given.host, given.port, reuse_address=True, backlog=1024)
+    await gateway.watch.looked.wait()
     print(f"gateway: http://{given.host}:{server.sockets[0].getsockname()[1]}/", flush=True)
     try:
         await asyncio.Event().wait()

@@ -29,7 +29,7 @@ class Watch:
         self.state: dict[str, str] = {}
         self.closed: list[int] = []
         self.seen, self.why, self.other, self.noted = -STALE, "no server was seen yet", False, ""
-        self.changed = asyncio.Condition()
+        self.changed, self.looked = asyncio.Condition(), asyncio.Event()
         # What listeners get, and the server whose arcs were held against the map.
         self.text, self.fits_at = json.dumps(self.told()), -1
 
@@ -69,6 +69,7 @@ class Watch:
                 self.note(fault)
                 self.pools.is_up.clear()
                 self.why, self.other = str(fault) or "no answer in time", isinstance(fault, OtherMap)
+            self.looked.set()
             now = json.dumps(self.told())
             if now != self.text:
                 async with self.changed:

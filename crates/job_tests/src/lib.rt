@@ -10,6 +10,8 @@ mod growths;
 #[cfg(test)]
 mod looks;
 #[cfg(test)]
+mod moving;
+#[cfg(test)]
 mod outcomes;
 #[cfg(test)]
 mod queries;

@@ -335,6 +335,39 @@ fn full_page_of_commands(rt: HostRuntime) -> Result<(), Fail> {
     Ok(())
 }
 
+/// A group that sets an arc's length so often.
+pub fn put_group(script: &mut Vec<u8>, count: u64) -> Result<(), Fail> {
+    script.extend_from_slice(b"begin\n")?;
+    for _ in 0..count {
+        script.extend_from_slice(b"set 1 17\n")?;
+    }
+    script.extend_from_slice(b"end\n")?;
+    Ok(())
+}
+
+/// Two groups of so many commands, and two flushes.
+fn two_groups(alloc: Global, first: u64, second: u64) -> Result<Vec<u8>, Fail> {
+    let mut script = Vec::new(alloc);
+    put_group(&mut script, first)?;
+    put_group(&mut script, second)?;
+    script.extend_from_slice(b"flush\nflush\n")?;
+    Ok(script)
+}
+
+/// A page has 253 commands, and no group is split: a second group that passes it waits for the next flush.
+#[test]
+fn groups_pass_a_page(rt: HostRuntime) -> Result<(), Fail> {
+    let table: [(u64, &[u8]); 2] = [
+        (54, b"t 1\nt 2\nok 1\nok 2\n"),
+        (53, b"t 1\nt 2\nok 2\nno 53\n"),
+    ];
+    for (second, want) in table {
+        let script = two_groups(rt.alloc(), 200, second)?;
+        is_rehearsed(&rt, "groups_pass_a_page", SIX, 64, &script, want);
+    }
+    Ok(())
+}
+
 /// The network is judged before the script, and nothing is written.
 #[test]
 fn faults_of_texts(rt: HostRuntime) {

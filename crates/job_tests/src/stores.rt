@@ -1,6 +1,7 @@
 ghost use Rattle.std.specs.Prelude.{◌≤◌};
 
 use crate::outcomes::is_done;
+use crate::rehearsing::put_group;
 use crate::streams::{SendingWriter, sending_writer};
 use dimacs::{Code, Counted, Fault};
 use disk::{Disk, FailOnce, FuseDisk, MemDisk};
@@ -9,8 +10,10 @@ use printing::{CountedWriter, Failed};
 use roadnet::Refusal;
 use std::alloc::Global;
 use std::io::Write;
+use std::test::Fail;
 use std::thread::Threads;
 use store::open;
+use store_fixtures::with_bytes;
 use storetexts::{
     apply_counted, apply_text, ask_counted, ask_text, create_counted, create_store, create_text,
     read_planned,
@@ -50,15 +53,6 @@ fn bytes_of(alloc: Global, disk: &mut MemDisk) -> Result<Vec<u8>, Refusal> {
     }
 }
 
-/// A disk with these bytes, all of them synced.
-fn with_bytes(alloc: Global, bytes: &[u8]) -> Result<MemDisk, Refusal> {
-    let mut disk = MemDisk::new(alloc);
-    if disk.write_at(0, bytes).is_err() || disk.sync().is_err() {
-        return Err(Refusal::Device);
-    }
-    Ok(disk)
-}
-
 /// The version that is opened.
 fn version_on<D: Disk + Drop>(alloc: Global, disk: D) -> Result<u64, Refusal> {
     match open(alloc, disk) {
@@ -88,7 +82,7 @@ fn applies(alloc: Global, disk: MemDisk, text: &[u8], want: &[u8]) -> (bool, Mem
 }
 
 /// Whether the store of a disk answers pairs so, and the disk.
-fn answers<R: Threads>(
+pub(crate) fn answers<R: Threads>(
     rt: &R,
     alloc: Global,
     disk: MemDisk,
@@ -191,6 +185,25 @@ fn applied_across_a_checkpoint(rt: HostRuntime) -> Result<(), Refusal> {
     let text = repeated(rt.alloc(), 762)?;
     assert_eq!(rt; applied_all(rt.alloc(), &text, 762)?, (true, 762));
     Ok(())
+}
+
+/// Groups that pass a page together are made durable one after the other, and each is told.
+#[test]
+fn groups_that_pass_a_page(rt: HostRuntime) -> Result<(), Fail> {
+    let mut text = Vec::new(rt.alloc());
+    for count in [200, 54, 253, 1] {
+        put_group(&mut text, count)?;
+    }
+    assert!(rt; are_applied(rt.alloc(), &text)? == 4);
+    Ok(())
+}
+
+/// The version to which four groups lead on a new store, where each is told; else none.
+fn are_applied(alloc: Global, text: &[u8]) -> Result<u64, Refusal> {
+    let (disk, _) = created(alloc, 2)?;
+    let (is_told, disk) = applies(alloc, disk, text, b"ok 1\nok 2\nok 3\nok 4\n");
+    let version = version_on(alloc, disk)?;
+    Ok(if is_told { version } else { 0 })
 }
 
 /// What a text comes to on a new store whose disk fails in this call, how many lines are told, and the version that is opened then.

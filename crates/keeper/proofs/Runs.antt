@@ -258,12 +258,12 @@ module _ {P : Type 0} (first : First) (events : List (Event P)) (replies : List 
       each_left = λ c was. holds_in (StandsTidyFor first.sizes.journal_pages first.sizes.checkpoint_pages) first.network first.version history m c r.begun r.there s (durable_as m c r.sizes_are (each c was));
     }
 
-    pub run_no_memory : (rest : List (Event P)) → HasLived left first (events ++ rest) replies (Some OutOfMemory) (history ++ m.accepted)
-    run_no_memory rest = record {
+    pub run_no_memory : (rest : List (Event P)) → (rest ≡ [] → events ≡ []) → HasLived left first (events ++ rest) replies (Some OutOfMemory) (history ++ m.accepted)
+    run_no_memory rest before = record {
       version_to = r.version_to;
       unchecked_to = r.unchecked_to;
       last = in_run m;
-      lives = lives_no_memory _ _ events replies ran rest;
+      lives = lives_no_memory _ _ events replies ran rest before;
       each_left = λ c was. holds_in (StandsTidyFor first.sizes.journal_pages first.sizes.checkpoint_pages) first.network first.version history m c r.begun r.there s (durable_as m c r.sizes_are (each c was));
     }
 

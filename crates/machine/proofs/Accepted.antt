@@ -125,13 +125,13 @@ passed turns a b s p = ap (accepted_in a.base_version a.accepted) (sym (append-n
 -- the accepted groups of a run are those of its last state
 pub accepted_at_end : {P : Type 0} (first last : Machine) (turns : List (Turn P)) (rest : List (Event P)) (ended : Option Refusal) (history : List Group) → IsState first → Ends first turns rest ended history last → accepted_in first.base_version first.accepted turns ≡ last.accepted
 accepted_at_end first last turns rest ended history s (Whole passes none nothing is) = passed turns first last s passes
-accepted_at_end first last turns rest ended history s (NoMemory passes some is) = passed turns first last s passes
+accepted_at_end first last turns rest ended history s (NoMemory passes before some is) = passed turns first last s passes
 accepted_at_end first last turns rest ended history s (NotOpened before turn mid whole passes stops why is) =
     ap (accepted_in first.base_version first.accepted) whole ∙ (through before (turn ∷ []) first mid s passes ∙ by_end _ turn.0 mid last turn.1 stops)
 
 whole_history : {P : Type 0} (first last : Machine) (turns : List (Turn P)) (rest : List (Event P)) (ended : Option Refusal) (history : List Group) → ended ≡ None → Ends first turns rest ended history last → history ≡ last.accepted
 whole_history first last turns rest ended history whole (Whole passes none nothing is) = is
-whole_history first last turns rest ended history whole (NoMemory passes some is) = is
+whole_history first last turns rest ended history whole (NoMemory passes before some is) = is
 whole_history first last turns rest ended history whole (NotOpened before turn mid all passes stops why is) =
     ⊎_elim (no_end whole) (no_end whole) why
   where

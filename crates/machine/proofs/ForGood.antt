@@ -30,7 +30,7 @@ front_begins history accepted n is = is ∙ sym (ap (λ (h : List Group). take (
 
 begins : {P : Type 0} (first last : Machine) (turns : List (Turn P)) (rest : List (Event P)) (ended : Option Refusal) (history : List Group) → Ends first turns rest ended history last → history ≡ take (length history) last.accepted
 begins first last turns rest ended history (Whole passes none nothing is) = whole_begins history last.accepted is
-begins first last turns rest ended history (NoMemory passes some is) = whole_begins history last.accepted is
+begins first last turns rest ended history (NoMemory passes before some is) = whole_begins history last.accepted is
 begins first last turns rest ended history (NotOpened before turn mid whole passes stops why is) = front_begins history last.accepted (last.durable - last.base_version) is
 
 pub told_for_good : {P : Type 0} (StandsFor : List ℕ → Net → ℕ → Type 0) (left : List ℕ → Type 0) (sizes : Sizes) (base : Net) (version unchecked : ℕ) (events : List (Event P)) (replies : List Replied) (ended : Option Refusal) (history : List Group)

@@ -365,13 +365,13 @@ stopped_end first mid last before turn history s p stops is =
 
 pub end_of : {P : Type 0} (first last : Machine) (turns : List (Turn P)) (rest : List (Event P)) (ended : Option Refusal) (history : List Group) → IsState first → Ends first turns rest ended history last → Ended first turns history last
 end_of first last turns rest ended history s (Whole passes none nothing is) = passed_end first last turns history s passes is
-end_of first last turns rest ended history s (NoMemory passes some is) = passed_end first last turns history s passes is
+end_of first last turns rest ended history s (NoMemory passes before some is) = passed_end first last turns history s passes is
 end_of first last turns rest ended history s (NotOpened before turn mid whole passes stops why is) =
     subst (λ (ts : List (Turn _)). Ended first ts history last) (sym whole) (stopped_end first mid last before turn history s passes stops is)
 
 run_of : {P : Type 0} (first last : Machine) (turns : List (Turn P)) (rest : List (Event P)) (ended : Option Refusal) (history : List Group) → Ends first turns rest ended history last → RunsTo first last
 run_of first last turns rest ended history (Whole passes none nothing is) = passes_run turns first last passes
-run_of first last turns rest ended history (NoMemory passes some is) = passes_run turns first last passes
+run_of first last turns rest ended history (NoMemory passes before some is) = passes_run turns first last passes
 run_of first last turns rest ended history (NotOpened before turn mid whole passes stops why is) =
     let front = passes_run before first mid passes in
     let end = end_run turn.0 mid last turn.1 stops in

@@ -50,13 +50,17 @@ module _ {P : Type 0} (first m : Machine) (events : List (Event P)) (replies : L
     ends = Whole r.passes refl refl refl;
   }
 
-  pub lives_no_memory : (rest : List (Event P)) → Lives first (events ++ rest) replies (Some OutOfMemory) m.accepted m
-  lives_no_memory rest = record {
+  no_turns : (turns : List (Turn P)) → map (λ turn. turn.0) turns ≡ [] → turns ≡ []
+  no_turns [] e = refl
+  no_turns (turn ∷ turns) e = absurd cc
+
+  pub lives_no_memory : (rest : List (Event P)) → (rest ≡ [] → events ≡ []) → Lives first (events ++ rest) replies (Some OutOfMemory) m.accepted m
+  lives_no_memory rest before = record {
     turns = r.turns;
     rest = rest;
     events_are = ap (λ (xs : List (Event P)). xs ++ rest) r.events_are;
     replies_are = r.replies_are;
-    ends = NoMemory r.passes refl refl;
+    ends = NoMemory r.passes (λ e. no_turns r.turns (sym r.events_are ∙ before e)) refl refl;
   }
 
   pub lives_not_opened : (last : Machine) (e : Event P) (now : List Replied) (rest : List (Event P)) (ended : Option Refusal) → StopsFor m e now last → (ended ≡ Some OutOfMemory) ⊎ (ended ≡ Some Device)

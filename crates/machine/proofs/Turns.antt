@@ -64,7 +64,7 @@ passed_replied (turn ∷ turns) a b p = (replied _ turn.0 a p.0 turn.1 p.1, pass
 
 pub each_has_replies : {P : Type 0} (first last : Machine) (turns : List (Turn P)) (rest : List (Event P)) (ended : Option Refusal) (history : List Group) → Ends first turns rest ended history last → EachHasReplies turns
 each_has_replies first last turns rest ended history (Whole passes none nothing is) = passed_replied turns first last passes
-each_has_replies first last turns rest ended history (NoMemory passes some is) = passed_replied turns first last passes
+each_has_replies first last turns rest ended history (NoMemory passes before some is) = passed_replied turns first last passes
 each_has_replies first last turns rest ended history (NotOpened before turn mid whole passes stops why is) =
     subst (λ (ts : List (Turn _)). EachHasReplies ts) (sym whole)
     (all_both (λ (t : Turn _). HasReplies t.0 t.1) before (turn ∷ []) (passed_replied before first mid passes) (replied_at_end _ turn.0 mid last turn.1 stops, tt))

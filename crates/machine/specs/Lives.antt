@@ -111,11 +111,11 @@ abbrev pub Passes : {P : Type 0} → Machine → List (Turn P) → Machine → T
 Passes old [] new = new ≡ old
 Passes old (turn ∷ turns) new = (mid : Machine) × Does old turn.0 turn.1 mid × Passes mid turns new
 
--- How a run ends: with its last event; before some event for want of memory; or with a stop after which the store is not opened
+-- How a run ends: with its last event; for want of memory before an event, or before it begins; or with a stop after which the store is not opened
 -- or has no first view. Then only what was durable is its history.
 pub data Ends {P : Type 0} (first : Machine) (turns : List (Turn P)) (rest : List (Event P)) (ended : Option Refusal) (history : List Group) (last : Machine) : Type 0 where
   Whole : Passes first turns last → rest ≡ [] → ended ≡ None → history ≡ last.accepted → Ends first turns rest ended history last
-  NoMemory : Passes first turns last → ended ≡ Some OutOfMemory → history ≡ last.accepted → Ends first turns rest ended history last
+  NoMemory : Passes first turns last → (rest ≡ [] → turns ≡ []) → ended ≡ Some OutOfMemory → history ≡ last.accepted → Ends first turns rest ended history last
   NotOpened : (before : List (Turn P)) (turn : Turn P) (mid : Machine) → turns ≡ before ++ turn ∷ [] → Passes first before mid
       → StopsFor mid turn.0 turn.1 last → (ended ≡ Some OutOfMemory) ⊎ (ended ≡ Some Device) → history ≡ groups_to last last.durable
       → Ends first turns rest ended history last

@@ -2,13 +2,15 @@
 ghost use Rattle.std.specs.Prelude.{◌≤◌};
 ghost use Rattle.std.specs.Option.{ForSome};
 
-use crate::worked::{closed, is_made, six_file};
+use crate::worked::{closed, is_made};
 use disk::{Disk, DiskError, MemDisk, Pick, Stoppable};
 use fixtures::arc;
 use roadnet::{Command, Network, Refusal};
 use std::alloc::Global;
 use store::{Store, copy};
-use store_fixtures::{created, has_bytes, opened, put, six_disk, six_in_room, with_bytes};
+use store_fixtures::{
+    created, has_bytes, old_six_file, opened, put, six_disk, six_in_room, with_bytes,
+};
 
 // The commands of the worked store, a page of the journal each; behind the first page a checkpoint is written.
 const FIRST: [Command; 3] = [
@@ -234,7 +236,7 @@ fn copies_that_are_refused(rt: HostRuntime) -> Result<(), Refusal> {
 
 // What is told of the copy of a store of format 1, and of one of a store that was copied with two journal pages.
 fn told_of_copies(alloc: Global) -> Result<(Option<Refusal>, u64), Refusal> {
-    let mut old = with_bytes(alloc, &six_file(alloc)?)?;
+    let mut old = with_bytes(alloc, &old_six_file(alloc)?)?;
     let one = copied(alloc, &mut old, None, None).err();
     let mut new = copied(alloc, &mut worked_disk(alloc)?, None, Some(2))?.close();
     Ok((one, copied(alloc, &mut new, None, None)?.version()))

@@ -1,10 +1,10 @@
 // Growths that are refused.
 use crate::old::PAGE;
-use crate::worked::{closed, six_file};
+use crate::worked::closed;
 use roadnet::Refusal;
 use std::alloc::Global;
 use store::migrate;
-use store_fixtures::FixedDisk;
+use store_fixtures::{FixedDisk, old_six_file};
 
 // What a room that is none is refused with, and the new disk.
 fn refused_room(alloc: Global, old: &mut FixedDisk) -> Result<(Refusal, FixedDisk), Refusal> {
@@ -31,7 +31,7 @@ fn is_migrated(alloc: Global, old: &mut FixedDisk, new: FixedDisk) -> bool {
 // takes. To be run with each allocation failing in turn.
 #[test]
 fn migrate_in_little_memory(rt: HostRuntime) -> Result<(), Refusal> {
-    let file = six_file(rt.alloc())?;
+    let file = old_six_file(rt.alloc())?;
     let mut old = FixedDisk::full(rt.alloc(), &file)?;
     let (refusal, new) = refused_room(rt.alloc(), &mut old)?;
     assert!(rt; refusal == Refusal::TooLarge || refusal == Refusal::OutOfMemory);

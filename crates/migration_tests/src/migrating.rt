@@ -1,12 +1,14 @@
 // What is made of a store of format 1.
 use crate::old::{Old, drawn};
-use crate::worked::{ARCS, closed, is_made, migrated, six_file, six_old};
+use crate::worked::{closed, is_made, migrated, six_old};
 use disk::{Disk, MemDisk, Pick, Recorded, Stoppable};
 use fixtures::arc;
 use roadnet::{Command, Network, Refusal};
 use std::alloc::Global;
 use store::Store;
-use store_fixtures::{PageRow, first_other_page, has_bytes, opened, with_bytes};
+use store_fixtures::{
+    ARCS_OF_SIX, PageRow, first_other_page, has_bytes, old_six_file, opened, with_bytes,
+};
 
 // Format 2 of the worked file at version 1: the headers with room for eight arcs and for ten, the head of slot A, of epoch 1, version 1, next sequence 0 and
 // eight arcs, and the words behind `close 7`.
@@ -29,14 +31,14 @@ const LAID: [u8; 48] =
 // The first pages of the new store, and that of the first commit behind it.
 const PAGES: [PageRow; 4] = [
     (0, &HEADER, 165),
-    (1, &ARCS, 0),
+    (1, &ARCS_OF_SIX, 0),
     (2, &HEAD, 165),
     (3, &WORDS, 0),
 ];
 
 const ROOMY_PAGES: [PageRow; 4] = [
     (0, &ROOMY_HEADER, 165),
-    (1, &ARCS, 0),
+    (1, &ARCS_OF_SIX, 0),
     (2, &HEAD, 165),
     (3, &WORDS, 0),
 ];
@@ -45,7 +47,7 @@ const LAID_PAGE: [PageRow; 1] = [(8, &LAID, 165)];
 
 // The store that is made of the worked one with this room.
 fn made_of_six(alloc: Global, room: Option<u64>) -> Result<Store<MemDisk>, Refusal> {
-    let mut old = with_bytes(alloc, &six_file(alloc)?)?;
+    let mut old = with_bytes(alloc, &old_six_file(alloc)?)?;
     migrated(alloc, &mut old, room)
 }
 
@@ -102,7 +104,7 @@ fn syncs_of(disk: &MemDisk) -> Option<usize> {
 #[test]
 fn old_store_stays(rt: HostRuntime) -> Result<(), Refusal> {
     let alloc = rt.alloc();
-    let file = six_file(alloc)?;
+    let file = old_six_file(alloc)?;
     let mut old = with_bytes(alloc, &file)?;
     let _ = old.stop(&[Pick::Old]);
     assert!(rt; version_made(alloc, &mut old, None)? == 1);
@@ -188,7 +190,7 @@ fn closed_arcs_keep_their_lengths(rt: HostRuntime) -> Result<(), Refusal> {
 fn worked_file_is_spelled(rt: HostRuntime) -> Result<(), Refusal> {
     let alloc = rt.alloc();
     let old = six_old(alloc, 64, &[Command::Close { arc: 7 }])?;
-    assert!(rt; old.spelled(alloc)?.as_slice() == six_file(alloc)?.as_slice());
+    assert!(rt; old.spelled(alloc)?.as_slice() == old_six_file(alloc)?.as_slice());
     Ok(())
 }
 

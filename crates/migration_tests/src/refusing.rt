@@ -1,11 +1,11 @@
 // What is refused, and in which order.
 use crate::old::PAGE;
-use crate::worked::{migrated, six_file};
+use crate::worked::migrated;
 use disk::{Disk, DiskError, MemDisk};
 use roadnet::Refusal;
 use std::alloc::Global;
 use store::migrate;
-use store_fixtures::{has_bytes, put, six_disk, with_bytes};
+use store_fixtures::{has_bytes, old_six_file, put, six_disk, with_bytes};
 
 // Where the first page of the journal is, which has `close 7`.
 const JOURNAL: usize = 6 * PAGE;
@@ -133,7 +133,7 @@ fn refused(
 
 // Whether this is refused so, and both disks stay as they were.
 fn is_refused(alloc: Global, (changes, is_taken, room, wanted): Row) -> Result<bool, Refusal> {
-    let mut file = six_file(alloc)?;
+    let mut file = old_six_file(alloc)?;
     for &(at, byte) in changes {
         put(&mut file, at, &[byte]);
     }
@@ -157,7 +157,7 @@ fn told_with(alloc: Global, old: &mut MemDisk, room: Option<u64>) -> Result<u64,
 
 // The store that is made of the worked one with the least room: its room and version, and its disk.
 fn made_in_least_room(alloc: Global) -> Result<((u32, u64), MemDisk), Refusal> {
-    let mut old = with_bytes(alloc, &six_file(alloc)?)?;
+    let mut old = with_bytes(alloc, &old_six_file(alloc)?)?;
     let store = migrated(alloc, &mut old, Some(8))?;
     let told = (store.network().room(), store.version());
     Ok((told, store.close()))

@@ -1,44 +1,12 @@
-// The file of the worked rows in format 1, spelled by hand, and what several tests make and look at.
-use crate::old::{OPEN, Old, PAGE};
+// The store of the worked rows in format 1, with other journals, and what several tests make and look at.
+use crate::old::Old;
 use disk::{Disk, MemDisk};
 use pages::Slot;
 use roadnet::{Command, Network, Refusal, RoadArc};
 use std::alloc::{AllocError, Global};
 use store::{Standing, Store, migrate};
-use store_fixtures::put;
 
-// Six nodes and eight arcs with a journal of 64 pages: the bytes 0 to 23 of the header, the bytes in use of the arc page, of the word page and of the head of
-// slot A, without landmarks; and the journal page of `close 7`, at place 0.
-const HEADER: [u8; 24] =
-    *b"ROADMRK1\x00\x00\x00\x01\x00\x00\x00\x06\x00\x00\x00\x08\x00\x00\x00\x40";
-
-pub const ARCS: [u8; 64] =
-    *b"\x00\x00\x00\x01\x00\x00\x00\x02\x00\x00\x00\x01\x00\x00\x00\x03\x00\x00\x00\x02\x00\x00\x00\x04\x00\x00\x00\x03\x00\x00\x00\x05\x00\x00\x00\x04\x00\x00\x00\x03\x00\x00\x00\x04\x00\x00\x00\x06\x00\x00\x00\x05\x00\x00\x00\x02\x00\x00\x00\x05\x00\x00\x00\x06";
-
-const WORDS: [u8; 32] =
-    *b"\x00\x00\x00\x11\x00\x00\x00\x0a\x00\x00\x00\x02\x00\x00\x00\x00\x00\x00\x00\x00\x00\x00\x00\x03\x00\x00\x00\x00\x00\x00\x00\x14";
-
-const HEAD: [u8; 28] =
-    *b"\x00\x00\x00\x00\x00\x00\x00\x01\x00\x00\x00\x00\x00\x00\x00\x00\x00\x00\x00\x00\x00\x00\x00\x00\x00\x00\x00\x00";
-
-const CLOSED_7: [u8; 48] =
-    *b"\x00\x00\x00\x00\x00\x00\x00\x00\x00\x00\x00\x00\x00\x00\x00\x01\x00\x01\x00\x00\x00\x00\x00\x00\x00\x00\x00\x00\x00\x00\x00\x00\x02\x00\x00\x00\x00\x00\x00\x07\x00\x00\x00\x00\x00\x00\x00\x00";
-
-// The file at version 1: 70 pages, the journal from page 6.
-pub fn six_file(alloc: Global) -> Result<Vec<u8>, AllocError> {
-    let mut file = vec![in alloc; 0; 70 * PAGE]?;
-    put(&mut file, 0, &HEADER);
-    put(&mut file, PAGE - 1, &[OPEN]);
-    put(&mut file, PAGE, &ARCS);
-    put(&mut file, 2 * PAGE, &HEAD);
-    put(&mut file, 3 * PAGE - 1, &[OPEN]);
-    put(&mut file, 3 * PAGE, &WORDS);
-    put(&mut file, 6 * PAGE, &CLOSED_7);
-    put(&mut file, 7 * PAGE - 1, &[OPEN]);
-    Ok(file)
-}
-
-// The same, with so many journal pages and these commands, a page each, to be spelled.
+// The network of the worked rows in format 1, with so many journal pages and these commands, a page each, to be spelled.
 pub fn six_old(alloc: Global, journal_pages: u32, commands: &[Command]) -> Result<Old, Refusal> {
     let network = fixtures::six(alloc)?;
     let mut pages = Vec::new(alloc);

@@ -180,7 +180,7 @@ const ON_TEXTS: [(&str, &str); 13] = [
     ),
     (
         "--version",
-        "roadmark 0.2.0 (format 2, rattle-kit-13f logic dac8208d650f15bf)\n",
+        "roadmark 0.2.0 (format 2, rattle logic dac8208d650f15bf)\n",
     ),
 ];
 

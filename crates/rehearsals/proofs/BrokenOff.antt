@@ -33,7 +33,7 @@ none_run : (net : Net) (pages : ℕ) (events : List (Event Pick)) → RepliesTo 
 none_run net pages events = record {
   history = [];
   last = start (sizes_of net pages) net 0 0;
-  lives = record { turns = []; rest = events; events_are = refl; replies_are = refl; ends = NoMemory refl refl refl };
+  lives = record { turns = []; rest = events; events_are = refl; replies_are = refl; ends = NoMemory refl (λ e. refl) refl refl };
 }
 
 pub broken_off_unmade : (net : Net) (pages : ℕ) (events : List (Event Pick)) (old : Option (List ℕ)) (refusal : Refusal) → IsPassing refusal → IsBrokenOff net pages events old old (Code refusal)

@@ -40,7 +40,7 @@ passing o r is p = subst (λ (x : Option Refusal). IfSome x IsPassing) (sym is) 
 
 ends_passing : (first : Machine) (turns : List (Turn Pick)) (rest : List (Event Pick)) (ended : Option Refusal) (history : List Group) (last : Machine) → Ends first turns rest ended history last → IfSome ended IsPassing
 ends_passing first turns rest ended history last (Whole passes all none same) = subst (λ (x : Option Refusal). IfSome x IsPassing) (sym none) tt
-ends_passing first turns rest ended history last (NoMemory passes is same) = passing ended OutOfMemory is (inl refl)
+ends_passing first turns rest ended history last (NoMemory passes before is same) = passing ended OutOfMemory is (inl refl)
 ends_passing first turns rest ended history last (NotOpened before turn mid split passes stops why same) =
     ⊎_elim (λ is. passing ended OutOfMemory is (inl refl)) (λ is. passing ended Device is (inr refl)) why
 

@@ -8,7 +8,7 @@ use Rattle.roadnet.specs.declared.refusals.Refusal.TheVariants.{OutOfMemory}
 use Rattle.roadnet.specs.Groups.{commands_of}
 use Rattle.roadnet.specs.Members.{with_member, without_member}
 use Rattle.roadnet.specs.Net.{Net, IsNetwork, arc_at, update_nth}
-use Rattle.roadnet.specs.Step.{new_arc, changed, refusal_of, step_group, after, first_refusal}
+use Rattle.roadnet.specs.Step.{TakesMemory, new_arc, changed, refusal_of, step_group, after, first_refusal}
 
 -- the network with these commands carried out, the first one first
 abbrev pub changed_by : Net → List Command → Net
@@ -49,6 +49,11 @@ HasFitNumbers (Lay t h w) = (t < 2 ^ 32) × (h < 2 ^ 32) × (w < 2 ^ 31)
 abbrev pub MayRefuseBatch : Net → List Command → Refusal → Type 0
 MayRefuseBatch net commands refusal =
     (first_refusal net commands ≡ Some refusal) ⊎ ((refusal ≡ OutOfMemory) × (first_refusal net commands ≡ None))
+
+-- carrying the commands out may take memory: for one command where that one alone takes some, for several always
+abbrev pub TakeMemory : List Command → Type 0
+TakeMemory (command ∷ []) = TakesMemory command
+TakeMemory other = Unit {0}
 
 -- Some command of these is refused: those before it lead to a network, and that one gives it this refusal.
 pub record RefusesOneOf (net : Net) (commands : List Command) (refusal : Refusal) : Type 0 where

@@ -4,7 +4,8 @@ ghost use Rattle.std.specs.Prelude.{◌≡◌, ℕ, List, true, None, Some, All,
 ghost use Rattle.std.specs.List.Sorted.{IsStrictlyIncreasing};
 ghost use Rattle.roadnet.specs.Net.{Net, IsNetwork};
 ghost use Rattle.roadnet.specs.Step.{after, step_group};
-ghost use Rattle.roadnet.specs.Batches.{changed_landmarks, HasFitNumbers, first_refusal_of_all, MayRefuseBatch, MayRefuseGroups};
+ghost use Rattle.roadnet.specs.Batches.{changed_landmarks, HasFitNumbers, first_refusal_of_all, MayRefuseBatch, MayRefuseGroups, TakeMemory};
+ghost use Rattle.roadnet.specs.declared.refusals.Refusal.TheVariants.{OutOfMemory as out_of_memory};
 ghost use Rattle.roadnet.specs.Groups.{commands_of};
 ghost use Rattle.roadnet.specs.Judging.{IsVerdict};
 ghost use Rattle.roadnet.specs.Undoing.{undone};
@@ -180,6 +181,8 @@ impl Network {
         ensures ok { OnOk result (step_group self.old group.now ≡ Some self.new) }
         ensures err { OnErr result (self.new ≡ self.old) }
         ensures refused { IfErr result (MayRefuseBatch self.old group.now) }
+        // A group of one takes memory just where `apply` does.
+        ensures memory { IfErr result (λ refusal. refusal ≡ out_of_memory → TakeMemory group.now) }
     {
         if let &[command] = group.commands() {
             return self.apply(command);

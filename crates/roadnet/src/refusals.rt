@@ -9,7 +9,7 @@ pub enum Refusal {
     /// A number is not in its range.
     #[error("5 NumberRange")]
     NumberRange,
-    /// There are more arcs than a network may have.
+    /// There are more arcs than a network may have; or a room is below the number of arcs, or above the most that there may be.
     #[error("9 TooLarge")]
     TooLarge,
     /// The reader failed.
@@ -75,7 +75,7 @@ pub enum Refusal {
     /// The disk is not empty.
     #[error("46 NotEmpty")]
     NotEmpty,
-    /// As many commands are pending as may be.
+    /// With these more commands would be pending than may be.
     #[error("50 QueueFull")]
     QueueFull,
     /// No task is out.
@@ -96,7 +96,7 @@ pub enum Refusal {
     /// The desk takes no more calls.
     #[error("61 Closed")]
     Closed,
-    /// As many commands were accepted as one life may have.
+    /// With these more commands would have been accepted than one life may have.
     #[error("62 HistoryFull")]
     HistoryFull,
     /// The system gave no thread.

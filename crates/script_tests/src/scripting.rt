@@ -234,6 +234,19 @@ fn faults_of_groups(rt: HostRuntime) {
     }
 }
 
+/// A group has at most 253 commands: the line of the 254th is told.
+#[test]
+fn a_command_too_many(rt: HostRuntime) -> Result<(), Fail> {
+    let mut text = String::new(rt.alloc());
+    text.push_str("flush\nbegin\n")?;
+    for _ in 0..254 {
+        text.push_str("set 1 17\n")?;
+    }
+    text.push_str("end\n")?;
+    is_refused(&rt, text.as_str(), 256, Code::GroupSize);
+    Ok(())
+}
+
 /// A group is one event, at its end: a reader that gives its commands one by one is refused.
 #[test]
 fn a_group_is_one_event(rt: HostRuntime) -> Result<(), Fail> {

@@ -190,7 +190,7 @@ fn one_session(rt: HostRuntime) -> Result<(), Fail> {
 }
 
 /// Each kind of line, and what is refused of each: lines, and what a session with them writes.
-const KINDS: [(&[u8], &[u8]); 18] = [
+const KINDS: [(&[u8], &[u8]); 21] = [
     (b"", b""),
     (b"quit", b""),
     (b"\n \t\r\n# quit\n  #quit\n#\nquit\ndist 1 6\n", b""),
@@ -239,6 +239,19 @@ const KINDS: [(&[u8], &[u8]); 18] = [
     (
         b"end\nbegin\nend\nbegin x\nclose 7\nend\n",
         b"no 1\nno 13\nno 1\nok 1\nno 1\n",
+    ),
+    // Within a group a line of another kind is no line, whatever else is wrong in it.
+    (
+        b"begin\ndist -1 2\nend\nbegin\nfrom 1 9223372036854775808\nend\nbegin\nlower -1 2\nend\nbegin\narc -1\nend\nbegin\narcs 1 -1\nend\ndist -1 2\n",
+        b"no 1\nno 1\nno 1\nno 1\nno 1\nno 5\n",
+    ),
+    (
+        b"begin\nreach 1 -1\nend\nbegin\nreached -1 1\nend\nbegin\nnearest -1 1\nend\nbegin\nuntil -1\nend\nbegin\ntable 1 1 -1 2\nend\nreach 1 -1\n",
+        b"no 1\nno 1\nno 1\nno 1\nno 1\nno 5\n",
+    ),
+    (
+        b"suppose\ndist -1 2\nend\nsuppose\nclose -1\nend\nsuppose\nclose 7\nend\nforget\n",
+        b"no 1\nno 5\nsuppose 0\nforgotten\n",
     ),
     // A group that is cut off is dropped.
     (b"mark 3\nbegin\nclose 7\nquit\nend\n", b"ok 1\n"),

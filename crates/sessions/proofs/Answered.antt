@@ -374,11 +374,11 @@ told_wait copying origin before last known had has old new (Ok x) shown shows ca
     record { told = version_or_refusal shown; durable = []; is_answer = (shown, shows, causes, refl, refl, same); kept = nothing_more origin had has kept; written = appends }
 told_wait copying origin before last known had has old new (Err e) shown shows causes same kept appends = tt
 
-pub told_fault : {X E : Type 0} (copying : Copying) (origin : Origin) (code : Code) (before last : Option Accepted) (known : List Group) (had has : Option Beginning) (old new : Option (List ℕ)) (result : Result X E)
-    → last ≡ before → has ≡ had → OnOk result (Appends old new (refusal_line (fault_number code))) → OnOk result (Tells copying origin None (a_fault code) before last known had has old new)
-told_fault copying origin code before last known had has old new (Ok x) same kept appends =
+pub told_fault : {X E : Type 0} (copying : Copying) (origin : Origin) (code grouped : Code) (before last : Option Accepted) (known : List Group) (had has : Option Beginning) (old new : Option (List ℕ)) (result : Result X E)
+    → last ≡ before → has ≡ had → OnOk result (Appends old new (refusal_line (fault_number code))) → OnOk result (Tells copying origin None (a_fault code grouped) before last known had has old new)
+told_fault copying origin code grouped before last known had has old new (Ok x) same kept appends =
     record { told = refusal_line (fault_number code); durable = []; is_answer = (refl, refl, same); kept = nothing_more origin had has kept; written = appends }
-told_fault copying origin code before last known had has old new (Err e) same kept appends = tt
+told_fault copying origin code grouped before last known had has old new (Err e) same kept appends = tt
 
 -- an end that stands in no group
 pub told_no_end : {X E : Type 0} (copying : Copying) (origin : Origin) (before last : Option Accepted) (known : List Group) (had has : Option Beginning) (old new : Option (List ℕ)) (result : Result X E)

@@ -1,5 +1,6 @@
 mod Fieldwise
 mod Worded
+mod Grouped
 mod Numbered
 mod Staged
 mod Naming

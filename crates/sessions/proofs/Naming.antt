@@ -14,7 +14,7 @@ use Rattle.dimacs.specs.Faults.{Row}
 use Rattle.dimacs.specs.Lines.{is_blank, fields}
 use Rattle.sessions.specs.declared.letters.Letters.{Letters}
 use Rattle.sessions.specs.declared.names.Name.{Name}
-use Rattle.sessions.specs.declared.lines.Line.TheVariants.{Copy, Refused}
+use Rattle.sessions.specs.declared.lines.Line.TheVariants.{Copy}
 use Rattle.sessions.specs.declared.lines.Stage.TheVariants.{Beginning, Unknown, Unnamed, Naming, Named}
 use Rattle.sessions.specs.Fields.{as_row}
 use Rattle.sessions.specs.Judging.{IsOneField, IsStage, letters_of}
@@ -139,7 +139,7 @@ second_field front b name plain is more =
     ap session_code row ∙ copy_two (name_of name) (b ∷ ([] ++ found.tail)) found.others
 
 -- ---- the line that ends here
-pub unnamed_line : (front : List ℕ) → IsStage front Unnamed → IsLine (fields front) (Refused BadLine)
+pub unnamed_line : (front : List ℕ) → IsStage front Unnamed → session_code (fields front) ≡ Some BadLine
 unnamed_line front is = let row : fields front ≡ codes "copy" ∷ [] = rw (append-nil front) at (is []) in ap session_code row ∙ copy_none
 
 pub naming_line : (front : List ℕ) (name : Name) → IsStage front (Naming name) → IsLine (fields front) (Copy name)

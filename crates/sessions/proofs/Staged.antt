@@ -12,7 +12,7 @@ use Rattle.sessions.specs.declared.fields.Numbers.{Numbers}
 use Rattle.sessions.specs.declared.fields.Numbers.TheVariants.{Nothing}
 use Rattle.sessions.specs.declared.letters.Letters.{Letters}
 use Rattle.sessions.specs.declared.lines.Line.{Line}
-use Rattle.sessions.specs.declared.lines.Line.TheVariants.{Ignored, Refused}
+use Rattle.sessions.specs.declared.lines.Line.TheVariants.{Ignored}
 use Rattle.sessions.specs.declared.lines.LineSoFar.{LineSoFar}
 use Rattle.sessions.specs.declared.lines.Stage.{Stage}
 use Rattle.sessions.specs.declared.lines.Stage.TheVariants.{Blank, Beginning, Remark, Unknown, Behind}
@@ -151,7 +151,7 @@ remark_line front is = or_right (is_empty (fields front)) (is_remark 35 (fields 
     or_right true b e = refl
     or_right false b e = e
 
-pub unknown_line : (front : List ℕ) → IsStage front Unknown → IsLine (fields front) (Refused BadLine)
+pub unknown_line : (front : List ℕ) → IsStage front Unknown → session_code (fields front) ≡ Some BadLine
 unknown_line front is = rw (append-nil front) at (is [])
 
 first_alone : (front : List ℕ) (letters : Letters) → IsStage front (Beginning letters) → fields front ≡ letters_of letters ∷ []
@@ -166,7 +166,7 @@ no_line first w plain none =
       | inr other ↦ unknown_row first w [] plain none (copy_alone (first ∷ w)) other
     ]
 
-pub unknown_alone : (front : List ℕ) (letters : Letters) → None ≡ word_from (letters_of letters) → IsStage front (Beginning letters) → IsLine (fields front) (Refused BadLine)
+pub unknown_alone : (front : List ℕ) (letters : Letters) → None ≡ word_from (letters_of letters) → IsStage front (Beginning letters) → session_code (fields front) ≡ Some BadLine
 unknown_alone front letters none is =
     let no : word_from (is.first ∷ is.others) ≡ None = sym (ap word_from is.letters_are) ∙ sym none in
     ap session_code (first_alone front letters is ∙ ap (λ (l : List ℕ). l ∷ []) is.letters_are) ∙ no_line is.first is.others is.no_remark no

@@ -26,6 +26,7 @@ use Rattle.sessions.specs.declared.fields.Field.TheVariants.{Unbegun, Minus, Num
 use Rattle.sessions.specs.declared.letters.Letters.{Letters}
 use Rattle.sessions.specs.declared.lines.Line.{Line}
 use Rattle.sessions.specs.declared.lines.Line.TheVariants.{Refused}
+use Rattle.sessions.proofs.Grouped.{other_within}
 use Rattle.sessions.specs.declared.lines.Stage.TheVariants.{Beginning, Listing as a_listing}
 use Rattle.sessions.specs.declared.tables.Listing.{Listing}
 use Rattle.sessions.specs.declared.tables.Listing.TheVariants.{Faulty}
@@ -232,14 +233,14 @@ pub no_field_listed : (row : Row) (last : List ℕ) (listing : Listing) → last
 no_field_listed row last listing none are = rw (none, append-nil row) are
 
 -- ---- the line
-pub faulty_line : (row : Row) → IsListing row Faulty → IsLine (codes "table" ∷ row) (Refused BadLine)
+pub faulty_line : (row : Row) → IsListing row Faulty → session_code (codes "table" ∷ row) ≡ Some BadLine
 faulty_line row is = let code : table_code row ≡ Some BadLine = rw (append-nil row) at (is []) in code
 
-pub no_table_line : (row : Row) → is_no_table row ≡ true → IsLine (codes "table" ∷ row) (Refused BadLine)
+pub no_table_line : (row : Row) → is_no_table row ≡ true → session_code (codes "table" ∷ row) ≡ Some BadLine
 no_table_line row amiss = rw amiss refl
 
-pub range_line : (row : Row) → is_no_table row ≡ false → some_numeral is_refused row ≡ true → IsLine (codes "table" ∷ row) (Refused NumberRange)
-range_line row whole bad = rw (whole, bad) refl
+pub range_line : (row : Row) → is_no_table row ≡ false → some_numeral is_refused row ≡ true → IsLine (codes "table" ∷ row) (Refused NumberRange BadLine)
+range_line row whole bad = (rw (whole, bad) refl, other_within (codes "table") row refl refl)
 
 plain_code : (row : Row) → is_no_table row ≡ false → some_numeral is_refused row ≡ false → session_code (codes "table" ∷ row) ≡ None
 plain_code row whole plain = rw (whole, plain) refl

@@ -25,7 +25,7 @@ use Rattle.sessions.specs.declared.words.Two.{Two as TwoWord}
 use Rattle.sessions.specs.declared.words.Two.TheVariants.{Common as two_common, Arcs, Reach, Reached, Nearest}
 use Rattle.sessions.specs.declared.words.Word.TheVariants.{WithNone, WithOne, WithTwo, Lay}
 use Rattle.sessions.specs.declared.lines.Line.{Line}
-use Rattle.sessions.specs.declared.lines.Line.TheVariants.{Command as a_command, Refused}
+use Rattle.sessions.specs.declared.lines.Line.TheVariants.{Command as a_command}
 use Rattle.sessions.specs.declared.fields.Numbers.{Numbers}
 use Rattle.sessions.specs.declared.fields.Numbers.TheVariants.{Nothing, One, Two, Three, TooMany}
 use Rattle.sessions.specs.Fields.{IsNumbers, AreTwo, AreThree, number_of, has_one, has_two, has_three}
@@ -96,13 +96,13 @@ copy_alone field = go (bytes_eq field (codes "copy"))
     go false = refl
 
 -- ---- words with so many numbers behind them
-record IsForm (word : List ℕ) (n : ℕ) : Type 0 where
-  plain : (numbers : Row) → (is_empty (word ∷ numbers) || is_remark 35 (word ∷ numbers)) ≡ false
-  formed : (numbers : Row) → form_of forms (word ∷ numbers) ≡ Some (form word n)
-  no_copy : (numbers : Row) → copy_of (word ∷ numbers) ≡ None
-  no_table : bytes_eq word (codes "table") ≡ false
+pub record IsForm (word : List ℕ) (n : ℕ) : Type 0 where
+  pub plain : (numbers : Row) → (is_empty (word ∷ numbers) || is_remark 35 (word ∷ numbers)) ≡ false
+  pub formed : (numbers : Row) → form_of forms (word ∷ numbers) ≡ Some (form word n)
+  pub no_copy : (numbers : Row) → copy_of (word ∷ numbers) ≡ None
+  pub no_table : bytes_eq word (codes "table") ≡ false
 
-bare_form : (word : Bare) → IsForm (spelling (WithNone word)) 0
+pub bare_form : (word : Bare) → IsForm (spelling (WithNone word)) 0
 bare_form Wait = record { plain = λ numbers. refl; formed = λ numbers. refl; no_copy = λ numbers. refl; no_table = refl }
 bare_form Quit = record { plain = λ numbers. refl; formed = λ numbers. refl; no_copy = λ numbers. refl; no_table = refl }
 bare_form Begin = record { plain = λ numbers. refl; formed = λ numbers. refl; no_copy = λ numbers. refl; no_table = refl }
@@ -113,7 +113,7 @@ bare_form State = record { plain = λ numbers. refl; formed = λ numbers. refl; 
 bare_form Suppose = record { plain = λ numbers. refl; formed = λ numbers. refl; no_copy = λ numbers. refl; no_table = refl }
 bare_form Forget = record { plain = λ numbers. refl; formed = λ numbers. refl; no_copy = λ numbers. refl; no_table = refl }
 
-one_form : (word : OneWord) → IsForm (spelling (WithOne word)) 1
+pub one_form : (word : OneWord) → IsForm (spelling (WithOne word)) 1
 one_form (one_common Close) = record { plain = λ numbers. refl; formed = λ numbers. refl; no_copy = λ numbers. refl; no_table = refl }
 one_form (one_common Reopen) = record { plain = λ numbers. refl; formed = λ numbers. refl; no_copy = λ numbers. refl; no_table = refl }
 one_form (one_common Mark) = record { plain = λ numbers. refl; formed = λ numbers. refl; no_copy = λ numbers. refl; no_table = refl }
@@ -121,7 +121,7 @@ one_form (one_common Unmark) = record { plain = λ numbers. refl; formed = λ nu
 one_form Arc = record { plain = λ numbers. refl; formed = λ numbers. refl; no_copy = λ numbers. refl; no_table = refl }
 one_form Until = record { plain = λ numbers. refl; formed = λ numbers. refl; no_copy = λ numbers. refl; no_table = refl }
 
-two_form : (word : TwoWord) → IsForm (spelling (WithTwo word)) 2
+pub two_form : (word : TwoWord) → IsForm (spelling (WithTwo word)) 2
 two_form (two_common Set) = record { plain = λ numbers. refl; formed = λ numbers. refl; no_copy = λ numbers. refl; no_table = refl }
 two_form (two_common Dist) = record { plain = λ numbers. refl; formed = λ numbers. refl; no_copy = λ numbers. refl; no_table = refl }
 two_form (two_common From) = record { plain = λ numbers. refl; formed = λ numbers. refl; no_copy = λ numbers. refl; no_table = refl }
@@ -131,7 +131,7 @@ two_form Reach = record { plain = λ numbers. refl; formed = λ numbers. refl; n
 two_form Reached = record { plain = λ numbers. refl; formed = λ numbers. refl; no_copy = λ numbers. refl; no_table = refl }
 two_form Nearest = record { plain = λ numbers. refl; formed = λ numbers. refl; no_copy = λ numbers. refl; no_table = refl }
 
-lay_form : IsForm (spelling Lay) 3
+pub lay_form : IsForm (spelling Lay) 3
 lay_form = record { plain = λ numbers. refl; formed = λ numbers. refl; no_copy = λ numbers. refl; no_table = refl }
 
 bare_made : (word : Bare) (numbers : Row) → line_of (spelling (WithNone word) ∷ numbers) ≡ Some (bare_line word)
@@ -246,7 +246,7 @@ two_asks Nearest n m row asks = asks
 pub bare_reads : (word : Bare) (row : Row) → IsNumbers row Nothing → IsLine (spelling (WithNone word) ∷ row) (bare_line word)
 bare_reads word row none = rw none (bare_asks word (spelling (WithNone word) ∷ []) (code_alone (spelling (WithNone word)) (bare_form word), bare_made word []))
 
-pub bare_fault : (word : Bare) (row : Row) (numbers : Numbers) → IsNumbers row numbers → 0 < count_of numbers → IsLine (spelling (WithNone word) ∷ row) (Refused BadLine)
+pub bare_fault : (word : Bare) (row : Row) (numbers : Numbers) → IsNumbers row numbers → 0 < count_of numbers → session_code (spelling (WithNone word) ∷ row) ≡ Some BadLine
 bare_fault word row Nothing are some = let no : 0 < 0 = some in absurd (omega (arith, no))
 bare_fault word row (One a) are some = bad_bare word row (λ e. absurd (omega (arith, e, ap length are.row_is)))
 bare_fault word row (Two a b) are some = bad_bare word row (λ e. absurd (omega (arith, e, ap length are.row_is)))
@@ -288,13 +288,13 @@ one_reads word row n are plain =
     let still : is_refused k.a ≡ false = sym (kept_refused k.a) ∙ sym (ap is_refused k.kept_as) ∙ plain in
     rw (are.row_is, k.kept_as) (one_is word are.field k.a k.is still)
 
-pub one_range : (word : OneWord) (row : Row) (n : Numeral) → IsNumbers row (One (Some n)) → is_refused n ≡ true → IsLine (spelling (WithOne word) ∷ row) (Refused NumberRange)
-one_range word row n are bad =
+pub one_code : (word : OneWord) (row : Row) (n : Numeral) → IsNumbers row (One (Some n)) → is_refused n ≡ true → session_code (spelling (WithOne word) ∷ row) ≡ Some NumberRange
+one_code word row n are bad =
     let k = kept_as are.field n are.number in
     let still : is_refused k.a ≡ true = sym (kept_refused k.a) ∙ sym (ap is_refused k.kept_as) ∙ bad in
     rw are.row_is (code_of_one (spelling (WithOne word)) are.field k.a (one_form word) k.is ∙ rw still refl)
 
-pub one_fault : (word : OneWord) (row : Row) (numbers : Numbers) → IsNumbers row numbers → has_one numbers ≡ false → IsLine (spelling (WithOne word) ∷ row) (Refused BadLine)
+pub one_fault : (word : OneWord) (row : Row) (numbers : Numbers) → IsNumbers row numbers → has_one numbers ≡ false → session_code (spelling (WithOne word) ∷ row) ≡ Some BadLine
 one_fault word row Nothing are none = bad_one word row (λ e. absurd (omega (arith, e, ap length are)))
 one_fault word row (One None) are none =
     let no : numeral are.field ≡ None = no_numeral are.field are.number in
@@ -317,7 +317,7 @@ two_is word u v a b d e plain =
       two_made word (u ∷ v ∷ []) ∙ ap (λ (x : ℕ). Some (two_line word x (size_at (u ∷ v ∷ []) 1))) first ∙ ap (λ (y : ℕ). Some (two_line word (kept a).size y)) second,
     )
 
-both_refused : (a b : Numeral) (n m : Numeral) → n ≡ kept a → m ≡ kept b → (is_refused a || is_refused b) ≡ (is_refused n || is_refused m)
+pub both_refused : (a b : Numeral) (n m : Numeral) → n ≡ kept a → m ≡ kept b → (is_refused a || is_refused b) ≡ (is_refused n || is_refused m)
 both_refused a b n m p q =
     ap (λ (x : Bool). x || is_refused b) (sym (kept_refused a) ∙ sym (ap is_refused p)) ∙ ap (λ (y : Bool). is_refused n || y) (sym (kept_refused b) ∙ sym (ap is_refused q))
 
@@ -328,9 +328,9 @@ two_reads word row n m are plain =
     let k = kept_as are.second m are.second_number in
     rw (are.row_is, j.kept_as, k.kept_as) (two_is word are.first are.second j.a k.a j.is k.is (both_refused j.a k.a n m j.kept_as k.kept_as ∙ plain))
 
-pub two_range : (word : TwoWord) (row : Row) (n m : Numeral) → IsNumbers row (Two (Some n) (Some m)) → (is_refused n || is_refused m) ≡ true
-    → IsLine (spelling (WithTwo word) ∷ row) (Refused NumberRange)
-two_range word row n m are bad =
+pub two_code : (word : TwoWord) (row : Row) (n m : Numeral) → IsNumbers row (Two (Some n) (Some m)) → (is_refused n || is_refused m) ≡ true
+    → session_code (spelling (WithTwo word) ∷ row) ≡ Some NumberRange
+two_code word row n m are bad =
     let j = kept_as are.first n are.first_number in
     let k = kept_as are.second m are.second_number in
     rw are.row_is (code_of_two (spelling (WithTwo word)) are.first are.second j.a k.a (two_form word) j.is k.is ∙ rw (both_refused j.a k.a n m j.kept_as k.kept_as ∙ bad) refl)
@@ -338,7 +338,7 @@ two_range word row n m are bad =
 bad_pair : (word : TwoWord) (row : Row) (a b : Option Numeral) → AreTwo row a b → is_malformed 2 row ≡ true → session_code (spelling (WithTwo word) ∷ row) ≡ Some BadLine
 bad_pair word row a b are bad = malformed (spelling (WithTwo word)) 2 row (two_form word) bad
 
-pub two_fault : (word : TwoWord) (row : Row) (numbers : Numbers) → IsNumbers row numbers → has_two numbers ≡ false → IsLine (spelling (WithTwo word) ∷ row) (Refused BadLine)
+pub two_fault : (word : TwoWord) (row : Row) (numbers : Numbers) → IsNumbers row numbers → has_two numbers ≡ false → session_code (spelling (WithTwo word) ∷ row) ≡ Some BadLine
 two_fault word row Nothing are none = bad_two word row (λ e. absurd (omega (arith, e, ap length are)))
 two_fault word row (One a) are none = bad_two word row (λ e. absurd (omega (arith, e, ap length are.row_is)))
 two_fault word row (Two None b) are none =
@@ -366,7 +366,7 @@ lay_is u v w a b d e f g plain =
     let third : size_at (u ∷ v ∷ w ∷ []) 2 ≡ (kept d).size = rw g (sym (ap (λ (n : Numeral). n.size) (kept_number d others.1))) in
     (code_of_three (spelling Lay) u v w a b d lay_form e f g ∙ rw plain refl, lay_made (u ∷ v ∷ w ∷ []) ∙ same_lay _ _ _ _ _ _ first second third)
 
-all_refused : (a b d n m k : Numeral) → n ≡ kept a → m ≡ kept b → k ≡ kept d → (is_refused a || (is_refused b || is_refused d)) ≡ (is_refused n || (is_refused m || is_refused k))
+pub all_refused : (a b d n m k : Numeral) → n ≡ kept a → m ≡ kept b → k ≡ kept d → (is_refused a || (is_refused b || is_refused d)) ≡ (is_refused n || (is_refused m || is_refused k))
 all_refused a b d n m k p q r =
     ap (λ (x : Bool). x || (is_refused b || is_refused d)) (sym (kept_refused a) ∙ sym (ap is_refused p)) ∙ ap (λ (y : Bool). is_refused n || y) (both_refused b d m k q r)
 
@@ -378,8 +378,8 @@ lay_reads row n m k are plain =
     let j = kept_as are.third k are.third_number in
     rw (are.row_is, h.kept_as, i.kept_as, j.kept_as) (lay_is are.first are.second are.third h.a i.a j.a h.is i.is j.is (all_refused h.a i.a j.a n m k h.kept_as i.kept_as j.kept_as ∙ plain))
 
-pub lay_range : (row : Row) (n m k : Numeral) → IsNumbers row (Three (Some n) (Some m) (Some k)) → (is_refused n || (is_refused m || is_refused k)) ≡ true → IsLine (spelling Lay ∷ row) (Refused NumberRange)
-lay_range row n m k are bad =
+pub lay_code : (row : Row) (n m k : Numeral) → IsNumbers row (Three (Some n) (Some m) (Some k)) → (is_refused n || (is_refused m || is_refused k)) ≡ true → session_code (spelling Lay ∷ row) ≡ Some NumberRange
+lay_code row n m k are bad =
     let h = kept_as are.first n are.first_number in
     let i = kept_as are.second m are.second_number in
     let j = kept_as are.third k are.third_number in
@@ -389,7 +389,7 @@ lay_range row n m k are bad =
 bad_triple : (row : Row) (a b c : Option Numeral) → AreThree row a b c → is_malformed 3 row ≡ true → session_code (spelling Lay ∷ row) ≡ Some BadLine
 bad_triple row a b c are bad = malformed (spelling Lay) 3 row lay_form bad
 
-pub lay_fault : (row : Row) (numbers : Numbers) → IsNumbers row numbers → has_three numbers ≡ false → IsLine (spelling Lay ∷ row) (Refused BadLine)
+pub lay_fault : (row : Row) (numbers : Numbers) → IsNumbers row numbers → has_three numbers ≡ false → session_code (spelling Lay ∷ row) ≡ Some BadLine
 lay_fault row Nothing are none = bad_lay row (λ e. absurd (omega (arith, e, ap length are)))
 lay_fault row (One a) are none = bad_lay row (λ e. absurd (omega (arith, e, ap length are.row_is)))
 lay_fault row (Two a b) are none = bad_lay row (λ e. absurd (omega (arith, e, ap length are.row_is)))

@@ -27,11 +27,11 @@ with_fault draft code = record draft { fault = Some (unwrap_or draft.fault code)
 abbrev pub with_command : Drafted → Command → Drafted
 with_command draft command = if nat_le most_of_group (length draft.commands) then with_fault draft GroupSize else record draft { commands = draft.commands ++ command ∷ [] }
 
--- one line more: it has a command, or asks for nothing, or has a fault; and no other line belongs there
+-- one line more: it has a command, or asks for nothing, or has a fault within a group; and no other line belongs there
 abbrev pub with_line : Drafted → Line → Drafted
 with_line draft Ignored = draft
 with_line draft (a_command command) = with_command draft command
-with_line draft (Refused code) = with_fault draft code
+with_line draft (Refused code grouped) = with_fault draft grouped
 with_line draft other = with_fault draft BadLine
 
 -- the group that lines are in, if they are in one, behind one line more

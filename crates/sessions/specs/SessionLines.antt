@@ -32,6 +32,14 @@ name_of name = take name.count name.bytes
 abbrev pub session_code : Row → Option Code
 session_code row = if is_some (copy_of row) then None else (if is_table row then table_code (item_fields row) else command_code forms [] row)
 
+-- the words of a group's lines: those of commands, and `end`
+abbrev pub grouped_forms : List Form
+grouped_forms = commands ++ form (codes "end") 0 ∷ []
+
+-- the code of a line within a group, by these words alone: each other line is BadLine there
+abbrev pub grouped_code : Row → Option Code
+grouped_code row = command_code grouped_forms [] row
+
 -- what a line asks for, by its word and the numbers behind it
 abbrev pub line_from : List ℕ → Row → Option Line
 line_from word others = if bytes_eq word (codes "dist") then Some (Query (Dist (size_at others 0) (size_at others 1)))
@@ -69,10 +77,10 @@ pub record AsksForTable (row : Row) (sources targets : List ℕ) : Type 0 where
   pub sources_are : sources ≡ sources_in (item_fields row)
   pub targets_are : targets ≡ targets_in (item_fields row)
 
--- The line asks for nothing, or for this, or has this fault. Of a line `table` for whose numbers no memory was given no more is said.
+-- The line asks for nothing, or for this, or has this fault, and that one within a group. Of a line `table` for whose numbers no memory was given no more is said.
 abbrev pub IsLine : Row → Line → Type 0
 IsLine row Ignored = (is_empty row || is_remark 35 row) ≡ true
-IsLine row (Refused code) = session_code row ≡ Some code
+IsLine row (Refused code grouped) = (session_code row ≡ Some code) × (grouped_code row ≡ Some grouped)
 IsLine row (Command command) = AsksFor row (Command command)
 IsLine row (Query query) = AsksFor row (Query query)
 IsLine row (Look look) = AsksFor row (Look look)

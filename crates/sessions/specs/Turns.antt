@@ -72,7 +72,7 @@ IsAnswer copying origin None (Until number) before last known told durable =
     (shown : Result ℕ Refusal) × IfOk shown (IsReached origin number known) × IfErr shown IsUnshown × (told ≡ version_or_refusal shown) × (durable ≡ []) × (last ≡ before)
 IsAnswer copying origin None State before last known told durable =
     (stood : Result DeskState Refusal) × IfOk stood (StoodSo origin) × IfErr stood (λ refusal. refusal ≡ Closed) × (told ≡ state_or_refusal stood) × (durable ≡ []) × (last ≡ before)
-IsAnswer copying origin None (Refused code) before last known told durable = (told ≡ refusal_line (fault_number code)) × (durable ≡ []) × (last ≡ before)
+IsAnswer copying origin None (Refused code grouped) before last known told durable = (told ≡ refusal_line (fault_number code)) × (durable ≡ []) × (last ≡ before)
 IsAnswer copying origin None End before last known told durable = (told ≡ refusal_line (fault_number BadLine)) × (durable ≡ []) × (last ≡ before)
 IsAnswer copying origin None Ignored before last known told durable = (told ≡ []) × (durable ≡ []) × (last ≡ before)
 IsAnswer copying origin None Quit before last known told durable = (told ≡ []) × (durable ≡ []) × (last ≡ before)

@@ -14,6 +14,8 @@ use Rattle.sessions.specs.declared.words.Two.{Two}
 use Rattle.sessions.specs.declared.words.Two.TheVariants.{Common as two_common, Arcs, Reach, Reached, Nearest}
 use Rattle.dimacs.specs.declared.words.TwoNumbers.TheVariants.{Set, Dist, From, Lower}
 use Rattle.dimacs.specs.Spelling.{one_command}
+use Rattle.dimacs.specs.declared.fault.Code.{Code}
+use Rattle.dimacs.specs.declared.fault.Code.TheVariants.{BadLine, NumberRange}
 
 -- what a word asks for with its numbers
 abbrev pub bare_line : Bare → Line
@@ -41,3 +43,12 @@ two_line Arcs n m = a_look (arcs_of n m)
 two_line Reach n m = a_near (reach_of n m)
 two_line Reached n m = a_near (reached_of n m)
 two_line Nearest n m = a_near (nearest_of n m)
+
+-- the code, within a group, of a line of this word one of whose numbers is out of range
+abbrev pub one_out_of_range : One → Code
+one_out_of_range (one_common word) = NumberRange
+one_out_of_range other = BadLine
+
+abbrev pub two_out_of_range : Two → Code
+two_out_of_range (two_common Set) = NumberRange
+two_out_of_range other = BadLine

@@ -481,7 +481,7 @@ impl<N: Naming> Session<N> {
             Line::State => tell_state(out, desk.state()),
             Line::Suppose => Ok(()),
             Line::Forget => tell_fault(out, Code::BadLine),
-            Line::Refused(code) => tell_fault(out, code),
+            Line::Refused { code, grouped: _ } => tell_fault(out, code),
         }
     }
 

@@ -83,7 +83,7 @@ impl Draft {
         match line {
             Line::Ignored => self,
             Line::Command(command) => self.and(command),
-            Line::Refused(code) => self.faulty(code),
+            Line::Refused { code: _, grouped } => self.faulty(grouped),
             Line::Query(_) => self.faulty(Code::BadLine),
             Line::Look(_) => self.faulty(Code::BadLine),
             Line::Near(_) => self.faulty(Code::BadLine),

@@ -1,14 +1,15 @@
 //! The lines of a session, judged byte by byte: of the bytes of a line none is kept but those of a word and of a name, and the numbers of a table.
-ghost use Rattle.std.specs.Prelude.{◌≡◌, ◌||◌, ◌∷◌, ◌++◌, [], List, ℕ, true, false};
+ghost use Rattle.std.specs.Prelude.{◌≡◌, ◌||◌, ◌∷◌, ◌++◌, [], List, ℕ, Some, true, false};
 ghost use Rattle.std.specs.Bool.{Decides};
 ghost use Rattle.std.specs.Io.BufRead.{strip_last};
+ghost use Rattle.dimacs.specs.declared.fault.Code.TheVariants.{BadLine as bad_line};
 ghost use Rattle.dimacs.specs.Commands.{is_refused};
 ghost use Rattle.dimacs.specs.Faults.{Row};
 ghost use Rattle.dimacs.specs.Lines.{is_blank, fields};
 ghost use Rattle.sessions.specs.Fields.{IsNumbers};
 ghost use Rattle.sessions.specs.Spelled.{spelling};
 ghost use Rattle.sessions.specs.Words.{bare_line, one_line, two_line};
-ghost use Rattle.sessions.specs.SessionLines.{IsLine};
+ghost use Rattle.sessions.specs.SessionLines.{IsLine, session_code};
 ghost use Rattle.sessions.specs.Judging.{IsStage, IsSoFar};
 ghost use Rattle.sessions.specs.Turns.{is_quit};
 
@@ -57,8 +58,18 @@ pub(crate) enum Line {
     Begin,
     /// The group ends.
     End,
-    /// It has this fault: 1 BadLine or 5 NumberRange.
-    Refused(Code),
+    /// It has this fault where it stands alone, and that one within a group: 1 BadLine or 5 NumberRange.
+    Refused { code: Code, grouped: Code },
+}
+
+/// A line that is no line wherever it stands (1).
+pub(crate) fn bad_line() -> Line
+    ensures { (row : Row) → session_code row ≡ Some bad_line → IsLine row result }
+{
+    Line::Refused {
+        code: Code::BadLine,
+        grouped: Code::BadLine,
+    }
 }
 
 /// Whether a line ends the session.
@@ -192,10 +203,10 @@ fn read_bare(word: Bare, numbers: Numbers) -> Line
 {
     match numbers {
         Numbers::Nothing => bare_line(word),
-        Numbers::One(_) => Line::Refused(Code::BadLine),
-        Numbers::Two(..) => Line::Refused(Code::BadLine),
-        Numbers::Three(..) => Line::Refused(Code::BadLine),
-        Numbers::TooMany => Line::Refused(Code::BadLine),
+        Numbers::One(_) => bad_line(),
+        Numbers::Two(..) => bad_line(),
+        Numbers::Three(..) => bad_line(),
+        Numbers::TooMany => bad_line(),
     }
 }
 
@@ -204,10 +215,13 @@ fn read_one(word: One, numbers: Numbers) -> Line
     ensures { (row : Row) → IsNumbers row numbers → IsLine (spelling (Word.WithOne word) ∷ row) result }
 {
     let Some(number) = one_of(numbers) else {
-        return Line::Refused(Code::BadLine);
+        return bad_line();
     };
     if number.is_refused() {
-        return Line::Refused(Code::NumberRange);
+        return Line::Refused {
+            code: Code::NumberRange,
+            grouped: word.out_of_range(),
+        };
     }
     one_line(word, number.size)
 }
@@ -217,10 +231,13 @@ fn read_two(word: Two, numbers: Numbers) -> Line
     ensures { (row : Row) → IsNumbers row numbers → IsLine (spelling (Word.WithTwo word) ∷ row) result }
 {
     let Some((first, second)) = two_of(numbers) else {
-        return Line::Refused(Code::BadLine);
+        return bad_line();
     };
     if first.is_refused() || second.is_refused() {
-        return Line::Refused(Code::NumberRange);
+        return Line::Refused {
+            code: Code::NumberRange,
+            grouped: word.out_of_range(),
+        };
     }
     two_line(word, first.size, second.size)
 }
@@ -237,10 +254,13 @@ fn read_lay(numbers: Numbers) -> Line
     ensures { (row : Row) → IsNumbers row numbers → IsLine (spelling Word.Lay ∷ row) result }
 {
     let Some((tail, head, length)) = three_of(numbers) else {
-        return Line::Refused(Code::BadLine);
+        return bad_line();
     };
     if is_one_refused(tail, head, length) {
-        return Line::Refused(Code::NumberRange);
+        return Line::Refused {
+            code: Code::NumberRange,
+            grouped: Code::NumberRange,
+        };
     }
     Line::Command(Command::Lay {
         tail: tail.size,
@@ -441,10 +461,10 @@ impl Stage {
         match self {
             Stage::Blank => Line::Ignored,
             Stage::Remark => Line::Ignored,
-            Stage::Unknown => Line::Refused(Code::BadLine),
+            Stage::Unknown => bad_line(),
             Stage::Beginning(letters) => match letters.word() {
                 Some(word) => read_line(word, Numbers::Nothing),
-                None => Line::Refused(Code::BadLine),
+                None => bad_line(),
             },
             Stage::Behind {
                 word,
@@ -452,7 +472,7 @@ impl Stage {
                 field,
             } => read_line(word, numbers.ended(field)),
             Stage::Listing { listing, field } => listed_line(listing, field),
-            Stage::Unnamed => Line::Refused(Code::BadLine),
+            Stage::Unnamed => bad_line(),
             Stage::Naming(name) => Line::Copy(name),
             Stage::Named(name) => Line::Copy(name),
         }

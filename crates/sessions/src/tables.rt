@@ -10,7 +10,7 @@ ghost use Rattle.sessions.specs.Tables.{is_table_size, pairs_of};
 
 use crate::asked_tables::Table;
 use crate::fields::Field;
-use crate::lines::Line;
+use crate::lines::{Line, bad_line};
 use dimacs::{Code, Numeral};
 use roadnet::OutOfMemory;
 use std::alloc::Global;
@@ -139,10 +139,13 @@ fn line_of(sizes: Vec<u64>, refused: bool) -> Line
     ensures { (row : Row) → AreListed row sizes.items refused → IsLine (codes "table" ∷ row) result }
 {
     if !is_whole(&sizes) {
-        return Line::Refused(Code::BadLine);
+        return bad_line();
     }
     if refused {
-        return Line::Refused(Code::NumberRange);
+        return Line::Refused {
+            code: Code::NumberRange,
+            grouped: Code::BadLine,
+        };
     }
     let sources = number_at(&sizes, 0) as usize;
     Line::Table(Table {
@@ -194,7 +197,7 @@ impl Listing {
     {
         match self {
             Listing::Numbers { sizes, refused } => line_of(sizes, refused),
-            Listing::Faulty => Line::Refused(Code::BadLine),
+            Listing::Faulty => bad_line(),
             Listing::Unkept => Line::Unkept,
         }
     }

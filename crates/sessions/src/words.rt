@@ -3,9 +3,10 @@ ghost use Rattle.std.specs.Prelude.{◌≡◌};
 ghost use Rattle.std.specs.Str.{bytes_eq};
 ghost use lib.Chars.{codes};
 ghost use Rattle.dimacs.specs.Spelling.{spelled_word};
+ghost use Rattle.sessions.specs.Words.{one_out_of_range, two_out_of_range};
 ghost use Rattle.sessions.specs.Spelled.{bare_spelling, bare_words, one_spelling, one_words, two_spelling, two_words, word_from};
 
-use dimacs::{OneNumber, TwoNumbers, word_of_one, word_of_two};
+use dimacs::{Code, OneNumber, TwoNumbers, word_of_one, word_of_two};
 
 /// A word with no field behind it.
 #[derive(Clone, Copy)]
@@ -39,6 +40,37 @@ pub(crate) enum Two {
     Reach,
     Reached,
     Nearest,
+}
+
+impl One {
+    /// The code, within a group, of a line of this word whose number is out of range: that of a command has 5, each other line 1.
+    pub(crate) fn out_of_range(self) -> Code
+        ensures { result ≡ one_out_of_range self }
+    {
+        match self {
+            One::Common(_) => Code::NumberRange,
+            One::Arc => Code::BadLine,
+            One::Until => Code::BadLine,
+        }
+    }
+}
+
+impl Two {
+    /// The same of a line with two numbers.
+    pub(crate) fn out_of_range(self) -> Code
+        ensures { result ≡ two_out_of_range self }
+    {
+        match self {
+            Two::Common(TwoNumbers::Set) => Code::NumberRange,
+            Two::Common(TwoNumbers::Dist) => Code::BadLine,
+            Two::Common(TwoNumbers::From) => Code::BadLine,
+            Two::Common(TwoNumbers::Lower) => Code::BadLine,
+            Two::Arcs => Code::BadLine,
+            Two::Reach => Code::BadLine,
+            Two::Reached => Code::BadLine,
+            Two::Nearest => Code::BadLine,
+        }
+    }
 }
 
 /// A word by the numbers that stand behind it.

@@ -1,7 +1,8 @@
 -- What the file of a store of either format stands for, and a room for its network.
-use Rattle.std.proofs.Common.{◌≡◌, ℕ, ◌+◌, List, [], ◌∷◌, length, Option, Some, Result, Ok, Err, refl, sym, ◌∙◌, ap, subst, arith}
-use Rattle.std.specs.Prelude.{◌↔◌, unwrap_or, IfOk, IfErr}
+use Rattle.std.proofs.Common.{◌≡◌, ℕ, ◌+◌, List, length, Option, Some, Result, Ok, Err, refl, sym, ◌∙◌, ap, subst, inl, inr}
+use Rattle.std.specs.Prelude.{◌↔◌, ◌⊎◌, unwrap_or, IfOk, IfErr}
 use Rattle.roadnet.specs.declared.refusals.Refusal.{Refusal}
+use Rattle.roadnet.specs.declared.refusals.Refusal.TheVariants.{NotEmpty, OutOfMemory, Device}
 use Rattle.roadnet.specs.Net.{Net, IsRoomFor}
 use Rattle.pages.specs.declared.header.Header.{Header}
 use Rattle.pages.specs.declared.content.Format.{Format}
@@ -10,7 +11,8 @@ use Rattle.storefile.specs.StoreFile.{page, Stored, HoldsNetwork, StandsTidyFor,
 use Rattle.storefile.specs.Judging.{opened_in}
 use Rattle.storefile.specs.Standing.{Standing, standing_in}
 use Rattle.storefile.proofs.Whole.{opened_is}
-use Rattle.store.specs.Migrating.{room_of, roomed, IsCopyIn, HasNoSuchRoom}
+use Rattle.store.specs.Migrating.{room_of, roomed, IsCopyIn, HasNoSuchRoom, IsRefusedForOld}
+use Rattle.store.specs.Opening.{HeaderFitsIn}
 use Rattle.store.specs.State.{StoreState, checkpoint_pages_of}
 
 abbrev standing_by : Stored × Net → Standing
@@ -53,10 +55,6 @@ no_such_room format file x room e unfit =
     let s = stood_for format file x e in
     record { stored = s.stored; before = x.network; version = x.version; next = x.next; stands = s.stands; unfit = unfit }
 
-pub no_bytes : (file : List ℕ) → length file ≡ 0 → file ≡ []
-no_bytes [] e = refl
-no_bytes (b ∷ file) e = absurd (omega (arith, e))
-
 -- ---- what is made of a network, where it is made
 
 pub all_copied : {D E : Type 0} (r : Result (StoreState D) E) (format : Format) (file : List ℕ) (x : Standing) (net : Net) (journal_pages : ℕ) (room journal : Option ℕ) → standing_in (opened_in format file) ≡ Some x → net ≡ roomed x.network room → journal_pages ≡ unwrap_or journal x.header.journal_pages
@@ -84,3 +82,11 @@ pub all_honest : {D E : Type 0} (r : Result (StoreState D) (E × D)) (Honest : D
     → (IfOk r (λ store. Honest store.disk ↔ Honest before)) × (IfErr r (λ refused. Honest refused.1 ↔ Honest before))
 all_honest (Ok store) Honest before given same told = ((λ h. same.0 (told.0.0 h), λ h. told.0.1 (same.1 h)), tt)
 all_honest (Err refused) Honest before given same told = (tt, (λ h. same.0 (told.1.0 h), λ h. told.1.1 (same.1 h)))
+
+-- making the new store is refused for nothing that the old one has, where its header fits
+pub all_for_old : {D : Type 0} (r : Result (StoreState D) (Refusal × D)) (format : Format) (old : List ℕ) (room : Option ℕ) → HeaderFitsIn format old
+    → IfErr r (λ refused. (refused.0 ≡ NotEmpty) ⊎ ((refused.0 ≡ Device) ⊎ (refused.0 ≡ OutOfMemory))) → IfErr r (λ refused. IsRefusedForOld format old room refused.0)
+all_for_old (Ok store) format old room fits why = tt
+all_for_old (Err refused) format old room fits (inl e) = subst (IsRefusedForOld format old room) (sym e) tt
+all_for_old (Err refused) format old room fits (inr (inl e)) = subst (IsRefusedForOld format old room) (sym e) tt
+all_for_old (Err refused) format old room fits (inr (inr e)) = subst (IsRefusedForOld format old room) (sym e) fits

@@ -1,5 +1,5 @@
 -- What the file of a new store holds, and how it is written.
-use Rattle.std.specs.Prelude.{◌≡◌, ℕ, zero, suc, ◌+◌, ◌*◌, List, [], ◌∷◌, ◌++◌, length, map}
+use Rattle.std.specs.Prelude.{◌≡◌, ℕ, Some, zero, suc, ◌+◌, ◌*◌, List, [], ◌∷◌, ◌++◌, length, map}
 use Rattle.roadnet.specs.Net.{Net}
 use Rattle.pages.specs.declared.header.Header.{Header}
 use Rattle.pages.specs.declared.content.Slot.TheVariants.{A, B}
@@ -9,12 +9,22 @@ use Rattle.pages.specs.Layout.{Part, Front, Arcs, HeadOf, Words, EndsOf, Journal
 use Rattle.pages.specs.declared.content.Format.TheVariants.{Two}
 use Rattle.pages.specs.Limits.{page_size, gate_at}
 use Rattle.storefile.specs.StoreFile.{page, part}
+use Rattle.storefile.specs.Standing.{Standing, standing_of}
 use Rattle.disk.specs.Contents.{overwritten}
 use Rattle.disk.specs.Gated.{open_byte}
 
 -- the format and the sizes of a store that is made for this network, with its room
 abbrev pub header_of : Net → ℕ → Header
 header_of net journal_pages = record { format = Two; nodes = net.nodes; arcs = length net.arcs; room = net.room; journal_pages = journal_pages }
+
+-- how the file of a new store stands: all arcs are there from the beginning, slot A is current, and page 0 of the journal is written next
+abbrev pub new_standing : Net → ℕ → ℕ → Standing
+new_standing net version journal_pages =
+    record { header = header_of net journal_pages; slot = A; epoch = 1; network = net; version = version; next = 0; unchecked = 0 }
+
+-- the file is that of a new store of this network at this version
+abbrev pub IsNewFile : ℕ → Net → ℕ → List ℕ → Type 0
+IsNewFile journal_pages net version file = standing_of file ≡ Some (new_standing net version journal_pages)
 
 -- the head of slot A in a new store, whose network has this version
 abbrev pub first_head : Net → ℕ → Head

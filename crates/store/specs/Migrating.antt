@@ -1,14 +1,14 @@
 -- What a store that is made of another one is, and why there is none: a copy, or one of format 1 that is migrated.
-use Rattle.std.specs.Prelude.{◌≡◌, ◌≢◌, ◌⊎◌, ℕ, Bool, true, IsTrue, List, [], Option, Some, None, unwrap_or, Result, MatchResult}
+use Rattle.std.specs.Prelude.{◌≡◌, ◌≢◌, ◌⊎◌, ⊤, ℕ, Bool, true, IsTrue, List, [], Option, Some, None, unwrap_or, Result, MatchResult}
 use Rattle.roadnet.specs.declared.refusals.Refusal.{Refusal}
-use Rattle.roadnet.specs.declared.refusals.Refusal.TheVariants.{NotEmpty, TooLarge, Device}
+use Rattle.roadnet.specs.declared.refusals.Refusal.TheVariants.{NotEmpty, TooLarge, OutOfMemory, Device}
 use Rattle.roadnet.specs.Net.{Net, IsRoomFor}
 use Rattle.pages.specs.declared.content.Format.{Format}
 use Rattle.pages.specs.declared.content.Format.TheVariants.{One, Two}
 use Rattle.pagereader.specs.Outcomes.{ends_opening}
 use Rattle.storefile.specs.StoreFile.{Stored, HoldsNetwork}
-use Rattle.disk.specs.Contents.{Rose}
-use Rattle.store.specs.Opening.{IsPassing}
+use Rattle.disk.specs.Contents.{one_more}
+use Rattle.store.specs.Opening.{HeaderFitsIn}
 use Rattle.store.specs.State.{StoreState}
 use Rattle.storefile.specs.Judging.{judged_in}
 
@@ -49,29 +49,30 @@ pub record HasNoSuchRoom (old : List ℕ) (room : Option ℕ) : Type 0 where
   pub stands : HoldsNetwork old stored before version next
   pub unfit : ¬ IsRoomFor before (room_of before room)
 
--- With what a copy may be refused, where its disks have these contents: passingly; as the new disk is not empty; as opening the old store in this
--- format; or for the room.
-abbrev pub MayRefuseToCopyIn : Format → List ℕ → List ℕ → Option ℕ → Refusal → Type 0
-MayRefuseToCopyIn format new old room refusal =
-    IsPassing refusal
-    ⊎ (((refusal ≡ NotEmpty) × (new ≢ []))
-    ⊎ (((new ≡ []) × (judged_in format old ≡ Some refusal))
-    ⊎ ((refusal ≡ TooLarge) × (new ≡ []) × HasNoSuchRoom old room)))
+-- A copy is refused so, and the new disk has this content: with 46 it is not empty, with each other refusal but 43 it is.
+abbrev pub IsRefusedForNew : List ℕ → Refusal → Type 0
+IsRefusedForNew new NotEmpty = new ≢ []
+IsRefusedForNew new Device = ⊤
+IsRefusedForNew new other = new ≡ []
 
-abbrev pub MayRefuseToCopy : List ℕ → List ℕ → Option ℕ → Refusal → Type 0
-MayRefuseToCopy new old room refusal = MayRefuseToCopyIn Two new old room refusal
+-- A copy is refused so, and the old disk has this content: 40 to 42 is what opening it in this format refuses; 9 comes for the room; and 11 where the
+-- header fits the file.
+abbrev pub IsRefusedForOld : Format → List ℕ → Option ℕ → Refusal → Type 0
+IsRefusedForOld format old room TooLarge = HasNoSuchRoom old room
+IsRefusedForOld format old room OutOfMemory = HeaderFitsIn format old
+IsRefusedForOld format old room NotEmpty = ⊤
+IsRefusedForOld format old room Device = ⊤
+IsRefusedForOld format old room other = judged_in format old ≡ Some other
 
-abbrev pub MayRefuseToMigrate : List ℕ → List ℕ → Option ℕ → Refusal → Type 0
-MayRefuseToMigrate new old room refusal = MayRefuseToCopyIn One new old room refusal
+-- where 43 is told one call of one of the two disks has failed, and else none
+abbrev pub CountsFailure : Refusal → ℕ → ℕ → ℕ → ℕ → Type 0
+CountsFailure Device old old' new new' = ((old' ≡ one_more old) × (new' ≡ new)) ⊎ ((old' ≡ old) × (new' ≡ one_more new))
+CountsFailure other old old' new new' = (old' ≡ old) × (new' ≡ new)
 
--- the count of failures of one of two disks rose: of this one, or of that one
-abbrev pub OneRose : {O D : Type 0} → (O → ℕ) → (D → ℕ) → O → O → D → D → Type 0
-OneRose of_old of_new old old' new new' = Rose (of_old old) (of_old old') ⊎ Rose (of_new new) (of_new new')
-
--- no failure of either disk is counted, unless 43 is told
 abbrev pub CountsCopy : {O D : Type 0} → (O → ℕ) → (D → ℕ) → O → O → D → Result (StoreState D) (Refusal × D) → Type 0
-CountsCopy of_old of_new old old' new result =
-    MatchResult result (λ store. (of_old old' ≡ of_old old) × (of_new store.disk ≡ of_new new)) (λ refused. refused.0 ≢ Device → (of_old old' ≡ of_old old) × (of_new refused.1 ≡ of_new new))
+CountsCopy of_old of_new old old' new result = MatchResult result
+    (λ store. (of_old old' ≡ of_old old) × (of_new store.disk ≡ of_new new))
+    (λ refused. CountsFailure refused.0 (of_old old) (of_old old') (of_new new) (of_new refused.1))
 
 -- the refusals with which a copy may end, whatever the disks: those of an opening, a disk that is not empty, a room that is none
 abbrev pub ends_copying : Refusal → Bool

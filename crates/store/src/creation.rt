@@ -11,6 +11,7 @@ ghost use Rattle.pages.specs.Limits.{most_versions};
 ghost use Rattle.pagereader.specs.Reading.{HasFileOf};
 ghost use Rattle.storefile.specs.Standing.{IsTidyAt, standing_of};
 ghost use Rattle.store.specs.Durable.{told_by, going_of};
+ghost use Rattle.store.specs.Created.{IsNewFile};
 ghost use Rattle.store.specs.State.{checkpoint_pages_of, IsNewFor, IsCountedBy};
 ghost use Rattle.store.specs.Created.{IsLaidOut, arc_bytes, word_bytes, blank_bytes, with_both_gates, Adds, IsInStep};
 
@@ -147,6 +148,8 @@ pub fn create_paged<D: Disk>(
     ensures none_going { IfOk result (λ store. going_of store ≡ None) }
     // The content stands for the network at this version, is tidy, has so many journal pages and a slot for the network's room, and is all that a stop may leave.
     ensures stands { D.honest disk → IfOk result (λ store. IsNewFor journal_pages network.now version (D.content store.disk)) }
+    // The file is that of a new store: its arcs are there from the beginning, and its journal begins with page 0.
+    ensures made { D.honest disk → IfOk result (λ store. IsNewFile journal_pages network.now version (D.content store.disk)) }
     ensures only { D.honest disk → IfOk result (λ store. Only (D.content store.disk) (D.left store.disk)) }
     ensures tidy { D.honest disk → IfOk result (λ store. IsTidyAt (D.content store.disk) store.header store.next_sequence) }
     ensures standing { D.honest disk → IfOk result (λ store. standing_of (D.content store.disk) ≡ Some (told_by store)) }

@@ -6,6 +6,7 @@ ghost use Rattle.disk.specs.Moments.{StaysSame};
 ghost use Rattle.pagereader.specs.Outcomes.{MayEndOpening};
 ghost use Rattle.pages.specs.declared.content.Slot.TheVariants.{A as slot_a};
 ghost use Rattle.pages.specs.Limits.{most_versions};
+ghost use Rattle.store.specs.Created.{IsNewFile};
 ghost use Rattle.store.specs.Opening.{HeaderFits, IsPassing, MayRefuseToOpen, IsStoreFile};
 ghost use Rattle.store.specs.State.{checkpoint_pages_of, IsCountedBy, IsNewFor, IsTidy, HasTold, HasVersion, told};
 
@@ -45,6 +46,8 @@ pub fn create_at<D: Disk>(
     ensures given { IfOk result (λ store. store.given ≡ store.disk) }
     // The content stands for the network at this version, is tidy, has so many journal pages and a slot for the network's room, and is all that a stop may leave.
     ensures stands { D.honest disk → IfOk result (λ store. IsNewFor journal_pages network.now version (D.content store.disk)) }
+    // The file is that of a new store: its arcs are there from the beginning, and its journal begins with page 0.
+    ensures made { D.honest disk → IfOk result (λ store. IsNewFile journal_pages network.now version (D.content store.disk)) }
     ensures only { D.honest disk → IfOk result (λ store. Only (D.content store.disk) (D.left store.disk)) }
     ensures tidy { D.honest disk → IfOk result (λ store. IsTidy (D.content store.disk)) }
     ensures told { D.honest disk → IfOk result (λ store. HasTold (D.content store.disk) (told store)) }
@@ -96,6 +99,8 @@ pub fn create<D: Disk>(
     ensures given { IfOk result (λ store. store.given ≡ store.disk) }
     // The content stands for the network at version 0, is tidy, has so many journal pages and a slot for the network's room, and is all that a stop may leave.
     ensures stands { D.honest disk → IfOk result (λ store. IsNewFor journal_pages network.now 0 (D.content store.disk)) }
+    // The file is that of a new store: its arcs are there from the beginning, and its journal begins with page 0.
+    ensures made { D.honest disk → IfOk result (λ store. IsNewFile journal_pages network.now 0 (D.content store.disk)) }
     ensures only { D.honest disk → IfOk result (λ store. Only (D.content store.disk) (D.left store.disk)) }
     ensures tidy { D.honest disk → IfOk result (λ store. IsTidy (D.content store.disk)) }
     ensures told { D.honest disk → IfOk result (λ store. HasTold (D.content store.disk) (told store)) }

@@ -1,11 +1,13 @@
 // A store made from one of the format before.
-ghost use Rattle.std.specs.Prelude.{◌≡◌, ◌≢◌, ◌⊎◌, ◌↔◌, List, ℕ, [], false, None, IfOk, IfErr, length};
+ghost use Rattle.std.specs.Prelude.{◌≡◌, ◌≢◌, ◌⊎◌, ◌↔◌, List, ℕ, [], false, None, IfOk, IfErr, OnOk, length};
 ghost use Rattle.roadnet.specs.declared.refusals.Refusal.TheVariants.{Device as device};
 ghost use Rattle.disk.specs.Contents.{Only};
 ghost use Rattle.disk.specs.Moments.{StaysSame};
+ghost use Rattle.pages.specs.declared.content.Format.TheVariants.{One as one};
 ghost use Rattle.pages.specs.declared.content.Slot.TheVariants.{A as slot_a};
 ghost use Rattle.store.specs.State.{checkpoint_pages_of, IsDurable, IsTidy, HasTold, told};
-ghost use Rattle.store.specs.Migrating.{CountsCopy, OneRose, IsMigrated, MayEndCopying, MayRefuseToMigrate};
+ghost use Rattle.store.specs.Created.{IsNewFile};
+ghost use Rattle.store.specs.Migrating.{CountsCopy, IsMigrated, MayEndCopying, IsRefusedForNew, IsRefusedForOld};
 
 use crate::copying::copy_in;
 use crate::store::Store;
@@ -32,6 +34,9 @@ pub fn migrate<O: Disk, D: Disk>(
     // disk stands, tidy, for the network with its room at that version.
     ensures migrated { O.honest old.old → IfOk result (λ store. IsMigrated (O.content old.old) store.network store.version store.journal_pages room) }
     ensures stands { D.honest new → IfOk result (λ store. IsDurable store (D.content store.disk)) }
+    // The file is that of a new store, made on an empty disk: its journal begins with page 0.
+    ensures made { D.honest new → IfOk result (λ store. IsNewFile store.journal_pages store.network store.version (D.content store.disk)) }
+    ensures empty { D.honest new → OnOk result (D.content new ≡ []) }
     ensures only { D.honest new → IfOk result (λ store. Only (D.content store.disk) (D.left store.disk)) }
     ensures left { D.honest new → IfOk result (λ store. (c : List ℕ) → D.left store.disk c → IsDurable store c) }
     ensures tidy { D.honest new → IfOk result (λ store. IsTidy (D.content store.disk)) }
@@ -43,10 +48,11 @@ pub fn migrate<O: Disk, D: Disk>(
     ensures none_going { IfOk result (λ store. store.going ≡ None) }
     ensures none_in_flight { IfOk result (λ store. store.in_flight ≡ []) }
     ensures given { IfOk result (λ store. store.given ≡ store.disk) }
-    ensures refused { O.honest old.old → D.honest new → IfErr result (λ refused. MayRefuseToMigrate (D.content new) (O.content old.old) room refused.0) }
+    // Each refusal rests on one disk: 46 on the new one, which is empty at each other but 43; 40 to 42, 9 and 11 on the old one.
+    ensures refused_for_new { D.honest new → IfErr result (λ refused. IsRefusedForNew (D.content new) refused.0) }
+    ensures refused_for_old { O.honest old.old → IfErr result (λ refused. IsRefusedForOld one (O.content old.old) room refused.0) }
     ensures causes { IfErr result (λ refused. MayEndCopying refused.0) }
-    // Where 43 is told, a disk failed in this call; and else none did.
-    ensures failed { IfErr result (λ refused. refused.0 ≡ device → OneRose O.failures D.failures old.old old.new new refused.1) }
+    // Where 43 is told, one call of one of the disks has failed; and else none.
     ensures counted { CountsCopy O.failures D.failures old.old old.new new result }
     // The old store is untouched; at each refusal but 43 the new disk is too.
     ensures untouched { O.honest old.old → StaysSame O.content O.left O.moment O.left_since old.old old.new }

@@ -115,6 +115,7 @@ fn read_synced<D: Disk>(alloc: Global, disk: &mut D, format: Format) -> Result<F
     ensures format { IfOk result (λ found. found.header.format ≡ format) }
     ensures refused { D.honest disk.old → IfErr result (λ refusal. MayRefuse (opened_in format (D.content disk.old)) refusal) }
     ensures order { D.honest disk.old → IfErr result (λ refusal. refusal ≡ out_of_memory → HeaderFitsIn format (D.content disk.old)) }
+    ensures fits { D.honest disk.old → IfOk result (λ found. HeaderFitsIn format (D.content disk.old)) }
     ensures reads { ReadsToOpen D.Disk result disk.old disk.new }
 {
     let header = read_header(disk, format)?;
@@ -129,6 +130,7 @@ pub fn find<D: Disk>(alloc: Global, disk: &mut D, format: Format) -> Result<Foun
     ensures refused { D.honest disk.old → IfErr result (λ refusal. MayRefuse (opened_in format (D.content disk.old)) refusal) }
     ensures at_rest { D.honest disk.old → OnOk result (Only (D.content disk.new) (D.left disk.new)) }
     ensures order { D.honest disk.old → IfErr result (λ refusal. refusal ≡ out_of_memory → HeaderFitsIn format (D.content disk.old)) }
+    ensures fits { D.honest disk.old → IfOk result (λ found. HeaderFitsIn format (D.content disk.old)) }
     ensures reads { ReadsToOpen D.Disk result disk.old disk.new }
 {
     let Ok(()) = settle(disk) else {

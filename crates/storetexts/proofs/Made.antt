@@ -7,6 +7,7 @@ use Rattle.roadnet.specs.Net.{Net, IsRoomFor, most_landmarks}
 use Rattle.disk.specs.Contents.{Only}
 use Rattle.storefile.specs.StoreFile.{StandsTidyFor}
 use Rattle.store.specs.Migrating.{room_of, roomed}
+use Rattle.store.specs.Created.{IsNewFile}
 use Rattle.store.specs.State.{checkpoint_pages_of}
 use Rattle.dimacs.specs.Content.{content}
 use Rattle.dimacs.specs.Texts.{Source}
@@ -26,8 +27,8 @@ done_any (Ok done) P p = p
 done_any (Err (Code Write)) P p = p
 done_any (Err failed) P p = tt
 
-pub made_so : (net : Net) (pages : ℕ) (content : List ℕ) (left : List ℕ → Type 0) → StandsTidyFor pages (checkpoint_pages_of (length net.arcs) net) content net 0 → Only content left → IsNewStore net pages content left
-made_so net pages content left stands only = record { stands = stands; only = only }
+pub made_so : (net : Net) (pages : ℕ) (content : List ℕ) (left : List ℕ → Type 0) → StandsTidyFor pages (checkpoint_pages_of (length net.arcs) net) content net 0 → IsNewFile pages net 0 content → Only content left → IsNewStore net pages content left
+made_so net pages content left stands file only = record { stands = stands; file = file; only = only }
 
 both_known : (room : Option ℕ) (a b : Option (List ℕ)) (net : Net) (pages : ℕ) (content : List ℕ) (left : List ℕ → Type 0)
     → IfSome a (λ n. IfSome b (λ l. IsNetworkOf n l room net)) → IsNewStore net pages content left → IfSome a (λ n. IfSome b (λ l. IsNewStoreOf n l room pages content left))

@@ -1,5 +1,5 @@
 -- A store made of another one, and why there is none.
-use Rattle.std.proofs.Common.{◌≡◌, ◌≢◌, ℕ, List, length, Option, Result, Ok, Err, refl, sym, ap, subst}
+use Rattle.std.proofs.Common.{◌≡◌, ◌≢◌, ℕ, List, [], length, Option, Result, Ok, Err, refl, sym, ap, subst}
 use Rattle.std.specs.Prelude.{◌↔◌, OnOk, OnErr, IfOk, IfErr, MatchResult}
 use Rattle.std.specs.Io.KnownBytes.{Appends}
 use lib.Chars.{codes}
@@ -8,7 +8,8 @@ use Rattle.roadnet.specs.declared.refusals.Refusal.TheVariants.{Device, Write}
 use Rattle.disk.specs.Contents.{Only}
 use Rattle.pages.specs.declared.content.Format.{Format}
 use Rattle.storefile.specs.StoreFile.{StandsTidyFor}
-use Rattle.store.specs.Migrating.{IsCopyIn, MayEndCopying, MayRefuseToCopyIn}
+use Rattle.store.specs.Created.{IsNewFile}
+use Rattle.store.specs.Migrating.{CountsCopy, IsCopyIn, MayEndCopying, IsRefusedForNew as refused_for_new, IsRefusedForOld as refused_for_old}
 use Rattle.store.specs.State.{StoreState, checkpoint_pages_of}
 use Rattle.printing.specs.Counting.{failed_writes, writer_of}
 use Rattle.printing.specs.Failing.{CountsWrites, LeavesUnwritten}
@@ -16,7 +17,7 @@ use Rattle.printing.specs.Replied.{number_line}
 use Rattle.printing.specs.declared.failed.Failed.{Failed}
 use Rattle.printing.specs.declared.failed.Failed.TheVariants.{Code}
 use Rattle.printing.specs.declared.writer.CountedWriter.{CountedWriter}
-use Rattle.storetexts.specs.Moved.{HasVersionIn, IsMoved, IsRefusedMove, TellsMoved}
+use Rattle.storetexts.specs.Moved.{CountsMove, HasVersionIn, IsMoved, IsOfMove, IsRefusedForNew, IsRefusedForOld, TellsMoved}
 use Rattle.storetexts.specs.Refused.{IfDone, IfNoDevice}
 use Rattle.storetexts.proofs.Made.{done_any}
 
@@ -26,9 +27,17 @@ nothing_done : (refusal : Refusal) (P : Type 0) → MayEndCopying refusal → If
 nothing_done Write P ends = absurd cc
 nothing_done _ P ends = tt
 
-refused_so : (format : Format) (new old : List ℕ) (room : Option ℕ) (refusal : Refusal) → MayEndCopying refusal → MayRefuseToCopyIn format new old room refusal → IsRefusedMove format new old room (Code refusal)
-refused_so format new old room Write ends may = absurd cc
-refused_so format new old room _ ends may = may
+new_so : (new : List ℕ) (refusal : Refusal) → MayEndCopying refusal → refused_for_new new refusal → IsRefusedForNew new (Code refusal)
+new_so new Write ends may = absurd cc
+new_so new _ ends may = may
+
+old_so : (format : Format) (old : List ℕ) (room : Option ℕ) (refusal : Refusal) → MayEndCopying refusal → refused_for_old format old room refusal → IsRefusedForOld format old room (Code refusal)
+old_so format old room Write ends may = absurd cc
+old_so format old room _ ends may = may
+
+of_move : (refusal : Refusal) → MayEndCopying refusal → IsOfMove (Code refusal)
+of_move Write ends = tt
+of_move _ ends = ends
 
 no_device : (refusal : Refusal) (P : Type 0) → (refusal ≢ Device → P) → IfNoDevice (Code refusal) P
 no_device Write P same = tt
@@ -49,10 +58,6 @@ version_told : (format : Format) (old : List ℕ) (r : Result (Unit {0}) Failed)
     → OnOk r (Appends before after (number_line (codes "ok ") version)) → OnOk r (TellsMoved format Honest old before after)
 version_told format old (Ok done) Honest version before after of_old written = record { version = version; of_old = of_old; written = written }
 version_told format old (Err failed) Honest version before after of_old written = tt
-
-write_refused : (format : Format) (new old : List ℕ) (room : Option ℕ) (version : ℕ) (r : Result (Unit {0}) Failed) → HasVersionIn format old version → IfErr r (λ failed. failed ≡ Code Write) → IfErr r (IsRefusedMove format new old room)
-write_refused format new old room version (Ok done) has is = tt
-write_refused format new old room version (Err failed) has is = subst (IsRefusedMove format new old room) (sym is) (version, has)
 
 only_written : (r : Result (Unit {0}) Failed) (P : Failed → Type 0) → P (Code Write) → IfErr r (λ failed. failed ≡ Code Write) → IfErr r P
 only_written (Ok done) P h is = tt
@@ -79,18 +84,20 @@ module _ {D : Type 0} where
   pub all_moved : (made : Made D) (r : Result (Unit {0}) Failed) (disk : D) (content : D → List ℕ) (left : D → List ℕ → Type 0) (format : Format) (old : List ℕ) (room journal : Option ℕ)
       → IfOk made (λ store. IsCopyIn format old store.network store.version store.journal_pages room journal) → IfOk made (λ store. store.checkpoint_pages ≡ checkpoint_pages_of (length store.network.arcs) store.network)
       → IfOk made (λ store. StandsTidyFor store.journal_pages store.checkpoint_pages (content store.disk) store.network store.version) → IfOk made (λ store. Only (content store.disk) (left store.disk))
+      → IfOk made (λ store. IsNewFile store.journal_pages store.network store.version (content store.disk))
       → IfErr made (λ refused. MayEndCopying refused.0) → IsDiskOf made disk → IsToldOf made r → IfDone r (IsMoved format old room journal (content disk) (left disk))
-  all_moved (Ok store) r disk content left format old room journal copied pages stands only ends there told =
+  all_moved (Ok store) r disk content left format old room journal copied pages stands only begins ends there told =
       let moved : IsMoved format old room journal (content store.disk) (left store.disk) = record {
         net = store.network;
         version = store.version;
         journal_pages = store.journal_pages;
         copied = copied;
         stands = subst (λ (n : ℕ). StandsTidyFor store.journal_pages n (content store.disk) store.network store.version) pages stands;
+        made = begins;
         only = only;
       } in
       done_any r (IsMoved format old room journal (content disk) (left disk)) (subst (λ (d : D). IsMoved format old room journal (content d) (left d)) (sym there) moved)
-  all_moved (Err refused) r disk content left format old room journal copied pages stands only ends there told = rw told (nothing_done refused.0 (IsMoved format old room journal (content disk) (left disk)) ends)
+  all_moved (Err refused) r disk content left format old room journal copied pages stands only begins ends there told = rw told (nothing_done refused.0 (IsMoved format old room journal (content disk) (left disk)) ends)
 
   pub all_told : (made : Made D) (r : Result (Unit {0}) Failed) (Honest : Type 0) (format : Format) (old : List ℕ) (room journal : Option ℕ) (before after : Option (List ℕ))
       → (Honest → IfOk made (λ store. IsCopyIn format old store.network store.version store.journal_pages room journal)) → IfOk made (λ store. OnOk r (Appends before after (number_line (codes "ok ") store.version)))
@@ -98,11 +105,30 @@ module _ {D : Type 0} where
   all_told (Ok store) r Honest format old room journal before after copied written told = version_told format old r Honest store.version before after (λ h. version_of format old room journal store (copied h)) written
   all_told (Err refused) r Honest format old room journal before after copied written told = rw told tt
 
-  pub all_refused : (made : Made D) (r : Result (Unit {0}) Failed) (format : Format) (new old : List ℕ) (room journal : Option ℕ) → IfOk made (λ store. IsCopyIn format old store.network store.version store.journal_pages room journal)
-      → IfErr made (λ refused. MayRefuseToCopyIn format new old room refused.0) → IfErr made (λ refused. MayEndCopying refused.0) → OnOk made (IfErr r (λ failed. failed ≡ Code Write)) → IsToldOf made r
-      → IfErr r (IsRefusedMove format new old room)
-  all_refused (Ok store) r format new old room journal copied may ends failed told = write_refused format new old room store.version r (version_of format old room journal store copied) failed
-  all_refused (Err refused) r format new old room journal copied may ends failed told = rw told (refused_so format new old room refused.0 ends may)
+  pub all_for_new : (made : Made D) (r : Result (Unit {0}) Failed) (new : List ℕ) → OnOk made (new ≡ []) → IfErr made (λ refused. refused_for_new new refused.0) → IfErr made (λ refused. MayEndCopying refused.0)
+      → OnOk made (IfErr r (λ failed. failed ≡ Code Write)) → IsToldOf made r → IfErr r (IsRefusedForNew new)
+  all_for_new (Ok store) r new empty may ends failed told = only_written r (IsRefusedForNew new) empty failed
+  all_for_new (Err refused) r new empty may ends failed told = rw told (new_so new refused.0 ends may)
+
+  pub all_for_old : (made : Made D) (r : Result (Unit {0}) Failed) (format : Format) (old : List ℕ) (room journal : Option ℕ) → IfOk made (λ store. IsCopyIn format old store.network store.version store.journal_pages room journal)
+      → IfErr made (λ refused. refused_for_old format old room refused.0) → IfErr made (λ refused. MayEndCopying refused.0) → OnOk made (IfErr r (λ failed. failed ≡ Code Write)) → IsToldOf made r
+      → IfErr r (IsRefusedForOld format old room)
+  all_for_old (Ok store) r format old room journal copied may ends failed told = only_written r (IsRefusedForOld format old room) (store.version, version_of format old room journal store copied) failed
+  all_for_old (Err refused) r format old room journal copied may ends failed told = rw told (old_so format old room refused.0 ends may)
+
+  pub all_of_move : (made : Made D) (r : Result (Unit {0}) Failed) → IfErr made (λ refused. MayEndCopying refused.0) → OnOk made (IfErr r (λ failed. failed ≡ Code Write)) → IsToldOf made r → IfErr r IsOfMove
+  all_of_move (Ok store) r ends failed told = only_written r IsOfMove tt failed
+  all_of_move (Err refused) r ends failed told = rw told (of_move refused.0 ends)
+
+  pub all_empty : (made : Made D) (r : Result (Unit {0}) Failed) (P : Type 0) → OnOk made P → IfErr made (λ refused. MayEndCopying refused.0) → IsToldOf made r → IfDone r P
+  all_empty (Ok store) r P empty ends told = done_any r P empty
+  all_empty (Err refused) r P empty ends told = rw told (nothing_done refused.0 P ends)
+
+  pub all_failures : {O : Type 0} (made : Made D) (r : Result (Unit {0}) Failed) (disk : D) (of_old : O → ℕ) (of_new : D → ℕ) (old old' : O) (new : D) → CountsCopy of_old of_new old old' new made
+      → OnOk made (IfErr r (λ failed. failed ≡ Code Write)) → IsDiskOf made disk → IsToldOf made r → CountsMove (of_old old) (of_old old') (of_new new) (of_new disk) r
+  all_failures (Ok store) (Ok done) disk of_old of_new old old' new counts failed there told = rw there counts
+  all_failures (Ok store) (Err why) disk of_old of_new old old' new counts failed there told = rw (failed, there) counts
+  all_failures (Err refused) r disk of_old of_new old old' new counts failed there told = rw (told, there) counts
 
   pub all_same : (made : Made D) (r : Result (Unit {0}) Failed) (disk : D) (Same : D → Type 0) → IfErr made (λ refused. refused.0 ≢ Device → Same refused.1) → OnOk made (IfErr r (λ failed. failed ≡ Code Write))
       → IsDiskOf made disk → IsToldOf made r → IfErr r (λ failed. IfNoDevice failed (Same disk))

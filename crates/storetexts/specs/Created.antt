@@ -11,6 +11,7 @@ use Rattle.dimacs.specs.Texts.{Source, FaultOf, content_by}
 use Rattle.disk.specs.Contents.{Only}
 use Rattle.storefile.specs.StoreFile.{StandsTidyFor}
 use Rattle.store.specs.Migrating.{room_of, roomed}
+use Rattle.store.specs.Created.{IsNewFile}
 use Rattle.store.specs.State.{checkpoint_pages_of}
 use Rattle.printing.specs.declared.failed.Failed.{Failed}
 use Rattle.printing.specs.declared.failed.Failed.TheVariants.{Text, Code}
@@ -94,6 +95,7 @@ IsRefusedPlan net landmarks room refusal = IsRefusedMarking landmarks refusal �
 -- The content stands for the network at version 0, with so many journal pages and the slots of its room, is tidy, and is all that a stop may leave.
 pub record IsNewStore (net : Net) (journal_pages : ℕ) (content : List ℕ) (left : List ℕ → Type 0) : Type 0 where
   pub stands : StandsTidyFor journal_pages (checkpoint_pages_of (length net.arcs) net) content net 0
+  pub file : IsNewFile journal_pages net 0 content
   pub only : Only content left
 
 -- the same for the network of two texts

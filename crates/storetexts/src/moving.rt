@@ -1,5 +1,5 @@
 // A store made of another one: a copy, or one of the format before that is migrated.
-ghost use Rattle.std.specs.Prelude.{◌≡◌, ◌≤◌, ◌↔◌, Err, None, OnOk, OnErr, IfOk, IfErr, MatchResult};
+ghost use Rattle.std.specs.Prelude.{◌≡◌, ◌≤◌, ◌↔◌, Err, None, [], OnOk, OnErr, IfOk, IfErr, MatchResult};
 ghost use Rattle.std.specs.Io.KnownBytes.{Appends};
 ghost use Rattle.std.specs.Option.{ForSome};
 ghost use lib.Chars.{codes};
@@ -8,7 +8,7 @@ ghost use Rattle.pages.specs.declared.content.Format.TheVariants.{One as one, Tw
 ghost use Rattle.printing.specs.Counting.{failed_writes, writer_of, IsSameWriter};
 ghost use Rattle.printing.specs.Failing.{CountsWrites, LeavesUnwritten};
 ghost use Rattle.printing.specs.Replied.{number_line};
-ghost use Rattle.storetexts.specs.Moved.{IsMoved, IsRefusedMove, TellsMoved};
+ghost use Rattle.storetexts.specs.Moved.{CountsMove, IsMoved, IsOfMove, IsRefusedForNew, IsRefusedForOld, TellsMoved};
 ghost use Rattle.storetexts.specs.Refused.{IfDone, IfNoDevice};
 
 use disk::Disk;
@@ -64,7 +64,13 @@ pub fn copy_counted<O: Disk, D: Disk, W: Write>(
     // The new content stands for the network of the old one, with its room, at its version, and is all that a stop may leave.
     ensures made { O.honest old.old → D.honest new → IfDone result.0 (IsMoved two (O.content old.old) room journal (D.content result.1) (D.left result.1)) }
     ensures told { OnOk result.0 (TellsMoved two (O.honest old.old) (O.content old.old) (W.contents (writer_of out.old)) (W.contents (writer_of out.new))) }
-    ensures refused { O.honest old.old → D.honest new → IfErr result.0 (IsRefusedMove two (D.content new) (O.content old.old) room) }
+    // Each refusal rests on one disk: 46 on the new one, which is empty at each other but 43; 40 to 42, 9 and 11 on the old one. Whatever the disks, it is one of these, 43 or 12.
+    ensures refused_for_new { D.honest new → IfErr result.0 (IsRefusedForNew (D.content new)) }
+    ensures refused_for_old { O.honest old.old → IfErr result.0 (IsRefusedForOld two (O.content old.old) room) }
+    ensures codes { IfErr result.0 IsOfMove }
+    ensures empty { D.honest new → IfDone result.0 (D.content new ≡ []) }
+    // Where 43 is told, one call of one of the disks has failed; and else none.
+    ensures counted { CountsMove (O.failures old.old) (O.failures old.new) (D.failures new) (D.failures result.1) result.0 }
     ensures untouched { O.honest old.old → StaysSame O.content O.left O.moment O.left_since old.old old.new }
     ensures same { D.honest new → IfErr result.0 (λ failed. IfNoDevice failed (StaysSame D.content D.left D.moment D.left_since new result.1)) }
     ensures unwritten { IfErr result.0 (LeavesUnwritten (writer_of out.old) (writer_of out.new)) }
@@ -88,7 +94,13 @@ pub fn copy_text<O: Disk, D: Disk, W: Write>(
     requires journal { ForSome journal (λ pages. (1 ≤ pages) × (pages ≤ 65536)) }
     ensures made { O.honest old.old → D.honest new → IfDone result.0 (IsMoved two (O.content old.old) room journal (D.content result.1) (D.left result.1)) }
     ensures told { OnOk result.0 (TellsMoved two (O.honest old.old) (O.content old.old) (W.contents out.old) (W.contents out.new)) }
-    ensures refused { O.honest old.old → D.honest new → IfErr result.0 (IsRefusedMove two (D.content new) (O.content old.old) room) }
+    // Each refusal rests on one disk: 46 on the new one, which is empty at each other but 43; 40 to 42, 9 and 11 on the old one. Whatever the disks, it is one of these, 43 or 12.
+    ensures refused_for_new { D.honest new → IfErr result.0 (IsRefusedForNew (D.content new)) }
+    ensures refused_for_old { O.honest old.old → IfErr result.0 (IsRefusedForOld two (O.content old.old) room) }
+    ensures codes { IfErr result.0 IsOfMove }
+    ensures empty { D.honest new → IfDone result.0 (D.content new ≡ []) }
+    // Where 43 is told, one call of one of the disks has failed; and else none.
+    ensures counted { CountsMove (O.failures old.old) (O.failures old.new) (D.failures new) (D.failures result.1) result.0 }
     ensures untouched { O.honest old.old → StaysSame O.content O.left O.moment O.left_since old.old old.new }
     ensures same { D.honest new → IfErr result.0 (λ failed. IfNoDevice failed (StaysSame D.content D.left D.moment D.left_since new result.1)) }
     ensures unwritten { IfErr result.0 (LeavesUnwritten out.old out.new) }
@@ -116,7 +128,13 @@ pub fn migrate_counted<O: Disk, D: Disk, W: Write>(
     // The new content stands for the network of the old one, with its room, at its version, and is all that a stop may leave.
     ensures made { O.honest old.old → D.honest new → IfDone result.0 (IsMoved one (O.content old.old) room None (D.content result.1) (D.left result.1)) }
     ensures told { OnOk result.0 (TellsMoved one (O.honest old.old) (O.content old.old) (W.contents (writer_of out.old)) (W.contents (writer_of out.new))) }
-    ensures refused { O.honest old.old → D.honest new → IfErr result.0 (IsRefusedMove one (D.content new) (O.content old.old) room) }
+    // Each refusal rests on one disk: 46 on the new one, which is empty at each other but 43; 40 to 42, 9 and 11 on the old one. Whatever the disks, it is one of these, 43 or 12.
+    ensures refused_for_new { D.honest new → IfErr result.0 (IsRefusedForNew (D.content new)) }
+    ensures refused_for_old { O.honest old.old → IfErr result.0 (IsRefusedForOld one (O.content old.old) room) }
+    ensures codes { IfErr result.0 IsOfMove }
+    ensures empty { D.honest new → IfDone result.0 (D.content new ≡ []) }
+    // Where 43 is told, one call of one of the disks has failed; and else none.
+    ensures counted { CountsMove (O.failures old.old) (O.failures old.new) (D.failures new) (D.failures result.1) result.0 }
     ensures untouched { O.honest old.old → StaysSame O.content O.left O.moment O.left_since old.old old.new }
     ensures same { D.honest new → IfErr result.0 (λ failed. IfNoDevice failed (StaysSame D.content D.left D.moment D.left_since new result.1)) }
     ensures unwritten { IfErr result.0 (LeavesUnwritten (writer_of out.old) (writer_of out.new)) }
@@ -138,7 +156,13 @@ pub fn migrate_text<O: Disk, D: Disk, W: Write>(
 ) -> (Result<(), Failed>, D)
     ensures made { O.honest old.old → D.honest new → IfDone result.0 (IsMoved one (O.content old.old) room None (D.content result.1) (D.left result.1)) }
     ensures told { OnOk result.0 (TellsMoved one (O.honest old.old) (O.content old.old) (W.contents out.old) (W.contents out.new)) }
-    ensures refused { O.honest old.old → D.honest new → IfErr result.0 (IsRefusedMove one (D.content new) (O.content old.old) room) }
+    // Each refusal rests on one disk: 46 on the new one, which is empty at each other but 43; 40 to 42, 9 and 11 on the old one. Whatever the disks, it is one of these, 43 or 12.
+    ensures refused_for_new { D.honest new → IfErr result.0 (IsRefusedForNew (D.content new)) }
+    ensures refused_for_old { O.honest old.old → IfErr result.0 (IsRefusedForOld one (O.content old.old) room) }
+    ensures codes { IfErr result.0 IsOfMove }
+    ensures empty { D.honest new → IfDone result.0 (D.content new ≡ []) }
+    // Where 43 is told, one call of one of the disks has failed; and else none.
+    ensures counted { CountsMove (O.failures old.old) (O.failures old.new) (D.failures new) (D.failures result.1) result.0 }
     ensures untouched { O.honest old.old → StaysSame O.content O.left O.moment O.left_since old.old old.new }
     ensures same { D.honest new → IfErr result.0 (λ failed. IfNoDevice failed (StaysSame D.content D.left D.moment D.left_since new result.1)) }
     ensures unwritten { IfErr result.0 (LeavesUnwritten out.old out.new) }

@@ -9,6 +9,7 @@ use fixtures::FailingReader;
 use roadnet::{Command, Group};
 use std::alloc::Global;
 use std::io::{BufRead, BufReader};
+use std::test::Fail;
 
 const LANDMARKS: &[u8] = b"c of six nodes\r\n\tp  aux sp ss 3\r\n\r\ns 6\r\ncs 1\n s\t03 \ns 6";
 
@@ -266,6 +267,20 @@ fn faults_of_groups(rt: HostRuntime) {
         first_not_refused(rt.alloc(), Kind::Commands, &GROUP_FAULTS),
         None
     );
+}
+
+/// A group has at most 253 commands: the line of the 254th is told.
+#[test]
+fn a_command_too_many(rt: HostRuntime) -> Result<(), Fail> {
+    let mut text = Vec::new(rt.alloc());
+    text.extend_from_slice(b"# one\nbegin\n")?;
+    for _ in 0..254 {
+        text.extend_from_slice(b"set 1 17\n")?;
+    }
+    text.extend_from_slice(b"end\n")?;
+    let fault = parse_commands(rt.alloc(), &text).err();
+    assert!(rt; fault.is_some_and(|it| it.line == 256 && it.code == Code::GroupSize));
+    Ok(())
 }
 
 /// Texts, with how many commands each of their groups has.

@@ -576,7 +576,7 @@ fn help_of_words(rt: HostRuntime) -> Result<(), Fail> {
         ("roadmark once -h", "<GR>|Example"),
         (
             "roadmark --version",
-            "roadmark 0.2.0 (format 2, rattle-kit-13f logic dac8208d650f15bf)",
+            "roadmark 0.2.0 (format 2, rattle logic dac8208d650f15bf)",
         ),
     ];
     for (words, parts) in table {

@@ -623,8 +623,8 @@ fn command_of<'w>(alloc: Global, entry: &Entry) -> Result<Command<'w>, AllocErro
     command.arg(verbose_flag(alloc))
 }
 
-/// The version of the program, of the format that it writes, and of the kit by which it was proved and built.
-const VERSION: &str = "0.2.0 (format 2, rattle-kit-13f logic dac8208d650f15bf)";
+/// The version of the program, of the format that it writes, and of the logic by which it was proved.
+const VERSION: &str = "0.2.0 (format 2, rattle logic dac8208d650f15bf)";
 
 /// The program's words.
 pub fn program<'w>(alloc: Global) -> Result<Command<'w>, AllocError> {

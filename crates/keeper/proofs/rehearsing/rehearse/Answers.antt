@@ -1,4 +1,4 @@
-use Rattle.std.proofs.Common.{◌≡◌, ◌+◌, ◌<◌, ◌≤◌, ◌++◌, ◌∷◌, [], ℕ, List, length, take, drop, Some, None, refl, sym, ◌∙◌, ap, subst, arith}
+use Rattle.std.proofs.Common.{◌≡◌, ◌+◌, ◌<◌, ◌≤◌, ◌++◌, ◌∷◌, [], ℕ, List, length, take, drop, Some, None, refl, sym, ◌∙◌, ap, subst, arith, length-drop}
 use Rattle.std.proofs.lemmas.List.{append-nil, take_more, take_all, take-append-drop}
 use Rattle.disk.specs.declared.stoppable.Pick.{Pick}
 use Rattle.roadnet.specs.declared.refusals.Refusal.TheVariants.{OutOfMemory}
@@ -29,7 +29,7 @@ returns-in-Err-clause-lives g c came =
     (run_no_memory first [] [] [] m (run_none {P = Pick} first tells.room.version_to tells.room.unchecked_to) (g.D.Disk.left store.disk)
     (started first.sizes first.network first.version first.unchecked tells.room.version_to tells.room.unchecked_to)
     (held_at_start store (g.D.Disk.content store.disk) (g.D.Disk.left store.disk) (tells.only came) (tells.stands came))
-    c.args.events.now)
+    c.args.events.now (λ e. refl))
 
 pub loop-event-init : goal.loop-event-init
 loop-event-init g c =
@@ -92,7 +92,7 @@ returns-then-is_err-clause-lives g c came =
     let each = subst (λ (l : Life g.row.D.Denot g.D.Stoppable g.D.Disk). CameTidy g.D.Disk.honest g.D.Disk.content l.keeper.given → (d : List ℕ) → g.D.Disk.left l.keeper.disk d → IsDurableIn l.keeper.machine d) c.grow.ensures.life c.end.ensures.left was.came in
     rw (c.end.ensures.disk, c.end.ensures.replies, c.end.ensures.ended, c.end.ensures.history, c.grow.ensures.life, c.grow.ensures.replies, c.grow.ensures.history)
     (lives_of {P = Pick} (g.D.Disk.left run.life.keeper.disk) first (take i events ++ drop i events) events run.replies.items _ _ (take-append-drop i events)
-    (run_no_memory first (take i events) run.replies.items run.history.items run.life.keeper.machine was.run (g.D.Disk.left run.life.keeper.disk) run.life.living.state each (drop i events)))
+    (run_no_memory first (take i events) run.replies.items run.history.items run.life.keeper.machine was.run (g.D.Disk.left run.life.keeper.disk) run.life.living.state each (drop i events) (λ e. absurd (omega (arith, ap length e, length-drop i events, c.loop-event-test.true)))))
 
 pub returns-in-Err-next-clause-lives : goal.returns-in-Err-next-clause-lives
 returns-in-Err-next-clause-lives g c came =

@@ -1,18 +1,19 @@
-use Rattle.std.proofs.Common.{◌≡◌, length, inr, arith}
+use Rattle.std.proofs.Common.{sym, subst}
 use Rattle.storefile.specs.Standing.{Standing}
-use Rattle.store.proofs.Migrated.{no_such_room, no_bytes, all_copied, all_stand, all_left, all_honest}
+use Rattle.store.specs.Migrating.{IsRefusedForOld}
+use Rattle.store.proofs.Migrated.{no_such_room, all_copied, all_stand, all_left, all_for_old, all_honest}
 use Rattle.store.proofs.copying.copy_in.Goals as goal
 
-pub returns-in-Err-with_given_room-clause-refused : goal.returns-in-Err-with_given_room-clause-refused
-returns-in-Err-with_given_room-clause-refused g c h h_new =
+pub returns-in-Err-with_given_room-clause-refused_for_old : goal.returns-in-Err-with_given_room-clause-refused_for_old
+returns-in-Err-with_given_room-clause-refused_for_old g c h =
     let found = c.in-Ok-find.found in
     let x : Standing = record { header = found.header; slot = found.slot; epoch = found.epoch; network = found.network; version = found.version; next = found.next_sequence; unchecked = found.unchecked } in
-    let none : length (g.D.Disk.content c.args.new) ≡ 0 = omega (arith, c.in-Ok.ensures.length h_new, c.if-length-ne0.false) in
-    inr (inr (inr (
-      c.in-Err-with_given_room.ensures.refused.0,
-      no_bytes (g.D.Disk.content c.args.new) none,
-      no_such_room c.args.format (g.O.Disk.content c.args.old.now) x c.args.room (c.in-Ok-find.ensures.standing h) c.in-Err-with_given_room.ensures.refused.2,
-    )))
+    subst (IsRefusedForOld c.args.format (g.O.Disk.content c.args.old.now) c.args.room) (sym c.in-Err-with_given_room.ensures.refused.0)
+    (no_such_room c.args.format (g.O.Disk.content c.args.old.now) x c.args.room (c.in-Ok-find.ensures.standing h) c.in-Err-with_given_room.ensures.refused.2)
+
+pub returns-clause-refused_for_old : goal.returns-clause-refused_for_old
+returns-clause-refused_for_old g c h =
+    all_for_old c.create_at.result c.args.format (g.O.Disk.content c.args.old.now) c.args.room (c.in-Ok-find.ensures.fits h) c.create_at.ensures.refused
 
 pub returns-clause-copied : goal.returns-clause-copied
 returns-clause-copied g c h =

@@ -1,10 +1,13 @@
-use Rattle.std.proofs.Common.{◌∙◌, length, refl, ap, sym, subst, arith}
+use Rattle.std.proofs.Common.{◌≡◌, ◌∙◌, Some, length, refl, ap, sym, subst, arith}
 use Rattle.roadnet.specs.Net.{Net}
 use Rattle.pages.specs.declared.header.Header.{Header}
 use Rattle.pages.specs.declared.content.Format.TheVariants.{Two}
+use Rattle.pages.specs.declared.content.Slot.TheVariants.{A}
 use Rattle.pages.specs.Layout.{slot_pages}
 use Rattle.pages.specs.Spelling.{IsHeader}
 use Rattle.storefile.specs.StoreFile.{StandsTidyFor}
+use Rattle.storefile.specs.Standing.{standing_of}
+use Rattle.store.specs.Created.{IsNewFile}
 use Rattle.store.specs.State.{checkpoint_pages_of}
 use Rattle.store.proofs.NewStore.{created, same_header, sizes_fit, new_numbers}
 use Rattle.store.proofs.Resting.{size_told}
@@ -70,3 +73,16 @@ returns-clause-standing g c = λ h.
     let made = created (g.D.Disk.content c.open_gates.new.disk) (g.D.Disk.content c.lay_out.new.disk) (record { format = Two; nodes = c.nodes.result; arcs = length c.arcs.result.now; room = c.room.result; journal_pages = c.args.journal_pages }) net c.args.version c.args.journal_pages c.requires.versions
     c.nodes.ensures.network fits is (c.in-Ok-lay_out.ensures.laid_out begun) (c.in-Ok-open_gates.ensures.opened laid) in
     made.standing_is
+
+pub returns-clause-made : goal.returns-clause-made
+returns-clause-made g c = λ h.
+    let net : Net = c.in-Ok-copy.copy in
+    let is = same_header net c.args.journal_pages c.nodes.result c.room.result c.arcs.result.now c.nodes.ensures.value c.arcs.ensures.value c.room.ensures.value in
+    let fits = sizes_fit net c.args.journal_pages c.nodes.ensures.network c.requires.some c.requires.few in
+    let begun = c.length_of.ensures.reads.honest.1 h in
+    let laid = c.lay_out.ensures.counts.honest.1 begun in
+    let content = g.D.Disk.content c.open_gates.new.disk in
+    let made = created content (g.D.Disk.content c.lay_out.new.disk) (record { format = Two; nodes = c.nodes.result; arcs = length c.arcs.result.now; room = c.room.result; journal_pages = c.args.journal_pages }) net c.args.version c.args.journal_pages c.requires.versions
+    c.nodes.ensures.network fits is (c.in-Ok-lay_out.ensures.laid_out begun) (c.in-Ok-open_gates.ensures.opened laid) in
+    let same = subst (λ (x : Header). standing_of content ≡ Some (record { header = x; slot = A; epoch = 1; network = net; version = c.args.version; next = 0; unchecked = 0 })) is made.standing_is in
+    subst (λ (n : Net). IsNewFile c.args.journal_pages n c.args.version content) c.in-Ok-copy.ensures.same same

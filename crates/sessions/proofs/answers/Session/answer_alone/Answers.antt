@@ -58,4 +58,4 @@ returns-in-Forget-clause-told g c =
 
 pub returns-in-Refused-clause-told : goal.returns-in-Refused-clause-told
 returns-in-Refused-clause-told g c =
-    rw c.in-Refused.is (told_fault _ g.N.Naming.origin c.in-Refused.code _ _ _ _ _ _ _ c.tell_fault-in-Refused.result refl refl c.tell_fault-in-Refused.ensures.ok)
+    rw c.in-Refused.is (told_fault _ g.N.Naming.origin c.in-Refused.code _ _ _ _ _ _ _ _ c.tell_fault-in-Refused.result refl refl c.tell_fault-in-Refused.ensures.ok)

@@ -1,4 +1,5 @@
-use Rattle.std.proofs.Common.{refl}
+use Rattle.std.proofs.Common.{◌∷◌, refl}
+use lib.Chars.{codes}
 use Rattle.sessions.proofs.Tabled.{faulty_line}
 use Rattle.sessions.proofs.tables.Listing.line.Goals as goal
 
@@ -6,7 +7,7 @@ pub returns-in-Numbers : goal.returns-in-Numbers
 returns-in-Numbers c row are = c.line_of.ensures row (rw c.in-Numbers.is at are)
 
 pub returns-in-Faulty : goal.returns-in-Faulty
-returns-in-Faulty c row are = faulty_line row (rw c.in-Faulty.is at are)
+returns-in-Faulty c row are = c.bad_line.ensures (codes "table" ∷ row) (faulty_line row (rw c.in-Faulty.is at are))
 
 pub returns-in-Unkept : goal.returns-in-Unkept
 returns-in-Unkept c row are = refl

@@ -1,19 +1,18 @@
 #!/usr/bin/env bash
 # Makes a Debian package of the built program, its man page, units, examples and pages, by debhelper and the files of tools/debian. It builds nothing itself.
-#   tools/package.sh [--try] [--kit LINE] [--into FOLDER] [PROGRAM]
-# PROGRAM is crates/roadmark/out/roadmark where none is given, FOLDER the caller's. The package's version has the program's, as it prints it, the number of the
-# format, as it writes it into a store, and the kit's, as `rt version` tells it; where there is no `rt`, as --kit or README.md does. The maintainer is what DEBFULLNAME and DEBEMAIL say.
+#   tools/package.sh [--try] [--into FOLDER] [PROGRAM]
+# PROGRAM is crates/roadmark/out/roadmark where none is given, FOLDER the caller's. The package's version has the program's, as it prints it, and the number of the
+# format, as it writes it into a store. The program has to name the logic that `rt version` tells; where there is no `rt`, that README.md names. The maintainer is what DEBFULLNAME and DEBEMAIL say.
 # --try looks through the package by lintian, where that is there, installs it in a new folder's own root, runs it there, removes it again, and sees that nothing is left.
 # Needs debhelper; units are checked where systemd-analyze is there.
 set -eu
 top=$(cd "$(dirname "${BASH_SOURCE[0]}")/.." && pwd)
 fail() { echo "package: $1" >&2; exit 1; }
 
-tries=no kit='' into=$PWD program=$top/crates/roadmark/out/roadmark
+tries=no into=$PWD program=$top/crates/roadmark/out/roadmark
 while [ $# -gt 0 ]; do
   case $1 in
     --try) tries=yes ;;
-    --kit) kit=${2:?}; shift ;;
     --into) into=${2:?}; shift ;;
     -*) fail "no such option: $1" ;;
     *) program=$1 ;;
@@ -32,22 +31,20 @@ format_of() {
   echo $((16#$(od -An -v -tx1 -j8 -N4 "$work/six.store" | tr -d ' ')))
 }
 
-# The line of the kit: as given, as the kit tells it, or as README.md does.
-kit_of() {
-  if [ -n "$kit" ]; then echo "$kit"
-  elif command -v rt > /dev/null; then rt version
-  else sed -n 's/.*`\(rattle-kit-[^`]*\)`.*/\1/p' "$top/README.md" | head -n 1
+# The logic of the kit: as the kit tells it, or as README.md does.
+logic_of() {
+  if command -v rt > /dev/null; then rt version | sed -n 's/.* logic \([0-9a-f]*\)$/\1/p'
+  else sed -n 's/.*logic `\([0-9a-f]*\)`.*/\1/p' "$top/README.md" | head -n 1
   fi
 }
 
 version=$("$program" --version | awk '{ print $2 }')
 format=$(format_of)
-kit=$(kit_of)
-short=$(sed -n 's/^rattle-kit-\([A-Za-z0-9]*\).*/\1/p' <<< "$kit")
-[ -n "$version" ] && [ -n "$short" ] || fail "no version of the program ($version) or of the kit ($kit)"
-[ "$("$program" --version)" = "roadmark $version (format $format, $kit)" ] || fail "--version tells another format than $format, or another kit than $kit"
+logic=$(logic_of)
+[ -n "$version" ] && [ -n "$logic" ] || fail "no version of the program ($version) or no logic of the kit ($logic)"
+[ "$("$program" --version)" = "roadmark $version (format $format, rattle logic $logic)" ] || fail "--version tells another format than $format, or another logic than $logic"
 grep -q "roadmark $version" <(head -n 3 "$top/docs/roadmark.1") || fail "the man page is of another version than $version"
-full=$version+format$format.kit$short
+full=$version+format$format
 maintainer="${DEBFULLNAME:-roadmark} <${DEBEMAIL:-roadmark@example.org}>"
 # The same sources give the same package.
 SOURCE_DATE_EPOCH=$(git -C "$top" log -1 --format=%ct 2> /dev/null || date -r "$program" +%s)
@@ -99,7 +96,7 @@ try() {
   grep -q '^roadmark:' "$root/etc/passwd" || fail "its user was not made"
   cmp "$root/usr/bin/roadmark" "$program" || fail "the installed program is another one"
   (cd "$root/$doc" && ./roadmark create "$work/try.store" examples/six.gr examples/six.ss && ./examples/client.sh "$work/try.store") > "$work/said" || fail "an example fails"
-  dpkg-query --admindir="$root/var/lib/dpkg" --show --showformat '${Package} ${Version}, store format ${Store-Format}, ${Rattle-Kit}\n' roadmark
+  dpkg-query --admindir="$root/var/lib/dpkg" --show --showformat '${Package} ${Version}, store format ${Store-Format}, logic ${Rattle-Logic}\n' roadmark
   "${install[@]}" --purge roadmark > "$work/said" 2>&1 || { cat "$work/said" >&2; fail "it was not removed"; }
   # The user stays, as Debian's packages leave theirs.
   left=$(cd "$root" && find . -path ./var -prune -o -path './etc/*' -regex '.*/\(passwd\|group\|shadow\|gshadow\)-?' -prune -o -name .pwd.lock -prune -o ! -type d -print)
@@ -109,7 +106,7 @@ try() {
 
 lay_out
 verify
-(cd "$tree" && STORE_FORMAT=$format RATTLE_KIT=$kit dpkg-buildpackage --build=binary --no-sign --no-pre-clean) > "$work/said" 2>&1 || { cat "$work/said" >&2; fail "it was not packed"; }
+(cd "$tree" && STORE_FORMAT=$format RATTLE_LOGIC=$logic dpkg-buildpackage --build=binary --no-sign --no-pre-clean) > "$work/said" 2>&1 || { cat "$work/said" >&2; fail "it was not packed"; }
 package=$into/$(basename "$work"/roadmark_*.deb)
 mv "$work"/roadmark_*.deb "$package"
 echo "package: $package"

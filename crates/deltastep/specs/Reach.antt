@@ -12,7 +12,7 @@ use Rattle.std.specs.declared.cmp.Ordering.{Ordering}
 use Rattle.std.specs.declared.cmp.Ordering.TheVariants.{Less}
 use Rattle.relax.specs.Values.{value_at, value_or}
 use Rattle.roadnet.specs.Net.{Net, IsNode}
-use Rattle.roadnet.specs.Walks.{Least, NoWalk, distance_at}
+use Rattle.roadnet.specs.Walks.{Least, NoWalk}
 use Rattle.snapshot.specs.Groups.{Groups}
 use Rattle.buckets.specs.Queue.{Entries}
 use Rattle.std.specs.FinMap as map_of
@@ -55,10 +55,6 @@ pub record AreNearest (net : Net) (source : ℕ) (among : List ℕ) (count : ℕ
 -- the least length of a walk, or that there is none
 abbrev pub IsDistance : Net → ℕ → ℕ → Option ℕ → Type 0
 IsDistance net source target distance = MatchOption distance (NoWalk net source target) (Least net source target)
-
--- of each node the distance to the target
-abbrev pub IsRowTo : Net → ℕ → List (Option ℕ) → Type 0
-IsRowTo net target row = (source : ℕ) → IsNode net source → IsDistance net source target (distance_at row source)
 
 -- ---- how far a search has come
 

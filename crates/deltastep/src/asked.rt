@@ -1,7 +1,7 @@
 //! Searches for what is asked of the nodes around a source, which end as soon as it can be answered.
 
 ghost use Rattle.std.specs.Prelude.{◌≡◌, ◌+◌, ◌-◌, ◌/◌, ◌≤◌, ℕ, List, Option, None, length, replicate, IfOk, IfSome, OnOk};
-ghost use Rattle.std.specs.Bool.{OnTrue};
+ghost use Rattle.std.specs.Bool.{Decides};
 ghost use Rattle.roadnet.specs.Net.{Net};
 ghost use Rattle.snapshot.specs.Groups.{IsSnapshotOf};
 ghost use Rattle.deltastep.specs.declared.known.NodeDistance.{NodeDistance};
@@ -34,7 +34,7 @@ pub(crate) trait Asked {
     /// Whether values that are final up to this length suffice.
     fn is_enough(&self, values: &Tentative, end: u64) -> bool
         requires suits { suits self.now (length values.now) }
-        ensures { OnTrue result (suffices self.now values.now end) };
+        ensures { Decides result (suffices self.now values.now end) };
 
     /// The answer out of values that are final up to this length, or where there is none, all of them. The one error is want of memory.
     fn answer(

@@ -57,7 +57,7 @@ impl Distances {
     }
 
     /// A share of this row: the same words, which are let go with the last share. The one error is that no share is had.
-    pub(crate) fn share(&self) -> Result<Distances, RowError>
+    pub fn share(&self) -> Result<Distances, RowError>
         ensures { IfOk result (λ shared. shared ≡ self.now) }
     {
         let words = Arc::try_clone(&self.words)?;

@@ -295,36 +295,12 @@ fn guided_by<Q: BucketQueue + Drop, G: Guide>(
     Ok((tentative.get(target), tentative, buckets))
 }
 
-/// The distance from `source` to `target`, as `distance_to` gives it, by a search that the guide leads to the target: nodes are settled in
-/// the order of their values with the guide's bounds. Its one error is want of memory.
+/// The distance from `source` to `target`, as `distance_to_in` gives it, by a search that the guide leads to the target: nodes are settled in
+/// the order of their values with the guide's bounds. It uses the workspace as that does, whatever it holds, but for the ring, which it has of narrower
+/// buckets and leaves to the next such search. Its one error is want of memory.
 ///
 /// Led by bounds that are 0 it settles what that search does, or a bucket less. Of the network of `examples/six.gr`, from 1 to 4 it gives 12 by any guide, and
 /// from 6 to 1 nothing.
-pub fn distance_guided<G: Guide>(
-    alloc: Global,
-    snapshot: &Snapshot,
-    source: u32,
-    target: u32,
-    guide: &G,
-) -> Result<Option<u64>, RowError>
-    requires source { (1 ≤ source) × (source ≤ snapshot.now.nodes) }
-    requires target { (1 ≤ target) × (target ≤ snapshot.now.nodes) }
-    requires leads { G.target guide.now ≡ target }
-    requires knows { G.knows guide.now snapshot.now }
-    ensures distance { IfOk result (λ distance. (net : Net) → IsSnapshotOf net snapshot.now → IsDistance net source target distance) }
-{
-    distance_guided_in(
-        alloc,
-        snapshot,
-        source,
-        target,
-        guide,
-        &mut Workspace::new(),
-    )
-}
-
-/// The same distance, whatever the workspace holds, which the search uses as `distance_to_in` does, but for the ring, which it has of
-/// narrower buckets and leaves to the next such search.
 pub fn distance_guided_in<G: Guide>(
     alloc: Global,
     snapshot: &Snapshot,

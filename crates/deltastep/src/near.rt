@@ -1,4 +1,4 @@
-//! Where a repair begins its search, found by way of the legs that lead to what was lost, in place of a pass over all legs.
+//! Where a repair begins its search, found by way of the legs that lead to what was lost.
 
 ghost use Rattle.std.specs.Prelude.{◌≡◌, ℕ, ◌+◌, ◌≤◌, ◌<◌, ◌^◌, None, IsSome, OnOk, IfOk, All, length};
 ghost use Rattle.std.specs.FinMap as map;

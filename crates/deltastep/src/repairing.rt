@@ -5,11 +5,11 @@ ghost use Rattle.std.specs.FinMap as map;
 ghost use Rattle.std.specs.Bool.{OnTrue, OnFalse};
 ghost use Rattle.roadnet.specs.Net.{Net};
 ghost use Rattle.roadnet.specs.Walks.{RowOf, distance_at};
-ghost use Rattle.snapshot.specs.Groups.{IsSnapshotOf, legs_of, IsGrouped};
+ghost use Rattle.snapshot.specs.Groups.{IsSnapshotOf, IsGrouped};
 ghost use Rattle.snapshot.specs.declared.legs.Leg.{Leg};
 ghost use Rattle.snapshot.specs.declared.legs.Part.{Part};
 ghost use Rattle.relax.specs.Values.{value_at, value_or};
-ghost use Rattle.deltastep.specs.Search.{AreReached, IsBetweenBuckets, IsRelaxed, IsSearch, IsSuited, top_of, IsBetweenFromReached};
+ghost use Rattle.deltastep.specs.Search.{AreReached, IsBetweenBuckets, IsRelaxed, IsSearch, IsSuited, top_of};
 ghost use Rattle.deltastep.specs.Repair.{AreTails, AreQueued, AreChanged, HasLeg, IsLost, IsKeptOf, LeadToLost, AreThereOrLost, AreGoneLost, IsSpread, IsClosedBut, IsThinner, Thins};
 
 use crate::distances::{Distances, RowError};
@@ -19,7 +19,7 @@ use crate::search::Search;
 use crate::stepping::{ring_size, row_in};
 use crate::untouched::untouched_row;
 use crate::workspace::Workspace;
-use buckets::{BucketQueue, OrderedBuckets, RingBuckets};
+use buckets::{BucketQueue, OrderedBuckets};
 use relax::{Team, Tentative};
 use snapshot::{Leg, Part, Snapshot};
 use std::alloc::Global;
@@ -335,100 +335,6 @@ pub(crate) fn queue_owing<Q: BucketQueue>(
     Ok(true)
 }
 
-/// Queues each node of which some leg leads to less than is known, into an empty queue. Tells whether each of their values fits.
-fn queue_all_owing<Q: BucketQueue>(
-    snapshot: &Snapshot,
-    tentative: &Tentative,
-    buckets: &mut Q,
-) -> Result<bool, RowError>
-    requires search { IsSearch snapshot.now tentative.now map.empty 0 }
-    requires empty { Q.entries buckets.old ≡ map.empty }
-    ensures state { IfOk result (λ fit. OnTrue fit (IsBetweenFromReached snapshot.now tentative.now (Q.entries buckets.new))) }
-    ensures width { OnOk result (Q.width buckets.new ≡ Q.width buckets.old) }
-    ensures span { OnOk result (Q.span buckets.new ≡ Q.span buckets.old) }
-{
-    for place in 0..snapshot.nodes() {
-        if !queue_owing(snapshot, tentative, place + 1, buckets)? {
-            return Ok(false);
-        }
-    }
-    Ok(true)
-}
-
-/// Whether the lists have the same legs in the same order.
-#[inline(always)]
-fn are_same(legs: &[Leg], others: &[Leg]) -> bool
-    ensures { OnTrue result (legs.now ≡ others.now) }
-{
-    if legs.len() != others.len() {
-        return false;
-    }
-    for place in 0..legs.len() {
-        if legs[place].head != others[place].head || legs[place].length != others[place].length {
-            return false;
-        }
-    }
-    true
-}
-
-/// Whether the node has the same legs in both snapshots.
-#[inline(always)]
-fn has_same_legs(before: &Snapshot, after: &Snapshot, node: u32) -> bool
-    ensures { OnTrue result ((part : Part) → legs_of before.now part node ≡ legs_of after.now part node) }
-{
-    if !are_same(
-        before.legs(node, Part::Light),
-        after.legs(node, Part::Light),
-    ) {
-        return false;
-    }
-    if !are_same(
-        before.legs(node, Part::Heavy),
-        after.legs(node, Part::Heavy),
-    ) {
-        return false;
-    }
-    true
-}
-
-/// Adds the node, if it has other legs in one snapshot than in the other.
-#[inline(always)]
-fn add_changed(
-    before: &Snapshot,
-    after: &Snapshot,
-    node: u32,
-    changed: &mut Vec<u32>,
-) -> Result<(), RowError>
-    ensures added { OnOk result (Contains changed.new.items node ⊎ ((part : Part) → legs_of before.now part node ≡ legs_of after.now part node)) }
-    ensures kept { OnOk result ((u : ℕ) → Contains changed.old.items u → Contains changed.new.items u) }
-{
-    if has_same_legs(before, after, node) {
-        return Ok(());
-    }
-    if changed.push(node).is_err() {
-        return Err(RowError::OutOfMemory);
-    }
-    Ok(())
-}
-
-/// The nodes of which some leg is not the same in both snapshots, of networks with the same nodes: each other node has the same legs in both. It goes
-/// over all legs once. The one error is want of memory, for 4 bytes a node that it gives, and twice that while the list grows.
-pub fn changed_nodes(
-    alloc: Global,
-    before: &Snapshot,
-    after: &Snapshot,
-) -> Result<Vec<u32>, RowError>
-    requires nodes { before.now.nodes ≡ after.now.nodes }
-    ensures { IfOk result (λ nodes. AreChanged before.now after.now nodes.items) }
-{
-    let nodes = before.nodes().min(after.nodes());
-    let mut changed = Vec::new(alloc);
-    for place in 0..nodes {
-        add_changed(before, after, place + 1, &mut changed)?;
-    }
-    Ok(changed)
-}
-
 /// The values of a row before a change that are still lengths of walks for sure, or nothing where too many are not.
 fn remaining(
     alloc: Global,
@@ -482,118 +388,8 @@ fn goes_on<Q: BucketQueue + Drop, T: Team>(
     Ok((Distances::from_words(tentative.into_words())?, buckets))
 }
 
-/// The row of `source` in a network, made out of its row in the network before a change. It is the row that `row` makes.
-///
-/// `before` and `snapshot` are the snapshots of the two networks, which have the same nodes, and `changed` has each node of which some leg is not the same in
-/// both, as `changed_nodes` gives them. Nodes whose least walks may use a leg that is gone lose their distance, and so do those behind them; then the search
-/// goes on from the nodes of which some leg leads to less than is known. Where an eighth of the nodes or more lose theirs, the row is made anew.
-pub fn row_after<T: Team>(
-    alloc: Global,
-    snapshot: &Snapshot,
-    source: u32,
-    before: &Snapshot,
-    old: &Distances,
-    changed: &[u32],
-    team: &T,
-) -> Result<Distances, RowError>
-    requires node { (1 ≤ source) × (source ≤ snapshot.now.nodes) }
-    requires nodes { before.now.nodes ≡ snapshot.now.nodes }
-    requires old { (net : Net) × IsSnapshotOf net before.now × RowOf net source old.now }
-    requires changed { AreChanged before.now snapshot.now changed.now }
-    ensures row { IfOk result (λ row. (net : Net) → IsSnapshotOf net snapshot.now → RowOf net source row) }
-{
-    row_after_in(
-        alloc,
-        snapshot,
-        source,
-        before,
-        old,
-        changed,
-        team,
-        &mut Workspace::new(),
-    )
-}
-
-/// The row of `source` by a search that goes on from what is left of its row before a change, after a pass over all legs.
-fn repaired_in<T: Team>(
-    alloc: Global,
-    snapshot: &Snapshot,
-    source: u32,
-    before: &Snapshot,
-    old: &Distances,
-    changed: &[u32],
-    team: &T,
-    workspace: &mut Workspace,
-) -> Result<Distances, RowError>
-    requires node { (1 ≤ source) × (source ≤ snapshot.now.nodes) }
-    requires nodes { before.now.nodes ≡ snapshot.now.nodes }
-    requires old { (net : Net) × IsSnapshotOf net before.now × RowOf net source old.now }
-    requires changed { AreChanged before.now snapshot.now changed.now }
-    ensures row { IfOk result (λ row. (net : Net) → IsSnapshotOf net snapshot.now → RowOf net source row) }
-{
-    let Some(tentative) = remaining(alloc, before, snapshot, source, old, changed)? else {
-        return row_in(alloc, snapshot, source, team, workspace);
-    };
-    let mut remembered = workspace.take_remembered(alloc, snapshot.nodes() as usize + 1)?;
-    if ring_size(snapshot).is_some() {
-        let mut ring = workspace.take_ring(alloc, snapshot, MOST_LISTS)?;
-        if queue_all_owing(snapshot, &tentative, &mut ring)? {
-            let (row, ring) = goes_on(
-                alloc,
-                snapshot,
-                source,
-                tentative,
-                ring,
-                team,
-                &mut remembered,
-            )?;
-            workspace.keep(ring, remembered);
-            return Ok(row);
-        }
-    }
-    let mut buckets = OrderedBuckets::new(alloc, snapshot.delta());
-    if queue_all_owing(snapshot, &tentative, &mut buckets)? {
-        let (row, _buckets) = goes_on(
-            alloc,
-            snapshot,
-            source,
-            tentative,
-            buckets,
-            team,
-            &mut remembered,
-        )?;
-        return Ok(row);
-    }
-    row_in(alloc, snapshot, source, team, workspace)
-}
-
-/// The same row, whatever the workspace holds. The search takes what an earlier one left there and leaves its own, as that of `row_in` does.
-pub fn row_after_in<T: Team>(
-    alloc: Global,
-    snapshot: &Snapshot,
-    source: u32,
-    before: &Snapshot,
-    old: &Distances,
-    changed: &[u32],
-    team: &T,
-    workspace: &mut Workspace,
-) -> Result<Distances, RowError>
-    requires node { (1 ≤ source) × (source ≤ snapshot.now.nodes) }
-    requires nodes { before.now.nodes ≡ snapshot.now.nodes }
-    requires old { (net : Net) × IsSnapshotOf net before.now × RowOf net source old.now }
-    requires changed { AreChanged before.now snapshot.now changed.now }
-    ensures row { IfOk result (λ row. (net : Net) → IsSnapshotOf net snapshot.now → RowOf net source row) }
-{
-    if let Some(row) = untouched_row(before, snapshot, source, old, changed) {
-        return Ok(row);
-    }
-    repaired_in(
-        alloc, snapshot, source, before, old, changed, team, workspace,
-    )
-}
-
 /// The row of `source` by a search that goes on from what is left of its row before a change, found by way of the legs back.
-fn repaired_near<T: Team>(
+fn repaired<T: Team>(
     alloc: Global,
     snapshot: &Snapshot,
     source: u32,
@@ -659,9 +455,15 @@ fn repaired_near<T: Team>(
     row_in(alloc, snapshot, source, team, workspace)
 }
 
-/// The same row, where `back` has for each leg of the new snapshot one from its head to its tail: beside the copy of the row and one look at each node, it
-/// takes time for what was lost and changed alone, with the legs around it.
-pub fn row_after_near<T: Team>(
+/// The row of `source` in a network, made out of its row in the network before a change. It is the row that `row_in` makes, whatever the workspace holds, and
+/// the search uses that as the one of `row_in` does.
+///
+/// `before` and `snapshot` are the snapshots of the two networks, which have the same nodes, `changed` has each node of which some leg is not the same in
+/// both, as `changed_nodes` gives them, and `back` has for each leg of the new snapshot one from its head to its tail, as `back_of` gives them. Nodes whose
+/// least walks may use a leg that is gone lose their distance, and so do those behind them; then the search goes on from the nodes of which some leg leads to
+/// less than is known. Beside the copy of the row and one look at each node, it takes time for what was lost and changed alone, with the legs around it.
+/// Where an eighth of the nodes or more lose their distance, the row is made anew. Its one error is want of memory.
+pub fn row_after<T: Team>(
     alloc: Global,
     snapshot: &Snapshot,
     source: u32,
@@ -683,7 +485,7 @@ pub fn row_after_near<T: Team>(
     if let Some(row) = untouched_row(before, snapshot, source, old, changed) {
         return Ok(row);
     }
-    repaired_near(
+    repaired(
         alloc, snapshot, source, before, old, changed, back, team, workspace,
     )
 }

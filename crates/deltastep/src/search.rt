@@ -55,7 +55,7 @@ fn is_alone(snapshot: &Snapshot, nodes: &[u32]) -> bool
 /// A search under way: the least value found so far for each node, and the nodes whose legs are still to be relaxed, in buckets by
 /// that value.
 ///
-/// It begins with `start`, and goes on by `take_bucket` and `settle` in turn, until no bucket is left; `run` does so. After an `Err` it is not
+/// It begins with `start`, and goes on by `take_bucket` and `settle` in turn, until no bucket is left. After an `Err` it is not
 /// used again.
 #[derive(Drop)]
 pub struct Search<Q> {
@@ -126,21 +126,6 @@ impl<Q: BucketQueue> Search<Q> {
         ensures suited { HasWidth Q.BucketQueue _snapshot.now self.new }
     {
         Ok(self.buckets.take_least_into(taken)?)
-    }
-
-    /// Settles bucket after bucket until none is left.
-    pub fn run<T: Team>(
-        &mut self,
-        alloc: Global,
-        snapshot: &Snapshot,
-        team: &T,
-    ) -> Result<(), RowError>
-        requires state { (source : ℕ) × IsBetween Q.BucketQueue snapshot.now source self.old }
-        requires suited { HasWidth Q.BucketQueue snapshot.now self.old }
-        ensures settled { OnOk result ((source : ℕ) → IsBetween Q.BucketQueue snapshot.now source self.old → IsBetweenBuckets snapshot.now source self.new.tentative map.empty) }
-    {
-        let mut remembered = Remembered::new(alloc, snapshot.nodes() as usize + 1)?;
-        self.settle_all(alloc, snapshot, team, &mut remembered)
     }
 
     /// Settles bucket after bucket until none is left, with the memory of nodes that is given.

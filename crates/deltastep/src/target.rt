@@ -3,17 +3,16 @@
 ghost use Rattle.std.specs.Prelude.{◌≡◌, ◌+◌, ◌/◌, ◌≤◌, ◌<◌, ◌↔◌, ℕ, [], None, false, length, replicate, IfOk, IsTrue, OnOk, MatchOption};
 ghost use Rattle.relax.specs.Values.{value_at};
 ghost use Rattle.std.specs.FinMap as map;
-ghost use Rattle.roadnet.specs.Net.{Net, IsNetwork};
-ghost use Rattle.roadnet.specs.Reversal.{reversed};
+ghost use Rattle.roadnet.specs.Net.{Net};
 ghost use Rattle.snapshot.specs.Groups.{IsSnapshotOf};
 ghost use Rattle.deltastep.specs.Search.{IsFinal, Suits};
 ghost use Rattle.deltastep.specs.Stepping.{HasWidth, IsBetween, StaysBetween};
-ghost use Rattle.deltastep.specs.Reach.{IsDistance, IsRowTo};
+ghost use Rattle.deltastep.specs.Reach.{IsDistance};
 
-use crate::distances::{Distances, RowError};
+use crate::distances::RowError;
 use crate::remembered::Remembered;
 use crate::search::Search;
-use crate::stepping::{ring_size, row};
+use crate::stepping::ring_size;
 use crate::workspace::Workspace;
 use buckets::{BucketQueue, OrderedBuckets};
 use relax::{Team, Tentative};
@@ -135,24 +134,11 @@ fn distance_by<Q: BucketQueue + Drop, T: Team>(
 /// The least length of a walk from `source` to `target`, or nothing where no walk leads there: what the row of `source` has for `target`,
 /// by a search that stops as soon as that is known. Its one error is want of memory: it takes what a row does.
 ///
-/// Of the network of `examples/six.gr`, from 1 to 4 it gives 12, and from 6 to 1 nothing.
-pub fn distance_to<T: Team>(
-    alloc: Global,
-    snapshot: &Snapshot,
-    source: u32,
-    target: u32,
-    team: &T,
-) -> Result<Option<u64>, RowError>
-    requires source { (1 ≤ source) × (source ≤ snapshot.now.nodes) }
-    requires target { (1 ≤ target) × (target ≤ snapshot.now.nodes) }
-    ensures distance { IfOk result (λ distance. (net : Net) → IsSnapshotOf net snapshot.now → IsDistance net source target distance) }
-{
-    distance_to_in(alloc, snapshot, source, target, team, &mut Workspace::new())
-}
-
-/// The same distance, whatever the workspace holds. The search takes what an earlier one left there and leaves its own, the values wiped: so
+/// The search takes what an earlier one left in the workspace, whatever that is, and leaves its own, the values wiped: so
 /// where it stops after a few nodes, it takes time and memory for these alone; only where the ring would be too long, which then is no ring,
 /// a flag a node is made anew. After an `Err` it leaves nothing.
+///
+/// Of the network of `examples/six.gr`, from 1 to 4 it gives 12, and from 6 to 1 nothing.
 pub fn distance_to_in<T: Team>(
     alloc: Global,
     snapshot: &Snapshot,
@@ -189,18 +175,4 @@ pub fn distance_to_in<T: Team>(
         workspace.keep(ring, remembered);
     }
     Ok(distance)
-}
-
-/// The distances to `target`: for each node the least length of a walk from it, or that there is none, as the row of `target` over a
-/// snapshot of the reversed network.
-pub fn row_to<T: Team>(
-    alloc: Global,
-    back: &Snapshot,
-    target: u32,
-    team: &T,
-) -> Result<Distances, RowError>
-    requires node { (1 ≤ target) × (target ≤ back.now.nodes) }
-    ensures row { IfOk result (λ row. (net : Net) → IsNetwork net → IsSnapshotOf (reversed net) back.now → IsRowTo net target row) }
-{
-    row(alloc, back, target, team)
 }

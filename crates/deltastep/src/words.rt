@@ -1,8 +1,8 @@
 //! How a row is kept.
 
-ghost use Rattle.std.specs.Prelude.{◌≡◌, map, IfOk, IfSome};
+ghost use Rattle.std.specs.Prelude.{◌≡◌, ◌<◌, map, IfOk, IfSome, IsSome};
 ghost use Rattle.roadnet.specs.Walks.{distance_at};
-ghost use Rattle.deltastep.specs.Words.{distance_of_short, distance_of_word, distances_of};
+ghost use Rattle.deltastep.specs.Words.{distance_of_short, distance_of_word, distances_of, no_short_walk};
 
 use crate::distances::{NO_WALK, RowError};
 use std::alloc::Global;
@@ -86,7 +86,8 @@ fn long_at(words: &[u64], node: u64) -> Option<u64>
 
 /// The word of 4 bytes that says the same as one of 8, if there is one.
 fn short_of(word: u64) -> Option<u32>
-    ensures { IfSome result (λ short. distance_of_short short ≡ distance_of_word word) }
+    ensures same { IfSome result (λ short. distance_of_short short ≡ distance_of_word word) }
+    ensures short { word < no_short_walk → IsSome result }
 {
     if word == NO_WALK {
         return Some(NO_SHORT_WALK);

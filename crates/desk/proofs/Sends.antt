@@ -6,10 +6,10 @@ use Rattle.disk.specs.declared.disk.Disk.{Ghosts as DiskGhosts}
 use Rattle.office.specs.declared.naming.Naming.{Ghosts as NamingGhosts}
 use Rattle.roadnet.proofs.networks.Network.TheSendSync as Networks
 use Rattle.roadnet.proofs.groups.Group.TheSendSync as Groups
+use Rattle.snapshot.proofs.groups.Snapshot.TheSendSync as Snapshots
 use Rattle.store.proofs.paged.Paged.TheSendSync as Pages
 use Rattle.history.proofs.histories.History.TheSendSync as Histories
 use Rattle.published.proofs.publishers.Publisher.TheSendSync as Publishers
-use Rattle.keeper.proofs.tracked.Tracked.TheSendSync as Trackeds
 use Rattle.rows.proofs.sights.Sight.TheSendSync as Sights
 use Rattle.store.specs.contracts.store.Store as Store
 use Rattle.store.specs.contracts.store.Store.TheInside as StoreInside
@@ -45,7 +45,7 @@ ledger_inside D d s = search (entries, sendable, crosses) depth 20
 ledger_send : (D : RattleType) (d : DiskGhosts D.Denot) → IsSend D → IsSend (Ledger.the_row D d)
 ledger_send D d s = view_send _ _ _ _ _ (ledger_inside D d s)
 
-ruleset kept = (ledger_send, Sights.the_send, Trackeds.the_field_send)
+ruleset kept = (ledger_send, Sights.the_send, Networks.the_send, Networks.the_sync)
 
 keeper_inside : (D : RattleType) (d : DiskGhosts D.Denot) → IsSend D → IsSend (KeeperInside.the_row D d)
 keeper_inside D d s = search (kept, sendable, crosses) depth 20
@@ -73,7 +73,7 @@ shared_send O G s t = search (held_send, sendable, crosses) depth 20
 shared_sync : (O G : RattleType) → IsSend O → IsSync G → IsSync (Shared.the_row O G)
 shared_sync O G s y = search (held_send, sendable, crosses) depth 20
 
-ruleset shelved = (Rows.the_send, Workspaces.the_send, Fronts.the_send)
+ruleset shelved = (Rows.the_send, Workspaces.the_send, Fronts.the_send, Snapshots.the_send, Snapshots.the_sync)
 
 shelf_inside : (N : RattleType) (n : NamingGhosts N.Denot) → IsSend N → IsSend (ShelfInside.the_row N n)
 shelf_inside N n t = search (shelved, sendable, crosses) depth 20

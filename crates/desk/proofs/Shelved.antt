@@ -7,13 +7,15 @@ use Rattle.std.specs.Prelude.{unwrap_or}
 use mathlib.Core.List.{IsPrefix}
 use Rattle.roadnet.specs.declared.groups.Group.{Group}
 use Rattle.roadnet.specs.Net.{Net}
+use Rattle.roadnet.specs.Reversal.{reversed}
 use Rattle.roadnet.specs.Step.{after}
 use Rattle.roadnet.specs.Walks.{RowOf}
+use Rattle.snapshot.specs.Groups.{Groups, IsSnapshotOf}
 use Rattle.rows.specs.Views.{Viewed}
 use Rattle.history.specs.Origins.{Origin, Beginning}
 use Rattle.history.proofs.Beginnings.{prefix_whole}
 use Rattle.desk.specs.Readings.{IsViewAfter}
-use Rattle.desk.specs.Shelves.{AreRowsIn, IsShelfOf, IsOfShelf, IsAfter, IsRowAt, HasRow}
+use Rattle.desk.specs.Shelves.{AreRowsIn, IsShelfOf, IsOfShelf, IsTurnedOf, IsAfter, IsAskedAt, IsRowAt, HasRow}
 use Rattle.desk.specs.declared.shelves.KeptRow.{KeptRow}
 
 -- a new shelf of a view has no row
@@ -62,6 +64,18 @@ new_of_shelf origin (Some front) known view kept at view_after row = λ net netw
     let same : view.network ≡ net = one_net view.network net (sym (ap (after origin.base) at ∙ view_after.network) ∙ network) in
     subst (λ (n : Net). RowOf n kept.source kept.distances) same row
 
+-- the arcs that are kept are those of the view that was looked at
+pub turned_found : (origin : Origin) (groups : Option Beginning) (known : List Group) (view : Viewed) (back : Groups) → IsTurnedOf origin groups back → IsAfter groups known → IsViewAfter origin known view → IsSnapshotOf (reversed view.network) back
+turned_found origin None known view back turned at view_after = absurd at
+turned_found origin (Some front) known view back turned at view_after = turned view.network (ap (after origin.base) at ∙ view_after.network)
+
+-- and those of that view may be kept
+pub new_turned : (origin : Origin) (groups : Option Beginning) (known : List Group) (view : Viewed) (back : Groups) → IsAfter groups known → IsViewAfter origin known view → IsSnapshotOf (reversed view.network) back → IsTurnedOf origin groups back
+new_turned origin None known view back at view_after turned = absurd at
+new_turned origin (Some front) known view back at view_after turned = λ net network.
+    let same : view.network ≡ net = one_net view.network net (sym (ap (after origin.base) at ∙ view_after.network) ∙ network) in
+    subst (λ (n : Net). IsSnapshotOf (reversed n) back) same turned
+
 -- without the row at a place it is a shelf still
 pub shelf_without : (origin : Origin) (groups : Option Beginning) (rows : List KeptRow) (place : ℕ) → place < length rows → IsShelfOf origin groups rows → IsShelfOf origin groups (take place rows ++ drop (place + 1) rows)
 shelf_without origin None rows place within shelf = absurd (let none = ap length shelf in omega (arith, none))
@@ -80,6 +94,9 @@ shelf_with origin (Some front) rows kept shelf row = (shelf.0, λ net network. A
 -- the row that was put last is there
 pub has_last : (rows : List KeptRow) (kept : KeptRow) → HasRow kept.source (rows ++ kept ∷ [])
 has_last rows kept = (length rows, (omega (arith, length-append rows (kept ∷ [])), λ any. ap (λ (k : KeptRow). k.source) (get_or_at rows kept [] any (length rows) refl)))
+
+pub asked_at : (asked : List (ℕ × ℕ)) (place version source : ℕ) (key : ℕ × ℕ) → place < length asked → key ≡ slice_index_or asked place key → key ≡ (version, source) → IsAskedAt version source asked place
+asked_at asked place version source key within is same = (within, λ any. sym (get_or_read asked place key within is any) ∙ same)
 
 pub row_at : (rows : List KeptRow) (place source : ℕ) (kept : KeptRow) → place < length rows → kept ≡ slice_index_or rows place kept → kept.source ≡ source → IsRowAt source rows place
 row_at rows place source kept within is same = (within, λ any. ap (λ (k : KeptRow). k.source) (sym (get_or_read rows place kept within is any)) ∙ same)

@@ -1,5 +1,4 @@
 pub mod Leaves
-pub mod Nearby
 pub mod Openings
 pub mod Readings
 pub mod Repairs

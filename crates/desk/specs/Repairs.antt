@@ -1,6 +1,5 @@
 -- What a row is made out of.
 use Rattle.std.specs.Prelude.{◌≡◌}
-use Rattle.std.specs.Option.{ForSome}
 use Rattle.snapshot.specs.Groups.{Groups, IsSnapshotOf}
 use Rattle.deltastep.specs.Repair.{AreChanged, AreTails}
 use Rattle.desk.specs.declared.repairs.Before.{Before}
@@ -10,10 +9,10 @@ pub record LeadBackTo (groups back : Groups) : Type 0 where
   pub nodes : back.nodes ≡ groups.nodes
   pub tails : AreTails back groups
 
--- An older view of a network with as many nodes as these groups have, with its own groups; each node of which a leg differs is among those that changed. Where the
--- way back is given, it is that of these groups.
+-- An older view of a network with as many nodes as these groups have, with its own groups; each node of which a leg differs is among those that changed; and for
+-- each of these groups' legs there is one back.
 pub record IsBefore (groups : Groups) (before : Before) : Type 0 where
   pub snapshot : IsSnapshotOf before.view.now.network before.snapshot.now
   pub nodes : before.snapshot.now.nodes ≡ groups.nodes
   pub changed : AreChanged before.snapshot.now groups before.changed.items
-  pub back : ForSome before.back (λ back. LeadBackTo groups back.now)
+  pub back : LeadBackTo groups before.back.now

@@ -3,8 +3,10 @@ use Rattle.std.specs.Prelude.{◌≡◌, ◌<◌, ℕ, Bool, true, nat_le, List,
 use Rattle.std.specs.List.{slice_index_or}
 use Rattle.roadnet.specs.declared.groups.Group.{Group}
 use Rattle.roadnet.specs.Net.{Net}
+use Rattle.roadnet.specs.Reversal.{reversed}
 use Rattle.roadnet.specs.Step.{after}
 use Rattle.roadnet.specs.Walks.{RowOf}
+use Rattle.snapshot.specs.Groups.{Groups, IsSnapshotOf}
 use Rattle.history.specs.Origins.{Origin, Beginning}
 use Rattle.desk.specs.declared.shelves.KeptRow.{KeptRow}
 
@@ -29,6 +31,11 @@ abbrev pub IsOfShelf : Origin → Option Beginning → KeptRow → Type 0
 IsOfShelf origin None kept = ⊥
 IsOfShelf origin (Some front) kept = (net : Net) → after origin.base front.groups ≡ Some net → RowOf net kept.source kept.distances
 
+-- the arcs of the same network, turned round
+abbrev pub IsTurnedOf : Origin → Option Beginning → Groups → Type 0
+IsTurnedOf origin None back = ⊥
+IsTurnedOf origin (Some front) back = (net : Net) → after origin.base front.groups ≡ Some net → IsSnapshotOf (reversed net) back
+
 -- no rows of a later view are kept than that after these groups
 abbrev pub is_latest : Option Beginning → List Group → Bool
 is_latest None groups = true
@@ -42,6 +49,10 @@ IsAfter (Some front) groups = front.groups ≡ groups
 -- a row of this source stands at this place
 abbrev pub IsRowAt : ℕ → List KeptRow → ℕ → Type 0
 IsRowAt source rows place = (place < length rows) × ((any : KeptRow) → (slice_index_or rows place any).source ≡ source)
+
+-- this version and source stand at this place
+abbrev pub IsAskedAt : ℕ → ℕ → List (ℕ × ℕ) → ℕ → Type 0
+IsAskedAt version source asked place = (place < length asked) × ((any : ℕ × ℕ) → slice_index_or asked place any ≡ (version, source))
 
 -- a row of this source is kept
 abbrev pub HasRow : ℕ → List KeptRow → Type 0

@@ -28,6 +28,8 @@ pub record IsStateOf (m : Machine) (network : Net) (flusher_ended builder_ended 
   pub left : state.left ≡ most_of_life - of_life m
   pub flusher : state.flusher ≡ flusher_of m flusher_ended
   pub builder : state.builder ≡ working_of builder_ended
+  pub arcs : state.arcs ≡ length network.arcs
+  pub room : state.room ≡ network.room
 
 -- the desk stood so in some state of its machine
 pub record StoodSo (origin : Origin) (state : DeskState) : Type 0 where

@@ -1,9 +1,9 @@
 -- What the threads of a desk are to do, and who has to wait, by the machine's numbers.
-use Rattle.std.specs.Prelude.{◌≡◌, ◌≢◌, ◌⊎◌, ℕ, List, ◌*◌, ◌+◌, Bool, true, false, ◌&&◌, not, if◌then◌else◌, nat_le, nat_lt, ◌==◌, min, Err}
+use Rattle.std.specs.Prelude.{◌≡◌, ◌≢◌, ◌⊎◌, ◌<◌, ℕ, List, Option, None, Some, ◌*◌, ◌+◌, Bool, true, false, ◌&&◌, not, if◌then◌else◌, nat_le, nat_lt, ◌==◌, min, Err}
 use Rattle.roadnet.specs.declared.groups.Group.{Group}
 use Rattle.roadnet.specs.declared.refusals.Refusal.{Refusal}
-use Rattle.roadnet.specs.declared.refusals.Refusal.TheVariants.{OutOfMemory, Device, JournalFull, Broken, Closed}
-use Rattle.history.specs.Origins.{Origin}
+use Rattle.roadnet.specs.declared.refusals.Refusal.TheVariants.{OutOfMemory, Device, JournalFull, Broken, NotYet, Closed}
+use Rattle.history.specs.Origins.{Origin, Beginning}
 use Rattle.machine.specs.Machine.{Machine, pending, groups_to}
 use Rattle.machine.specs.Calls.{Submits}
 use Rattle.office.specs.Offices.{RunsFrom}
@@ -85,3 +85,25 @@ WereShown origin groups = (m : Machine) × RunsFrom origin m × (groups ≡ grou
 -- for what a group is refused: the desk is halted, or else some state of the machine over the desk's network and version refuses this group so
 abbrev pub IsUntaken : Origin → Group → Refusal → Type 0
 IsUntaken origin group refusal = refusal ≢ Closed → (m : Machine) × RunsFrom origin m × Submits m group (Err refusal) m
+
+-- The machine refuses the group so, over the desk's network and version, once just these groups are accepted.
+pub record IsRefusedAfter (origin : Origin) (groups : List Group) (group : Group) (refusal : Refusal) : Type 0 where
+  pub m : Machine
+  pub runs : RunsFrom origin m
+  pub accepted : m.accepted ≡ groups
+  pub refuses : Submits m group (Err refusal) m
+
+-- for what a group is refused, and on which basis: the desk is halted; or else the machine refuses it after the groups that the desk had accepted
+abbrev pub IsRefusedOn : Origin → Group → Refusal → Option Beginning → Type 0
+IsRefusedOn origin group refusal None = refusal ≡ Closed
+IsRefusedOn origin group refusal (Some basis) = (basis.origin ≡ origin) × IsRefusedAfter origin basis.groups group refusal
+
+-- No view of this version is shown, in some state of the machine over the desk's network and version.
+pub record IsNotShown (origin : Origin) (version : ℕ) : Type 0 where
+  pub m : Machine
+  pub runs : RunsFrom origin m
+  pub earlier : m.shown < version
+
+-- for what one who waited for a version is refused: as above; or it is not shown yet
+abbrev pub IsUnreached : Origin → ℕ → Refusal → Type 0
+IsUnreached origin version refusal = IsUnserved refusal ⊎ ((refusal ≡ NotYet) × IsNotShown origin version)

@@ -24,16 +24,20 @@ use std::alloc::Global;
 use std::ops::Deref;
 use std::sync::{Arc, Mutex, Wait};
 use std::thread::Threads;
-use std::time::Clock;
+use std::time::{Clock, Duration, Instant};
 use store::Store;
 
-/// How a desk builds its views.
+/// How a desk builds its views, and how long it lets wait for one.
 #[derive(Clone, Copy, Debug, PartialEq, Eq)]
 pub struct Setup {
     /// The width of the buckets of searches, 1 to 2147483647; where none is given it is each network's default.
     pub delta: Option<u32>,
     /// How many row workers there are, 1 to 64.
     pub workers: u32,
+    /// How long a version is waited for that is not shown.
+    pub patience: Duration,
+    /// How many pairs of pipes the desk is served at, as `state` tells it.
+    pub pairs: u64,
 }
 
 /// Starts the flusher and the builder of a desk. Where the system gives no thread (63), none runs.
@@ -148,6 +152,9 @@ impl<
                 alloc,
                 shared,
                 rows,
+                patience: setup.patience,
+                since: Instant::now(&rt).ok(),
+                pairs: setup.pairs,
             },
             threads,
             plan,
@@ -195,6 +202,9 @@ impl<N: Naming, D: Disk + Drop, G: Gate + Drop, R: Threads + Wait + Copy> Desk<N
             alloc: _,
             shared,
             rows: _,
+            patience: _,
+            since: _,
+            pairs: _,
         } = handle;
         shared.halt(&rt);
         threads.join(&rt);

@@ -1,27 +1,33 @@
 // What the callers of a desk share.
-ghost use Rattle.std.specs.Prelude.{◌≡◌, ◌∷◌, [], None, IfOk, IfErr, IfSome, IsOk, IsSome};
+ghost use Rattle.std.specs.Prelude.{◌≡◌, ◌≤◌, ◌+◌, ◌∷◌, [], length, None, IfOk, IfErr, IfSome, IsOk, IsSome};
+ghost use mathlib.Core.List.{IsPrefix};
 ghost use Rattle.machine.specs.Laws.{IsAt};
 ghost use Rattle.roadnet.specs.Net.{IsNode};
 ghost use Rattle.rows.specs.declared.queries.Query.TheVariants.{Dist};
 ghost use Rattle.rows.specs.Replies.{refusal_of, IsDistance, IsRight};
 ghost use Rattle.desk.specs.Readings.{IsNoReader, IsViewAfter};
-ghost use Rattle.desk.specs.Turns.{IsUnserved, IsUntaken, WereShown};
+ghost use Rattle.desk.specs.Turns.{IsRefusedOn, IsUnserved, IsUntaken, WereShown};
 
 use crate::gates::Gate;
 use crate::held::Held;
 use crate::places::{Glance, Place};
 use crate::readers::Reader;
+use crate::refused::Refused;
 use crate::shared::Shared;
-use crate::shelves::{Missed, Shelf, reply_in};
+use crate::shelves::{Missed, Shelf};
 use deltastep::Workspace;
 use disk::Disk;
-use office::{Naming, Office, Receipt, Ticket};
+use history::Front;
+use office::{Basis, Naming, Office, Receipt, Ticket};
 use published::Shown;
+use relax::{CHUNK, Crew};
 use roadnet::{Command, Group, OutOfMemory, Refusal};
-use rows::Reply;
+use rows::{Reply, distance_in};
 use std::alloc::Global;
+use std::sync::atomic::Ordering;
 use std::sync::{Arc, Mutex, Wait};
 use std::thread::Threads;
+use std::time::{Duration, Instant};
 
 /// A desk without its threads, for callers in other threads. The desk lends it, and so has each of its calls.
 ///
@@ -32,6 +38,12 @@ pub struct Handle<N: Naming, D: Disk + Drop, G: Gate + Drop, R: Wait + Copy> {
     pub(crate) alloc: Global,
     pub(crate) shared: Arc<Shared<Office<N, D>, G>>,
     pub(crate) rows: Arc<Mutex<Shelf<N>>>,
+    /// How long a version is waited for.
+    pub(crate) patience: Duration,
+    /// When the desk was started, where the clock could be read.
+    pub(crate) since: Option<Instant>,
+    /// How many pairs of pipes it is served at.
+    pub(crate) pairs: u64,
 }
 
 impl<N: Naming, D: Disk + Drop, G: Gate + Drop, R: Wait + Copy> Handle<N, D, G, R> {
@@ -46,20 +58,36 @@ impl<N: Naming, D: Disk + Drop, G: Gate + Drop, R: Wait + Copy> Handle<N, D, G, 
             alloc: self.alloc,
             shared,
             rows,
+            patience: self.patience,
+            since: self.since,
+            pairs: self.pairs,
         })
     }
 
     /// Accepts the group as the next number, and gives a ticket for it. It is not acknowledged yet.
     ///
-    /// Refused is a desk that is halted (61), then what the keeper refuses.
+    /// Refused is a desk that is halted (61), then what the keeper refuses. Groups that were accepted before it may be a reason, and need not be durable yet:
+    /// who tells of the refusal settles its basis first.
+    pub fn offer(&self, group: Group) -> Result<Ticket, Refused>
+        ensures origin { IfOk result (λ ticket. ticket.origin ≡ N.origin) }
+        ensures group { IfOk result (λ ticket. ticket.ticket.group ≡ group) }
+        ensures refused { IfErr result (λ refused. IsRefusedOn N.origin group refused.refusal refused.basis) }
+    {
+        let ticket = self.shared.held.lock(&self.rt).offer(group)?;
+        self.shared.submitted.notify_one();
+        Ok(ticket)
+    }
+
+    /// The same, of which a refusal tells no basis.
     pub fn submit_group(&self, group: Group) -> Result<Ticket, Refusal>
         ensures origin { IfOk result (λ ticket. ticket.origin ≡ N.origin) }
         ensures group { IfOk result (λ ticket. ticket.ticket.group ≡ group) }
         ensures causes { IfErr result (IsUntaken N.origin group) }
     {
-        let ticket = self.shared.held.lock(&self.rt).submit_group(group)?;
-        self.shared.submitted.notify_one();
-        Ok(ticket)
+        match self.offer(group) {
+            Ok(ticket) => Ok(ticket),
+            Err(Refused { refusal, basis: _ }) => Err(refusal),
+        }
     }
 
     /// Accepts the command as a group of one, as `submit_group` does.
@@ -81,12 +109,36 @@ impl<N: Naming, D: Disk + Drop, G: Gate + Drop, R: Wait + Copy> Handle<N, D, G, 
         ensures causes { IfErr result (λ refused. IsUnserved refused.0) }
     {
         let number = ticket.ticket().number;
+        self.shared.waiting.fetch_add(1, Ordering::SeqCst);
         let mut guard = self.shared.flushed.wait_while(
             &self.rt,
             self.shared.held.lock(&self.rt),
             |held: &mut Held<Office<N, D>>| held.is_unsettled(number),
         );
+        self.shared.waiting.fetch_sub(1, Ordering::SeqCst);
         guard.settle(ticket)
+    }
+
+    /// Waits until the groups of a basis are durable: no stop takes them back then. What is given is a beginning of the desk's history that has them, as
+    /// acknowledged.
+    ///
+    /// Refused is a store that broke before that (45), and a desk whose flusher ended before that (61).
+    pub fn settle_basis(&self, basis: &Basis) -> Result<Front, Refusal>
+        requires { basis.now.origin ≡ N.origin }
+        ensures origin { IfOk result (λ front. front.origin ≡ N.origin) }
+        ensures begins { IfOk result (λ front. IsPrefix basis.now.groups front.groups) }
+        ensures acknowledged { IfOk result (λ front. N.origin.version + length basis.now.groups ≤ front.acknowledged) }
+        ensures causes { IfErr result IsUnserved }
+    {
+        let version = basis.version();
+        self.shared.waiting.fetch_add(1, Ordering::SeqCst);
+        let mut guard = self.shared.flushed.wait_while(
+            &self.rt,
+            self.shared.held.lock(&self.rt),
+            |held: &mut Held<Office<N, D>>| held.is_unsettled(version),
+        );
+        self.shared.waiting.fetch_sub(1, Ordering::SeqCst);
+        guard.settle_basis(basis)
     }
 
     /// Waits until a view is shown that has the ticket's group, and tells the groups after which it is shown.
@@ -100,11 +152,13 @@ impl<N: Naming, D: Disk + Drop, G: Gate + Drop, R: Wait + Copy> Handle<N, D, G, 
         ensures causes { IfErr result IsUnserved }
     {
         let number = ticket.ticket().number;
+        self.shared.waiting.fetch_add(1, Ordering::SeqCst);
         let guard = self.shared.published.wait_while(
             &self.rt,
             self.shared.held.lock(&self.rt),
             |held: &mut Held<Office<N, D>>| held.is_unseen(number),
         );
+        self.shared.waiting.fetch_sub(1, Ordering::SeqCst);
         guard.there()?.shown_since(ticket)
     }
 
@@ -128,7 +182,17 @@ impl<N: Naming, D: Disk + Drop, G: Gate + Drop, R: Wait + Copy> Handle<N, D, G, 
         ensures { IfErr result IsNoReader }
     {
         let reader = self.shared.held.lock(&self.rt).reader()?;
-        Ok(Place::new(self.alloc, reader))
+        Ok(Place::new(reader))
+    }
+
+    /// A client has come: `state` counts it until it goes.
+    pub fn client_came(&self) {
+        self.shared.clients.fetch_add(1, Ordering::SeqCst);
+    }
+
+    /// A client that had come has gone.
+    pub fn client_went(&self) {
+        self.shared.clients.fetch_sub(1, Ordering::SeqCst);
     }
 
     /// No group is taken any more: the flusher makes durable what is pending, the builder shows the last view, and both end. It takes no
@@ -139,13 +203,13 @@ impl<N: Naming, D: Disk + Drop, G: Gate + Drop, R: Wait + Copy> Handle<N, D, G, 
 }
 
 impl<N: Naming, D: Disk + Drop, G: Gate + Drop, R: Wait + Copy> Handle<N, D, G, R> {
-    /// What the kept row of the source tells, if it is kept; else what a search gets.
+    /// What the row of the source tells, if it is kept for all who ask; else what a search gets.
     fn kept_reply(&self, glance: &Glance<N>, source: u32, target: u64) -> Result<Reply, Missed>
         ensures { IfOk result (λ reply. IsNode glance.now.view.network target → IsDistance glance.now.view.network source target reply) }
     {
         let mut rows = self.rows.lock(&self.rt);
-        match rows.find(glance, source, target) {
-            Some(reply) => Ok(reply),
+        match rows.row(glance, source) {
+            Some(row) => Ok(distance_in(&row, target)),
             None => Err(rows.missed(glance.version(), source)),
         }
     }
@@ -163,8 +227,11 @@ impl<N: Naming, D: Disk + Drop, G: Gate + Drop, R: Threads + Wait + Copy> Handle
         requires { IsNode glance.now.view.network source }
         ensures { IfOk result (λ reply. IsNode glance.now.view.network target → IsDistance glance.now.view.network source target reply) }
     {
-        let row = glance.row(&self.rt, self.alloc, source, &mut workspace)?;
-        let reply = reply_in(&row, target);
+        let crew = Crew::new(&self.rt, CHUNK);
+        let row = glance
+            .asker()
+            .row(self.alloc, source, &crew, &mut workspace)?;
+        let reply = distance_in(&row, target);
         let mut rows = self.rows.lock(&self.rt);
         rows.keep(glance, source, row);
         rows.leave(workspace);
@@ -183,7 +250,9 @@ impl<N: Naming, D: Disk + Drop, G: Gate + Drop, R: Threads + Wait + Copy> Handle
         requires target { IsNode glance.now.view.network target }
         ensures { IfOk result (IsDistance glance.now.view.network source target) }
     {
-        let reply = glance.distance(&self.rt, self.alloc, source, target, &mut workspace)?;
+        let crew = Crew::new(&self.rt, CHUNK);
+        let asker = glance.asker();
+        let reply = asker.distance(self.alloc, source, target, &crew, &mut workspace)?;
         let mut rows = self.rows.lock(&self.rt);
         rows.leave(workspace);
         Ok(reply)

@@ -1,16 +1,19 @@
 // What lies under the lock of a desk: the office, until it is taken out where the desk is closed. What is called then is refused (61), and
 // nobody waits.
-ghost use Rattle.std.specs.Prelude.{◌≡◌, ◌≤◌, Err, None, Some, false, true, IfOk, IfErr, IsOk, not, option_map, ◌&&◌};
+ghost use Rattle.std.specs.Prelude.{◌≡◌, ◌≤◌, ◌+◌, length, Err, None, Some, false, true, IfOk, IfErr, IsOk, IsSome, OnOk, not, option_map, ◌&&◌};
+ghost use mathlib.Core.List.{IsPrefix};
 ghost use Rattle.std.specs.Option.{ForSome};
 ghost use Rattle.roadnet.specs.declared.refusals.Refusal.TheVariants.{Closed as closed};
 ghost use Rattle.desk.specs.declared.locked.FlusherTurn.TheVariants.{End as flusher_end};
 ghost use Rattle.desk.specs.declared.locked.BuilderTurn.TheVariants.{End as builder_end};
 ghost use Rattle.desk.specs.Readings.{IsNoReader};
-ghost use Rattle.desk.specs.Turns.{flusher_turn_of, builder_turn_of, is_unsettled, is_unseen, IsUnserved, IsUntaken};
+ghost use Rattle.desk.specs.Turns.{flusher_turn_of, builder_turn_of, is_unsettled, is_unseen, IsRefusedOn, IsUnserved};
 
 use crate::locked::{BuilderTurn, FlusherTurn, Locked};
+use crate::refused::Refused;
 use disk::Disk;
-use office::{Naming, Office, Receipt, Ticket};
+use history::Front;
+use office::{Basis, Naming, Office, Receipt, Ticket};
 use published::Reader;
 use roadnet::{Group, Refusal};
 
@@ -155,14 +158,30 @@ impl<N: Naming, D: Disk> Held<Office<N, D>> {
     }
 
     /// Takes a group, unless the desk is halted or closed.
-    pub(crate) fn submit_group(&mut self, group: Group) -> Result<Ticket, Refusal>
+    pub(crate) fn offer(&mut self, group: Group) -> Result<Ticket, Refused>
         ensures origin { IfOk result (λ ticket. ticket.origin ≡ N.origin) }
         ensures group { IfOk result (λ ticket. ticket.ticket.group ≡ group) }
-        ensures causes { IfErr result (IsUntaken N.origin group) }
+        ensures refused { IfErr result (λ refused. IsRefusedOn N.origin group refused.refusal refused.basis) }
+        ensures taken { OnOk result (IsSome self.old.locked) }
+    {
+        match &mut self.locked {
+            Some(locked) => locked.offer(group),
+            None => Err(Refused::closed()),
+        }
+    }
+
+    /// A beginning of the desk's history that has the groups of a basis, as acknowledged, where they are durable. Refused, besides, is an office that was
+    /// taken out (61).
+    pub(crate) fn settle_basis(&mut self, basis: &Basis) -> Result<Front, Refusal>
+        requires { basis.now.origin ≡ N.origin }
+        ensures origin { IfOk result (λ front. front.origin ≡ N.origin) }
+        ensures begins { IfOk result (λ front. IsPrefix basis.now.groups front.groups) }
+        ensures acknowledged { IfOk result (λ front. N.origin.version + length basis.now.groups ≤ front.acknowledged) }
+        ensures causes { IfErr result IsUnserved }
         ensures taken { self.old.locked ≡ None → result ≡ Err closed }
     {
         match &mut self.locked {
-            Some(locked) => locked.submit_group(group),
+            Some(locked) => locked.settle_basis(basis),
             None => Err(Refusal::Closed),
         }
     }

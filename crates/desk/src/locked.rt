@@ -1,12 +1,15 @@
 // What the lock of a desk protects, and what its threads and callers are to do, by its numbers.
-ghost use Rattle.std.specs.Prelude.{◌≡◌, ◌≢◌, ◌≤◌, ◌<◌, ◌*◌, Err, false, true, IfOk, IfErr, IsOk, OnOk};
+ghost use Rattle.std.specs.Prelude.{◌≡◌, ◌≢◌, ◌≤◌, ◌<◌, ◌+◌, length, false, true, IfOk, IfErr, IsOk, IsSome, OnOk};
+ghost use mathlib.Core.List.{IsPrefix};
 ghost use Rattle.roadnet.specs.declared.refusals.Refusal.TheVariants.{Closed as closed, Broken as broken};
 ghost use Rattle.machine.specs.Laws.{IsAt};
 ghost use Rattle.office.specs.Offices.{RunsFrom};
-ghost use Rattle.desk.specs.Turns.{is_checkpoint_due, flusher_turn_of, builder_turn_of, is_unsettled, is_lost, is_unseen, IsUnserved, IsUntaken, WereShown};
+ghost use Rattle.desk.specs.Turns.{is_checkpoint_due, flusher_turn_of, builder_turn_of, is_unsettled, is_lost, is_unseen, IsRefusedOn, IsUnserved, WereShown};
 
+use crate::refused::Refused;
 use disk::Disk;
-use office::{Naming, Office, Receipt, Ticket};
+use history::Front;
+use office::{Basis, Naming, Office, Receipt, Ticket};
 use published::Shown;
 use roadnet::{Group, Refusal};
 
@@ -136,17 +139,53 @@ impl<N: Naming, D: Disk> Locked<Office<N, D>> {
     }
 
     /// Takes a group, unless the desk is halted.
-    pub(crate) fn submit_group(&mut self, group: Group) -> Result<Ticket, Refusal>
+    pub(crate) fn offer(&mut self, group: Group) -> Result<Ticket, Refused>
         ensures origin { IfOk result (λ ticket. ticket.origin ≡ N.origin) }
         ensures group { IfOk result (λ ticket. ticket.ticket.group ≡ group) }
-        ensures halted { self.old.halted ≡ true → result ≡ Err closed }
-        ensures causes { IfErr result (IsUntaken N.origin group) }
+        ensures halted { OnOk result (self.old.halted ≡ false) }
+        ensures refused { IfErr result (λ refused. IsRefusedOn N.origin group refused.refusal refused.basis) }
+        ensures basis { IfErr result (λ refused. self.old.halted ≡ false → IsSome refused.basis) }
     {
         if self.halted {
-            return Err(Refusal::Closed);
+            return Err(Refused::closed());
         }
         self.runs();
-        self.office.submit_group(group)
+        match self.office.submit_group(group) {
+            Ok(ticket) => Ok(ticket),
+            Err(refusal) => Err(Refused {
+                refusal,
+                basis: Some(self.office.basis()),
+            }),
+        }
+    }
+
+    /// Why a number that is waited for doesn't become durable.
+    fn unserved(&self) -> Refusal
+        ensures { IsUnserved result }
+    {
+        if self.office.broken() {
+            Refusal::Broken
+        } else {
+            Refusal::Closed
+        }
+    }
+
+    /// A beginning of the desk's history that has the groups of a basis, as acknowledged, where they are durable.
+    ///
+    /// Refused is a basis that isn't: with 45 where the store is broken, else with 61.
+    pub(crate) fn settle_basis(&mut self, basis: &Basis) -> Result<Front, Refusal>
+        requires { basis.now.origin ≡ N.origin }
+        ensures origin { IfOk result (λ front. front.origin ≡ N.origin) }
+        ensures begins { IfOk result (λ front. IsPrefix basis.now.groups front.groups) }
+        ensures acknowledged { IfOk result (λ front. N.origin.version + length basis.now.groups ≤ front.acknowledged) }
+        ensures refused { IfErr result (λ _. self.old.office.machine.durable < N.origin.version + length basis.now.groups) }
+        ensures causes { IfErr result IsUnserved }
+        ensures same { self.new.office ≡ self.old.office }
+    {
+        match self.office.acknowledge(basis) {
+            Some(front) => Ok(front),
+            None => Err(self.unserved()),
+        }
     }
 
     /// A receipt for the ticket, where its group is durable.

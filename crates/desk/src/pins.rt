@@ -42,14 +42,14 @@ impl<'a, N: Naming> Pinned<'a, N> {
     pub fn from_landmark(&self, landmark: u64, target: u64) -> Reply
         ensures { IsRight self.now.reader.now.view.network (From landmark target) result }
     {
-        self.reader.sight().from_landmark(landmark, target)
+        self.reader.sight().view().from_landmark(landmark, target)
     }
 
     /// The reply to `Lower`, by the rows of all landmarks. It takes no memory.
     pub fn lower(&self, source: u64, target: u64) -> Reply
         ensures { IsRight self.now.reader.now.view.network (Lower source target) result }
     {
-        self.reader.sight().lower(source, target)
+        self.reader.sight().view().lower(source, target)
     }
 
     /// The reply to `Dist`, by a row that the reader keeps or a new one. The one error is want of memory for a new row; a refused query

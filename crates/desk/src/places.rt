@@ -1,29 +1,23 @@
 ghost use Rattle.std.specs.Prelude.{◌≡◌, ◌⊎◌, OnErr, IfOk, IfErr};
 ghost use mathlib.Core.List.{IsPrefix};
-ghost use Rattle.roadnet.specs.Net.{IsNetwork, IsNode};
-ghost use Rattle.roadnet.specs.Walks.{RowOf};
+ghost use Rattle.roadnet.specs.Net.{IsNetwork};
 ghost use Rattle.rows.specs.declared.queries.Query.TheVariants.{From, Lower};
-ghost use Rattle.rows.specs.Replies.{are_nodes, IsDistance, IsRight};
+ghost use Rattle.rows.specs.Replies.{are_nodes, IsRight};
 ghost use Rattle.published.specs.Showing.{IsUnseen};
 ghost use Rattle.desk.specs.Readings.{IsViewAfter};
 
-use deltastep::{Distances, RowError, Workspace, row_in};
 use history::Front;
 use office::Naming;
 use published::Shown;
-use relax::{CHUNK, Crew};
-use roadnet::{Network, OutOfMemory, Refusal};
-use rows::{Reply, RowCache, View};
-use std::alloc::Global;
+use roadnet::{Network, Refusal};
+use rows::{Asker, Reply, View};
 use std::marker::{Model, PhantomData};
 use std::sync::Arc;
-use std::thread::Threads;
 
 /// A place among the readers of a desk, for who looks now and then: between two looks it holds no view back, and keeps no row. Contracts see it as
 /// the beginning of the desk's history that it has seen or was told of. It takes no lock and waits for nobody.
 #[derive(Drop)]
 pub struct Place<N: Naming> {
-    alloc: Global,
     reader: published::Reader,
     of: PhantomData<N>,
 }
@@ -41,12 +35,11 @@ impl<N: Naming> Model for Place<N> {
 
 impl<N: Naming> Place<N> {
     /// A place that has seen as much as this reader.
-    pub(crate) fn new(alloc: Global, reader: published::Reader) -> Place<N>
+    pub(crate) fn new(reader: published::Reader) -> Place<N>
         requires { reader.origin ≡ N.origin }
         ensures { result ≡ reader }
     {
         Place {
-            alloc,
             reader,
             of: PhantomData,
         }
@@ -71,7 +64,6 @@ impl<N: Naming> Place<N> {
     {
         let view = self.reader.look()?;
         Ok(Glance {
-            alloc: self.alloc,
             view,
             groups: self.reader.known().again(),
             of: PhantomData,
@@ -92,7 +84,6 @@ impl<N: Naming> Place<N> {
 /// What is seen at one moment: the view that is shown, with the groups after which it stands. It holds the view as long as it is there.
 #[derive(Drop)]
 pub struct Glance<N: Naming> {
-    alloc: Global,
     view: Arc<View>,
     groups: Front,
     of: PhantomData<N>,
@@ -141,29 +132,25 @@ impl<N: Naming> Glance<N> {
         self.view.network()
     }
 
-    /// The view.
-    pub(crate) fn view(&self) -> &View
-        ensures { result.now ≡ self.now.view }
+    /// Whoever asks the view. It takes no memory.
+    pub(crate) fn asker(&self) -> Asker<'_>
+        ensures { result ≡ self.now.view }
     {
-        &self.view
+        self.view.asker()
     }
 
     /// The reply to `From`, by the landmark's row. It takes no memory.
     pub fn from_landmark(&self, landmark: u64, target: u64) -> Reply
         ensures { IsRight self.now.view.network (From landmark target) result }
     {
-        let mut none = RowCache::new(self.alloc, 1);
-        let pinned = self.view.pinned(&mut none);
-        pinned.from_landmark(landmark, target)
+        self.view.from_landmark(landmark, target)
     }
 
     /// The reply to `Lower`, by the rows of all landmarks. It takes no memory.
     pub fn lower(&self, source: u64, target: u64) -> Reply
         ensures { IsRight self.now.view.network (Lower source target) result }
     {
-        let mut none = RowCache::new(self.alloc, 1);
-        let pinned = self.view.pinned(&mut none);
-        pinned.lower(source, target)
+        self.view.lower(source, target)
     }
 
     /// Whether both are nodes of the view's network.
@@ -173,49 +160,5 @@ impl<N: Naming> Glance<N> {
     {
         let network = self.view.network();
         network.has_node(source) && network.has_node(target)
-    }
-
-    /// A new row of the view, of 4 or 8 bytes a node. The search takes up what an earlier one left in the workspace, and leaves its own memory there. The one
-    /// error is want of memory.
-    pub(crate) fn row<R: Threads>(
-        &self,
-        rt: &R,
-        alloc: Global,
-        source: u32,
-        workspace: &mut Workspace,
-    ) -> Result<Distances, OutOfMemory>
-        requires { IsNode self.now.view.network source }
-        ensures { IfOk result (RowOf self.now.view.network source) }
-    {
-        let crew = Crew::new(rt, CHUNK);
-        match row_in(alloc, self.view.snapshot(), source, &crew, workspace) {
-            Ok(distances) => Ok(distances),
-            Err(RowError::OutOfMemory) => Err(OutOfMemory),
-        }
-    }
-
-    /// The reply to `Dist` of two nodes, by a search that ends at the target, led by the rows of the landmarks, where there are some. The search takes up
-    /// what an earlier one left in the workspace, and leaves its own memory there. The one error is want of memory.
-    pub(crate) fn distance<R: Threads>(
-        &self,
-        rt: &R,
-        alloc: Global,
-        source: u32,
-        target: u32,
-        workspace: &mut Workspace,
-    ) -> Result<Reply, OutOfMemory>
-        requires source { IsNode self.now.view.network source }
-        requires target { IsNode self.now.view.network target }
-        ensures { IfOk result (IsDistance self.now.view.network source target) }
-    {
-        let crew = Crew::new(rt, CHUNK);
-        match self
-            .view
-            .distance_in(alloc, source, target, &crew, workspace)
-        {
-            Ok(Some(length)) => Ok(Reply::Length(length)),
-            Ok(None) => Ok(Reply::NoWalk),
-            Err(RowError::OutOfMemory) => Err(OutOfMemory),
-        }
     }
 }

@@ -11,7 +11,7 @@ use history::Front;
 use office::Naming;
 use published::Shown;
 use roadnet::{OutOfMemory, Refusal};
-use rows::{Reply, Sight};
+use rows::{Query, Reply, Sight};
 use std::alloc::Global;
 use std::marker::{Model, PhantomData};
 use std::thread::Threads;
@@ -131,7 +131,8 @@ impl<N: Naming> Reader<N> {
         ensures refused { IsSome (refusal_of self.old.view.network (Dist source target)) → IsOk result }
         ensures same { self.new ≡ self.old }
     {
-        self.sight.dist(rt, alloc, source, target)
+        self.sight
+            .answer(rt, alloc, &Query::Dist { source, target })
     }
 
     /// The replies to `Dist` for pairs in the view that it looked at last.

@@ -16,13 +16,13 @@ pub(crate) struct Before<'a> {
     pub(crate) snapshot: &'a Snapshot,
     /// The nodes of which some leg is not the same in the other snapshot.
     pub(crate) changed: Vec<u32>,
-    /// All arcs the other way round.
-    pub(crate) back: Option<&'a Snapshot>,
+    /// For each leg of the other snapshot one from its head to its tail.
+    pub(crate) back: &'a Snapshot,
 }
 
 impl Before<'_> {
-    /// The older view, beside what this snapshot has changed of it, and the way back along its legs, where that is given. It is nothing where none is given, where its network has other nodes, and
-    /// where no memory is had for the list of those that changed.
+    /// The older view, beside what this snapshot has changed of it, and the way back along the snapshot's legs. It is nothing where one of the two is not
+    /// given, where the older network has other nodes, and where no memory is had for the list of those that changed: then all rows are made anew.
     pub(crate) fn of<'a>(
         alloc: Global,
         old: Option<&'a View>,
@@ -32,7 +32,7 @@ impl Before<'_> {
         requires { ForSome back (λ back. LeadBackTo snapshot.now back.now) }
         ensures { IfSome result (IsBefore snapshot.now) }
     {
-        let view = old?;
+        let (view, back) = (old?, back?);
         let before = view.snapshot();
         if before.nodes() != snapshot.nodes() {
             return None;

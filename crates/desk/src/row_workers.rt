@@ -13,7 +13,7 @@ use crate::gates::Gate;
 use crate::last::{Unbuilt, is_passed};
 use crate::leaves::Leave;
 use crate::repairs::Before;
-use deltastep::{Distances, RowError, Workspace, row_after_in, row_after_near, row_in};
+use deltastep::{Distances, RowError, Workspace, row_after, row_in};
 use relax::{CHUNK, Crew, Team};
 use roadnet::Network;
 use rows::Row;
@@ -38,7 +38,7 @@ pub(crate) struct RowJob<'a, G> {
 }
 
 impl<G> RowJob<'_, G> {
-    /// The least distances from a landmark: out of its row in the older view where that has one, else by a search of their own. They use the
+    /// The least distances from a landmark: out of its row in the older view, where one is given and has it, else by a search of their own. They use the
     /// workspace as `row_in` does.
     fn distances_of<T: Team>(
         &self,
@@ -56,16 +56,17 @@ impl<G> RowJob<'_, G> {
         let Some(row) = before.view.find_row(landmark) else {
             return row_in(self.alloc, self.snapshot, landmark, team, workspace);
         };
-        let (snapshot, older) = (self.snapshot, before.snapshot);
-        let (distances, changed) = (&row.distances, &before.changed);
-        match before.back {
-            Some(back) => row_after_near(
-                self.alloc, snapshot, landmark, older, distances, changed, back, team, workspace,
-            ),
-            None => row_after_in(
-                self.alloc, snapshot, landmark, older, distances, changed, team, workspace,
-            ),
-        }
+        row_after(
+            self.alloc,
+            self.snapshot,
+            landmark,
+            before.snapshot,
+            &row.distances,
+            &before.changed,
+            before.back,
+            team,
+            workspace,
+        )
     }
 
     /// The row of the landmark for which the gate gave leave. It takes up what an earlier one left in the workspace, and leaves its own memory

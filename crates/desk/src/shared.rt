@@ -24,6 +24,9 @@ pub(crate) struct Shared<O, G> {
     pub(crate) halting: Condvar,
     /// The last version, once no more becomes durable. Row workers ask it without the lock.
     pub(crate) last: AtomicU64,
+    /// How many clients there are, and how many callers wait.
+    pub(crate) clients: AtomicU64,
+    pub(crate) waiting: AtomicU64,
     pub(crate) gate: G,
 }
 
@@ -74,6 +77,8 @@ impl<O, G> Shared<O, G> {
             published: Condvar::new(),
             halting: Condvar::new(),
             last: AtomicU64::new(UNKNOWN),
+            clients: AtomicU64::new(0),
+            waiting: AtomicU64::new(0),
             gate,
         }
     }

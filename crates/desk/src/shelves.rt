@@ -1,19 +1,20 @@
 // The rows that are kept for all who ask a desk.
-ghost use Rattle.std.specs.Prelude.{◌≡◌, ◌<◌, ℕ, [], length, true, None, IfOk, IfSome};
-ghost use Rattle.roadnet.specs.Net.{Net, IsNode};
+ghost use Rattle.std.specs.Prelude.{◌≡◌, ◌<◌, [], length, true, None, IfOk, IfSome};
+ghost use Rattle.roadnet.specs.Reversal.{reversed};
 ghost use Rattle.roadnet.specs.Walks.{RowOf};
-ghost use Rattle.rows.specs.Replies.{IsDistance};
+ghost use Rattle.snapshot.specs.Groups.{IsSnapshotOf};
 ghost use Rattle.desk.specs.Readings.{IsViewAfter};
-ghost use Rattle.desk.specs.Shelves.{most_rows, is_latest, IsOfShelf, IsAfter, IsRowAt, HasRow};
+ghost use Rattle.desk.specs.Shelves.{most_rows, is_latest, IsOfShelf, IsAfter, IsAskedAt, IsRowAt, HasRow};
 
 use crate::places::Glance;
 use deltastep::{Distances, Workspace};
 use history::Front;
 use office::Naming;
 use roadnet::OutOfMemory;
-use rows::Reply;
+use snapshot::Snapshot;
 use std::alloc::Global;
 use std::marker::{Model, PhantomData};
+use std::sync::Arc;
 
 /// How many rows are kept.
 const MOST_ROWS: usize = 64;
@@ -40,16 +41,6 @@ pub(crate) struct Missed {
     pub(crate) again: bool,
 }
 
-/// What a row tells of the walks from its source to a node.
-pub(crate) fn reply_in(row: &Distances, target: u64) -> Reply
-    ensures { (net : Net) (source : ℕ) → IsNode net target → RowOf net source row.now → IsDistance net source target result }
-{
-    match row.get(target) {
-        Some(length) => Reply::Length(length),
-        None => Reply::NoWalk,
-    }
-}
-
 /// Where the row of this source stands, if it is among these.
 fn place_of(rows: &[KeptRow], source: u32) -> Option<usize>
     ensures { IfSome result (λ place. IsRowAt source rows.now place) }
@@ -64,7 +55,7 @@ fn place_of(rows: &[KeptRow], source: u32) -> Option<usize>
 
 /// Where this version and source stand, if they are among these.
 fn position_of(asked: &[(u64, u32)], version: u64, source: u32) -> Option<usize>
-    ensures { IfSome result (λ place. place < length asked.now) }
+    ensures { IfSome result (IsAskedAt version source asked.now) }
 {
     for place in 0..asked.len() {
         if asked[place] == (version, source) {
@@ -75,8 +66,8 @@ fn position_of(asked: &[(u64, u32)], version: u64, source: u32) -> Option<usize>
 }
 
 /// Rows that queries made, all of one view: up to 64, of 4 or 8 bytes a node, for all who ask. Where it is full, the row that was not used for the
-/// longest time gives way. It has rows of the latest view alone that somebody asked. Beside them it keeps what up to four searches left, and up to 64
-/// sources that were asked once.
+/// longest time gives way. It has rows of the latest view alone that somebody asked, and the arcs of that view turned round, once somebody asked over them.
+/// Beside them it keeps what up to four searches left, and up to 64 sources that were asked once.
 ///
 /// Contracts see it as the groups after which the view of the rows stands, and the rows.
 #[derive(Drop)]
@@ -85,6 +76,8 @@ pub(crate) struct Shelf<N: Naming> {
     groups: Option<Front>,
     /// The one that was used last stands last.
     rows: Vec<KeptRow>,
+    /// The open arcs of the view the other way round, grouped.
+    turned: Option<Arc<Snapshot>>,
     workspaces: Vec<Workspace>,
     /// Versions and sources that were asked, and had no row: the last ones.
     asked: Vec<(u64, u32)>,
@@ -93,14 +86,19 @@ pub(crate) struct Shelf<N: Naming> {
 
 impl<N: Naming> Model for Shelf<N> {
     ghost use Rattle.std.specs.Prelude.{◌≤◌};
+    ghost use Rattle.std.specs.Option.{ForSome};
     ghost use Rattle.std.specs.Vec.{vec_capacity, vec_len};
-    ghost use Rattle.desk.specs.Shelves.{most_rows, IsShelfOf, Shelved};
+    ghost use Rattle.desk.specs.Shelves.{most_rows, IsShelfOf, IsTurnedOf, Shelved};
 
     ghost Value = { Shelved };
 
     ghost view = { λ s. record { groups = s.groups; rows = s.rows.items } };
 
-    ghost invariant = { λ s. IsShelfOf N.origin s.groups s.rows.items × (most_rows ≤ vec_capacity s.rows) × (vec_len s.rows ≤ most_rows) };
+    ghost invariant = { λ s.
+        IsShelfOf N.origin s.groups s.rows.items
+        × (most_rows ≤ vec_capacity s.rows)
+        × (vec_len s.rows ≤ most_rows)
+        × ForSome s.turned (λ back. IsTurnedOf N.origin s.groups back.value) };
 }
 
 impl<N: Naming> Shelf<N> {
@@ -118,13 +116,14 @@ impl<N: Naming> Shelf<N> {
         Ok(Shelf {
             groups: None,
             rows,
+            turned: None,
             workspaces,
             asked,
             of: PhantomData,
         })
     }
 
-    /// Makes it a shelf of this view, unless it has rows of a later one, and tells whether it is. Rows of an earlier view are dropped.
+    /// Makes it a shelf of this view, unless it has rows of a later one, and tells whether it is. What it has of an earlier view is dropped.
     fn turn_to(&mut self, glance: &Glance<N>) -> bool
         ensures latest { result ≡ is_latest self.old.groups glance.now.known.groups }
         ensures after { result ≡ true → IsAfter self.new.groups glance.now.known.groups }
@@ -137,26 +136,13 @@ impl<N: Naming> Shelf<N> {
             }
         }
         self.rows.clear();
+        self.turned = None;
         self.groups = Some(groups.again());
         true
     }
 
-    /// What the kept row of this source tells of the walks to a node, if it is kept: it then counts as the one that was used last.
-    pub(crate) fn find(&mut self, glance: &Glance<N>, source: u32, target: u64) -> Option<Reply>
-        ensures { IfSome result (λ reply. IsNode glance.now.view.network target → IsDistance glance.now.view.network source target reply) }
-    {
-        if !self.turn_to(glance) {
-            return None;
-        }
-        let place = place_of(&self.rows, source)?;
-        let kept = self.rows.remove(place);
-        let reply = reply_in(&kept.distances, target);
-        self.rows.push_reserved(kept);
-        Some(reply)
-    }
-
-    /// Takes out the row of this source in this view, if it is kept: who took it may put it back.
-    pub(crate) fn take(&mut self, glance: &Glance<N>, source: u32) -> Option<Distances>
+    /// A share of the row of this source in this view, if it is kept: it then counts as the one that was used last.
+    pub(crate) fn row(&mut self, glance: &Glance<N>, source: u32) -> Option<Distances>
         ensures { IfSome result (RowOf glance.now.view.network source) }
     {
         if !self.turn_to(glance) {
@@ -164,7 +150,37 @@ impl<N: Naming> Shelf<N> {
         }
         let place = place_of(&self.rows, source)?;
         let kept = self.rows.remove(place);
-        Some(kept.distances)
+        let shared = kept.distances.share();
+        self.rows.push_reserved(kept);
+        match shared {
+            Ok(row) => Some(row),
+            Err(_) => None,
+        }
+    }
+
+    /// A share of the arcs of this view turned round, if they are kept.
+    pub(crate) fn turned(&mut self, glance: &Glance<N>) -> Option<Arc<Snapshot>>
+        ensures { IfSome result (λ back. IsSnapshotOf (reversed glance.now.view.network) back.value) }
+    {
+        if !self.turn_to(glance) {
+            return None;
+        }
+        let Some(back) = &self.turned else {
+            return None;
+        };
+        let Ok(share) = Arc::try_clone(back) else {
+            return None;
+        };
+        Some(share)
+    }
+
+    /// Keeps the arcs of this view turned round, unless it has rows of a later one.
+    pub(crate) fn keep_turned(&mut self, glance: &Glance<N>, back: Arc<Snapshot>)
+        requires { IsSnapshotOf (reversed glance.now.view.network) back.value }
+    {
+        if self.turn_to(glance) {
+            self.turned = Some(back);
+        }
     }
 
     /// Has a place for one more row: where it is full, the first one gives way.

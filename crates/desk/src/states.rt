@@ -11,6 +11,8 @@ use machine::MOST_OF_LIFE;
 use office::{Naming, Office};
 use roadnet::Refusal;
 use std::sync::Wait;
+use std::sync::atomic::Ordering;
+use std::time::Clock;
 
 /// Whether a thread of a desk goes on.
 #[derive(Clone, Copy, Debug, PartialEq, Eq)]
@@ -45,6 +47,26 @@ pub struct DeskState {
     pub left: u64,
     pub flusher: Working,
     pub builder: Working,
+    /// How many arcs the network of the shown version has, and how many it has room for.
+    pub arcs: u64,
+    pub room: u64,
+    /// How many clients have come, and not gone.
+    pub clients: u64,
+    /// How many pairs of pipes the desk is served at.
+    pub pairs: u64,
+    /// How many callers wait until a group is durable, or a version is shown.
+    pub waiting: u64,
+    /// For how many seconds the desk has served; 0 where the clock can't be read.
+    pub uptime: u64,
+}
+
+/// What is told of a desk beside its machine and threads.
+#[derive(Clone, Copy)]
+struct Around {
+    clients: u64,
+    pairs: u64,
+    waiting: u64,
+    uptime: u64,
 }
 
 /// Whether a thread goes on or has ended.
@@ -66,7 +88,7 @@ impl<N: Naming, D: Disk> Locked<Office<N, D>> {
     }
 
     /// How the desk stands.
-    fn state(&self) -> DeskState
+    fn state(&self, around: Around) -> DeskState
         ensures { StoodSo N.origin result }
     {
         DeskState {
@@ -81,19 +103,42 @@ impl<N: Naming, D: Disk> Locked<Office<N, D>> {
             left: MOST_OF_LIFE as u64 - self.office.of_life(),
             flusher: self.flusher_state(),
             builder: working_of(self.builder_ended),
+            arcs: self.office.network().arcs().len() as u64,
+            room: u64::from(self.office.network().room()),
+            clients: around.clients,
+            pairs: around.pairs,
+            waiting: around.waiting,
+            uptime: around.uptime,
         }
     }
 }
 
-impl<N: Naming, D: Disk + Drop, G: Gate + Drop, R: Wait + Copy> Handle<N, D, G, R> {
-    /// How the desk stands: all numbers are taken under its lock, at one moment. It takes no memory.
+impl<N: Naming, D: Disk + Drop, G: Gate + Drop, R: Wait + Clock + Copy> Handle<N, D, G, R> {
+    /// For how many seconds the desk has served.
+    fn uptime(&self) -> u64 {
+        let Some(since) = self.since else {
+            return 0;
+        };
+        match since.elapsed(&self.rt) {
+            Ok(served) => served.as_secs(),
+            Err(_) => 0,
+        }
+    }
+
+    /// How the desk stands: the numbers of its machine are taken under its lock, at one moment. It takes no memory.
     ///
     /// Refused is a desk that is closed (61).
     pub fn state(&self) -> Result<DeskState, Refusal>
         ensures stood { IfOk result (StoodSo N.origin) }
         ensures causes { IfErr result (λ refusal. refusal ≡ closed) }
     {
+        let around = Around {
+            clients: self.shared.clients.load(Ordering::SeqCst),
+            pairs: self.pairs,
+            waiting: self.shared.waiting.load(Ordering::SeqCst),
+            uptime: self.uptime(),
+        };
         let guard = self.shared.held.lock(&self.rt);
-        Ok(guard.there()?.state())
+        Ok(guard.there()?.state(around))
     }
 }

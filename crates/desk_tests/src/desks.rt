@@ -15,7 +15,7 @@ use std::marker::Brand;
 use std::sync::Wait;
 use std::test::Fail;
 use std::thread::Threads;
-use std::time::Clock;
+use std::time::{Clock, Duration};
 use store::{Store, create};
 
 pub(crate) const CLOSE: Command = Command::Close { arc: 7 };
@@ -41,11 +41,14 @@ pub(crate) fn store_of_six(
 
 /// So many row workers.
 pub(crate) fn setup(workers: u32) -> Setup
-    ensures { result ≡ record { delta = None; workers = workers } }
+    ensures delta { result.delta ≡ None }
+    ensures workers { result.workers ≡ workers }
 {
     Setup {
         delta: None,
         workers,
+        patience: Duration::from_secs(30),
+        pairs: 0,
     }
 }
 

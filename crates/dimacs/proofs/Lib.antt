@@ -17,9 +17,9 @@ mod BeyondTexts
 mod Told
 mod Far
 mod Calls
-mod Networks
 pub mod Fitting
 pub mod TextEnds
+mod Networks
 pub mod NodeRows
 mod NodeItems
 mod TextNodes

@@ -6,7 +6,7 @@ use Rattle.dimacs.specs.declared.feed.Ended.{Ended}
 use Rattle.dimacs.specs.Lines.{is_line_feed, rows}
 use Rattle.dimacs.specs.Faults.{Row, Judge, first_fault}
 use Rattle.dimacs.specs.Joint.{has_run, taken_of, left_of}
-use Rattle.dimacs.specs.Taking.{ByCode, ByMemory}
+use Rattle.dimacs.specs.Taking.{ByCode}
 
 -- these lines were taken, in none of which there is a fault
 pub record TakenAll {S : Type 0} (judge : Judge) (has_taken : List Row → S → Type 0) (lines : List Row) (ended : Ended S) : Type 0 where
@@ -31,11 +31,6 @@ pub record BreaksOff (judge : Judge) (all lines : List Row) (line : ℕ) : Type 
   pub within : line ≤ length all
   pub next : line ≤ length lines + 1
   pub clean : first_fault judge [] (take (line - 1) lines) ≡ None
-
--- the lines were taken, or their first fault is told; or memory ran out in a line, up to and with which there is no fault
-abbrev pub ParsesLines : {S : Type 0} → Judge → (List Row → S → Type 0) → List Row → Result (Ended S) Fault → Type 0
-ParsesLines judge has_taken lines (Ok ended) = TakenAll judge has_taken lines ended
-ParsesLines judge has_taken lines (Err fault) = ByMemory fault.code (first_fault judge [] lines ≡ Some fault) (RunsOut judge lines fault.line)
 
 -- the reader failed in this line, which its bytes up to there have as many line feeds before, and no line before it has a fault
 pub record FailsIn (judge : Judge) (text : List ℕ) (lines : List Row) (left : Option (List ℕ)) (line : ℕ) : Type 0 where

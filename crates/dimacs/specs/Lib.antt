@@ -16,6 +16,7 @@ pub mod NumeralEnds
 pub mod Taking
 pub mod Ends
 pub mod Counts
+pub mod Calling
 pub mod Fits
 pub mod Gr
 pub mod Progress

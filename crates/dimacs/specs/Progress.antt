@@ -3,7 +3,6 @@ use Rattle.std.specs.Prelude.{◌≡◌, ◌≢◌, ◌<◌, ◌⊎◌, ℕ, Boo
 use Rattle.std.specs.List.{filter_map}
 use Rattle.std.specs.Io.BufRead.{strip_last}
 use Rattle.dimacs.specs.declared.fault.Code.{Code}
-use Rattle.dimacs.specs.declared.fault.Fault.{Fault}
 use Rattle.dimacs.specs.declared.problem.Problem.{Problem}
 use Rattle.dimacs.specs.declared.gr_lines.GrLines.{GrLines}
 use Rattle.dimacs.specs.declared.feed.Feed.{Feed}
@@ -32,11 +31,6 @@ pub record HasTaken (earlier : List Row) (r : GrLines) : Type 0 where
 abbrev pub Ends : List Row → Result Net Code → Type 0
 Ends lines (Ok net) = (end_code gr lines ≡ None) × (net ≡ network_of lines)
 Ends lines (Err code) = ByMemory code (end_code gr lines ≡ Some code) ⊥
-
--- the same for the lines of a text or of its front, with the line that a fault names
-abbrev pub AtEnd : List Row → Bool → Result (Net × Bool) Fault → Type 0
-AtEnd lines at_run (Ok found) = (end_code gr lines ≡ None) × (found.0 ≡ network_of lines) × (found.1 ≡ at_run)
-AtEnd lines at_run (Err fault) = ByMemory fault.code (end_code gr lines ≡ Some fault.code) ⊥ × (fault.line ≡ length lines)
 
 -- lines that begin with a front say the same as those that begin with what is kept of it, and something is kept of a line that has begun
 pub record SameLines (front kept : List ℕ) : Type 0 where

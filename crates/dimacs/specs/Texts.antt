@@ -1,11 +1,12 @@
 -- Kinds of text, and what reading a text of a kind answers.
-use Rattle.std.specs.Prelude.{◌≡◌, ℕ, List, [], length, Option, None, Some, Result, Ok, Err}
+use Rattle.std.specs.Prelude.{◌≡◌, ℕ, List, [], length, Option, None, Some, Result, Ok, Err, ⊤}
 use Rattle.dimacs.specs.declared.fault.Code.{Code}
 use Rattle.dimacs.specs.declared.fault.Fault.{Fault}
+use Rattle.dimacs.specs.declared.feed.Ended.{Ended}
 use Rattle.dimacs.specs.Lines.{rows}
-use Rattle.dimacs.specs.Faults.{Row, Judge, fault_of}
+use Rattle.dimacs.specs.Faults.{Row, Judge, first_fault, fault_of}
 use Rattle.dimacs.specs.Taking.{ByCode, ByMemory}
-use Rattle.dimacs.specs.Ends.{RunsOut, BreaksOff, FailsIn}
+use Rattle.dimacs.specs.Ends.{TakenAll, RunsOut, BreaksOff, FailsIn}
 
 -- the code of a line after the lines before it, the code of the end after all lines, and what lines without a fault say
 pub record TextKind (X : Type 0) : Type 0 where
@@ -29,27 +30,44 @@ IsSaid kind x = (lines : List Row) × (content_by kind lines ≡ Ok x)
 abbrev pub FaultOfLines : {X : Type 0} → TextKind X → List ℕ → List Row → Option (List ℕ) → Fault → Type 0
 FaultOfLines kind text lines left fault = ByCode fault.code (content_by kind lines ≡ Err fault) (FailsIn kind.judge text lines left fault.line) (BreaksOff kind.judge (rows text) lines fault.line)
 
--- where a text comes from: it is in memory, or a reader has given it, which now has this left
+-- where a text comes from: it is in memory, or a reader gives it, which now has this left
 pub data Source : Type 0 where
   InMemory : Source
   OfReader : Option (List ℕ) → Source
 
--- the text has its fault told; or memory ran out in a line before which there is none, and which has none itself if the text is in
--- memory; and no reader failed but one that gave the text
+-- none of this text is read yet; of one in memory nothing is known
+abbrev pub IsUnread : List ℕ → Source → Type 0
+IsUnread text InMemory = ⊤
+IsUnread text (OfReader left) = left ≡ Some text
+
+-- all of it is read; of a text in memory nothing is known
+abbrev pub IsReadUp : Source → Type 0
+IsReadUp InMemory = ⊤
+IsReadUp (OfReader left) = left ≡ Some []
+
+-- the text's reader failed in this line, before which there is no fault; a text in memory has none
+abbrev pub FailsFrom : Judge → List ℕ → Source → ℕ → Type 0
+FailsFrom judge text InMemory line = ⊥
+FailsFrom judge text (OfReader left) line = FailsIn judge text (rows text) left line
+
+-- memory ran out in this line, before which there is no fault, nor in it if the text is in memory
+abbrev pub RunsOutFrom : Judge → List ℕ → Source → ℕ → Type 0
+RunsOutFrom judge text InMemory line = RunsOut judge (rows text) line
+RunsOutFrom judge text (OfReader left) line = BreaksOff judge (rows text) (rows text) line
+
+-- each line of the text was taken, and all of it is read, or its first fault is told; or its reader failed, or memory ran out
+abbrev pub GivesLines : {S : Type 0} → Judge → (List Row → S → Type 0) → List ℕ → Source → Result (Ended S) Fault → Type 0
+GivesLines judge has_taken text source (Ok ended) = TakenAll judge has_taken (rows text) ended × IsReadUp source
+GivesLines judge has_taken text source (Err fault) = ByCode fault.code (first_fault judge [] (rows text) ≡ Some fault) (FailsFrom judge text source fault.line) (RunsOutFrom judge text source fault.line)
+
+-- the text has its fault told; or its reader failed, or memory ran out
 abbrev pub FaultOf : {X : Type 0} → TextKind X → List ℕ → Source → Fault → Type 0
-FaultOf kind text InMemory fault = ByMemory fault.code (content_by kind (rows text) ≡ Err fault) (RunsOut kind.judge (rows text) fault.line)
-FaultOf kind text (OfReader left) fault = FaultOfLines kind text (rows text) left fault
+FaultOf kind text source fault = ByCode fault.code (content_by kind (rows text) ≡ Err fault) (FailsFrom kind.judge text source fault.line) (RunsOutFrom kind.judge text source fault.line)
 
--- the content of the text, or its fault; or memory ran out in a line, up to and with which there is no fault
-abbrev pub Parses : {X : Type 0} → TextKind X → List ℕ → Result X Fault → Type 0
-Parses kind text (Ok x) = content_by kind (rows text) ≡ Ok x
-Parses kind text (Err fault) = FaultOf kind text InMemory fault
-
--- the same of a reader that has this text left, all of which is read where there is no fault; or the reader failed, or memory ran out,
--- in a line before which there is none
-abbrev pub Reads : {X : Type 0} → TextKind X → List ℕ → Option (List ℕ) → Result X Fault → Type 0
-Reads kind text left (Ok x) = (content_by kind (rows text) ≡ Ok x) × (left ≡ Some [])
-Reads kind text left (Err fault) = FaultOf kind text (OfReader left) fault
+-- the content of the text, all of which is read, or its fault
+abbrev pub Reads : {X : Type 0} → TextKind X → List ℕ → Source → Result X Fault → Type 0
+Reads kind text source (Ok x) = (content_by kind (rows text) ≡ Ok x) × IsReadUp source
+Reads kind text source (Err fault) = FaultOf kind text source fault
 
 -- the end of lines without a fault: what they say, or the code of the end, which names the last line
 abbrev pub Ends : {X : Type 0} → TextKind X → List Row → Result X Fault → Type 0

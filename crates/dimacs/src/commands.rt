@@ -5,17 +5,16 @@ ghost use Rattle.dimacs.specs.Faults.{Row, is_empty};
 ghost use Rattle.dimacs.specs.Reading.{one_numeral, two_numerals, three_numerals};
 ghost use Rattle.dimacs.specs.CommandReading.{HasGroups, IsBound, IsKind, number_read, numbers_read, three_read, ReadsLine};
 
-use crate::counted::Counted;
 use crate::fault::{Code, Fault};
-use crate::feed::{Ended, parse_lines, read_lines};
+use crate::feed::Ended;
 use crate::line::split_field;
 use crate::open_group::OpenGroup;
 use crate::reading::{split_one, split_three, split_two};
 use crate::taking::TakeLines;
+use crate::text::Text;
 use crate::words::{OneNumber, word_of_one};
 use roadnet::{Command, Group};
 use std::alloc::Global;
-use std::io::BufRead;
 
 /// The groups of the lines so far.
 #[derive(Drop)]
@@ -258,9 +257,10 @@ impl TakeLines for GroupLines {
     ghost blank_is_no_comment = { refl };
 }
 
+ghost use Rattle.dimacs.specs.Calling.{KeepsText};
 ghost use Rattle.dimacs.specs.Commanded.{group_text};
-ghost use Rattle.dimacs.specs.Texts.{Ends, Parses, Reads, map_ok};
-ghost use Rattle.dimacs.specs.Counts.{CountsFailures, IsSameReader, failed_calls, reader_of};
+ghost use Rattle.dimacs.specs.Counts.{CountsFailures};
+ghost use Rattle.dimacs.specs.Texts.{InMemory, Ends, Reads, map_ok};
 
 /// The groups at the end of a text, which must not be within one.
 fn groups_at_end(ended: Ended<GroupLines>) -> Result<Vec<Group>, Fault>
@@ -284,36 +284,23 @@ fn groups_at_end(ended: Ended<GroupLines>) -> Result<Vec<Group>, Fault>
 
 /// The groups of commands that a text gives, in the order of their lines, or the text's first fault. The lines `begin` and `end` enclose
 /// the commands of a group; a command elsewhere is a group of one. Whether numbers are in range is judged where the commands are carried
-/// out. It takes 40 bytes a group, and 32 a command of a group that is enclosed.
+/// out. The count of failed calls tells a failed read from a fault of the text. After an `Err` the text is not used again. It takes 40 bytes
+/// a group, and 32 a command of a group that is enclosed.
 ///
 /// With `/` for a line feed, `begin / close 7 / set 8 4 / end / reopen 7` gives two groups, of two commands and of one. `begin / end` gives
 /// line 2, `GroupSize`; `begin / close 7` gives line 2, `OpenGroup`; `begin / begin` and `end` give `BadLine`.
+pub fn read_commands<S: Text>(alloc: Global, text: &mut S) -> Result<Vec<Group>, Fault>
+    ensures read { IfSome (S.bytes text.old) (λ bytes. Reads group_text bytes (S.source text.new) (map_ok vec_items result)) }
+    ensures counts { KeepsText CountsFailures S.Text result text.old text.new }
+{
+    let ended = text.give_lines(alloc, GroupLines::new(alloc))?;
+    groups_at_end(ended)
+}
+
+/// The groups of commands that a text in memory gives, as `read_commands`.
 pub fn parse_commands(alloc: Global, bytes: &[u8]) -> Result<Vec<Group>, Fault>
-    ensures { Parses group_text bytes.now (map_ok vec_items result) }
+    ensures { Reads group_text bytes.now InMemory (map_ok vec_items result) }
 {
-    let ended = parse_lines(GroupLines::new(alloc), bytes)?;
-    groups_at_end(ended)
-}
-
-/// The groups of commands that a reader's text gives, as `parse_commands`. The count of failed calls tells a failed read from a fault of the
-/// text. After an `Err` the reader is not used again.
-pub fn read_commands_counted<R: BufRead>(
-    alloc: Global,
-    counted: &mut Counted<'_, R>,
-) -> Result<Vec<Group>, Fault>
-    ensures read { IfSome (R.remaining (reader_of counted.old))
-        (λ text. Reads group_text text (R.remaining (reader_of counted.new)) (map_ok vec_items result)) }
-    ensures counts { CountsFailures (failed_calls counted.old) (failed_calls counted.new) result }
-    ensures same { IsSameReader counted.old counted.new }
-{
-    let ended = read_lines(alloc, counted, false, GroupLines::new(alloc))?;
-    groups_at_end(ended)
-}
-
-/// The groups of commands that a reader's text gives, as `parse_commands`. After an `Err` the reader is not used again.
-pub fn read_commands<R: BufRead>(alloc: Global, reader: &mut R) -> Result<Vec<Group>, Fault>
-    ensures { IfSome (R.remaining reader.old) (λ text. Reads group_text text (R.remaining reader.new) (map_ok vec_items result)) }
-{
-    let mut counted = Counted::new(reader);
-    read_commands_counted(alloc, &mut counted)
+    let mut text = bytes;
+    read_commands(alloc, &mut text)
 }

@@ -1,13 +1,14 @@
 //! The lines of a text, taken from its bytes piece by piece.
 ghost use Rattle.std.specs.Prelude.{◌≡◌, ◌≢◌, ◌+◌, ◌-◌, ◌*◌, ◌^◌, ◌<◌, ◌≤◌, ◌⊎◌, ◌++◌, ◌∷◌, ℕ, List, length, IfOk, IfErr, IfSome, OnOk, OnErr, Some, [], true, ⊤};
 ghost use Rattle.std.specs.Io.BufRead.{strip_last};
-ghost use Rattle.dimacs.specs.Lines.{fields, rows};
+ghost use Rattle.dimacs.specs.Lines.{fields};
 ghost use Rattle.dimacs.specs.Faults.{Row};
 ghost use Rattle.dimacs.specs.Progress.{StandsFor, Within, Feeds, TakesOrRuns};
 ghost use Rattle.dimacs.specs.Overflow.{IsFaultOfFront};
 ghost use Rattle.dimacs.specs.NumeralEnds.{HasShortEnd};
 ghost use Rattle.dimacs.specs.Taking.{ByMemory};
-ghost use Rattle.dimacs.specs.Ends.{HasTakenSome, ParsesLines, ReadsLines};
+ghost use Rattle.dimacs.specs.Ends.{HasTakenSome, ReadsLines};
+ghost use Rattle.dimacs.specs.Texts.{InMemory, GivesLines};
 ghost use Rattle.dimacs.specs.Counts.{CountsFailures, IsSameReader, failed_calls, reader_of};
 
 use crate::counted::{Counted, Turn};
@@ -246,9 +247,9 @@ impl<T: TakeLines> Feed<T> {
 }
 
 /// Takes the lines of a text, up to the first that has a fault. The value that takes them has taken none yet.
-pub fn parse_lines<T: TakeLines>(taker: T, bytes: &[u8]) -> Result<Ended<T>, Fault>
+pub(crate) fn parse_lines<T: TakeLines>(taker: T, bytes: &[u8]) -> Result<Ended<T>, Fault>
     requires { T.has_taken [] taker }
-    ensures { ParsesLines T.judge T.has_taken (rows bytes.now) result }
+    ensures { GivesLines T.judge T.has_taken bytes.now InMemory result }
 {
     let mut taker = taker;
     let mut lines = 0u64;
@@ -273,7 +274,7 @@ pub fn parse_lines<T: TakeLines>(taker: T, bytes: &[u8]) -> Result<Ended<T>, Fau
 /// Takes the lines that a reader gives, up to the first that has a fault, or, where it is to read until a line `run`, up to
 /// and without that line; the reader then has the bytes behind that line left. The value that takes them has taken none yet.
 /// After an `Err` the reader is not used again.
-pub fn read_lines<T: TakeLines, R: BufRead>(
+pub(crate) fn read_lines<T: TakeLines, R: BufRead>(
     alloc: Global,
     counted: &mut Counted<'_, R>,
     until_run: bool,

@@ -13,7 +13,7 @@ use std::alloc::Global;
 
 /// What the lines so far have given.
 #[derive(Drop)]
-pub struct GrLines {
+pub(crate) struct GrLines {
     problem: Option<Problem>,
     arcs: Vec<RoadArc>,
     // no arc stands before the problem line

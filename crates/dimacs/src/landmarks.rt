@@ -6,13 +6,12 @@ ghost use Rattle.dimacs.specs.Lines.{fields};
 ghost use Rattle.dimacs.specs.ListedReading.{node_of_numeral, node_read};
 ghost use Rattle.dimacs.specs.Reading.{one_numeral};
 
-use crate::counted::Counted;
 use crate::fault::{Code, Fault};
-use crate::listed::{NodeItem, parse_items, read_items};
+use crate::listed::{NodeItem, read_items};
 use crate::numeral::Numeral;
 use crate::reading::split_one;
+use crate::text::Text;
 use std::alloc::Global;
-use std::io::BufRead;
 use std::marker::Brand;
 
 fn node_of(nodes: u32, number: Numeral) -> Result<u32, Code>
@@ -72,9 +71,10 @@ impl NodeItem for u32 {
     ghost numbers_are_few = { refl };
 }
 
+ghost use Rattle.dimacs.specs.Calling.{KeepsText};
+ghost use Rattle.dimacs.specs.Counts.{CountsFailures};
 ghost use Rattle.dimacs.specs.Landmarks.{ss_text, AreNodes};
-ghost use Rattle.dimacs.specs.Texts.{Parses, Reads, map_ok};
-ghost use Rattle.dimacs.specs.Counts.{CountsFailures, IsSameReader, failed_calls, reader_of};
+ghost use Rattle.dimacs.specs.Texts.{InMemory, Reads, map_ok};
 
 /// The set of these nodes as an ascending list.
 fn as_set(nodes: Vec<u32>) -> Vec<u32>
@@ -87,43 +87,27 @@ fn as_set(nodes: Vec<u32>) -> Vec<u32>
     nodes
 }
 
-/// The landmarks that a `.ss` text gives for a network of `nodes` nodes, ascending and each once, or the text's first fault. It takes
-/// 4 bytes a line that was read, and O(K log K) comparisons.
+/// The landmarks that a `.ss` text gives for a network of `nodes` nodes, ascending and each once, or the text's first fault. The count of
+/// failed calls tells a failed read from a fault of the text. After an `Err` the text is not used again. It takes 4 bytes a line that was
+/// read, and O(K log K) comparisons.
 ///
 /// With six nodes, and `/` for a line feed, `p aux sp ss 3 / s 6 / s 3 / s 6` gives 3 and 6; `p aux sp ss 3 / s 7` gives line 2, `NodeRange`.
+pub fn read_ss<S: Text>(alloc: Global, text: &mut S, nodes: u32) -> Result<Vec<u32>, Fault>
+    ensures read { IfSome (S.bytes text.old) (λ bytes. Reads (ss_text nodes) bytes (S.source text.new) (map_ok vec_items result)) }
+    ensures ascending { IfOk result (λ landmarks. IsStrictlyIncreasing landmarks.items) }
+    ensures nodes { IfOk result (λ landmarks. AreNodes nodes landmarks.items) }
+    ensures counts { KeepsText CountsFailures S.Text result text.old text.new }
+{
+    let landmarks = read_items::<u32, Brand, S>(alloc, text, nodes)?;
+    Ok(as_set(landmarks))
+}
+
+/// The landmarks that a `.ss` text in memory gives, as `read_ss`.
 pub fn parse_ss(alloc: Global, bytes: &[u8], nodes: u32) -> Result<Vec<u32>, Fault>
-    ensures text { Parses (ss_text nodes) bytes.now (map_ok vec_items result) }
+    ensures text { Reads (ss_text nodes) bytes.now InMemory (map_ok vec_items result) }
     ensures ascending { IfOk result (λ landmarks. IsStrictlyIncreasing landmarks.items) }
     ensures nodes { IfOk result (λ landmarks. AreNodes nodes landmarks.items) }
 {
-    let landmarks = parse_items::<u32, Brand>(alloc, bytes, nodes)?;
-    Ok(as_set(landmarks))
-}
-
-/// The landmarks that a reader's `.ss` text gives, as `parse_ss`. The count of failed calls tells a failed read from a fault of the
-/// text. After an `Err` the reader is not used again.
-pub fn read_ss_counted<R: BufRead>(
-    alloc: Global,
-    counted: &mut Counted<'_, R>,
-    nodes: u32,
-) -> Result<Vec<u32>, Fault>
-    ensures read { IfSome (R.remaining (reader_of counted.old))
-        (λ text. Reads (ss_text nodes) text (R.remaining (reader_of counted.new)) (map_ok vec_items result)) }
-    ensures ascending { IfOk result (λ landmarks. IsStrictlyIncreasing landmarks.items) }
-    ensures nodes { IfOk result (λ landmarks. AreNodes nodes landmarks.items) }
-    ensures counts { CountsFailures (failed_calls counted.old) (failed_calls counted.new) result }
-    ensures same { IsSameReader counted.old counted.new }
-{
-    let landmarks = read_items::<u32, Brand, R>(alloc, counted, nodes)?;
-    Ok(as_set(landmarks))
-}
-
-/// The landmarks that a reader's `.ss` text gives, as `parse_ss`. After an `Err` the reader is not used again.
-pub fn read_ss<R: BufRead>(alloc: Global, reader: &mut R, nodes: u32) -> Result<Vec<u32>, Fault>
-    ensures read { IfSome (R.remaining reader.old) (λ text. Reads (ss_text nodes) text (R.remaining reader.new) (map_ok vec_items result)) }
-    ensures ascending { IfOk result (λ landmarks. IsStrictlyIncreasing landmarks.items) }
-    ensures nodes { IfOk result (λ landmarks. AreNodes nodes landmarks.items) }
-{
-    let mut counted = Counted::new(reader);
-    read_ss_counted(alloc, &mut counted, nodes)
+    let mut text = bytes;
+    read_ss(alloc, &mut text, nodes)
 }

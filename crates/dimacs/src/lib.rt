@@ -20,24 +20,25 @@ mod pairs;
 mod problem;
 mod reading;
 mod taking;
+mod text;
 mod words;
 
 pub use commands::{
-    Bound, bound_of, is_blank, number, parse_commands, read_command, read_commands,
-    read_commands_counted, three_numbers, two_numbers,
+    Bound, bound_of, is_blank, number, parse_commands, read_command, read_commands, three_numbers,
+    two_numbers,
 };
 pub use counted::Counted;
 pub use fault::{Code, Fault};
-pub use feed::{Ended, parse_lines, read_lines};
-pub use gr::{parse_gr, read_gr, read_gr_before_run, read_gr_counted};
-pub use gr_lines::GrLines;
-pub use landmarks::{parse_ss, read_ss, read_ss_counted};
+pub use feed::Ended;
+pub use gr::{parse_gr, read_gr, read_gr_before_run};
+pub use landmarks::{parse_ss, read_ss};
 pub use laws::first_fault_is_first;
 pub use line::split_field;
-pub use nodes::{parse_nodes, read_nodes_counted};
+pub use nodes::read_nodes;
 pub use numeral::Numeral;
 pub use open_group::OpenGroup;
-pub use pairs::{Pair, parse_p2p, read_p2p, read_p2p_counted};
-pub use reading::{split_one, split_three, split_two};
+pub use pairs::{Pair, parse_p2p, read_p2p};
+pub use reading::split_one;
 pub use taking::TakeLines;
+pub use text::Text;
 pub use words::{OneNumber, TwoNumbers, word_of_one, word_of_two};

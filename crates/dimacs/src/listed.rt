@@ -11,18 +11,18 @@ ghost use Rattle.dimacs.specs.Taking.{Takes};
 ghost use Rattle.dimacs.specs.Listed.{kind_words, listed, text_of_items, ReadsItem, HasItems};
 ghost use Rattle.dimacs.specs.ListedReading.{count_after, count_of_numeral};
 ghost use Rattle.dimacs.specs.Overflow.{code_after_fields};
-ghost use Rattle.dimacs.specs.Texts.{Ends, IsSaid, Parses, Reads, map_ok};
-ghost use Rattle.dimacs.specs.Counts.{CountsFailures, IsSameReader, failed_calls, reader_of};
+ghost use Rattle.dimacs.specs.Texts.{Ends, IsSaid, Reads, map_ok};
+ghost use Rattle.dimacs.specs.Calling.{KeepsText};
+ghost use Rattle.dimacs.specs.Counts.{CountsFailures};
 
-use crate::counted::Counted;
 use crate::fault::{Code, Fault};
-use crate::feed::{Ended, parse_lines, read_lines};
+use crate::feed::Ended;
 use crate::line::{Kind, kind_of, split_field};
 use crate::numeral::Numeral;
 use crate::reading::{other_kind, split_one};
 use crate::taking::TakeLines;
+use crate::text::Text;
 use std::alloc::Global;
-use std::io::BufRead;
 use std::marker::{Brand, PhantomData};
 
 const MOST_ITEMS: u64 = 1 << 24;
@@ -254,31 +254,17 @@ fn items_at_end<I: NodeItem, K: NodeCount>(ended: Ended<NodeLines<I, K>>) -> Res
 }
 
 /// The items of a text of a network with so many nodes, in the order of their lines, or the text's first fault.
-pub(crate) fn parse_items<I: NodeItem, K: NodeCount>(
+pub(crate) fn read_items<I: NodeItem, K: NodeCount, S: Text>(
     alloc: Global,
-    bytes: &[u8],
+    text: &mut S,
     nodes: u32,
 ) -> Result<Vec<I>, Fault>
     requires { nodes ≡ K.nodes }
-    ensures { Parses (text_of_items (listed I.word I.LETTER I.quantities K.nodes) I.says) bytes.now (map_ok vec_items result) }
-{
-    let ended = parse_lines(NodeLines::<I, K>::new(alloc, nodes), bytes)?;
-    items_at_end(ended)
-}
-
-/// The same from a reader.
-pub(crate) fn read_items<I: NodeItem, K: NodeCount, R: BufRead>(
-    alloc: Global,
-    counted: &mut Counted<'_, R>,
-    nodes: u32,
-) -> Result<Vec<I>, Fault>
-    requires { nodes ≡ K.nodes }
-    ensures read { IfSome (R.remaining (reader_of counted.old))
-        (λ text. Reads (text_of_items (listed I.word I.LETTER I.quantities K.nodes) I.says) text (R.remaining (reader_of counted.new)) (map_ok vec_items result)) }
+    ensures read { IfSome (S.bytes text.old)
+        (λ bytes. Reads (text_of_items (listed I.word I.LETTER I.quantities K.nodes) I.says) bytes (S.source text.new) (map_ok vec_items result)) }
     ensures said { IfOk result (λ items. IsSaid (text_of_items (listed I.word I.LETTER I.quantities K.nodes) I.says) items.items) }
-    ensures counts { CountsFailures (failed_calls counted.old) (failed_calls counted.new) result }
-    ensures same { IsSameReader counted.old counted.new }
+    ensures counts { KeepsText CountsFailures S.Text result text.old text.new }
 {
-    let ended = read_lines(alloc, counted, false, NodeLines::<I, K>::new(alloc, nodes))?;
+    let ended = text.give_lines(alloc, NodeLines::<I, K>::new(alloc, nodes))?;
     items_at_end(ended)
 }

@@ -2,13 +2,12 @@
 ghost use Rattle.std.specs.Prelude.{◌≡◌, ◌≢◌, IfErr, IfSome, vec_items};
 ghost use Rattle.dimacs.specs.Lines.{fields};
 
-use crate::counted::Counted;
 use crate::fault::{Code, Fault};
-use crate::listed::{NodeItem, parse_items, read_items};
+use crate::listed::{NodeItem, read_items};
 use crate::numeral::Numeral;
 use crate::reading::split_two;
+use crate::text::Text;
 use std::alloc::Global;
-use std::io::BufRead;
 use std::marker::Brand;
 
 /// Two nodes of a network, counted from 1: from which to go, and to which.
@@ -86,40 +85,28 @@ impl NodeItem for Pair {
     ghost numbers_are_few = { refl };
 }
 
+ghost use Rattle.dimacs.specs.Calling.{KeepsText};
+ghost use Rattle.dimacs.specs.Counts.{CountsFailures};
 ghost use Rattle.dimacs.specs.Pairs.{p2p_text};
-ghost use Rattle.dimacs.specs.Texts.{Parses, Reads, map_ok};
-ghost use Rattle.dimacs.specs.Counts.{CountsFailures, IsSameReader, failed_calls, reader_of};
+ghost use Rattle.dimacs.specs.Texts.{InMemory, Reads, map_ok};
 
-/// The pairs that a `.p2p` text gives for a network of `nodes` nodes, in the order of their lines, or the text's first fault. It
-/// takes 8 bytes a pair that was read.
+/// The pairs that a `.p2p` text gives for a network of `nodes` nodes, in the order of their lines, or the text's first fault. The count of
+/// failed calls tells a failed read from a fault of the text. After an `Err` the text is not used again. It takes 8 bytes a pair that was
+/// read.
 ///
 /// With six nodes, and `/` for a line feed, `p aux sp p2p 2 / q 1 6 / q 5 6` gives the pairs from 1 to 6 and from 5 to 6;
 /// `p aux sp p2p 1 / q 1 7` gives line 2, `NodeRange`, and `p aux sp p2p 2 / q 1 6` line 2, `LineCount`.
+pub fn read_p2p<S: Text>(alloc: Global, text: &mut S, nodes: u32) -> Result<Vec<Pair>, Fault>
+    ensures read { IfSome (S.bytes text.old) (λ bytes. Reads (p2p_text nodes) bytes (S.source text.new) (map_ok vec_items result)) }
+    ensures counts { KeepsText CountsFailures S.Text result text.old text.new }
+{
+    read_items::<Pair, Brand, S>(alloc, text, nodes)
+}
+
+/// The pairs that a `.p2p` text in memory gives, as `read_p2p`.
 pub fn parse_p2p(alloc: Global, bytes: &[u8], nodes: u32) -> Result<Vec<Pair>, Fault>
-    ensures { Parses (p2p_text nodes) bytes.now (map_ok vec_items result) }
+    ensures { Reads (p2p_text nodes) bytes.now InMemory (map_ok vec_items result) }
 {
-    parse_items::<Pair, Brand>(alloc, bytes, nodes)
-}
-
-/// The pairs that a reader's `.p2p` text gives, as `parse_p2p`. The count of failed calls tells a failed read from a fault of the
-/// text. After an `Err` the reader is not used again.
-pub fn read_p2p_counted<R: BufRead>(
-    alloc: Global,
-    counted: &mut Counted<'_, R>,
-    nodes: u32,
-) -> Result<Vec<Pair>, Fault>
-    ensures read { IfSome (R.remaining (reader_of counted.old))
-        (λ text. Reads (p2p_text nodes) text (R.remaining (reader_of counted.new)) (map_ok vec_items result)) }
-    ensures counts { CountsFailures (failed_calls counted.old) (failed_calls counted.new) result }
-    ensures same { IsSameReader counted.old counted.new }
-{
-    read_items::<Pair, Brand, R>(alloc, counted, nodes)
-}
-
-/// The pairs that a reader's `.p2p` text gives, as `parse_p2p`. After an `Err` the reader is not used again.
-pub fn read_p2p<R: BufRead>(alloc: Global, reader: &mut R, nodes: u32) -> Result<Vec<Pair>, Fault>
-    ensures { IfSome (R.remaining reader.old) (λ text. Reads (p2p_text nodes) text (R.remaining reader.new) (map_ok vec_items result)) }
-{
-    let mut counted = Counted::new(reader);
-    read_p2p_counted(alloc, &mut counted, nodes)
+    let mut text = bytes;
+    read_p2p(alloc, &mut text, nodes)
 }

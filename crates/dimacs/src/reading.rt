@@ -31,7 +31,7 @@ pub fn split_one(numbers: &[u8]) -> Option<Numeral>
 }
 
 /// Two numerals and no other field.
-pub fn split_two(numbers: &[u8]) -> Option<(Numeral, Numeral)>
+pub(crate) fn split_two(numbers: &[u8]) -> Option<(Numeral, Numeral)>
     ensures { result ≡ two_numerals (fields numbers.now) }
 {
     let (first, rest) = split_numeral(numbers)?;
@@ -43,7 +43,7 @@ pub fn split_two(numbers: &[u8]) -> Option<(Numeral, Numeral)>
 }
 
 /// Three numerals and no other field.
-pub fn split_three(numbers: &[u8]) -> Option<(Numeral, Numeral, Numeral)>
+pub(crate) fn split_three(numbers: &[u8]) -> Option<(Numeral, Numeral, Numeral)>
     ensures { result ≡ three_numerals (fields numbers.now) }
 {
     let (first, rest) = split_numeral(numbers)?;

@@ -15,7 +15,8 @@ pub use file_disk::FileDisk;
 pub use mem_file::MemFile;
 pub use names::{folder_of, resolve};
 pub use opened::{
-    MadeFile, NewFile, OpenError, create_file, open_file, open_to_read, why_unopened,
+    MadeFile, NewFile, OpenError, create_file, create_file_here, open_file, open_to_read,
+    why_unopened,
 };
 pub use raw_file::RawFile;
 pub use system::{FileLock, NotedFile};

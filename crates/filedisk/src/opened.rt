@@ -13,7 +13,7 @@ use crate::system::NotedFile;
 use crate::{FileDisk, SystemFile};
 use std::fs::{self, File, OpenOptions};
 use std::io::{self, ErrorKind};
-use std::os::unix::fs::OpenOptionsExt;
+use std::os::unix::fs::{MetadataExt, OpenOptionsExt};
 use std::path::PathBuf;
 use std::rt::Files;
 use thiserror::Error;
@@ -36,6 +36,9 @@ pub enum OpenError {
     /// It is a device or a pipe.
     #[error("it is no file")]
     NoFile,
+    /// It is a link.
+    #[error("it is a link")]
+    Link,
     /// Another opening of it is not shared with this one.
     #[error("it is in use")]
     InUse,
@@ -251,23 +254,16 @@ fn settle<R: Files<File = File>>(
     sync_name(rt, file, path)
 }
 
-/// Opens a file as `open_file`, and makes an empty one where there is none; a link that leads to no file yet is followed, and the file made
-/// where it leads. Then the file's name is durable: the file and its folder are synced, once it is locked and known to be a file. What the
-/// file has stays. After an `Err` a file that was made is removed again, while it is locked; where it could not be locked it may be another's
-/// by then, so it stays, empty as it was made, and a later call takes it again.
-pub fn create_file<R: AllocGlobal + Files<File = File>>(
+/// What is had of a file that was opened under this name, or made there: it is locked for a new store, and its name is durable.
+fn settled<R: Files<File = File>>(
     rt: &R,
-    path: &str,
+    path: PathBuf,
+    file: File,
+    is_new: bool,
 ) -> Result<NewFile, OpenError>
     ensures failures { IfOk result (λ new. failures_of new.disk ≡ 0) }
     ensures calls { IfOk result (λ new. calls_of new.disk ≡ (SyncFolder, Done) ∷ (SyncAll, Done) ∷ (Lock Alone, Done) ∷ []) }
 {
-    let path = match resolve(rt, path) {
-        Ok(path) => path,
-        Err(error) if error.kind() == ErrorKind::OutOfMemory => return Err(OpenError::OutOfMemory),
-        Err(error) => return Err(why_unopened(&error)),
-    };
-    let (file, is_new) = open_or_make(rt, path.as_str())?;
     let mut file = lock_file(file, Share::Alone)?;
     if let Err(error) = settle(rt, &mut file, &path) {
         if is_new {
@@ -282,4 +278,58 @@ pub fn create_file<R: AllocGlobal + Files<File = File>>(
     };
     let disk = disk_of(file);
     Ok(NewFile { disk, made })
+}
+
+/// Why there is no name of a file.
+fn why_unnamed(error: &io::Error) -> OpenError {
+    match error.kind() {
+        ErrorKind::OutOfMemory => OpenError::OutOfMemory,
+        _ => why_unopened(error),
+    }
+}
+
+/// Opens a file as `open_file`, and makes an empty one where there is none; a link that leads to no file yet is followed, and the file made
+/// where it leads. Then the file's name is durable: the file and its folder are synced, once it is locked and known to be a file. What the
+/// file has stays. After an `Err` a file that was made is removed again, while it is locked; where it could not be locked it may be another's
+/// by then, so it stays, empty as it was made, and a later call takes it again.
+pub fn create_file<R: AllocGlobal + Files<File = File>>(
+    rt: &R,
+    path: &str,
+) -> Result<NewFile, OpenError>
+    ensures failures { IfOk result (λ new. failures_of new.disk ≡ 0) }
+    ensures calls { IfOk result (λ new. calls_of new.disk ≡ (SyncFolder, Done) ∷ (SyncAll, Done) ∷ (Lock Alone, Done) ∷ []) }
+{
+    let path = match resolve(rt, path) {
+        Ok(path) => path,
+        Err(error) => return Err(why_unnamed(&error)),
+    };
+    let (file, is_new) = open_or_make(rt, path.as_str())?;
+    settled(rt, path, file, is_new)
+}
+
+/// Whether an open file is the one of this name itself, and none to which a link leads.
+fn is_named<R: Files<File = File>>(rt: &R, file: &File, path: &str) -> io::Result<bool> {
+    let named = fs::symlink_metadata(rt, path)?;
+    let opened = file.metadata()?;
+    Ok(named.dev() == opened.dev() && named.ino() == opened.ino())
+}
+
+/// Opens or makes a file as `create_file`, in the folder of its name alone: a link of that name is refused, wherever it leads, and stays as it is.
+pub fn create_file_here<R: AllocGlobal + Files<File = File>>(
+    rt: &R,
+    path: &str,
+) -> Result<NewFile, OpenError>
+    ensures failures { IfOk result (λ new. failures_of new.disk ≡ 0) }
+    ensures calls { IfOk result (λ new. calls_of new.disk ≡ (SyncFolder, Done) ∷ (SyncAll, Done) ∷ (Lock Alone, Done) ∷ []) }
+{
+    let name = match PathBuf::from_str(rt.alloc(), path) {
+        Ok(name) => name,
+        Err(_) => return Err(OpenError::OutOfMemory),
+    };
+    let (file, is_new) = open_or_make(rt, path)?;
+    match is_named(rt, &file, path) {
+        Ok(true) => settled(rt, name, file, is_new),
+        Ok(false) => Err(OpenError::Link),
+        Err(error) => Err(why_unopened(&error)),
+    }
 }

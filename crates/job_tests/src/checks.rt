@@ -3,12 +3,17 @@ use disk::{Disk, FailOnce, MemDisk};
 use printing::{CountedWriter, Failed};
 use roadnet::Refusal;
 use std::alloc::Global;
-use storetexts::{apply_text, check_counted, check_text};
+use storetexts::{apply_text, check_text};
 
 /// The store on a disk behind these commands.
-pub fn applied(alloc: Global, disk: MemDisk, commands: &[u8]) -> Result<MemDisk, Refusal> {
+pub fn applied(alloc: Global, disk: MemDisk, mut commands: &[u8]) -> Result<MemDisk, Refusal> {
     let mut out = Vec::new(alloc);
-    match apply_text(alloc, disk, commands, &mut out) {
+    match apply_text(
+        alloc,
+        disk,
+        &mut commands,
+        &mut CountedWriter::new(&mut out),
+    ) {
         (Ok(()), disk) => Ok(disk),
         (Err(_), _) => Err(Refusal::Broken),
     }
@@ -17,7 +22,7 @@ pub fn applied(alloc: Global, disk: MemDisk, commands: &[u8]) -> Result<MemDisk,
 /// What is written of a store, and its disk.
 fn checked<D: Disk + Drop>(alloc: Global, disk: D) -> Result<(Vec<u8>, D), Failed> {
     let mut out = Vec::new(alloc);
-    match check_text(alloc, disk, &mut out) {
+    match check_text(alloc, disk, &mut CountedWriter::new(&mut out)) {
         (Ok(()), disk) => Ok((out, disk)),
         (Err(failed), _) => Err(failed),
     }
@@ -89,7 +94,7 @@ fn damage_is_told(rt: HostRuntime) -> Result<(), Refusal> {
 fn look_failing(alloc: Global, disk: MemDisk, call: u64) -> (Result<(), Failed>, bool, MemDisk) {
     let mut out = Vec::new(alloc);
     let mut writer = CountedWriter::new(&mut out);
-    let (told, failing) = check_counted(alloc, FailOnce::new(disk, call), &mut writer);
+    let (told, failing) = check_text(alloc, FailOnce::new(disk, call), &mut writer);
     let wanted: &[u8] = if told.is_ok() {
         b"v 0\nslot A 1\njournal 0\n"
     } else {

@@ -5,14 +5,14 @@ use dimacs::{Code, Counted, Fault};
 use disk::MemDisk;
 use fixtures::{JOINT, LANDMARKS, PAIRS, SIX};
 use printing::{CountedWriter, Failed};
-use querytexts::{batch_counted, once_counted};
-use rehearsals::{joint_counted, rehearse_counted};
+use querytexts::{batch_text, once_text};
+use rehearsals::{joint_text, rehearse_text};
 use roadnet::Refusal;
 use std::alloc::Global;
 use std::io::BufReader;
 use std::process::Abort;
 use std::thread::Threads;
-use storetexts::{apply_counted, ask_counted, check_counted, create_counted};
+use storetexts::{apply_text, ask_text, check_text, create_text};
 
 const COMMANDS: &[u8] = b"close 7\nclose 7\nset 8 4\n";
 
@@ -40,10 +40,10 @@ fn come_of_create(alloc: Global, reads: u32, writes: u32) -> Result<Came, Refusa
     let mut gr = SIX;
     let mut marks = Counted::new(&mut reader);
     let mut writer = CountedWriter::new(&mut out);
-    let (outcome, _) = create_counted(
+    let (outcome, _) = create_text(
         alloc,
         MemDisk::new(alloc),
-        &mut Counted::new(&mut gr),
+        &mut gr,
         &mut marks,
         64,
         None,
@@ -71,7 +71,7 @@ fn come_of_apply(alloc: Global, reads: u32, writes: u32) -> Result<Came, Refusal
     let mut out = FailingWriter { writes, taken: 0 };
     let mut commands = Counted::new(&mut reader);
     let mut writer = CountedWriter::new(&mut out);
-    let (outcome, _) = apply_counted(alloc, disk, &mut commands, &mut writer);
+    let (outcome, _) = apply_text(alloc, disk, &mut commands, &mut writer);
     let failed_writes = writer.failed_writes();
     Ok(Came {
         outcome,
@@ -99,7 +99,7 @@ fn come_of_ask<R: Threads>(
     let mut out = FailingWriter { writes, taken: 0 };
     let mut pairs = Counted::new(&mut reader);
     let mut writer = CountedWriter::new(&mut out);
-    let (outcome, _) = ask_counted(rt, alloc, disk, &mut pairs, None, &mut writer);
+    let (outcome, _) = ask_text(rt, alloc, disk, &mut pairs, None, &mut writer);
     let failed_writes = writer.failed_writes();
     Ok(Came {
         outcome: match outcome {
@@ -150,7 +150,7 @@ fn come_of_once<R: Threads>(rt: &R, alloc: Global, reads: u32) -> Result<Came, R
     };
     let mut gr = Counted::new(&mut reader);
     let mut writer = CountedWriter::new(&mut out);
-    let outcome = once_counted(rt, alloc, &mut gr, 1, 6, None, &mut writer);
+    let outcome = once_text(rt, alloc, &mut gr, 1, 6, None, &mut writer);
     let failed_writes = writer.failed_writes();
     Ok(come_of(outcome, gr.failed_calls(), failed_writes, out.taken))
 }
@@ -164,9 +164,8 @@ fn come_of_batch<R: Threads>(rt: &R, alloc: Global, reads: u32) -> Result<Came, 
     };
     let mut pairs = PAIRS;
     let mut gr = Counted::new(&mut reader);
-    let mut p2p = Counted::new(&mut pairs);
     let mut writer = CountedWriter::new(&mut out);
-    let outcome = batch_counted(rt, alloc, &mut gr, &mut p2p, None, &mut writer);
+    let outcome = batch_text(rt, alloc, &mut gr, &mut pairs, None, &mut writer);
     let failed_writes = writer.failed_writes();
     Ok(come_of(outcome, gr.failed_calls(), failed_writes, out.taken))
 }
@@ -180,9 +179,8 @@ fn come_of_rehearse<R: Threads>(rt: &R, alloc: Global, reads: u32) -> Result<Cam
     };
     let mut script = QUERY;
     let mut gr = Counted::new(&mut reader);
-    let mut events = Counted::new(&mut script);
     let mut writer = CountedWriter::new(&mut out);
-    let outcome = rehearse_counted(rt, alloc, &mut gr, &mut events, 64, None, None, &mut writer);
+    let outcome = rehearse_text(rt, alloc, &mut gr, &mut script, 64, None, None, &mut writer);
     let failed_writes = writer.failed_writes();
     Ok(come_of(outcome, gr.failed_calls(), failed_writes, out.taken))
 }
@@ -196,10 +194,9 @@ fn come_of_network(alloc: Global, reads: u32) -> Result<Came, Refusal> {
     };
     let mut landmarks = LANDMARKS;
     let mut gr = Counted::new(&mut reader);
-    let mut marks = Counted::new(&mut landmarks);
     let mut writer = CountedWriter::new(&mut out);
     let disk = MemDisk::new(alloc);
-    let (outcome, _) = create_counted(alloc, disk, &mut gr, &mut marks, 64, None, &mut writer);
+    let (outcome, _) = create_text(alloc, disk, &mut gr, &mut landmarks, 64, None, &mut writer);
     let failed_writes = writer.failed_writes();
     Ok(come_of(outcome, gr.failed_calls(), failed_writes, out.taken))
 }
@@ -210,7 +207,7 @@ fn come_of_joint<R: Threads>(rt: &R, alloc: Global, writes: u32) -> Came {
     let mut out = FailingWriter { writes, taken: 0 };
     let mut joint = Counted::new(&mut text);
     let mut writer = CountedWriter::new(&mut out);
-    let outcome = joint_counted(rt, alloc, &mut joint, None, &mut writer);
+    let outcome = joint_text(rt, alloc, &mut joint, None, &mut writer);
     let failed_writes = writer.failed_writes();
     come_of(outcome, joint.failed_calls(), failed_writes, out.taken)
 }
@@ -220,7 +217,7 @@ fn come_of_check(alloc: Global, writes: u32) -> Result<Came, Refusal> {
     let (disk, _) = created(alloc, 64)?;
     let mut out = FailingWriter { writes, taken: 0 };
     let mut writer = CountedWriter::new(&mut out);
-    let (outcome, _) = check_counted(alloc, disk, &mut writer);
+    let (outcome, _) = check_text(alloc, disk, &mut writer);
     let failed_writes = writer.failed_writes();
     Ok(come_of(outcome, 0, failed_writes, out.taken))
 }

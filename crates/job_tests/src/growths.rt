@@ -5,7 +5,7 @@ ghost use Rattle.std.specs.Prelude.{◌≤◌};
 use crate::rehearsing::CLOSED;
 use dimacs::Code;
 use fixtures::SIX;
-use printing::Failed;
+use printing::{CountedWriter, Failed};
 use rehearsals::rehearse_text;
 use roadnet::{Command, Refusal};
 use rows::Query;
@@ -442,15 +442,16 @@ fn is_told(
 {
     Machine::new(journal_pages, want, false).tells_all(rt, steps);
     let mut page = Page::new();
+    let (mut gr, mut events) = (SIX, script);
     let outcome = rehearse_text(
         rt,
         rt.alloc(),
-        SIX,
-        script,
+        &mut gr,
+        &mut events,
         journal_pages,
         None,
         None,
-        &mut page,
+        &mut CountedWriter::new(&mut page),
     );
     let mut machine = Machine::new(journal_pages, page.text(), true);
     match outcome {

@@ -3,17 +3,24 @@ use crate::checks::applied;
 use crate::streams::FailingWriter;
 use disk::MemDisk;
 use fixtures::{LANDMARKS, SIX};
-use printing::{Exported, Failed, Look};
+use printing::{CountedWriter, Exported, Failed, Look};
 use roadnet::Refusal;
 use std::alloc::Global;
 use store::{Store, open};
 use storetexts::{create_text, export_text, show_text};
 
 /// A store of these texts, with room for nine arcs and 64 journal pages.
-fn roomy(alloc: Global, network: &[u8], landmarks: &[u8]) -> Result<MemDisk, Refusal> {
+fn roomy(alloc: Global, mut network: &[u8], mut landmarks: &[u8]) -> Result<MemDisk, Refusal> {
     let mut out = Vec::new(alloc);
-    let disk = MemDisk::new(alloc);
-    match create_text(alloc, disk, network, landmarks, 64, Some(9), &mut out) {
+    match create_text(
+        alloc,
+        MemDisk::new(alloc),
+        &mut network,
+        &mut landmarks,
+        64,
+        Some(9),
+        &mut CountedWriter::new(&mut out),
+    ) {
         (Ok(()), disk) => Ok(disk),
         (Err(_), _) => Err(Refusal::Broken),
     }
@@ -22,7 +29,7 @@ fn roomy(alloc: Global, network: &[u8], landmarks: &[u8]) -> Result<MemDisk, Ref
 /// What is told of a look at the arcs of a store, and its disk.
 fn shown(alloc: Global, disk: MemDisk, look: Look) -> Result<(Vec<u8>, MemDisk), Refusal> {
     let mut out = Vec::new(alloc);
-    match show_text(alloc, disk, look, &mut out) {
+    match show_text(alloc, disk, look, &mut CountedWriter::new(&mut out)) {
         (Ok(()), disk) => Ok((out, disk)),
         (Err(_), _) => Err(Refusal::Broken),
     }
@@ -84,7 +91,8 @@ fn commanded(
 /// Whether the store's network is written out so in one of the texts.
 fn is_exported(alloc: Global, store: &Store<MemDisk>, text: Exported, wanted: &[u8]) -> bool {
     let mut out = Vec::new(alloc);
-    export_text(store, text, &mut out) == Ok(()) && out.as_slice() == wanted
+    let told = export_text(store, text, &mut CountedWriter::new(&mut out));
+    told == Ok(()) && out.as_slice() == wanted
 }
 
 const COMMANDS: &[u8] = b"close 7\nmark 1\nset 8 4\nclose 2\n";
@@ -141,7 +149,8 @@ fn a_text_that_is_not_written(rt: HostRuntime) -> Result<(), Refusal> {
     let store = opened(alloc, roomy(alloc, SIX, LANDMARKS)?)?;
     for writes in 1..8 {
         let mut out = FailingWriter { writes, taken: 0 };
-        let told = export_text(&store, Exported::Landmarks, &mut out);
+        let mut writer = CountedWriter::new(&mut out);
+        let told = export_text(&store, Exported::Landmarks, &mut writer);
         assert!(rt; told == Err(Failed::Code(Refusal::Write)), "write {writes}");
     }
     Ok(())

@@ -3,7 +3,7 @@ ghost use Rattle.std.specs.Prelude.{◌≤◌};
 use crate::stores::{answers, created};
 use disk::MemDisk;
 use fixtures::PAIR;
-use printing::Failed;
+use printing::{CountedWriter, Failed};
 use roadnet::Refusal;
 use std::alloc::Global;
 use store_fixtures::{has_bytes, old_six_file, with_bytes};
@@ -15,14 +15,17 @@ type Moved = (bool, MemDisk);
 /// The store of this format that is made of one of format 1.
 fn migrated(alloc: Global, old: &mut MemDisk, told: &[u8]) -> Moved {
     let mut out = Vec::new(alloc);
-    let (outcome, disk) = migrate_text(alloc, old, MemDisk::new(alloc), None, &mut out);
+    let mut writer = CountedWriter::new(&mut out);
+    let (outcome, disk) = migrate_text(alloc, old, MemDisk::new(alloc), None, &mut writer);
     (outcome == Ok(()) && out.as_slice() == told, disk)
 }
 
 /// A copy with another journal, and room for two arcs more.
 fn copied(alloc: Global, old: &mut MemDisk, told: &[u8]) -> Moved {
     let mut out = Vec::new(alloc);
-    let (outcome, disk) = copy_text(alloc, old, MemDisk::new(alloc), Some(10), Some(3), &mut out);
+    let mut writer = CountedWriter::new(&mut out);
+    let empty = MemDisk::new(alloc);
+    let (outcome, disk) = copy_text(alloc, old, empty, Some(10), Some(3), &mut writer);
     (outcome == Ok(()) && out.as_slice() == told, disk)
 }
 
@@ -45,11 +48,12 @@ fn migrated_copied_and_asked(rt: HostRuntime) -> Result<(), Refusal> {
 /// What is told of a store that is refused, where nothing is written.
 fn refused(alloc: Global, old: &mut MemDisk, is_migrated: bool) -> Option<Refusal> {
     let mut out = Vec::new(alloc);
+    let mut writer = CountedWriter::new(&mut out);
     let empty = MemDisk::new(alloc);
     let (outcome, _) = if is_migrated {
-        migrate_text(alloc, old, empty, None, &mut out)
+        migrate_text(alloc, old, empty, None, &mut writer)
     } else {
-        copy_text(alloc, old, empty, None, None, &mut out)
+        copy_text(alloc, old, empty, None, None, &mut writer)
     };
     match outcome {
         Err(Failed::Code(refusal)) if out.is_empty() => Some(refusal),

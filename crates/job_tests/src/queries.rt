@@ -5,10 +5,7 @@ use crate::streams::{FailingReader, FailingWriter, sending_writer};
 use dimacs::{Code, Counted, Fault, Pair, parse_gr, parse_p2p};
 use fixtures::{PAIRS, SIX};
 use printing::{CountedWriter, Done, Failed};
-use querytexts::{
-    Reach, answer_by, answer_pairs, batch_counted, batch_text, once_counted, once_text, reach_text,
-    table_text,
-};
+use querytexts::{Reach, answer_by, answer_pairs, batch_text, once_text, reach_text, table_text};
 use roadnet::{Network, Refusal};
 use rows::{Query, Reply, Searches, answer_plain};
 use std::alloc::{AllocError, Global};
@@ -22,8 +19,10 @@ const ANSWERS: &[u8] = b"v 0\nd 1 6 15\nx 6 1\n";
 
 /// Whether one query of the network of the worked rows is answered so.
 fn is_once<R: Threads>(rt: &R, alloc: Global, source: u64, target: u64, want: &[u8]) -> bool {
+    let mut gr = SIX;
     let mut out = Vec::new(alloc);
-    let outcome = once_text(rt, alloc, SIX, source, target, Some(5), &mut out);
+    let mut writer = CountedWriter::new(&mut out);
+    let outcome = once_text(rt, alloc, &mut gr, source, target, Some(5), &mut writer);
     is_done(&outcome, Some(5)) && out.as_slice() == want
 }
 
@@ -35,15 +34,18 @@ fn is_once_by_default<R: Threads>(
     target: u64,
     want: &[u8],
 ) -> bool {
+    let mut gr = SIX;
     let mut out = Vec::new(alloc);
-    let outcome = once_text(rt, alloc, SIX, source, target, None, &mut out);
+    let mut writer = CountedWriter::new(&mut out);
+    let outcome = once_text(rt, alloc, &mut gr, source, target, None, &mut writer);
     is_done(&outcome, None) && out.as_slice() == want
 }
 
 /// Whether a query of a faulty network is refused so, and nothing is written.
-fn is_faulty_once<R: Threads>(rt: &R, alloc: Global, gr: &[u8], fault: Fault) -> bool {
+fn is_faulty_once<R: Threads>(rt: &R, alloc: Global, mut gr: &[u8], fault: Fault) -> bool {
     let mut out = Vec::new(alloc);
-    let outcome = once_text(rt, alloc, gr, 1, 6, None, &mut out);
+    let mut writer = CountedWriter::new(&mut out);
+    let outcome = once_text(rt, alloc, &mut gr, 1, 6, None, &mut writer);
     outcome == Err(Failed::Text { which: 0, fault }) && out.is_empty()
 }
 
@@ -63,16 +65,34 @@ fn one_query_of_a_text(rt: HostRuntime) {
 const SOURCES: &[u8] = b"p aux sp ss 3\ns 5\ns 1\ns 5\n";
 
 /// Whether the table of three sources and two targets is written so.
-fn is_table<R: Threads>(rt: &R, alloc: Global, targets: &[u8], want: &[u8]) -> bool {
+fn is_table<R: Threads>(rt: &R, alloc: Global, mut targets: &[u8], want: &[u8]) -> bool {
+    let (mut gr, mut sources) = (SIX, SOURCES);
     let mut out = Vec::new(alloc);
-    let outcome = table_text(rt, alloc, SIX, SOURCES, targets, Some(5), &mut out);
+    let outcome = table_text(
+        rt,
+        alloc,
+        &mut gr,
+        &mut sources,
+        &mut targets,
+        Some(5),
+        &mut CountedWriter::new(&mut out),
+    );
     is_done(&outcome, Some(5)) && out.as_slice() == want
 }
 
 /// Whether a table is refused for this fault of its targets, and nothing is written.
-fn is_faulty_table<R: Threads>(rt: &R, alloc: Global, targets: &[u8], fault: Fault) -> bool {
+fn is_faulty_table<R: Threads>(rt: &R, alloc: Global, mut targets: &[u8], fault: Fault) -> bool {
+    let (mut gr, mut sources) = (SIX, SOURCES);
     let mut out = Vec::new(alloc);
-    let outcome = table_text(rt, alloc, SIX, SOURCES, targets, None, &mut out);
+    let outcome = table_text(
+        rt,
+        alloc,
+        &mut gr,
+        &mut sources,
+        &mut targets,
+        None,
+        &mut CountedWriter::new(&mut out),
+    );
     outcome == Err(Failed::Text { which: 2, fault }) && out.is_empty()
 }
 
@@ -124,8 +144,10 @@ fn is_reached<R: Threads>(
     limit: Option<u64>,
     want: &str,
 ) -> bool {
+    let mut gr = SIX;
     let mut out = Vec::new(alloc);
-    let outcome = reach_text(rt, alloc, SIX, reach, limit, None, &mut out);
+    let mut writer = CountedWriter::new(&mut out);
+    let outcome = reach_text(rt, alloc, &mut gr, reach, limit, None, &mut writer);
     is_done(&outcome, None) && out.as_slice() == want.as_bytes()
 }
 
@@ -149,9 +171,8 @@ fn is_written_or_told(outcome: Result<Done, Failed>, failed: u64, writes: u32) -
 fn once_failing<R: Threads>(rt: &R, alloc: Global, writes: u32) -> (Result<Done, Failed>, u64) {
     let mut failing = FailingWriter { writes, taken: 0 };
     let mut six = SIX;
-    let mut six = Counted::new(&mut six);
     let mut writer = CountedWriter::new(&mut failing);
-    let outcome = once_counted(rt, alloc, &mut six, 1, 6, Some(5), &mut writer);
+    let outcome = once_text(rt, alloc, &mut six, 1, 6, Some(5), &mut writer);
     (outcome, writer.failed_writes())
 }
 
@@ -170,9 +191,8 @@ fn a_writer_fails_at_each_write(rt: HostRuntime) {
 fn batch_failing<R: Threads>(rt: &R, alloc: Global, writes: u32) -> (Result<Done, Failed>, u64) {
     let mut failing = FailingWriter { writes, taken: 0 };
     let (mut six, mut pairs) = (SIX, PAIRS);
-    let (mut six, mut pairs) = (Counted::new(&mut six), Counted::new(&mut pairs));
     let mut writer = CountedWriter::new(&mut failing);
-    let outcome = batch_counted(rt, alloc, &mut six, &mut pairs, Some(5), &mut writer);
+    let outcome = batch_text(rt, alloc, &mut six, &mut pairs, Some(5), &mut writer);
     (outcome, writer.failed_writes())
 }
 
@@ -194,10 +214,9 @@ fn batch_read<T: Threads, R: BufRead>(
     pairs: &mut Counted<'_, R>,
 ) -> (Result<Done, Failed>, bool) {
     let mut six = SIX;
-    let mut six = Counted::new(&mut six);
     let mut out = Vec::new(alloc);
     let mut writer = CountedWriter::new(&mut out);
-    let outcome = batch_counted(rt, alloc, &mut six, pairs, None, &mut writer);
+    let outcome = batch_text(rt, alloc, &mut six, pairs, None, &mut writer);
     let want = if outcome.is_ok() { ANSWERS } else { &[] };
     (outcome, out.as_slice() == want)
 }
@@ -226,32 +245,8 @@ fn a_reader_of_pairs_fails(rt: HostRuntime) -> Result<(), Fail> {
     Ok(())
 }
 
-/// Whether a counted query is done.
-fn counts_once<T: Threads, W: Write>(
-    rt: &T,
-    alloc: Global,
-    writer: &mut CountedWriter<'_, W>,
-) -> bool {
-    let mut six = SIX;
-    let mut six = Counted::new(&mut six);
-    let outcome = once_counted(rt, alloc, &mut six, 1, 6, Some(5), writer);
-    is_done(&outcome, Some(5))
-}
-
-/// Whether a counted batch is done.
-fn counts_batch<T: Threads, W: Write>(
-    rt: &T,
-    alloc: Global,
-    writer: &mut CountedWriter<'_, W>,
-) -> bool {
-    let (mut six, mut pairs) = (SIX, PAIRS);
-    let (mut six, mut pairs) = (Counted::new(&mut six), Counted::new(&mut pairs));
-    let outcome = batch_counted(rt, alloc, &mut six, &mut pairs, None, writer);
-    is_done(&outcome, None)
-}
-
-/// Whether pairs of a network are answered, at version 7.
-fn counts_pairs<T: Threads, W: Write>(
+/// Whether the pairs of the worked rows are answered in their network, at version 7.
+fn answers_pairs<T: Threads, W: Write>(
     rt: &T,
     alloc: Global,
     writer: &mut CountedWriter<'_, W>,
@@ -266,23 +261,13 @@ fn counts_pairs<T: Threads, W: Write>(
     is_done(&outcome, Some(3))
 }
 
-/// Whether all three are done, and no write fails.
-fn are_counted<T: Threads>(rt: &T, alloc: Global, out: &mut Vec<u8>) -> bool {
-    let mut writer = CountedWriter::new(out);
-    let once = counts_once(rt, alloc, &mut writer);
-    let batch = counts_batch(rt, alloc, &mut writer);
-    let pairs = counts_pairs(rt, alloc, &mut writer);
-    once && batch && pairs && writer.failed_writes() == 0
-}
-
-/// The calls that count, with ample memory: each writes its bytes, and no call of a reader or of the writer fails.
 #[test]
-fn counted_calls_write_their_bytes(rt: HostRuntime) {
+fn pairs_of_a_network(rt: HostRuntime) {
     let mut out = Vec::new(rt.alloc());
-    assert!(rt; are_counted(&rt, rt.alloc(), &mut out));
-    assert!(rt;
-        out.as_slice() == b"v 0\nd 1 6 15\nv 0\nd 1 6 15\nx 6 1\nv 7\nd 1 6 15\nx 6 1\n".as_slice()
-    );
+    let mut writer = CountedWriter::new(&mut out);
+    assert!(rt; answers_pairs(&rt, rt.alloc(), &mut writer));
+    assert_eq!(rt; writer.failed_writes(), 0);
+    assert!(rt; out.as_slice() == b"v 7\nd 1 6 15\nx 6 1\n".as_slice());
 }
 
 /// A network, pairs, and what is written.
@@ -302,9 +287,10 @@ const BATCHES: [(&[u8], &[u8], &str); 4] = [
 ];
 
 /// Whether a batch is written so.
-fn is_batch<T: Threads>(rt: &T, alloc: Global, gr: &[u8], p2p: &[u8], want: &str) -> bool {
+fn is_batch<T: Threads>(rt: &T, alloc: Global, mut gr: &[u8], mut p2p: &[u8], want: &str) -> bool {
     let mut out = Vec::new(alloc);
-    let outcome = batch_text(rt, alloc, gr, p2p, Some(5), &mut out);
+    let mut writer = CountedWriter::new(&mut out);
+    let outcome = batch_text(rt, alloc, &mut gr, &mut p2p, Some(5), &mut writer);
     is_done(&outcome, Some(5)) && out.as_slice() == want.as_bytes()
 }
 
@@ -328,12 +314,13 @@ const FAULTS: [(&[u8], &[u8], u8, u64, Code); 5] = [
 fn is_faulty_batch<T: Threads>(
     rt: &T,
     alloc: Global,
-    gr: &[u8],
-    p2p: &[u8],
+    mut gr: &[u8],
+    mut p2p: &[u8],
     failed: Failed,
 ) -> bool {
     let mut out = Vec::new(alloc);
-    let outcome = batch_text(rt, alloc, gr, p2p, None, &mut out);
+    let mut writer = CountedWriter::new(&mut out);
+    let outcome = batch_text(rt, alloc, &mut gr, &mut p2p, None, &mut writer);
     outcome == Err(failed) && out.is_empty()
 }
 
@@ -354,14 +341,12 @@ fn faults_of_batches(rt: HostRuntime) {
 #[test]
 fn answers_are_sent_out(rt: HostRuntime) {
     let mut out = sending_writer(rt.alloc());
-    assert!(rt; is_done(&once_text(&rt, rt.alloc(), SIX, 1, 6, None, &mut out), None));
-    let pairs = b"p aux sp p2p 2\nq 1 6\nq 6 1\n";
-    assert!(rt;
-        is_done(
-            &batch_text(&rt, rt.alloc(), SIX, pairs, None, &mut out),
-            None
-        )
-    );
+    let mut writer = CountedWriter::new(&mut out);
+    let mut gr = SIX;
+    let once = once_text(&rt, rt.alloc(), &mut gr, 1, 6, None, &mut writer);
+    let (mut gr, mut pairs) = (SIX, PAIRS);
+    let batch = batch_text(&rt, rt.alloc(), &mut gr, &mut pairs, None, &mut writer);
+    assert!(rt; is_done(&once, None) && is_done(&batch, None));
     assert!(rt; out.sent.as_slice() == [13, 19].as_slice() && out.waiting == 0);
 }
 
@@ -396,9 +381,13 @@ fn allocations_fail_in_turn(rt: HostRuntime) {
     else {
         return;
     };
-    let once = once_text(&rt, alloc, SIX, 1, 6, None, &mut one);
+    let mut gr = SIX;
+    let mut writer = CountedWriter::new(&mut one);
+    let once = once_text(&rt, alloc, &mut gr, 1, 6, None, &mut writer);
     let once = is_answered_or_starved(&rt, once, &one, b"v 0\nd 1 6 15\n");
-    let batch = batch_text(&rt, alloc, SIX, PAIRS, None, &mut all);
+    let (mut gr, mut pairs) = (SIX, PAIRS);
+    let mut writer = CountedWriter::new(&mut all);
+    let batch = batch_text(&rt, alloc, &mut gr, &mut pairs, None, &mut writer);
     let batch = is_answered_or_starved(&rt, batch, &all, b"v 0\nd 1 6 15\nx 6 1\n");
     assert!(rt; once || batch);
 }
@@ -484,18 +473,10 @@ fn is_answered_with(
 )
     requires { (1 ≤ capacity) × (capacity ≤ 64) }
 {
-    let mut searches = Searches::new(rt.alloc(), None, capacity);
+    let searches = Searches::new(None, capacity);
     let mut out = Vec::new(rt.alloc());
     let mut writer = CountedWriter::new(&mut out);
-    let outcome = answer_by(
-        rt,
-        rt.alloc(),
-        network,
-        0,
-        &mut searches,
-        pairs,
-        &mut writer,
-    );
+    let outcome = answer_by(rt, rt.alloc(), network, 0, &searches, pairs, &mut writer);
     assert!(rt; is_done(&outcome, None), "{capacity} rows");
     assert!(rt; out.as_slice() == want.as_bytes(), "{capacity} rows");
 }
@@ -540,8 +521,10 @@ fn is_batch_under<T: Threads>(
     if delta.is_some_and(|width| width == 0 || width > 2147483647) {
         return false;
     }
+    let (mut gr, mut p2p) = texts;
     let mut out = Vec::new(alloc);
-    let outcome = batch_text(rt, alloc, texts.0, texts.1, delta, &mut out);
+    let mut writer = CountedWriter::new(&mut out);
+    let outcome = batch_text(rt, alloc, &mut gr, &mut p2p, delta, &mut writer);
     outcome.is_ok() && out.as_slice() == want.as_bytes()
 }
 

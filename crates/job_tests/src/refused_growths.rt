@@ -2,7 +2,7 @@
 use dimacs::Code;
 use disk::MemDisk;
 use fixtures::{LANDMARKS, PAIRS, SIX};
-use printing::Failed;
+use printing::{CountedWriter, Failed};
 use roadnet::Refusal;
 use std::alloc::Global;
 use std::process::Abort;
@@ -25,21 +25,27 @@ fn is_told(rt: &impl Abort, failed: Option<Failed>, out: &[u8], want: &[u8]) -> 
     failed.is_none()
 }
 
+/// What the making of a store on this disk comes to.
+fn created_on(alloc: Global, disk: MemDisk, out: &mut Vec<u8>) -> (Result<(), Failed>, MemDisk) {
+    let (mut gr, mut ss) = (SIX, LANDMARKS);
+    let mut writer = CountedWriter::new(out);
+    create_text(alloc, disk, &mut gr, &mut ss, 64, None, &mut writer)
+}
+
 /// A store is made; where memory is wanting for that the disk is handed back empty, and takes a store. Answers its disk, and whether all
 /// memory was there; or nothing where the disk failed.
 fn made(rt: &impl Abort, alloc: Global) -> Option<(MemDisk, bool)> {
     let Ok(mut out) = Vec::with_capacity(alloc, 32) else {
         return None;
     };
-    let disk = MemDisk::new(alloc);
-    let (outcome, disk) = create_text(alloc, disk, SIX, LANDMARKS, 64, None, &mut out);
+    let (outcome, disk) = created_on(alloc, MemDisk::new(alloc), &mut out);
     if is_told(rt, outcome.err(), &out, b"ok 0\n") {
         return Some((disk, true));
     }
     if outcome == Err(Failed::Code(Refusal::Device)) {
         return None;
     }
-    let (outcome, disk) = create_text(alloc, disk, SIX, LANDMARKS, 64, None, &mut out);
+    let (outcome, disk) = created_on(alloc, disk, &mut out);
     assert!(rt; outcome == Ok(()) && out.as_slice() == b"ok 0\n".as_slice());
     Some((disk, false))
 }
@@ -58,9 +64,13 @@ fn allocations_fail_in_turn(rt: HostRuntime) {
     ) else {
         return;
     };
-    let (asked, disk) = ask_text(&rt, alloc, disk, PAIRS, None, &mut answers);
+    let mut pairs = PAIRS;
+    let mut writer = CountedWriter::new(&mut answers);
+    let (asked, disk) = ask_text(&rt, alloc, disk, &mut pairs, None, &mut writer);
     let asking = is_told(&rt, asked.err(), &answers, b"v 0\nd 1 6 15\nx 6 1\n");
-    let (applied, _) = apply_text(alloc, disk, b"close 7\nset 8 4\n", &mut told);
+    let mut commands = b"close 7\nset 8 4\n".as_slice();
+    let mut writer = CountedWriter::new(&mut told);
+    let (applied, _) = apply_text(alloc, disk, &mut commands, &mut writer);
     if told.as_slice() == b"no 11\nok 1\n".as_slice()
         || told.as_slice() == b"ok 1\nno 11\n".as_slice()
     {

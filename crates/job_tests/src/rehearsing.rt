@@ -4,8 +4,8 @@ use crate::outcomes::is_done;
 use crate::streams::{FailingReader, FailingWriter, sending_writer};
 use dimacs::{Code, Counted, Fault};
 use fixtures::SIX;
-use printing::{CountedWriter, Failed};
-use rehearsals::{joint_counted, joint_text, rehearse_counted, rehearse_text};
+use printing::{CountedWriter, Done, Failed};
+use rehearsals::{joint_text, rehearse_text};
 use roadnet::Refusal;
 use std::alloc::Global;
 use std::io::BufReader;
@@ -21,9 +21,9 @@ pub const CLOSED: &[u8] = b"close 7\nflush\ndist 1 6\ntask\npublish\ndist 1 6\n"
 fn is_rehearsed(
     rt: &(impl Abort + AllocGlobal + Threads),
     name: &str,
-    gr: &[u8],
+    mut gr: &[u8],
     journal_pages: u32,
-    script: &[u8],
+    mut script: &[u8],
     want: &[u8],
 )
     requires some { 1 ≤ journal_pages }
@@ -33,12 +33,12 @@ fn is_rehearsed(
     let outcome = rehearse_text(
         rt,
         rt.alloc(),
-        gr,
-        script,
+        &mut gr,
+        &mut script,
         journal_pages,
         None,
         None,
-        &mut out,
+        &mut CountedWriter::new(&mut out),
     );
     assert!(rt; outcome.is_ok(), "{name}");
     assert!(rt; out.as_slice() == want, "{name}");
@@ -46,9 +46,11 @@ fn is_rehearsed(
 
 /// A joint text is answered with just these bytes.
 fn is_answered(rt: &(impl Abort + AllocGlobal + Threads), name: &str, text: &[u8], want: &[u8]) {
-    let mut reader = text;
+    let mut text = text;
+    let mut reader = Counted::new(&mut text);
     let mut out = Vec::new(rt.alloc());
-    let outcome = joint_text(rt, rt.alloc(), &mut reader, None, &mut out);
+    let mut writer = CountedWriter::new(&mut out);
+    let outcome = joint_text(rt, rt.alloc(), &mut reader, None, &mut writer);
     assert!(rt; outcome.is_ok(), "{name}");
     assert!(rt; out.as_slice() == want, "{name}");
 }
@@ -182,6 +184,28 @@ fn scripts_of_two_journal_pages(rt: HostRuntime) {
     }
 }
 
+/// What a script comes to on a new store with this room.
+fn rehearsed_with_room<R: AllocGlobal + Threads>(
+    rt: &R,
+    mut script: &[u8],
+    room: u64,
+    out: &mut Vec<u8>,
+) -> Result<Done, Failed> {
+    let mut gr = SIX;
+    let mut writer = CountedWriter::new(out);
+    let room = Some(room);
+    rehearse_text(
+        rt,
+        rt.alloc(),
+        &mut gr,
+        &mut script,
+        64,
+        room,
+        None,
+        &mut writer,
+    )
+}
+
 /// New arcs in a store with room for two: a run that ignores the room refuses the first of them. A room that is none is refused, and nothing is told.
 #[test]
 fn arcs_are_laid(rt: HostRuntime) {
@@ -190,11 +214,11 @@ fn arcs_are_laid(rt: HostRuntime) {
     let want =
         b"v 0\nx 6 1\nt 1\nno 21\nno 24\nok 1\ntask 1\nshown 1\nv 1\nd 6 1 7\nt 2\nno 29\nok 2\ntask 2\nshown 2\nv 2\nd 1 6 14\n";
     let mut out = Vec::new(rt.alloc());
-    let outcome = rehearse_text(&rt, rt.alloc(), SIX, script, 64, Some(10), None, &mut out);
+    let outcome = rehearsed_with_room(&rt, script, 10, &mut out);
     assert!(rt; is_done(&outcome, None) && out.as_slice() == want.as_slice());
     for room in [7, 67108865] {
         let mut out = Vec::new(rt.alloc());
-        let outcome = rehearse_text(&rt, rt.alloc(), SIX, script, 64, Some(room), None, &mut out);
+        let outcome = rehearsed_with_room(&rt, script, room, &mut out);
         assert!(rt; outcome == Err(Failed::Code(Refusal::TooLarge)) && out.is_empty());
     }
 }
@@ -386,10 +410,20 @@ fn faults_of_texts(rt: HostRuntime) {
         (SIX, b"close 7\nstop 1 256 flush", 1, 2, Code::NumberRange),
         (SIX, b"flush\nrun\n", 1, 2, Code::BadLine),
     ];
-    for (gr, script, which, line, code) in table {
+    for (mut gr, mut script, which, line, code) in table {
         let mut out = Vec::new(rt.alloc());
+        let mut writer = CountedWriter::new(&mut out);
         let fault = Fault { line, code };
-        let outcome = rehearse_text(&rt, rt.alloc(), gr, script, 64, None, None, &mut out);
+        let outcome = rehearse_text(
+            &rt,
+            rt.alloc(),
+            &mut gr,
+            &mut script,
+            64,
+            None,
+            None,
+            &mut writer,
+        );
         assert!(rt; outcome == Err(Failed::Text { which, fault }), "{fault}");
         assert!(rt; out.is_empty(), "{fault}");
     }
@@ -431,10 +465,12 @@ fn faults_of_joint_texts(rt: HostRuntime) {
         ),
     ];
     for (text, which, line, code) in table {
-        let mut reader = text;
+        let mut text = text;
+        let mut reader = Counted::new(&mut text);
         let mut out = Vec::new(rt.alloc());
+        let mut writer = CountedWriter::new(&mut out);
         let fault = Fault { line, code };
-        let outcome = joint_text(&rt, rt.alloc(), &mut reader, None, &mut out);
+        let outcome = joint_text(&rt, rt.alloc(), &mut reader, None, &mut writer);
         assert!(rt; outcome == Err(Failed::Text { which, fault }), "{fault}");
         assert!(rt; out.is_empty(), "{fault}");
     }
@@ -444,8 +480,18 @@ fn faults_of_joint_texts(rt: HostRuntime) {
 #[test]
 fn widths_give_one_answer(rt: HostRuntime) {
     for delta in [Some(1), Some(5), Some(2147483647)] {
+        let (mut gr, mut script) = (SIX, CLOSED);
         let mut out = Vec::new(rt.alloc());
-        let outcome = rehearse_text(&rt, rt.alloc(), SIX, CLOSED, 1, None, delta, &mut out);
+        let outcome = rehearse_text(
+            &rt,
+            rt.alloc(),
+            &mut gr,
+            &mut script,
+            1,
+            None,
+            delta,
+            &mut CountedWriter::new(&mut out),
+        );
         assert!(rt; is_done(&outcome, delta), "{delta:?}");
         assert!(rt;
             out.as_slice()
@@ -468,7 +514,7 @@ fn a_reader_fails_at_each_read(rt: HostRuntime) -> Result<(), Fail> {
         let mut counted = Counted::new(&mut reader);
         let mut out = Vec::new(rt.alloc());
         let mut writer = CountedWriter::new(&mut out);
-        let outcome = joint_counted(&rt, rt.alloc(), &mut counted, None, &mut writer);
+        let outcome = joint_text(&rt, rt.alloc(), &mut counted, None, &mut writer);
         let failed = counted.failed_calls();
         if let Err(Failed::Text { which: _, fault }) = outcome {
             assert!(rt; fault.code == Code::Read && failed == 1, "read {reads}");
@@ -494,10 +540,10 @@ fn a_reader_of_a_script_fails(rt: HostRuntime) -> Result<(), Fail> {
         let mut script = Counted::new(&mut reader);
         let mut out = Vec::new(rt.alloc());
         let mut writer = CountedWriter::new(&mut out);
-        let outcome = rehearse_counted(
+        let outcome = rehearse_text(
             &rt,
             rt.alloc(),
-            &mut Counted::new(&mut gr),
+            &mut gr,
             &mut script,
             64,
             None,
@@ -526,11 +572,11 @@ fn a_writer_fails_at_each_write(rt: HostRuntime) {
         let mut failing = FailingWriter { writes, taken: 0 };
         let (mut six, mut script) = (SIX, b"dist 1 6\ndist 6 1\n".as_slice());
         let mut writer = CountedWriter::new(&mut failing);
-        let outcome = rehearse_counted(
+        let outcome = rehearse_text(
             &rt,
             rt.alloc(),
-            &mut Counted::new(&mut six),
-            &mut Counted::new(&mut script),
+            &mut six,
+            &mut script,
             64,
             None,
             None,
@@ -553,24 +599,27 @@ fn a_writer_fails_at_each_write(rt: HostRuntime) {
 #[test]
 fn replies_are_sent_out(rt: HostRuntime) {
     let mut out = sending_writer(rt.alloc());
+    let (mut six, mut script) = (SIX, b"close 7\nflush\n".as_slice());
     let outcome = rehearse_text(
         &rt,
         rt.alloc(),
-        SIX,
-        b"close 7\nflush\n",
+        &mut six,
+        &mut script,
         64,
         None,
         None,
-        &mut out,
+        &mut CountedWriter::new(&mut out),
     );
     assert!(rt; is_done(&outcome, None));
     let mut text: &[u8] = b"p sp 1 0\nrun\ndist 1 1\n";
-    assert!(rt;
-        is_done(
-            &joint_text(&rt, rt.alloc(), &mut text, None, &mut out),
-            None
-        )
+    let outcome = joint_text(
+        &rt,
+        rt.alloc(),
+        &mut Counted::new(&mut text),
+        None,
+        &mut CountedWriter::new(&mut out),
     );
+    assert!(rt; is_done(&outcome, None));
     assert!(rt; out.sent.as_slice() == [9, 12].as_slice() && out.waiting == 0);
 }
 

@@ -1,5 +1,6 @@
 use crate::outcomes::is_done;
 use crate::rehearsing::three_word_pages;
+use printing::CountedWriter;
 use rehearsals::rehearse_text;
 use std::alloc::Global;
 use std::process::Abort;
@@ -131,10 +132,24 @@ fn draw_script(
 }
 
 /// Whether just these bytes are printed of a script on this network.
-fn prints<R: Threads>(rt: &R, alloc: Global, gr: &[u8], script: &[u8], want: &[u8]) -> bool {
+fn prints<R: Threads>(
+    rt: &R,
+    alloc: Global,
+    mut gr: &[u8],
+    mut script: &[u8],
+    want: &[u8],
+) -> bool {
     let mut out = Vec::new(alloc);
-    let pages = JOURNAL_PAGES as u32;
-    let outcome = rehearse_text(rt, alloc, gr, script, pages, Some(ROOM), None, &mut out);
+    let outcome = rehearse_text(
+        rt,
+        alloc,
+        &mut gr,
+        &mut script,
+        JOURNAL_PAGES as u32,
+        Some(ROOM),
+        None,
+        &mut CountedWriter::new(&mut out),
+    );
     is_done(&outcome, None) && out.as_slice() == want
 }
 

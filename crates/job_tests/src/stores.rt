@@ -3,7 +3,7 @@ ghost use Rattle.std.specs.Prelude.{◌≤◌};
 use crate::outcomes::is_done;
 use crate::rehearsing::put_group;
 use crate::streams::{SendingWriter, sending_writer};
-use dimacs::{Code, Counted, Fault};
+use dimacs::{Code, Fault};
 use disk::{Disk, FailOnce, FuseDisk, MemDisk};
 use fixtures::{LANDMARKS, PAIR, SIX};
 use printing::{CountedWriter, Failed};
@@ -14,25 +14,23 @@ use std::test::Fail;
 use std::thread::Threads;
 use store::open;
 use store_fixtures::with_bytes;
-use storetexts::{
-    apply_counted, apply_text, ask_counted, ask_text, create_counted, create_store, create_text,
-    read_planned,
-};
+use storetexts::{apply_text, ask_text, create_store, create_text, read_planned};
 
 /// A store of the network with landmarks 3 and 6, and what was written.
 pub fn created(alloc: Global, journal_pages: u32) -> Result<(MemDisk, Vec<u8>), Refusal>
     requires some { 1 ≤ journal_pages }
     requires few { journal_pages ≤ 65536 }
 {
+    let (mut gr, mut ss) = (SIX, LANDMARKS);
     let mut out = Vec::new(alloc);
     match create_text(
         alloc,
         MemDisk::new(alloc),
-        SIX,
-        LANDMARKS,
+        &mut gr,
+        &mut ss,
         journal_pages,
         None,
-        &mut out,
+        &mut CountedWriter::new(&mut out),
     ) {
         (Ok(()), disk) => Ok((disk, out)),
         (Err(_), _) => Err(Refusal::Broken),
@@ -75,9 +73,10 @@ fn made(alloc: Global) -> Result<(bool, MemDisk), Refusal> {
 }
 
 /// Whether commands are applied to the store of a disk and this is told, and the disk.
-fn applies(alloc: Global, disk: MemDisk, text: &[u8], want: &[u8]) -> (bool, MemDisk) {
+fn applies(alloc: Global, disk: MemDisk, mut text: &[u8], want: &[u8]) -> (bool, MemDisk) {
     let mut out = Vec::new(alloc);
-    let (outcome, disk) = apply_text(alloc, disk, text, &mut out);
+    let mut writer = CountedWriter::new(&mut out);
+    let (outcome, disk) = apply_text(alloc, disk, &mut text, &mut writer);
     (outcome == Ok(()) && out.as_slice() == want, disk)
 }
 
@@ -86,11 +85,12 @@ pub(crate) fn answers<R: Threads>(
     rt: &R,
     alloc: Global,
     disk: MemDisk,
-    text: &[u8],
+    mut text: &[u8],
     want: &[u8],
 ) -> (bool, MemDisk) {
     let mut out = Vec::new(alloc);
-    let (outcome, disk) = ask_text(rt, alloc, disk, text, Some(5), &mut out);
+    let mut writer = CountedWriter::new(&mut out);
+    let (outcome, disk) = ask_text(rt, alloc, disk, &mut text, Some(5), &mut writer);
     (is_done(&outcome, Some(5)) && out.as_slice() == want, disk)
 }
 
@@ -168,10 +168,11 @@ fn lines_of(text: &[u8]) -> u64 {
 
 /// Of a new store with so many journal pages behind a text of so many commands: whether they are told as done, from the first to the last, and the version that is
 /// opened.
-fn applied_all(alloc: Global, text: &[u8], count: u64) -> Result<(bool, u64), Refusal> {
+fn applied_all(alloc: Global, mut text: &[u8], count: u64) -> Result<(bool, u64), Refusal> {
     let (disk, _) = created(alloc, 2)?;
     let mut out = Vec::new(alloc);
-    let (outcome, disk) = apply_text(alloc, disk, text, &mut out);
+    let mut writer = CountedWriter::new(&mut out);
+    let (outcome, disk) = apply_text(alloc, disk, &mut text, &mut writer);
     let are_told = outcome == Ok(())
         && lines_of(&out) == count
         && out.as_slice().starts_with(b"ok 1\nok 2\n")
@@ -209,12 +210,13 @@ fn are_applied(alloc: Global, text: &[u8]) -> Result<u64, Refusal> {
 /// What a text comes to on a new store whose disk fails in this call, how many lines are told, and the version that is opened then.
 fn failed_at(
     alloc: Global,
-    text: &[u8],
+    mut text: &[u8],
     call: u64,
 ) -> Result<(Result<(), Failed>, u64, u64), Refusal> {
     let (disk, _) = created(alloc, 1)?;
     let mut out = Vec::new(alloc);
-    let (outcome, disk) = apply_text(alloc, FailOnce::new(disk, call), text, &mut out);
+    let mut writer = CountedWriter::new(&mut out);
+    let (outcome, disk) = apply_text(alloc, FailOnce::new(disk, call), &mut text, &mut writer);
     let version = version_on(alloc, disk.into_inner())?;
     Ok((outcome, lines_of(&out), version))
 }
@@ -257,13 +259,15 @@ const FAULTS: [(&[u8], &[u8], u8, u64, Code); 3] = [
 /// Whether no store is made of these texts for this fault, nothing is told, and the disk stays empty.
 fn is_unmade(
     alloc: Global,
-    gr: &[u8],
-    ss: &[u8],
+    mut gr: &[u8],
+    mut ss: &[u8],
     which: u8,
     fault: Fault,
 ) -> Result<bool, Refusal> {
     let mut out = Vec::new(alloc);
-    let (outcome, mut disk) = create_text(alloc, MemDisk::new(alloc), gr, ss, 64, None, &mut out);
+    let mut writer = CountedWriter::new(&mut out);
+    let empty = MemDisk::new(alloc);
+    let (outcome, mut disk) = create_text(alloc, empty, &mut gr, &mut ss, 64, None, &mut writer);
     let is_told = outcome == Err(Failed::Text { which, fault }) && out.is_empty();
     Ok(is_told && bytes_of(alloc, &mut disk)?.is_empty())
 }
@@ -288,8 +292,10 @@ fn faulty(code: Code) -> Failed {
 
 /// Whether commands are refused for a fault, and nothing is told, and the disk.
 fn applies_no_fault(alloc: Global, disk: MemDisk) -> (bool, MemDisk) {
+    let mut text = b"close 7\nclose x\n".as_slice();
     let mut out = Vec::new(alloc);
-    let (outcome, disk) = apply_text(alloc, disk, b"close 7\nclose x\n", &mut out);
+    let mut writer = CountedWriter::new(&mut out);
+    let (outcome, disk) = apply_text(alloc, disk, &mut text, &mut writer);
     (
         outcome == Err(faulty(Code::BadLine)) && out.is_empty(),
         disk,
@@ -298,9 +304,10 @@ fn applies_no_fault(alloc: Global, disk: MemDisk) -> (bool, MemDisk) {
 
 /// The same of pairs.
 fn answers_no_fault<R: Threads>(rt: &R, alloc: Global, disk: MemDisk) -> (bool, MemDisk) {
+    let mut pairs = b"p aux sp p2p 1\nq 1 7\n".as_slice();
     let mut out = Vec::new(alloc);
-    let pairs = b"p aux sp p2p 1\nq 1 7\n";
-    let (outcome, disk) = ask_text(rt, alloc, disk, pairs, None, &mut out);
+    let mut writer = CountedWriter::new(&mut out);
+    let (outcome, disk) = ask_text(rt, alloc, disk, &mut pairs, None, &mut writer);
     (
         outcome == Err(faulty(Code::NodeRange)) && out.is_empty(),
         disk,
@@ -309,8 +316,10 @@ fn answers_no_fault<R: Threads>(rt: &R, alloc: Global, disk: MemDisk) -> (bool, 
 
 /// The same of a store that is to be made where there is one.
 fn is_made_nowhere(alloc: Global, disk: MemDisk) -> (bool, MemDisk) {
+    let (mut gr, mut ss) = (SIX, LANDMARKS);
     let mut out = Vec::new(alloc);
-    let (outcome, disk) = create_text(alloc, disk, SIX, LANDMARKS, 64, None, &mut out);
+    let mut writer = CountedWriter::new(&mut out);
+    let (outcome, disk) = create_text(alloc, disk, &mut gr, &mut ss, 64, None, &mut writer);
     (
         outcome == Err(Failed::Code(Refusal::NotEmpty)) && out.is_empty(),
         disk,
@@ -349,9 +358,11 @@ pub fn changed(alloc: Global, place: usize, byte: u8) -> Result<MemDisk, Refusal
 
 /// Whether what the disk has is refused so by commands and by pairs, and nothing is told.
 fn is_refused<R: Threads>(rt: &R, alloc: Global, disk: MemDisk, refusal: Refusal) -> bool {
+    let (mut commands, mut pair) = (b"close 7\n".as_slice(), PAIR);
     let mut out = Vec::new(alloc);
-    let (applied, disk) = apply_text(alloc, disk, b"close 7\n", &mut out);
-    let (asked, _) = ask_text(rt, alloc, disk, PAIR, None, &mut out);
+    let mut writer = CountedWriter::new(&mut out);
+    let (applied, disk) = apply_text(alloc, disk, &mut commands, &mut writer);
+    let (asked, _) = ask_text(rt, alloc, disk, &mut pair, None, &mut writer);
     let failed = Failed::Code(refusal);
     applied == Err(failed) && asked == Err(failed) && out.is_empty()
 }
@@ -374,17 +385,23 @@ fn other_files_are_refused(rt: HostRuntime) -> Result<(), Refusal> {
 }
 
 /// Whether a store is made and asked by a writer, and its disk.
-fn made_and_asked<R: Threads>(rt: &R, alloc: Global, out: &mut SendingWriter) -> (bool, MemDisk) {
-    let disk = MemDisk::new(alloc);
-    let (made, disk) = create_text(alloc, disk, SIX, LANDMARKS, 64, None, out);
-    let (asked, disk) = ask_text(rt, alloc, disk, PAIR, None, out);
+fn made_and_asked<R: Threads, W: Write>(
+    rt: &R,
+    alloc: Global,
+    writer: &mut CountedWriter<'_, W>,
+) -> (bool, MemDisk) {
+    let (mut gr, mut ss, mut pair) = (SIX, LANDMARKS, PAIR);
+    let empty = MemDisk::new(alloc);
+    let (made, disk) = create_text(alloc, empty, &mut gr, &mut ss, 64, None, writer);
+    let (asked, disk) = ask_text(rt, alloc, disk, &mut pair, None, writer);
     (made == Ok(()) && is_done(&asked, None), disk)
 }
 
 /// The same of a store that takes commands too.
-fn sends<R: Threads>(rt: &R, alloc: Global, text: &[u8], out: &mut SendingWriter) -> bool {
-    let (asked, disk) = made_and_asked(rt, alloc, out);
-    let (applied, _) = apply_text(alloc, disk, text, out);
+fn sends<R: Threads>(rt: &R, alloc: Global, mut text: &[u8], out: &mut SendingWriter) -> bool {
+    let mut writer = CountedWriter::new(out);
+    let (asked, disk) = made_and_asked(rt, alloc, &mut writer);
+    let (applied, _) = apply_text(alloc, disk, &mut text, &mut writer);
     asked && applied == Ok(())
 }
 
@@ -404,71 +421,28 @@ fn lines_are_sent_page_by_page(rt: HostRuntime) -> Result<(), Refusal> {
 /// Whether a network and landmarks are read as they stand in their texts, and a store is made of them.
 fn plans_and_creates<W: Write>(alloc: Global, writer: &mut CountedWriter<'_, W>) -> bool {
     let (mut six, mut marks) = (SIX, LANDMARKS);
-    let planned = read_planned(
-        alloc,
-        &mut Counted::new(&mut six),
-        &mut Counted::new(&mut marks),
-        None,
-    );
-    let Ok(network) = planned else {
+    let Ok(network) = read_planned(alloc, &mut six, &mut marks, None) else {
         return false;
     };
     let (made, _) = create_store(alloc, MemDisk::new(alloc), &network, 2, writer);
     made == Ok(()) && network.landmarks() == [3, 6].as_slice()
 }
 
-/// Whether a store is made of these texts, and its disk.
-fn creates<W: Write>(alloc: Global, writer: &mut CountedWriter<'_, W>) -> (bool, MemDisk) {
-    let (mut six, mut marks) = (SIX, LANDMARKS);
-    let (outcome, disk) = create_counted(
-        alloc,
-        MemDisk::new(alloc),
-        &mut Counted::new(&mut six),
-        &mut Counted::new(&mut marks),
-        64,
-        None,
-        writer,
-    );
-    (outcome == Ok(()), disk)
-}
-
-/// Whether the store of the disk takes commands, and answers a pair.
-fn applies_and_asks<R: Threads, W: Write>(
-    rt: &R,
-    alloc: Global,
-    disk: MemDisk,
-    writer: &mut CountedWriter<'_, W>,
-) -> bool {
-    let mut commands = b"close 7\nclose 7\nset 8 4\n".as_slice();
-    let (applied, disk) = apply_counted(alloc, disk, &mut Counted::new(&mut commands), writer);
-    let mut pair = PAIR;
-    let mut pair = Counted::new(&mut pair);
-    let (asked, _) = ask_counted(rt, alloc, disk, &mut pair, Some(5), writer);
-    applied == Ok(()) && is_done(&asked, Some(5))
-}
-
-/// Whether all of these calls are done, and no write fails.
-fn are_counted<R: Threads>(rt: &R, alloc: Global, out: &mut Vec<u8>) -> bool {
-    let mut writer = CountedWriter::new(out);
-    let planned = plans_and_creates(alloc, &mut writer);
-    let (created, disk) = creates(alloc, &mut writer);
-    let asked = applies_and_asks(rt, alloc, disk, &mut writer);
-    planned && created && asked && writer.failed_writes() == 0
-}
-
-/// The calls that count, with ample memory: each writes its bytes, and no call of a reader or of the writer fails.
+/// The two halves of `create`, with ample memory.
 #[test]
-fn counted_calls_write_their_bytes(rt: HostRuntime) {
+fn planned_and_made(rt: HostRuntime) {
     let mut out = Vec::new(rt.alloc());
-    assert!(rt; are_counted(&rt, rt.alloc(), &mut out));
-    assert!(rt; out.as_slice() == b"ok 0\nok 0\nok 1\nno 22\nok 2\nv 2\nd 1 6 14\n".as_slice());
+    let mut writer = CountedWriter::new(&mut out);
+    assert!(rt; plans_and_creates(rt.alloc(), &mut writer));
+    assert_eq!(rt; writer.failed_writes(), 0);
+    assert!(rt; out.as_slice() == b"ok 0\n".as_slice());
 }
 
 /// What a text comes to on a new store whose disk takes so many calls, and how many lines are told.
 fn taken_by(
     alloc: Global,
     journal_pages: u32,
-    text: &[u8],
+    mut text: &[u8],
     calls: u64,
 ) -> Result<(Result<(), Failed>, u64), Refusal> {
     if journal_pages < 1 || journal_pages > 65536 {
@@ -476,7 +450,8 @@ fn taken_by(
     }
     let (disk, _) = created(alloc, journal_pages)?;
     let mut out = Vec::new(alloc);
-    let (outcome, _) = apply_text(alloc, FuseDisk::new(disk, calls), text, &mut out);
+    let mut writer = CountedWriter::new(&mut out);
+    let (outcome, _) = apply_text(alloc, FuseDisk::new(disk, calls), &mut text, &mut writer);
     Ok((outcome, lines_of(&out)))
 }
 

@@ -24,12 +24,12 @@ takes_row net (From l t) refused landmark lower = landmark l t refl
 takes_row net (Lower s t) refused landmark lower = lower s t refl
 
 -- a reply from a view of the shown version and network
-pub asked : (m : Machine) (shown : Net) (tracked : ℕ × Net) (query : Query) (version : ℕ) (network : Net) (answer : Answer) → IsViewed m shown tracked → version ≡ m.shown → network ≡ shown
+pub asked : (m : Machine) (shown : Net) (shared : Option Net) (query : Query) (version : ℕ) (network : Net) (answer : Answer) → IsViewed m shown shared → version ≡ m.shown → network ≡ shown
     → answer.version ≡ version → IsRight network query answer.reply → Asks m query (Ok answer) m
-asked m shown tracked query version network answer k v n told right = (told ∙ v, (shown, k.shown_is, subst (λ (x : Net). IsRight x query answer.reply) n right), refl)
+asked m shown shared query version network answer k v n told right = (told ∙ v, (shown, k.shown_is, subst (λ (x : Net). IsRight x query answer.reply) n right), refl)
 
 -- want of memory, which only a query that takes a row meets
-pub unanswered : (m : Machine) (shown : Net) (tracked : ℕ × Net) (query : Query) (network : Net) (result : Result Answer OutOfMemory) → IsErr result → IsViewed m shown tracked → network ≡ shown
+pub unanswered : (m : Machine) (shown : Net) (shared : Option Net) (query : Query) (network : Net) (result : Result Answer OutOfMemory) → IsErr result → IsViewed m shown shared → network ≡ shown
     → (IsSome (refusal_of network query) → ⊥) → ((l t : ℕ) → query ≡ From l t → ⊥) → ((s t : ℕ) → query ≡ Lower s t → ⊥) → Asks m query (or_out_of_memory result) m
-unanswered m shown tracked query network (Ok answer) is k n refused landmark lower = cc
-unanswered m shown tracked query network (Err e) is k n refused landmark lower = (refl, (shown, k.shown_is, subst (TakesRow query) n (takes_row network query refused landmark lower)), refl)
+unanswered m shown shared query network (Ok answer) is k n refused landmark lower = cc
+unanswered m shown shared query network (Err e) is k n refused landmark lower = (refl, (shown, k.shown_is, subst (TakesRow query) n (takes_row network query refused landmark lower)), refl)

@@ -7,6 +7,7 @@ pub mod Flushed
 pub mod Fronts
 pub mod Halts
 pub mod Held
+pub mod Leads
 pub mod LifeKept
 pub mod Lifted
 pub mod LivesInRun

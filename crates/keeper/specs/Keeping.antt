@@ -54,18 +54,11 @@ pub record LedgerState (D : Type 0) : Type 0 where
 abbrev pub with_views : Machine → ℕ → Option ℕ → Machine
 with_views m shown task = record m { shown = shown; task = task }
 
--- the network at a version that is durable
-pub record IsNetworkAt (m : Machine) (version : ℕ) (net : Net) : Type 0 where
-  pub from : m.base_version ≤ version
-  pub to : version ≤ m.durable
-  pub network_is : network_at m version ≡ Some net
-
--- The network of the view is that of the version that is shown. The keeper's own is that of a durable version: the task's, where one is out.
-pub record IsViewed (m : Machine) (shown : Net) (tracked : ℕ × Net) : Type 0 where
+-- The network of the view is that of the version that is shown. The one that is shared with the task that is out, if one is, is that of the task's version.
+pub record IsViewed (m : Machine) (shown : Net) (shared : Option Net) : Type 0 where
   pub state : IsState m
   pub shown_is : network_at m m.shown ≡ Some shown
-  pub tracked_is : IsNetworkAt m tracked.0 tracked.1
-  pub task_is : IfSome m.task (λ v. v ≡ tracked.0)
+  pub shared_is : IfSome shared (λ net. IfSome m.task (λ v. network_at m v ≡ Some net))
 
 -- the machine, the disk, how the shown view searches, and the disk as it was when the keeper's store was made or opened
 pub record Keeping (D : Type 0) : Type 0 where

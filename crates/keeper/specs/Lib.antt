@@ -2,6 +2,7 @@ pub mod Accepting
 pub mod Cutting
 pub mod Failures
 pub mod Keeping
+pub mod Leading
 pub mod Living
 pub mod Parts
 pub mod Rehearsing

@@ -51,15 +51,16 @@ impl<D: Disk> Ledger<D> {
         self.store.network()
     }
 
-    /// The groups behind this version, up to the durable one.
-    pub(crate) fn durable_since(&self, version: u64) -> &[Group]
-        requires from { self.now.machine.base_version ≤ version }
-        requires to { version ≤ self.now.machine.durable }
-        ensures groups { groups_to self.now.machine self.now.machine.durable ≡ groups_to self.now.machine version ++ result.now }
+    /// The groups behind one version, up to another one that is durable.
+    pub(crate) fn groups_between(&self, from: u64, to: u64) -> &[Group]
+        requires base { self.now.machine.base_version ≤ from }
+        requires order { from ≤ to }
+        requires durable { to ≤ self.now.machine.durable }
+        ensures groups { groups_to self.now.machine to ≡ groups_to self.now.machine from ++ result.now }
         ensures state { IsState self.now.machine }
     {
-        let first = (version - self.opened) as usize;
-        let end = (self.store.version() - self.opened) as usize;
+        let first = (from - self.opened) as usize;
+        let end = (to - self.opened) as usize;
         &self.history[first..end]
     }
 

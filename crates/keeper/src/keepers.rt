@@ -1,28 +1,30 @@
 use crate::ledgers::Ledger;
-use crate::tracked::Tracked;
 use disk::Disk;
+use roadnet::Network;
 use rows::Sight;
 use std::alloc::Global;
 use std::marker::Model;
 use std::ops::Deref;
+use std::sync::Arc;
 
 /// The keeper of a store: the ledger of the commands accepted since it was opened, and the view that answers are given from. It is plain
 /// data: whoever has it alone may call it. It lends its ledger, so what a ledger tells of itself it tells too.
 ///
-/// It takes what its ledger takes, 16 bytes an arc for a network of its own, which goes on by groups to the version of each task, 4 or 8 bytes a
-/// node for each of up to 16 rows, and 14 to 27 bytes a node that one search leaves to the next.
+/// It takes what its ledger takes, 4 or 8 bytes a node for each of up to 16 rows, and 14 to 27 bytes a node that one search leaves to the next. It has no
+/// network of its own: that of a task with a network is shared with who took it, until the task is out no more.
 #[derive(Drop)]
 pub struct Keeper<D: Disk> {
     pub(crate) alloc: Global,
     pub(crate) ledger: Ledger<D>,
     pub(crate) shown: Sight,
-    /// A network that was durable: that of the task which is out, where one is.
-    pub(crate) tracked: Tracked,
     /// The version of the task that is out.
     pub(crate) task: Option<u64>,
+    /// The network that this task was handed out with, if it was with one.
+    pub(crate) shared: Option<Arc<Network>>,
 }
 
 impl<D: Disk> Model for Keeper<D> {
+    ghost use Rattle.std.specs.Prelude.{option_map};
     ghost use Rattle.keeper.specs.Keeping.{Keeping, IsViewed, with_views};
 
     ghost Value = { Keeping D };
@@ -36,7 +38,7 @@ impl<D: Disk> Model for Keeper<D> {
 
     ghost invariant = { λ k.
         let m = with_views k.ledger.machine k.shown.version k.task in
-        IsViewed m k.shown.network (k.tracked.version, k.tracked.network) };
+        IsViewed m k.shown.network (option_map (λ shared. shared.value) k.shared) };
 }
 
 impl<D: Disk> Deref for Keeper<D> {

@@ -4,12 +4,14 @@
 
 mod asking;
 mod beginning;
+mod carrying;
 mod checkpoints;
 mod counts;
 mod entries;
 mod flushing;
 mod halted;
 mod keepers;
+mod leading;
 mod ledgers;
 mod lives;
 mod living;
@@ -20,12 +22,11 @@ mod same;
 mod starting;
 mod submitting;
 mod tasks;
-mod tracked;
 mod writing;
 
+pub use carrying::carry_out_in_turn;
 pub use keepers::Keeper;
 pub use ledgers::Ledger;
 pub use machine::{Answer, Event, Receipt, Replied, Ticket, Writing};
 pub use rehearsing::{Rehearsal, rehearse};
 pub use tasks::{GroupTask, Task};
-pub use tracked::carry_out_in_turn;

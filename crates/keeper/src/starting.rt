@@ -10,7 +10,6 @@ ghost use Rattle.keeper.specs.Keeping.{Holds, sizes_of};
 
 use crate::keepers::Keeper;
 use crate::ledgers::Ledger;
-use crate::tracked::Tracked;
 use disk::{Disk, Stoppable};
 use relax::{CHUNK, Crew};
 use roadnet::{Group, Network, OutOfMemory};
@@ -74,8 +73,6 @@ impl<D: Disk> Keeper<D> {
 
     /// The same, with this view of the store's network and version as the one that is shown. The width of the keeper's searches is the view's.
     ///
-    /// The network is copied once, for the tasks to come.
-    ///
     /// The one error is want of memory, and then the store is handed back.
     pub fn showing(
         alloc: Global,
@@ -91,17 +88,13 @@ impl<D: Disk> Keeper<D> {
         ensures given { IfOk result (λ keeper. keeper.given ≡ store.given) }
         ensures handed_back { IfErr result (λ refused. refused.1 ≡ store) }
     {
-        let version = store.version();
-        let Ok(network) = store.network().copy() else {
-            return Err((OutOfMemory, store));
-        };
         let ledger = Ledger::new(alloc, store)?;
         Ok(Keeper {
             alloc,
             ledger,
             shown: Sight::new(alloc, view),
-            tracked: Tracked { version, network },
             task: None,
+            shared: None,
         })
     }
 

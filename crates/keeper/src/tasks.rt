@@ -1,17 +1,19 @@
 // Views that are wanted: tasks handed out and given up, and the views of them shown.
 ghost use Rattle.std.specs.Prelude.{◌≡◌, None, Some, Ok, IfSome, IfOk, IfErr, OnOk, OnErr, MatchResult, option_map};
+ghost use Rattle.std.specs.Bool.{Decides};
 ghost use Rattle.std.proofs.Props.{props};
 ghost use Rattle.roadnet.specs.Step.{after};
 ghost use Rattle.keeper.specs.Parts.{or_out_of_memory, refusal_alone, result_map};
 ghost use Rattle.machine.specs.Calls.{TakesTask, without_task, IsTask, RefusesView, Publishes};
+ghost use Rattle.machine.specs.Machine.{network_at};
 
+use crate::carrying::copies;
 use crate::keepers::Keeper;
+use crate::leading::lead_to;
 use crate::same::is_same;
-use crate::tracked::{Tracked, copies};
 use disk::Disk;
 use roadnet::{Group, Network, OutOfMemory, Refusal};
 use rows::View;
-use std::alloc::Global;
 use std::snapshot::Snapshot;
 use std::sync::Arc;
 
@@ -38,20 +40,9 @@ pub struct GroupTask {
     ghost leads: { after view.value.network groups.items ≡ Some network.value } by { Prim.hlevel props },
 }
 
-/// The task of a tracked network, with a copy of it.
-fn task_of(alloc: Global, tracked: &Tracked) -> Result<Task, OutOfMemory>
-    ensures { IfOk result (λ task. (task.version ≡ tracked.now.version) × (task.network.value ≡ tracked.now.network)) }
-{
-    let Ok(network) = Arc::new(alloc, tracked.network.copy()?) else {
-        return Err(OutOfMemory);
-    };
-    let version = tracked.version;
-    Ok(Task { version, network })
-}
-
 impl<D: Disk> Keeper<D> {
-    /// A task: the durable version with a copy of its network. It is out then, until a view of it is shown or it is given up. There is none
-    /// while a task is out, and where the durable version is shown.
+    /// A task: the durable version with a copy of its network, of which the keeper keeps a share. It is out then, until a view of it is shown or it is
+    /// given up. There is none while a task is out, and where the durable version is shown.
     ///
     /// The one error is want of memory, and then nothing has changed. The network is copied once.
     ///
@@ -66,10 +57,16 @@ impl<D: Disk> Keeper<D> {
         if self.task.is_some() || self.shown.version() == self.ledger.durable() {
             return Ok(None);
         }
-        self.tracked.catch_up(&self.ledger)?;
-        let task = task_of(self.alloc, &self.tracked)?;
-        self.task = Some(task.version);
-        Ok(Some(task))
+        let Ok(network) = Arc::new(self.alloc, self.ledger.network().copy()?) else {
+            return Err(OutOfMemory);
+        };
+        let Ok(shared) = Arc::try_clone(&network) else {
+            return Err(OutOfMemory);
+        };
+        let version = self.ledger.durable();
+        self.task = Some(version);
+        self.shared = Some(shared);
+        Ok(Some(Task { version, network }))
     }
 
     /// A task, as `take_task` takes it, by the groups that lead to its network from that of the view that is shown. No network is copied, and
@@ -89,14 +86,17 @@ impl<D: Disk> Keeper<D> {
         if self.task.is_some() || self.shown.version() == self.ledger.durable() {
             return Ok(None);
         }
-        self.tracked.catch_up(&self.ledger)?;
+        let version = self.ledger.durable();
         let Ok(view) = Arc::try_clone(self.shown.view()) else {
             return Err(OutOfMemory);
         };
-        let groups = copies(self.alloc, self.ledger.durable_since(view.version()))?;
-        let version = self.tracked.version;
-        let network = Snapshot::of(&self.tracked.network);
+        let groups = copies(
+            self.alloc,
+            self.ledger.groups_between(view.version(), version),
+        )?;
+        let network = Snapshot::of(self.ledger.network());
         self.task = Some(version);
+        self.shared = None;
         Ok(Some(GroupTask {
             version,
             view,
@@ -123,7 +123,22 @@ impl<D: Disk> Keeper<D> {
             && task == version
         {
             self.task = None;
+            self.shared = None;
         }
+    }
+
+    /// Whether this is the network of the task of this version, which is out: compared with the one that the task was handed out with, else by the groups from
+    /// the shown version to the task's.
+    fn is_of_task(&self, version: u64, network: &Network) -> bool
+        requires { self.now.machine.task ≡ Some version }
+        ensures { Decides result (network_at self.now.machine version ≡ Some network.now) }
+    {
+        if let Some(shared) = &self.shared {
+            return is_same(shared, network);
+        }
+        let shown = self.shown.view();
+        let groups = self.ledger.groups_between(shown.version(), version);
+        lead_to(shown.network(), groups, network)
     }
 
     /// For what `publish` of the view would be refused: 51 where no task is out, 52 where the view's version or network is not the task's,
@@ -135,7 +150,7 @@ impl<D: Disk> Keeper<D> {
         let Some(task) = self.task else {
             return Err(Refusal::NoTask);
         };
-        if task != view.version() || !is_same(&self.tracked.network, view.network()) {
+        if task != view.version() || !self.is_of_task(task, view.network()) {
             return Err(Refusal::OtherNetwork);
         }
         Ok(())
@@ -172,6 +187,7 @@ impl<D: Disk> Keeper<D> {
     {
         let shown = view.version();
         self.task = None;
+        self.shared = None;
         self.shown.show(view);
         shown
     }

@@ -1,7 +1,11 @@
-//! Tests of networks, and of their arcs grouped by tail, by their public calls.
+//! Tests of networks, of their arcs grouped by tail, of stored networks that are brought to a new map, and of queues of nodes, by their public calls.
 #![tactic(auto)]
 
 #[cfg(test)]
 mod grouping;
 #[cfg(test)]
+mod queues;
+#[cfg(test)]
 mod stepping;
+#[cfg(test)]
+mod upgrading;

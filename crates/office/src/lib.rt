@@ -2,6 +2,7 @@
 //! got; and what callers carry away from it.
 #![tactic(auto)]
 
+mod bases;
 mod checkpoints;
 mod closed;
 mod counts;
@@ -13,6 +14,7 @@ mod settling;
 mod submitting;
 mod works;
 
+pub use bases::Basis;
 pub use closed::Closed;
 pub use history::{Claim as Ticket, Settled as Receipt};
 pub use naming::Naming;

@@ -3,7 +3,6 @@ use Rattle.std.proofs.Common.{◌∙◌, ℕ, ◌+◌, ◌<◌, ◌≤◌, ◌^�
 use Rattle.std.specs.Prelude.{OnOk, filter}
 use Rattle.std.specs.Io.KnownBytes.{Appends}
 use Rattle.std.specs.List.{AllByRecursion, enumerate_from}
-use Rattle.std.proofs.KnownBytes.{Appends-trans}
 use Rattle.std.proofs.lemmas.List.Elements.{recursion_from_All}
 use lib.Chars.{codes}
 use Rattle.roadnet.specs.declared.arcs.RoadArc.{RoadArc}
@@ -102,8 +101,3 @@ module _ (net : Net) (is : IsNetwork net) (origin : Origin) (of : IsOrigin origi
 pub on_writes : {X E : Type 0} (r : Result X E) (P : List ℕ → Type 0) (old new : Option (List ℕ)) (text : List ℕ) → P text → OnOk r (Appends old new text) → OnOk r (Writes P old new)
 on_writes (Ok x) P old new text says written = record { text = text; written = written; says = says }
 on_writes (Err e) P old new text says written = tt
-
--- ---- the parts of a text, one behind the other
-pub two_parts : {X E : Type 0} (r : Result X E) (old mid new : Option (List ℕ)) (first rest : List ℕ) → Appends old mid first → OnOk r (Appends mid new rest) → OnOk r (Appends old new (first ++ rest))
-two_parts (Ok x) old mid new first rest a b = Appends-trans old mid new first rest a b
-two_parts (Err e) old mid new first rest a b = tt

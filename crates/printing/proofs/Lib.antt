@@ -1,3 +1,4 @@
+pub mod Together
 pub mod ReplyLines
 pub mod AnsweredLines
 pub mod ReadTexts

@@ -46,6 +46,11 @@ abbrev pub CountsSecond : {X : Type 0} → ℕ → ℕ → Result X Failed → T
 CountsSecond old new (Err (Text (suc zero) fault)) = ByCode fault.code (new ≡ old) (new ≡ one_more_failed old) (new ≡ old)
 CountsSecond old new result = new ≡ old
 
+-- the same of the third reader
+abbrev pub CountsThird : {X : Type 0} → ℕ → ℕ → Result X Failed → Type 0
+CountsThird old new (Err (Text (suc (suc zero)) fault)) = ByCode fault.code (new ≡ old) (new ≡ one_more_failed old) (new ≡ old)
+CountsThird old new result = new ≡ old
+
 -- what holds where the disk failed
 abbrev pub IfDevice : Failed → Type 0 → Type 0
 IfDevice (Code Device) failed = failed

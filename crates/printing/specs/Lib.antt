@@ -2,6 +2,7 @@ pub mod Counting
 pub mod Printed
 pub mod Replied
 pub mod Failing
+pub mod Writers
 pub mod Widths
 pub mod Chosen
 pub mod Looks

@@ -1,8 +1,8 @@
 //! The texts in which a network is written out, as bytes.
-ghost use Rattle.std.specs.Prelude.{◌≡◌, ◌<◌, ◌^◌, [], not, map, OnOk, IfErr, if◌then◌else◌};
-ghost use Rattle.std.specs.Io.KnownBytes.{Appends};
+ghost use Rattle.std.specs.Prelude.{◌<◌, ◌^◌, [], not, map, OnOk, if◌then◌else◌};
 ghost use Rattle.roadnet.specs.Net.{IsNetwork};
-ghost use Rattle.printing.specs.Counting.{failed_writes, writer_of, IsSameWriter, CountsFailure};
+ghost use Rattle.printing.specs.Counting.{writer_of};
+ghost use Rattle.printing.specs.Writers.{Puts};
 ghost use Rattle.printing.specs.Chosen.{closed_arcs};
 ghost use Rattle.printing.specs.Exports.{line_of, text_of, heading, counts_row, count_row, arc_row, landmark_row, closing_row, network_rows, landmark_rows, closing_rows, exported_rows, IsOrigin, Says, Writes, ClosingRestores};
 
@@ -10,7 +10,7 @@ use crate::failed::Failed;
 use crate::looks::put_part;
 use crate::printed::put_numbered;
 use crate::writer::CountedWriter;
-use roadnet::{Network, Refusal, RoadArc};
+use roadnet::{Network, RoadArc};
 use std::io::Write;
 
 /// The texts in which a network is written out.
@@ -41,12 +41,9 @@ fn put_heading<W: Write>(
     version: u64,
     journal_pages: u32,
 ) -> Result<(), Failed>
-    ensures ok { OnOk result (Appends (W.contents (writer_of out.old)) (W.contents (writer_of out.new)) (line_of (heading mark.now room (record { version = version; journal_pages = journal_pages })))) }
+    ensures puts { Puts W.contents (line_of (heading mark.now room (record { version = version; journal_pages = journal_pages }))) result out.old out.new }
     ensures version { version < 2 ^ 64 }
     ensures pages { journal_pages < 2 ^ 32 }
-    ensures refused { IfErr result (λ failed. failed ≡ Failed.Code Refusal.Write) }
-    ensures counts { CountsFailure (failed_writes out.old) (failed_writes out.new) result }
-    ensures same { IsSameWriter out.old out.new }
 {
     out.write_all(mark)?;
     put_part(out, b" roadmark version ", version)?;
@@ -56,10 +53,7 @@ fn put_heading<W: Write>(
 
 /// `p sp N M`
 fn put_counts<W: Write>(out: &mut CountedWriter<'_, W>, nodes: u32, arcs: u64) -> Result<(), Failed>
-    ensures ok { OnOk result (Appends (W.contents (writer_of out.old)) (W.contents (writer_of out.new)) (line_of (counts_row nodes arcs))) }
-    ensures refused { IfErr result (λ failed. failed ≡ Failed.Code Refusal.Write) }
-    ensures counts { CountsFailure (failed_writes out.old) (failed_writes out.new) result }
-    ensures same { IsSameWriter out.old out.new }
+    ensures { Puts W.contents (line_of (counts_row nodes arcs)) result out.old out.new }
 {
     put_part(out, b"p sp ", u64::from(nodes))?;
     put_numbered(out, b" ", arcs)
@@ -67,20 +61,14 @@ fn put_counts<W: Write>(out: &mut CountedWriter<'_, W>, nodes: u32, arcs: u64) -
 
 /// `p aux sp ss N`
 fn put_count<W: Write>(out: &mut CountedWriter<'_, W>, landmarks: u64) -> Result<(), Failed>
-    ensures ok { OnOk result (Appends (W.contents (writer_of out.old)) (W.contents (writer_of out.new)) (line_of (count_row landmarks))) }
-    ensures refused { IfErr result (λ failed. failed ≡ Failed.Code Refusal.Write) }
-    ensures counts { CountsFailure (failed_writes out.old) (failed_writes out.new) result }
-    ensures same { IsSameWriter out.old out.new }
+    ensures { Puts W.contents (line_of (count_row landmarks)) result out.old out.new }
 {
     put_numbered(out, b"p aux sp ss ", landmarks)
 }
 
 /// `a T H W`
 fn put_arc_row<W: Write>(out: &mut CountedWriter<'_, W>, arc: &RoadArc) -> Result<(), Failed>
-    ensures ok { OnOk result (Appends (W.contents (writer_of out.old)) (W.contents (writer_of out.new)) (line_of (arc_row arc.now))) }
-    ensures refused { IfErr result (λ failed. failed ≡ Failed.Code Refusal.Write) }
-    ensures counts { CountsFailure (failed_writes out.old) (failed_writes out.new) result }
-    ensures same { IsSameWriter out.old out.new }
+    ensures { Puts W.contents (line_of (arc_row arc.now)) result out.old out.new }
 {
     put_part(out, b"a ", u64::from(arc.tail))?;
     put_part(out, b" ", u64::from(arc.head))?;
@@ -89,10 +77,7 @@ fn put_arc_row<W: Write>(out: &mut CountedWriter<'_, W>, arc: &RoadArc) -> Resul
 
 /// A line for each arc.
 fn put_arc_rows<W: Write>(out: &mut CountedWriter<'_, W>, arcs: &[RoadArc]) -> Result<(), Failed>
-    ensures ok { OnOk result (Appends (W.contents (writer_of out.old)) (W.contents (writer_of out.new)) (text_of (map arc_row arcs.now))) }
-    ensures refused { IfErr result (λ failed. failed ≡ Failed.Code Refusal.Write) }
-    ensures counts { CountsFailure (failed_writes out.old) (failed_writes out.new) result }
-    ensures same { IsSameWriter out.old out.new }
+    ensures { Puts W.contents (text_of (map arc_row arcs.now)) result out.old out.new }
 {
     for arc in arcs {
         put_arc_row(out, arc)?;
@@ -105,10 +90,7 @@ pub(crate) fn put_landmark_rows<W: Write>(
     out: &mut CountedWriter<'_, W>,
     landmarks: &[u32],
 ) -> Result<(), Failed>
-    ensures ok { OnOk result (Appends (W.contents (writer_of out.old)) (W.contents (writer_of out.new)) (text_of (map landmark_row landmarks.now))) }
-    ensures refused { IfErr result (λ failed. failed ≡ Failed.Code Refusal.Write) }
-    ensures counts { CountsFailure (failed_writes out.old) (failed_writes out.new) result }
-    ensures same { IsSameWriter out.old out.new }
+    ensures { Puts W.contents (text_of (map landmark_row landmarks.now)) result out.old out.new }
 {
     for node in landmarks {
         put_numbered(out, b"s ", u64::from(*node))?;
@@ -122,10 +104,7 @@ fn put_closing<W: Write>(
     number: u64,
     arc: &RoadArc,
 ) -> Result<(), Failed>
-    ensures ok { OnOk result (Appends (W.contents (writer_of out.old)) (W.contents (writer_of out.new)) (if not arc.now.opened then line_of (closing_row number) else [])) }
-    ensures refused { IfErr result (λ failed. failed ≡ Failed.Code Refusal.Write) }
-    ensures counts { CountsFailure (failed_writes out.old) (failed_writes out.new) result }
-    ensures same { IsSameWriter out.old out.new }
+    ensures { Puts W.contents (if not arc.now.opened then line_of (closing_row number) else []) result out.old out.new }
 {
     if arc.opened {
         return Ok(());
@@ -138,10 +117,7 @@ pub(crate) fn put_closing_rows<W: Write>(
     out: &mut CountedWriter<'_, W>,
     arcs: &[RoadArc],
 ) -> Result<(), Failed>
-    ensures ok { OnOk result (Appends (W.contents (writer_of out.old)) (W.contents (writer_of out.new)) (text_of (map closing_row (closed_arcs arcs.now)))) }
-    ensures refused { IfErr result (λ failed. failed ≡ Failed.Code Refusal.Write) }
-    ensures counts { CountsFailure (failed_writes out.old) (failed_writes out.new) result }
-    ensures same { IsSameWriter out.old out.new }
+    ensures { Puts W.contents (text_of (map closing_row (closed_arcs arcs.now))) result out.old out.new }
 {
     for (index, arc) in arcs.iter().enumerate() {
         put_closing(out, index as u64 + 1, arc)?;
@@ -155,12 +131,9 @@ fn put_network<W: Write>(
     network: &Network,
     origin: &Origin,
 ) -> Result<(), Failed>
-    ensures ok { OnOk result (Appends (W.contents (writer_of out.old)) (W.contents (writer_of out.new)) (text_of (network_rows network.now origin.now))) }
+    ensures puts { Puts W.contents (text_of (network_rows network.now origin.now)) result out.old out.new }
     ensures network { IsNetwork network.now }
     ensures origin { IsOrigin origin.now }
-    ensures refused { IfErr result (λ failed. failed ≡ Failed.Code Refusal.Write) }
-    ensures counts { CountsFailure (failed_writes out.old) (failed_writes out.new) result }
-    ensures same { IsSameWriter out.old out.new }
 {
     put_heading(
         out,
@@ -179,12 +152,9 @@ fn put_landmarks<W: Write>(
     network: &Network,
     origin: &Origin,
 ) -> Result<(), Failed>
-    ensures ok { OnOk result (Appends (W.contents (writer_of out.old)) (W.contents (writer_of out.new)) (text_of (landmark_rows network.now origin.now))) }
+    ensures puts { Puts W.contents (text_of (landmark_rows network.now origin.now)) result out.old out.new }
     ensures network { IsNetwork network.now }
     ensures origin { IsOrigin origin.now }
-    ensures refused { IfErr result (λ failed. failed ≡ Failed.Code Refusal.Write) }
-    ensures counts { CountsFailure (failed_writes out.old) (failed_writes out.new) result }
-    ensures same { IsSameWriter out.old out.new }
 {
     put_heading(
         out,
@@ -203,12 +173,9 @@ fn put_closings<W: Write>(
     network: &Network,
     origin: &Origin,
 ) -> Result<(), Failed>
-    ensures ok { OnOk result (Appends (W.contents (writer_of out.old)) (W.contents (writer_of out.new)) (text_of (closing_rows network.now origin.now))) }
+    ensures puts { Puts W.contents (text_of (closing_rows network.now origin.now)) result out.old out.new }
     ensures network { IsNetwork network.now }
     ensures origin { IsOrigin origin.now }
-    ensures refused { IfErr result (λ failed. failed ≡ Failed.Code Refusal.Write) }
-    ensures counts { CountsFailure (failed_writes out.old) (failed_writes out.new) result }
-    ensures same { IsSameWriter out.old out.new }
 {
     put_heading(
         out,
@@ -231,11 +198,8 @@ pub fn put_exported<W: Write>(
     network: &Network,
     origin: &Origin,
 ) -> Result<(), Failed>
-    ensures ok { OnOk result (Appends (W.contents (writer_of out.old)) (W.contents (writer_of out.new)) (text_of (exported_rows text network.now origin.now))) }
+    ensures puts { Puts W.contents (text_of (exported_rows text network.now origin.now)) result out.old out.new }
     ensures read { OnOk result (Writes (Says text network.now) (W.contents (writer_of out.old)) (W.contents (writer_of out.new))) }
-    ensures refused { IfErr result (λ failed. failed ≡ Failed.Code Refusal.Write) }
-    ensures counts { CountsFailure (failed_writes out.old) (failed_writes out.new) result }
-    ensures same { IsSameWriter out.old out.new }
 {
     match text {
         Exported::Network => put_network(out, network, origin),

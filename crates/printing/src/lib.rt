@@ -15,7 +15,7 @@ mod writer;
 pub use done::Done;
 pub use exports::{Exported, Origin, laws_of_exports, put_exported};
 pub use failed::{Failed, FaultLine, fault_line, of_text, status};
-pub use looks::{Look, put_look, put_look_answer};
+pub use looks::{Look, put_look};
 pub use nodes::{put_nearest, put_pairs, put_reach, put_reached};
 pub use printed::{put_answer, put_lines, put_number, put_numbered, put_refusal, put_version};
 pub use replied::{put_replies, put_reply};

@@ -1,10 +1,9 @@
 //! What an operator is told of a network, as bytes. No list is made: each number is written as the network is gone through.
-ghost use Rattle.std.specs.Prelude.{◌≡◌, ◌++◌, [], decimal, length, map, OnOk, IfErr, if◌then◌else◌};
-ghost use Rattle.std.specs.Io.KnownBytes.{Appends};
+ghost use Rattle.std.specs.Prelude.{◌≡◌, ◌++◌, [], decimal, length, if◌then◌else◌};
 ghost use lib.Chars.{codes};
 ghost use Rattle.printing.specs.Chosen.{arcs_where, closed_arcs, leads};
-ghost use Rattle.printing.specs.Counting.{failed_writes, writer_of, IsSameWriter, CountsFailure};
-ghost use Rattle.printing.specs.Looks.{state_word, arc_line, arcs_line, listed_numbers, arc_answer, arcs_answer, landmarks_answer, closed_answer, look_answer, look_lines};
+ghost use Rattle.printing.specs.Writers.{Puts};
+ghost use Rattle.printing.specs.Looks.{state_word, arc_line, listed_numbers, arc_answer, arcs_answer, landmarks_answer, closed_answer, look_answer, look_lines};
 ghost use Rattle.rows.specs.Replies.{are_nodes};
 
 use crate::exports::{put_closing_rows, put_landmark_rows};
@@ -32,10 +31,7 @@ pub(crate) fn put_part<W: Write>(
     word: &[u8],
     number: u64,
 ) -> Result<(), Failed>
-    ensures ok { OnOk result (Appends (W.contents (writer_of out.old)) (W.contents (writer_of out.new)) (word.now ++ decimal number)) }
-    ensures refused { IfErr result (λ failed. failed ≡ Failed.Code Refusal.Write) }
-    ensures counts { CountsFailure (failed_writes out.old) (failed_writes out.new) result }
-    ensures same { IsSameWriter out.old out.new }
+    ensures { Puts W.contents (word.now ++ decimal number) result out.old out.new }
 {
     out.write_all(word)?;
     put_number(out, number)
@@ -43,10 +39,7 @@ pub(crate) fn put_part<W: Write>(
 
 /// ` open` or ` closed`, and the end of the line
 fn put_state<W: Write>(out: &mut CountedWriter<'_, W>, opened: bool) -> Result<(), Failed>
-    ensures ok { OnOk result (Appends (W.contents (writer_of out.old)) (W.contents (writer_of out.new)) (state_word opened)) }
-    ensures refused { IfErr result (λ failed. failed ≡ Failed.Code Refusal.Write) }
-    ensures counts { CountsFailure (failed_writes out.old) (failed_writes out.new) result }
-    ensures same { IsSameWriter out.old out.new }
+    ensures { Puts W.contents (state_word opened) result out.old out.new }
 {
     if opened {
         out.write_all(b" open\n")
@@ -61,10 +54,7 @@ fn put_arc<W: Write>(
     number: u64,
     arc: &RoadArc,
 ) -> Result<(), Failed>
-    ensures ok { OnOk result (Appends (W.contents (writer_of out.old)) (W.contents (writer_of out.new)) (arc_line number arc.now)) }
-    ensures refused { IfErr result (λ failed. failed ≡ Failed.Code Refusal.Write) }
-    ensures counts { CountsFailure (failed_writes out.old) (failed_writes out.new) result }
-    ensures same { IsSameWriter out.old out.new }
+    ensures { Puts W.contents (arc_line number arc.now) result out.old out.new }
 {
     put_part(out, b"a ", number)?;
     put_part(out, b" ", u64::from(arc.tail))?;
@@ -79,10 +69,7 @@ fn put_arc_answer<W: Write>(
     network: &Network,
     number: u64,
 ) -> Result<(), Failed>
-    ensures ok { OnOk result (Appends (W.contents (writer_of out.old)) (W.contents (writer_of out.new)) (arc_answer network.now number)) }
-    ensures refused { IfErr result (λ failed. failed ≡ Failed.Code Refusal.Write) }
-    ensures counts { CountsFailure (failed_writes out.old) (failed_writes out.new) result }
-    ensures same { IsSameWriter out.old out.new }
+    ensures { Puts W.contents (arc_answer network.now number) result out.old out.new }
 {
     match network.arc(number) {
         Some(arc) => put_arc(out, number, &arc),
@@ -105,10 +92,7 @@ fn put_where_it_leads<W: Write>(
     number: u64,
     arc: &RoadArc,
 ) -> Result<(), Failed>
-    ensures ok { OnOk result (Appends (W.contents (writer_of out.old)) (W.contents (writer_of out.new)) (if leads tail head arc.now then codes " " ++ decimal number else [])) }
-    ensures refused { IfErr result (λ failed. failed ≡ Failed.Code Refusal.Write) }
-    ensures counts { CountsFailure (failed_writes out.old) (failed_writes out.new) result }
-    ensures same { IsSameWriter out.old out.new }
+    ensures { Puts W.contents (if leads tail head arc.now then codes " " ++ decimal number else []) result out.old out.new }
 {
     if !leads(tail, head, arc) {
         return Ok(());
@@ -123,10 +107,7 @@ fn put_numbers<W: Write>(
     head: u64,
     arcs: &[RoadArc],
 ) -> Result<(), Failed>
-    ensures ok { OnOk result (Appends (W.contents (writer_of out.old)) (W.contents (writer_of out.new)) (listed_numbers (arcs_where (leads tail head) arcs.now))) }
-    ensures refused { IfErr result (λ failed. failed ≡ Failed.Code Refusal.Write) }
-    ensures counts { CountsFailure (failed_writes out.old) (failed_writes out.new) result }
-    ensures same { IsSameWriter out.old out.new }
+    ensures { Puts W.contents (listed_numbers (arcs_where (leads tail head) arcs.now)) result out.old out.new }
 {
     for (index, arc) in arcs.iter().enumerate() {
         put_where_it_leads(out, tail, head, index as u64 + 1, arc)?;
@@ -141,10 +122,7 @@ fn put_arcs_answer<W: Write>(
     tail: u64,
     head: u64,
 ) -> Result<(), Failed>
-    ensures ok { OnOk result (Appends (W.contents (writer_of out.old)) (W.contents (writer_of out.new)) (arcs_answer network.now tail head)) }
-    ensures refused { IfErr result (λ failed. failed ≡ Failed.Code Refusal.Write) }
-    ensures counts { CountsFailure (failed_writes out.old) (failed_writes out.new) result }
-    ensures same { IsSameWriter out.old out.new }
+    ensures { Puts W.contents (arcs_answer network.now tail head) result out.old out.new }
 {
     if !has_nodes(network, tail, head) {
         return put_refusal(out, Refusal::NoSuchNode.number());
@@ -167,10 +145,7 @@ fn put_landmarks_answer<W: Write>(
     out: &mut CountedWriter<'_, W>,
     network: &Network,
 ) -> Result<(), Failed>
-    ensures ok { OnOk result (Appends (W.contents (writer_of out.old)) (W.contents (writer_of out.new)) (landmarks_answer network.now)) }
-    ensures refused { IfErr result (λ failed. failed ≡ Failed.Code Refusal.Write) }
-    ensures counts { CountsFailure (failed_writes out.old) (failed_writes out.new) result }
-    ensures same { IsSameWriter out.old out.new }
+    ensures { Puts W.contents (landmarks_answer network.now) result out.old out.new }
 {
     put_numbered(out, b"landmarks ", network.landmarks().len() as u64)?;
     put_landmark_rows(out, network.landmarks())
@@ -194,10 +169,7 @@ fn put_closed_answer<W: Write>(
     out: &mut CountedWriter<'_, W>,
     network: &Network,
 ) -> Result<(), Failed>
-    ensures ok { OnOk result (Appends (W.contents (writer_of out.old)) (W.contents (writer_of out.new)) (closed_answer network.now)) }
-    ensures refused { IfErr result (λ failed. failed ≡ Failed.Code Refusal.Write) }
-    ensures counts { CountsFailure (failed_writes out.old) (failed_writes out.new) result }
-    ensures same { IsSameWriter out.old out.new }
+    ensures { Puts W.contents (closed_answer network.now) result out.old out.new }
 {
     put_numbered(out, b"closed ", count_closed(network.arcs()))?;
     put_closing_rows(out, network.arcs())
@@ -209,15 +181,12 @@ fn put_closed_answer<W: Write>(
 ///
 /// Of `examples/six.gr`, the arc 7 is `a 7 5 2 0 open`, and those from node 4 to node 6 are `arcs 4 6 6`; from 6 to 1 there is none:
 /// `arcs 6 1`.
-pub fn put_look_answer<W: Write>(
+fn put_look_answer<W: Write>(
     out: &mut CountedWriter<'_, W>,
     network: &Network,
     look: Look,
 ) -> Result<(), Failed>
-    ensures ok { OnOk result (Appends (W.contents (writer_of out.old)) (W.contents (writer_of out.new)) (look_answer network.now look)) }
-    ensures refused { IfErr result (λ failed. failed ≡ Failed.Code Refusal.Write) }
-    ensures counts { CountsFailure (failed_writes out.old) (failed_writes out.new) result }
-    ensures same { IsSameWriter out.old out.new }
+    ensures { Puts W.contents (look_answer network.now look) result out.old out.new }
 {
     match look {
         Look::Arc { number } => put_arc_answer(out, network, number),
@@ -234,10 +203,7 @@ pub fn put_look<W: Write>(
     version: u64,
     look: Look,
 ) -> Result<(), Failed>
-    ensures ok { OnOk result (Appends (W.contents (writer_of out.old)) (W.contents (writer_of out.new)) (look_lines network.now version look)) }
-    ensures refused { IfErr result (λ failed. failed ≡ Failed.Code Refusal.Write) }
-    ensures counts { CountsFailure (failed_writes out.old) (failed_writes out.new) result }
-    ensures same { IsSameWriter out.old out.new }
+    ensures { Puts W.contents (look_lines network.now version look) result out.old out.new }
 {
     put_version(out, version)?;
     put_look_answer(out, network, look)

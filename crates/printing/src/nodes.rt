@@ -1,15 +1,13 @@
 //! The nodes near one, and the answers to pairs, as bytes.
-ghost use Rattle.std.specs.Prelude.{◌≡◌, ℕ, List, length, OnOk, IfErr};
-ghost use Rattle.std.specs.Io.KnownBytes.{Appends};
+ghost use Rattle.std.specs.Prelude.{◌≡◌, length};
 ghost use Rattle.std.specs.List.{flat_map};
-ghost use Rattle.printing.specs.Counting.{failed_writes, writer_of, IsSameWriter, CountsFailure};
+ghost use Rattle.printing.specs.Writers.{Puts};
 ghost use Rattle.printing.specs.Nodes.{count_line, line_from, line_to, reach_lines, reached_lines, nearest_lines, pair_lines};
 
 use crate::failed::Failed;
 use crate::printed::{put_answer, put_number, put_numbered};
 use crate::writer::CountedWriter;
 use deltastep::NodeDistance;
-use roadnet::Refusal;
 use rows::{Query, Reply};
 use std::io::Write;
 
@@ -20,10 +18,7 @@ fn put_counted<W: Write>(
     node: u64,
     count: usize,
 ) -> Result<(), Failed>
-    ensures ok { OnOk result (Appends (W.contents (writer_of out.old)) (W.contents (writer_of out.new)) (count_line word.now node count)) }
-    ensures refused { IfErr result (λ failed. failed ≡ Failed.Code Refusal.Write) }
-    ensures counts { CountsFailure (failed_writes out.old) (failed_writes out.new) result }
-    ensures same { IsSameWriter out.old out.new }
+    ensures { Puts W.contents (count_line word.now node count) result out.old out.new }
 {
     out.write_all(word)?;
     put_number(out, node)?;
@@ -36,10 +31,7 @@ fn put_from<W: Write>(
     source: u64,
     told: &[NodeDistance],
 ) -> Result<(), Failed>
-    ensures ok { OnOk result (Appends (W.contents (writer_of out.old)) (W.contents (writer_of out.new)) (flat_map (line_from source) told.now)) }
-    ensures refused { IfErr result (λ failed. failed ≡ Failed.Code Refusal.Write) }
-    ensures counts { CountsFailure (failed_writes out.old) (failed_writes out.new) result }
-    ensures same { IsSameWriter out.old out.new }
+    ensures { Puts W.contents (flat_map (line_from source) told.now) result out.old out.new }
 {
     for near in told {
         let target = u64::from(near.node);
@@ -58,10 +50,7 @@ fn put_to<W: Write>(
     target: u64,
     told: &[NodeDistance],
 ) -> Result<(), Failed>
-    ensures ok { OnOk result (Appends (W.contents (writer_of out.old)) (W.contents (writer_of out.new)) (flat_map (line_to target) told.now)) }
-    ensures refused { IfErr result (λ failed. failed ≡ Failed.Code Refusal.Write) }
-    ensures counts { CountsFailure (failed_writes out.old) (failed_writes out.new) result }
-    ensures same { IsSameWriter out.old out.new }
+    ensures { Puts W.contents (flat_map (line_to target) told.now) result out.old out.new }
 {
     for near in told {
         let source = u64::from(near.node);
@@ -80,10 +69,7 @@ pub fn put_reach<W: Write>(
     source: u64,
     told: &[NodeDistance],
 ) -> Result<(), Failed>
-    ensures ok { OnOk result (Appends (W.contents (writer_of out.old)) (W.contents (writer_of out.new)) (reach_lines source told.now)) }
-    ensures refused { IfErr result (λ failed. failed ≡ Failed.Code Refusal.Write) }
-    ensures counts { CountsFailure (failed_writes out.old) (failed_writes out.new) result }
-    ensures same { IsSameWriter out.old out.new }
+    ensures { Puts W.contents (reach_lines source told.now) result out.old out.new }
 {
     put_counted(out, b"reach ", source, told.len())?;
     put_from(out, source, told)
@@ -95,10 +81,7 @@ pub fn put_reached<W: Write>(
     target: u64,
     told: &[NodeDistance],
 ) -> Result<(), Failed>
-    ensures ok { OnOk result (Appends (W.contents (writer_of out.old)) (W.contents (writer_of out.new)) (reached_lines target told.now)) }
-    ensures refused { IfErr result (λ failed. failed ≡ Failed.Code Refusal.Write) }
-    ensures counts { CountsFailure (failed_writes out.old) (failed_writes out.new) result }
-    ensures same { IsSameWriter out.old out.new }
+    ensures { Puts W.contents (reached_lines target told.now) result out.old out.new }
 {
     put_counted(out, b"reached ", target, told.len())?;
     put_to(out, target, told)
@@ -110,10 +93,7 @@ pub fn put_nearest<W: Write>(
     source: u64,
     told: &[NodeDistance],
 ) -> Result<(), Failed>
-    ensures ok { OnOk result (Appends (W.contents (writer_of out.old)) (W.contents (writer_of out.new)) (nearest_lines source told.now)) }
-    ensures refused { IfErr result (λ failed. failed ≡ Failed.Code Refusal.Write) }
-    ensures counts { CountsFailure (failed_writes out.old) (failed_writes out.new) result }
-    ensures same { IsSameWriter out.old out.new }
+    ensures { Puts W.contents (nearest_lines source told.now) result out.old out.new }
 {
     put_counted(out, b"nearest ", source, told.len())?;
     put_from(out, source, told)
@@ -126,10 +106,7 @@ pub fn put_pairs<W: Write>(
     replies: &[Reply],
 ) -> Result<(), Failed>
     requires { length replies.now ≡ length pairs.now }
-    ensures ok { OnOk result (Appends (W.contents (writer_of out.old)) (W.contents (writer_of out.new)) (pair_lines pairs.now replies.now)) }
-    ensures refused { IfErr result (λ failed. failed ≡ Failed.Code Refusal.Write) }
-    ensures counts { CountsFailure (failed_writes out.old) (failed_writes out.new) result }
-    ensures same { IsSameWriter out.old out.new }
+    ensures { Puts W.contents (pair_lines pairs.now replies.now) result out.old out.new }
 {
     for (index, pair) in pairs.iter().enumerate() {
         let (source, target) = *pair;

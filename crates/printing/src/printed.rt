@@ -1,8 +1,7 @@
 //! Answer lines, as bytes.
-ghost use Rattle.std.specs.Prelude.{◌≡◌, ◌∷◌, ◌++◌, decimal, OnOk, IfErr};
-ghost use Rattle.std.specs.Io.KnownBytes.{Appends};
+ghost use Rattle.std.specs.Prelude.{◌∷◌, ◌++◌, decimal};
 ghost use lib.Chars.{codes};
-ghost use Rattle.printing.specs.Counting.{failed_writes, writer_of, IsSameWriter, CountsFailure};
+ghost use Rattle.printing.specs.Writers.{Puts};
 ghost use Rattle.printing.specs.Printed.{version_line, with_nodes, refusal_line, answer_line, lines_of};
 ghost use Rattle.printing.specs.Replied.{number_line};
 
@@ -10,16 +9,12 @@ use crate::answered::{LINE_ROOM, length_line, no_walk_line};
 use crate::failed::Failed;
 use crate::writer::CountedWriter;
 use itoa::Buffer;
-use roadnet::Refusal;
 use rows::{Query, Reply};
 use std::io::Write;
 
 /// A number in decimal digits.
 pub fn put_number<W: Write>(out: &mut CountedWriter<'_, W>, number: u64) -> Result<(), Failed>
-    ensures ok { OnOk result (Appends (W.contents (writer_of out.old)) (W.contents (writer_of out.new)) (decimal number)) }
-    ensures refused { IfErr result (λ failed. failed ≡ Failed.Code Refusal.Write) }
-    ensures counts { CountsFailure (failed_writes out.old) (failed_writes out.new) result }
-    ensures same { IsSameWriter out.old out.new }
+    ensures { Puts W.contents (decimal number) result out.old out.new }
 {
     let mut buffer = Buffer::new();
     out.write_all(buffer.format(number).as_bytes())
@@ -31,10 +26,7 @@ pub fn put_numbered<W: Write>(
     word: &[u8],
     number: u64,
 ) -> Result<(), Failed>
-    ensures ok { OnOk result (Appends (W.contents (writer_of out.old)) (W.contents (writer_of out.new)) (number_line word.now number)) }
-    ensures refused { IfErr result (λ failed. failed ≡ Failed.Code Refusal.Write) }
-    ensures counts { CountsFailure (failed_writes out.old) (failed_writes out.new) result }
-    ensures same { IsSameWriter out.old out.new }
+    ensures { Puts W.contents (number_line word.now number) result out.old out.new }
 {
     out.write_all(word)?;
     put_number(out, number)?;
@@ -43,20 +35,14 @@ pub fn put_numbered<W: Write>(
 
 /// `v V`
 pub fn put_version<W: Write>(out: &mut CountedWriter<'_, W>, version: u64) -> Result<(), Failed>
-    ensures ok { OnOk result (Appends (W.contents (writer_of out.old)) (W.contents (writer_of out.new)) (version_line version)) }
-    ensures refused { IfErr result (λ failed. failed ≡ Failed.Code Refusal.Write) }
-    ensures counts { CountsFailure (failed_writes out.old) (failed_writes out.new) result }
-    ensures same { IsSameWriter out.old out.new }
+    ensures { Puts W.contents (version_line version) result out.old out.new }
 {
     put_numbered(out, b"v ", version)
 }
 
 /// `no CODE`
 pub fn put_refusal<W: Write>(out: &mut CountedWriter<'_, W>, code: u8) -> Result<(), Failed>
-    ensures ok { OnOk result (Appends (W.contents (writer_of out.old)) (W.contents (writer_of out.new)) (refusal_line code)) }
-    ensures refused { IfErr result (λ failed. failed ≡ Failed.Code Refusal.Write) }
-    ensures counts { CountsFailure (failed_writes out.old) (failed_writes out.new) result }
-    ensures same { IsSameWriter out.old out.new }
+    ensures { Puts W.contents (refusal_line code) result out.old out.new }
 {
     put_numbered(out, b"no ", u64::from(code))
 }
@@ -68,10 +54,7 @@ fn put_length<W: Write>(
     query: &Query,
     length: u64,
 ) -> Result<(), Failed>
-    ensures ok { OnOk result (Appends (W.contents (writer_of out.old)) (W.contents (writer_of out.new)) (with_nodes (letter ∷ codes " ") query.now ++ codes " " ++ decimal length ++ codes "\n")) }
-    ensures refused { IfErr result (λ failed. failed ≡ Failed.Code Refusal.Write) }
-    ensures counts { CountsFailure (failed_writes out.old) (failed_writes out.new) result }
-    ensures same { IsSameWriter out.old out.new }
+    ensures { Puts W.contents (with_nodes (letter ∷ codes " ") query.now ++ codes " " ++ decimal length ++ codes "\n") result out.old out.new }
 {
     let mut line = [0; LINE_ROOM];
     let start = length_line(letter, query, length, &mut line);
@@ -80,10 +63,7 @@ fn put_length<W: Write>(
 
 /// `x S T`, by one write.
 fn put_no_walk<W: Write>(out: &mut CountedWriter<'_, W>, query: &Query) -> Result<(), Failed>
-    ensures ok { OnOk result (Appends (W.contents (writer_of out.old)) (W.contents (writer_of out.new)) (answer_line query.now Reply.NoWalk)) }
-    ensures refused { IfErr result (λ failed. failed ≡ Failed.Code Refusal.Write) }
-    ensures counts { CountsFailure (failed_writes out.old) (failed_writes out.new) result }
-    ensures same { IsSameWriter out.old out.new }
+    ensures { Puts W.contents (answer_line query.now Reply.NoWalk) result out.old out.new }
 {
     let mut line = [0; LINE_ROOM];
     let start = no_walk_line(query, &mut line);
@@ -96,10 +76,7 @@ pub fn put_answer<W: Write>(
     query: &Query,
     reply: Reply,
 ) -> Result<(), Failed>
-    ensures ok { OnOk result (Appends (W.contents (writer_of out.old)) (W.contents (writer_of out.new)) (answer_line query.now reply)) }
-    ensures refused { IfErr result (λ failed. failed ≡ Failed.Code Refusal.Write) }
-    ensures counts { CountsFailure (failed_writes out.old) (failed_writes out.new) result }
-    ensures same { IsSameWriter out.old out.new }
+    ensures { Puts W.contents (answer_line query.now reply) result out.old out.new }
 {
     match reply {
         Reply::Length(length) => put_length(out, b'd', query, length),
@@ -116,10 +93,7 @@ pub fn put_lines<W: Write>(
     query: &Query,
     reply: Reply,
 ) -> Result<(), Failed>
-    ensures ok { OnOk result (Appends (W.contents (writer_of out.old)) (W.contents (writer_of out.new)) (lines_of version query.now reply)) }
-    ensures refused { IfErr result (λ failed. failed ≡ Failed.Code Refusal.Write) }
-    ensures counts { CountsFailure (failed_writes out.old) (failed_writes out.new) result }
-    ensures same { IsSameWriter out.old out.new }
+    ensures { Puts W.contents (lines_of version query.now reply) result out.old out.new }
 {
     put_version(out, version)?;
     put_answer(out, query, reply)

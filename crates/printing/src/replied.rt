@@ -1,22 +1,16 @@
 //! What is told of a script's events, as bytes.
-ghost use Rattle.std.specs.Prelude.{◌≡◌, OnOk, IfErr};
-ghost use Rattle.std.specs.Io.KnownBytes.{Appends};
-ghost use Rattle.printing.specs.Counting.{failed_writes, writer_of, IsSameWriter, CountsFailure};
+ghost use Rattle.printing.specs.Writers.{Puts};
 ghost use Rattle.printing.specs.Replied.{printed_reply, printed_replies};
 
 use crate::failed::Failed;
 use crate::printed::{put_lines, put_numbered, put_refusal, put_version};
 use crate::writer::CountedWriter;
 use machine::Replied;
-use roadnet::Refusal;
 use std::io::Write;
 
 /// `stopped` and `v V`
 fn put_opened<W: Write>(out: &mut CountedWriter<'_, W>, version: u64) -> Result<(), Failed>
-    ensures ok { OnOk result (Appends (W.contents (writer_of out.old)) (W.contents (writer_of out.new)) (printed_reply (Replied.Opened version))) }
-    ensures refused { IfErr result (λ failed. failed ≡ Failed.Code Refusal.Write) }
-    ensures counts { CountsFailure (failed_writes out.old) (failed_writes out.new) result }
-    ensures same { IsSameWriter out.old out.new }
+    ensures { Puts W.contents (printed_reply (Replied.Opened version)) result out.old out.new }
 {
     out.write_all(b"stopped\n")?;
     put_version(out, version)
@@ -25,10 +19,7 @@ fn put_opened<W: Write>(out: &mut CountedWriter<'_, W>, version: u64) -> Result<
 /// The lines of a reply: `t N`, `ok N`, `task V`, `shown V`, `v V` with an answer line, `no CODE`, `stopped` with `v V`, or
 /// `stopped` alone. Nothing else is written.
 pub fn put_reply<W: Write>(out: &mut CountedWriter<'_, W>, reply: &Replied) -> Result<(), Failed>
-    ensures ok { OnOk result (Appends (W.contents (writer_of out.old)) (W.contents (writer_of out.new)) (printed_reply reply.now)) }
-    ensures refused { IfErr result (λ failed. failed ≡ Failed.Code Refusal.Write) }
-    ensures counts { CountsFailure (failed_writes out.old) (failed_writes out.new) result }
-    ensures same { IsSameWriter out.old out.new }
+    ensures { Puts W.contents (printed_reply reply.now) result out.old out.new }
 {
     match *reply {
         Replied::Accepted { number } => put_numbered(out, b"t ", number),
@@ -48,10 +39,7 @@ pub fn put_replies<W: Write>(
     out: &mut CountedWriter<'_, W>,
     replies: &[Replied],
 ) -> Result<(), Failed>
-    ensures ok { OnOk result (Appends (W.contents (writer_of out.old)) (W.contents (writer_of out.new)) (printed_replies replies.now)) }
-    ensures refused { IfErr result (λ failed. failed ≡ Failed.Code Refusal.Write) }
-    ensures counts { CountsFailure (failed_writes out.old) (failed_writes out.new) result }
-    ensures same { IsSameWriter out.old out.new }
+    ensures { Puts W.contents (printed_replies replies.now) result out.old out.new }
 {
     for reply in replies {
         put_reply(out, reply)?;

@@ -1,7 +1,8 @@
 //! A writer that counts its failed calls.
-ghost use Rattle.std.specs.Prelude.{◌≡◌, OnOk, IfErr};
-ghost use Rattle.std.specs.Io.KnownBytes.{Appends, Keeps};
-ghost use Rattle.printing.specs.Counting.{failed_writes, writer_of, IsSameWriter, CountsFailure};
+ghost use Rattle.std.specs.Prelude.{◌≡◌};
+ghost use Rattle.std.specs.Io.KnownBytes.{Keeps};
+ghost use Rattle.printing.specs.Counting.{failed_writes, writer_of};
+ghost use Rattle.printing.specs.Writers.{OnlyWriterFails, Puts};
 
 use crate::failed::Failed;
 use roadnet::Refusal;
@@ -33,10 +34,7 @@ impl<'w, W: Write> CountedWriter<'w, W> {
 
     /// Writes these bytes and nothing else. The count goes up where the writer fails, and only there.
     pub fn write_all(&mut self, bytes: &[u8]) -> Result<(), Failed>
-        ensures ok { OnOk result (Appends (W.contents (writer_of self.old)) (W.contents (writer_of self.new)) bytes.now) }
-        ensures refused { IfErr result (λ failed. failed ≡ Failed.Code Refusal.Write) }
-        ensures counts { CountsFailure (failed_writes self.old) (failed_writes self.new) result }
-        ensures same { IsSameWriter self.old self.new }
+        ensures { Puts W.contents bytes.now result self.old self.new }
     {
         match self.writer.write_all(bytes) {
             Ok(()) => Ok(()),
@@ -50,9 +48,7 @@ impl<'w, W: Write> CountedWriter<'w, W> {
     /// Sends out what was written. The count goes up where the writer fails, and only there.
     pub fn flush(&mut self) -> Result<(), Failed>
         ensures kept { Keeps (W.contents (writer_of self.old)) (W.contents (writer_of self.new)) }
-        ensures refused { IfErr result (λ failed. failed ≡ Failed.Code Refusal.Write) }
-        ensures counts { CountsFailure (failed_writes self.old) (failed_writes self.new) result }
-        ensures same { IsSameWriter self.old self.new }
+        ensures fails { OnlyWriterFails result self.old self.new }
     {
         match self.writer.flush() {
             Ok(()) => Ok(()),

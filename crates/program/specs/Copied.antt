@@ -1,5 +1,5 @@
 -- Copies of a network that is served, as stores in files of a folder.
-use Rattle.std.specs.Prelude.{ℕ, List, Option, length, is_some, ⊤}
+use Rattle.std.specs.Prelude.{ℕ, true, List, Option, length, is_some, ⊤}
 use Rattle.roadnet.specs.Net.{Net}
 use Rattle.disk.specs.Contents.{Only}
 use Rattle.storefile.specs.StoreFile.{StandsTidyFor}
@@ -11,6 +11,6 @@ pub record IsCopyOf (net : Net) (version journal_pages : ℕ) (content : List �
   pub stands : StandsTidyFor journal_pages (checkpoint_pages_of (length net.arcs) net) content net version
   pub only : Only content left
 
--- Copies are made where there is a folder for them. Of the file that a name has there nothing can be said.
+-- Commands are carried out, and copies are made where there is a folder for them. Of the file that a name has there nothing can be said.
 abbrev pub copies_in : {F : Type 0} → Option F → Copying
-copies_in folder = record { allowed = is_some folder; made = λ name network version. ⊤ }
+copies_in folder = record { changes = true; allowed = is_some folder; made = λ name network version. ⊤ }

@@ -1,8 +1,8 @@
 -- What the program says of failures.
-use Rattle.std.specs.Prelude.{◌≡◌, ◌⊎◌, ◌+◌, ℕ, Bool, true, false, List, Option, None, Some, slice_get, option_map, unwrap_or, ◌==◌, if◌then◌else◌, Result, MatchResult, ⊤}
+use Rattle.std.specs.Prelude.{◌≡◌, ◌⊎◌, ◌+◌, ℕ, Bool, true, false, List, Option, None, Some, slice_get, option_map, unwrap_or, ◌==◌, if◌then◌else◌, Result, Ok, Err, MatchResult, ⊤}
 use lib.Chars.{codes}
 use Rattle.roadnet.specs.declared.refusals.Refusal.{Refusal}
-use Rattle.roadnet.specs.declared.refusals.Refusal.TheVariants.{Damaged, Device, NotAStore, NotEmpty, OutOfMemory, WrongFormat, Write}
+use Rattle.roadnet.specs.declared.refusals.Refusal.TheVariants.{Damaged, Device, HistoryFull, NotAStore, NotEmpty, OutOfMemory, WrongFormat, Write}
 use Rattle.store.specs.Opening.{MayRefuseToOpen, IsStoreFile}
 use Rattle.dimacs.specs.declared.fault.Code.TheVariants.{Read}
 use Rattle.printing.specs.declared.failed.Failed.{Failed}
@@ -56,7 +56,7 @@ text_name (Create store network landmarks journal_pages room) failed =
 text_name (Apply store commands delta) failed = if is_of_first failed then commands.now else store.now
 text_name (Ask store pairs delta) failed = if is_of_third failed then store.now else pairs_name pairs (is_of_second failed)
 text_name (Check store) failed = store.now
-text_name (Serve store pipes copies delta workers) failed =
+text_name (Serve store pipes copies delta workers patience) failed =
     if is_of_second failed then folder_name store.now (option_map (λ folder. folder.now) copies) else pipe_name store.now pipes.items failed
 text_name (Migrate old new room) failed = if is_of_first failed then old.now else new.now
 text_name (Upgrade store old network new room) failed =
@@ -70,7 +70,7 @@ abbrev pub opened_store : Job → Option (List ℕ)
 opened_store (Apply store commands delta) = Some store.now
 opened_store (Ask store pairs delta) = Some store.now
 opened_store (Check store) = Some store.now
-opened_store (Serve store pipes copies delta workers) = Some store.now
+opened_store (Serve store pipes copies delta workers patience) = Some store.now
 opened_store (Migrate old new room) = Some old.now
 opened_store (Upgrade store old network new room) = Some store.now
 opened_store (Copy store file room journal_pages) = Some store.now
@@ -141,3 +141,15 @@ IsTextUnmade failed = (failed ≡ Code NotEmpty) ⊎ IsUnopened 1 failed
 -- the new store is there, whether or not this could be told
 abbrev pub IsStoreMade : {T : Type 0} → Result T Failed → Type 0
 IsStoreMade outcome = MatchResult outcome (λ _. ⊤) (λ failed. failed ≡ Code Write)
+
+-- what a server comes to: what its session failed with; else that it is to be started again, where it took nearly all commands of a life (62); else this
+abbrev pub server_outcome : {X T : Type 0} → Result X Failed → Bool → T → Result T Failed
+server_outcome (Err failed) spent done = Err failed
+server_outcome (Ok x) true done = Err (Code HistoryFull)
+server_outcome (Ok x) false done = Ok done
+
+-- the exit status of a job: 0 where it is done, 3 where a server is to be started again, and 1 after any other fault
+abbrev pub job_status : {T : Type 0} → Result T Failed → ℕ
+job_status (Ok done) = 0
+job_status (Err (Code HistoryFull)) = 3
+job_status (Err failed) = 1

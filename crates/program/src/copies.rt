@@ -7,7 +7,7 @@ ghost use Rattle.words.specs.Words.{IsJournal};
 
 use crate::exports::open_folder;
 use disk::Disk;
-use filedisk::{NewFile, OpenError, create_file};
+use filedisk::{NewFile, OpenError, create_file_here};
 use pages::MOST_VERSIONS;
 use printing::Failed;
 use progress::Progress;
@@ -90,12 +90,16 @@ impl<T> FileCopies<T> {
 impl<T: AllocGlobal + Files<File = File>> Copies for FileCopies<T> {
     ghost copying = { λ copies. copies_in copies.folder };
 
+    fn may_change(&self) -> bool {
+        true
+    }
+
     fn are_made(&self) -> bool {
         self.folder.is_some()
     }
 
-    /// The file is made, locked and synced as that of `create`. One that this call made and that holds no store in the end is removed, while it is still
-    /// locked; one that was there stays as it was, and one that was there and is empty is taken.
+    /// The file is made, locked and synced as that of `create`, but a link of its name is refused, so no copy leaves the folder. One that this call made and that holds no store in the end is removed,
+    /// while it is still locked; one that was there stays as it was, and one that was there and is empty is taken.
     fn copy(
         &self,
         alloc: Global,
@@ -109,7 +113,7 @@ impl<T: AllocGlobal + Files<File = File>> Copies for FileCopies<T> {
         let Ok(path) = path_of(alloc, folder.as_str(), name) else {
             return Err(Refusal::OutOfMemory);
         };
-        let NewFile { disk, made } = match create_file(&self.rt, path.as_str()) {
+        let NewFile { disk, made } = match create_file_here(&self.rt, path.as_str()) {
             Ok(file) => file,
             Err(error) => return Err(refusal_of(error)),
         };

@@ -1,15 +1,17 @@
 //! The doors of a server: pairs of named pipes, by each of which clients come one after the other.
-ghost use Rattle.std.specs.Prelude.{◌≡◌, ◌≤◌, ℕ, Bool, List, length, vec_len, IfOk, IfErr, OnOk, ⊤};
+ghost use Rattle.std.specs.Prelude.{◌≡◌, ◌≤◌, ℕ, Bool, List, length, vec_len, true, false, Ok, IfOk, IfErr, OnOk, ⊤};
 ghost use Rattle.program.specs.Failures.{IsOfNoPipe};
 ghost use Rattle.words.specs.Pipes.{names_of, AreTold};
 
 use crate::files::{FIRST_PIPE, unopened};
 use crate::standings::Guests;
+use filedisk::{OpenError, why_unopened};
 use printing::Failed;
 use progress::ToldName;
 use roadnet::Refusal;
 use sessions::Door;
 use std::alloc::{AllocError, Global};
+use std::fmt::Display;
 use std::fs::{self, File, OpenOptions};
 use std::io::{self, BufReader, BufWriter, ErrorKind, Write};
 use std::os::unix::fs::FileTypeExt;
@@ -17,6 +19,7 @@ use std::rt::Files;
 use std::sync::{Arc, Mutex, Wait};
 use std::thread;
 use std::time::{Clock, Duration};
+use thiserror::Error;
 use words::{PipePair, pipe_at};
 
 /// The bytes of a client that are read or written at once: it reads the first of its answers while what follows is made.
@@ -57,10 +60,10 @@ impl Write for AnswerPipe {
     }
 }
 
-/// Tells on standard error why a session by a pipe ended, or why no more come by it: `roadmark: NAME: CODE Name`.
-fn tell<R: Eprint>(rt: &R, name: &str, refusal: Refusal) {
+/// Tells on standard error why a session by a pipe ended, or why no more come by it: `roadmark: NAME: CODE Name`, or a reason in its place.
+fn tell<R: Eprint, D: Display>(rt: &R, name: &str, what: &D) {
     let name = ToldName { name };
-    let _ = eprintln!(rt; "roadmark: {name}: {refusal}");
+    let _ = eprintln!(rt; "roadmark: {name}: {what}");
 }
 
 /// A pair of named pipes: the client writes its lines into the one and reads its answers from the other.
@@ -70,6 +73,7 @@ pub struct PipeDoor<T> {
     alloc: Global,
     input: String,
     output: String,
+    asks_alone: bool,
     are_open: Arc<Mutex<bool>>,
     guests: Guests,
 }
@@ -84,19 +88,79 @@ enum Side {
     Output,
 }
 
-/// Why a client could not come in: which pipe could not be opened (10), or for which no memory was there (11).
-#[derive(Clone, Copy)]
-struct Unopened {
-    side: Side,
-    refusal: Refusal,
+/// Why a pipe is not served.
+#[derive(Clone, Copy, Debug, PartialEq, Eq, Error)]
+enum Why {
+    /// The system doesn't open it any more.
+    #[error("{0}")]
+    Unopened(OpenError),
+    /// What was opened is something else.
+    #[error("it is no named pipe")]
+    NoPipe,
+    /// There is no memory for a client.
+    #[error("out of memory")]
+    NoMemory,
 }
 
-/// What is told of a pipe that could not be opened.
-fn refusal_of(error: &io::Error) -> Refusal {
+/// Why a client could not come in, and by which pipe.
+#[derive(Clone, Copy)]
+struct Unserved {
+    side: Side,
+    why: Why,
+}
+
+/// Why a pipe is not served at whose opening the system failed so.
+fn why_unserved(error: &io::Error) -> Why
+    ensures { result ≡ Why.NoPipe → ⊥ }
+{
     match error.kind() {
-        ErrorKind::OutOfMemory => Refusal::OutOfMemory,
-        _ => Refusal::Read,
+        ErrorKind::OutOfMemory => Why::NoMemory,
+        _ => Why::Unopened(why_unopened(error)),
     }
+}
+
+/// An open file, which tells of itself whether it is a named pipe.
+pub trait TellsPipe {
+    /// What it may tell.
+    ghost tells: { Self → Bool → Type 0 };
+
+    fn is_pipe(&self) -> bool
+        ensures { Self.tells self.now result };
+}
+
+/// A file of the system, which may tell anything.
+impl TellsPipe for File {
+    ghost tells = { λ file is. ⊤ };
+
+    fn is_pipe(&self) -> bool {
+        match self.metadata() {
+            Ok(metadata) => metadata.file_type().is_fifo(),
+            Err(_) => false,
+        }
+    }
+}
+
+/// What was opened as a pipe of a pair, where it tells itself that it is a named pipe: by now its name may be that of anything.
+fn pipe_of<F: TellsPipe + Drop>(side: Side, opened: io::Result<F>) -> Result<F, Unserved>
+    ensures pipe { IfOk result (λ pipe. (opened ≡ Ok pipe) × F.tells pipe true) }
+    ensures none { IfErr result (λ unserved. unserved.why ≡ Why.NoPipe → (file : _) × (opened ≡ Ok file) × F.tells file false) }
+{
+    let file = match opened {
+        Ok(file) => file,
+        Err(error) => {
+            return Err(Unserved {
+                side,
+                why: why_unserved(&error),
+            });
+        }
+    };
+    if !file.is_pipe() {
+        return Err(Unserved {
+            side,
+            why: Why::NoPipe,
+        });
+    }
+    Ok(file)
 }
 
 /// A client at two open pipes, if there is memory for it.
@@ -111,38 +175,26 @@ fn client_of(alloc: Global, input: File, output: File) -> io::Result<Client> {
 }
 
 impl<T: Files<File = File>> PipeDoor<T> {
-    /// Opens the pipe that is written, beside the one that is read. It waits until a client has opened it.
-    fn open_beside(&self, input: File) -> Result<Client, Unopened> {
+    /// Opens the pipe that is written, beside the one that is read. It waits until a client has opened it. Nothing is made or written by that.
+    fn open_beside(&self, input: File) -> Result<Client, Unserved> {
         let opened = OpenOptions::new()
             .write(true)
             .open(&self.rt, self.output.as_str());
-        let output = match opened {
-            Ok(output) => output,
-            Err(error) => return Err(unopened_by(Side::Output, &error)),
-        };
+        let output = pipe_of(Side::Output, opened)?;
         match client_of(self.alloc, input, output) {
             Ok(client) => Ok(client),
-            Err(_) => Err(Unopened {
+            Err(_) => Err(Unserved {
                 side: Side::Input,
-                refusal: Refusal::OutOfMemory,
+                why: Why::NoMemory,
             }),
         }
     }
 
     /// Opens the pipe that is read, and then the one that is written. It waits until a client has opened both.
-    fn open(&self) -> Result<Client, Unopened> {
-        match fs::open(&self.rt, self.input.as_str()) {
-            Ok(input) => self.open_beside(input),
-            Err(error) => Err(unopened_by(Side::Input, &error)),
-        }
-    }
-}
-
-/// That a pipe could not be opened, with what is told of it.
-fn unopened_by(side: Side, error: &io::Error) -> Unopened {
-    Unopened {
-        side,
-        refusal: refusal_of(error),
+    fn open(&self) -> Result<Client, Unserved> {
+        let opened = fs::open(&self.rt, self.input.as_str());
+        let input = pipe_of(Side::Input, opened)?;
+        self.open_beside(input)
     }
 }
 
@@ -153,25 +205,29 @@ impl<T: Eprint + Clock + Wait> PipeDoor<T> {
     }
 
     /// Tells why no client could come in, and whether the next one may: behind a rest, where memory was wanting.
-    fn goes_on(&self, unopened: Unopened) -> bool {
-        let name = match unopened.side {
+    fn goes_on(&self, unserved: Unserved) -> bool {
+        let name = match unserved.side {
             Side::Input => self.input.as_str(),
             Side::Output => self.output.as_str(),
         };
-        tell(&self.rt, name, unopened.refusal);
-        match unopened.refusal {
-            Refusal::OutOfMemory => {
-                thread::sleep(&self.rt, Duration::from_millis(REST));
-                true
-            }
-            _ => false,
+        if let Why::NoMemory = unserved.why {
+            tell(&self.rt, name, &Refusal::OutOfMemory);
+            thread::sleep(&self.rt, Duration::from_millis(REST));
+            return true;
         }
+        tell(&self.rt, name, &Refusal::Read);
+        tell(&self.rt, name, &unserved.why);
+        false
     }
 }
 
 impl<T: Files<File = File> + Eprint + Clock + Wait> Door<BufReader<File>, BufWriter<AnswerPipe>>
     for PipeDoor<T> {
-    /// The next client. Where a pipe can't be opened any more this is told, and no more come; where memory is wanting the client finds its pipes closed.
+    fn asks_alone(&self) -> bool {
+        self.asks_alone
+    }
+
+    /// The next client. Where a pipe can't be opened any more, or is none, this is told, and no more come; where memory is wanting the client finds its pipes closed.
     fn next(&mut self) -> Option<Client> {
         if !self.is_open() {
             return None;
@@ -182,8 +238,8 @@ impl<T: Files<File = File> + Eprint + Clock + Wait> Door<BufReader<File>, BufWri
                     self.guests.one_came(&self.rt);
                     return Some(client);
                 }
-                Err(unopened) => {
-                    if !self.goes_on(unopened) {
+                Err(unserved) => {
+                    if !self.goes_on(unserved) {
                         return None;
                     }
                 }
@@ -206,10 +262,10 @@ impl<T: Files<File = File> + Eprint + Clock + Wait> Door<BufReader<File>, BufWri
         self.guests.one_went(&self.rt);
         match outcome {
             Err(Failed::Code(Refusal::Write)) if has_reader => {
-                tell(&self.rt, self.output.as_str(), Refusal::Write);
+                tell(&self.rt, self.output.as_str(), &Refusal::Write);
             }
             Err(Failed::Code(Refusal::Read)) => {
-                tell(&self.rt, self.input.as_str(), Refusal::Read);
+                tell(&self.rt, self.input.as_str(), &Refusal::Read);
             }
             Ok(()) | Err(_) => {}
         }
@@ -292,6 +348,7 @@ fn door_of<T: Copy + Drop>(
         alloc,
         input,
         output,
+        asks_alone: pair.asks_alone,
         are_open,
         guests,
     })

@@ -16,7 +16,7 @@ use std::path::PathBuf;
 use std::rt::Files;
 use std::time::Clock;
 use store::Store;
-use storetexts::export_counted;
+use storetexts::export_text;
 
 /// By what number a failure names the folder of the texts.
 const FOLDER: u8 = 1;
@@ -129,7 +129,7 @@ impl TextFile {
         let file = TellingWriter::new(progress, self.path.as_str(), &self.file);
         let mut writer = buffered_writer(alloc, file)?;
         let mut writer = CountedWriter::new(&mut writer);
-        match export_counted(store, text, &mut writer) {
+        match export_text(store, text, &mut writer) {
             Ok(()) => Ok(()),
             Err(_) => Err(Failed::Code(Refusal::Device)),
         }

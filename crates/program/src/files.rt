@@ -4,7 +4,7 @@ ghost use Rattle.std.specs.Io.Buffered.{reader_inner, reader_buffer, writer_inne
 ghost use Rattle.program.specs.Failures.{unopened, is_of_first, IsFaultOf, IsUnopened, IsFaultOrUnopened, IsTableUnread, IsFileUnmade};
 
 use crate::patient::Patient;
-use dimacs::{Code, Counted, Fault, read_gr, read_nodes_counted};
+use dimacs::{Code, Counted, Fault, read_gr, read_nodes};
 use filedisk::{
     FileDisk, MadeFile, OpenError, SystemFile, create_file, open_file, open_to_read, why_unopened,
 };
@@ -186,7 +186,7 @@ pub fn open_text<'a, R: AllocGlobal + Clock + Eprint + Files + Input>(
 fn fault_of_network<I: BufRead + Drop>(alloc: Global, mut gr: I, failed: Failed) -> Failed
     ensures { (is_of_first result ≡ true) ⊎ (result ≡ failed) }
 {
-    match read_gr(alloc, &mut gr) {
+    match read_gr(alloc, &mut Counted::new(&mut gr)) {
         Ok(_) => failed,
         Err(fault) => Failed::Text { which: 0, fault },
     }
@@ -217,7 +217,7 @@ fn fault_before<I: BufRead + Drop, J: BufRead + Drop>(
 ) -> Failed
     ensures { (is_of_first result ≡ true) ⊎ (IsFaultOf 1 result ⊎ (result ≡ failed)) }
 {
-    let network = match of_text(0, read_gr(alloc, &mut gr)) {
+    let network = match of_text(0, read_gr(alloc, &mut Counted::new(&mut gr))) {
         Ok(network) => network,
         Err(fault) => return fault,
     };
@@ -235,7 +235,7 @@ pub fn fault_of_sources<Q: BufRead>(
     ensures { IsFaultOf which result ⊎ (result ≡ failed) }
 {
     let mut sources = Counted::new(sources);
-    match of_text(which, read_nodes_counted(alloc, &mut sources, nodes)) {
+    match of_text(which, read_nodes(alloc, &mut sources, nodes)) {
         Ok(_) => failed,
         Err(fault) => fault,
     }

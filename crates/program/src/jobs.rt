@@ -14,8 +14,8 @@ use crate::files::{
 use dimacs::Counted;
 use printing::{CountedWriter, Done, Failed};
 use progress::Progress;
-use querytexts::{Reach, batch_counted, once_counted, reach_counted, table_counted};
-use rehearsals::{joint_text, rehearse_counted};
+use querytexts::{Reach, batch_text, once_text, reach_text, table_text};
+use rehearsals::{joint_text, rehearse_text};
 use std::io::BufRead;
 use std::rt::Files;
 use std::thread::Threads;
@@ -32,6 +32,8 @@ fn answer_joint<R: AllocGlobal + Clock + Print + Threads, I: BufRead + Drop>(
     ensures { IfOk result (λ done. told_width done ≡ delta) }
 {
     let mut writer = standard_output(rt)?;
+    let mut reader = Counted::new(&mut reader);
+    let mut writer = CountedWriter::new(&mut writer);
     joint_text(rt, rt.alloc(), &mut reader, delta, &mut writer)
 }
 
@@ -61,7 +63,7 @@ fn answer_once<R: AllocGlobal + Clock + Print + Threads, I: BufRead + Drop>(
     let mut writer = standard_output(rt)?;
     let mut reader = Counted::new(&mut reader);
     let mut writer = CountedWriter::new(&mut writer);
-    once_counted(
+    once_text(
         rt,
         rt.alloc(),
         &mut reader,
@@ -103,7 +105,7 @@ fn answer_reach<R: AllocGlobal + Clock + Eprint + Print + Threads, I: BufRead + 
     let mut writer = told_output(rt, progress)?;
     let mut reader = Counted::new(&mut reader);
     let mut writer = CountedWriter::new(&mut writer);
-    reach_counted(
+    reach_text(
         rt,
         rt.alloc(),
         &mut reader,
@@ -149,7 +151,7 @@ fn answer_pairs<
     let mut gr = Counted::new(&mut gr);
     let mut p2p = Counted::new(&mut p2p);
     let mut writer = CountedWriter::new(&mut writer);
-    batch_counted(rt, rt.alloc(), &mut gr, &mut p2p, delta, &mut writer)
+    batch_text(rt, rt.alloc(), &mut gr, &mut p2p, delta, &mut writer)
 }
 
 /// The pairs of a file in the network of another.
@@ -189,7 +191,7 @@ fn answer_table<
     let mut sources = Counted::new(&mut sources);
     let mut targets = Counted::new(&mut targets);
     let mut writer = CountedWriter::new(&mut writer);
-    table_counted(
+    table_text(
         rt,
         rt.alloc(),
         &mut gr,
@@ -257,7 +259,7 @@ fn answer_script<
     let mut gr = Counted::new(&mut gr);
     let mut script = Counted::new(&mut script);
     let mut writer = CountedWriter::new(&mut writer);
-    rehearse_counted(
+    rehearse_text(
         rt,
         rt.alloc(),
         &mut gr,

@@ -6,10 +6,11 @@
 //! closed, the next file that is opened takes its number, and what is printed would be written into that file.
 #![tactic(auto)]
 
-ghost use Rattle.std.specs.Prelude.{◌≡◌, ◌≢◌, ◌≤◌, is_ok, if◌then◌else◌};
+ghost use Rattle.std.specs.Prelude.{◌≡◌, ◌≢◌, ◌≤◌, ◌⊎◌, is_ok, if◌then◌else◌};
 ghost use Rattle.std.specs.Option.{ForSome};
 ghost use Rattle.std.specs.IoError.{error_kind};
 ghost use Rattle.rows.specs.Kept.{IsWidth};
+ghost use Rattle.program.specs.Failures.{job_status};
 ghost use Rattle.words.specs.Pipes.{AreFit};
 ghost use Rattle.words.specs.Words.{IsJournal, IsWorkers, delta_of, journal_of, pipes_of, workers_of};
 
@@ -18,6 +19,7 @@ mod doors;
 mod exports;
 mod files;
 mod jobs;
+mod lives;
 mod making_jobs;
 mod names;
 mod patient;
@@ -85,15 +87,34 @@ fn show<R: Print + Eprint>(rt: &R, usage: &Usage) -> u8
     ended(rt, &outcome, "")
 }
 
-/// Prints the fault line of a failure, if there is one, and gives the exit status.
-fn ended<R: Eprint, T>(rt: &R, outcome: &Result<T, Failed>, name: &str) -> u8
-    ensures { result ≡ (if is_ok outcome.now then 0 else 1) }
-{
+/// Prints the fault line of a failure, if there is one.
+fn tell_failure<R: Eprint, T>(rt: &R, outcome: &Result<T, Failed>, name: &str) {
     if let Err(failed) = outcome {
         let line = fault_line(failed, name);
         let _ = eprintln!(rt; "{line}");
     }
+}
+
+/// Prints the fault line of a failure, if there is one, and gives the exit status.
+fn ended<R: Eprint, T>(rt: &R, outcome: &Result<T, Failed>, name: &str) -> u8
+    ensures { result ≡ (if is_ok outcome.now then 0 else 1) }
+{
+    tell_failure(rt, outcome, name);
     status(outcome)
+}
+
+/// The status of a server that is to be started again, since it took nearly all commands of one life.
+const SPENT: u8 = 3;
+
+/// The exit status of a job: 0 where it is done, 3 where a server is to be started again (62), and 1 after any other fault.
+fn job_status<T>(outcome: &Result<T, Failed>) -> u8
+    ensures status { result ≡ job_status outcome.now }
+{
+    match outcome {
+        Ok(_) => 0,
+        Err(Failed::Code(Refusal::HistoryFull)) => SPENT,
+        Err(_) => 1,
+    }
 }
 
 /// Words that are not text are a misuse.
@@ -132,7 +153,7 @@ where
     requires journal { ForSome (journal_of asked.now.job) IsJournal }
     requires workers { ForSome (workers_of asked.now.job) IsWorkers }
     requires pipes { AreFit (pipes_of asked.now.job) }
-    ensures { result ≤ 1 }
+    ensures { (result ≤ 1) ⊎ (result ≡ 3) }
 {
     let progress = Progress::new(rt, asked.verbose);
     let outcome = run(rt, threads, &progress, &asked.job);
@@ -143,7 +164,8 @@ where
             text_name(&asked.job, failed)
         }
     };
-    ended(rt, &outcome, name)
+    tell_failure(rt, &outcome, name);
+    job_status(&outcome)
 }
 
 /// Does what these words ask for, and gives the exit status.
@@ -162,7 +184,7 @@ fn do_these<
 >(rt: &R, threads: T, words: &[String]) -> u8
 where
     T::Dir: Send + 'static,
-    ensures { result ≤ 2 }
+    ensures { result ≤ 3 }
 {
     match read_words(rt.alloc(), words) {
         Ok(asked) => do_asked(rt, threads, &asked),
@@ -186,7 +208,7 @@ fn do_words<
 >(rt: &R, threads: T, _held: &Streams) -> u8
 where
     T::Dir: Send + 'static,
-    ensures { result ≤ 2 }
+    ensures { result ≤ 3 }
 {
     let words = match env::args(rt) {
         Ok(words) => words,
@@ -199,7 +221,7 @@ where
 }
 
 /// Takes the standard streams, does what the program's words ask for, and gives the exit status: 0 where all was done, 1 after a fault, 2
-/// where the words are not ones that it takes. `threads` is the runtime of a desk's threads.
+/// where the words are not ones that it takes, 3 where a server took nearly all commands of one life. `threads` is the runtime of a desk's threads.
 pub fn run_program<
     R: AllocGlobal + Clock + Env + Eprint + Files<File = File> + Input + Print + Threads,
     T: AllocGlobal
@@ -215,7 +237,7 @@ pub fn run_program<
 >(rt: &R, threads: T) -> u8
 where
     T::Dir: Send + 'static,
-    ensures { result ≤ 2 }
+    ensures { result ≤ 3 }
 {
     match hold_streams(rt) {
         Ok(streams) => do_words(rt, threads, &streams),

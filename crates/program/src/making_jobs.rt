@@ -24,8 +24,7 @@ use std::io::{BufRead, Write};
 use std::rt::Files;
 use std::time::Clock;
 use storetexts::{
-    copy_counted, create_store, make_upgraded, migrate_counted, read_maps, read_planned,
-    upgrade_stored,
+    copy_text, create_store, make_upgraded, migrate_text, read_maps, read_planned, upgrade_stored,
 };
 use upgrades::Counts;
 
@@ -172,7 +171,7 @@ impl<O: Disk> Making for Migrating<O> {
         disk: D,
         out: &mut CountedWriter<'_, W>,
     ) -> (Result<(), Failed>, D) {
-        migrate_counted(alloc, &mut self.old, disk, self.room, out)
+        migrate_text(alloc, &mut self.old, disk, self.room, out)
     }
 }
 
@@ -207,7 +206,7 @@ impl<O: Disk> Making for Copying<O> {
         disk: D,
         out: &mut CountedWriter<'_, W>,
     ) -> (Result<(), Failed>, D) {
-        copy_counted(
+        copy_text(
             alloc,
             &mut self.old,
             disk,

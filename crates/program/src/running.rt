@@ -200,6 +200,7 @@ where
             copies,
             delta,
             workers,
+            patience,
         } => run_serve(
             rt,
             threads,
@@ -209,6 +210,7 @@ where
             *copies,
             *delta,
             *workers,
+            *patience,
         ),
         _ => unreachable!(),
     }

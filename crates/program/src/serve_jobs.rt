@@ -1,8 +1,10 @@
 //! The sessions of the program: one on standard input and output, and one with each client that comes by a door.
-ghost use Rattle.std.specs.Prelude.{◌≡◌, ◌⊎◌, ◌↔◌, true, Some, IfOk, IfErr, IfSome};
+ghost use Rattle.std.specs.Prelude.{◌≡◌, ◌+◌, ◌⊎◌, ◌↔◌, true, Some, nat_lt, IfOk, IfErr, IfSome};
 ghost use Rattle.std.specs.Arc.{arc_value};
 ghost use Rattle.std.specs.Option.{ForSome};
 ghost use Rattle.roadnet.specs.declared.refusals.Refusal.TheVariants.{Closed as closed};
+ghost use Rattle.roadnet.specs.Groups.{count_of, most_of_group};
+ghost use Rattle.machine.specs.Machine.{most_of_life};
 ghost use Rattle.rows.specs.Kept.{IsWidth};
 ghost use Rattle.dimacs.specs.Counts.{failed_calls, reader_of};
 ghost use Rattle.printing.specs.Counting.{failed_writes, writer_of};
@@ -13,16 +15,18 @@ ghost use Rattle.store.specs.State.{CameTidy, HasVersion, is_calm};
 ghost use Rattle.office.specs.Left.{KeepsDesk};
 ghost use Rattle.desk.specs.Openings.{IsNewDesk, IsUnstarted};
 ghost use Rattle.storetexts.specs.Asked.{IsUnopened};
-ghost use Rattle.sessions.specs.declared.reading.LastLine.TheVariants.{Taken};
+ghost use Rattle.session_lines.specs.declared.reading.LastLine.TheVariants.{Taken};
 ghost use Rattle.sessions.specs.Told.{CountsRead};
 ghost use Rattle.sessions.specs.Turns.{Serves, IsKept};
 ghost use Rattle.program.specs.Copied.{copies_in};
+ghost use Rattle.program.specs.Failures.{server_outcome};
 ghost use Rattle.words.specs.Pipes.{AreFit};
 ghost use Rattle.words.specs.Words.{IsWorkers};
 
 use crate::copies::{FileCopies, see_folder};
 use crate::doors::{Doors, FileNames, PipeDoor, SeenPipes, doors_of, see_pipes};
 use crate::files::{FIRST_PIPE, open_served_store, standard_input, standard_output};
+use crate::lives::{is_spent, start_watching};
 use crate::standings::start_telling;
 use desk::{Closed, Desk, Gate, Handle, History, Naming, Setup};
 use dimacs::Counted;
@@ -39,7 +43,7 @@ use std::marker::Brand;
 use std::rt::Files;
 use std::sync::{Arc, Wait};
 use std::thread::Threads;
-use std::time::Clock;
+use std::time::{Clock, Duration};
 use store::{Store, open};
 use words::{PipePair, pipe_at};
 
@@ -139,13 +143,13 @@ fn start_each<
     Ok(())
 }
 
-/// Starts a thread for each door, whose sessions have these copies made, and opens them once all have one; where the clients are counted, one more tells from then
-/// on how the server stands. Refused is want of memory (11) and of threads (63); the doors stay closed then.
+/// Starts a thread for each door, whose sessions have these copies made, and one that ends the server once it may take no group more, and opens the doors once all have theirs; where the
+/// clients are counted, one more tells from then on how the server stands. Refused is want of memory (11) and of threads (63); the doors stay closed then.
 fn start_doors<
     N: Naming + Send + Sync + 'static,
     D: Disk + Drop + Send + 'static,
     G: Gate + Drop + Send + Sync + 'static,
-    T: Threads + Wait + Clock + Eprint + Copy + Send + Sync + 'static,
+    T: Threads + Wait + Clock + Eprint + Files<File = File> + Copy + Send + Sync + 'static,
     A: BufRead + Send + 'static,
     B: Write + Send + 'static,
     P: Door<A, B> + Drop + Send + 'static,
@@ -157,6 +161,8 @@ fn start_doors<
     doors: Doors<P>,
     copies: C,
 ) -> Result<Arc<Visits<N, C>>, Refusal>
+where
+    T::Dir: Send + 'static,
     ensures copies { IfOk result (λ visits. (arc_value visits).copies ≡ copies) }
     ensures causes { IfErr result IsUnstarted }
 {
@@ -170,6 +176,7 @@ fn start_doors<
     } = doors;
     let mut are_open = are_open.lock(&threads);
     start_each(threads, alloc, desk, doors, &visits)?;
+    start_watching(threads, desk)?;
     *are_open = true;
     start_telling(threads, desk, guests);
     Ok(visits)
@@ -214,7 +221,7 @@ fn serve_store<
     N: Naming + Send + Sync + 'static,
     D: Disk + Drop + Send + 'static,
     G: Gate + Drop + Send + Sync + 'static,
-    T: Threads + Wait + Clock + Eprint + Copy + Send + Sync + 'static,
+    T: Threads + Wait + Clock + Eprint + Files<File = File> + Copy + Send + Sync + 'static,
     A: BufRead + Send + 'static,
     B: Write + Send + 'static,
     P: Door<A, B> + Drop + Send + 'static,
@@ -234,6 +241,8 @@ fn serve_store<
     reader: &mut Counted<'_, I>,
     writer: &mut CountedWriter<'_, W>,
 ) -> Result<Ended<D>, Refusal>
+where
+    T::Dir: Send + 'static,
     requires calm { is_calm store ≡ true }
     requires width { ForSome setup.delta IsWidth }
     requires workers { IsWorkers setup.workers }
@@ -359,16 +368,20 @@ struct Opened<D, P> {
     setup: Setup,
 }
 
-/// What the session on standard input and output came to, or how the desk built its views.
+/// What the session on standard input and output came to, or how the desk built its views; or that the desk took so many commands that it is to be started again (62).
 fn outcome_of<D: Disk + Drop>(ended: Ended<D>) -> Result<Done, Failed>
-    ensures { IfOk result (λ done. done ≡ ended.done) }
+    ensures done { IfOk result (λ done. done ≡ ended.done) }
+    ensures outcome { result ≡ server_outcome ended.outcome (nat_lt most_of_life (count_of ended.closed.whole.groups + most_of_group)) ended.done }
 {
     let Ended {
         outcome,
-        closed: _,
+        closed,
         done,
     } = ended;
     outcome?;
+    if is_spent(&closed) {
+        return Err(Failed::Code(Refusal::HistoryFull));
+    }
     Ok(done)
 }
 
@@ -518,6 +531,7 @@ pub fn run_serve<
     copies: Option<&str>,
     delta: Option<u32>,
     workers: u32,
+    patience: u32,
 ) -> Result<Done, Failed>
 where
     T::Dir: Send + 'static,
@@ -536,7 +550,12 @@ where
         lock,
         doors,
         folder,
-        setup: Setup { delta, workers },
+        setup: Setup {
+            delta,
+            workers,
+            patience: Duration::from_secs(u64::from(patience)),
+            pairs: pipes.len() as u64,
+        },
     };
     serve_input(rt, threads, opened)
 }

@@ -1,6 +1,7 @@
 //! How a server stands, told on standard error where `--verbose` asks for it.
 use desk::{DeskState, Gate, Handle, Naming, Working};
 use disk::Disk;
+use sessions::let_go;
 use std::alloc::{AllocError, Global};
 use std::fmt::{self, Display};
 use std::sync::{Arc, Mutex, Wait};
@@ -143,23 +144,6 @@ fn tell_standings<N: Naming, D: Disk + Drop, G: Gate + Drop, R: Wait + Clock + E
     }
 }
 
-/// Starts a thread that does this work over what it is handed, and lets it go. Where the system gives none, nothing is done.
-fn let_go<
-    R: Threads,
-    T: Send + Drop + 'static,
-    P: Send + Drop + 'static,
-    F: FnOnce(T, P) + Send + Drop + 'static,
->(rt: &R, desk: T, visits: P, work: F)
-    requires { F.IsAlwaysCallable work }
-{
-    let _ = thread::spawn(
-        rt,
-        move ||
-            requires { F.IsAlwaysCallable work }
-        { work(desk, visits) },
-    );
-}
-
 /// Starts a thread that tells how a server stands, where its clients are counted, and lets it go: it ends once the desk is closed, or is cut off where the
 /// program ends. Where no memory or no thread is given for it, nothing is told.
 pub fn start_telling<
@@ -174,12 +158,12 @@ pub fn start_telling<
     let Ok(desk) = desk.again() else {
         return;
     };
-    let_go(
+    let _ = let_go(
         &rt,
         desk,
         visits,
         move |desk: Handle<N, D, G, R>, visits: Arc<Mutex<Visits>>| tell_standings(
             &rt, &desk, &visits,
         ),
-    )
+    );
 }

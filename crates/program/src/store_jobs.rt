@@ -26,7 +26,7 @@ use std::rt::Files;
 use std::thread::Threads;
 use std::time::Clock;
 use store::{Store, open};
-use storetexts::{apply_counted, ask_counted, ask_table_counted, check_counted, show_counted};
+use storetexts::{apply_text, ask_table_text, ask_text, check_text, show_text};
 use words::PairTexts;
 
 /// The failure of a text that is read for a store: a refusal of the store is told before it.
@@ -51,7 +51,7 @@ fn apply_on<R: AllocGlobal + Clock + Eprint + Print, D: Disk + Drop, I: BufRead 
     let mut writer = told_output(rt, progress)?;
     let mut commands = Counted::new(&mut commands);
     let mut writer = CountedWriter::new(&mut writer);
-    let (outcome, _disk) = apply_counted(rt.alloc(), disk, &mut commands, &mut writer);
+    let (outcome, _disk) = apply_text(rt.alloc(), disk, &mut commands, &mut writer);
     without_search(outcome)
 }
 
@@ -109,7 +109,7 @@ fn ask_table_on<
     let mut from = Counted::new(&mut from);
     let mut to = Counted::new(&mut to);
     let mut writer = CountedWriter::new(&mut writer);
-    let (outcome, _disk) = ask_table_counted(
+    let (outcome, _disk) = ask_table_text(
         rt,
         rt.alloc(),
         disk,
@@ -181,7 +181,7 @@ fn ask_pairs_on<
     let mut writer = told_output(rt, progress)?;
     let mut p2p = Counted::new(&mut p2p);
     let mut writer = CountedWriter::new(&mut writer);
-    let (outcome, _disk) = ask_counted(rt, rt.alloc(), disk, &mut p2p, delta, &mut writer);
+    let (outcome, _disk) = ask_text(rt, rt.alloc(), disk, &mut p2p, delta, &mut writer);
     outcome
 }
 
@@ -229,7 +229,7 @@ fn check_on<R: AllocGlobal + Clock + Print, D: Disk + Drop>(rt: &R, disk: D) -> 
 {
     let mut writer = standard_output(rt)?;
     let mut writer = CountedWriter::new(&mut writer);
-    let (outcome, _disk) = check_counted(rt.alloc(), disk, &mut writer);
+    let (outcome, _disk) = check_text(rt.alloc(), disk, &mut writer);
     without_search(outcome)
 }
 
@@ -255,7 +255,7 @@ fn show_on<R: AllocGlobal + Clock + Print, D: Disk + Drop>(
 {
     let mut writer = standard_output(rt)?;
     let mut writer = CountedWriter::new(&mut writer);
-    let (outcome, _disk) = show_counted(rt.alloc(), disk, look, &mut writer);
+    let (outcome, _disk) = show_text(rt.alloc(), disk, look, &mut writer);
     without_search(outcome)
 }
 

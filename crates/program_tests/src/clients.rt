@@ -16,7 +16,7 @@ use std::rt::Files;
 use std::sync::Wait;
 use std::test::Fail;
 use std::thread::Threads;
-use std::time::Clock;
+use std::time::{Clock, Duration};
 
 /// A client's side of a pair of pipes, both ends of each of which are open.
 #[derive(Drop)]
@@ -27,7 +27,7 @@ struct Side {
 }
 
 /// The name of a pipe by this end of it.
-fn name_of(alloc: Global, end: &PipeReader) -> Result<String, AllocError> {
+pub fn name_of(alloc: Global, end: &PipeReader) -> Result<String, AllocError> {
     format!(in alloc; "/proc/self/fd/{}", end.as_raw_fd())
 }
 
@@ -55,7 +55,7 @@ struct Behind<'a> {
 }
 
 /// What comes out of a pipe first is this.
-fn tells(alloc: Global, pipe: &mut PipeReader, want: &[u8]) -> io::Result<bool> {
+pub fn tells(alloc: Global, pipe: &mut PipeReader, want: &[u8]) -> io::Result<bool> {
     let mut got = vec![in alloc; 0u8; want.len()]?;
     pipe.read_exact(got.as_mut_slice())?;
     Ok(got.as_slice() == want)
@@ -76,8 +76,8 @@ impl Read for Behind<'_> {
     }
 }
 
-/// The sessions of two clients at these pipes, and then the lines of a standard input: what that session came to, and what it was answered.
-fn serve_two<
+/// The sessions of clients at these pipes, and the lines of a standard input behind them: whether that session ended well and was answered so.
+pub fn serve_at<
     R: AllocGlobal
         + Files<File = File>
         + Threads
@@ -88,11 +88,12 @@ fn serve_two<
         + Send
         + Sync
         + 'static,
+    I: Read + Drop,
 >(
     rt: R,
     disk: FileDisk<SystemFile>,
     pipes: &[PipePair<'_>],
-    behind: Behind<'_>,
+    behind: I,
     answers: &[u8],
 ) -> Result<bool, Fail>
 where
@@ -112,6 +113,8 @@ where
     let setup = Setup {
         delta: None,
         workers: 1,
+        patience: Duration::from_secs(30),
+        pairs: 0,
     };
     let gate = Teller { rt };
     let served = serve_disk(
@@ -147,15 +150,16 @@ fn names_of(alloc: Global, side: &Side) -> Result<Names, AllocError> {
     Ok(Names { input, output })
 }
 
-/// A pair by its pipes' names.
-fn pair_of(names: &Names) -> PipePair<'_> {
+/// A pair by its pipes' names, at which clients ask alone or may change the network.
+fn pair_of(names: &Names, asks_alone: bool) -> PipePair<'_> {
     PipePair {
         input: names.input.as_str(),
         output: names.output.as_str(),
+        asks_alone,
     }
 }
 
-/// The sessions of these two clients, and the lines of a standard input behind them.
+/// The sessions of these two clients, of which the second may ask alone and is answered so, and the lines of a standard input behind them.
 fn serve_clients<
     R: AllocGlobal
         + Files<File = File>
@@ -167,24 +171,31 @@ fn serve_clients<
         + Send
         + Sync
         + 'static,
->(rt: R, disk: FileDisk<SystemFile>, one: Side, two: Side) -> Result<bool, Fail>
+>(
+    rt: R,
+    disk: FileDisk<SystemFile>,
+    one: Side,
+    two: Side,
+    asks_alone: bool,
+    told: &[u8],
+) -> Result<bool, Fail>
 where
     R::Dir: Send + 'static,
 {
     let names = [names_of(rt.alloc(), &one)?, names_of(rt.alloc(), &two)?];
-    let pipes = [pair_of(&names[0]), pair_of(&names[1])];
+    let pipes = [pair_of(&names[0], false), pair_of(&names[1], asks_alone)];
     let behind = Behind {
         alloc: rt.alloc(),
         first: one.answers,
         second: two.answers,
-        want: [b"ok 1\nv 1\nv 1\nd 1 6 22\n", b"no 1\nno 20\n"],
+        want: [b"ok 1\nv 1\nv 1\nd 1 6 22\n", told],
         are_told: false,
         lines: b"dist 1 6\nset 8 4",
     };
-    serve_two(rt, disk, &pipes, behind, b"v 1\nd 1 6 22\nok 2\n")
+    serve_at(rt, disk, &pipes, behind, b"v 1\nd 1 6 22\nok 2\n")
 }
 
-/// The same over the store of this path.
+/// The same over the store of this path, with a second client that writes this text.
 fn serve_store<
     R: AllocGlobal
         + Files<File = File>
@@ -196,16 +207,35 @@ fn serve_store<
         + Send
         + Sync
         + 'static,
->(rt: R, path: &str) -> Result<bool, Fail>
+>(rt: R, path: &str, text: &[u8], asks_alone: bool, told: &[u8]) -> Result<bool, Fail>
 where
     R::Dir: Send + 'static,
 {
     let one = client(&rt, b"close 7\nwait\ndist 1 6\nset 1 9")?;
-    let two = client(&rt, b"hello\nclose 9\nbegin\nset 3 1\nend")?;
+    let two = client(&rt, text)?;
     let Ok(disk) = open_file(&rt, path) else {
         return Err(Fail::from(io::Error::from(ErrorKind::Other)));
     };
-    serve_clients(rt, disk, one, two)
+    serve_clients(rt, disk, one, two, asks_alone, told)
+}
+
+/// The same over a new store in a folder of this name: it has two versions more then.
+fn serve_new<R: Host>(
+    rt: R,
+    folder: &str,
+    text: &[u8],
+    asks_alone: bool,
+    told: &[u8],
+) -> Result<(), Fail>
+where
+    R::Dir: Send + 'static,
+{
+    is_done(&rt, folder, "create new.store six.gr six.ss", "ok 0\n");
+    let path = format!(in rt.alloc(); "{folder}/new.store")?;
+    assert!(rt; serve_store(rt, path.as_str(), text, asks_alone, told)?);
+    let looked = "v 2\nslot A 1\njournal 2\n";
+    is_done(&rt, folder, "check new.store", looked);
+    remove(&rt, folder)
 }
 
 /// Two clients are served at their pipes beside the session on standard input, by one desk: what one changes the others see. A line that is cut off at a pipe, also one that would end a group,
@@ -213,13 +243,16 @@ where
 #[test]
 fn clients_at_pipes(rt: HostRuntime) -> Result<(), Fail> {
     let folder = folder_of(&rt, rt.process(), "clients")?;
-    let create = "create new.store six.gr six.ss";
-    is_done(&rt, folder.as_str(), create, "ok 0\n");
-    let path = format!(in rt.alloc(); "{}/new.store", folder.as_str())?;
-    assert!(rt; serve_store(rt, path.as_str())?);
-    let looked = "v 2\nslot A 1\njournal 2\n";
-    is_done(&rt, folder.as_str(), "check new.store", looked);
-    remove(&rt, folder.as_str())
+    let text = b"hello\nclose 9\nbegin\nset 3 1\nend";
+    serve_new(rt, folder.as_str(), text, false, b"no 1\nno 20\n")
+}
+
+/// A client at a pair that asks alone changes nothing, and has no copies made, while another changes the network. Refused is a body to which all pairs are the same.
+#[test]
+fn a_client_that_asks_alone(rt: HostRuntime) -> Result<(), Fail> {
+    let folder = folder_of(&rt, rt.process(), "asking")?;
+    let text = b"set 3 1\nbegin\nset 3 1\nend\ncopy a\n";
+    serve_new(rt, folder.as_str(), text, true, b"no 64\nno 64\nno 1\n")
 }
 
 /// The two names of a pair, of which an empty one stands for that of a pipe, and the name that is told.

@@ -18,6 +18,8 @@ mod host;
 #[cfg(test)]
 mod migrating;
 #[cfg(test)]
+mod replaced;
+#[cfg(test)]
 mod runs;
 #[cfg(test)]
 mod serving;

@@ -103,6 +103,8 @@ where
     let setup = Setup {
         delta: None,
         workers: 1,
+        patience: Duration::from_secs(30),
+        pairs: 0,
     };
     let mut input = b"set 8 5\n".as_slice();
     let mut output = Vec::new(rt.alloc());

@@ -213,6 +213,12 @@ fn stood(durable: u64, shown: u64, flusher: Working, builder: Working) -> DeskSt
         readers: 1,
         flusher,
         builder,
+        arcs: 8,
+        room: 8,
+        clients: 0,
+        pairs: 0,
+        waiting: 0,
+        uptime: 0,
     }
 }
 

@@ -1,5 +1,5 @@
 -- What one query of a text is answered with, and for what it is refused.
-use Rattle.std.specs.Prelude.{◌≡◌, ℕ, zero, List, Option, None, Some, Ok, ⊤}
+use Rattle.std.specs.Prelude.{◌≡◌, ℕ, zero, List, Option, None, Result, Ok, IfOk, IfErr, ⊤}
 use Rattle.std.specs.Io.KnownBytes.{Appends}
 use Rattle.roadnet.specs.Net.{Net}
 use Rattle.roadnet.specs.declared.refusals.Refusal.TheVariants.{Write, OutOfMemory}
@@ -8,7 +8,13 @@ use Rattle.dimacs.specs.Texts.{Source, FaultOf}
 use Rattle.rows.specs.declared.queries.Query.{Query}
 use Rattle.rows.specs.declared.queries.Reply.{Reply}
 use Rattle.rows.specs.Replies.{IsRight, refusal_of}
+use Rattle.printing.specs.Counting.{writer_of}
+use Rattle.printing.specs.Failing.{LeavesUnwritten}
 use Rattle.printing.specs.Printed.{lines_of}
+use Rattle.printing.specs.Widths.{told_width}
+use Rattle.printing.specs.Writers.{KeepsWriter}
+use Rattle.printing.specs.declared.done.Done.{Done}
+use Rattle.printing.specs.declared.writer.CountedWriter.{CountedWriter}
 use Rattle.printing.specs.declared.failed.Failed.{Failed}
 use Rattle.printing.specs.declared.failed.Failed.TheVariants.{Text, Code}
 
@@ -29,6 +35,14 @@ abbrev pub IsUnanswered : Failed → Type 0
 IsUnanswered (Code Write) = ⊤
 IsUnanswered (Code OutOfMemory) = ⊤
 IsUnanswered failed = ⊥
+
+-- The searches had buckets of this width, if one is given. Where it is refused the writer failed, or memory ran out, and nothing is written but by a
+-- writer that failed.
+pub record Answers {W : Type 0} (delta : Option ℕ) (result : Result Done Failed) (old new : CountedWriter W) : Type 0 where
+  pub width : IfOk result (λ done. told_width done ≡ delta)
+  pub refused : IfErr result IsUnanswered
+  pub unwritten : IfErr result (LeavesUnwritten (writer_of old) (writer_of new))
+  pub writer : KeepsWriter result old new
 
 -- a fault of the call's one text, or the writer failed, or memory ran out: nothing else
 abbrev pub IsOfOnce : Failed → Type 0

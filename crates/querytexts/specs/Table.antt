@@ -1,15 +1,13 @@
 -- What a table of sources and targets is answered with, and for what it is refused.
-use Rattle.std.specs.Prelude.{◌≡◌, ◌≤◌, ℕ, zero, suc, List, Option, Result, Ok, Err, map, ⊤}
+use Rattle.std.specs.Prelude.{◌≡◌, ◌≤◌, ℕ, zero, suc, List, Option, Result, Ok, map, ⊤}
 use Rattle.std.specs.List.{flat_map}
 use Rattle.roadnet.specs.Net.{Net}
 use Rattle.roadnet.specs.declared.refusals.Refusal.TheVariants.{Write, OutOfMemory}
 use Rattle.dimacs.specs.declared.fault.Fault.{Fault}
 use Rattle.dimacs.specs.declared.pairs.Pair.{Pair}
-use Rattle.dimacs.specs.Counts.{one_more_failed}
 use Rattle.dimacs.specs.Lines.{rows}
 use Rattle.dimacs.specs.Content.{gr_text}
 use Rattle.dimacs.specs.Landmarks.{nodes_text}
-use Rattle.dimacs.specs.Taking.{ByCode}
 use Rattle.dimacs.specs.Texts.{Source, FaultOf, content_by}
 use Rattle.printing.specs.declared.failed.Failed.{Failed}
 use Rattle.printing.specs.declared.failed.Failed.TheVariants.{Text, Code}
@@ -65,8 +63,3 @@ IsRefusedTable network sources targets network_source sources_source targets_sou
 IsRefusedTable network sources targets network_source sources_source targets_source (Code Write) = GiveTable network sources targets
 IsRefusedTable network sources targets network_source sources_source targets_source (Code OutOfMemory) = GiveTable network sources targets
 IsRefusedTable network sources targets network_source sources_source targets_source failed = ⊥
-
--- the count of the third reader's failed calls is one more where a failed read of its text is told, and else as it was
-abbrev pub CountsThird : {X : Type 0} → ℕ → ℕ → Result X Failed → Type 0
-CountsThird old new (Err (Text (suc (suc zero)) fault)) = ByCode fault.code (new ≡ old) (new ≡ one_more_failed old) (new ≡ old)
-CountsThird old new result = new ≡ old

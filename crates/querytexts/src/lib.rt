@@ -6,7 +6,7 @@ mod once;
 mod reaches;
 mod tables;
 
-pub use batch::{answer_by, answer_pairs, batch_counted, batch_text};
-pub use once::{once_counted, once_text};
-pub use reaches::{Reach, reach_counted, reach_text};
-pub use tables::{answer_table, table_counted, table_text};
+pub use batch::{answer_by, answer_pairs, batch_text};
+pub use once::once_text;
+pub use reaches::{Reach, reach_text};
+pub use tables::{answer_table, table_text};

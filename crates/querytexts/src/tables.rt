@@ -2,21 +2,21 @@
 ghost use Rattle.std.specs.Prelude.{◌≡◌, ◌++◌, OnOk, IfOk, IfErr, IfSome};
 ghost use Rattle.std.specs.Option.{ForSome};
 ghost use Rattle.rows.specs.Kept.{IsWidth};
-ghost use Rattle.dimacs.specs.Texts.{InMemory, OfReader};
-ghost use Rattle.dimacs.specs.Counts.{failed_calls, reader_of, IsSameReader};
-ghost use Rattle.printing.specs.Counting.{failed_writes, writer_of, IsSameWriter};
-ghost use Rattle.printing.specs.Failing.{CountsFirst, CountsSecond, CountsWrites, LeavesUnwritten};
+ghost use Rattle.dimacs.specs.Calling.{KeepsText};
+ghost use Rattle.printing.specs.Counting.{writer_of};
+ghost use Rattle.printing.specs.Failing.{CountsFirst, CountsSecond, CountsThird, LeavesUnwritten};
 ghost use Rattle.printing.specs.Widths.{told_width};
-ghost use Rattle.querytexts.specs.Once.{IsUnanswered};
+ghost use Rattle.printing.specs.Writers.{KeepsWriter};
+ghost use Rattle.querytexts.specs.Once.{Answers};
 ghost use Rattle.querytexts.specs.Batch.{AnswersAll};
-ghost use Rattle.querytexts.specs.Table.{pairs_from, pairs_between, CountsThird, IsAnsweredTable, IsOfTable, IsRefusedTable};
+ghost use Rattle.querytexts.specs.Table.{pairs_from, pairs_between, IsAnsweredTable, IsOfTable, IsRefusedTable};
 
 use crate::batch::answer_pairs;
-use dimacs::{Counted, Pair, parse_gr, parse_nodes, read_gr_counted, read_nodes_counted};
+use dimacs::{Pair, Text, read_gr, read_nodes};
 use printing::{CountedWriter, Done, Failed, of_text};
 use roadnet::{Network, OutOfMemory, Refusal};
 use std::alloc::Global;
-use std::io::{BufRead, Write};
+use std::io::Write;
 use std::thread::Threads;
 
 const NETWORK: u8 = 0;
@@ -65,11 +65,7 @@ pub fn answer_table<T: Threads, W: Write>(
 ) -> Result<Done, Failed>
     requires { ForSome delta IsWidth }
     ensures answered { OnOk result (AnswersAll network.now version (pairs_between sources.now targets.now) (W.contents (writer_of out.old)) (W.contents (writer_of out.new))) }
-    ensures width { IfOk result (λ done. told_width done ≡ delta) }
-    ensures refused { IfErr result IsUnanswered }
-    ensures unwritten { IfErr result (LeavesUnwritten (writer_of out.old) (writer_of out.new)) }
-    ensures writes { CountsWrites (failed_writes out.old) (failed_writes out.new) result }
-    ensures same { IsSameWriter out.old out.new }
+    ensures answers { Answers delta result out.old out.new }
 {
     let Ok(pairs) = pairs_between(alloc, sources, targets) else {
         return Err(Failed::Code(Refusal::OutOfMemory));
@@ -77,71 +73,43 @@ pub fn answer_table<T: Threads, W: Write>(
     answer_pairs(rt, alloc, network, version, delta, &pairs, out)
 }
 
-/// Writes the answer to each pair of a node that one reader's `.ss` text lists and one that another's lists, in the network of a third reader's `.gr`
-/// text, and nothing else: `v 0`, then one line a pair, source by source, in the order of the lines of the two texts. A node that stands on several
+/// Writes the answer to each pair of a node that one `.ss` text lists and one that another lists, in the network of a `.gr` text, and nothing else:
+/// `v 0`, then one line a pair, source by source, in the order of the lines of the two texts. A node that stands on several
 /// lines is answered as often. The texts are read whole before anything is written, the network first, then the sources, then the targets, and the first
 /// fault decides: `which` is 0 for the network, 1 for the sources and 2 for the targets. Nodes are judged by the network's number of nodes.
 ///
 /// `delta` is the width of a search's buckets, 1 to 2147483647: every width gives the same answers; without one it is
 /// the network's default. Each source is searched once, or each target, where these are fewer, as `answer_table` does it. Where no memory is there for all
 /// replies the call is refused with 11 and nothing is written. A failed read is fault 10 of the text and line being read, and a failed write is 12: both
-/// are told only where the count of that reader's or the writer's failed calls rose. After an `Err` readers and writer are not used again.
+/// are told only where the count of that text's or the writer's failed calls rose. After an `Err` texts and writer are not used again.
 ///
 /// In the network of `examples/six.gr`, the sources 1 and 5 with the targets 4 and 6 give `v 0 / d 1 4 12 / d 1 6 15 / d 5 4 2 / d 5 6 5`, where `/` is a
 /// line feed.
-pub fn table_counted<T: Threads, R: BufRead, Q: BufRead, P: BufRead, W: Write>(
+pub fn table_text<T: Threads, N: Text, P: Text, Q: Text, W: Write>(
     rt: &T,
     alloc: Global,
-    gr: &mut Counted<'_, R>,
-    sources: &mut Counted<'_, Q>,
-    targets: &mut Counted<'_, P>,
+    gr: &mut N,
+    sources: &mut P,
+    targets: &mut Q,
     delta: Option<u32>,
     out: &mut CountedWriter<'_, W>,
 ) -> Result<Done, Failed>
     requires { ForSome delta IsWidth }
-    ensures answered { OnOk result (IfSome (R.remaining (reader_of gr.old)) (λ network. IfSome (Q.remaining (reader_of sources.old))
-        (λ from. IfSome (P.remaining (reader_of targets.old)) (λ to. IsAnsweredTable network from to (W.contents (writer_of out.old)) (W.contents (writer_of out.new)))))) }
+    ensures answered { OnOk result (IfSome (N.bytes gr.old) (λ network. IfSome (P.bytes sources.old) (λ from. IfSome (Q.bytes targets.old)
+        (λ to. IsAnsweredTable network from to (W.contents (writer_of out.old)) (W.contents (writer_of out.new)))))) }
     ensures width { IfOk result (λ done. told_width done ≡ delta) }
-    ensures refused { IfErr result (λ failed. IfSome (R.remaining (reader_of gr.old)) (λ network. IfSome (Q.remaining (reader_of sources.old))
-        (λ from. IfSome (P.remaining (reader_of targets.old))
-        (λ to. IsRefusedTable network from to (OfReader (R.remaining (reader_of gr.new))) (OfReader (Q.remaining (reader_of sources.new))) (OfReader (P.remaining (reader_of targets.new))) failed)))) }
+    ensures refused { IfErr result (λ failed. IfSome (N.bytes gr.old) (λ network. IfSome (P.bytes sources.old) (λ from. IfSome (Q.bytes targets.old)
+        (λ to. IsRefusedTable network from to (N.source gr.new) (P.source sources.new) (Q.source targets.new) failed)))) }
     ensures codes { IfErr result IsOfTable }
     ensures unwritten { IfErr result (LeavesUnwritten (writer_of out.old) (writer_of out.new)) }
-    ensures reads_network { CountsFirst (failed_calls gr.old) (failed_calls gr.new) result }
-    ensures reads_sources { CountsSecond (failed_calls sources.old) (failed_calls sources.new) result }
-    ensures reads_targets { CountsThird (failed_calls targets.old) (failed_calls targets.new) result }
-    ensures writes { CountsWrites (failed_writes out.old) (failed_writes out.new) result }
-    ensures same_network_reader { IsSameReader gr.old gr.new }
-    ensures same_source_reader { IsSameReader sources.old sources.new }
-    ensures same_target_reader { IsSameReader targets.old targets.new }
-    ensures same_writer { IsSameWriter out.old out.new }
+    ensures reads_network { KeepsText CountsFirst N.Text result gr.old gr.new }
+    ensures reads_sources { KeepsText CountsSecond P.Text result sources.old sources.new }
+    ensures reads_targets { KeepsText CountsThird Q.Text result targets.old targets.new }
+    ensures writes { KeepsWriter result out.old out.new }
 {
-    let network = of_text(NETWORK, read_gr_counted(alloc, gr))?;
+    let network = of_text(NETWORK, read_gr(alloc, gr))?;
     let nodes = network.nodes();
-    let from = of_text(SOURCES, read_nodes_counted(alloc, sources, nodes))?;
-    let to = of_text(TARGETS, read_nodes_counted(alloc, targets, nodes))?;
+    let from = of_text(SOURCES, read_nodes(alloc, sources, nodes))?;
+    let to = of_text(TARGETS, read_nodes(alloc, targets, nodes))?;
     answer_table(rt, alloc, &network, 0, delta, &from, &to, out)
-}
-
-/// The same for texts in memory, over any writer, whose failed calls nobody counts.
-pub fn table_text<T: Threads, W: Write>(
-    rt: &T,
-    alloc: Global,
-    gr: &[u8],
-    sources: &[u8],
-    targets: &[u8],
-    delta: Option<u32>,
-    out: &mut W,
-) -> Result<Done, Failed>
-    requires { ForSome delta IsWidth }
-    ensures answered { OnOk result (IsAnsweredTable gr.now sources.now targets.now (W.contents out.old) (W.contents out.new)) }
-    ensures width { IfOk result (λ done. told_width done ≡ delta) }
-    ensures refused { IfErr result (IsRefusedTable gr.now sources.now targets.now InMemory InMemory InMemory) }
-    ensures unwritten { IfErr result (LeavesUnwritten out.old out.new) }
-{
-    let network = of_text(NETWORK, parse_gr(alloc, gr))?;
-    let from = of_text(SOURCES, parse_nodes(alloc, sources, network.nodes()))?;
-    let to = of_text(TARGETS, parse_nodes(alloc, targets, network.nodes()))?;
-    let mut out = CountedWriter::new(out);
-    answer_table(rt, alloc, &network, 0, delta, &from, &to, &mut out)
 }

@@ -2,10 +2,9 @@
 use Rattle.std.specs.Prelude.{◌≡◌, ℕ, zero, suc, List, map, Option, None, Result, Ok, Err}
 use Rattle.dimacs.specs.declared.fault.Fault.{Fault}
 use Rattle.dimacs.specs.Lines.{rows}
-use Rattle.dimacs.specs.Content.{content_of}
+use Rattle.dimacs.specs.Content.{gr_text, content_of}
 use Rattle.dimacs.specs.Joint.{before_run, after_run}
-use Rattle.dimacs.specs.Gr.{FaultOfLines}
-use Rattle.dimacs.specs.Texts.{OfReader, FaultOf, content_by}
+use Rattle.dimacs.specs.Texts.{OfReader, FaultOf, FaultOfLines, content_by}
 use Rattle.scripts.specs.ScriptTexts.{as_line, script_text}
 use Rattle.printing.specs.declared.failed.Failed.{Failed}
 use Rattle.printing.specs.declared.failed.Failed.TheVariants.{Text, Code}
@@ -28,7 +27,7 @@ pub record IsScriptRefused (text : List ℕ) (left : Option (List ℕ)) (fault :
 
 -- which text has which fault: the network before `run`, or, where that has none, the script behind it
 abbrev pub IsTextRefused : ℕ → List ℕ → Option (List ℕ) → Fault → Type 0
-IsTextRefused zero text left fault = FaultOfLines text (before_run (rows text)) left fault
+IsTextRefused zero text left fault = FaultOfLines gr_text text (before_run (rows text)) left fault
 IsTextRefused (suc zero) text left fault = AfterNetwork (before_run (rows text)) (IsScriptRefused text left fault)
 IsTextRefused (suc (suc n)) text left fault = ⊥
 

@@ -54,7 +54,7 @@ abbrev pub IsOfRehearsal : Failed → Type 0
 IsOfRehearsal (Text which fault) = which ≤ 1
 IsOfRehearsal (Code refusal) = (refusal ≡ TooLarge) ⊎ ((refusal ≡ Write) ⊎ IsPassing refusal)
 
--- a text's fault leaves the writer as it was
-abbrev pub KeepsWriter : {W : Type 0} → W → W → Failed → Type 0
-KeepsWriter old new (Text which fault) = new ≡ old
-KeepsWriter old new (Code refusal) = ⊤
+-- nothing is written of a text's fault
+abbrev pub UnwrittenOfText : {W : Type 0} → W → W → Failed → Type 0
+UnwrittenOfText old new (Text which fault) = new ≡ old
+UnwrittenOfText old new (Code refusal) = ⊤

@@ -3,11 +3,12 @@ ghost use Rattle.std.specs.Prelude.{◌≡◌, IfSome, IfOk, OnOk, IfErr};
 ghost use Rattle.std.specs.Option.{ForSome};
 ghost use Rattle.rows.specs.Kept.{IsWidth};
 ghost use Rattle.dimacs.specs.Counts.{failed_calls, reader_of, IsSameReader};
-ghost use Rattle.printing.specs.Counting.{failed_writes, writer_of, IsSameWriter};
-ghost use Rattle.printing.specs.Failing.{CountsReads, CountsWrites, IsOfText};
+ghost use Rattle.printing.specs.Counting.{writer_of};
+ghost use Rattle.printing.specs.Failing.{CountsReads, IsOfText};
 ghost use Rattle.printing.specs.Widths.{told_width};
+ghost use Rattle.printing.specs.Writers.{KeepsWriter};
 ghost use Rattle.rehearsals.specs.Joint.{IsAnswered, IsRefused, ReadsJoint};
-ghost use Rattle.rehearsals.specs.Texts.{IsOfRehearsal, KeepsWriter};
+ghost use Rattle.rehearsals.specs.Texts.{IsOfRehearsal, UnwrittenOfText};
 
 use crate::running::run_events;
 use dimacs::{Counted, read_gr_before_run};
@@ -15,7 +16,7 @@ use disk::Pick;
 use machine::Event;
 use printing::{CountedWriter, Done, Failed, of_text};
 use roadnet::Network;
-use scripts::read_script_counted;
+use scripts::read_script;
 use std::alloc::Global;
 use std::io::{BufRead, Write};
 use std::thread::Threads;
@@ -48,7 +49,7 @@ fn read_joint<R: BufRead>(alloc: Global, reader: &mut Counted<'_, R>) -> Result<
         let events = Vec::new(alloc);
         return Ok(Joint { network, events });
     }
-    let events = of_text(SCRIPT, read_script_counted(alloc, reader))?;
+    let events = of_text(SCRIPT, read_script(alloc, reader))?;
     Ok(Joint { network, events })
 }
 
@@ -61,7 +62,7 @@ fn read_joint<R: BufRead>(alloc: Global, reader: &mut Counted<'_, R>) -> Result<
 /// is wanting in the disk), nothing is written; where the run ends early (11 or 43), the replies so far are. A failed read is fault 10 of
 /// the text and line being read, and a failed write is 12: both are told only where the count of the reader's or writer's failed calls
 /// rose. After an `Err` reader and writer are not used again.
-pub fn joint_counted<T: Threads, R: BufRead, W: Write>(
+pub fn joint_text<T: Threads, R: BufRead, W: Write>(
     rt: &T,
     alloc: Global,
     reader: &mut Counted<'_, R>,
@@ -75,11 +76,10 @@ pub fn joint_counted<T: Threads, R: BufRead, W: Write>(
     ensures refused { IfErr result (λ failed. IfSome (R.remaining (reader_of reader.old))
         (λ text. IsRefused text (R.remaining (reader_of reader.new)) (W.contents (writer_of out.old)) (W.contents (writer_of out.new)) failed)) }
     ensures codes { IfErr result IsOfRehearsal }
-    ensures unwritten { IfErr result (KeepsWriter (writer_of out.old) (writer_of out.new)) }
+    ensures unwritten { IfErr result (UnwrittenOfText (writer_of out.old) (writer_of out.new)) }
     ensures reads { CountsReads (failed_calls reader.old) (failed_calls reader.new) result }
-    ensures writes { CountsWrites (failed_writes out.old) (failed_writes out.new) result }
+    ensures writes { KeepsWriter result out.old out.new }
     ensures same_reader { IsSameReader reader.old reader.new }
-    ensures same_writer { IsSameWriter out.old out.new }
 {
     let joint = read_joint(alloc, reader)?;
     run_events(
@@ -91,26 +91,4 @@ pub fn joint_counted<T: Threads, R: BufRead, W: Write>(
         &joint.events,
         out,
     )
-}
-
-/// The same over any reader and writer, whose failed calls nobody counts.
-pub fn joint_text<T: Threads, R: BufRead, W: Write>(
-    rt: &T,
-    alloc: Global,
-    reader: &mut R,
-    delta: Option<u32>,
-    out: &mut W,
-) -> Result<Done, Failed>
-    requires { ForSome delta IsWidth }
-    ensures width { IfOk result (λ done. told_width done ≡ delta) }
-    ensures answered { OnOk result (IfSome (R.remaining reader.old)
-        (λ text. IsAnswered text (W.contents out.old) (W.contents out.new))) }
-    ensures refused { IfErr result (λ failed. IfSome (R.remaining reader.old)
-        (λ text. IsRefused text (R.remaining reader.new) (W.contents out.old) (W.contents out.new) failed)) }
-    ensures codes { IfErr result IsOfRehearsal }
-    ensures unwritten { IfErr result (KeepsWriter out.old out.new) }
-{
-    let mut reader = Counted::new(reader);
-    let mut out = CountedWriter::new(out);
-    joint_counted(rt, alloc, &mut reader, delta, &mut out)
 }

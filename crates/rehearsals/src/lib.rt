@@ -6,5 +6,5 @@ mod joint;
 mod rehearsing;
 mod running;
 
-pub use joint::{joint_counted, joint_text};
-pub use rehearsing::{rehearse_counted, rehearse_text};
+pub use joint::joint_text;
+pub use rehearsing::rehearse_text;

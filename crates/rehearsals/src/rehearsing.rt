@@ -2,23 +2,23 @@
 ghost use Rattle.std.specs.Prelude.{◌≡◌, ◌≤◌, OnOk, IfOk, IfErr, IfSome};
 ghost use Rattle.std.specs.Option.{ForSome};
 ghost use Rattle.rows.specs.Kept.{IsWidth};
-ghost use Rattle.dimacs.specs.Texts.{InMemory, OfReader};
-ghost use Rattle.dimacs.specs.Counts.{failed_calls, reader_of, IsSameReader};
+ghost use Rattle.dimacs.specs.Calling.{KeepsText};
 ghost use Rattle.dimacs.specs.Lines.{rows};
-ghost use Rattle.printing.specs.Counting.{failed_writes, writer_of, IsSameWriter};
-ghost use Rattle.printing.specs.Failing.{CountsFirst, CountsSecond, CountsWrites};
+ghost use Rattle.printing.specs.Counting.{writer_of};
+ghost use Rattle.printing.specs.Failing.{CountsFirst, CountsSecond};
+ghost use Rattle.printing.specs.Widths.{told_width};
+ghost use Rattle.printing.specs.Writers.{KeepsWriter};
 ghost use Rattle.roadnet.specs.Net.{IsRoomFor};
 ghost use Rattle.store.specs.Migrating.{room_of, roomed};
-ghost use Rattle.printing.specs.Widths.{told_width};
-ghost use Rattle.rehearsals.specs.Texts.{IsRehearsed, IsRefusedRehearsal, IsOfRehearsal, KeepsWriter};
+ghost use Rattle.rehearsals.specs.Texts.{IsRehearsed, IsRefusedRehearsal, IsOfRehearsal, UnwrittenOfText};
 
 use crate::running::run_events;
-use dimacs::{Counted, parse_gr, read_gr_counted};
+use dimacs::{Text, read_gr};
 use printing::{CountedWriter, Done, Failed, of_text};
 use roadnet::{Network, Refusal};
-use scripts::{parse_script, read_script_counted};
+use scripts::read_script;
 use std::alloc::Global;
-use std::io::{BufRead, Write};
+use std::io::Write;
 use std::thread::Threads;
 use store::with_given_room;
 
@@ -37,21 +37,20 @@ fn roomed(network: Network, room: Option<u64>) -> Result<Network, Failed>
     }
 }
 
-/// Runs the events of a reader's script on a new store, in memory, of the network of another reader's `.gr` text, and writes the lines of
-/// the replies, and nothing else. Both texts are read whole before anything is run or written, the network first, and the first fault
-/// decides.
+/// Runs the events of a script on a new store, in memory, of the network of a `.gr` text, and writes the lines of the replies, and nothing
+/// else. Both texts are read whole before anything is run or written, the network first, and the first fault decides.
 ///
 /// The store has `journal_pages` pages in its journal, 1 to 65,536, and room for `room` arcs; without one, for those that there are. A room below
 /// the number of arcs or above 67,108,864 is refused with 9 behind the texts' faults, and nothing is run. `delta`, 1 to 2147483647, is the width of the buckets of each view's
 /// searches: every width gives the same answers; without one it is the network's default. An event that finds no memory is answered with
 /// `no 11`. Where the store cannot be made (11, or 43 where memory is wanting in the disk), nothing is written; where the run ends early
 /// (11 or 43), the replies so far are. A failed read is fault 10 of the text and line being read, and a failed write is 12: both are told
-/// only where the count of that reader's or the writer's failed calls rose. After an `Err` readers and writer are not used again.
-pub fn rehearse_counted<T: Threads, R: BufRead, Q: BufRead, W: Write>(
+/// only where the count of that text's or the writer's failed calls rose. After an `Err` texts and writer are not used again.
+pub fn rehearse_text<T: Threads, N: Text, S: Text, W: Write>(
     rt: &T,
     alloc: Global,
-    gr: &mut Counted<'_, R>,
-    script: &mut Counted<'_, Q>,
+    gr: &mut N,
+    script: &mut S,
     journal_pages: u32,
     room: Option<u64>,
     delta: Option<u32>,
@@ -61,48 +60,19 @@ pub fn rehearse_counted<T: Threads, R: BufRead, Q: BufRead, W: Write>(
     requires some { 1 ≤ journal_pages }
     requires few { journal_pages ≤ 65536 }
     ensures width { IfOk result (λ done. told_width done ≡ delta) }
-    ensures answered { OnOk result (IfSome (R.remaining (reader_of gr.old)) (λ network. IfSome (Q.remaining (reader_of script.old))
+    ensures answered { OnOk result (IfSome (N.bytes gr.old) (λ network. IfSome (S.bytes script.old)
         (λ events. IsRehearsed journal_pages room (rows network) (rows events) (W.contents (writer_of out.old)) (W.contents (writer_of out.new))))) }
-    ensures refused { IfErr result (λ failed. IfSome (R.remaining (reader_of gr.old)) (λ network. IfSome (Q.remaining (reader_of script.old))
-        (λ events. IsRefusedRehearsal journal_pages room network events (OfReader (R.remaining (reader_of gr.new))) (OfReader (Q.remaining (reader_of script.new)))
+    ensures refused { IfErr result (λ failed. IfSome (N.bytes gr.old) (λ network. IfSome (S.bytes script.old)
+        (λ events. IsRefusedRehearsal journal_pages room network events (N.source gr.new) (S.source script.new)
         (W.contents (writer_of out.old)) (W.contents (writer_of out.new)) failed))) }
     ensures codes { IfErr result IsOfRehearsal }
-    ensures unwritten { IfErr result (KeepsWriter (writer_of out.old) (writer_of out.new)) }
-    ensures reads_network { CountsFirst (failed_calls gr.old) (failed_calls gr.new) result }
-    ensures reads_script { CountsSecond (failed_calls script.old) (failed_calls script.new) result }
-    ensures writes { CountsWrites (failed_writes out.old) (failed_writes out.new) result }
-    ensures same_network_reader { IsSameReader gr.old gr.new }
-    ensures same_script_reader { IsSameReader script.old script.new }
-    ensures same_writer { IsSameWriter out.old out.new }
+    ensures unwritten { IfErr result (UnwrittenOfText (writer_of out.old) (writer_of out.new)) }
+    ensures reads_network { KeepsText CountsFirst N.Text result gr.old gr.new }
+    ensures reads_script { KeepsText CountsSecond S.Text result script.old script.new }
+    ensures writes { KeepsWriter result out.old out.new }
 {
-    let network = of_text(NETWORK, read_gr_counted(alloc, gr))?;
-    let events = of_text(SCRIPT, read_script_counted(alloc, script))?;
+    let network = of_text(NETWORK, read_gr(alloc, gr))?;
+    let events = of_text(SCRIPT, read_script(alloc, script))?;
     let made = roomed(network, room)?;
     run_events(rt, alloc, &made, journal_pages, delta, &events, out)
-}
-
-/// The same for texts in memory, over any writer, whose failed calls nobody counts.
-pub fn rehearse_text<T: Threads, W: Write>(
-    rt: &T,
-    alloc: Global,
-    gr: &[u8],
-    script: &[u8],
-    journal_pages: u32,
-    room: Option<u64>,
-    delta: Option<u32>,
-    out: &mut W,
-) -> Result<Done, Failed>
-    requires width { ForSome delta IsWidth }
-    requires some { 1 ≤ journal_pages }
-    requires few { journal_pages ≤ 65536 }
-    ensures width { IfOk result (λ done. told_width done ≡ delta) }
-    ensures answered { OnOk result (IsRehearsed journal_pages room (rows gr.now) (rows script.now) (W.contents out.old) (W.contents out.new)) }
-    ensures refused { IfErr result (IsRefusedRehearsal journal_pages room gr.now script.now InMemory InMemory (W.contents out.old) (W.contents out.new)) }
-    ensures unwritten { IfErr result (KeepsWriter out.old out.new) }
-{
-    let network = of_text(NETWORK, parse_gr(alloc, gr))?;
-    let events = of_text(SCRIPT, parse_script(alloc, script))?;
-    let made = roomed(network, room)?;
-    let mut out = CountedWriter::new(out);
-    run_events(rt, alloc, &made, journal_pages, delta, &events, &mut out)
 }

@@ -10,6 +10,7 @@ ghost use Rattle.keeper.specs.Running.{width_of};
 ghost use Rattle.printing.specs.Counting.{failed_writes, writer_of, IsSameWriter};
 ghost use Rattle.printing.specs.Failing.{CountsWrites, IfDevice};
 ghost use Rattle.printing.specs.Widths.{told_width};
+ghost use Rattle.printing.specs.Writers.{KeepsWriter};
 ghost use Rattle.rehearsals.specs.Rehearsed.{RepliesTo, Rehearses, IsBrokenOff};
 
 use disk::{MemDisk, Pick, Stoppable};
@@ -114,8 +115,7 @@ pub fn run_events<T: Threads, W: Write>(
     ensures answered { OnOk result (Rehearses network.now journal_pages events.now None (W.contents (writer_of out.old)) (W.contents (writer_of out.new))) }
     ensures refused { IfErr result
         (IsBrokenOff network.now journal_pages events.now (W.contents (writer_of out.old)) (W.contents (writer_of out.new))) }
-    ensures writes { CountsWrites (failed_writes out.old) (failed_writes out.new) result }
-    ensures same { IsSameWriter out.old out.new }
+    ensures writes { KeepsWriter result out.old out.new }
 {
     let disk = MemDisk::new(alloc);
     let (ended, _disk) = run_events_on(rt, alloc, disk, network, journal_pages, delta, events, out);

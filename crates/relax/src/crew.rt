@@ -2,44 +2,35 @@ ghost use Rattle.std.specs.Prelude.{◌≡◌, ℕ, ◌+◌, ◌≤◌, ◌<◌,
 ghost use Rattle.relax.specs.Values.{value_at, value_or};
 ghost use Rattle.relax.specs.Requests.{requests_of};
 
+use crate::permits::Permit;
 use crate::team::{Solo, Team};
 use crate::tentative::Tentative;
 use rayon::prelude::*;
 use roadnet::OutOfMemory;
 use snapshot::{Part, Snapshot};
 use std::alloc::{AllocError, Global};
-use std::marker::PhantomData;
-use std::sync::atomic::AtomicPtr;
 use std::thread::Threads;
 
 /// How many nodes a chunk of a crew has where nothing else is said.
 pub const CHUNK: u32 = 4096;
 
-/// The leave to start threads that a runtime gave. It holds no runtime, so each thread may have it.
-#[derive(Drop)]
-struct Leave<R> {
-    from: PhantomData<AtomicPtr<R>>,
-}
-
-impl<R: Threads> Threads for Leave<R> {}
-
 /// A team whose workers share the nodes of a phase: they are cut into chunks, the chunks are relaxed side by side, and their lists are
 /// put together in order. A phase of no more nodes than a chunk has is one worker's, and no thread is started for it.
 #[derive(Drop)]
 pub struct Crew<R> {
-    leave: Leave<R>,
+    permit: Permit<R>,
     chunk: u32,
     ghost some: { 1 ≤ chunk },
 }
 
 impl<R: Threads> Crew<R> {
     /// A crew that cuts the nodes of a phase into chunks of this many.
-    pub fn new(_rt: &R, chunk: u32) -> Crew<R>
+    pub fn new(rt: &R, chunk: u32) -> Crew<R>
         requires some { 1 ≤ chunk }
         ensures chunk { result.chunk ≡ chunk }
     {
-        let leave = Leave { from: PhantomData };
-        Crew { leave, chunk }
+        let permit = Permit::of(rt);
+        Crew { permit, chunk }
     }
 }
 
@@ -56,7 +47,7 @@ impl<R: Threads> Team for Crew<R> {
         if nodes.len() <= chunk {
             return Solo.requests(alloc, snapshot, nodes, tentative, part);
         }
-        let lists = in_chunks(&self.leave, alloc, snapshot, nodes, tentative, part, chunk)?;
+        let lists = in_chunks(&self.permit, alloc, snapshot, nodes, tentative, part, chunk)?;
         joined(alloc, &lists)
     }
 }

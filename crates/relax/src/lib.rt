@@ -2,9 +2,11 @@
 #![tactic(auto)]
 
 mod crew;
+mod permits;
 mod team;
 mod tentative;
 
 pub use crew::{CHUNK, Crew};
+pub use permits::Permit;
 pub use team::{Solo, Team};
 pub use tentative::Tentative;

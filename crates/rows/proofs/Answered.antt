@@ -55,6 +55,10 @@ no_refusal net (Lower s t) (Refused refusal) answer none = absurd answer
 pub right_answer : (net : Net) (query : Query) (reply : Reply) → refusal_of net query ≡ None → IsAnswer net query reply → IsRight net query reply
 right_answer net query reply none answer = no_refusal net query reply answer none
 
+pub right_told : (net : Net) (query : Query) (result : Result Reply OutOfMemory) → refusal_of net query ≡ None → IfOk result (IsAnswer net query) → IfOk result (IsRight net query)
+right_told net query (Ok reply) none is = right_answer net query reply none is
+right_told net query (Err e) none is = tt
+
 -- a call that tells no refusal
 pub not_refused : (told net : Net) (query : Query) (result : Option Refusal) → told ≡ net → result ≡ refusal_of told query → result ≡ None → refusal_of net query ≡ None
 not_refused told net query result same is none = subst (λ (x : Net). refusal_of x query ≡ None) same (sym is ∙ none)

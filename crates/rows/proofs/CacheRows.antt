@@ -34,6 +34,10 @@ same_key v s k e =
     let two = both (nat_eq v k.0) (nat_eq s k.1) e in
     pair_is k.0 k.1 v s (sym (equal v k.0 two.0)) (sym (equal s k.1 two.1))
 
+-- a cache that keeps the same rows has rows of the same network
+pub same_rows : (version : ℕ) (old new : RowCache) (net : Net) → rows_of new ≡ rows_of old → HasRowsOf version net old → HasRowsOf version net new
+same_rows version old new net same has source row there = has source row (subst (λ (rows : List KeptRow). Contains rows (kept_row version source row)) same there)
+
 module _ (version source : ℕ) where
   -- a row that is looked up is kept
   pub found_row : (rows : List KeptRow) (row : List (Option ℕ)) → lookup (key_eq (key version source)) rows ≡ Some row → Contains rows (kept_row version source row)

@@ -8,4 +8,5 @@ pub mod Kept
 pub mod Batches
 pub mod Backs
 pub mod Views
+pub mod Nearby
 pub mod Pins

@@ -32,8 +32,8 @@ pub(crate) fn refusal_of(network: &Network, query: &Query) -> Option<Refusal>
     }
 }
 
-/// What a row tells of the walks from its source to a node.
-pub(crate) fn distance_in(row: &Distances, target: u64) -> Reply
+/// What a row tells of the walks from its source to a node. It takes no memory.
+pub fn distance_in(row: &Distances, target: u64) -> Reply
     ensures { (net : Net) (source : ℕ) → IsNode net target → RowOf net source row.now → IsDistance net source target result }
 {
     match row.get(target) {

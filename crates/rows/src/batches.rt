@@ -13,13 +13,11 @@ use crate::ends::{Ends, Turned};
 use crate::places::{has_fewer_targets, next_sources, places_by_source};
 use crate::queries::Reply;
 use crate::side_by_side::fetch_rows;
+use crate::turning::WIDEST;
 use roadnet::{Network, OutOfMemory};
 use snapshot::Snapshot;
 use std::alloc::Global;
 use std::thread::Threads;
-
-/// The greatest width of a search's buckets.
-pub(crate) const WIDEST: u32 = 2_147_483_647;
 
 /// The replies to pairs, one after the other.
 fn in_order<R: Threads, E: Ends>(

@@ -3,11 +3,13 @@ ghost use Rattle.std.specs.Option.{ForSome};
 ghost use Rattle.std.specs.NonZero.{non_zero_usize_get};
 
 use crate::answers::distance_in;
+use crate::askers::Asker;
+use crate::nearby::Near;
 use crate::queries::Reply;
-use deltastep::{Distances, RowError, Workspace, row_in};
+use deltastep::{Distances, NodeDistance, RowError, Workspace, row_in};
 use lru::LruCache;
 use relax::{CHUNK, Crew};
-use roadnet::OutOfMemory;
+use roadnet::{OutOfMemory, Refusal};
 use snapshot::Snapshot;
 use std::alloc::Global;
 use std::num::NonZeroUsize;
@@ -23,15 +25,19 @@ pub struct RowCache {
     alloc: Global,
     capacity: NonZeroUsize,
     rows: Option<LruCache<(u64, u32), Distances>>,
+    /// The version and the source that were asked last of those that `is_wanted` was told of.
+    asked: Option<(u64, u32)>,
     workspace: Workspace,
     ghost sized: { ForSome rows (λ rows. rows.cap ≡ non_zero_usize_get capacity) },
 }
 
 impl RowCache {
-    ghost use Rattle.std.specs.Prelude.{◌≡◌, ◌≤◌, ◌⊎◌, [], None, length, All, IsSome, IfSome, IsOk, IfOk, OnErr, MatchOption};
+    ghost use Rattle.std.specs.Prelude.{◌≡◌, ◌≤◌, ◌⊎◌, [], None, true, length, All, IsSome, IfSome, IsOk, IfOk, IfErr, OnOk, OnErr, MatchOption};
     ghost use Rattle.roadnet.specs.Net.{Net, IsNode};
+    ghost use Rattle.roadnet.specs.Step.{is_node};
     ghost use Rattle.roadnet.specs.Walks.{RowOf};
     ghost use Rattle.snapshot.specs.Groups.{IsSnapshotOf};
+    ghost use Rattle.rows.specs.Nearby.{node_of, IsNear, IsUntold};
     ghost use Rattle.rows.specs.Replies.{IsDistance};
     ghost use Rattle.rows.specs.Cached.{capacity_of, rows_of, HasRowsOf, HasNoNewRow, HasOneNewRow, HasUsed, KeepsOthers, row_kept, rows_used, rows_put};
 
@@ -48,6 +54,7 @@ impl RowCache {
             alloc,
             capacity,
             rows: None,
+            asked: None,
             workspace: Workspace::new(),
         }
     }
@@ -100,6 +107,19 @@ impl RowCache {
             Some(rows) => rows.contains(&(version, source)),
             None => false,
         }
+    }
+
+    /// Whether a whole row of this version and source is wanted: it is kept, or they were the last ones that were asked. From now on they are the last ones.
+    pub(crate) fn is_wanted(&mut self, version: u64, source: u32) -> bool
+        ensures rows { rows_of self.new ≡ rows_of self.old }
+        ensures capacity { capacity_of self.new ≡ capacity_of self.old }
+    {
+        let again = match self.asked {
+            Some(last) => last == (version, source),
+            None => false,
+        };
+        self.asked = Some((version, source));
+        again || self.has(version, source)
     }
 
     /// Whether the row of this version and source is kept: it then counts as used.
@@ -184,5 +204,40 @@ impl RowCache {
             }
             Err(RowError::OutOfMemory) => Err(OutOfMemory),
         }
+    }
+
+    /// The distance between two nodes of a network by a search that ends at the target. It keeps no row.
+    pub(crate) fn stopped<R: Threads>(
+        &mut self,
+        rt: &R,
+        alloc: Global,
+        asker: &Asker,
+        source: u32,
+        target: u32,
+    ) -> Result<Reply, OutOfMemory>
+        requires source { IsNode asker.now.network source }
+        requires target { IsNode asker.now.network target }
+        ensures distance { IfOk result (IsDistance asker.now.network source target) }
+        ensures rows { rows_of self.new ≡ rows_of self.old }
+    {
+        let crew = Crew::new(rt, CHUNK);
+        asker.distance(alloc, source, target, &crew, &mut self.workspace)
+    }
+
+    /// What lies near a node of a network. It keeps no row.
+    pub(crate) fn near<R: Threads>(
+        &mut self,
+        rt: &R,
+        alloc: Global,
+        asker: &Asker,
+        near: Near,
+    ) -> Result<Vec<NodeDistance>, Refusal>
+        ensures near { IfOk result (λ told. IsNear asker.now.network near told.items) }
+        ensures node { OnOk result (is_node asker.now.network (node_of near) ≡ true) }
+        ensures causes { IfErr result (IsUntold (is_node asker.now.network (node_of near))) }
+        ensures rows { rows_of self.new ≡ rows_of self.old }
+    {
+        let crew = Crew::new(rt, CHUNK);
+        asker.near(alloc, near, None, &crew, &mut self.workspace)
     }
 }

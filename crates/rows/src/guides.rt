@@ -251,7 +251,7 @@ impl View {
     /// The least length of a walk from `source` to `target` in the view's network, or nothing where no walk leads there, by a search that
     /// the rows of the landmarks lead, or where there is no landmark one that just stops at the target. It keeps no row; its one error is
     /// want of memory.
-    pub fn distance_in<T: Team>(
+    pub(crate) fn distance_in<T: Team>(
         &self,
         alloc: Global,
         source: u32,

@@ -2,9 +2,8 @@ ghost use Rattle.std.specs.Prelude.{◌≡◌, ◌≤◌, IfOk};
 ghost use Rattle.roadnet.specs.Net.{Net};
 ghost use Rattle.roadnet.specs.Walks.{RowOf};
 ghost use Rattle.snapshot.specs.Groups.{IsSnapshotOf};
-ghost use Rattle.deltastep.specs.Repair.{AreChanged};
 
-use deltastep::{Distances, RowError, Workspace, row, row_after_in};
+use deltastep::{Distances, RowError, row};
 use relax::Team;
 use roadnet::OutOfMemory;
 use snapshot::Snapshot;
@@ -36,40 +35,6 @@ impl Row {
         ensures distances { IfOk result (λ row. (net : Net) → IsSnapshotOf net snapshot.now → RowOf net landmark row.distances) }
     {
         match row(alloc, snapshot, landmark, team) {
-            Ok(distances) => Ok(Row {
-                landmark,
-                version,
-                distances,
-            }),
-            Err(RowError::OutOfMemory) => Err(OutOfMemory),
-        }
-    }
-
-    /// The same row, out of that of the node in the network before a change: `before` is that network's snapshot, and `changed` has each node of which
-    /// some leg is not the same in both. Its one error is want of memory, for what `deltastep::row_after` takes. The search uses the workspace as
-    /// that of `deltastep::row_in` does.
-    pub fn build_after<T: Team>(
-        alloc: Global,
-        version: u64,
-        snapshot: &Snapshot,
-        landmark: u32,
-        before: &Snapshot,
-        old: &Distances,
-        changed: &[u32],
-        team: &T,
-        workspace: &mut Workspace,
-    ) -> Result<Row, OutOfMemory>
-        requires node { (1 ≤ landmark) × (landmark ≤ snapshot.now.nodes) }
-        requires nodes { before.now.nodes ≡ snapshot.now.nodes }
-        requires old { (net : Net) × IsSnapshotOf net before.now × RowOf net landmark old.now }
-        requires changed { AreChanged before.now snapshot.now changed.now }
-        ensures version { IfOk result (λ row. row.version ≡ version) }
-        ensures landmark { IfOk result (λ row. row.landmark ≡ landmark) }
-        ensures distances { IfOk result (λ row. (net : Net) → IsSnapshotOf net snapshot.now → RowOf net landmark row.distances) }
-    {
-        match row_after_in(
-            alloc, snapshot, landmark, before, old, changed, team, workspace,
-        ) {
             Ok(distances) => Ok(Row {
                 landmark,
                 version,

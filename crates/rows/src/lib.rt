@@ -2,33 +2,40 @@
 #![tactic(auto)]
 
 mod answers;
+mod askers;
+mod asking;
 mod batches;
 mod bounds;
 mod caches;
 mod ends;
 mod guides;
+mod landmark_replies;
 mod landmark_rows;
 mod laws;
+mod nearby;
 mod pinned;
 mod places;
 mod queries;
 mod ran;
-mod reach;
 mod searches;
 mod side_by_side;
 mod sights;
+mod tables;
+mod turning;
 mod views;
 
-pub use answers::answer_plain;
+pub use answers::{answer_plain, distance_in};
+pub use askers::Asker;
 pub use caches::{DEFAULT_ROWS, RowCache};
 pub use ends::Ends;
 pub use guides::{Landmarks, laws_of_potentials};
 pub use landmark_rows::Row;
 pub use laws::{laws_of_bounds, laws_of_replies};
+pub use nearby::Near;
 pub use pinned::Pinned;
 pub use queries::{Query, Reply};
 pub use ran::Ran;
-pub use reach::turned_groups;
 pub use searches::Searches;
 pub use sights::Sight;
+pub use turning::{WIDEST, turned_groups};
 pub use views::View;

@@ -5,9 +5,8 @@ ghost use Rattle.rows.specs.Views.{AreRight};
 ghost use Rattle.rows.specs.Pins.{viewed, cached, HasOwnRows, HasAnswered, IsSamePin};
 ghost use Rattle.rows.specs.declared.queries.Query.TheVariants.{Dist, From, Lower};
 
-use crate::answers::{distance_in, refusal_of, reply_by};
+use crate::answers::reply_by;
 use crate::batches::replies_to;
-use crate::bounds::bound_by;
 use crate::caches::RowCache;
 use crate::ends::Numbers;
 use crate::queries::{Query, Reply};
@@ -48,35 +47,20 @@ impl<'a> Pinned<'a> {
         view.width()
     }
 
-    /// The reply to `From`, by the landmark's row. It takes no memory.
-    ///
-    /// In the network of `examples/six.gr` with the landmark 3, from 3 to 4 it is `Length(2)`, from 3 to 1 `NoWalk`, and from 1 to 4
-    /// `Refused(NotALandmark)`.
+    /// The reply to `From`, by the landmark's row, as `View::from_landmark` gives it. It takes no memory.
     pub fn from_landmark(&self, landmark: u64, target: u64) -> Reply
         ensures { IsRight (viewed self.now).network (From landmark target) result }
     {
         let view = self.view;
-        let query = Query::From { landmark, target };
-        if let Some(refusal) = refusal_of(view.network(), &query) {
-            return Reply::Refused(refusal);
-        }
-        let row = view.row_of(landmark as u32);
-        distance_in(&row.distances, target)
+        view.from_landmark(landmark, target)
     }
 
-    /// The reply to `Lower`, by the rows of all landmarks, each read once. It takes no memory.
-    ///
-    /// In the network of `examples/six.gr` with the landmark 3, whose row has 0 for node 5 and 5 for node 6, from 5 to 6 it is `AtLeast(5)`;
-    /// from 5 to 1 it is `NoWalk`, since 3 reaches 5 and not 1.
+    /// The reply to `Lower`, by the rows of all landmarks, as `View::lower` gives it. It takes no memory.
     pub fn lower(&self, source: u64, target: u64) -> Reply
         ensures { IsRight (viewed self.now).network (Lower source target) result }
     {
         let view = self.view;
-        let query = Query::Lower { source, target };
-        if let Some(refusal) = refusal_of(view.network(), &query) {
-            return Reply::Refused(refusal);
-        }
-        bound_by(view, source, target)
+        view.lower(source, target)
     }
 
     /// The reply to `Dist`, by a row of the cache, or by a new one, which the cache then keeps where memory is there for it. The one

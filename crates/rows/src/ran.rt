@@ -1,6 +1,5 @@
 //! What ran, and tells how.
 ghost use Rattle.std.specs.Prelude.{◌≡◌, ℕ, Option, None};
-ghost use Rattle.rows.specs.Kept.{given_width};
 
 use crate::searches::Searches;
 
@@ -22,7 +21,7 @@ pub trait Ran {
 }
 
 impl Ran for Searches {
-    ghost width_given = { λ searches. given_width searches };
+    ghost width_given = { λ searches. searches.delta };
 
     ghost workers_given = { λ searches. None };
 

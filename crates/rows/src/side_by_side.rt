@@ -9,24 +9,14 @@ ghost use Rattle.rows.specs.Cached.{KeepsOthers, HasRowsOf, HasNoNewRow, capacit
 use crate::caches::RowCache;
 use deltastep::{Distances, Workspace, row_in};
 use rayon::prelude::*;
-use relax::Solo;
+use relax::{Permit, Solo};
 use roadnet::OutOfMemory;
 use snapshot::Snapshot;
 use std::alloc::{AllocError, Global};
-use std::marker::PhantomData;
-use std::sync::atomic::AtomicPtr;
 use std::thread::Threads;
 
 /// How many threads make rows side by side at most.
 const WORKERS: usize = 4;
-
-/// The leave to start threads that a runtime gave. It holds no runtime, so each thread may have it.
-#[derive(Drop)]
-struct Leave<R> {
-    from: PhantomData<AtomicPtr<R>>,
-}
-
-impl<R: Threads> Threads for Leave<R> {}
 
 /// The rows of nodes, one after the other, each beside its node.
 fn one_by_one(
@@ -102,7 +92,7 @@ fn missing(
 /// Has the cache keep the rows of these nodes, where memory is there for them: those that it lacks are made side by side, by up to four threads. One row
 /// alone is left to the query that needs it, which shares it out. The one error is want of memory, and then it lacks what it lacked.
 pub(crate) fn fetch_rows<R: Threads>(
-    _rt: &R,
+    rt: &R,
     alloc: Global,
     version: u64,
     snapshot: &Snapshot,
@@ -118,9 +108,9 @@ pub(crate) fn fetch_rows<R: Threads>(
     if missing.len() < 2 {
         return Ok(());
     }
-    let leave: Leave<R> = Leave { from: PhantomData };
+    let permit = Permit::of(rt);
     let each = missing.len().div_ceil(WORKERS);
-    let mut parts = in_parts(&leave, alloc, snapshot, &missing, each)?;
+    let mut parts = in_parts(&permit, alloc, snapshot, &missing, each)?;
     while let Some(rows) = parts.pop() {
         cache.keep_all(version, rows);
     }

@@ -1,5 +1,5 @@
 ghost use Rattle.std.specs.Prelude.{◌≡◌, ℕ, [], IfOk, IsOk, IsSome};
-ghost use Rattle.rows.specs.declared.queries.Query.TheVariants.{Dist, From, Lower};
+ghost use Rattle.rows.specs.declared.queries.Query.TheVariants.{From, Lower};
 ghost use Rattle.rows.specs.Replies.{refusal_of, IsRight};
 ghost use Rattle.rows.specs.Views.{AreRight};
 
@@ -16,7 +16,6 @@ use std::thread::Threads;
 /// has one.
 #[derive(Drop)]
 pub struct Sight {
-    alloc: Global,
     view: Arc<View>,
     cache: RowCache,
 }
@@ -39,7 +38,6 @@ impl Sight {
         ensures { result ≡ view.value }
     {
         Sight {
-            alloc,
             view,
             cache: RowCache::new(alloc, DEFAULT_ROWS),
         }
@@ -102,22 +100,6 @@ impl Sight {
         pinned.answer(rt, alloc, query)
     }
 
-    /// The reply to `Dist`. The one error is want of memory for a row; a refused query takes none.
-    pub fn dist<R: Threads>(
-        &mut self,
-        rt: &R,
-        alloc: Global,
-        source: u64,
-        target: u64,
-    ) -> Result<Reply, OutOfMemory>
-        ensures right { IfOk result (IsRight self.old.network (Dist source target)) }
-        ensures refused { IsSome (refusal_of self.old.network (Dist source target)) → IsOk result }
-        ensures same { self.new ≡ self.old }
-    {
-        let mut pinned = self.view.pinned(&mut self.cache);
-        pinned.dist(rt, alloc, source, target)
-    }
-
     /// The replies to `Dist` for pairs.
     pub fn batch<R: Threads>(
         &mut self,
@@ -131,23 +113,5 @@ impl Sight {
     {
         let mut pinned = self.view.pinned(&mut self.cache);
         pinned.batch(rt, alloc, pairs)
-    }
-
-    /// The reply to `From`. It takes no memory.
-    pub fn from_landmark(&self, landmark: u64, target: u64) -> Reply
-        ensures { IsRight self.now.network (From landmark target) result }
-    {
-        let mut none = RowCache::new(self.alloc, 1);
-        let pinned = self.view.pinned(&mut none);
-        pinned.from_landmark(landmark, target)
-    }
-
-    /// The reply to `Lower`. It takes no memory.
-    pub fn lower(&self, source: u64, target: u64) -> Reply
-        ensures { IsRight self.now.network (Lower source target) result }
-    {
-        let mut none = RowCache::new(self.alloc, 1);
-        let pinned = self.view.pinned(&mut none);
-        pinned.lower(source, target)
     }
 }

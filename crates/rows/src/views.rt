@@ -1,6 +1,4 @@
-ghost use Rattle.std.specs.Prelude.{◌≡◌, ◌≤◌, ◌<◌, true, length, slice_index, unwrap_or, IfOk, IfSome};
-ghost use Rattle.roadnet.specs.Net.{Net};
-ghost use Rattle.deltastep.specs.Repair.{AreChanged};
+ghost use Rattle.std.specs.Prelude.{◌≡◌, ◌<◌, true, length, slice_index, unwrap_or, IfOk, IfSome};
 ghost use Rattle.std.specs.List.Sorted.{IsStrictlyIncreasing};
 ghost use Rattle.std.specs.Option.{ForSome};
 ghost use Rattle.snapshot.specs.Groups.{IsSnapshotOf, default_width};
@@ -13,10 +11,10 @@ ghost use Rattle.rows.specs.Views.{AreLandmarkRows};
 ghost use Rattle.rows.specs.Cached.{HasRowsOf};
 ghost use Rattle.rows.specs.Pins.{viewed, cached, HasOwnRows};
 
+use crate::askers::Asker;
 use crate::caches::RowCache;
 use crate::landmark_rows::Row;
 use crate::pinned::Pinned;
-use deltastep::{Workspace, changed_nodes};
 use relax::Team;
 use roadnet::{Network, OutOfMemory};
 use snapshot::{Snapshot, default_delta};
@@ -53,7 +51,7 @@ impl Model for View {
 }
 
 /// The width that is given, else the network's default.
-fn width_of(network: &Network, delta: Option<u32>) -> u32
+pub(crate) fn width_of(network: &Network, delta: Option<u32>) -> u32
     requires { ForSome delta IsWidth }
     ensures width { result ≡ unwrap_or delta (default_width network.now) }
     ensures fits { IsWidth result }
@@ -79,81 +77,6 @@ fn rows_of<T: Team>(
     let mut rows = Vec::with_capacity(alloc, landmarks.len())?;
     for landmark in landmarks {
         let row = Row::build(alloc, version, snapshot, *landmark, team)?;
-        if rows.push(row).is_err() {
-            return Err(OutOfMemory);
-        }
-    }
-    Ok(rows)
-}
-
-/// The row of a landmark out of that in the view before, where the landmark is one there too, else a new one. The one error is want of memory.
-fn row_after_view<T: Team>(
-    alloc: Global,
-    old: &View,
-    before: &Snapshot,
-    changed: &[u32],
-    version: u64,
-    snapshot: &Snapshot,
-    landmark: u32,
-    team: &T,
-    workspace: &mut Workspace,
-) -> Result<Row, OutOfMemory>
-    requires node { (1 ≤ landmark) × (landmark ≤ snapshot.now.nodes) }
-    requires before { IsSnapshotOf old.now.network before.now }
-    requires nodes { before.now.nodes ≡ snapshot.now.nodes }
-    requires changed { AreChanged before.now snapshot.now changed.now }
-    ensures version { IfOk result (λ row. row.version ≡ version) }
-    ensures landmark { IfOk result (λ row. row.landmark ≡ landmark) }
-    ensures distances { IfOk result (λ row. (net : Net) → IsSnapshotOf net snapshot.now → RowOf net landmark row.distances) }
-{
-    let Some(row) = old.find_row(landmark) else {
-        return Row::build(alloc, version, snapshot, landmark, team);
-    };
-    Row::build_after(
-        alloc,
-        version,
-        snapshot,
-        landmark,
-        before,
-        &row.distances,
-        changed,
-        team,
-        workspace,
-    )
-}
-
-/// The rows of a network's landmarks, in their order, out of those of the view before. The one error is want of memory, and then no row is kept.
-fn rows_after<T: Team>(
-    alloc: Global,
-    old: &View,
-    before: &Snapshot,
-    changed: &[u32],
-    version: u64,
-    network: &Network,
-    snapshot: &Snapshot,
-    team: &T,
-) -> Result<Vec<Row>, OutOfMemory>
-    requires snapshot { IsSnapshotOf network.now snapshot.now }
-    requires before { IsSnapshotOf old.now.network before.now }
-    requires nodes { before.now.nodes ≡ snapshot.now.nodes }
-    requires changed { AreChanged before.now snapshot.now changed.now }
-    ensures { IfOk result (λ rows. AreLandmarkRows version network.now rows.items) }
-{
-    let mut workspace = Workspace::new();
-    let marks = network.landmarks();
-    let mut rows = Vec::with_capacity(alloc, marks.len())?;
-    for landmark in marks {
-        let row = row_after_view(
-            alloc,
-            old,
-            before,
-            changed,
-            version,
-            snapshot,
-            *landmark,
-            team,
-            &mut workspace,
-        )?;
         if rows.push(row).is_err() {
             return Err(OutOfMemory);
         }
@@ -196,39 +119,6 @@ impl View {
     {
         let snapshot = Snapshot::build(alloc, &network, width_of(&network, delta))?;
         let rows = rows_of(alloc, version, &network, &snapshot, team)?;
-        Ok(View::assemble(version, network, snapshot, rows))
-    }
-
-    /// The same view, out of an older view of a network with the same nodes: its arcs are grouped, and the row of each landmark that the older view has too
-    /// is made out of that one's row, in little time where few arcs differ. Where the networks have other nodes, it is built anew. Whatever the older view
-    /// is, the result is that of `build`.
-    ///
-    /// The one error is want of memory, and then the network is dropped with what was made of it.
-    pub fn build_after<T: Team>(
-        alloc: Global,
-        old: &View,
-        version: u64,
-        network: Network,
-        delta: Option<u32>,
-        team: &T,
-    ) -> Result<View, OutOfMemory>
-        requires { ForSome delta IsWidth }
-        ensures version { IfOk result (λ view. view.version ≡ version) }
-        ensures network { IfOk result (λ view. view.network ≡ network) }
-        ensures delta { IfOk result (λ view. view.delta ≡ unwrap_or delta (default_width network)) }
-    {
-        let snapshot = Snapshot::build(alloc, &network, width_of(&network, delta))?;
-        let before = old.snapshot();
-        if before.nodes() != snapshot.nodes() {
-            let rows = rows_of(alloc, version, &network, &snapshot, team)?;
-            return Ok(View::assemble(version, network, snapshot, rows));
-        }
-        let Ok(changed) = changed_nodes(alloc, before, &snapshot) else {
-            return Err(OutOfMemory);
-        };
-        let rows = rows_after(
-            alloc, old, before, &changed, version, &network, &snapshot, team,
-        )?;
         Ok(View::assemble(version, network, snapshot, rows))
     }
 
@@ -319,6 +209,13 @@ impl View {
             return None;
         }
         Some(self.row_of(node))
+    }
+
+    /// Whoever asks this view. It takes no memory.
+    pub fn asker(&self) -> Asker<'_>
+        ensures { result ≡ self.now }
+    {
+        Asker::of_view(self)
     }
 
     /// Answers queries of this view. What the cache keeps for the view's version are rows of its network, and that stays so; it keeps

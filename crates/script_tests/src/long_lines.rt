@@ -1,6 +1,6 @@
 //! Lines without an end: their fault is told by their front, where that makes it certain.
 use dimacs::{Code, Counted, Fault, read_commands, read_gr, read_gr_before_run, read_p2p, read_ss};
-use scripts::read_script_counted;
+use scripts::read_script;
 use std::alloc::Global;
 use std::io;
 use std::io::{BufReader, ErrorKind, Read};
@@ -63,13 +63,14 @@ fn told(
     capacity: usize,
 ) -> io::Result<Option<Fault>> {
     let mut reader = BufReader::with_capacity(alloc, capacity, endless)?;
+    let mut counted = Counted::new(&mut reader);
     Ok(match kind {
-        Kind::Network => fault_of(read_gr(alloc, &mut reader)),
-        Kind::BeforeRun => fault_of(read_gr_before_run(alloc, &mut Counted::new(&mut reader))),
-        Kind::Landmarks => fault_of(read_ss(alloc, &mut reader, 6)),
-        Kind::Pairs => fault_of(read_p2p(alloc, &mut reader, 6)),
-        Kind::Commands => fault_of(read_commands(alloc, &mut reader)),
-        Kind::Script => fault_of(read_script_counted(alloc, &mut Counted::new(&mut reader))),
+        Kind::Network => fault_of(read_gr(alloc, &mut counted)),
+        Kind::BeforeRun => fault_of(read_gr_before_run(alloc, &mut counted)),
+        Kind::Landmarks => fault_of(read_ss(alloc, &mut counted, 6)),
+        Kind::Pairs => fault_of(read_p2p(alloc, &mut counted, 6)),
+        Kind::Commands => fault_of(read_commands(alloc, &mut counted)),
+        Kind::Script => fault_of(read_script(alloc, &mut counted)),
     })
 }
 

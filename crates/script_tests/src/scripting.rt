@@ -1,5 +1,5 @@
 use dimacs::{Code, Counted, Fault};
-use scripts::{parse_script, read_script_counted};
+use scripts::{parse_script, read_script};
 use std::io::BufReader;
 use std::process::Abort;
 use std::test::Fail;
@@ -269,7 +269,7 @@ fn a_script_is_read_in_order(rt: HostRuntime) -> Result<(), Fail> {
         "[Submit { group: Group { held: One(Close { arc: 7 }) } }, StopWithin { call: 3, picks: [Byte(170)], writing: Flush }, Ask { query: Dist { source: 1, target: 2 } }]";
     let mut reader = BufReader::with_capacity(rt.alloc(), 5, text.as_bytes())?;
     let mut counted = Counted::new(&mut reader);
-    match read_script_counted(rt.alloc(), &mut counted) {
+    match read_script(rt.alloc(), &mut counted) {
         Ok(events) => {
             assert!(rt; format!(in rt.alloc(); "{events:?}")?.as_str() == want);
         }

@@ -6,4 +6,4 @@ mod script_stops;
 mod script_texts;
 mod script_words;
 
-pub use script_texts::{parse_script, read_script_counted};
+pub use script_texts::{parse_script, read_script};

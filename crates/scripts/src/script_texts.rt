@@ -2,8 +2,9 @@
 ghost use Rattle.std.specs.Prelude.{◌≡◌, ◌≢◌, ◌∷◌, List, length, true, false, None, Some, Ok, IfSome, IfErr, map};
 ghost use Rattle.dimacs.specs.Lines.{fields};
 ghost use Rattle.dimacs.specs.Faults.{Row};
-ghost use Rattle.dimacs.specs.Texts.{Ends, Parses, Reads, map_ok};
-ghost use Rattle.dimacs.specs.Counts.{CountsFailures, IsSameReader, failed_calls, reader_of};
+ghost use Rattle.dimacs.specs.Texts.{InMemory, Ends, Reads, map_ok};
+ghost use Rattle.dimacs.specs.Calling.{KeepsText};
+ghost use Rattle.dimacs.specs.Counts.{CountsFailures};
 ghost use Rattle.scripts.specs.ScriptTexts.{as_line, script_text};
 ghost use Rattle.scripts.specs.ScriptReading.{HasEvents, IsKind, spelling, ReadsEvent, ReadsLine};
 
@@ -11,15 +12,13 @@ use crate::script_steps::step_event;
 use crate::script_stops::stop_event;
 use crate::script_words::{Bare, Word, bare_event, lay_event, one_event, two_event, word_of};
 use dimacs::{
-    Bound, Code, Counted, Ended, Fault, OneNumber, OpenGroup, TakeLines, TwoNumbers, bound_of,
-    is_blank, number, parse_lines, read_command, read_lines, split_field, three_numbers,
-    two_numbers,
+    Bound, Code, Ended, Fault, OneNumber, OpenGroup, TakeLines, Text, TwoNumbers, bound_of,
+    is_blank, number, read_command, split_field, three_numbers, two_numbers,
 };
 use disk::Pick;
 use machine::Event;
 use roadnet::Command;
 use std::alloc::Global;
-use std::io::BufRead;
 
 /// The events of the lines so far.
 #[derive(Drop)]
@@ -281,25 +280,21 @@ fn events_at_end(ended: Ended<EventLines>) -> Result<Vec<Event<Pick>>, Fault>
 
 /// The events that a script gives, in the order of its lines, or the script's first fault. The lines `begin` and `end` enclose the commands of a
 /// group, whose event stands at its `end`; a command elsewhere is a group of one. Whether numbers name an arc, a node or a length is judged
-/// where the event is run. It takes the memory of an event a line, and 32 bytes a command of a group that is enclosed.
-pub fn parse_script(alloc: Global, bytes: &[u8]) -> Result<Vec<Event<Pick>>, Fault>
-    ensures { Parses script_text bytes.now (map_ok (λ events. map as_line events.items) result) }
+/// where the event is run. The count of failed calls tells a failed read from a fault of the text. After an `Err` the text is not used again.
+/// It takes the memory of an event a line, and 32 bytes a command of a group that is enclosed.
+pub fn read_script<S: Text>(alloc: Global, text: &mut S) -> Result<Vec<Event<Pick>>, Fault>
+    ensures read { IfSome (S.bytes text.old)
+        (λ bytes. Reads script_text bytes (S.source text.new) (map_ok (λ events. map as_line events.items) result)) }
+    ensures counts { KeepsText CountsFailures S.Text result text.old text.new }
 {
-    let ended = parse_lines(EventLines::new(alloc), bytes)?;
+    let ended = text.give_lines(alloc, EventLines::new(alloc))?;
     events_at_end(ended)
 }
 
-/// The events that a reader's script gives, as `parse_script`. The count of failed calls tells a failed read from a fault of the
-/// text. After an `Err` the reader is not used again.
-pub fn read_script_counted<R: BufRead>(
-    alloc: Global,
-    counted: &mut Counted<'_, R>,
-) -> Result<Vec<Event<Pick>>, Fault>
-    ensures read { IfSome (R.remaining (reader_of counted.old))
-        (λ text. Reads script_text text (R.remaining (reader_of counted.new)) (map_ok (λ events. map as_line events.items) result)) }
-    ensures counts { CountsFailures (failed_calls counted.old) (failed_calls counted.new) result }
-    ensures same { IsSameReader counted.old counted.new }
+/// The events that a script in memory gives, as `read_script`.
+pub fn parse_script(alloc: Global, bytes: &[u8]) -> Result<Vec<Event<Pick>>, Fault>
+    ensures { Reads script_text bytes.now InMemory (map_ok (λ events. map as_line events.items) result) }
 {
-    let ended = read_lines(alloc, counted, false, EventLines::new(alloc))?;
-    events_at_end(ended)
+    let mut text = bytes;
+    read_script(alloc, &mut text)
 }

@@ -2,9 +2,7 @@
 
 use crate::searching::agree;
 use crate::worked::plain_of;
-use deltastep::{
-    Distances, RowError, Workspace, back_of, changed_nodes, row, row_after, row_after_near,
-};
+use deltastep::{Distances, RowError, Workspace, back_of, changed_nodes, row, row_after};
 use fixtures::{Draws, arc, network};
 use relax::Solo;
 use roadnet::{Command, Network, Refusal};
@@ -28,13 +26,7 @@ fn is_plain(
     Ok(agree(&row, &plain, NODES))
 }
 
-/// Whether both are so.
-fn are_both(one: Result<bool, Refusal>, other: Result<bool, Refusal>) -> Result<bool, Refusal> {
-    Ok(one? && other?)
-}
-
-/// Whether the row of a node in a network after changes, made out of its row before them, is the plain one: by a pass over all legs, and by way of
-/// the arcs that lead to what was lost.
+/// Whether the row of a node in a network after changes, made out of its row before them, is the plain one.
 fn is_repaired(
     alloc: Global,
     before: &Network,
@@ -60,21 +52,10 @@ fn is_repaired(
     let Ok(back) = back_of(alloc, after) else {
         return Err(Refusal::OutOfMemory);
     };
-    let passed = is_plain(
-        alloc,
-        after,
-        source,
-        row_after(alloc, &newer, source, &older, &old, &changed, &Solo),
+    let repaired = row_after(
+        alloc, &newer, source, &older, &old, &changed, &back, &Solo, workspace,
     );
-    let near = is_plain(
-        alloc,
-        after,
-        source,
-        row_after_near(
-            alloc, &newer, source, &older, &old, &changed, &back, &Solo, workspace,
-        ),
-    );
-    are_both(passed, near)
+    is_plain(alloc, after, source, repaired)
 }
 
 /// Nodes in a row, each with an arc to the next one, and as many arcs that are drawn: of lengths 0 to 9, some of them closed, parallel or loops. No

@@ -1,7 +1,7 @@
 //! Distances to one node, beside rows.
 
 use crate::worked::snapshot_of;
-use deltastep::{RowError, Workspace, distance_to_in, row, row_to};
+use deltastep::{RowError, Workspace, distance_to_in, row};
 use fixtures::{drawn, six};
 use relax::Solo;
 use roadnet::{Network, Refusal};
@@ -25,39 +25,23 @@ fn distance(
     }
 }
 
-/// The distance between two nodes by the row of the first.
+/// What the row of one node has for another.
 fn distance_by_row(
     alloc: Global,
     snapshot: &Snapshot,
-    source: u32,
-    target: u32,
+    of: u32,
+    node: u32,
 ) -> Result<Option<u64>, Refusal> {
-    if !snapshot.has_node(source) {
+    if !snapshot.has_node(of) {
         return Err(Refusal::NoSuchNode);
     }
-    match row(alloc, snapshot, source, &Solo) {
-        Ok(from) => Ok(from.get(u64::from(target))),
+    match row(alloc, snapshot, of, &Solo) {
+        Ok(row) => Ok(row.get(u64::from(node))),
         Err(RowError::OutOfMemory) => Err(Refusal::OutOfMemory),
     }
 }
 
-/// The distance between two nodes by the row to the second, over a snapshot of the reversed network.
-fn distance_by_row_to(
-    alloc: Global,
-    reversed: &Snapshot,
-    source: u32,
-    target: u32,
-) -> Result<Option<u64>, Refusal> {
-    if !reversed.has_node(target) {
-        return Err(Refusal::NoSuchNode);
-    }
-    match row_to(alloc, reversed, target, &Solo) {
-        Ok(to) => Ok(to.get(u64::from(source))),
-        Err(RowError::OutOfMemory) => Err(Refusal::OutOfMemory),
-    }
-}
-
-/// Whether two nodes have one distance by the row of the first, by a search that stops, and by the row to the second.
+/// Whether two nodes have one distance by the row of the first, by a search that stops, and by the row of the second in the reversed network.
 fn is_one_distance(
     alloc: Global,
     snapshot: &Snapshot,
@@ -68,7 +52,7 @@ fn is_one_distance(
 ) -> Result<bool, Refusal> {
     let found = distance(alloc, snapshot, source, target, workspace)?;
     let known = distance_by_row(alloc, snapshot, source, target)?;
-    let back = distance_by_row_to(alloc, reversed, source, target)?;
+    let back = distance_by_row(alloc, reversed, target, source)?;
     Ok(found == known && back == known)
 }
 
@@ -110,7 +94,7 @@ fn differences_with(alloc: Global, network: &Network, snapshot: &Snapshot) -> Re
     differences_between(alloc, snapshot, &reversed, &mut Workspace::new())
 }
 
-/// How many pairs of nodes have one distance by the row of the first, another by a search that stops or by the row to the second.
+/// How many pairs of nodes have one distance by the row of the first, another by a search that stops or by the row of the second in the reversed network.
 fn differences(alloc: Global, network: &Network, delta: u32) -> Result<u64, Refusal> {
     let snapshot = snapshot_of(alloc, network, delta)?;
     differences_with(alloc, network, &snapshot)

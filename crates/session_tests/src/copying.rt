@@ -21,7 +21,11 @@ struct Looked {
 impl Copies for Looked {
     ghost use Rattle.std.specs.Prelude.{true, ⊤};
 
-    ghost copying = { λ _. record { allowed = true; made = λ name network version. ⊤ } };
+    ghost copying = { λ _. record { changes = true; allowed = true; made = λ name network version. ⊤ } };
+
+    fn may_change(&self) -> bool {
+        true
+    }
 
     fn are_made(&self) -> bool {
         true

@@ -17,7 +17,7 @@ use std::marker::Brand;
 use std::sync::Wait;
 use std::test::Fail;
 use std::thread::Threads;
-use std::time::Clock;
+use std::time::{Clock, Duration};
 use store::Store;
 
 /// Texts that end in a line without its end, what becomes of that, and what is answered.
@@ -97,6 +97,8 @@ fn serve_failing<N: Naming + Send + Sync + 'static, D: ServedDisk, R: ServeRunti
     let setup = Setup {
         delta: None,
         workers: 2,
+        patience: Duration::from_secs(30),
+        pairs: 0,
     };
     let desk: Desk<N, D, NoGate, R> = Desk::start(rt, alloc, history, store, NoGate, setup)?;
     let mut clients = failing_clients::<N>(alloc)?;

@@ -4,6 +4,8 @@
 #[cfg(test)]
 mod agreeing;
 #[cfg(test)]
+mod asking;
+#[cfg(test)]
 mod copying;
 #[cfg(test)]
 mod doors;

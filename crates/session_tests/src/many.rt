@@ -15,7 +15,7 @@ use std::marker::Brand;
 use std::sync::Wait;
 use std::test::Fail;
 use std::thread::Threads;
-use std::time::Clock;
+use std::time::{Clock, Duration};
 use store::Store;
 
 /// How many lines each client sends.
@@ -105,6 +105,8 @@ pub(crate) fn sessions_at_once<N: Naming + Send + Sync + 'static, D: ServedDisk,
     let setup = Setup {
         delta: None,
         workers: 2,
+        patience: Duration::from_secs(30),
+        pairs: 0,
     };
     let desk: Desk<N, D, NoGate, R> = Desk::start(rt, alloc, history, store, NoGate, setup)?;
     let mut clients = clients_of::<N>(alloc, texts, last_line)?;

@@ -19,7 +19,7 @@ use std::sync::Wait;
 use std::sync::atomic::{AtomicBool, Ordering};
 use std::test::Fail;
 use std::thread::Threads;
-use std::time::Clock;
+use std::time::{Clock, Duration};
 use store::{Store, create, open};
 
 /// A new store of the network of the worked rows, with six nodes and eight arcs, without landmarks.
@@ -99,6 +99,8 @@ pub(crate) fn session_over<
     let setup = Setup {
         delta: None,
         workers: 2,
+        patience: Duration::from_secs(30),
+        pairs: 0,
     };
     let desk: Desk<N, D, G, R> = Desk::start(rt, alloc, history, store, gate, setup)?;
     let _others = others_of(alloc, &desk, found)?;

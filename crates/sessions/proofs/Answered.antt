@@ -1,5 +1,5 @@
 -- What a session knows, and what it tells.
-use Rattle.std.proofs.Common.{◌≡◌, ◌∙◌, ◌⊎◌, inl, inr, ℕ, ◌+◌, ◌≤◌, true, false, List, [], ◌∷◌, ◌++◌, All, Option, None, Some, length, get_or, refl, sym, ap, subst, arith}
+use Rattle.std.proofs.Common.{◌≡◌, ◌∙◌, ◌⊎◌, inl, inr, ℕ, ◌+◌, ◌≤◌, Bool, true, false, List, [], ◌∷◌, ◌++◌, All, Option, None, Some, length, get_or, refl, sym, ap, subst, arith}
 use Rattle.std.proofs.KnownBytes.{Appends-nil}
 use Rattle.std.proofs.lemmas.List.{append-nil, length-append}
 use Rattle.std.proofs.lemmas.List.Elements.{All-push, All-nil}
@@ -18,13 +18,14 @@ use Rattle.history.proofs.Beginnings.{at_more, at_less, acknowledged_more, prefi
 use Rattle.machine.specs.declared.calls.Ticket.{Ticket}
 use Rattle.machine.specs.Laws.{IsAt}
 use Rattle.desk.specs.Readings.{IsViewAfter, IsNoReader}
-use Rattle.desk.specs.declared.nearby.Near.{Near}
+use Rattle.rows.specs.declared.nearby.Near.{Near}
 use Rattle.desk.specs.declared.states.DeskState.{DeskState}
 use Rattle.desk.specs.States.{StoodSo}
+use Rattle.desk.specs.Turns.{IsUnserved}
 use Rattle.rows.specs.Views.{AreRight, Viewed}
 use Rattle.roadnet.specs.Step.{is_node}
 use Rattle.deltastep.specs.declared.known.NodeDistance.{NodeDistance}
-use Rattle.desk.specs.Nearby.{IsNear, IsUntold, are_pairs, node_of}
+use Rattle.rows.specs.Nearby.{IsNear, IsUntold, are_pairs, node_of}
 use Rattle.roadnet.specs.Net.{Net}
 use Rattle.roadnet.specs.Numbers.{number_of}
 use Rattle.dimacs.specs.declared.fault.Code.{Code}
@@ -36,21 +37,24 @@ use Rattle.printing.specs.Nodes.{pair_lines}
 use Rattle.printing.specs.Printed.{refusal_line, version_line}
 use Rattle.printing.specs.Replied.{printed_reply}
 use Rattle.sessions.specs.declared.answers.Accepted.{Accepted}
-use Rattle.sessions.specs.declared.lines.Line.{Line}
-use Rattle.sessions.specs.declared.lines.Line.TheVariants.{Ignored, Command as a_command, Query as a_query, Look as a_look, Near as a_near, Table as a_table, Unkept, Copy as a_copy, Wait, Until, State, Quit, Begin, End, Refused as a_fault, Suppose, Forget}
+use Rattle.sessions.specs.declared.answers.Accepted.TheVariants.{Settled, Unsettled}
+use Rattle.session_lines.specs.declared.lines.Line.{Line}
+use Rattle.session_lines.specs.declared.lines.Line.TheVariants.{Ignored, Command as a_command, Query as a_query, Look as a_look, Near as a_near, Table as a_table, Unkept, Copy as a_copy, Wait, Until, State, Quit, Begin, End, Refused as a_fault, Suppose, Forget}
 use Rattle.printing.specs.declared.looks.Look.{Look}
 use Rattle.printing.specs.Looks.{look_lines}
 use Rattle.sessions.specs.Stated.{state_or_refusal}
 use Rattle.sessions.specs.Copying.{Copying, IsUnmade, no_copying}
-use Rattle.sessions.specs.declared.names.Name.{Name}
-use Rattle.sessions.specs.declared.asked_tables.Table.{Table}
-use Rattle.sessions.specs.Listings.{sources_of, targets_of}
-use Rattle.sessions.specs.Nearby.{IsNearAnswer, IsTableAnswer, IsToldAfter, WritesSo, near_lines, untold_lines}
-use Rattle.sessions.specs.SessionLines.{name_of}
-use Rattle.sessions.specs.Tables.{pairs_of}
-use Rattle.sessions.specs.Drafts.{Drafted, IsWhole, fault_of}
-use Rattle.sessions.specs.Told.{AnswersAfter, LooksAfter, CopiesAfter, copied_line, copied_or_refusal, IsReached, HaveReceipts, HasMore, HasShown, ShowsLast, Settles, Replies, IsUnshown, claim_of, known_to, told_durable}
-use Rattle.sessions.specs.Turns.{Tells, Standing, IsEndAnswer, IsSessionAt, IsKept, fault_number, version_or_refusal}
+use Rattle.session_lines.specs.declared.names.Name.{Name}
+use Rattle.session_lines.specs.declared.asked_tables.Table.{Table}
+use Rattle.session_lines.specs.Listings.{sources_of, targets_of}
+use Rattle.sessions.specs.declared.finding.Heading.TheVariants.{Shown as of_shown}
+use Rattle.sessions.specs.Headings.{untold_lines}
+use Rattle.sessions.specs.Nearby.{IsNearAnswer, IsTableAnswer, IsToldAfter, WritesSo, near_lines}
+use Rattle.session_lines.specs.SessionLines.{name_of}
+use Rattle.session_lines.specs.Tables.{pairs_of}
+use Rattle.session_lines.specs.Drafts.{Drafted, IsWhole, fault_of}
+use Rattle.sessions.specs.Told.{AnswersAfter, LooksAfter, CopiesAfter, copied_line, copied_or_refusal, IsReached, HaveReceipts, HasMore, HasShown, ShowsLast, Settles, Replies, Carried, IsDeclined, IsUnmet, IsUnshown, claim_of, known_to}
+use Rattle.sessions.specs.Turns.{Tells, Standing, IsEndAnswer, IsGroupAnswer, IsSessionAt, IsKept, asks_alone, fault_number, version_or_refusal}
 
 -- the answer by what was seen of the view
 pub answered : (origin : Origin) (groups known : List Group) (view : Viewed) (query : Query) (version : ℕ) (reply : Reply) → groups ≡ known → IsViewAfter origin groups view → version ≡ view.version
@@ -119,11 +123,28 @@ first_receipt origin had own front ticket none own_of same is tickets held =
     rw (same, empty) (own_of, All-push (IsAcknowledgedIn own) [] ticket (All-nil (IsAcknowledgedIn own)) is)
 
 -- the receipt of a group that is told to be durable
-pub told_receipt : (origin : Origin) (receipt : Claimed) (had has : Option Beginning) (group : Group) (number : ℕ) → receipt.origin ≡ origin → receipt.ticket.number ≡ number → receipt.ticket.group ≡ group
-    → HasMore receipt.origin had has (receipt.ticket ∷ []) → HasMore origin had has (told_durable group (Durable number))
+told_receipt : (origin : Origin) (receipt : Claimed) (had has : Option Beginning) (group : Group) (number : ℕ) → receipt.origin ≡ origin → receipt.ticket.number ≡ number → receipt.ticket.group ≡ group
+    → HasMore receipt.origin had has (receipt.ticket ∷ []) → HasMore origin had has (record { number = number; group = group } ∷ [])
 told_receipt origin receipt had has group number of_origin is_number is_group more =
     let same : receipt.ticket ≡ record { number = number; group = group } = λ i. record { number = is_number i; group = is_group i } in
     subst (λ (o : Origin). HasMore o had has (record { number = number; group = group } ∷ [])) of_origin (subst (λ (t : Ticket). HasMore receipt.origin had has (t ∷ [])) same more)
+
+pub carried_durable : (origin : Origin) (receipt : Claimed) (before : Option Accepted) (had has : Option Beginning) (group : Group) (number : ℕ) → receipt.origin ≡ origin → receipt.ticket.number ≡ number → receipt.ticket.group ≡ group
+    → HasMore receipt.origin had has (receipt.ticket ∷ []) → Carried origin before (Some (Settled receipt)) had has group (Durable number)
+carried_durable origin receipt before had has group number of_origin is_number is_group more = record {
+  durable = record { number = number; group = group } ∷ [];
+  settles = ((of_origin, is_number, is_group), refl);
+  kept = told_receipt origin receipt had has group number of_origin is_number is_group more;
+}
+
+pub carried_unsettled : (origin : Origin) (ticket : Claimed) (before : Option Accepted) (had has : Option Beginning) (group : Group) (refusal : Refusal) → ticket.origin ≡ origin → ticket.ticket.group ≡ group → has ≡ had
+    → IsUnserved refusal → Carried origin before (Some (Unsettled ticket)) had has group (told_refused refusal)
+carried_unsettled origin ticket before had has group refusal of_origin is_group same unserved =
+    record { durable = []; settles = inr ((of_origin, is_group), unserved, refl); kept = nothing_more origin had has same }
+
+pub carried_declined : (origin : Origin) (before last : Option Accepted) (had has : Option Beginning) (group : Group) (refusal : Refusal) → last ≡ before → IsDeclined origin had has group refusal
+    → Carried origin before last had has group (told_refused refusal)
+carried_declined origin before last had has group refusal same declined = record { durable = declined.durable; settles = inl (same, declined.turned_down); kept = declined.kept }
 
 -- what the session has is in the closed history, and what it has seen was shown
 pub kept_in : (origin : Origin) (whole shown : Beginning) (place receipts : Option Beginning) (last : Standing) → whole.origin ≡ origin
@@ -160,12 +181,37 @@ pub nothing_within : (copying : Copying) (origin : Origin) (draft : Drafted) (li
 nothing_within copying origin draft End last known has written other = absurd (other refl)
 nothing_within copying origin draft _ last known has written other = record { told = []; durable = []; is_answer = (refl, refl, refl); kept = nothing_more origin has has refl; written = Appends-nil written }
 
+-- a group that is carried out, and one of a session that asks alone
+group_carried : (changes : Bool) (origin : Origin) (group : Group) (before last : Option Accepted) (reply : Replied) (durable : List Ticket) → changes ≡ true → Settles origin before last group reply durable
+    → IsGroupAnswer changes origin group before last (printed_reply reply) durable
+group_carried changes origin group before last reply durable e settles = rw e (reply, settles, refl)
+
+group_asked : (changes : Bool) (origin : Origin) (group : Group) (before last : Option Accepted) → changes ≡ false → last ≡ before → IsGroupAnswer changes origin group before last (refusal_line asks_alone) []
+group_asked changes origin group before last e same = rw e (refl, refl, same)
+
 pub told_command : {X E : Type 0} (copying : Copying) (origin : Origin) (command : Command) (before last : Option Accepted) (known : List Group) (had has : Option Beginning) (old new : Option (List ℕ)) (result : Result X E) (reply : Replied)
-    → Settles origin before last (command ∷ []) reply → HasMore origin had has (told_durable (command ∷ []) reply) → OnOk result (Appends old new (printed_reply reply))
+    → copying.changes ≡ true → Carried origin before last had has (command ∷ []) reply → OnOk result (Appends old new (printed_reply reply))
     → OnOk result (Tells copying origin None (a_command command) before last known had has old new)
-told_command copying origin command before last known had has old new (Ok x) reply settles more appends =
-    record { told = printed_reply reply; durable = told_durable (command ∷ []) reply; is_answer = (reply, settles, refl, refl); kept = more; written = appends }
-told_command copying origin command before last known had has old new (Err e) reply settles more appends = tt
+told_command copying origin command before last known had has old new (Ok x) reply changes carried appends = record {
+  told = printed_reply reply;
+  durable = carried.durable;
+  is_answer = group_carried copying.changes origin (command ∷ []) before last reply carried.durable changes carried.settles;
+  kept = carried.kept;
+  written = appends;
+}
+told_command copying origin command before last known had has old new (Err e) reply changes carried appends = tt
+
+-- a command of a session that asks alone
+pub told_asking : {X E : Type 0} (copying : Copying) (origin : Origin) (command : Command) (before last : Option Accepted) (known : List Group) (had has : Option Beginning) (old new : Option (List ℕ)) (result : Result X E)
+    → copying.changes ≡ false → last ≡ before → has ≡ had → OnOk result (Appends old new (refusal_line asks_alone)) → OnOk result (Tells copying origin None (a_command command) before last known had has old new)
+told_asking copying origin command before last known had has old new (Ok x) asks same kept appends = record {
+  told = refusal_line asks_alone;
+  durable = [];
+  is_answer = group_asked copying.changes origin (command ∷ []) before last asks same;
+  kept = nothing_more origin had has kept;
+  written = appends;
+}
+told_asking copying origin command before last known had has old new (Err e) asks same kept appends = tt
 
 pub told_query : {X E : Type 0} (copying : Copying) (origin : Origin) (query : Query) (before last : Option Accepted) (known : List Group) (had has : Option Beginning) (old new : Option (List ℕ)) (result : Result X E) (reply : Replied)
     → Replies origin known query reply → last ≡ before → has ≡ had → OnOk result (Appends old new (printed_reply reply))
@@ -204,12 +250,6 @@ pub look_told : {X E : Type 0} (copying : Copying) (origin : Origin) (look : Loo
 look_told copying origin look before last known had has old new (Ok x) t = record { told = t.told; durable = t.durable; is_answer = t.is_answer; kept = t.kept; written = t.written }
 look_told copying origin look before last known had has old new (Err e) t = tt
 
--- and so is the end of a group
-pub end_told : {X E : Type 0} (copying : Copying) (origin : Origin) (draft : Drafted) (before last : Option Accepted) (known : List Group) (had has : Option Beginning) (old new : Option (List ℕ)) (result : Result X E)
-    → OnOk result (Tells no_copying origin (Some draft) End before last known had has old new) → OnOk result (Tells copying origin (Some draft) End before last known had has old new)
-end_told copying origin draft before last known had has old new (Ok x) t = record { told = t.told; durable = t.durable; is_answer = t.is_answer; kept = t.kept; written = t.written }
-end_told copying origin draft before last known had has old new (Err e) t = tt
-
 -- ---- the nodes near one, and tables
 -- what is found near a node is written, or for what it is not told
 pub wrote_near : {X E : Type 0} (near : Near) (view : Viewed) (version : ℕ) (found : List NodeDistance) (old new : Option (List ℕ)) (result : Result X E) → version ≡ view.version → is_node view.network (node_of near) ≡ true
@@ -218,8 +258,8 @@ wrote_near near view version found old new (Ok x) at there is appends = (version
 wrote_near near view version found old new (Err e) at there is appends = tt
 
 pub wrote_no_near : {X E : Type 0} (near : Near) (view : Viewed) (version : ℕ) (refusal : Refusal) (old new : Option (List ℕ)) (result : Result X E) → version ≡ view.version → IsUntold (is_node view.network (node_of near)) refusal
-    → OnOk result (Appends old new (untold_lines version refusal)) → OnOk result (WritesSo (IsNearAnswer near) view.network view.version old new)
-wrote_no_near near view version refusal old new (Ok x) at cause appends = (untold_lines version refusal, inr (refusal, cause, ap (λ (v : ℕ). untold_lines v refusal) at), appends)
+    → OnOk result (Appends old new (untold_lines (of_shown version) refusal)) → OnOk result (WritesSo (IsNearAnswer near) view.network view.version old new)
+wrote_no_near near view version refusal old new (Ok x) at cause appends = (untold_lines (of_shown version) refusal, inr (refusal, cause, ap (λ (v : ℕ). untold_lines (of_shown v) refusal) at), appends)
 wrote_no_near near view version refusal old new (Err e) at cause appends = tt
 
 -- the replies to pairs are written, or for what they are not told
@@ -229,8 +269,8 @@ wrote_table pairs view version replies old new (Ok x) at there right appends = (
 wrote_table pairs view version replies old new (Err e) at there right appends = tt
 
 pub wrote_no_table : {X E : Type 0} (pairs : List (ℕ × ℕ)) (view : Viewed) (version : ℕ) (refusal : Refusal) (old new : Option (List ℕ)) (result : Result X E) → version ≡ view.version → IsUntold (are_pairs view.network pairs) refusal
-    → OnOk result (Appends old new (untold_lines version refusal)) → OnOk result (WritesSo (IsTableAnswer pairs) view.network view.version old new)
-wrote_no_table pairs view version refusal old new (Ok x) at cause appends = (untold_lines version refusal, inr (refusal, cause, ap (λ (v : ℕ). untold_lines v refusal) at), appends)
+    → OnOk result (Appends old new (untold_lines (of_shown version) refusal)) → OnOk result (WritesSo (IsTableAnswer pairs) view.network view.version old new)
+wrote_no_table pairs view version refusal old new (Ok x) at cause appends = (untold_lines (of_shown version) refusal, inr (refusal, cause, ap (λ (v : ℕ). untold_lines (of_shown v) refusal) at), appends)
 wrote_no_table pairs view version refusal old new (Err e) at cause appends = tt
 
 -- what was written so of a view that was seen
@@ -354,7 +394,7 @@ reached origin number shown groups (Ok version) there begins is = (let longer = 
 reached origin number shown groups (Err refusal) there begins is = tt
 
 pub told_until : {X E : Type 0} (copying : Copying) (origin : Origin) (number : ℕ) (before last : Option Accepted) (known : List Group) (had has : Option Beginning) (old new : Option (List ℕ)) (result : Result X E) (shown : Result ℕ Refusal)
-    → IfOk shown (IsReached origin number known) → IfErr shown IsUnshown → last ≡ before → has ≡ had → OnOk result (Appends old new (version_or_refusal shown))
+    → IfOk shown (IsReached origin number known) → IfErr shown (IsUnmet origin number) → last ≡ before → has ≡ had → OnOk result (Appends old new (version_or_refusal shown))
     → OnOk result (Tells copying origin None (Until number) before last known had has old new)
 told_until copying origin number before last known had has old new (Ok x) shown reaches causes same kept appends =
     record { told = version_or_refusal shown; durable = []; is_answer = (shown, reaches, causes, refl, refl, same); kept = nothing_more origin had has kept; written = appends }
@@ -395,43 +435,58 @@ told_nothing_supposed copying origin before last known had has old new (Ok x) sa
 told_nothing_supposed copying origin before last known had has old new (Err e) same kept appends = tt
 
 -- ---- the end of a group
-end_answer : (origin : Origin) (fault found : Option Code) (group : Group) (before last : Option Accepted) (told : List ℕ) (durable : List Ticket) → fault ≡ found
-    → IsEndAnswer origin found group before last told durable → IsEndAnswer origin fault group before last told durable
-end_answer origin fault found group before last told durable e is = rw e is
+module _ (copying : Copying) (origin : Origin) (draft : Drafted) (known : List Group) (old new : Option (List ℕ)) where
+  end_answer : (fault found : Option Code) (before last : Option Accepted) (told : List ℕ) (durable : List Ticket) → fault ≡ found
+      → IsEndAnswer copying origin found draft.commands before last told durable → IsEndAnswer copying origin fault draft.commands before last told durable
+  end_answer fault found before last told durable e is = rw e is
 
-pub told_group : {X E : Type 0} (copying : Copying) (origin : Origin) (draft : Drafted) (group : Group) (before last : Option Accepted) (known : List Group) (had has : Option Beginning) (old new : Option (List ℕ)) (result : Result X E) (reply : Replied)
-    → IsWhole draft group → Settles origin before last group reply → HasMore origin had has (told_durable group reply) → OnOk result (Appends old new (printed_reply reply))
-    → OnOk result (Tells copying origin (Some draft) End before last known had has old new)
-told_group copying origin draft group before last known had has old new (Ok x) reply whole settles more appends =
-    let is : Settles origin before last draft.commands reply = subst (λ (g : Group). Settles origin before last g reply) whole.1 settles in
-    let kept : HasMore origin had has (told_durable draft.commands reply) = subst (λ (g : Group). HasMore origin had has (told_durable g reply)) whole.1 more in
-    record {
-      told = printed_reply reply;
-      durable = told_durable draft.commands reply;
-      is_answer = end_answer origin (fault_of draft) None draft.commands before last (printed_reply reply) (told_durable draft.commands reply) whole.0 (reply, inl is, refl, refl);
-      kept = kept;
-      written = appends;
-    }
-told_group copying origin draft group before last known had has old new (Err e) reply whole settles more appends = tt
+  pub told_group : {X E : Type 0} (group : Group) (before last : Option Accepted) (had has : Option Beginning) (result : Result X E) (reply : Replied)
+      → copying.changes ≡ true → IsWhole draft group → Carried origin before last had has group reply → OnOk result (Appends old new (printed_reply reply))
+      → OnOk result (Tells copying origin (Some draft) End before last known had has old new)
+  told_group group before last had has (Ok x) reply changes whole carried appends =
+      let settles : Settles origin before last draft.commands reply carried.durable = subst (λ (g : Group). Settles origin before last g reply carried.durable) whole.1 carried.settles in
+      let answer = group_carried copying.changes origin draft.commands before last reply carried.durable changes settles in
+      record {
+        told = printed_reply reply;
+        durable = carried.durable;
+        is_answer = end_answer (fault_of draft) None before last (printed_reply reply) carried.durable whole.0 (inl answer);
+        kept = carried.kept;
+        written = appends;
+      }
+  told_group group before last had has (Err e) reply changes whole carried appends = tt
 
-pub told_no_group : {X E : Type 0} (copying : Copying) (origin : Origin) (draft : Drafted) (code : Code) (last : Option Accepted) (known : List Group) (has : Option Beginning) (old new : Option (List ℕ)) (result : Result X E)
-    → fault_of draft ≡ Some code → OnOk result (Appends old new (refusal_line (fault_number code))) → OnOk result (Tells copying origin (Some draft) End last last known has has old new)
-told_no_group copying origin draft code last known has old new (Ok x) fault appends = record {
-  told = refusal_line (fault_number code);
-  durable = [];
-  is_answer = end_answer origin (fault_of draft) (Some code) draft.commands last last (refusal_line (fault_number code)) [] fault (refl, refl, refl);
-  kept = nothing_more origin has has refl;
-  written = appends;
-}
-told_no_group copying origin draft code last known has old new (Err e) fault appends = tt
+  -- of a session that asks alone
+  pub told_group_asking : {X E : Type 0} (group : Group) (last : Option Accepted) (has : Option Beginning) (result : Result X E) → copying.changes ≡ false → IsWhole draft group
+      → OnOk result (Appends old new (refusal_line asks_alone)) → OnOk result (Tells copying origin (Some draft) End last last known has has old new)
+  told_group_asking group last has (Ok x) asks whole appends =
+      let answer = group_asked copying.changes origin draft.commands last last asks refl in
+      record {
+        told = refusal_line asks_alone;
+        durable = [];
+        is_answer = end_answer (fault_of draft) None last last (refusal_line asks_alone) [] whole.0 (inl answer);
+        kept = nothing_more origin has has refl;
+        written = appends;
+      }
+  told_group_asking group last has (Err e) asks whole appends = tt
 
-pub told_no_memory : {X E : Type 0} (copying : Copying) (origin : Origin) (draft : Drafted) (last : Option Accepted) (known : List Group) (has : Option Beginning) (old new : Option (List ℕ)) (result : Result X E)
-    → fault_of draft ≡ None → OnOk result (Appends old new (printed_reply (told_refused OutOfMemory))) → OnOk result (Tells copying origin (Some draft) End last last known has has old new)
-told_no_memory copying origin draft last known has old new (Ok x) whole appends = record {
-  told = printed_reply (told_refused OutOfMemory);
-  durable = [];
-  is_answer = end_answer origin (fault_of draft) None draft.commands last last (printed_reply (told_refused OutOfMemory)) [] whole (told_refused OutOfMemory, inr (refl, refl), refl, refl);
-  kept = nothing_more origin has has refl;
-  written = appends;
-}
-told_no_memory copying origin draft last known has old new (Err e) whole appends = tt
+  pub told_no_group : {X E : Type 0} (code : Code) (last : Option Accepted) (has : Option Beginning) (result : Result X E) → fault_of draft ≡ Some code
+      → OnOk result (Appends old new (refusal_line (fault_number code))) → OnOk result (Tells copying origin (Some draft) End last last known has has old new)
+  told_no_group code last has (Ok x) fault appends = record {
+    told = refusal_line (fault_number code);
+    durable = [];
+    is_answer = end_answer (fault_of draft) (Some code) last last (refusal_line (fault_number code)) [] fault (refl, refl, refl);
+    kept = nothing_more origin has has refl;
+    written = appends;
+  }
+  told_no_group code last has (Err e) fault appends = tt
+
+  pub told_no_memory : {X E : Type 0} (last : Option Accepted) (has : Option Beginning) (result : Result X E) → fault_of draft ≡ None
+      → OnOk result (Appends old new (printed_reply (told_refused OutOfMemory))) → OnOk result (Tells copying origin (Some draft) End last last known has has old new)
+  told_no_memory last has (Ok x) whole appends = record {
+    told = printed_reply (told_refused OutOfMemory);
+    durable = [];
+    is_answer = end_answer (fault_of draft) None last last (printed_reply (told_refused OutOfMemory)) [] whole (inr (refl, refl, refl));
+    kept = nothing_more origin has has refl;
+    written = appends;
+  }
+  told_no_memory last has (Err e) whole appends = tt

@@ -6,16 +6,17 @@ use mathlib.Core.List.{IsPrefix}
 use Rattle.history.specs.Origins.{Origin, Beginning}
 use Rattle.dimacs.specs.declared.fault.Code.{Code}
 use Rattle.sessions.specs.declared.answers.Accepted.{Accepted}
-use Rattle.sessions.specs.declared.drafts.Draft.{Draft}
-use Rattle.sessions.specs.declared.lines.Line.{Line}
-use Rattle.sessions.specs.declared.lines.Line.TheVariants.{Quit}
-use Rattle.sessions.specs.declared.reading.LastLine.{LastLine}
+use Rattle.session_lines.specs.declared.drafts.Draft.{Draft}
+use Rattle.session_lines.specs.declared.lines.Line.{Line}
+use Rattle.session_lines.specs.declared.lines.Line.TheVariants.{Quit}
+use Rattle.session_lines.specs.declared.reading.LastLine.{LastLine}
 use Rattle.sessions.specs.Copying.{Copying}
-use Rattle.sessions.specs.Drafts.{Drafted, HasDraft, next_draft_beside, next_supposing}
-use Rattle.sessions.specs.Reads.{ReadsOne, ReadsLine}
+use Rattle.session_lines.specs.Drafts.{Drafted, HasDraft, next_draft_beside, next_supposing}
+use Rattle.session_lines.specs.Reads.{ReadsOne, ReadsLine}
 use Rattle.sessions.specs.Told.{known_to}
 use Rattle.suppositions.specs.Supposing.{Supposition}
-use Rattle.sessions.specs.Turns.{Says, Standing, IsTurn, AreTurns, beginning, is_quit, HasServed, IsSessionAt, Serves}
+use Rattle.session_lines.specs.SessionLines.{is_quit}
+use Rattle.sessions.specs.Turns.{Says, Standing, IsTurn, AreTurns, beginning, HasServed, IsSessionAt, Serves}
 
 -- the lines up to here were answered, and a session with this reader, these receipts, this last accepted group, this draft, this group that is to be supposed and
 -- this that is supposed goes on with what is left

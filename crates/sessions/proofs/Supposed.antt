@@ -1,5 +1,9 @@
 -- What a session supposes, and what it is told of that.
-use Rattle.std.proofs.Common.{◌≡◌, ◌∙◌, inl, inr, ℕ, ◌+◌, List, [], ◌∷◌, ◌++◌, All, length, Option, None, Some, refl, sym, subst}
+use Rattle.std.proofs.Common.{◌≡◌, ◌∙◌, inl, inr, ℕ, ◌+◌, Bool, true, false, true≢false, List, [], ◌∷◌, ◌++◌, All, map, length, Option, None, Some, refl, sym, ap, subst, arith}
+use Rattle.std.proofs.Math.Seq.{take-append_seam, drop-append_seam}
+use Rattle.std.proofs.lemmas.Bool.Decides.{nat_tests}
+use Rattle.std.proofs.lemmas.List.Elements.{All-append, All-drop, All-head, All-tail, All-take}
+use Rattle.std.proofs.lemmas.List.Folds.{list_all-append}
 use Rattle.std.proofs.KnownBytes.{Appends-nil}
 use Rattle.std.specs.Prelude.{Result, Ok, Err, IfOk, IfErr, OnOk}
 use Rattle.std.specs.Io.KnownBytes.{Appends}
@@ -9,32 +13,35 @@ use Rattle.roadnet.specs.declared.refusals.Refusal.{Refusal}
 use Rattle.roadnet.specs.declared.refusals.Refusal.TheVariants.{OutOfMemory}
 use Rattle.roadnet.specs.Batches.{MayRefuseBatch}
 use Rattle.roadnet.specs.Net.{Net, IsNode}
+use Rattle.roadnet.specs.Step.{is_node}
 use Rattle.roadnet.specs.Numbers.{number_of}
 use Rattle.rows.specs.declared.queries.Query.{Query}
 use Rattle.rows.specs.declared.queries.Reply.{Reply}
-use Rattle.rows.specs.Replies.{IsRight}
+use Rattle.rows.specs.Replies.{IsRight, are_nodes}
 use Rattle.rows.specs.Views.{AreRight, Viewed}
 use Rattle.deltastep.specs.declared.known.NodeDistance.{NodeDistance}
 use Rattle.history.specs.Origins.{Origin, Beginning}
 use Rattle.machine.specs.declared.calls.Ticket.{Ticket}
-use Rattle.desk.specs.declared.nearby.Near.{Near}
-use Rattle.desk.specs.Nearby.{node_of, IsNear}
+use Rattle.rows.specs.declared.nearby.Near.{Near}
+use Rattle.rows.specs.Nearby.{are_pairs, node_of, IsNear, IsUntold}
 use Rattle.desk.specs.Readings.{IsViewAfter}
 use Rattle.dimacs.specs.declared.fault.Code.{Code}
 use Rattle.printing.specs.Nodes.{pair_lines}
 use Rattle.printing.specs.Printed.{refusal_line}
 use Rattle.suppositions.specs.Supposing.{Supposition, Supposes, IsUnanswered}
 use Rattle.sessions.specs.declared.answers.Accepted.{Accepted}
-use Rattle.sessions.specs.declared.lines.Line.{Line}
-use Rattle.sessions.specs.declared.lines.Line.TheVariants.{Query as a_query, Near as a_near, Table as a_table, Suppose, Forget, End}
+use Rattle.session_lines.specs.declared.lines.Line.{Line}
+use Rattle.session_lines.specs.declared.lines.Line.TheVariants.{Query as a_query, Near as a_near, Table as a_table, Suppose, Forget, End}
 use Rattle.sessions.specs.Copying.{Copying}
-use Rattle.sessions.specs.declared.drafts.Draft.{Draft}
-use Rattle.sessions.specs.Drafts.{Drafted, HasDraft, IsDraft, IsWhole, fault_of, next_supposing, with_line}
-use Rattle.sessions.specs.declared.asked_tables.Table.{Table}
-use Rattle.sessions.specs.Listings.{sources_of, targets_of}
+use Rattle.session_lines.specs.declared.drafts.Draft.{Draft}
+use Rattle.session_lines.specs.Drafts.{Drafted, HasDraft, IsDraft, IsWhole, fault_of, next_supposing, with_line}
+use Rattle.session_lines.specs.declared.asked_tables.Table.{Table}
+use Rattle.session_lines.specs.Listings.{sources_of, targets_of}
 use Rattle.sessions.specs.Nearby.{near_lines}
-use Rattle.sessions.specs.Supposing.{SupposesAfter, RefusesAfter, IsNearIn, IsUnsupposed, IsTableIn, IsToldSo, IsReplyIn, IsSupposedAnswer, supposed_line, supposed_lines, supposed_or_refusal, suppose_line, forgotten_line, untold_in}
-use Rattle.sessions.specs.Tables.{pairs_of}
+use Rattle.sessions.specs.declared.finding.Heading.TheVariants.{Supposed as of_supposed}
+use Rattle.sessions.specs.Headings.{supposed_line, untold_lines}
+use Rattle.sessions.specs.Supposing.{SupposesAfter, RefusesAfter, IsNearIn, IsUnsupposed, IsTableIn, IsToldSo, IsReplyIn, IsSupposedAnswer, supposed_lines, supposed_or_refusal, suppose_line, forgotten_line}
+use Rattle.session_lines.specs.Tables.{pairs_of}
 use Rattle.sessions.specs.Turns.{IsAnswer, IsSaid, IsSupposedEnd, Says, Tells, fault_number}
 use Rattle.sessions.proofs.Answered.{nothing_more}
 
@@ -64,18 +71,49 @@ found_told supposed query version found old new (Err e) is right appends = tt
 
 -- ---- what is told of the nodes near one
 pub found_near : {X E : Type 0} (supposed : Supposition) (near : Near) (version : ℕ) (found : List NodeDistance) (old new : Option (List ℕ)) (result : Result X E) → version ≡ supposed.version
-    → IsNode supposed.network (node_of near) → IsNear supposed.network near found → OnOk result (Appends old new (supposed_line version ++ near_lines near found)) → OnOk result (IsToldSo (IsNearIn supposed near) old new)
+    → is_node supposed.network (node_of near) ≡ true → IsNear supposed.network near found → OnOk result (Appends old new (supposed_line version ++ near_lines near found)) → OnOk result (IsToldSo (IsNearIn supposed near) old new)
 found_near supposed near version found old new (Ok x) is there near_is appends =
     (supposed_line supposed.version ++ near_lines near found, inl (found, there, near_is, refl), subst (λ (v : ℕ). Appends old new (supposed_line v ++ near_lines near found)) is appends)
 found_near supposed near version found old new (Err e) is there near_is appends = tt
 
 pub found_no_near : {X E : Type 0} (supposed : Supposition) (near : Near) (version : ℕ) (refusal : Refusal) (old new : Option (List ℕ)) (result : Result X E) → version ≡ supposed.version
-    → IsUnanswered (IsNode supposed.network (node_of near)) refusal → OnOk result (Appends old new (untold_in version refusal)) → OnOk result (IsToldSo (IsNearIn supposed near) old new)
+    → IsUntold (is_node supposed.network (node_of near)) refusal → OnOk result (Appends old new (untold_lines (of_supposed version) refusal)) → OnOk result (IsToldSo (IsNearIn supposed near) old new)
 found_no_near supposed near version refusal old new (Ok x) is cause appends =
-    (untold_in supposed.version refusal, inr (refusal, cause, refl), subst (λ (v : ℕ). Appends old new (untold_in v refusal)) is appends)
+    (untold_lines (of_supposed supposed.version) refusal, inr (refusal, cause, refl), subst (λ (v : ℕ). Appends old new (untold_lines (of_supposed v) refusal)) is appends)
 found_no_near supposed near version refusal old new (Err e) is cause appends = tt
 
 -- ---- what is told of a table
+-- where all of the first are not, all of both are not, and so with the second
+pub none_before : (P : ℕ → Type 0) (xs ys : List ℕ) (are : Bool) → (All P xs → are ≡ true) → are ≡ false → ¬ All P (xs ++ ys)
+none_before P xs ys are only fails all =
+    true≢false (sym (only (subst (All P) (take-append_seam xs ys) (All-take P (length xs) (xs ++ ys) all))) ∙ fails)
+
+pub none_behind : (P : ℕ → Type 0) (xs ys : List ℕ) (are : Bool) → (All P ys → are ≡ true) → are ≡ false → ¬ All P (xs ++ ys)
+none_behind P xs ys are only fails all =
+    true≢false (sym (only (subst (All P) (drop-append_seam xs ys) (All-drop P (length xs) (xs ++ ys) all))) ∙ fails)
+
+-- pairs of nodes have nodes as their ends
+module _ (net : Net) where
+  passed : (x : ℕ) → IsNode net x → is_node net x ≡ true
+  passed x node = grind (arith, nat_tests, node.0, node.1)
+
+  pairs_from : (source : ℕ) (targets : List ℕ) → IsNode net source → All (IsNode net) targets → are_pairs net (map (λ target. (source, target)) targets) ≡ true
+  pairs_from source [] node all = refl
+  pairs_from source (t ∷ targets) node all = rw (passed source node, passed t (All-head (IsNode net) t targets all)) (pairs_from source targets node (All-tail (IsNode net) t targets all))
+
+  pub pairs_between : (sources targets : List ℕ) → All (IsNode net) sources → All (IsNode net) targets → are_pairs net (pairs_of sources targets) ≡ true
+  pairs_between [] targets nodes all = refl
+  pairs_between (s ∷ sources) targets nodes all =
+      list_all-append (λ (pair : ℕ × ℕ). are_nodes net pair.0 pair.1) (map (λ (t : ℕ). (s, t)) targets) (pairs_of sources targets)
+      ∙ rw (pairs_from s targets (All-head (IsNode net) s sources nodes) all) (pairs_between sources targets (All-tail (IsNode net) s sources nodes) all)
+
+-- for what the replies to all pairs of nodes are not told
+pub untold_pairs : (net : Net) (sources targets : List ℕ) (pairs : List (ℕ × ℕ)) (refusal : Refusal) → All (IsNode net) sources → All (IsNode net) targets → pairs ≡ pairs_of sources targets → IsUntold (are_pairs net pairs) refusal
+    → IsUnanswered (All (IsNode net) (sources ++ targets)) refusal
+untold_pairs net sources targets pairs refusal nodes all is (inl none) =
+    absurd (true≢false (sym (pairs_between net sources targets nodes all) ∙ (ap (are_pairs net) (sym is) ∙ none.0)))
+untold_pairs net sources targets pairs refusal nodes all is (inr memory) = inr (memory.1, All-append (IsNode net) sources targets nodes all)
+
 pub found_table : {X E : Type 0} (supposed : Supposition) (sources targets : List ℕ) (version : ℕ) (pairs : List (ℕ × ℕ)) (replies : List Reply) (old new : Option (List ℕ)) (result : Result X E) → version ≡ supposed.version
     → All (IsNode supposed.network) (sources ++ targets) → pairs ≡ pairs_of sources targets → AreRight supposed.network pairs replies
     → OnOk result (Appends old new (supposed_line version ++ pair_lines pairs replies)) → OnOk result (IsToldSo (IsTableIn supposed sources targets) old new)
@@ -88,9 +126,9 @@ found_table supposed sources targets version pairs replies old new (Ok x) is the
 found_table supposed sources targets version pairs replies old new (Err e) is there pairs_are right appends = tt
 
 pub found_no_table : {X E : Type 0} (supposed : Supposition) (sources targets : List ℕ) (version : ℕ) (refusal : Refusal) (old new : Option (List ℕ)) (result : Result X E) → version ≡ supposed.version
-    → IsUnanswered (All (IsNode supposed.network) (sources ++ targets)) refusal → OnOk result (Appends old new (untold_in version refusal)) → OnOk result (IsToldSo (IsTableIn supposed sources targets) old new)
+    → IsUnanswered (All (IsNode supposed.network) (sources ++ targets)) refusal → OnOk result (Appends old new (untold_lines (of_supposed version) refusal)) → OnOk result (IsToldSo (IsTableIn supposed sources targets) old new)
 found_no_table supposed sources targets version refusal old new (Ok x) is cause appends =
-    (untold_in supposed.version refusal, inr (refusal, cause, refl), subst (λ (v : ℕ). Appends old new (untold_in v refusal)) is appends)
+    (untold_lines (of_supposed supposed.version) refusal, inr (refusal, cause, refl), subst (λ (v : ℕ). Appends old new (untold_lines (of_supposed v) refusal)) is appends)
 found_no_table supposed sources targets version refusal old new (Err e) is cause appends = tt
 
 -- ---- what is told of the end of a group

@@ -3,7 +3,7 @@ use Rattle.std.specs.Prelude.{ℕ, List, Option, None, Some, Result, IfErr, IfSo
 use Rattle.history.specs.Origins.{Origin, Beginning}
 use Rattle.printing.specs.declared.failed.Failed.{Failed}
 use Rattle.printing.specs.Failing.{CountsWrites}
-use Rattle.sessions.specs.declared.reading.LastLine.{LastLine}
+use Rattle.session_lines.specs.declared.reading.LastLine.{LastLine}
 use Rattle.sessions.specs.Copying.{Copying}
 use Rattle.sessions.specs.Told.{CountsRead, IsOfStream}
 use Rattle.sessions.specs.Turns.{Serves, IsSessionAt}

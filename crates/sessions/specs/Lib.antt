@@ -1,16 +1,7 @@
-pub mod Spelled
-pub mod Names
 pub mod Copying
-pub mod Words
-pub mod Fields
-pub mod Tables
-pub mod Listings
-pub mod SessionLines
-pub mod Judging
-pub mod Reads
-pub mod Drafts
 pub mod Stated
 pub mod Told
+pub mod Headings
 pub mod Nearby
 pub mod Supposing
 pub mod Turns

@@ -36,11 +36,19 @@ life_part state = named (codes " landmarks ") state.landmarks ++ named (codes " 
 
 -- its threads
 abbrev pub threads_part : DeskState → List ℕ
-threads_part state = (codes " flusher " ++ working_word state.flusher) ++ (codes " builder " ++ working_word state.builder) ++ codes "\n"
+threads_part state = (codes " flusher " ++ working_word state.flusher) ++ (codes " builder " ++ working_word state.builder)
 
--- `state shown V durable D accepted A pending P unchecked U pages J landmarks L readers R left C flusher F builder B`
+-- its arcs, and its room for them
+abbrev pub arcs_part : DeskState → List ℕ
+arcs_part state = named (codes " arcs ") state.arcs ++ named (codes " room ") state.room
+
+-- its clients and pairs of pipes, how many wait, and for how long it has served
+abbrev pub served_part : DeskState → List ℕ
+served_part state = named (codes " clients ") state.clients ++ named (codes " pairs ") state.pairs ++ named (codes " waiting ") state.waiting ++ named (codes " uptime ") state.uptime
+
+-- `state shown V durable D accepted A pending P unchecked U pages J landmarks L readers R left C flusher F builder B arcs A room M clients N pairs Q waiting W uptime S`
 abbrev pub state_line : DeskState → List ℕ
-state_line state = versions_part state ++ waiting_part state ++ journal_part state ++ life_part state ++ threads_part state
+state_line state = (versions_part state ++ waiting_part state ++ journal_part state ++ life_part state) ++ (threads_part state ++ arcs_part state ++ served_part state ++ codes "\n")
 
 -- that, or `no CODE`
 abbrev pub state_or_refusal : Result DeskState Refusal → List ℕ

@@ -4,33 +4,35 @@
 --     IsReplyIn supposed query told                  the lines of a right reply in what is supposed
 --     IsNearIn supposed near told                    the lines of what is near a node there
 --     IsTableIn supposed sources targets told        the lines of a table there
-use Rattle.std.specs.Prelude.{◌≡◌, ◌⊎◌, ℕ, ◌+◌, List, ◌++◌, All, length, Option, Some, Result, Ok, Err}
+use Rattle.std.specs.Prelude.{◌≡◌, ◌⊎◌, ℕ, ◌+◌, true, List, ◌++◌, All, length, Option, Some, Result, Ok, Err}
 use Rattle.std.specs.Io.KnownBytes.{Appends}
 use lib.Chars.{codes}
 use Rattle.history.specs.Origins.{Origin}
 use Rattle.roadnet.specs.declared.groups.Group.{Group}
 use Rattle.roadnet.specs.declared.refusals.OutOfMemory.{OutOfMemory as NoMemory}
 use Rattle.roadnet.specs.declared.refusals.Refusal.{Refusal}
-use Rattle.roadnet.specs.declared.refusals.Refusal.TheVariants.{NoSuchNode, OutOfMemory}
+use Rattle.roadnet.specs.declared.refusals.Refusal.TheVariants.{OutOfMemory}
 use Rattle.roadnet.specs.Batches.{MayRefuseBatch}
 use Rattle.roadnet.specs.Net.{Net, IsNode}
 use Rattle.roadnet.specs.Numbers.{number_of}
-use Rattle.roadnet.specs.Step.{after}
+use Rattle.roadnet.specs.Step.{after, is_node}
 use Rattle.rows.specs.declared.queries.Query.{Query}
 use Rattle.rows.specs.declared.queries.Query.TheVariants.{Lower}
 use Rattle.rows.specs.declared.queries.Reply.{Reply}
 use Rattle.rows.specs.Replies.{IsRight}
 use Rattle.rows.specs.Views.{AreRight}
 use Rattle.deltastep.specs.declared.known.NodeDistance.{NodeDistance}
-use Rattle.desk.specs.declared.nearby.Near.{Near}
-use Rattle.desk.specs.Nearby.{node_of, IsNear}
+use Rattle.rows.specs.declared.nearby.Near.{Near}
+use Rattle.rows.specs.Nearby.{node_of, IsNear, IsUntold}
 use Rattle.desk.specs.Readings.{IsNoReader}
 use Rattle.printing.specs.Nodes.{pair_lines}
 use Rattle.printing.specs.Printed.{answer_line, refusal_line}
 use Rattle.printing.specs.Replied.{number_line}
 use Rattle.suppositions.specs.Supposing.{Supposition, Supposes, IsUnanswered}
+use Rattle.sessions.specs.declared.finding.Heading.TheVariants.{Supposed}
+use Rattle.sessions.specs.Headings.{supposed_line, untold_lines}
 use Rattle.sessions.specs.Nearby.{near_lines}
-use Rattle.sessions.specs.Tables.{pairs_of}
+use Rattle.session_lines.specs.Tables.{pairs_of}
 
 -- the desk's network after these groups, with the group carried out, under the version after these groups
 pub record SupposesAfter (origin : Origin) (groups : List Group) (group : Group) (supposed : Supposition) : Type 0 where
@@ -60,10 +62,6 @@ suppose_line version = number_line (codes "suppose ") version
 abbrev pub forgotten_line : List ℕ
 forgotten_line = codes "forgotten\n"
 
--- `s V`
-abbrev pub supposed_line : ℕ → List ℕ
-supposed_line version = number_line (codes "s ") version
-
 -- `s V` and the line of an answer
 abbrev pub supposed_lines : ℕ → Query → Reply → List ℕ
 supposed_lines version query reply = supposed_line version ++ answer_line query reply
@@ -83,20 +81,15 @@ abbrev pub IsSupposedAnswer : Supposition → Query → List ℕ → Type 0
 IsSupposedAnswer supposed (Lower s t) told = told ≡ refusal_line 1
 IsSupposedAnswer supposed query told = IsReplyIn supposed query told
 
--- for what nothing is told: a node that is not there in what is supposed, whose version is named as for a query; or want of memory
-abbrev pub untold_in : ℕ → Refusal → List ℕ
-untold_in version NoSuchNode = supposed_line version ++ refusal_line (number_of NoSuchNode)
-untold_in version other = refusal_line (number_of other)
-
 -- what is near a node in what is supposed, all of it, under the version that it was made of; or for what it is not told
 abbrev pub IsNearIn : Supposition → Near → List ℕ → Type 0
 IsNearIn supposed near told =
-    ((found : List NodeDistance) × IsNode supposed.network (node_of near) × IsNear supposed.network near found × (told ≡ supposed_line supposed.version ++ near_lines near found))
-    ⊎ ((refusal : Refusal) × IsUnanswered (IsNode supposed.network (node_of near)) refusal × (told ≡ untold_in supposed.version refusal))
+    ((found : List NodeDistance) × (is_node supposed.network (node_of near) ≡ true) × IsNear supposed.network near found × (told ≡ supposed_line supposed.version ++ near_lines near found))
+    ⊎ ((refusal : Refusal) × IsUntold (is_node supposed.network (node_of near)) refusal × (told ≡ untold_lines (Supposed supposed.version) refusal))
 
 -- a right reply to each source with each target in what is supposed, source by source, under the version that it was made of; or for what they are not told
 abbrev pub IsTableIn : Supposition → List ℕ → List ℕ → List ℕ → Type 0
 IsTableIn supposed sources targets told =
     ((replies : List Reply) × All (IsNode supposed.network) (sources ++ targets) × AreRight supposed.network (pairs_of sources targets) replies
     × (told ≡ supposed_line supposed.version ++ pair_lines (pairs_of sources targets) replies))
-    ⊎ ((refusal : Refusal) × IsUnanswered (All (IsNode supposed.network) (sources ++ targets)) refusal × (told ≡ untold_in supposed.version refusal))
+    ⊎ ((refusal : Refusal) × IsUnanswered (All (IsNode supposed.network) (sources ++ targets)) refusal × (told ≡ untold_lines (Supposed supposed.version) refusal))

@@ -16,7 +16,7 @@ use Rattle.machine.specs.Laws.{IsAt}
 use Rattle.history.specs.Claims.{Claimed, IsAcknowledgedIn}
 use Rattle.history.specs.Origins.{Origin, Beginning}
 use Rattle.desk.specs.Readings.{IsNoReader}
-use Rattle.desk.specs.Turns.{IsUnserved, IsUntaken}
+use Rattle.desk.specs.Turns.{IsRefusedAfter, IsUnreached, IsUnserved}
 use Rattle.dimacs.specs.Counts.{one_more_failed}
 use Rattle.printing.specs.declared.failed.Failed.{Failed}
 use Rattle.printing.specs.declared.failed.Failed.TheVariants.{Code}
@@ -39,10 +39,10 @@ abbrev pub HaveReceipts : Origin → Option Beginning → List Ticket → Type 0
 HaveReceipts origin None tickets = tickets ≡ []
 HaveReceipts origin (Some front) tickets = (front.origin ≡ origin) × All (IsAcknowledgedIn front) tickets
 
--- what this reply tells to be durable
-abbrev pub told_durable : Group → Replied → List Ticket
-told_durable group (Durable number) = record { number = number; group = group } ∷ []
-told_durable group other = []
+-- each of these groups with its number behind this version
+abbrev pub numbered : ℕ → List Group → List Ticket
+numbered version [] = []
+numbered version (group ∷ groups) = record { number = version + 1; group = group } ∷ numbered (version + 1) groups
 
 -- a beginning that has some groups goes on to one that has these too
 abbrev pub HasMore : Origin → Option Beginning → Option Beginning → List Ticket → Type 0
@@ -59,16 +59,38 @@ abbrev pub IsUnsettled : Origin → Option Accepted → Group → Type 0
 IsUnsettled origin (Some (Unsettled ticket)) group = (ticket.origin ≡ origin) × (ticket.ticket.group ≡ group)
 IsUnsettled origin other group = ⊥
 
--- for what a group that was not accepted, or was accepted and not settled (45, 61), is refused
-abbrev pub IsRefusedFor : Origin → Option Accepted → Option Accepted → Group → Refusal → Type 0
-IsRefusedFor origin before last group refusal =
-    ((last ≡ before) × IsUntaken origin group refusal) ⊎ (IsUnsettled origin last group × IsUnserved refusal)
+-- The machine refuses a group so after groups of which each is told to be durable.
+pub record RestsOn (origin : Origin) (group : Group) (refusal : Refusal) (durable : List Ticket) : Type 0 where
+  pub groups : List Group
+  pub refused : IsRefusedAfter origin groups group refusal
+  pub all : durable ≡ numbered origin.version groups
 
--- what a group is told: its number, of which the session has a receipt; or for what it was refused
-abbrev pub Settles : Origin → Option Accepted → Option Accepted → Group → Replied → Type 0
-Settles origin before last group (Durable number) = HasReceipt origin last number group
-Settles origin before last group (Refused refusal) = IsRefusedFor origin before last group refusal
-Settles origin before last group other = ⊥
+-- for what a group is refused that was not accepted, and what that tells to be durable: what it rests on is; or the desk takes no more, or what it rests on is not settled (45, 61)
+abbrev pub IsTurnedDown : Origin → Group → Refusal → List Ticket → Type 0
+IsTurnedDown origin group refusal durable = RestsOn origin group refusal durable ⊎ (IsUnserved refusal × (durable ≡ []))
+
+-- the same of a group that was not accepted, or was and is not settled (45, 61)
+abbrev pub IsRefusedFor : Origin → Option Accepted → Option Accepted → Group → Refusal → List Ticket → Type 0
+IsRefusedFor origin before last group refusal durable =
+    ((last ≡ before) × IsTurnedDown origin group refusal durable) ⊎ (IsUnsettled origin last group × IsUnserved refusal × (durable ≡ []))
+
+-- what a group is told, and what that tells to be durable: its number, of which the session has a receipt; or for what it is refused
+abbrev pub Settles : Origin → Option Accepted → Option Accepted → Group → Replied → List Ticket → Type 0
+Settles origin before last group (Durable number) durable = HasReceipt origin last number group × (durable ≡ record { number = number; group = group } ∷ [])
+Settles origin before last group (Refused refusal) durable = IsRefusedFor origin before last group refusal durable
+Settles origin before last group other durable = ⊥
+
+-- A group is carried out and told this. The beginning of the history that the session has goes on to one with what is told to be durable.
+pub record Carried (origin : Origin) (before last : Option Accepted) (had has : Option Beginning) (group : Group) (reply : Replied) : Type 0 where
+  pub durable : List Ticket
+  pub settles : Settles origin before last group reply durable
+  pub kept : HasMore origin had has durable
+
+-- A group that was not accepted is told this.
+pub record IsDeclined (origin : Origin) (had has : Option Beginning) (group : Group) (refusal : Refusal) : Type 0 where
+  pub durable : List Ticket
+  pub turned_down : IsTurnedDown origin group refusal durable
+  pub kept : HasMore origin had has durable
 
 -- the answer is right in the desk's network after these groups, and names the version after them
 pub record AnswersAfter (origin : Origin) (groups : List Group) (query : Query) (answer : Answer) : Type 0 where
@@ -144,6 +166,10 @@ IsReached origin number groups version = (number ≤ version) × (version ≡ or
 -- why a session that waits is shown nothing: its group will not be settled (45, 61), or there is no view to look at (60, 11, 61)
 abbrev pub IsUnshown : Refusal → Type 0
 IsUnshown refusal = IsUnserved refusal ⊎ IsNoReader refusal
+
+-- why a session that waits for a version is shown none: it will not be shown (45, 61) or is not yet (54), or there is no view to look at (60, 11, 61)
+abbrev pub IsUnmet : Origin → ℕ → Refusal → Type 0
+IsUnmet origin number refusal = IsUnreached origin number refusal ⊎ IsNoReader refusal
 
 -- the reader's count of failed calls is one more where a failed read is told, and else as it was
 abbrev pub CountsRead : {X : Type 0} → ℕ → ℕ → Result X Failed → Type 0

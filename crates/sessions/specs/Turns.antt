@@ -9,7 +9,6 @@ use Rattle.roadnet.specs.declared.refusals.Refusal.{Refusal}
 use Rattle.roadnet.specs.declared.refusals.Refusal.TheVariants.{Read, OutOfMemory, Closed}
 use Rattle.roadnet.specs.Numbers.{number_of}
 use Rattle.machine.specs.declared.events.Replied.{Replied}
-use Rattle.machine.specs.declared.events.Replied.TheVariants.{Refused as told_refused}
 use Rattle.machine.specs.declared.calls.Ticket.{Ticket}
 use Rattle.machine.specs.Laws.{IsAt}
 use Rattle.history.specs.Origins.{Origin, Beginning}
@@ -21,20 +20,20 @@ use Rattle.printing.specs.declared.failed.Failed.TheVariants.{Code as of_code}
 use Rattle.printing.specs.Printed.{version_line, refusal_line}
 use Rattle.printing.specs.Replied.{printed_reply}
 use Rattle.sessions.specs.declared.answers.Accepted.{Accepted}
-use Rattle.sessions.specs.declared.lines.Line.{Line}
-use Rattle.sessions.specs.declared.reading.LastLine.{LastLine}
-use Rattle.sessions.specs.declared.lines.Line.TheVariants.{Ignored, Command as a_command, Query, Look as a_look, Near as a_near, Table as a_table, Unkept, Copy, Wait, Until, State, Quit, Begin, End, Refused, Suppose, Forget}
+use Rattle.session_lines.specs.declared.lines.Line.{Line}
+use Rattle.session_lines.specs.declared.reading.LastLine.{LastLine}
+use Rattle.session_lines.specs.declared.lines.Line.TheVariants.{Ignored, Command as a_command, Query, Look as a_look, Near as a_near, Table as a_table, Unkept, Copy, Wait, Until, State, Quit, Begin, End, Refused, Suppose, Forget}
 use Rattle.sessions.specs.Copying.{Copying}
-use Rattle.sessions.specs.Listings.{sources_of, targets_of}
+use Rattle.session_lines.specs.Listings.{sources_of, targets_of}
 use Rattle.sessions.specs.Nearby.{IsNearAnswer, IsTableAnswer, IsToldAfter}
-use Rattle.sessions.specs.SessionLines.{name_of}
-use Rattle.sessions.specs.Tables.{pairs_of}
-use Rattle.sessions.specs.Drafts.{Drafted, fault_of, next_draft, next_draft_beside, next_supposing}
-use Rattle.sessions.specs.Reads.{ReadsOne, FailsInLine, ReadsLine}
+use Rattle.session_lines.specs.SessionLines.{is_quit, name_of}
+use Rattle.session_lines.specs.Tables.{pairs_of}
+use Rattle.session_lines.specs.Drafts.{Drafted, fault_of, next_draft, next_draft_beside, next_supposing}
+use Rattle.session_lines.specs.Reads.{ReadsOne, FailsInLine, ReadsLine}
 use Rattle.sessions.specs.Stated.{state_or_refusal}
 use Rattle.sessions.specs.Supposing.{SupposesAfter, IsUnsupposed, IsNearIn, IsSupposedAnswer, IsTableIn, suppose_line, forgotten_line}
 use Rattle.suppositions.specs.Supposing.{Supposition}
-use Rattle.sessions.specs.Told.{HaveReceipts, HasMore, Settles, Replies, IsLooked, IsCopied, IsReached, ShowsLast, IsUnshown, known_to, told_durable}
+use Rattle.sessions.specs.Told.{HaveReceipts, HasMore, Settles, Replies, IsLooked, IsCopied, IsReached, ShowsLast, IsUnmet, IsUnshown, known_to}
 
 -- the number by which the fault of a line or of a group is told
 abbrev pub fault_number : Code → ℕ
@@ -47,17 +46,27 @@ abbrev pub version_or_refusal : Result ℕ Refusal → List ℕ
 version_or_refusal (Ok version) = version_line version
 version_or_refusal (Err refusal) = refusal_line (number_of refusal)
 
--- What the end of a group is told that has this fault or none: the fault; or what its commands come to; or that no memory was given for them.
-abbrev pub IsEndAnswer : Origin → Option Code → Group → Option Accepted → Option Accepted → List ℕ → List Ticket → Type 0
-IsEndAnswer origin (Some code) group before last told durable = (told ≡ refusal_line (fault_number code)) × (durable ≡ []) × (last ≡ before)
-IsEndAnswer origin None group before last told durable =
-    (reply : Replied) × (Settles origin before last group reply ⊎ ((reply ≡ told_refused OutOfMemory) × (last ≡ before))) × (told ≡ printed_reply reply) × (durable ≡ told_durable group reply)
+-- the number by which a command is refused in a session that asks alone
+abbrev pub asks_alone : ℕ
+asks_alone = 64
 
--- What a line is told, and which groups it tells to be durable, within this group or outside of groups, where the session's last accepted group
+-- What a group is told, and whether it is told to be durable: what it comes to, in a session whose commands are carried out; in one that asks alone it is
+-- refused (64), and no group was accepted.
+abbrev pub IsGroupAnswer : Bool → Origin → Group → Option Accepted → Option Accepted → List ℕ → List Ticket → Type 0
+IsGroupAnswer true origin group before last told durable =
+    (reply : Replied) × Settles origin before last group reply durable × (told ≡ printed_reply reply)
+IsGroupAnswer false origin group before last told durable = (told ≡ refusal_line asks_alone) × (durable ≡ []) × (last ≡ before)
+
+-- What the end of a group is told that has this fault or none: the fault; or what its commands are told; or that no memory was given for them.
+abbrev pub IsEndAnswer : Copying → Origin → Option Code → Group → Option Accepted → Option Accepted → List ℕ → List Ticket → Type 0
+IsEndAnswer copying origin (Some code) group before last told durable = (told ≡ refusal_line (fault_number code)) × (durable ≡ []) × (last ≡ before)
+IsEndAnswer copying origin None group before last told durable =
+    IsGroupAnswer copying.changes origin group before last told durable ⊎ ((told ≡ refusal_line (number_of OutOfMemory)) × (durable ≡ []) × (last ≡ before))
+
+-- What a line is told, and which groups it tells to be durable (those that a refusal rests on too), within this group or outside of groups, where the session's last accepted group
 -- was `before` and is `last`, and the session knows these groups. A command outside is a group of its own. Within a group nothing is told before its end.
 abbrev pub IsAnswer : Copying → Origin → Option Drafted → Line → Option Accepted → Option Accepted → List Group → List ℕ → List Ticket → Type 0
-IsAnswer copying origin None (a_command command) before last known told durable =
-    (reply : Replied) × Settles origin before last (command ∷ []) reply × (told ≡ printed_reply reply) × (durable ≡ told_durable (command ∷ []) reply)
+IsAnswer copying origin None (a_command command) before last known told durable = IsGroupAnswer copying.changes origin (command ∷ []) before last told durable
 IsAnswer copying origin None (Query query) before last known told durable =
     (reply : Replied) × Replies origin known query reply × (told ≡ printed_reply reply) × (durable ≡ []) × (last ≡ before)
 IsAnswer copying origin None Wait before last known told durable =
@@ -69,7 +78,7 @@ IsAnswer copying origin None (a_table table) before last known told durable =
 IsAnswer copying origin None Unkept before last known told durable = (told ≡ refusal_line (number_of OutOfMemory)) × (durable ≡ []) × (last ≡ before)
 IsAnswer copying origin None (Copy name) before last known told durable = IsCopied copying origin known (name_of name) told × (durable ≡ []) × (last ≡ before)
 IsAnswer copying origin None (Until number) before last known told durable =
-    (shown : Result ℕ Refusal) × IfOk shown (IsReached origin number known) × IfErr shown IsUnshown × (told ≡ version_or_refusal shown) × (durable ≡ []) × (last ≡ before)
+    (shown : Result ℕ Refusal) × IfOk shown (IsReached origin number known) × IfErr shown (IsUnmet origin number) × (told ≡ version_or_refusal shown) × (durable ≡ []) × (last ≡ before)
 IsAnswer copying origin None State before last known told durable =
     (stood : Result DeskState Refusal) × IfOk stood (StoodSo origin) × IfErr stood (λ refusal. refusal ≡ Closed) × (told ≡ state_or_refusal stood) × (durable ≡ []) × (last ≡ before)
 IsAnswer copying origin None (Refused code grouped) before last known told durable = (told ≡ refusal_line (fault_number code)) × (durable ≡ []) × (last ≡ before)
@@ -79,7 +88,7 @@ IsAnswer copying origin None Quit before last known told durable = (told ≡ [])
 IsAnswer copying origin None Begin before last known told durable = (told ≡ []) × (durable ≡ []) × (last ≡ before)
 IsAnswer copying origin None Suppose before last known told durable = (told ≡ []) × (durable ≡ []) × (last ≡ before)
 IsAnswer copying origin None Forget before last known told durable = (told ≡ refusal_line (fault_number BadLine)) × (durable ≡ []) × (last ≡ before)
-IsAnswer copying origin (Some draft) End before last known told durable = IsEndAnswer origin (fault_of draft) draft.commands before last told durable
+IsAnswer copying origin (Some draft) End before last known told durable = IsEndAnswer copying origin (fault_of draft) draft.commands before last told durable
 IsAnswer copying origin (Some draft) other before last known told durable = (told ≡ []) × (durable ≡ []) × (last ≡ before)
 
 -- What the end of a group is told that is to be supposed, and what is supposed then: its fault, and nothing is; or the version that it is made of; or why
@@ -133,11 +142,6 @@ pub record Standing : Type 0 where
   pub draft : Option Drafted
   pub supposing : Option Drafted
   pub supposed : Option Supposition
-
--- the line `quit`, which ends a session
-abbrev pub is_quit : Line → Bool
-is_quit Quit = true
-is_quit other = false
 
 -- the next line, which is not `quit`, is read and answered
 pub record IsTurn (copying : Copying) (last_line : LastLine) (origin : Origin) (old new : Standing) : Type 0 where

@@ -1,29 +1,27 @@
 //! What a session answers, by its desk.
-ghost use Rattle.std.specs.Prelude.{◌≡◌, ◌<◌, ◌≤◌, ◌+◌, ◌∷◌, [], length, true, false, Option, None, Some, IfOk, IfErr, IfSome, IsOk, IsSome, OnOk};
+ghost use Rattle.std.specs.Prelude.{◌≡◌, ◌<◌, ◌≤◌, ◌+◌, ◌∷◌, [], List, length, true, false, Option, None, Some, IfOk, IfErr, IfSome, IsOk, IsSome, OnOk};
 ghost use Rattle.std.specs.Bool.{OnFalse, OnTrue};
 ghost use Rattle.std.specs.Option.{ForSome};
 ghost use mathlib.Core.List.{IsPrefix};
 ghost use Rattle.published.specs.Showing.{IsUnseen};
 ghost use Rattle.rows.specs.Replies.{IsRight};
 ghost use Rattle.desk.specs.Readings.{IsNoReader, IsViewAfter};
-ghost use Rattle.desk.specs.Turns.{IsUnserved};
+ghost use Rattle.desk.specs.Turns.{IsRefusedOn, IsUnserved};
+ghost use Rattle.roadnet.specs.declared.groups.Group.{Group};
 ghost use Rattle.printing.specs.Counting.{failed_writes, writer_of, IsSameWriter, CountsFailure};
-ghost use Rattle.machine.specs.declared.events.Replied.TheVariants.{Durable};
-ghost use Rattle.sessions.specs.Told.{claim_of, told_durable, HasMore, HasReceipt, HasShown, AnswersAfter, known_to, IsReached, IsRefusedFor, IsUnshown, Settles, Replies, ShowsLast};
+ghost use Rattle.sessions.specs.Told.{claim_of, numbered, Carried, HasMore, HasShown, AnswersAfter, known_to, IsDeclined, IsReached, IsUnmet, IsUnshown, Replies, ShowsLast};
 ghost use Rattle.sessions.specs.Copying.{IsUnmade, no_copying};
-ghost use Rattle.sessions.specs.SessionLines.{name_of};
-ghost use Rattle.sessions.specs.Drafts.{Drafted, HasDraft, IsDraft, next_draft};
+ghost use Rattle.session_lines.specs.SessionLines.{name_of};
+ghost use Rattle.session_lines.specs.Drafts.{Drafted, HasDraft, IsDraft, next_draft};
 ghost use Rattle.sessions.specs.Turns.{Tells, Standing, IsSessionAt, IsKept};
 
 use crate::copies::Copies;
 use crate::desk_calls::DeskCalls;
-use crate::drafts::{Draft, NoGroup};
-use crate::lines::{Line, is_end};
-use crate::names::Name;
 use crate::telling::{
-    tell_copied, tell_fault, tell_look, tell_refusal, tell_reply, tell_state, tell_version,
+    tell_asks_alone, tell_copied, tell_fault, tell_look, tell_refusal, tell_reply, tell_state,
+    tell_version,
 };
-use desk::{Closed, Glance, Naming, Place, Receipt, Shown, Ticket};
+use desk::{Closed, Glance, Naming, Place, Receipt, Refused, Shown, Ticket};
 use dimacs::Code;
 use disk::Disk;
 use history::{Front, Whole};
@@ -31,6 +29,7 @@ use machine::{Answer, Replied};
 use printing::{CountedWriter, Failed, Look};
 use roadnet::{Group, Refusal};
 use rows::{Query, Reply};
+use session_lines::{Draft, Line, Name, NoGroup, is_end};
 use std::alloc::Global;
 use std::io::Write;
 
@@ -78,6 +77,18 @@ fn with_receipt(had: &Option<Front>, receipt: &Receipt) -> Front
     match had {
         Some(front) => front.joined(receipt.front()),
         None => receipt.front().again(),
+    }
+}
+
+/// A beginning of the history that has what an earlier one had, if there was one, and all groups that are acknowledged in this one.
+fn with_front(had: &Option<Front>, front: Front) -> Front
+    requires { ForSome had.now (λ had. had.origin ≡ front.origin) }
+    ensures origin { result.origin ≡ front.origin }
+    ensures kept { (groups : List Group) → IsPrefix groups front.groups → front.origin.version + length groups ≤ front.acknowledged → HasMore front.origin had.now (Some result) (numbered front.origin.version groups) }
+{
+    match had {
+        Some(had) => had.joined(&front),
+        None => front,
     }
 }
 
@@ -254,14 +265,14 @@ fn learn_version<N: Naming, H: DeskCalls<N>>(
     version_since(held, shown)
 }
 
-/// Waits until this version or a later one is shown, and learns it. The version is that of a new glance.
+/// Waits until this version or a later one is shown, as long as the desk lets wait, and learns it. The version is that of a new glance.
 fn wait_until<N: Naming, H: DeskCalls<N>>(
     place: &mut Option<Place<N>>,
     desk: &H,
     number: u64,
 ) -> Result<u64, Refusal>
     ensures reached { IfOk result (IsReached N.origin number (known_to place.new)) }
-    ensures causes { IfErr result IsUnshown }
+    ensures causes { IfErr result (IsUnmet N.origin number) }
     ensures begins { IsPrefix (known_to place.old) (known_to place.new) }
 {
     let shown = desk.wait_version(number)?;
@@ -306,40 +317,60 @@ impl<N: Naming> Session<N> {
         }
     }
 
-    /// Submits the group and settles it. Its number is then that of a receipt, or it is told for what it was refused.
-    fn settle<H: DeskCalls<N>>(&mut self, desk: &H, group: Group) -> Result<u64, Refusal>
-        ensures receipt { IfOk result (λ number. HasReceipt N.origin self.new.last number group) }
-        ensures receipts { IfOk result (λ number. HasMore N.origin self.old.receipts self.new.receipts (told_durable group (Durable number))) }
-        ensures refused { IfErr result (IsRefusedFor N.origin self.old.last self.new.last group) }
-        ensures same { IfErr result (λ _. self.new.receipts ≡ self.old.receipts) }
+    /// Settles the group that was accepted. Its number is then that of a receipt, or it is told why it is not settled.
+    fn settle<H: DeskCalls<N>>(&mut self, desk: &H, ticket: Ticket) -> Replied
+        requires { ticket.origin ≡ N.origin }
+        ensures carried { Carried N.origin self.old.last self.new.last self.old.receipts self.new.receipts ticket.ticket.group result }
         ensures place { self.new.place ≡ self.old.place }
         ensures draft { self.new.draft ≡ self.old.draft }
     {
-        let ticket = desk.submit_group(group)?;
         match desk.settle(ticket) {
             Ok(receipt) => {
-                let number = receipt.ticket().ticket().number;
+                let version = receipt.ticket().ticket().number;
                 self.receipts = Some(with_receipt(&self.receipts, &receipt));
                 self.last = Some(Accepted::Settled(receipt));
-                Ok(number)
+                Replied::Durable { version }
             }
             Err((refusal, ticket)) => {
                 self.last = Some(Accepted::Unsettled(ticket));
-                Err(refusal)
+                Replied::Refused { refusal }
             }
         }
     }
 
-    /// The reply to a group: `ok N`, where the session then has a receipt of the desk for it with that number, or what it was refused for.
-    fn carry_out<H: DeskCalls<N>>(&mut self, desk: &H, group: Group) -> Replied
-        ensures settled { Settles N.origin self.old.last self.new.last group result }
-        ensures receipts { HasMore N.origin self.old.receipts self.new.receipts (told_durable group result) }
+    /// Settles the groups on which a refusal rests, and tells it then; where they are not settled it tells why.
+    fn settle_refusal<H: DeskCalls<N>>(&mut self, desk: &H, refused: Refused) -> Refusal
+        requires { ForSome refused.basis (λ basis. basis.origin ≡ N.origin) }
+        ensures told { (group : Group) → IsRefusedOn N.origin group refused.refusal refused.basis → IsDeclined N.origin self.old.receipts self.new.receipts group result }
+        ensures last { self.new.last ≡ self.old.last }
         ensures place { self.new.place ≡ self.old.place }
         ensures draft { self.new.draft ≡ self.old.draft }
     {
-        match self.settle(desk, group) {
-            Ok(version) => Replied::Durable { version },
-            Err(refusal) => Replied::Refused { refusal },
+        let Refused { refusal, basis } = refused;
+        let Some(basis) = basis else {
+            return refusal;
+        };
+        match desk.settle_basis(&basis) {
+            Ok(front) => {
+                self.receipts = Some(with_front(&self.receipts, front));
+                refusal
+            }
+            Err(unserved) => unserved,
+        }
+    }
+
+    /// The reply to a group: `ok N`, where the session then has a receipt of the desk for it with that number; or what it was refused for, where all groups on which
+    /// that rests are durable; or why it, or one of these, is not settled.
+    fn carry_out<H: DeskCalls<N>>(&mut self, desk: &H, group: Group) -> Replied
+        ensures carried { Carried N.origin self.old.last self.new.last self.old.receipts self.new.receipts group result }
+        ensures place { self.new.place ≡ self.old.place }
+        ensures draft { self.new.draft ≡ self.old.draft }
+    {
+        match desk.offer(group) {
+            Ok(ticket) => self.settle(desk, ticket),
+            Err(refused) => Replied::Refused {
+                refusal: self.settle_refusal(desk, refused),
+            },
         }
     }
 
@@ -417,15 +448,16 @@ impl<N: Naming> Session<N> {
         }
     }
 
-    /// Writes the answer to the end of a group, and sends it out: the code of the first line that has a fault, else what the group comes to.
-    fn answer_end<H: DeskCalls<N>, W: Write>(
+    /// Writes the answer to the end of a group, and sends it out: the code of the first line that has a fault, else what the group comes to, or that the session
+    /// asks alone (64).
+    fn answer_end<H: DeskCalls<N>, C: Copies, W: Write>(
         &mut self,
         desk: &H,
+        copies: &C,
         draft: Draft,
         out: &mut CountedWriter<'_, W>,
     ) -> Result<(), Failed>
-        // Who makes copies has no part in it.
-        ensures told { (drafted : Drafted) → IsDraft drafted draft → OnOk result (Tells no_copying N.origin (Some drafted) Line.End self.old.last self.new.last (known_to self.new.place) self.old.receipts self.new.receipts (W.contents (writer_of out.old)) (W.contents (writer_of out.new))) }
+        ensures told { (drafted : Drafted) → IsDraft drafted draft → OnOk result (Tells (C.copying copies.now) N.origin (Some drafted) Line.End self.old.last self.new.last (known_to self.new.place) self.old.receipts self.new.receipts (W.contents (writer_of out.old)) (W.contents (writer_of out.new))) }
         ensures draft { self.new.draft ≡ self.old.draft }
         ensures begins { IsPrefix (known_to self.old.place) (known_to self.new.place) }
         ensures refused { IfErr result (λ failed. failed ≡ Failed.Code Refusal.Write) }
@@ -433,7 +465,12 @@ impl<N: Naming> Session<N> {
         ensures same { IsSameWriter out.old out.new }
     {
         match draft.end() {
-            Ok(group) => tell_reply(out, &self.carry_out(desk, group)),
+            Ok(group) => {
+                if !copies.may_change() {
+                    return tell_asks_alone(out);
+                }
+                tell_reply(out, &self.carry_out(desk, group))
+            }
             Err(NoGroup::Fault(code)) => tell_fault(out, code),
             Err(NoGroup::NoMemory) => {
                 let refusal = Refusal::OutOfMemory;
@@ -468,6 +505,9 @@ impl<N: Naming> Session<N> {
             }
             Line::End => tell_fault(out, Code::BadLine),
             Line::Command(command) => {
+                if !copies.may_change() {
+                    return tell_asks_alone(out);
+                }
                 tell_reply(out, &self.carry_out(desk, Group::one(command)))
             }
             Line::Query(query) => tell_reply(out, &ask(&mut self.place, desk, query)),
@@ -505,7 +545,7 @@ impl<N: Naming> Session<N> {
             return self.answer_alone(alloc, desk, copies, line, out);
         };
         if is_end(&line) {
-            return self.answer_end(desk, draft, out);
+            return self.answer_end(desk, copies, draft, out);
         }
         self.draft = Some(draft.with(line));
         Ok(())

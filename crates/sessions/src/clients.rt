@@ -9,16 +9,17 @@ use crate::answering::Answering;
 use crate::answers::Session;
 use crate::copies::{Copies, NoCopies};
 use crate::desk_calls::DeskCalls;
-use crate::reading::LastLine;
 use crate::serving::{Terms, serve_over};
 use desk::{Closed, Gate, Handle, Naming};
 use dimacs::Counted;
 use disk::Disk;
 use printing::{CountedWriter, Failed};
+use session_lines::LastLine;
 use std::alloc::Global;
 use std::io::{BufRead, Write};
 use std::sync::Wait;
 use std::thread::{self, Threads};
+use std::time::Clock;
 
 /// What a session leaves that has ended.
 #[derive(Drop)]
@@ -46,7 +47,9 @@ pub(crate) fn serve_client<
 {
     let mut reader = Counted::new(reader);
     let mut writer = CountedWriter::new(writer);
+    desk.client_came();
     let (outcome, session) = serve_over(rt, alloc, desk, terms, &mut reader, &mut writer);
+    desk.client_went();
     Served {
         outcome,
         session,
@@ -136,7 +139,7 @@ pub fn serve_all<
     N: Naming + Send + Sync,
     D: Disk + Drop + Send,
     G: Gate + Drop + Send + Sync,
-    R: Threads + Wait + Copy + Sync,
+    R: Threads + Wait + Clock + Copy + Sync,
     I: BufRead + Send,
     W: Write + Send,
 >(rt: &R, alloc: Global, desk: &Handle<N, D, G, R>, clients: &mut [Client<N, I, W>])

@@ -1,36 +1,43 @@
-//! Who makes copies of what a desk shows.
+//! Who makes copies of what a desk shows, and whether sessions change it.
 ghost use Rattle.std.specs.Prelude.{◌≡◌, true, IfErr, OnOk};
-ghost use Rattle.sessions.specs.Names.{is_name};
-ghost use Rattle.sessions.specs.Copying.{IsUnmade, no_copying};
+ghost use Rattle.session_lines.specs.Names.{is_name};
+ghost use Rattle.sessions.specs.Copying.{IsUnmade, asking_alone, no_copying};
 
 use roadnet::{Network, Refusal};
 use std::alloc::Global;
 
-/// Who makes copies of a network while its desk is served, each a store of its own.
+/// Who makes copies of a network while its desk is served, each a store of its own; and whether the sessions for which it makes them change the network.
 ///
 /// It is called by the thread of the session that asks, while no lock of the desk is held, and by several at once.
 pub trait Copies {
     ghost use Rattle.sessions.specs.Copying.{Copying};
 
-    /// Whether copies are made at all, and what the copy of a name is one of.
+    /// Whether commands are carried out, whether copies are made at all, and what the copy of a name is one of.
     ghost copying: { Self → Copying };
+
+    /// Whether commands are carried out; else the sessions ask alone.
+    fn may_change(&self) -> bool
+        ensures { result ≡ (copying self.now).changes };
 
     /// Whether copies are made at all.
     fn are_made(&self) -> bool
         ensures { result ≡ (copying self.now).allowed };
 
     /// Makes a copy of the network at this version, under a name of 1 to 64 letters, digits, `-` and `_`. Refused is a name under which something is
-    /// there (46), a copy that can't be made (10), a device that fails (43), and want of memory (11).
+    /// there (46), a copy that can't be made (10), a device that fails (43), and want of memory (11). Who makes none needs no body of its own.
     fn copy(
         &self,
-        alloc: Global,
+        _alloc: Global,
         name: &[u8],
         network: &Network,
         version: u64,
     ) -> Result<(), Refusal>
         requires { is_name name.now ≡ true }
         ensures made { OnOk result ((copying self.now).made name.now network.now version) }
-        ensures refused { IfErr result IsUnmade };
+        ensures refused { IfErr result IsUnmade }
+    {
+        Err(Refusal::Read)
+    }
 }
 
 /// No copies are made.
@@ -40,17 +47,27 @@ pub struct NoCopies;
 impl Copies for NoCopies {
     ghost copying = { λ _. no_copying };
 
+    fn may_change(&self) -> bool {
+        true
+    }
+
     fn are_made(&self) -> bool {
         false
     }
+}
 
-    fn copy(
-        &self,
-        _alloc: Global,
-        _name: &[u8],
-        _network: &Network,
-        _version: u64,
-    ) -> Result<(), Refusal> {
-        Err(Refusal::Read)
+/// The sessions ask alone: no command is carried out, and no copies are made.
+#[derive(Clone, Copy)]
+pub struct AskingAlone;
+
+impl Copies for AskingAlone {
+    ghost copying = { λ _. asking_alone };
+
+    fn may_change(&self) -> bool {
+        false
+    }
+
+    fn are_made(&self) -> bool {
+        false
     }
 }

@@ -6,18 +6,23 @@ ghost use Rattle.machine.specs.Laws.{IsAt};
 ghost use Rattle.rows.specs.declared.queries.Query.TheVariants.{Dist};
 ghost use Rattle.rows.specs.Replies.{IsRight};
 ghost use Rattle.rows.specs.Views.{AreRight};
-ghost use Rattle.desk.specs.Nearby.{are_pairs, node_of, IsNear, IsUntold};
+ghost use Rattle.rows.specs.Nearby.{are_pairs, node_of, IsNear, IsUntold};
 ghost use Rattle.desk.specs.Readings.{IsNoReader};
 ghost use Rattle.desk.specs.States.{StoodSo};
-ghost use Rattle.desk.specs.Turns.{IsUnserved, IsUntaken};
+ghost use Rattle.desk.specs.Turns.{IsRefusedOn, IsUnreached, IsUnserved};
+ghost use mathlib.Core.List.{IsPrefix};
 
 use deltastep::NodeDistance;
-use desk::{DeskState, Gate, Glance, Handle, Naming, Near, Place, Receipt, Shown, Ticket};
+use desk::{
+    Basis, DeskState, Gate, Glance, Handle, Naming, Near, Place, Receipt, Refused, Shown, Ticket,
+};
 use disk::Disk;
+use history::Front;
 use roadnet::{Group, OutOfMemory, Refusal};
 use rows::Reply;
 use std::sync::Wait;
 use std::thread::Threads;
+use std::time::Clock;
 
 /// What a session calls of its desk: a handle's calls of the same names, which say what each does and for what it is refused. A session and what it supposes
 /// know their desk by these alone.
@@ -43,10 +48,18 @@ pub(crate) trait DeskCalls<N: Naming> {
         ensures causes { IfErr result (IsUntold (are_pairs glance.now.view.network pairs.now)) };
 
     /// Accepts a group.
-    fn submit_group(&self, group: Group) -> Result<Ticket, Refusal>
+    fn offer(&self, group: Group) -> Result<Ticket, Refused>
         ensures origin { IfOk result (λ ticket. ticket.origin ≡ N.origin) }
         ensures group { IfOk result (λ ticket. ticket.ticket.group ≡ group) }
-        ensures causes { IfErr result (IsUntaken N.origin group) };
+        ensures refused { IfErr result (λ refused. IsRefusedOn N.origin group refused.refusal refused.basis) };
+
+    /// Waits until the groups of a basis are durable.
+    fn settle_basis(&self, basis: &Basis) -> Result<Front, Refusal>
+        requires { basis.now.origin ≡ N.origin }
+        ensures origin { IfOk result (λ front. front.origin ≡ N.origin) }
+        ensures begins { IfOk result (λ front. IsPrefix basis.now.groups front.groups) }
+        ensures acknowledged { IfOk result (λ front. N.origin.version + length basis.now.groups ≤ front.acknowledged) }
+        ensures causes { IfErr result IsUnserved };
 
     /// Waits until the ticket's group is durable.
     fn settle(&self, ticket: Ticket) -> Result<Receipt, (Refusal, Ticket)>
@@ -62,11 +75,17 @@ pub(crate) trait DeskCalls<N: Naming> {
         ensures there { IfOk result (λ shown. IsAt N.origin.version shown.groups ticket.now.ticket) }
         ensures causes { IfErr result IsUnserved };
 
-    /// Waits until this version or a later one is shown.
+    /// Waits until this version or a later one is shown, as long as the desk lets wait.
     fn wait_version(&self, version: u64) -> Result<Shown, Refusal>
         ensures origin { IfOk result (λ shown. shown.origin ≡ N.origin) }
         ensures there { IfOk result (λ shown. version ≤ N.origin.version + length shown.groups) }
-        ensures causes { IfErr result IsUnserved };
+        ensures causes { IfErr result (IsUnreached N.origin version) };
+
+    /// A client has come.
+    fn client_came(&self);
+
+    /// A client that had come has gone.
+    fn client_went(&self);
 
     /// How the desk stands.
     fn state(&self) -> Result<DeskState, Refusal>
@@ -74,7 +93,7 @@ pub(crate) trait DeskCalls<N: Naming> {
         ensures causes { IfErr result (λ refusal. refusal ≡ closed) };
 }
 
-impl<N: Naming, D: Disk + Drop, G: Gate + Drop, R: Threads + Wait + Copy> DeskCalls<N>
+impl<N: Naming, D: Disk + Drop, G: Gate + Drop, R: Threads + Wait + Clock + Copy> DeskCalls<N>
     for Handle<N, D, G, R> {
     fn place(&self) -> Result<Place<N>, Refusal> {
         Handle::place(self)
@@ -92,8 +111,12 @@ impl<N: Naming, D: Disk + Drop, G: Gate + Drop, R: Threads + Wait + Copy> DeskCa
         Handle::table(self, glance, pairs)
     }
 
-    fn submit_group(&self, group: Group) -> Result<Ticket, Refusal> {
-        Handle::submit_group(self, group)
+    fn offer(&self, group: Group) -> Result<Ticket, Refused> {
+        Handle::offer(self, group)
+    }
+
+    fn settle_basis(&self, basis: &Basis) -> Result<Front, Refusal> {
+        Handle::settle_basis(self, basis)
     }
 
     fn settle(&self, ticket: Ticket) -> Result<Receipt, (Refusal, Ticket)> {
@@ -106,6 +129,14 @@ impl<N: Naming, D: Disk + Drop, G: Gate + Drop, R: Threads + Wait + Copy> DeskCa
 
     fn wait_version(&self, version: u64) -> Result<Shown, Refusal> {
         Handle::wait_version(self, version)
+    }
+
+    fn client_came(&self) {
+        Handle::client_came(self);
+    }
+
+    fn client_went(&self) {
+        Handle::client_went(self);
     }
 
     fn state(&self) -> Result<DeskState, Refusal> {

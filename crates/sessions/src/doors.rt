@@ -1,25 +1,32 @@
 //! Sessions with clients that come one after the other, in threads that nobody joins.
 ghost use Rattle.std.specs.Prelude.{◌≡◌, IfErr};
 ghost use Rattle.roadnet.specs.declared.refusals.Refusal.TheVariants.{NoThread as no_thread};
+ghost use Rattle.session_lines.specs.declared.reading.LastLine.TheVariants.{Dropped as dropped};
+ghost use Rattle.sessions.specs.Clients.{IsAnswered};
+ghost use Rattle.sessions.specs.Copying.{copying_at};
 
 use crate::answering::Answering;
 use crate::clients::{Served, serve_client};
-use crate::copies::Copies;
+use crate::copies::{AskingAlone, Copies};
 use crate::desk_calls::DeskCalls;
 use crate::past::Past;
-use crate::reading::LastLine;
 use crate::serving::Terms;
 use desk::{Closed, Gate, Handle, Naming};
 use disk::Disk;
 use printing::Failed;
 use roadnet::Refusal;
+use session_lines::LastLine;
 use std::alloc::Global;
 use std::io::{BufRead, Write};
 use std::sync::{Arc, Mutex, Wait};
 use std::thread::{self, Threads};
+use std::time::Clock;
 
 /// Where clients come, one after the other.
 pub trait Door<I, W> {
+    /// Whether their sessions ask alone.
+    fn asks_alone(&self) -> bool;
+
     /// The next client, once it has come: where its lines come from, and where its answers go. None where no more come.
     fn next(&mut self) -> Option<(I, W)>;
 
@@ -81,7 +88,38 @@ impl<N: Naming, C: Copies> Visits<N, C> {
     }
 }
 
-/// A session with one client after the other. By pipes a client may be cut off in a line: that line is not carried out.
+/// A session with a client who has come by a door, as `serve`. By pipes a client may be cut off in a line: that line is not carried out.
+fn serve_at<N: Naming, H: DeskCalls<N>, R: Threads + Wait, I: BufRead, W: Write, C: Copies>(
+    rt: &R,
+    alloc: Global,
+    desk: &H,
+    asks_alone: bool,
+    visits: &Visits<N, C>,
+    reader: &mut I,
+    writer: &mut W,
+) -> Served<N>
+    // Where the sessions of the door ask alone no command is carried out.
+    ensures { IsAnswered (copying_at asks_alone (C.copying visits.now.copies)) dropped N.origin (I.remaining reader.old) (I.remaining reader.new) (W.contents writer.old) (W.contents writer.new) result.session.place result.session.receipts result.failed_reads result.failed_writes result.outcome }
+{
+    let last_line = LastLine::Dropped;
+    let answering = &visits.answering;
+    if asks_alone {
+        let terms = Terms {
+            last_line,
+            answering,
+            copies: &AskingAlone,
+        };
+        return serve_client(rt, alloc, desk, terms, reader, writer);
+    }
+    let terms = Terms {
+        last_line,
+        answering,
+        copies: &visits.copies,
+    };
+    serve_client(rt, alloc, desk, terms, reader, writer)
+}
+
+/// A session with one client after the other.
 fn serve_in_turn<
     N: Naming,
     H: DeskCalls<N>,
@@ -95,12 +133,16 @@ fn serve_in_turn<
         let Some((mut reader, mut writer)) = door.next() else {
             return;
         };
-        let terms = Terms {
-            last_line: LastLine::Dropped,
-            answering: &visits.answering,
-            copies: &visits.copies,
-        };
-        let served = serve_client(rt, alloc, desk, terms, &mut reader, &mut writer);
+        let asks_alone = door.asks_alone();
+        let served = serve_at(
+            rt,
+            alloc,
+            desk,
+            asks_alone,
+            visits,
+            &mut reader,
+            &mut writer,
+        );
         let outcome = visits.add(rt, served);
         door.ended(reader, writer, outcome);
     }
@@ -109,7 +151,7 @@ fn serve_in_turn<
 /// Starts a thread that does this work over what it is handed, and lets it go. Refused is a thread that the system does not give (63).
 ///
 /// Of what it is handed nothing is known here but that it may go to another thread.
-fn let_go<
+pub fn let_go<
     R: Threads,
     T: Send + Drop + 'static,
     P: Send + Drop + 'static,
@@ -138,7 +180,7 @@ pub fn serve_door<
     N: Naming + Send + Sync + 'static,
     D: Disk + Drop + Send + 'static,
     G: Gate + Drop + Send + Sync + 'static,
-    R: Threads + Wait + Copy + Send + Sync + 'static,
+    R: Threads + Wait + Clock + Copy + Send + Sync + 'static,
     I: BufRead + Send + 'static,
     W: Write + Send + 'static,
     P: Door<I, W> + Drop + Send + 'static,

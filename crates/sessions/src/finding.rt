@@ -4,34 +4,57 @@ ghost use Rattle.std.specs.Io.KnownBytes.{Appends};
 ghost use mathlib.Core.List.{IsPrefix};
 ghost use Rattle.roadnet.specs.Step.{is_node};
 ghost use Rattle.rows.specs.Views.{AreRight};
-ghost use Rattle.desk.specs.Nearby.{are_pairs, node_of, IsNear, IsUntold};
+ghost use Rattle.rows.specs.Nearby.{are_pairs, node_of, IsNear, IsUntold};
 ghost use Rattle.printing.specs.Counting.{failed_writes, writer_of, IsSameWriter, CountsFailure};
 ghost use Rattle.printing.specs.Nodes.{pair_lines};
-ghost use Rattle.printing.specs.Printed.{version_line};
-ghost use Rattle.sessions.specs.declared.lines.Line.TheVariants.{Near as a_near, Table as a_table};
+ghost use Rattle.session_lines.specs.declared.lines.Line.TheVariants.{Near as a_near, Table as a_table};
 ghost use Rattle.sessions.specs.Copying.{no_copying};
-ghost use Rattle.sessions.specs.Listings.{sources_of, targets_of};
-ghost use Rattle.sessions.specs.Nearby.{near_lines, untold_lines, IsNearAnswer, IsTableAnswer, WritesSo};
-ghost use Rattle.sessions.specs.Tables.{pairs_of};
+ghost use Rattle.session_lines.specs.Listings.{sources_of, targets_of};
+ghost use Rattle.sessions.specs.Headings.{heading_line, untold_lines};
+ghost use Rattle.sessions.specs.Nearby.{near_lines, IsNearAnswer, IsTableAnswer, WritesSo};
+ghost use Rattle.session_lines.specs.Tables.{pairs_of};
 ghost use Rattle.sessions.specs.Told.{known_to};
 ghost use Rattle.sessions.specs.Turns.{Tells};
 
 use crate::answers::{Session, see};
-use crate::asked_tables::Table;
 use crate::desk_calls::DeskCalls;
 use crate::telling::tell_refusal;
 use deltastep::NodeDistance;
 use desk::{Glance, Naming, Near};
 use printing::{
-    CountedWriter, Failed, put_nearest, put_pairs, put_reach, put_reached, put_refusal, put_version,
+    CountedWriter, Failed, put_nearest, put_numbered, put_pairs, put_reach, put_reached,
+    put_refusal, put_version,
 };
 use roadnet::{OutOfMemory, Refusal};
 use rows::Reply;
+use session_lines::Table;
 use std::alloc::Global;
 use std::io::Write;
 
+/// Of what an answer is: its first line names it.
+#[derive(Clone, Copy)]
+pub(crate) enum Heading {
+    /// The version that is shown: `v V`.
+    Shown(u64),
+    /// What is supposed on top of this version: `s V`.
+    Supposed(u64),
+}
+
+/// The line that names of what an answer is.
+fn put_heading<W: Write>(out: &mut CountedWriter<'_, W>, heading: Heading) -> Result<(), Failed>
+    ensures ok { OnOk result (Appends (W.contents (writer_of out.old)) (W.contents (writer_of out.new)) (heading_line heading)) }
+    ensures refused { IfErr result (λ failed. failed ≡ Failed.Code Refusal.Write) }
+    ensures counts { CountsFailure (failed_writes out.old) (failed_writes out.new) result }
+    ensures same { IsSameWriter out.old out.new }
+{
+    match heading {
+        Heading::Shown(version) => put_version(out, version),
+        Heading::Supposed(version) => put_numbered(out, b"s ", version),
+    }
+}
+
 /// The lines of what is found near a node.
-pub(crate) fn put_near<W: Write>(
+fn put_near<W: Write>(
     out: &mut CountedWriter<'_, W>,
     near: Near,
     found: &[NodeDistance],
@@ -48,70 +71,70 @@ pub(crate) fn put_near<W: Write>(
     }
 }
 
-/// `v V`, and what is found near a node, sent out.
-fn tell_near<W: Write>(
+/// What is found near a node, sent out.
+pub(crate) fn tell_near<W: Write>(
     out: &mut CountedWriter<'_, W>,
-    version: u64,
+    heading: Heading,
     near: Near,
     found: &[NodeDistance],
 ) -> Result<(), Failed>
-    ensures ok { OnOk result (Appends (W.contents (writer_of out.old)) (W.contents (writer_of out.new)) (version_line version ++ near_lines near found.now)) }
+    ensures ok { OnOk result (Appends (W.contents (writer_of out.old)) (W.contents (writer_of out.new)) (heading_line heading ++ near_lines near found.now)) }
     ensures refused { IfErr result (λ failed. failed ≡ Failed.Code Refusal.Write) }
     ensures counts { CountsFailure (failed_writes out.old) (failed_writes out.new) result }
     ensures same { IsSameWriter out.old out.new }
 {
-    put_version(out, version)?;
+    put_heading(out, heading)?;
     put_near(out, near, found)?;
     out.flush()
 }
 
-/// `v V`, and the answers to pairs, sent out.
-fn tell_pairs<W: Write>(
+/// The answers to pairs, sent out.
+pub(crate) fn tell_pairs<W: Write>(
     out: &mut CountedWriter<'_, W>,
-    version: u64,
+    heading: Heading,
     pairs: &[(u64, u64)],
     replies: &[Reply],
 ) -> Result<(), Failed>
     requires { length replies.now ≡ length pairs.now }
-    ensures ok { OnOk result (Appends (W.contents (writer_of out.old)) (W.contents (writer_of out.new)) (version_line version ++ pair_lines pairs.now replies.now)) }
+    ensures ok { OnOk result (Appends (W.contents (writer_of out.old)) (W.contents (writer_of out.new)) (heading_line heading ++ pair_lines pairs.now replies.now)) }
     ensures refused { IfErr result (λ failed. failed ≡ Failed.Code Refusal.Write) }
     ensures counts { CountsFailure (failed_writes out.old) (failed_writes out.new) result }
     ensures same { IsSameWriter out.old out.new }
 {
-    put_version(out, version)?;
+    put_heading(out, heading)?;
     put_pairs(out, pairs, replies)?;
     out.flush()
 }
 
-/// `v V` and `no 24`, or `no CODE`
+/// The heading and `no 24`, or `no CODE`
 fn put_untold<W: Write>(
     out: &mut CountedWriter<'_, W>,
-    version: u64,
+    heading: Heading,
     refusal: Refusal,
 ) -> Result<(), Failed>
-    ensures ok { OnOk result (Appends (W.contents (writer_of out.old)) (W.contents (writer_of out.new)) (untold_lines version refusal)) }
+    ensures ok { OnOk result (Appends (W.contents (writer_of out.old)) (W.contents (writer_of out.new)) (untold_lines heading refusal)) }
     ensures refused { IfErr result (λ failed. failed ≡ Failed.Code Refusal.Write) }
     ensures counts { CountsFailure (failed_writes out.old) (failed_writes out.new) result }
     ensures same { IsSameWriter out.old out.new }
 {
     if matches!(&refusal, Refusal::NoSuchNode) {
-        put_version(out, version)?;
+        put_heading(out, heading)?;
     }
     put_refusal(out, refusal.number())
 }
 
 /// The same, sent out.
-fn tell_untold<W: Write>(
+pub(crate) fn tell_untold<W: Write>(
     out: &mut CountedWriter<'_, W>,
-    version: u64,
+    heading: Heading,
     refusal: Refusal,
 ) -> Result<(), Failed>
-    ensures ok { OnOk result (Appends (W.contents (writer_of out.old)) (W.contents (writer_of out.new)) (untold_lines version refusal)) }
+    ensures ok { OnOk result (Appends (W.contents (writer_of out.old)) (W.contents (writer_of out.new)) (untold_lines heading refusal)) }
     ensures refused { IfErr result (λ failed. failed ≡ Failed.Code Refusal.Write) }
     ensures counts { CountsFailure (failed_writes out.old) (failed_writes out.new) result }
     ensures same { IsSameWriter out.old out.new }
 {
-    put_untold(out, version, refusal)?;
+    put_untold(out, heading, refusal)?;
     out.flush()
 }
 
@@ -158,9 +181,10 @@ fn answer_near<N: Naming, H: DeskCalls<N>, W: Write>(
     ensures same { IsSameWriter out.old out.new }
 {
     let (version, found) = near_at(desk, glance, near);
+    let heading = Heading::Shown(version);
     match found {
-        Ok(found) => tell_near(out, version, near, &found),
-        Err(refusal) => tell_untold(out, version, refusal),
+        Ok(found) => tell_near(out, heading, near, &found),
+        Err(refusal) => tell_untold(out, heading, refusal),
     }
 }
 
@@ -177,9 +201,10 @@ fn answer_table<N: Naming, H: DeskCalls<N>, W: Write>(
     ensures same { IsSameWriter out.old out.new }
 {
     let (version, replies) = table_at(desk, glance, pairs);
+    let heading = Heading::Shown(version);
     match replies {
-        Ok(replies) => tell_pairs(out, version, pairs, &replies),
-        Err(refusal) => tell_untold(out, version, refusal),
+        Ok(replies) => tell_pairs(out, heading, pairs, &replies),
+        Err(refusal) => tell_untold(out, heading, refusal),
     }
 }
 

@@ -10,18 +10,18 @@ use crate::answering::Answering;
 use crate::answers::Session;
 use crate::copies::Copies;
 use crate::desk_calls::DeskCalls;
-use crate::lines::is_quit;
-use crate::reading::{LastLine, next_line};
 use crate::supposing::Supposing;
 use desk::{Gate, Handle, Naming};
 use dimacs::Counted;
 use disk::Disk;
 use printing::{CountedWriter, Failed};
 use roadnet::Refusal;
+use session_lines::{LastLine, is_quit, next_line};
 use std::alloc::Global;
 use std::io::{BufRead, Write};
 use std::sync::Wait;
 use std::thread::Threads;
+use std::time::Clock;
 
 /// How a session is held.
 #[derive(Clone, Copy)]
@@ -30,7 +30,7 @@ pub struct Terms<'a, C> {
     pub last_line: LastLine,
     /// Where the session is counted while it is within an answer.
     pub answering: &'a Answering,
-    /// Who makes the copies that its lines ask for.
+    /// Who makes the copies that its lines ask for, and whether its commands are carried out.
     pub copies: &'a C,
 }
 
@@ -44,7 +44,7 @@ pub struct Terms<'a, C> {
 /// `until N` (`v V` once version N is shown), `state` (how the desk stands, in a line), `copy NAME` (`copied V` once a copy of the network that is shown
 /// is made under this name, of 1 to 64 letters, digits, `-` and `_`, or `no CODE`; `no 1` where no copies are made), `suppose`, behind which the commands of a group and `end` stand (`suppose V`: from then on queries, nodes near one and tables are answered in the
 /// network of version V with the group carried out, behind `s V`, or `no CODE`), `forget` (`forgotten`: what was supposed is no more; or `no 1`) and `quit`. The lines `begin` and `end` enclose the commands of a group: nothing is answered before its end, which answers for the whole, `ok N` once it
-/// is durable, or the code of its first line that has a fault, or `no CODE`. A group that `quit` or the end of the input cuts off is dropped. Lines with no field and comments, which begin with `#`, have no answer; any other line has `no 1` or `no 5`. No line is too long:
+/// is durable, or the code of its first line that has a fault, or `no CODE`. In a session that asks alone a command, and a group without a fault, has `no 64`, and nothing of it is accepted. A group that `quit` or the end of the input cuts off is dropped. Lines with no field and comments, which begin with `#`, have no answer; any other line has `no 1` or `no 5`. No line is too long:
 /// a line takes no memory, but a table 8 bytes a number; a group takes 32 bytes a command. A last line that no line feed ends is a line, or is dropped, as the terms say: what is
 /// carried out are whole lines alone then.
 ///
@@ -58,7 +58,7 @@ pub fn serve<
     N: Naming,
     D: Disk + Drop,
     G: Gate + Drop,
-    R: Threads + Wait + Copy,
+    R: Threads + Wait + Clock + Copy,
     C: Copies,
     I: BufRead,
     W: Write,

@@ -3,7 +3,7 @@ ghost use Rattle.std.specs.Prelude.{◌≡◌, ◌++◌, OnOk, IfErr};
 ghost use Rattle.std.specs.Io.KnownBytes.{Appends};
 ghost use lib.Chars.{codes};
 ghost use Rattle.printing.specs.Counting.{failed_writes, writer_of, IsSameWriter, CountsFailure};
-ghost use Rattle.sessions.specs.Stated.{named, working_word, versions_part, waiting_part, journal_part, life_part, threads_part, state_line, state_or_refusal};
+ghost use Rattle.sessions.specs.Stated.{named, working_word, versions_part, waiting_part, journal_part, life_part, threads_part, arcs_part, served_part, state_line, state_or_refusal};
 
 use desk::{DeskState, Working};
 use printing::{CountedWriter, Failed, put_number, put_refusal};
@@ -99,7 +99,7 @@ fn put_thread<W: Write>(
     put_working(out, working)
 }
 
-/// ` flusher F builder B` and a line feed
+/// ` flusher F builder B`
 fn put_threads<W: Write>(out: &mut CountedWriter<'_, W>, state: &DeskState) -> Result<(), Failed>
     ensures ok { OnOk result (Appends (W.contents (writer_of out.old)) (W.contents (writer_of out.new)) (threads_part state.now)) }
     ensures refused { IfErr result (λ failed. failed ≡ Failed.Code Refusal.Write) }
@@ -107,7 +107,56 @@ fn put_threads<W: Write>(out: &mut CountedWriter<'_, W>, state: &DeskState) -> R
     ensures same { IsSameWriter out.old out.new }
 {
     put_thread(out, b" flusher ", state.flusher)?;
-    put_thread(out, b" builder ", state.builder)?;
+    put_thread(out, b" builder ", state.builder)
+}
+
+/// ` arcs A room M`
+fn put_arcs<W: Write>(out: &mut CountedWriter<'_, W>, state: &DeskState) -> Result<(), Failed>
+    ensures ok { OnOk result (Appends (W.contents (writer_of out.old)) (W.contents (writer_of out.new)) (arcs_part state.now)) }
+    ensures refused { IfErr result (λ failed. failed ≡ Failed.Code Refusal.Write) }
+    ensures counts { CountsFailure (failed_writes out.old) (failed_writes out.new) result }
+    ensures same { IsSameWriter out.old out.new }
+{
+    put_named(out, b" arcs ", state.arcs)?;
+    put_named(out, b" room ", state.room)
+}
+
+/// ` clients N pairs Q waiting W uptime S`
+fn put_served<W: Write>(out: &mut CountedWriter<'_, W>, state: &DeskState) -> Result<(), Failed>
+    ensures ok { OnOk result (Appends (W.contents (writer_of out.old)) (W.contents (writer_of out.new)) (served_part state.now)) }
+    ensures refused { IfErr result (λ failed. failed ≡ Failed.Code Refusal.Write) }
+    ensures counts { CountsFailure (failed_writes out.old) (failed_writes out.new) result }
+    ensures same { IsSameWriter out.old out.new }
+{
+    put_named(out, b" clients ", state.clients)?;
+    put_named(out, b" pairs ", state.pairs)?;
+    put_named(out, b" waiting ", state.waiting)?;
+    put_named(out, b" uptime ", state.uptime)
+}
+
+/// The numbers of the desk's machine.
+fn put_machine<W: Write>(out: &mut CountedWriter<'_, W>, state: &DeskState) -> Result<(), Failed>
+    ensures ok { OnOk result (Appends (W.contents (writer_of out.old)) (W.contents (writer_of out.new)) (versions_part state.now ++ waiting_part state.now ++ journal_part state.now ++ life_part state.now)) }
+    ensures refused { IfErr result (λ failed. failed ≡ Failed.Code Refusal.Write) }
+    ensures counts { CountsFailure (failed_writes out.old) (failed_writes out.new) result }
+    ensures same { IsSameWriter out.old out.new }
+{
+    put_versions(out, state)?;
+    put_waiting(out, state)?;
+    put_journal(out, state)?;
+    put_life(out, state)
+}
+
+/// Its threads and what is around it, up to the end of the line.
+fn put_rest<W: Write>(out: &mut CountedWriter<'_, W>, state: &DeskState) -> Result<(), Failed>
+    ensures ok { OnOk result (Appends (W.contents (writer_of out.old)) (W.contents (writer_of out.new)) (threads_part state.now ++ arcs_part state.now ++ served_part state.now ++ codes "\n")) }
+    ensures refused { IfErr result (λ failed. failed ≡ Failed.Code Refusal.Write) }
+    ensures counts { CountsFailure (failed_writes out.old) (failed_writes out.new) result }
+    ensures same { IsSameWriter out.old out.new }
+{
+    put_threads(out, state)?;
+    put_arcs(out, state)?;
+    put_served(out, state)?;
     out.write_all(b"\n")
 }
 
@@ -118,11 +167,8 @@ fn put_line<W: Write>(out: &mut CountedWriter<'_, W>, state: &DeskState) -> Resu
     ensures counts { CountsFailure (failed_writes out.old) (failed_writes out.new) result }
     ensures same { IsSameWriter out.old out.new }
 {
-    put_versions(out, state)?;
-    put_waiting(out, state)?;
-    put_journal(out, state)?;
-    put_life(out, state)?;
-    put_threads(out, state)
+    put_machine(out, state)?;
+    put_rest(out, state)
 }
 
 /// How the desk stands, or `no CODE`

@@ -2,7 +2,7 @@
 ghost use Rattle.std.specs.Prelude.{◌≡◌, ◌≢◌, Option, None, Some, IfOk, IfErr, OnOk};
 ghost use mathlib.Core.List.{IsPrefix};
 ghost use Rattle.printing.specs.Counting.{failed_writes, writer_of, IsSameWriter, CountsFailure};
-ghost use Rattle.sessions.specs.Drafts.{Drafted, HasDraft, IsDraft, fault_of, next_draft, next_draft_beside, next_supposing};
+ghost use Rattle.session_lines.specs.Drafts.{Drafted, HasDraft, IsDraft, fault_of, next_draft, next_draft_beside, next_supposing};
 ghost use Rattle.sessions.specs.Supposing.{SupposesAfter, IsUnsupposed, IsSupposedAnswer, IsToldSo};
 ghost use Rattle.sessions.specs.Told.{known_to};
 ghost use Rattle.sessions.specs.Turns.{IsSupposedEnd, Says};
@@ -11,16 +11,14 @@ use crate::answers::{Session, see};
 use crate::around::{answer_near, answer_table};
 use crate::copies::Copies;
 use crate::desk_calls::DeskCalls;
-use crate::drafts::{Draft, NoGroup};
-use crate::lines::{Line, is_end, is_suppose};
 use crate::telling::{tell_fault, tell_refusal};
 use crate::told_supposed::{tell_forgotten, tell_found, tell_supposed};
 use desk::{Naming, Place};
 use dimacs::Code;
 use printing::{CountedWriter, Failed};
-use relax::{CHUNK, Crew};
 use roadnet::{Group, Refusal};
 use rows::Query;
+use session_lines::{Draft, Line, NoGroup, is_end, is_suppose};
 use std::alloc::Global;
 use std::io::Write;
 use std::thread::Threads;
@@ -68,15 +66,14 @@ fn answer_in<R: Threads, W: Write>(
     ensures counts { CountsFailure (failed_writes out.old) (failed_writes out.new) result }
     ensures same { IsSameWriter out.old out.new }
 {
-    let crew = Crew::new(rt, CHUNK);
     let version = supposed.version();
     match query {
         Query::Dist { source, target } => {
-            let found = supposed.dist(alloc, source, target, &crew);
+            let found = supposed.dist(rt, alloc, source, target);
             tell_found(out, version, &query, found)
         }
         Query::From { landmark, target } => {
-            let found = supposed.from_landmark(alloc, landmark, target, &crew);
+            let found = supposed.from_landmark(rt, alloc, landmark, target);
             tell_found(out, version, &query, found)
         }
         Query::Lower {

@@ -8,7 +8,7 @@ ghost use Rattle.printing.specs.Replied.{printed_reply};
 ghost use Rattle.roadnet.specs.Numbers.{number_of};
 ghost use Rattle.sessions.specs.Stated.{state_or_refusal};
 ghost use Rattle.sessions.specs.Told.{copied_or_refusal};
-ghost use Rattle.sessions.specs.Turns.{fault_number, version_or_refusal};
+ghost use Rattle.sessions.specs.Turns.{asks_alone, fault_number, version_or_refusal};
 
 use crate::stating::put_state;
 use desk::{DeskState, Glance, Naming};
@@ -19,6 +19,9 @@ use printing::{
 };
 use roadnet::Refusal;
 use std::io::Write;
+
+/// The number by which a command is refused in a session that asks alone.
+const ASKS_ALONE: u8 = 64;
 
 /// The number of a fault: 1, 5, or 13 of a group.
 fn number_of_fault(code: Code) -> u8
@@ -156,5 +159,16 @@ pub(crate) fn tell_fault<W: Write>(out: &mut CountedWriter<'_, W>, code: Code) -
     ensures same { IsSameWriter out.old out.new }
 {
     put_refusal(out, number_of_fault(code))?;
+    out.flush()
+}
+
+/// `no 64` for a command or a group in a session that asks alone, sent out.
+pub(crate) fn tell_asks_alone<W: Write>(out: &mut CountedWriter<'_, W>) -> Result<(), Failed>
+    ensures ok { OnOk result (Appends (W.contents (writer_of out.old)) (W.contents (writer_of out.new)) (refusal_line asks_alone)) }
+    ensures refused { IfErr result (λ failed. failed ≡ Failed.Code Refusal.Write) }
+    ensures counts { CountsFailure (failed_writes out.old) (failed_writes out.new) result }
+    ensures same { IsSameWriter out.old out.new }
+{
+    put_refusal(out, ASKS_ALONE)?;
     out.flush()
 }

@@ -7,7 +7,7 @@ use Rattle.dimacs.specs.declared.fault.Fault.{Fault}
 use Rattle.dimacs.specs.declared.pairs.Pair.{Pair}
 use Rattle.dimacs.specs.Lines.{rows}
 use Rattle.dimacs.specs.Pairs.{p2p_text}
-use Rattle.dimacs.specs.Texts.{Source, OfReader, FaultOf, content_by, Reads}
+use Rattle.dimacs.specs.Texts.{Source, FaultOf, content_by, Reads}
 use Rattle.store.specs.State.{HasVersion}
 use Rattle.printing.specs.declared.failed.Failed.{Failed}
 use Rattle.printing.specs.declared.failed.Failed.TheVariants.{Text, Code}
@@ -25,22 +25,18 @@ module _ (Honest : Type 0) (file : List ℕ) (net : Net) (version nodes : ℕ) (
     holds = record { list = list; pairs_are = subst (λ (n : ℕ). content_by (p2p_text n) (rows text) ≡ Ok list) is said; answers = answers };
   }
 
-  pub asked : {X : Type 0} (r : Result X Failed) (text : List ℕ) (list : List Pair) (old new : Option (List ℕ)) → content_by (p2p_text nodes) (rows text) ≡ Ok list → OnOk r (AnswersAll net version list old new) → OnOk r (IsAsked Honest file text old new)
-  asked (Ok done) text list old new said answers = asked_one text list old new said answers
-  asked (Err failed) text list old new said answers = tt
-
-  pub asked_of : {X : Type 0} (r : Result X Failed) (known left : Option (List ℕ)) (list : List Pair) (old new : Option (List ℕ)) → IfSome known (λ text. Reads (p2p_text nodes) text left (Ok list)) → OnOk r (AnswersAll net version list old new)
+  pub asked_of : {X : Type 0} (r : Result X Failed) (known : Option (List ℕ)) (source : Source) (list : List Pair) (old new : Option (List ℕ)) → IfSome known (λ text. Reads (p2p_text nodes) text source (Ok list)) → OnOk r (AnswersAll net version list old new)
       → OnOk r (IfSome known (λ text. IsAsked Honest file text old new))
-  asked_of (Ok done) None left list old new said answers = tt
-  asked_of (Ok done) (Some text) left list old new said answers = asked_one text list old new said.0 answers
-  asked_of (Err failed) known left list old new said answers = tt
+  asked_of (Ok done) None source list old new said answers = tt
+  asked_of (Ok done) (Some text) source list old new said answers = asked_one text list old new said.0 answers
+  asked_of (Err failed) known source list old new said answers = tt
 
-  pub fault_of : (text : List ℕ) (source : Source) (fault : Fault) → FaultOf (p2p_text nodes) text source fault → IsRefusedAsk Honest file text source (Text 0 fault)
+  fault_of : (text : List ℕ) (source : Source) (fault : Fault) → FaultOf (p2p_text nodes) text source fault → IsRefusedAsk Honest file text source (Text 0 fault)
   fault_of text source fault said = record { net = net; version = version; stands = stands; holds = subst (λ (n : ℕ). FaultOf (p2p_text n) text source fault) is said }
 
-  pub fault_known : (known left : Option (List ℕ)) (fault : Fault) → IfSome known (λ text. Reads (p2p_text nodes) text left (Err fault)) → IfSome known (λ text. IsRefusedAsk Honest file text (OfReader left) (Text 0 fault))
-  fault_known None left fault said = tt
-  fault_known (Some text) left fault said = fault_of text (OfReader left) fault said
+  pub fault_known : (known : Option (List ℕ)) (source : Source) (fault : Fault) → IfSome known (λ text. Reads (p2p_text nodes) text source (Err fault)) → IfSome known (λ text. IsRefusedAsk Honest file text source (Text 0 fault))
+  fault_known None source fault said = tt
+  fault_known (Some text) source fault said = fault_of text source fault said
 
   gives : (text : List ℕ) (list : List Pair) → content_by (p2p_text nodes) (rows text) ≡ Ok list → OfStore Honest file (GivesPairs text)
   gives text list said = record { net = net; version = version; stands = stands; holds = (list, subst (λ (n : ℕ). content_by (p2p_text n) (rows text) ≡ Ok list) is said) }
@@ -50,15 +46,11 @@ module _ (Honest : Type 0) (file : List ℕ) (net : Net) (version nodes : ℕ) (
   unanswered text source (Code OutOfMemory) list said h = ((refl, λ honest. inl (inl refl)), inr (gives text list said))
   unanswered text source _ list said h = absurd h
 
-  pub refused_so : {X : Type 0} (r : Result X Failed) (text : List ℕ) (source : Source) (list : List Pair) → content_by (p2p_text nodes) (rows text) ≡ Ok list → IfErr r IsUnanswered → IfErr r (IsRefusedAsk Honest file text source)
-  refused_so (Ok done) text source list said h = tt
-  refused_so (Err failed) text source list said h = unanswered text source failed list said h
-
-  pub refused_known : {X : Type 0} (r : Result X Failed) (known left : Option (List ℕ)) (list : List Pair) → IfSome known (λ text. Reads (p2p_text nodes) text left (Ok list)) → IfErr r IsUnanswered
-      → IfErr r (λ failed. IfSome known (λ text. IsRefusedAsk Honest file text (OfReader left) failed))
-  refused_known (Ok done) known left list said h = tt
-  refused_known (Err failed) None left list said h = tt
-  refused_known (Err failed) (Some text) left list said h = unanswered text (OfReader left) failed list said.0 h
+  pub refused_known : {X : Type 0} (r : Result X Failed) (known : Option (List ℕ)) (source : Source) (list : List Pair) → IfSome known (λ text. Reads (p2p_text nodes) text source (Ok list)) → IfErr r IsUnanswered
+      → IfErr r (λ failed. IfSome known (λ text. IsRefusedAsk Honest file text source failed))
+  refused_known (Ok done) known source list said h = tt
+  refused_known (Err failed) None source list said h = tt
+  refused_known (Err failed) (Some text) source list said h = unanswered text source failed list said.0 h
 
 of_unanswered : (failed : Failed) → IsUnanswered failed → IsOfStore failed
 of_unanswered (Code Write) h = tt

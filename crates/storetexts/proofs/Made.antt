@@ -80,11 +80,6 @@ plan_refused n l room ns ls net marks refusal network marks_are (inl (inr memory
 plan_refused n l room ns ls net marks refusal network marks_are (inr none) = rw none.0 (record { net = net; network_is = network; marks = marks; marks_are = marks_are; few = none.1 }, none.2)
 
 -- the same of what making it answers
-pub plan_told : {X : Type 0} (r : Result X Refusal) (n l : List ℕ) (room : Option ℕ) (ns ls : Source) (net : Net) (marks : List ℕ) → content n ≡ Ok net → landmarks_of net l ≡ Ok marks
-    → IfErr r (IsRefusedPlan net marks room) → IfErr r (λ refusal. IsRefusedNetwork n l room ns ls (Code refusal))
-plan_told (Ok made) n l room ns ls net marks network marks_are why = tt
-plan_told (Err refusal) n l room ns ls net marks network marks_are why = plan_refused n l room ns ls net marks refusal network marks_are why
-
 pub plan_told_known : {X : Type 0} (r : Result X Refusal) (a b : Option (List ℕ)) (room : Option ℕ) (ns ls : Source) (net : Net) (marks : List ℕ) → IfSome a (λ n. content n ≡ Ok net)
     → IfSome b (λ l. landmarks_of net l ≡ Ok marks) → IfErr r (IsRefusedPlan net marks room) → IfErr r (λ refusal. IfSome a (λ n. IfSome b (λ l. IsRefusedNetwork n l room ns ls (Code refusal))))
 plan_told_known (Ok made) a b room ns ls net marks network marks_are why = tt
@@ -113,11 +108,6 @@ made_network : (n l : List ℕ) (room : Option ℕ) (net made : Net) (marks : Li
     → made ≡ roomed (with_landmarks net marks) room → IsNetworkOf n l room made
 made_network n l room net made marks network marks_are few fits is = record { given = record { net = net; network_is = network; marks = marks; marks_are = marks_are; few = few }; fits = fits; made_is = is }
 
-pub network_told : {E : Type 0} (r : Result Net E) (n l : List ℕ) (room : Option ℕ) (net : Net) (marks : List ℕ) → content n ≡ Ok net → landmarks_of net l ≡ Ok marks → OnOk r (length marks ≤ most_landmarks)
-    → OnOk r (IsRoomFor net (room_of net room)) → IfOk r (λ made. made ≡ roomed (with_landmarks net marks) room) → IfOk r (IsNetworkOf n l room)
-network_told (Ok made) n l room net marks network marks_are few fits is = made_network n l room net made marks network marks_are few fits is
-network_told (Err e) n l room net marks network marks_are few fits is = tt
-
 pub network_told_known : {E : Type 0} (r : Result Net E) (a b : Option (List ℕ)) (room : Option ℕ) (net : Net) (marks : List ℕ) → IfSome a (λ n. content n ≡ Ok net) → IfSome b (λ l. landmarks_of net l ≡ Ok marks)
     → OnOk r (length marks ≤ most_landmarks) → OnOk r (IsRoomFor net (room_of net room)) → IfOk r (λ made. made ≡ roomed (with_landmarks net marks) room)
     → IfOk r (λ made. IfSome a (λ n. IfSome b (λ l. IsNetworkOf n l room made)))
@@ -126,7 +116,7 @@ network_told_known (Ok made) None b room net marks network marks_are few fits is
 network_told_known (Ok made) (Some n) None room net marks network marks_are few fits is = tt
 network_told_known (Ok made) (Some n) (Some l) room net marks network marks_are few fits is = made_network n l room net made marks network marks_are few fits is
 
-pub network_refused : (n l : List ℕ) (room : Option ℕ) (ns ls : Source) (failed : Failed) → IsRefusedNetwork n l room ns ls failed → IsRefusedCreate n l room ns ls failed
+network_refused : (n l : List ℕ) (room : Option ℕ) (ns ls : Source) (failed : Failed) → IsRefusedNetwork n l room ns ls failed → IsRefusedCreate n l room ns ls failed
 network_refused n l room ns ls (Code NotEmpty) h = absurd h
 network_refused n l room ns ls (Code Device) h = absurd h
 network_refused n l room ns ls (Code Write) h = absurd h
@@ -136,10 +126,6 @@ pub network_refused_known : (a b : Option (List ℕ)) (room : Option ℕ) (ns ls
 network_refused_known None b room ns ls failed h = tt
 network_refused_known (Some n) None room ns ls failed h = tt
 network_refused_known (Some n) (Some l) room ns ls failed h = network_refused n l room ns ls failed h
-
-pub all_making_refused : (r : Result (Unit {0}) Failed) (n l : List ℕ) (room : Option ℕ) (ns ls : Source) (net : Net) → IsNetworkOf n l room net → IfErr r IsOfMaking → IfErr r (IsRefusedCreate n l room ns ls)
-all_making_refused (Ok done) n l room ns ls net is h = tt
-all_making_refused (Err failed) n l room ns ls net is h = making_refused n l room ns ls failed (net, is) h
 
 pub all_making_refused_known : (r : Result (Unit {0}) Failed) (a b : Option (List ℕ)) (room : Option ℕ) (ns ls : Source) (net : Net) → IfSome a (λ n. IfSome b (λ l. IsNetworkOf n l room net)) → IfErr r IsOfMaking → IfErr r (λ failed. IfSome a (λ n. IfSome b (λ l. IsRefusedCreate n l room ns ls failed)))
 all_making_refused_known (Ok done) a b room ns ls net is h = tt

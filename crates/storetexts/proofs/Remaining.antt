@@ -9,7 +9,7 @@ use Rattle.roadnet.specs.Groups.{count_of}
 use Rattle.roadnet.specs.Net.{Net}
 use Rattle.roadnet.specs.Step.{after}
 use Rattle.dimacs.specs.Commanded.{group_text}
-use Rattle.dimacs.specs.Texts.{Reads}
+use Rattle.dimacs.specs.Texts.{Source, Reads}
 use Rattle.storefile.specs.StoreFile.{StandsTidyFor}
 use Rattle.machine.specs.Machine.{Machine, latest, pending, network_at}
 use Rattle.machine.specs.Lives.{HoldsDurable}
@@ -22,7 +22,7 @@ use Rattle.roadnet.specs.declared.refusals.Refusal.TheVariants.{Write}
 use Rattle.storetexts.specs.declared.outcomes.Outcome.{Outcome}
 use Rattle.storetexts.specs.declared.outcomes.Outcome.TheVariants.{Accepted, Refused}
 use Rattle.storetexts.specs.Outcomes.{ComesTo, accepted_in, outcome_lines, IsSettled, IsUnsettledAt}
-use Rattle.storetexts.specs.Applied.{groups_of, StandsForAccepted, AppliesAll, IsApplied, KeepsTold, TellsFront, AppliesSome, IsCutOff, IfNotWrite, TellsAll, StandsForBeginning, StandsForBeginningOfGroups}
+use Rattle.storetexts.specs.Applied.{StandsForAccepted, AppliesAll, IsApplied, KeepsTold, TellsFront, AppliesSome, IsCutOff, IfNotWrite, TellsAll, StandsForBeginning, StandsForBeginningOfGroups}
 use Rattle.storetexts.specs.Applying.{IsSteady, GroupsTaken, FirstGroupsTaken, KeepsAccepted, LinesTold, IfTold, IfEndedEarly, StandsForMachine}
 use Rattle.storetexts.proofs.Comings.{IsPlace, place, as_many}
 use Rattle.storetexts.proofs.Stepping.{latest_is, settled_all, come_kept, come_told}
@@ -198,7 +198,7 @@ if_known None P p = tt
 if_known (Some text) P p = p text
 
 module _ {X : Type 0} (net : Net) (version : ℕ) (list : List Group) (left : List ℕ → Type 0) (r : Result X Failed) where
-  pub applied_known : (content : List ℕ) (known rest : Option (List ℕ)) (old new : Option (List ℕ)) → OnOk r (AppliesAll net version list content left old new) → IfSome known (λ text. Reads group_text text rest (Ok list))
+  pub applied_known : (content : List ℕ) (known : Option (List ℕ)) (rest : Source) (old new : Option (List ℕ)) → OnOk r (AppliesAll net version list content left old new) → IfSome known (λ text. Reads group_text text rest (Ok list))
       → OnOk r (IfSome known (λ text. IsApplied net version text content left old new))
   applied_known content known rest old new applies read = go r applies
     where
@@ -210,14 +210,7 @@ module _ {X : Type 0} (net : Net) (version : ℕ) (list : List Group) (left : Li
       go (Ok done) a = read_so known read a
       go (Err failed) a = tt
 
-  pub applied_text : (content text : List ℕ) (old old' new new' : Option (List ℕ)) → old' ≡ old → new' ≡ new → OnOk r (AppliesAll net version list content left old' new') → groups_of text ≡ Ok list → OnOk r (IsApplied net version text content left old new)
-  applied_text content text old old' new new' e f applies said = go r applies
-    where
-      go : (x : Result X Failed) → OnOk x (AppliesAll net version list content left old' new') → OnOk x (IsApplied net version text content left old new)
-      go (Ok done) a = record { list = list; list_is = said; applies = subst (λ (o : Option (List ℕ)). AppliesAll net version list content left o new) e (subst (λ (o : Option (List ℕ)). AppliesAll net version list content left old' o) f a) }
-      go (Err failed) a = tt
-
-  pub cut_off_known : (A : Type 0) (known rest : Option (List ℕ)) (old new : Option (List ℕ)) → IfErr r (AppliesSome net version list left old new) → IfSome known (λ text. Reads group_text text rest (Ok list))
+  pub cut_off_known : (A : Type 0) (known : Option (List ℕ)) (rest : Source) (old new : Option (List ℕ)) → IfErr r (AppliesSome net version list left old new) → IfSome known (λ text. Reads group_text text rest (Ok list))
       → IfErr r (λ failed. IfSome known (λ text. A ⊎ IsCutOff net version text left old new failed))
   cut_off_known A known rest old new applies read = go r applies
     where
@@ -228,11 +221,3 @@ module _ {X : Type 0} (net : Net) (version : ℕ) (list : List Group) (left : Li
       go : (e : Result X Failed) → IfErr e (AppliesSome net version list left old new) → IfErr e (λ failed. IfSome known (λ text. A ⊎ IsCutOff net version text left old new failed))
       go (Ok done) a = tt
       go (Err failed) a = read_so failed known read a
-
-  pub cut_off_text : (A : Type 0) (text : List ℕ) (old old' new new' : Option (List ℕ)) → old' ≡ old → new' ≡ new → IfErr r (AppliesSome net version list left old' new') → groups_of text ≡ Ok list
-      → IfErr r (λ failed. A ⊎ IsCutOff net version text left old new failed)
-  cut_off_text A text old old' new new' e f applies said = go r applies
-    where
-      go : (x : Result X Failed) → IfErr x (AppliesSome net version list left old' new') → IfErr x (λ failed. A ⊎ IsCutOff net version text left old new failed)
-      go (Ok done) a = tt
-      go (Err failed) a = inr (record { list = list; list_is = said; applies = subst (λ (o : Option (List ℕ)). AppliesSome net version list left o new failed) e (subst (λ (o : Option (List ℕ)). AppliesSome net version list left old' o failed) f a) })

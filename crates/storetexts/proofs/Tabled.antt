@@ -8,7 +8,7 @@ use Rattle.dimacs.specs.declared.fault.Fault.{Fault}
 use Rattle.dimacs.specs.declared.pairs.Pair.{Pair}
 use Rattle.dimacs.specs.Lines.{rows}
 use Rattle.dimacs.specs.Landmarks.{nodes_text}
-use Rattle.dimacs.specs.Texts.{Source, OfReader, FaultOf, content_by, Reads}
+use Rattle.dimacs.specs.Texts.{Source, IsUnread, FaultOf, content_by, Reads}
 use Rattle.pagereader.specs.Outcomes.{MayEndOpening}
 use Rattle.store.specs.State.{HasVersion}
 use Rattle.printing.specs.declared.failed.Failed.{Failed}
@@ -16,23 +16,23 @@ use Rattle.printing.specs.declared.failed.Failed.TheVariants.{Text, Code}
 use Rattle.querytexts.specs.Batch.{AnswersAll}
 use Rattle.querytexts.specs.Once.{IsUnanswered}
 use Rattle.querytexts.specs.Table.{GivesTable, nodes_in, pairs_between}
-use Rattle.storetexts.specs.Asked.{OfStore, GivesNodes, IsTableAsked, IsRefusedTable, IsUnopened, IsUnread}
+use Rattle.storetexts.specs.Asked.{OfStore, GivesNodes, IsTableAsked, IsRefusedTable, IsUnopened}
 use Rattle.storetexts.specs.Refused.{IsOfTwoTexts}
 
 -- ---- opening is refused
 no_write : (P Q : Type 0) → MayEndOpening Write × Q → P
 no_write P Q may = absurd (let never : false ≡ true = may.0 in cc)
 
-pub table_refused : (Honest : Type 0) (file from to : List ℕ) (first second : Source) (refusal : Refusal) → IsUnread from first → IsUnread to second → IsUnopened Honest file refusal
+table_refused : (Honest : Type 0) (file from to : List ℕ) (first second : Source) (refusal : Refusal) → IsUnread from first → IsUnread to second → IsUnopened Honest file refusal
     → IsRefusedTable Honest file from to first second (Code refusal)
 table_refused Honest file from to first second Write unread unread' may = no_write _ _ may
 table_refused Honest file from to first second _ unread unread' may = (may, inl (unread, unread'))
 
-pub table_refused_known : (Honest : Type 0) (file : List ℕ) (first second : Option (List ℕ)) (refusal : Refusal) → IsUnopened Honest file refusal
-    → IfSome first (λ from. IfSome second (λ to. IsRefusedTable Honest file from to (OfReader first) (OfReader second) (Code refusal)))
-table_refused_known Honest file None second refusal may = tt
-table_refused_known Honest file (Some from) None refusal may = tt
-table_refused_known Honest file (Some from) (Some to) refusal may = table_refused Honest file from to (OfReader (Some from)) (OfReader (Some to)) refusal refl refl may
+pub table_refused_known : (Honest : Type 0) (file : List ℕ) (known known' : Option (List ℕ)) (first second : Source) (refusal : Refusal) → IfSome known (λ from. IsUnread from first) → IfSome known' (λ to. IsUnread to second)
+    → IsUnopened Honest file refusal → IfSome known (λ from. IfSome known' (λ to. IsRefusedTable Honest file from to first second (Code refusal)))
+table_refused_known Honest file None known' first second refusal unread unread' may = tt
+table_refused_known Honest file (Some from) None first second refusal unread unread' may = tt
+table_refused_known Honest file (Some from) (Some to) first second refusal unread unread' may = table_refused Honest file from to first second refusal unread unread' may
 
 pub opening_of_two : (refusal : Refusal) → MayEndOpening refusal → IsOfTwoTexts (Code refusal)
 opening_of_two Write may = tt
@@ -66,36 +66,31 @@ module _ (Honest : Type 0) (file : List ℕ) (net : Net) (version nodes : ℕ) (
     asked_one : (from to : List ℕ) → Lists from sources → Lists to targets → AnswersAll net version (pairs_between sources targets) old new → IsTableAsked Honest file from to old new
     asked_one from to said said' answers = opened _ (table (λ pairs. AnswersAll net version pairs old new) from to sources targets said said' answers)
 
-    pub asked : {X : Type 0} (r : Result X Failed) (from to : List ℕ) → Lists from sources → Lists to targets → OnOk r (AnswersAll net version (pairs_between sources targets) old new)
-        → OnOk r (IsTableAsked Honest file from to old new)
-    asked (Ok done) from to said said' answers = asked_one from to said said' answers
-    asked (Err failed) from to said said' answers = tt
-
-    pub asked_of : {X : Type 0} (r : Result X Failed) (first second left left' : Option (List ℕ)) → IfSome first (λ from. Reads (nodes_text nodes) from left (Ok sources)) → IfSome second (λ to. Reads (nodes_text nodes) to left' (Ok targets))
+    pub asked_of : {X : Type 0} (r : Result X Failed) (first second : Option (List ℕ)) (source source' : Source) → IfSome first (λ from. Reads (nodes_text nodes) from source (Ok sources)) → IfSome second (λ to. Reads (nodes_text nodes) to source' (Ok targets))
         → OnOk r (AnswersAll net version (pairs_between sources targets) old new) → OnOk r (IfSome first (λ from. IfSome second (λ to. IsTableAsked Honest file from to old new)))
-    asked_of (Ok done) None second left left' said said' answers = tt
-    asked_of (Ok done) (Some from) None left left' said said' answers = tt
-    asked_of (Ok done) (Some from) (Some to) left left' said said' answers = asked_one from to said.0 said'.0 answers
-    asked_of (Err failed) first second left left' said said' answers = tt
+    asked_of (Ok done) None second source source' said said' answers = tt
+    asked_of (Ok done) (Some from) None source source' said said' answers = tt
+    asked_of (Ok done) (Some from) (Some to) source source' said said' answers = asked_one from to said.0 said'.0 answers
+    asked_of (Err failed) first second source source' said said' answers = tt
 
   -- ---- a text has a fault
-  pub source_fault : (from to : List ℕ) (first second : Source) (fault : Fault) → FaultOf (nodes_text nodes) from first fault → IsRefusedTable Honest file from to first second (Text 0 fault)
+  source_fault : (from to : List ℕ) (first second : Source) (fault : Fault) → FaultOf (nodes_text nodes) from first fault → IsRefusedTable Honest file from to first second (Text 0 fault)
   source_fault from to first second fault said = opened _ (subst (λ (n : ℕ). FaultOf (nodes_text n) from first fault) is said)
 
-  pub target_fault : (from to sources : List ℕ) (first second : Source) (fault : Fault) → Lists from sources → FaultOf (nodes_text nodes) to second fault → IsRefusedTable Honest file from to first second (Text 1 fault)
+  target_fault : (from to sources : List ℕ) (first second : Source) (fault : Fault) → Lists from sources → FaultOf (nodes_text nodes) to second fault → IsRefusedTable Honest file from to first second (Text 1 fault)
   target_fault from to sources first second fault said said' = opened _ (sources, in_net from sources said, subst (λ (n : ℕ). FaultOf (nodes_text n) to second fault) is said')
 
-  pub source_fault_known : (first second left left' : Option (List ℕ)) (fault : Fault) → IfSome first (λ from. Reads (nodes_text nodes) from left (Err fault))
-      → IfSome first (λ from. IfSome second (λ to. IsRefusedTable Honest file from to (OfReader left) (OfReader left') (Text 0 fault)))
-  source_fault_known None second left left' fault said = tt
-  source_fault_known (Some from) None left left' fault said = tt
-  source_fault_known (Some from) (Some to) left left' fault said = source_fault from to (OfReader left) (OfReader left') fault said
+  pub source_fault_known : (first second : Option (List ℕ)) (source source' : Source) (fault : Fault) → IfSome first (λ from. Reads (nodes_text nodes) from source (Err fault))
+      → IfSome first (λ from. IfSome second (λ to. IsRefusedTable Honest file from to source source' (Text 0 fault)))
+  source_fault_known None second source source' fault said = tt
+  source_fault_known (Some from) None source source' fault said = tt
+  source_fault_known (Some from) (Some to) source source' fault said = source_fault from to source source' fault said
 
-  pub target_fault_known : (sources : List ℕ) (first second left left' : Option (List ℕ)) (fault : Fault) → IfSome first (λ from. Reads (nodes_text nodes) from left (Ok sources))
-      → IfSome second (λ to. Reads (nodes_text nodes) to left' (Err fault)) → IfSome first (λ from. IfSome second (λ to. IsRefusedTable Honest file from to (OfReader left) (OfReader left') (Text 1 fault)))
-  target_fault_known sources None second left left' fault said said' = tt
-  target_fault_known sources (Some from) None left left' fault said said' = tt
-  target_fault_known sources (Some from) (Some to) left left' fault said said' = target_fault from to sources (OfReader left) (OfReader left') fault said.0 said'
+  pub target_fault_known : (sources : List ℕ) (first second : Option (List ℕ)) (source source' : Source) (fault : Fault) → IfSome first (λ from. Reads (nodes_text nodes) from source (Ok sources))
+      → IfSome second (λ to. Reads (nodes_text nodes) to source' (Err fault)) → IfSome first (λ from. IfSome second (λ to. IsRefusedTable Honest file from to source source' (Text 1 fault)))
+  target_fault_known sources None second source source' fault said said' = tt
+  target_fault_known sources (Some from) None source source' fault said said' = tt
+  target_fault_known sources (Some from) (Some to) source source' fault said said' = target_fault from to sources source source' fault said.0 said'
 
   -- ---- the answers are not written
   module _ (sources targets : List ℕ) where
@@ -104,16 +99,12 @@ module _ (Honest : Type 0) (file : List ℕ) (net : Net) (version nodes : ℕ) (
     unanswered from to first second (Code OutOfMemory) said said' h = ((refl, λ honest. inl (inl refl)), inr (gives from to sources targets said said'))
     unanswered from to first second _ said said' h = absurd h
 
-    pub refused_so : {X : Type 0} (r : Result X Failed) (from to : List ℕ) (first second : Source) → Lists from sources → Lists to targets → IfErr r IsUnanswered → IfErr r (IsRefusedTable Honest file from to first second)
-    refused_so (Ok done) from to first second said said' h = tt
-    refused_so (Err failed) from to first second said said' h = unanswered from to first second failed said said' h
-
-    pub refused_known : {X : Type 0} (r : Result X Failed) (first second left left' : Option (List ℕ)) → IfSome first (λ from. Reads (nodes_text nodes) from left (Ok sources)) → IfSome second (λ to. Reads (nodes_text nodes) to left' (Ok targets))
-        → IfErr r IsUnanswered → IfErr r (λ failed. IfSome first (λ from. IfSome second (λ to. IsRefusedTable Honest file from to (OfReader left) (OfReader left') failed)))
-    refused_known (Ok done) first second left left' said said' h = tt
-    refused_known (Err failed) None second left left' said said' h = tt
-    refused_known (Err failed) (Some from) None left left' said said' h = tt
-    refused_known (Err failed) (Some from) (Some to) left left' said said' h = unanswered from to (OfReader left) (OfReader left') failed said.0 said'.0 h
+    pub refused_known : {X : Type 0} (r : Result X Failed) (first second : Option (List ℕ)) (source source' : Source) → IfSome first (λ from. Reads (nodes_text nodes) from source (Ok sources)) → IfSome second (λ to. Reads (nodes_text nodes) to source' (Ok targets))
+        → IfErr r IsUnanswered → IfErr r (λ failed. IfSome first (λ from. IfSome second (λ to. IsRefusedTable Honest file from to source source' failed)))
+    refused_known (Ok done) first second source source' said said' h = tt
+    refused_known (Err failed) None second source source' said said' h = tt
+    refused_known (Err failed) (Some from) None source source' said said' h = tt
+    refused_known (Err failed) (Some from) (Some to) source source' said said' h = unanswered from to source source' failed said.0 said'.0 h
 
 two_of_unanswered : (failed : Failed) → IsUnanswered failed → IsOfTwoTexts failed
 two_of_unanswered (Code Write) h = tt

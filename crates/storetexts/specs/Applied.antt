@@ -9,14 +9,14 @@ use Rattle.roadnet.specs.Step.{after}
 use Rattle.dimacs.specs.declared.fault.Fault.{Fault}
 use Rattle.dimacs.specs.Commanded.{group_text}
 use Rattle.dimacs.specs.Lines.{rows}
-use Rattle.dimacs.specs.Texts.{Source, FaultOf, content_by}
+use Rattle.dimacs.specs.Texts.{Source, IsUnread, FaultOf, content_by}
 use Rattle.disk.specs.Contents.{Only}
 use Rattle.disk.specs.Moments.{LeavesOnly}
 use Rattle.storefile.specs.StoreFile.{StandsTidyFor}
 use Rattle.printing.specs.declared.failed.Failed.{Failed}
 use Rattle.printing.specs.declared.failed.Failed.TheVariants.{Text, Code}
 use Rattle.storetexts.specs.declared.outcomes.Outcome.{Outcome}
-use Rattle.storetexts.specs.Asked.{OfStore, IsUnopened, IsUnread}
+use Rattle.storetexts.specs.Asked.{OfStore, IsUnopened}
 use Rattle.storetexts.specs.Outcomes.{ComesTo, accepted_in, outcome_lines, IsSettled, IsUnsettledAt}
 
 -- the groups of a text, in order, or its fault

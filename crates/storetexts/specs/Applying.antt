@@ -19,7 +19,7 @@ use Rattle.printing.specs.declared.failed.Failed.TheVariants.{Text, Code}
 use Rattle.storetexts.specs.Applied.{AtAnyMoment, IfNotWrite, StandsForBeginning, StandsForBeginningOfGroups, AppliesAll, AppliesSome, TellsAll}
 use Rattle.storetexts.specs.Outcomes.{ComesTo, accepted_in, outcome_lines, IsSettled, IsUnsettledAt}
 use Rattle.storetexts.specs.Refused.{CountsDevice}
-use Rattle.storetexts.specs.Writers.{KeepsWriter}
+use Rattle.printing.specs.Writers.{KeepsWriter}
 
 -- a machine between two calls of one life, in which no checkpoint is going while it is not broken, and whose journal has some page
 pub record IsSteady (m : Machine) : Type 0 where

@@ -6,7 +6,7 @@ use Rattle.roadnet.specs.Net.{Net}
 use Rattle.dimacs.specs.declared.pairs.Pair.{Pair}
 use Rattle.dimacs.specs.Landmarks.{nodes_text}
 use Rattle.dimacs.specs.Pairs.{p2p_text}
-use Rattle.dimacs.specs.Texts.{Source, InMemory, OfReader, FaultOf}
+use Rattle.dimacs.specs.Texts.{Source, IsUnread, FaultOf}
 use Rattle.pagereader.specs.Outcomes.{MayEndOpening}
 use Rattle.store.specs.State.{HasVersion}
 use Rattle.store.specs.Opening.{MayRefuseToOpen}
@@ -39,11 +39,6 @@ IsAsked Honest file text old new = OfStore Honest file (AnswersText text old new
 -- the text has no fault, judged by this network
 abbrev pub GivesPairs : List ℕ → Net → ℕ → Type 0
 GivesPairs text net version = (list : List Pair) × (pairs_in net text ≡ Ok list)
-
--- a reader has all of its text left; of a text in memory nothing is known
-abbrev pub IsUnread : List ℕ → Source → Type 0
-IsUnread text InMemory = ⊤
-IsUnread text (OfReader left) = left ≡ Some text
 
 -- The store was opened and the text has its fault told, judged by the network of the store, or its reader failed in it. Where the store was
 -- opened and the text has no fault, the writer failed, or memory ran out. Or opening is refused, and the text isn't read.

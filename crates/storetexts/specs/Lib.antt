@@ -1,5 +1,4 @@
 pub mod Refused
-pub mod Writers
 pub mod Outcomes
 pub mod Created
 pub mod Asked

@@ -26,10 +26,6 @@ pub record AreMapsOf (before after : List ℕ) (room : Option ℕ) (old new : Ne
   pub fits : IsRoomFor map (room_of map room)
   pub new_is : new ≡ roomed map room
 
--- the texts and the room give an old map and a new one
-abbrev pub GiveMaps : List ℕ → List ℕ → Option ℕ → Type 0
-GiveMaps before after room = (old : Net) × (new : Net) × AreMapsOf before after room old new
-
 -- The fault of the first text is told, or, where that has none, that of the second; or a reader failed in its text; or the room is none for the second's network.
 abbrev pub AreRefusedMaps : List ℕ → List ℕ → Option ℕ → Source → Source → Failed → Type 0
 AreRefusedMaps before after room before_source after_source (Text zero fault) = FaultOf gr_text before before_source fault

@@ -2,16 +2,16 @@
 ghost use Rattle.std.specs.Prelude.{◌≡◌, ◌⊎◌, ◌+◌, ◌≤◌, ◌<◌, ◌↔◌, [], false, length, take, vec_capacity};
 ghost use Rattle.std.specs.Prelude.{OnOk, IfOk, IfErr, IfSome, MatchResult};
 ghost use Rattle.std.specs.Bool.{Decides};
-ghost use Rattle.dimacs.specs.Counts.{failed_calls, reader_of, IsSameReader};
-ghost use Rattle.dimacs.specs.Texts.{InMemory, OfReader};
+ghost use Rattle.dimacs.specs.Calling.{KeepsText};
 ghost use Rattle.disk.specs.Moments.{StaysSame};
 ghost use Rattle.pagereader.specs.Outcomes.{failures_with};
 ghost use Rattle.roadnet.specs.declared.refusals.Refusal.TheVariants.{OutOfMemory as out_of_memory};
 ghost use Rattle.keeper.specs.Keeping.{Holds};
 ghost use Rattle.machine.specs.Machine.{pending};
 ghost use Rattle.store.specs.State.{CameTidy};
-ghost use Rattle.printing.specs.Counting.{failed_writes, writer_of, IsSameWriter};
-ghost use Rattle.printing.specs.Failing.{CountsReads, CountsWrites};
+ghost use Rattle.printing.specs.Counting.{writer_of};
+ghost use Rattle.printing.specs.Failing.{CountsReads};
+ghost use Rattle.printing.specs.Writers.{KeepsWriter, OnlyWriterFails};
 ghost use Rattle.storetexts.specs.Applied.{ForTidy, IsApplied, IsCutOff, IsTold, StandsForBeginningOfText, AtAnyMoment, IsRefusedApply, IfTextOrFileRefused};
 ghost use Rattle.storetexts.specs.Applying.{IsReady, IsIdle, IsNew, GroupsTaken, ForNewLedger, IfTold, LinesTold};
 ghost use Rattle.storetexts.specs.Applying.{progress, TakesGroup, KeepsGroups, GroupsTakenSince, FirstGroupsTakenSince, OutcomesSettled};
@@ -20,17 +20,16 @@ ghost use Rattle.store.specs.Opening.{HeaderFits, IsPassing};
 ghost use Rattle.storetexts.specs.Asked.{OfStore, IsUnopened};
 ghost use Rattle.storetexts.specs.Outcomes.{IsSettled, IsUnsettledAt};
 ghost use Rattle.storetexts.specs.Refused.{ComesBack, CountsDevice, IfNoMemory, IsOfStore};
-ghost use Rattle.storetexts.specs.Writers.{KeepsWriter, Puts};
 
 use crate::outcomes::{Outcome, reply_of};
-use dimacs::{Counted, parse_commands, read_commands_counted};
+use dimacs::{Text, read_commands};
 use disk::Disk;
 use keeper::Ledger;
 use pages::MOST_COMMANDS;
 use printing::{CountedWriter, Failed, of_text, put_reply};
 use roadnet::{Group, Refusal};
 use std::alloc::Global;
-use std::io::{BufRead, Write};
+use std::io::Write;
 use store::open;
 
 const COMMANDS: u8 = 0;
@@ -147,7 +146,7 @@ impl<D: Disk> Applying<D> {
         ensures settled { OutcomesSettled (progress self.old) self.old.told → OutcomesSettled (progress self.old) self.new.told }
         ensures next { OnOk result (IsUnsettledAt self.old.ledger.machine.durable self.old.outcomes.items self.new.told) }
         ensures lines { OnOk result (LinesFollow (W.contents (writer_of out.old)) (W.contents (writer_of out.new)) (progress self.old) (progress self.new)) }
-        ensures puts { Puts result out.old out.new }
+        ensures puts { OnlyWriterFails result out.old out.new }
     {
         for index in self.told..self.outcomes.len() {
             let outcome = self.outcomes[index];
@@ -303,21 +302,7 @@ fn apply_groups<D: Disk, W: Write>(
     (ended, applying.close())
 }
 
-/// The same over any writer, whose failed calls nobody counts.
-fn apply_to_writer<D: Disk, W: Write>(
-    alloc: Global,
-    ledger: Ledger<D>,
-    groups: &[Group],
-    out: &mut W,
-) -> (Result<(), Failed>, D)
-    requires idle { IsIdle ledger.machine }
-    ensures applies { Applies D.Disk ledger groups.now result.0 result.1 (W.contents out.old) (W.contents out.new) }
-{
-    let mut counted = CountedWriter::new(out);
-    apply_groups(alloc, ledger, groups, &mut counted)
-}
-
-/// Applies the groups of commands of a reader's text to the store on a disk, in their order, and writes one line a group: `ok N` once the group
+/// Applies the groups of commands of a text to the store on a disk, in their order, and writes one line a group: `ok N` once the group
 /// is durable as version N, or `no CODE` for one that is refused (20 to 29, 62, 11). The disk is handed back.
 ///
 /// The store is opened first, then the text is read whole, then the groups are applied. While 253 commands or more are pending groups are made
@@ -328,31 +313,31 @@ fn apply_to_writer<D: Disk, W: Write>(
 /// (11); then a fault of the text, `which` 0. Nothing is applied or written then. A disk that fails later (43) and want of memory for a
 /// flush or checkpoint (11) end it after the lines before the first group that is not durable: no group that is told is lost. A failed
 /// write (12) ends it too: then the last groups may be durable and not told, or lost. A failed read is fault 10 of the line being read; it
-/// and 12 are told only where the count of the reader's or the writer's failed calls rose. After an `Err` reader and writer are not used
+/// and 12 are told only where the count of the text's or the writer's failed calls rose. After an `Err` text and writer are not used
 /// again.
-pub fn apply_counted<D: Disk, R: BufRead, W: Write>(
+pub fn apply_text<D: Disk, S: Text, W: Write>(
     alloc: Global,
     disk: D,
-    commands: &mut Counted<'_, R>,
+    commands: &mut S,
     out: &mut CountedWriter<'_, W>,
 ) -> (Result<(), Failed>, D)
     // Where the disk stands, tidy, for this network at this version, all that a stop may leave stands for that network after the accepted
     // groups, and the lines of all groups are written.
-    ensures applied { ForTidy D.honest D.content disk (λ net version. OnOk result.0 (IfSome (R.remaining (reader_of commands.old))
+    ensures applied { ForTidy D.honest D.content disk (λ net version. OnOk result.0 (IfSome (S.bytes commands.old)
         (λ text. IsApplied net version text (D.content result.1) (D.left result.1) (W.contents (writer_of out.old)) (W.contents (writer_of out.new))))) }
     // Where it ends early, nothing was begun, or nothing that was told is lost.
-    ensures cut_off { ForTidy D.honest D.content disk (λ net version. IfErr result.0 (λ failed. IfSome (R.remaining (reader_of commands.old))
+    ensures cut_off { ForTidy D.honest D.content disk (λ net version. IfErr result.0 (λ failed. IfSome (S.bytes commands.old)
         (λ text. (StaysSame D.content D.left D.moment D.left_since disk result.1 × (writer_of out.new ≡ writer_of out.old))
         ⊎ IsCutOff net version text (D.left result.1) (W.contents (writer_of out.old)) (W.contents (writer_of out.new)) failed))) }
     // A stop at any moment of the call leaves what it might have left before, or what stands for the network after a beginning of the
     // text's accepted groups.
-    ensures any_moment { ForTidy D.honest D.content disk (λ net version. IfSome (R.remaining (reader_of commands.old))
+    ensures any_moment { ForTidy D.honest D.content disk (λ net version. IfSome (S.bytes commands.old)
         (λ text. AtAnyMoment D.moment D.left_since D.left disk result.1 (StandsForBeginningOfText net version text))) }
     // Over any disk: Ok comes where a store was opened, and all groups of the text are told.
-    ensures told { OnOk result.0 (IfSome (R.remaining (reader_of commands.old))
+    ensures told { OnOk result.0 (IfSome (S.bytes commands.old)
         (λ text. IsTold (D.honest disk) (D.content disk) text (W.contents (writer_of out.old)) (W.contents (writer_of out.new)))) }
-    ensures refused { IfErr result.0 (λ failed. IfSome (R.remaining (reader_of commands.old))
-        (λ text. IsRefusedApply (D.honest disk) (D.content disk) text (OfReader (R.remaining (reader_of commands.new))) failed)) }
+    ensures refused { IfErr result.0 (λ failed. IfSome (S.bytes commands.old)
+        (λ text. IsRefusedApply (D.honest disk) (D.content disk) text (S.source commands.new) failed)) }
     ensures codes { IfErr result.0 IsOfStore }
     // Want of memory is told only where the header fits the file.
     ensures order { D.honest disk → IfErr result.0 (λ failed. IfNoMemory failed (HeaderFits (D.content disk))) }
@@ -362,16 +347,14 @@ pub fn apply_counted<D: Disk, R: BufRead, W: Write>(
         IfTextOrFileRefused failed (StaysSame D.content D.left D.moment D.left_since disk result.1)) }
     ensures unwritten { IfErr result.0 (λ failed. IfTextOrFileRefused failed (writer_of out.new ≡ writer_of out.old)) }
     ensures honest { D.honest result.1 ↔ D.honest disk }
-    ensures reads { CountsReads (failed_calls commands.old) (failed_calls commands.new) result.0 }
-    ensures writes { CountsWrites (failed_writes out.old) (failed_writes out.new) result.0 }
-    ensures same_reader { IsSameReader commands.old commands.new }
-    ensures same_writer { IsSameWriter out.old out.new }
+    ensures reads { KeepsText CountsReads S.Text result.0 commands.old commands.new }
+    ensures writes { KeepsWriter result.0 out.old out.new }
 {
     let ledger = match ledger_on(alloc, disk) {
         Ok(ledger) => ledger,
         Err((refusal, disk)) => return (Err(Failed::Code(refusal)), disk),
     };
-    let groups = match of_text(COMMANDS, read_commands_counted(alloc, commands)) {
+    let groups = match of_text(COMMANDS, read_commands(alloc, commands)) {
         Ok(groups) => groups,
         Err(failed) => {
             let (_, disk) = ledger.close();
@@ -379,41 +362,4 @@ pub fn apply_counted<D: Disk, R: BufRead, W: Write>(
         }
     };
     apply_groups(alloc, ledger, &groups, out)
-}
-
-/// The same for a text in memory, over any writer, whose failed calls nobody counts.
-pub fn apply_text<D: Disk, W: Write>(
-    alloc: Global,
-    disk: D,
-    commands: &[u8],
-    out: &mut W,
-) -> (Result<(), Failed>, D)
-    ensures applied { ForTidy D.honest D.content disk (λ net version. OnOk result.0
-        (IsApplied net version commands.now (D.content result.1) (D.left result.1) (W.contents out.old) (W.contents out.new))) }
-    ensures cut_off { ForTidy D.honest D.content disk (λ net version. IfErr result.0
-        (λ failed. (StaysSame D.content D.left D.moment D.left_since disk result.1 × (out.new ≡ out.old))
-        ⊎ IsCutOff net version commands.now (D.left result.1) (W.contents out.old) (W.contents out.new) failed)) }
-    ensures any_moment { ForTidy D.honest D.content disk (λ net version.
-        AtAnyMoment D.moment D.left_since D.left disk result.1 (StandsForBeginningOfText net version commands.now)) }
-    ensures told { OnOk result.0 (IsTold (D.honest disk) (D.content disk) commands.now (W.contents out.old) (W.contents out.new)) }
-    ensures refused { IfErr result.0 (IsRefusedApply (D.honest disk) (D.content disk) commands.now InMemory) }
-    ensures order { D.honest disk → IfErr result.0 (λ failed. IfNoMemory failed (HeaderFits (D.content disk))) }
-    ensures failed { CountsDevice (D.failures disk) (D.failures result.1) result.0 }
-    ensures untouched { D.honest disk → IfErr result.0 (λ failed.
-        IfTextOrFileRefused failed (StaysSame D.content D.left D.moment D.left_since disk result.1)) }
-    ensures unwritten { IfErr result.0 (λ failed. IfTextOrFileRefused failed (out.new ≡ out.old)) }
-    ensures honest { D.honest result.1 ↔ D.honest disk }
-{
-    let ledger = match ledger_on(alloc, disk) {
-        Ok(ledger) => ledger,
-        Err((refused, disk)) => return (Err(Failed::Code(refused)), disk),
-    };
-    let groups = match of_text(COMMANDS, parse_commands(alloc, commands)) {
-        Ok(groups) => groups,
-        Err(failed) => {
-            let (_, disk) = ledger.close();
-            return (Err(failed), disk);
-        }
-    };
-    apply_to_writer(alloc, ledger, &groups, out)
 }

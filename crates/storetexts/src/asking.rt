@@ -1,26 +1,26 @@
 // The pairs of a text, asked of a store.
 ghost use Rattle.std.specs.Prelude.{◌≡◌, ◌↔◌, OnOk, IfOk, IfErr, IfSome};
 ghost use Rattle.std.specs.Option.{ForSome};
-ghost use Rattle.dimacs.specs.Counts.{failed_calls, reader_of, IsSameReader};
-ghost use Rattle.dimacs.specs.Texts.{InMemory, OfReader};
+ghost use Rattle.dimacs.specs.Calling.{KeepsText};
+ghost use Rattle.disk.specs.Contents.{Only};
 ghost use Rattle.disk.specs.Moments.{StaysSame};
 ghost use Rattle.rows.specs.Kept.{IsWidth};
-ghost use Rattle.printing.specs.Counting.{failed_writes, writer_of, IsSameWriter};
-ghost use Rattle.printing.specs.Failing.{CountsReads, CountsWrites, LeavesUnwritten};
+ghost use Rattle.printing.specs.Counting.{writer_of};
+ghost use Rattle.printing.specs.Failing.{CountsReads, LeavesUnwritten};
 ghost use Rattle.printing.specs.Widths.{told_width};
+ghost use Rattle.printing.specs.Writers.{KeepsWriter};
 ghost use Rattle.querytexts.specs.Batch.{AnswersAll};
-ghost use Rattle.storetexts.specs.Asked.{IsAsked, IsRefusedAsk};
-ghost use Rattle.disk.specs.Contents.{Only};
+ghost use Rattle.querytexts.specs.Once.{Answers};
 ghost use Rattle.store.specs.Opening.{HeaderFits};
-ghost use Rattle.storetexts.specs.Writers.{Answers};
+ghost use Rattle.storetexts.specs.Asked.{IsAsked, IsRefusedAsk};
 ghost use Rattle.storetexts.specs.Refused.{CountsDevice, IfNoMemory, IsOfStore};
 
-use dimacs::{Counted, Pair, parse_p2p, read_p2p_counted};
+use dimacs::{Pair, Text, read_p2p};
 use disk::Disk;
 use printing::{CountedWriter, Done, Failed, of_text};
 use querytexts::answer_pairs;
 use std::alloc::Global;
-use std::io::{BufRead, Write};
+use std::io::Write;
 use std::thread::Threads;
 use store::{Store, open};
 
@@ -53,33 +53,32 @@ fn ask_opened<T: Threads, D: Disk, W: Write>(
     (answered, store.close())
 }
 
-/// Opens the store on a disk, and writes its version and a right answer to each pair of a reader's `.p2p` text, in their order. The store
+/// Opens the store on a disk, and writes its version and a right answer to each pair of a `.p2p` text, in their order. The store
 /// is opened first, then the text is read whole, then the answers are written. Nodes of the pairs are judged by the store's network.
 /// Nothing is written to the disk, which is handed back.
 ///
 /// Refused is what is refused on opening: no store (40), another format (41), a damaged page (42), a disk that fails (43), want of memory
 /// (11); then a fault of the text, `which` 0; then want of memory for all replies (11). Nothing is written then. 43 is told only where the
 /// disk's count of failures rose. A failed read is fault 10
-/// of the line being read, and a failed write is 12: both are told only where the count of the reader's or the writer's failed calls rose.
-/// After an `Err` reader and writer are not used again.
+/// of the line being read, and a failed write is 12: both are told only where the count of the text's or the writer's failed calls rose.
+/// After an `Err` text and writer are not used again.
 ///
 /// `delta` is the width of a search's buckets, 1 to 2147483647: every width gives the same answers; without one it is the network's
 /// default. Each source is searched once, or each target, where these are fewer, as `answer_pairs` does it.
-pub fn ask_counted<T: Threads, D: Disk, R: BufRead, W: Write>(
+pub fn ask_text<T: Threads, D: Disk, S: Text, W: Write>(
     rt: &T,
     alloc: Global,
     disk: D,
-    p2p: &mut Counted<'_, R>,
+    p2p: &mut S,
     delta: Option<u32>,
     out: &mut CountedWriter<'_, W>,
 ) -> (Result<Done, Failed>, D)
     requires { ForSome delta IsWidth }
     ensures width { IfOk result.0 (λ done. told_width done ≡ delta) }
     // Over any disk the answers are right in the network of the store that was opened.
-    ensures answered { OnOk result.0 (IfSome (R.remaining (reader_of p2p.old))
+    ensures answered { OnOk result.0 (IfSome (S.bytes p2p.old)
         (λ text. IsAsked (D.honest disk) (D.content disk) text (W.contents (writer_of out.old)) (W.contents (writer_of out.new)))) }
-    ensures refused { IfErr result.0 (λ failed. IfSome (R.remaining (reader_of p2p.old))
-        (λ text. IsRefusedAsk (D.honest disk) (D.content disk) text (OfReader (R.remaining (reader_of p2p.new))) failed)) }
+    ensures refused { IfErr result.0 (λ failed. IfSome (S.bytes p2p.old) (λ text. IsRefusedAsk (D.honest disk) (D.content disk) text (S.source p2p.new) failed)) }
     ensures codes { IfErr result.0 IsOfStore }
     // Want of memory is told only where the header fits the file.
     ensures order { D.honest disk → IfErr result.0 (λ failed. IfNoMemory failed (HeaderFits (D.content disk))) }
@@ -91,52 +90,17 @@ pub fn ask_counted<T: Threads, D: Disk, R: BufRead, W: Write>(
     ensures untouched { D.honest disk → StaysSame D.content D.left D.moment D.left_since disk result.1 }
     ensures honest { D.honest result.1 ↔ D.honest disk }
     ensures unwritten { IfErr result.0 (LeavesUnwritten (writer_of out.old) (writer_of out.new)) }
-    ensures reads { CountsReads (failed_calls p2p.old) (failed_calls p2p.new) result.0 }
-    ensures writes { CountsWrites (failed_writes out.old) (failed_writes out.new) result.0 }
-    ensures same_reader { IsSameReader p2p.old p2p.new }
-    ensures same_writer { IsSameWriter out.old out.new }
+    ensures reads { KeepsText CountsReads S.Text result.0 p2p.old p2p.new }
+    ensures writes { KeepsWriter result.0 out.old out.new }
 {
     let store = match open(alloc, disk) {
         Ok(store) => store,
         Err((refusal, disk)) => return (Err(Failed::Code(refusal)), disk),
     };
-    let read = read_p2p_counted(alloc, p2p, store.network().nodes());
+    let read = read_p2p(alloc, p2p, store.network().nodes());
     let pairs = match of_text(PAIRS, read) {
         Ok(pairs) => pairs,
         Err(failed) => return (Err(failed), store.close()),
     };
     ask_opened(rt, alloc, store, &pairs, delta, out)
-}
-
-/// The same for a text in memory, over any writer, whose failed calls nobody counts.
-pub fn ask_text<T: Threads, D: Disk, W: Write>(
-    rt: &T,
-    alloc: Global,
-    disk: D,
-    p2p: &[u8],
-    delta: Option<u32>,
-    out: &mut W,
-) -> (Result<Done, Failed>, D)
-    requires { ForSome delta IsWidth }
-    ensures width { IfOk result.0 (λ done. told_width done ≡ delta) }
-    ensures answered { OnOk result.0 (IsAsked (D.honest disk) (D.content disk) p2p.now (W.contents out.old) (W.contents out.new)) }
-    ensures refused { IfErr result.0 (IsRefusedAsk (D.honest disk) (D.content disk) p2p.now InMemory) }
-    ensures order { D.honest disk → IfErr result.0 (λ failed. IfNoMemory failed (HeaderFits (D.content disk))) }
-    ensures at_rest { D.honest disk → OnOk result.0 (Only (D.content result.1) (D.left result.1)) }
-    ensures failed { CountsDevice (D.failures disk) (D.failures result.1) result.0 }
-    ensures untouched { D.honest disk → StaysSame D.content D.left D.moment D.left_since disk result.1 }
-    ensures honest { D.honest result.1 ↔ D.honest disk }
-    ensures unwritten { IfErr result.0 (LeavesUnwritten out.old out.new) }
-{
-    let store = match open(alloc, disk) {
-        Ok(store) => store,
-        Err((refusal, disk)) => return (Err(Failed::Code(refusal)), disk),
-    };
-    let read = parse_p2p(alloc, p2p, store.network().nodes());
-    let pairs = match of_text(PAIRS, read) {
-        Ok(pairs) => pairs,
-        Err(failed) => return (Err(failed), store.close()),
-    };
-    let mut out = CountedWriter::new(out);
-    ask_opened(rt, alloc, store, &pairs, delta, &mut out)
 }

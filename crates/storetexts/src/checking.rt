@@ -1,14 +1,13 @@
 // A store that is only looked at.
 ghost use Rattle.std.specs.Prelude.{◌↔◌, OnOk, IfErr};
-ghost use Rattle.std.specs.Io.KnownBytes.{Appends};
 ghost use Rattle.disk.specs.Contents.{Only};
 ghost use Rattle.disk.specs.Moments.{StaysSame};
-ghost use Rattle.printing.specs.Counting.{failed_writes, writer_of, IsSameWriter};
-ghost use Rattle.printing.specs.Failing.{CountsWrites, LeavesUnwritten};
+ghost use Rattle.printing.specs.Counting.{writer_of};
+ghost use Rattle.printing.specs.Failing.{LeavesUnwritten};
 ghost use Rattle.store.specs.Opening.{HeaderFits};
 ghost use Rattle.storetexts.specs.Checked.{slot_line, standing_lines, IsChecked, IsRefusedCheck};
 ghost use Rattle.storetexts.specs.Refused.{IfNoMemory, CountsDevice};
-ghost use Rattle.storetexts.specs.Writers.{Puts};
+ghost use Rattle.printing.specs.Writers.{KeepsWriter, Puts};
 
 use disk::Disk;
 use pages::Slot;
@@ -19,8 +18,7 @@ use store::{Standing, inspect};
 
 /// `slot A E` or `slot B E`
 fn put_slot<W: Write>(out: &mut CountedWriter<'_, W>, slot: Slot, epoch: u64) -> Result<(), Failed>
-    ensures ok { OnOk result (Appends (W.contents (writer_of out.old)) (W.contents (writer_of out.new)) (slot_line slot epoch)) }
-    ensures puts { Puts result out.old out.new }
+    ensures { Puts W.contents (slot_line slot epoch) result out.old out.new }
 {
     match slot {
         Slot::A => put_numbered(out, b"slot A ", epoch),
@@ -34,8 +32,7 @@ fn put_standing<W: Write>(
     version: u64,
     standing: Standing,
 ) -> Result<(), Failed>
-    ensures ok { OnOk result (Appends (W.contents (writer_of out.old)) (W.contents (writer_of out.new)) (standing_lines version standing)) }
-    ensures puts { Puts result out.old out.new }
+    ensures { Puts W.contents (standing_lines version standing) result out.old out.new }
 {
     put_version(out, version)?;
     put_slot(out, standing.slot, standing.epoch)?;
@@ -50,7 +47,7 @@ fn put_standing<W: Write>(
 /// Refused is what is refused on opening: no store (40), another format (41), a damaged page (42), a disk that fails (43), want of memory (11), that
 /// only behind a header that fits the file. Nothing is written then. 43 is told only where the disk's count of failures rose. A failed write is 12,
 /// told only where the count of the writer's failed calls rose; the writer is not used again then.
-pub fn check_counted<D: Disk, W: Write>(
+pub fn check_text<D: Disk, W: Write>(
     alloc: Global,
     disk: D,
     out: &mut CountedWriter<'_, W>,
@@ -67,8 +64,7 @@ pub fn check_counted<D: Disk, W: Write>(
     ensures at_rest { D.honest disk → OnOk result.0 (Only (D.content result.1) (D.left result.1)) }
     ensures honest { D.honest result.1 ↔ D.honest disk }
     ensures unwritten { IfErr result.0 (LeavesUnwritten (writer_of out.old) (writer_of out.new)) }
-    ensures writes { CountsWrites (failed_writes out.old) (failed_writes out.new) result.0 }
-    ensures same_writer { IsSameWriter out.old out.new }
+    ensures writes { KeepsWriter result.0 out.old out.new }
 {
     let mut disk = disk;
     let found = match inspect(alloc, &mut disk) {
@@ -77,20 +73,4 @@ pub fn check_counted<D: Disk, W: Write>(
     };
     let told = put_standing(out, found.version, found.standing);
     (told, disk)
-}
-
-/// The same over any writer, whose failed calls nobody counts.
-pub fn check_text<D: Disk, W: Write>(alloc: Global, disk: D, out: &mut W) -> (Result<(), Failed>, D)
-    ensures answered { OnOk result.0 (IsChecked (D.honest disk) (D.content disk) (W.contents out.old) (W.contents out.new)) }
-    ensures refused { IfErr result.0 (IsRefusedCheck (D.honest disk) (D.content disk)) }
-    ensures order { D.honest disk → IfErr result.0 (λ failed. IfNoMemory failed (HeaderFits (D.content disk))) }
-    ensures failed { CountsDevice (D.failures disk) (D.failures result.1) result.0 }
-    ensures untouched { D.honest disk → StaysSame D.content D.left D.moment D.left_since disk result.1 }
-    // What is told no stop takes back.
-    ensures at_rest { D.honest disk → OnOk result.0 (Only (D.content result.1) (D.left result.1)) }
-    ensures honest { D.honest result.1 ↔ D.honest disk }
-    ensures unwritten { IfErr result.0 (LeavesUnwritten out.old out.new) }
-{
-    let mut out = CountedWriter::new(out);
-    check_counted(alloc, disk, &mut out)
 }

@@ -3,26 +3,26 @@ ghost use Rattle.std.specs.Prelude.{◌≡◌, ◌≢◌, ◌⊎◌, ◌≤◌, 
 ghost use Rattle.std.specs.Io.KnownBytes.{Appends};
 ghost use Rattle.std.specs.List.Sorted.{IsStrictlyIncreasing};
 ghost use lib.Chars.{codes};
-ghost use Rattle.dimacs.specs.Counts.{failed_calls, reader_of, IsSameReader};
+ghost use Rattle.dimacs.specs.Calling.{KeepsText};
 ghost use Rattle.dimacs.specs.Landmarks.{AreNodes};
-ghost use Rattle.dimacs.specs.Texts.{InMemory, OfReader};
 ghost use Rattle.disk.specs.Moments.{StaysSame};
-ghost use Rattle.printing.specs.Counting.{failed_writes, writer_of, IsSameWriter};
-ghost use Rattle.printing.specs.Failing.{CountsFirst, CountsSecond, CountsWrites, LeavesUnwritten};
+ghost use Rattle.printing.specs.Counting.{writer_of};
+ghost use Rattle.printing.specs.Failing.{CountsFirst, CountsSecond, LeavesUnwritten};
 ghost use Rattle.printing.specs.Replied.{number_line};
+ghost use Rattle.printing.specs.Writers.{KeepsWriter};
 ghost use Rattle.roadnet.specs.Net.{IsRoomFor, most_landmarks};
 ghost use Rattle.store.specs.Migrating.{room_of, roomed};
 ghost use Rattle.storetexts.specs.Created.{with_landmarks, IsNetworkOf, IsRefusedMarking, IsRefusedPlan, IsRefusedNetwork, IsOfNetwork, IsOfMaking};
 ghost use Rattle.storetexts.specs.Created.{IsRefusedCreate, IsNewStore, IsNewStoreOf};
 ghost use Rattle.storetexts.specs.Refused.{CountsDevice, IfDone, IfNoDevice, IfOfTexts, IfNotEmpty, IfNoMemory};
 
-use dimacs::{Counted, parse_gr, parse_ss, read_gr_counted, read_ss_counted};
+use dimacs::{Text, read_gr, read_ss};
 use disk::Disk;
 use machine::Replied;
 use printing::{CountedWriter, Failed, of_text, put_reply};
 use roadnet::{Command, MOST_LANDMARKS, Network, Refusal};
 use std::alloc::Global;
-use std::io::{BufRead, Write};
+use std::io::Write;
 use store::{create, with_given_room};
 
 const NETWORK: u8 = 0;
@@ -72,42 +72,28 @@ fn planned(network: Network, landmarks: &[u32], room: Option<u64>) -> Result<Net
     }
 }
 
-/// The network of a reader's `.gr` text, with the landmarks of another reader's `.ss` text, and with room for so many arcs, if a number is given.
+/// The network of a `.gr` text, with the landmarks of a `.ss` text, and with room for so many arcs, if a number is given.
 /// Both texts are read whole, the network first, and the first fault decides: `which` is 0 for the network and 1 for the landmarks. Nodes of the
 /// landmarks are judged by the network's number of nodes.
 ///
 /// More than 1,000 landmarks are refused with 27, then want of memory outside the texts with 11, then a room that is none with 9. A failed read is fault
-/// 10 of the text and line being read: it is told only where the count of that reader's failed calls rose. After an `Err` the readers are
+/// 10 of the text and line being read: it is told only where the count of that text's failed calls rose. After an `Err` the texts are
 /// not used again.
-pub fn read_planned<R: BufRead, Q: BufRead>(
+pub fn read_planned<P: Text, Q: Text>(
     alloc: Global,
-    gr: &mut Counted<'_, R>,
-    ss: &mut Counted<'_, Q>,
+    gr: &mut P,
+    ss: &mut Q,
     room: Option<u64>,
 ) -> Result<Network, Failed>
-    ensures network { IfOk result (λ marked. IfSome (R.remaining (reader_of gr.old)) (λ network. IfSome (Q.remaining (reader_of ss.old))
-        (λ landmarks. IsNetworkOf network landmarks room marked))) }
-    ensures refused { IfErr result (λ failed. IfSome (R.remaining (reader_of gr.old)) (λ network. IfSome (Q.remaining (reader_of ss.old))
-        (λ landmarks. IsRefusedNetwork network landmarks room
-        (OfReader (R.remaining (reader_of gr.new))) (OfReader (Q.remaining (reader_of ss.new))) failed))) }
+    ensures network { IfOk result (λ marked. IfSome (P.bytes gr.old) (λ network. IfSome (Q.bytes ss.old) (λ landmarks. IsNetworkOf network landmarks room marked))) }
+    ensures refused { IfErr result (λ failed. IfSome (P.bytes gr.old) (λ network. IfSome (Q.bytes ss.old)
+        (λ landmarks. IsRefusedNetwork network landmarks room (P.source gr.new) (Q.source ss.new) failed))) }
     ensures kinds { IfErr result IsOfNetwork }
-    ensures reads_network { CountsFirst (failed_calls gr.old) (failed_calls gr.new) result }
-    ensures reads_landmarks { CountsSecond (failed_calls ss.old) (failed_calls ss.new) result }
-    ensures same_network_reader { IsSameReader gr.old gr.new }
-    ensures same_landmark_reader { IsSameReader ss.old ss.new }
+    ensures reads_network { KeepsText CountsFirst P.Text result gr.old gr.new }
+    ensures reads_landmarks { KeepsText CountsSecond Q.Text result ss.old ss.new }
 {
-    let network = of_text(NETWORK, read_gr_counted(alloc, gr))?;
-    let landmarks = of_text(LANDMARKS, read_ss_counted(alloc, ss, network.nodes()))?;
-    planned(network, &landmarks, room).map_err(Failed::Code)
-}
-
-/// The same for texts in memory.
-fn parse_planned(alloc: Global, gr: &[u8], ss: &[u8], room: Option<u64>) -> Result<Network, Failed>
-    ensures network { IfOk result (IsNetworkOf gr.now ss.now room) }
-    ensures refused { IfErr result (IsRefusedNetwork gr.now ss.now room InMemory InMemory) }
-{
-    let network = of_text(NETWORK, parse_gr(alloc, gr))?;
-    let landmarks = of_text(LANDMARKS, parse_ss(alloc, ss, network.nodes()))?;
+    let network = of_text(NETWORK, read_gr(alloc, gr))?;
+    let landmarks = of_text(LANDMARKS, read_ss(alloc, ss, network.nodes()))?;
     planned(network, &landmarks, room).map_err(Failed::Code)
 }
 
@@ -137,8 +123,7 @@ pub fn create_store<D: Disk, W: Write>(
     ensures honest { D.honest result.1 ↔ D.honest disk }
     ensures told { OnOk result.0 (Appends (W.contents (writer_of out.old)) (W.contents (writer_of out.new)) (number_line (codes "ok ") 0)) }
     ensures unwritten { IfErr result.0 (LeavesUnwritten (writer_of out.old) (writer_of out.new)) }
-    ensures writes { CountsWrites (failed_writes out.old) (failed_writes out.new) result.0 }
-    ensures same_writer { IsSameWriter out.old out.new }
+    ensures writes { KeepsWriter result.0 out.old out.new }
 {
     let store = match create(alloc, disk, network, journal_pages) {
         Ok(store) => store,
@@ -151,24 +136,22 @@ pub fn create_store<D: Disk, W: Write>(
     (out.flush(), disk)
 }
 
-/// Makes a store on an empty disk, of the network of a reader's `.gr` text with the landmarks of another reader's `.ss` text, and writes
-/// `ok 0`. The texts are read whole, as by `read_planned`, before any call of the disk; then it is `create_store`.
-pub fn create_counted<D: Disk, R: BufRead, Q: BufRead, W: Write>(
+/// Makes a store on an empty disk, of the network of a `.gr` text with the landmarks of a `.ss` text, and writes `ok 0`. The texts are read whole, as by `read_planned`, before any call of the disk; then it is `create_store`.
+pub fn create_text<D: Disk, P: Text, Q: Text, W: Write>(
     alloc: Global,
     disk: D,
-    gr: &mut Counted<'_, R>,
-    ss: &mut Counted<'_, Q>,
+    gr: &mut P,
+    ss: &mut Q,
     journal_pages: u32,
     room: Option<u64>,
     out: &mut CountedWriter<'_, W>,
 ) -> (Result<(), Failed>, D)
     requires some { 1 ≤ journal_pages }
     requires few { journal_pages ≤ 65536 }
-    ensures made { D.honest disk → IfDone result.0 (IfSome (R.remaining (reader_of gr.old)) (λ network. IfSome (Q.remaining (reader_of ss.old))
+    ensures made { D.honest disk → IfDone result.0 (IfSome (P.bytes gr.old) (λ network. IfSome (Q.bytes ss.old)
         (λ landmarks. IsNewStoreOf network landmarks room journal_pages (D.content result.1) (D.left result.1)))) }
-    ensures refused { IfErr result.0 (λ failed. IfSome (R.remaining (reader_of gr.old)) (λ network. IfSome (Q.remaining (reader_of ss.old))
-        (λ landmarks. IsRefusedCreate network landmarks room
-        (OfReader (R.remaining (reader_of gr.new))) (OfReader (Q.remaining (reader_of ss.new))) failed))) }
+    ensures refused { IfErr result.0 (λ failed. IfSome (P.bytes gr.old) (λ network. IfSome (Q.bytes ss.old)
+        (λ landmarks. IsRefusedCreate network landmarks room (P.source gr.new) (Q.source ss.new) failed))) }
     ensures codes { IfErr result.0 (λ failed. IsOfNetwork failed ⊎ IsOfMaking failed) }
     ensures unread { IfErr result.0 (λ failed. IfOfTexts failed (result.1 ≡ disk)) }
     // 46 comes exactly where the disk isn't empty, 43 apart; 11 where it is empty, or before any call of it.
@@ -181,50 +164,12 @@ pub fn create_counted<D: Disk, R: BufRead, Q: BufRead, W: Write>(
     ensures honest { D.honest result.1 ↔ D.honest disk }
     ensures told { OnOk result.0 (Appends (W.contents (writer_of out.old)) (W.contents (writer_of out.new)) (number_line (codes "ok ") 0)) }
     ensures unwritten { IfErr result.0 (LeavesUnwritten (writer_of out.old) (writer_of out.new)) }
-    ensures reads_network { CountsFirst (failed_calls gr.old) (failed_calls gr.new) result.0 }
-    ensures reads_landmarks { CountsSecond (failed_calls ss.old) (failed_calls ss.new) result.0 }
-    ensures writes { CountsWrites (failed_writes out.old) (failed_writes out.new) result.0 }
-    ensures same_network_reader { IsSameReader gr.old gr.new }
-    ensures same_landmark_reader { IsSameReader ss.old ss.new }
-    ensures same_writer { IsSameWriter out.old out.new }
+    ensures reads_network { KeepsText CountsFirst P.Text result.0 gr.old gr.new }
+    ensures reads_landmarks { KeepsText CountsSecond Q.Text result.0 ss.old ss.new }
+    ensures writes { KeepsWriter result.0 out.old out.new }
 {
     match read_planned(alloc, gr, ss, room) {
         Ok(network) => create_store(alloc, disk, &network, journal_pages, out),
-        Err(failed) => (Err(failed), disk),
-    }
-}
-
-/// The same for texts in memory, over any writer, whose failed calls nobody counts.
-pub fn create_text<D: Disk, W: Write>(
-    alloc: Global,
-    disk: D,
-    gr: &[u8],
-    ss: &[u8],
-    journal_pages: u32,
-    room: Option<u64>,
-    out: &mut W,
-) -> (Result<(), Failed>, D)
-    requires some { 1 ≤ journal_pages }
-    requires few { journal_pages ≤ 65536 }
-    ensures made { D.honest disk → IfDone result.0 (IsNewStoreOf gr.now ss.now room journal_pages (D.content result.1) (D.left result.1)) }
-    ensures refused { IfErr result.0 (IsRefusedCreate gr.now ss.now room InMemory InMemory) }
-    ensures unread { IfErr result.0 (λ failed. IfOfTexts failed (result.1 ≡ disk)) }
-    // 46 comes exactly where the disk isn't empty, 43 apart; 11 where it is empty, or before any call of it.
-    ensures empty { D.honest disk → IfDone result.0 (D.content disk ≡ []) }
-    ensures not_empty { D.honest disk → IfErr result.0 (λ failed. IfNotEmpty failed (D.content disk ≢ [])) }
-    ensures order { D.honest disk → IfErr result.0 (λ failed. IfNoMemory failed ((D.content disk ≡ []) ⊎ (result.1 ≡ disk))) }
-    ensures untouched { D.honest disk → IfErr result.0 (λ failed. IfNoDevice failed (StaysSame D.content D.left D.moment D.left_since disk result.1)) }
-    // The disk's count of failures rises where 43 is told, and for no other refusal but a failed write.
-    ensures failed { CountsDevice (D.failures disk) (D.failures result.1) result.0 }
-    ensures honest { D.honest result.1 ↔ D.honest disk }
-    ensures told { OnOk result.0 (Appends (W.contents out.old) (W.contents out.new) (number_line (codes "ok ") 0)) }
-    ensures unwritten { IfErr result.0 (LeavesUnwritten out.old out.new) }
-{
-    match parse_planned(alloc, gr, ss, room) {
-        Ok(network) => {
-            let mut out = CountedWriter::new(out);
-            create_store(alloc, disk, &network, journal_pages, &mut out)
-        }
         Err(failed) => (Err(failed), disk),
     }
 }

@@ -1,13 +1,12 @@
 // A store's network, written out as texts.
-ghost use Rattle.std.specs.Prelude.{◌≡◌, OnOk, IfErr};
-ghost use Rattle.std.specs.Io.KnownBytes.{Appends};
-ghost use Rattle.printing.specs.Counting.{failed_writes, writer_of, IsSameWriter, CountsFailure};
+ghost use Rattle.std.specs.Prelude.{OnOk};
+ghost use Rattle.printing.specs.Counting.{writer_of};
+ghost use Rattle.printing.specs.Writers.{Puts};
 ghost use Rattle.printing.specs.Exports.{text_of, exported_rows, Says, Writes};
 ghost use Rattle.storetexts.specs.Exported.{origin_of, ExportRestores};
 
 use disk::Disk;
 use printing::{CountedWriter, Exported, Failed, Origin, put_exported};
-use roadnet::Refusal;
 use std::io::Write;
 use store::Store;
 
@@ -17,17 +16,13 @@ use store::Store;
 ///
 /// `create` with the network and the landmarks, with the store's room, and then `apply` with the closings make a store of the same network and the
 /// same landmarks.
-pub fn export_counted<D: Disk, W: Write>(
+pub fn export_text<D: Disk, W: Write>(
     store: &Store<D>,
     text: Exported,
     out: &mut CountedWriter<'_, W>,
 ) -> Result<(), Failed>
-    ensures spelled { OnOk result (Appends (W.contents (writer_of out.old)) (W.contents (writer_of out.new))
-        (text_of (exported_rows text store.now.network (origin_of store.now.version store.now.journal_pages)))) }
+    ensures spelled { Puts W.contents (text_of (exported_rows text store.now.network (origin_of store.now.version store.now.journal_pages))) result out.old out.new }
     ensures written { OnOk result (Writes (Says text store.now.network) (W.contents (writer_of out.old)) (W.contents (writer_of out.new))) }
-    ensures refused { IfErr result (λ failed. failed ≡ Failed.Code Refusal.Write) }
-    ensures counts { CountsFailure (failed_writes out.old) (failed_writes out.new) result }
-    ensures same { IsSameWriter out.old out.new }
 {
     let origin = Origin {
         version: store.version(),
@@ -35,21 +30,6 @@ pub fn export_counted<D: Disk, W: Write>(
     };
     put_exported(out, text, store.network(), &origin)?;
     out.flush()
-}
-
-/// The same over any writer, whose failed calls nobody counts.
-pub fn export_text<D: Disk, W: Write>(
-    store: &Store<D>,
-    text: Exported,
-    out: &mut W,
-) -> Result<(), Failed>
-    ensures spelled { OnOk result (Appends (W.contents out.old) (W.contents out.new)
-        (text_of (exported_rows text store.now.network (origin_of store.now.version store.now.journal_pages)))) }
-    ensures written { OnOk result (Writes (Says text store.now.network) (W.contents out.old) (W.contents out.new)) }
-    ensures refused { IfErr result (λ failed. failed ≡ Failed.Code Refusal.Write) }
-{
-    let mut out = CountedWriter::new(out);
-    export_counted(store, text, &mut out)
 }
 
 /// What holds of the texts in which a network is written out: they give it back.

@@ -8,6 +8,7 @@ ghost use Rattle.pages.specs.declared.content.Format.TheVariants.{One as one, Tw
 ghost use Rattle.printing.specs.Counting.{failed_writes, writer_of, IsSameWriter};
 ghost use Rattle.printing.specs.Failing.{CountsWrites, LeavesUnwritten};
 ghost use Rattle.printing.specs.Replied.{number_line};
+ghost use Rattle.printing.specs.Writers.{KeepsWriter};
 ghost use Rattle.storetexts.specs.Moved.{CountsMove, IsMoved, IsOfMove, IsRefusedForNew, IsRefusedForOld, TellsMoved};
 ghost use Rattle.storetexts.specs.Refused.{IfDone, IfNoDevice};
 
@@ -52,7 +53,7 @@ fn tell_made<D: Disk, W: Write>(
 /// Refused, the first that holds, is a new disk that is not empty (46), what opening refuses of the old store (40 to 42), a room below the number of
 /// arcs or above 67,108,864 (9), and want of memory (11); a disk that fails is told as 43. The new disk is untouched then, but at 43, and nothing
 /// is written. A failed write (12) is told where the store is there, and its line could not be. After an `Err` the writer is not used again.
-pub fn copy_counted<O: Disk, D: Disk, W: Write>(
+pub fn copy_text<O: Disk, D: Disk, W: Write>(
     alloc: Global,
     old: &mut O,
     new: D,
@@ -75,39 +76,10 @@ pub fn copy_counted<O: Disk, D: Disk, W: Write>(
     ensures same { D.honest new → IfErr result.0 (λ failed. IfNoDevice failed (StaysSame D.content D.left D.moment D.left_since new result.1)) }
     ensures unwritten { IfErr result.0 (LeavesUnwritten (writer_of out.old) (writer_of out.new)) }
     ensures honest { (O.honest old.new ↔ O.honest old.old) × (D.honest result.1 ↔ D.honest new) }
-    ensures writes { CountsWrites (failed_writes out.old) (failed_writes out.new) result.0 }
-    ensures same_writer { IsSameWriter out.old out.new }
+    ensures writes { KeepsWriter result.0 out.old out.new }
 {
     let made = copy(alloc, old, new, room, journal);
     tell_made(made, out)
-}
-
-/// The same over any writer, whose failed calls nobody counts.
-pub fn copy_text<O: Disk, D: Disk, W: Write>(
-    alloc: Global,
-    old: &mut O,
-    new: D,
-    room: Option<u64>,
-    journal: Option<u32>,
-    out: &mut W,
-) -> (Result<(), Failed>, D)
-    requires journal { ForSome journal (λ pages. (1 ≤ pages) × (pages ≤ 65536)) }
-    ensures made { O.honest old.old → D.honest new → IfDone result.0 (IsMoved two (O.content old.old) room journal (D.content result.1) (D.left result.1)) }
-    ensures told { OnOk result.0 (TellsMoved two (O.honest old.old) (O.content old.old) (W.contents out.old) (W.contents out.new)) }
-    // Each refusal rests on one disk: 46 on the new one, which is empty at each other but 43; 40 to 42, 9 and 11 on the old one. Whatever the disks, it is one of these, 43 or 12.
-    ensures refused_for_new { D.honest new → IfErr result.0 (IsRefusedForNew (D.content new)) }
-    ensures refused_for_old { O.honest old.old → IfErr result.0 (IsRefusedForOld two (O.content old.old) room) }
-    ensures codes { IfErr result.0 IsOfMove }
-    ensures empty { D.honest new → IfDone result.0 (D.content new ≡ []) }
-    // Where 43 is told, one call of one of the disks has failed; and else none.
-    ensures counted { CountsMove (O.failures old.old) (O.failures old.new) (D.failures new) (D.failures result.1) result.0 }
-    ensures untouched { O.honest old.old → StaysSame O.content O.left O.moment O.left_since old.old old.new }
-    ensures same { D.honest new → IfErr result.0 (λ failed. IfNoDevice failed (StaysSame D.content D.left D.moment D.left_since new result.1)) }
-    ensures unwritten { IfErr result.0 (LeavesUnwritten out.old out.new) }
-    ensures honest { (O.honest old.new ↔ O.honest old.old) × (D.honest result.1 ↔ D.honest new) }
-{
-    let mut counted = CountedWriter::new(out);
-    copy_counted(alloc, old, new, room, journal, &mut counted)
 }
 
 /// Makes a store on the empty disk `new` of the store of format 1 on the disk `old`, at its version and with its journal pages, and with room for so many
@@ -118,7 +90,7 @@ pub fn copy_text<O: Disk, D: Disk, W: Write>(
 /// (40 to 42), a room below the number of arcs or above 67,108,864 (9), and want of memory (11); a disk that fails is told as 43. The new disk is
 /// untouched then, but at 43, and nothing is written. A failed write (12) is told where the store is there, and its line could not be. After an
 /// `Err` the writer is not used again.
-pub fn migrate_counted<O: Disk, D: Disk, W: Write>(
+pub fn migrate_text<O: Disk, D: Disk, W: Write>(
     alloc: Global,
     old: &mut O,
     new: D,
@@ -139,35 +111,8 @@ pub fn migrate_counted<O: Disk, D: Disk, W: Write>(
     ensures same { D.honest new → IfErr result.0 (λ failed. IfNoDevice failed (StaysSame D.content D.left D.moment D.left_since new result.1)) }
     ensures unwritten { IfErr result.0 (LeavesUnwritten (writer_of out.old) (writer_of out.new)) }
     ensures honest { (O.honest old.new ↔ O.honest old.old) × (D.honest result.1 ↔ D.honest new) }
-    ensures writes { CountsWrites (failed_writes out.old) (failed_writes out.new) result.0 }
-    ensures same_writer { IsSameWriter out.old out.new }
+    ensures writes { KeepsWriter result.0 out.old out.new }
 {
     let made = migrate(alloc, old, new, room);
     tell_made(made, out)
-}
-
-/// The same over any writer, whose failed calls nobody counts.
-pub fn migrate_text<O: Disk, D: Disk, W: Write>(
-    alloc: Global,
-    old: &mut O,
-    new: D,
-    room: Option<u64>,
-    out: &mut W,
-) -> (Result<(), Failed>, D)
-    ensures made { O.honest old.old → D.honest new → IfDone result.0 (IsMoved one (O.content old.old) room None (D.content result.1) (D.left result.1)) }
-    ensures told { OnOk result.0 (TellsMoved one (O.honest old.old) (O.content old.old) (W.contents out.old) (W.contents out.new)) }
-    // Each refusal rests on one disk: 46 on the new one, which is empty at each other but 43; 40 to 42, 9 and 11 on the old one. Whatever the disks, it is one of these, 43 or 12.
-    ensures refused_for_new { D.honest new → IfErr result.0 (IsRefusedForNew (D.content new)) }
-    ensures refused_for_old { O.honest old.old → IfErr result.0 (IsRefusedForOld one (O.content old.old) room) }
-    ensures codes { IfErr result.0 IsOfMove }
-    ensures empty { D.honest new → IfDone result.0 (D.content new ≡ []) }
-    // Where 43 is told, one call of one of the disks has failed; and else none.
-    ensures counted { CountsMove (O.failures old.old) (O.failures old.new) (D.failures new) (D.failures result.1) result.0 }
-    ensures untouched { O.honest old.old → StaysSame O.content O.left O.moment O.left_since old.old old.new }
-    ensures same { D.honest new → IfErr result.0 (λ failed. IfNoDevice failed (StaysSame D.content D.left D.moment D.left_since new result.1)) }
-    ensures unwritten { IfErr result.0 (LeavesUnwritten out.old out.new) }
-    ensures honest { (O.honest old.new ↔ O.honest old.old) × (D.honest result.1 ↔ D.honest new) }
-{
-    let mut counted = CountedWriter::new(out);
-    migrate_counted(alloc, old, new, room, &mut counted)
 }

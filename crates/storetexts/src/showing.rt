@@ -1,15 +1,14 @@
 // The arcs of a store's network, looked at.
 ghost use Rattle.std.specs.Prelude.{◌↔◌, OnOk, IfErr};
-ghost use Rattle.std.specs.Io.KnownBytes.{Appends};
 ghost use Rattle.disk.specs.Contents.{Only};
 ghost use Rattle.disk.specs.Moments.{StaysSame};
-ghost use Rattle.printing.specs.Counting.{failed_writes, writer_of, IsSameWriter};
-ghost use Rattle.printing.specs.Failing.{CountsWrites, LeavesUnwritten};
+ghost use Rattle.printing.specs.Counting.{writer_of};
+ghost use Rattle.printing.specs.Failing.{LeavesUnwritten};
 ghost use Rattle.printing.specs.Looks.{look_lines};
 ghost use Rattle.store.specs.Opening.{HeaderFits};
 ghost use Rattle.storetexts.specs.Shown.{IsShown, IsRefusedShow};
 ghost use Rattle.storetexts.specs.Refused.{IfNoMemory, CountsDevice};
-ghost use Rattle.storetexts.specs.Writers.{Puts};
+ghost use Rattle.printing.specs.Writers.{KeepsWriter, Puts};
 
 use disk::Disk;
 use printing::{CountedWriter, Failed, Look, put_look};
@@ -25,8 +24,7 @@ fn put_shown<W: Write>(
     version: u64,
     look: Look,
 ) -> Result<(), Failed>
-    ensures ok { OnOk result (Appends (W.contents (writer_of out.old)) (W.contents (writer_of out.new)) (look_lines network.now version look)) }
-    ensures puts { Puts result out.old out.new }
+    ensures { Puts W.contents (look_lines network.now version look) result out.old out.new }
 {
     put_look(out, network, version, look)?;
     out.flush()
@@ -38,7 +36,7 @@ fn put_shown<W: Write>(
 /// Refused is what is refused on opening: no store (40), another format (41), a damaged page (42), a disk that fails (43), want of memory (11), that
 /// only behind a header that fits the file. Nothing is written then. 43 is told only where the disk's count of failures rose. A failed write is 12,
 /// told only where the count of the writer's failed calls rose; the writer is not used again then.
-pub fn show_counted<D: Disk, W: Write>(
+pub fn show_text<D: Disk, W: Write>(
     alloc: Global,
     disk: D,
     look: Look,
@@ -56,8 +54,7 @@ pub fn show_counted<D: Disk, W: Write>(
     ensures at_rest { D.honest disk → OnOk result.0 (Only (D.content result.1) (D.left result.1)) }
     ensures honest { D.honest result.1 ↔ D.honest disk }
     ensures unwritten { IfErr result.0 (LeavesUnwritten (writer_of out.old) (writer_of out.new)) }
-    ensures writes { CountsWrites (failed_writes out.old) (failed_writes out.new) result.0 }
-    ensures same_writer { IsSameWriter out.old out.new }
+    ensures writes { KeepsWriter result.0 out.old out.new }
 {
     let store = match open(alloc, disk) {
         Ok(store) => store,
@@ -65,25 +62,4 @@ pub fn show_counted<D: Disk, W: Write>(
     };
     let told = put_shown(out, store.network(), store.version(), look);
     (told, store.close())
-}
-
-/// The same over any writer, whose failed calls nobody counts.
-pub fn show_text<D: Disk, W: Write>(
-    alloc: Global,
-    disk: D,
-    look: Look,
-    out: &mut W,
-) -> (Result<(), Failed>, D)
-    ensures answered { OnOk result.0 (IsShown (D.honest disk) (D.content disk) look (W.contents out.old) (W.contents out.new)) }
-    ensures refused { IfErr result.0 (IsRefusedShow (D.honest disk) (D.content disk)) }
-    ensures order { D.honest disk → IfErr result.0 (λ failed. IfNoMemory failed (HeaderFits (D.content disk))) }
-    ensures failed { CountsDevice (D.failures disk) (D.failures result.1) result.0 }
-    ensures untouched { D.honest disk → StaysSame D.content D.left D.moment D.left_since disk result.1 }
-    // What is told no stop takes back.
-    ensures at_rest { D.honest disk → OnOk result.0 (Only (D.content result.1) (D.left result.1)) }
-    ensures honest { D.honest result.1 ↔ D.honest disk }
-    ensures unwritten { IfErr result.0 (LeavesUnwritten out.old out.new) }
-{
-    let mut out = CountedWriter::new(out);
-    show_counted(alloc, disk, look, &mut out)
 }

@@ -1,23 +1,22 @@
 // A store brought to a new map of its roads, in a new file.
 ghost use Rattle.std.specs.Prelude.{◌≡◌, ◌≢◌, ◌≤◌, ◌↔◌, [], OnOk, IfOk, IfErr, IfSome};
 ghost use Rattle.std.specs.Io.KnownBytes.{Appends};
-ghost use Rattle.dimacs.specs.Counts.{failed_calls, reader_of, IsSameReader};
-ghost use Rattle.dimacs.specs.Texts.{OfReader};
+ghost use Rattle.dimacs.specs.Calling.{KeepsText};
 ghost use Rattle.disk.specs.Moments.{StaysSame};
-ghost use Rattle.printing.specs.Counting.{failed_writes, writer_of, IsSameWriter};
-ghost use Rattle.printing.specs.Failing.{CountsFirst, CountsSecond, CountsWrites, LeavesUnwritten};
+ghost use Rattle.printing.specs.Counting.{writer_of};
+ghost use Rattle.printing.specs.Failing.{CountsFirst, CountsSecond, LeavesUnwritten};
 ghost use Rattle.storetexts.specs.Created.{IsNewStore, IsOfMaking};
 ghost use Rattle.storetexts.specs.Refused.{CountsDevice, IfDone, IfNoDevice, IfNotEmpty, IfNoMemory};
 ghost use Rattle.storetexts.specs.Upgraded.{arc_lines, fit_pages, upgrade_lines, AreMapsOf, AreRefusedMaps, IsOfMaps};
-ghost use Rattle.storetexts.specs.Writers.{Puts};
+ghost use Rattle.printing.specs.Writers.{KeepsWriter, Puts};
 ghost use Rattle.storetexts.specs.Upgraded.{IsRefusedUpgrade, IsUpgradeBy, IsUpgradedStore, MayRefuseStored, TellsUpgrade};
 
-use dimacs::{Counted, read_gr_counted};
+use dimacs::{Text, read_gr};
 use disk::Disk;
 use printing::{CountedWriter, Failed, of_text, put_numbered};
 use roadnet::{Network, Refusal};
 use std::alloc::Global;
-use std::io::{BufRead, Write};
+use std::io::Write;
 use store::{create, open, with_given_room};
 use upgrades::{Counts, upgraded};
 
@@ -25,29 +24,26 @@ const OLD: u8 = 0;
 
 const NEW: u8 = 1;
 
-/// The maps of two readers' `.gr` texts: the old one, and the new one with room for so many arcs, if a number is given. Both texts are read whole,
+/// The maps of two `.gr` texts: the old one, and the new one with room for so many arcs, if a number is given. Both texts are read whole,
 /// the old one first, and the first fault decides: `which` is 0 for the old map and 1 for the new one; then a room that is none for the new one is
-/// refused with 9. A failed read is fault 10 of the text and line being read: it is told only where the count of that reader's failed calls rose.
-/// After an `Err` the readers are not used again.
-pub fn read_maps<R: BufRead, Q: BufRead>(
+/// refused with 9. A failed read is fault 10 of the text and line being read: it is told only where the count of that text's failed calls rose.
+/// After an `Err` the texts are not used again.
+pub fn read_maps<P: Text, Q: Text>(
     alloc: Global,
-    before: &mut Counted<'_, R>,
-    after: &mut Counted<'_, Q>,
+    before: &mut P,
+    after: &mut Q,
     room: Option<u64>,
 ) -> Result<(Network, Network), Failed>
-    ensures maps { IfOk result (λ maps. IfSome (R.remaining (reader_of before.old)) (λ first. IfSome (Q.remaining (reader_of after.old))
-        (λ second. AreMapsOf first second room maps.0 maps.1))) }
+    ensures maps { IfOk result (λ maps. IfSome (P.bytes before.old) (λ first. IfSome (Q.bytes after.old) (λ second. AreMapsOf first second room maps.0 maps.1))) }
     ensures bare { IfOk result (λ maps. maps.1.landmarks ≡ []) }
-    ensures refused { IfErr result (λ failed. IfSome (R.remaining (reader_of before.old)) (λ first. IfSome (Q.remaining (reader_of after.old))
-        (λ second. AreRefusedMaps first second room (OfReader (R.remaining (reader_of before.new))) (OfReader (Q.remaining (reader_of after.new))) failed))) }
+    ensures refused { IfErr result (λ failed. IfSome (P.bytes before.old) (λ first. IfSome (Q.bytes after.old)
+        (λ second. AreRefusedMaps first second room (P.source before.new) (Q.source after.new) failed))) }
     ensures kinds { IfErr result IsOfMaps }
-    ensures reads_old { CountsFirst (failed_calls before.old) (failed_calls before.new) result }
-    ensures reads_new { CountsSecond (failed_calls after.old) (failed_calls after.new) result }
-    ensures same_old_reader { IsSameReader before.old before.new }
-    ensures same_new_reader { IsSameReader after.old after.new }
+    ensures reads_old { KeepsText CountsFirst P.Text result before.old before.new }
+    ensures reads_new { KeepsText CountsSecond Q.Text result after.old after.new }
 {
-    let old = of_text(OLD, read_gr_counted(alloc, before))?;
-    let map = of_text(NEW, read_gr_counted(alloc, after))?;
+    let old = of_text(OLD, read_gr(alloc, before))?;
+    let map = of_text(NEW, read_gr(alloc, after))?;
     match with_given_room(map, room) {
         Ok(new) => Ok((old, new)),
         Err(refused) => Err(Failed::Code(refused.0)),
@@ -102,8 +98,7 @@ pub fn upgrade_stored<O: Disk>(
 
 /// `kept K`, `added A`, `gone G`, `doubtful D`
 fn put_arc_counts<W: Write>(out: &mut CountedWriter<'_, W>, counts: Counts) -> Result<(), Failed>
-    ensures ok { OnOk result (Appends (W.contents (writer_of out.old)) (W.contents (writer_of out.new)) (arc_lines counts)) }
-    ensures puts { Puts result out.old out.new }
+    ensures { Puts W.contents (arc_lines counts) result out.old out.new }
 {
     put_numbered(out, b"kept ", counts.kept)?;
     put_numbered(out, b"added ", counts.added)?;
@@ -113,8 +108,7 @@ fn put_arc_counts<W: Write>(out: &mut CountedWriter<'_, W>, counts: Counts) -> R
 
 /// The same, and `landmarks gone L` and `ok 0`.
 fn put_upgrade<W: Write>(out: &mut CountedWriter<'_, W>, counts: Counts) -> Result<(), Failed>
-    ensures ok { OnOk result (Appends (W.contents (writer_of out.old)) (W.contents (writer_of out.new)) (upgrade_lines counts)) }
-    ensures puts { Puts result out.old out.new }
+    ensures { Puts W.contents (upgrade_lines counts) result out.old out.new }
 {
     put_arc_counts(out, counts)?;
     put_numbered(out, b"landmarks gone ", counts.landmarks_gone)?;
@@ -146,8 +140,7 @@ pub fn make_upgraded<D: Disk, W: Write>(
     ensures honest { D.honest result.1 ↔ D.honest disk }
     ensures told { OnOk result.0 (Appends (W.contents (writer_of out.old)) (W.contents (writer_of out.new)) (upgrade_lines counts)) }
     ensures unwritten { IfErr result.0 (LeavesUnwritten (writer_of out.old) (writer_of out.new)) }
-    ensures writes { CountsWrites (failed_writes out.old) (failed_writes out.new) result.0 }
-    ensures same_writer { IsSameWriter out.old out.new }
+    ensures writes { KeepsWriter result.0 out.old out.new }
 {
     let store = match create(alloc, disk, network, journal_pages) {
         Ok(store) => store,
@@ -167,35 +160,32 @@ pub fn make_upgraded<D: Disk, W: Write>(
 /// Refused, the first that holds, is a fault of the text of the old map, `which` 0, or of the new one, `which` 1; a room that is none for the new map
 /// (9); what is refused on opening the store (40 to 42); an old map that is not that of which it was made (52); a new disk that is not empty (46). A
 /// disk that fails is told as 43, want of memory as 11. Nothing is written then, and the new disk is untouched, but at 43. A failed write (12) is
-/// told where the store is there, and its lines could not be. After an `Err` the readers and the writer are not used again.
-pub fn upgrade_counted<O: Disk, D: Disk, R: BufRead, Q: BufRead, W: Write>(
+/// told where the store is there, and its lines could not be. After an `Err` the texts and the writer are not used again.
+pub fn upgrade_text<O: Disk, D: Disk, P: Text, Q: Text, W: Write>(
     alloc: Global,
     stored: O,
-    before: &mut Counted<'_, R>,
-    after: &mut Counted<'_, Q>,
+    before: &mut P,
+    after: &mut Q,
     new: D,
     room: Option<u64>,
     out: &mut CountedWriter<'_, W>,
 ) -> (Result<(), Failed>, O, D)
     ensures made { O.honest stored → D.honest new → IfDone result.0
-        (IfSome (R.remaining (reader_of before.old)) (λ first. IfSome (Q.remaining (reader_of after.old))
+        (IfSome (P.bytes before.old) (λ first. IfSome (Q.bytes after.old)
         (λ second. IsUpgradedStore (O.honest stored) (O.content stored) first second room (D.content result.2) (D.left result.2)))) }
-    ensures told { OnOk result.0 (IfSome (R.remaining (reader_of before.old)) (λ first. IfSome (Q.remaining (reader_of after.old))
+    ensures told { OnOk result.0 (IfSome (P.bytes before.old) (λ first. IfSome (Q.bytes after.old)
         (λ second. TellsUpgrade (O.honest stored) (O.content stored) first second room (W.contents (writer_of out.old)) (W.contents (writer_of out.new))))) }
-    ensures refused { IfErr result.0 (λ failed. IfSome (R.remaining (reader_of before.old)) (λ first. IfSome (Q.remaining (reader_of after.old))
+    ensures refused { IfErr result.0 (λ failed. IfSome (P.bytes before.old) (λ first. IfSome (Q.bytes after.old)
         (λ second. IsRefusedUpgrade (O.honest stored) (O.content stored) first second room
-        (OfReader (R.remaining (reader_of before.new))) (OfReader (Q.remaining (reader_of after.new))) failed))) }
+        (P.source before.new) (Q.source after.new) failed))) }
     ensures empty { D.honest new → IfDone result.0 (D.content new ≡ []) }
     ensures untouched { O.honest stored → StaysSame O.content O.left O.moment O.left_since stored result.1 }
     ensures same { D.honest new → IfErr result.0 (λ failed. IfNoDevice failed (StaysSame D.content D.left D.moment D.left_since new result.2)) }
     ensures honest { (O.honest result.1 ↔ O.honest stored) × (D.honest result.2 ↔ D.honest new) }
     ensures unwritten { IfErr result.0 (LeavesUnwritten (writer_of out.old) (writer_of out.new)) }
-    ensures reads_old { CountsFirst (failed_calls before.old) (failed_calls before.new) result.0 }
-    ensures reads_new { CountsSecond (failed_calls after.old) (failed_calls after.new) result.0 }
-    ensures writes { CountsWrites (failed_writes out.old) (failed_writes out.new) result.0 }
-    ensures same_old_reader { IsSameReader before.old before.new }
-    ensures same_new_reader { IsSameReader after.old after.new }
-    ensures same_writer { IsSameWriter out.old out.new }
+    ensures reads_old { KeepsText CountsFirst P.Text result.0 before.old before.new }
+    ensures reads_new { KeepsText CountsSecond Q.Text result.0 after.old after.new }
+    ensures writes { KeepsWriter result.0 out.old out.new }
 {
     let maps = match read_maps(alloc, before, after, room) {
         Ok(maps) => maps,

@@ -3,10 +3,10 @@
 use crate::asking::suppose;
 use deltastep::{Distances, NodeDistance, plain_row};
 use fixtures::{drawn, six_with};
-use relax::Solo;
 use roadnet::{Command, Network, Refusal};
-use rows::Reply;
+use rows::{Near, Reply};
 use std::alloc::Global;
+use std::thread::Threads;
 use suppositions::Supposed;
 
 /// Whether just these nodes were told, with these distances and in this order.
@@ -27,6 +27,70 @@ fn are(told: &[NodeDistance], want: &[(u32, u64)]) -> bool {
     true
 }
 
+/// What is asked, and the nodes that are told of it.
+const TOLD: [(Near, &[(u32, u64)]); 4] = [
+    (
+        Near::Reach {
+            source: 1,
+            limit: 10,
+        },
+        &[(1, 0), (3, 10), (5, 10)],
+    ),
+    (
+        Near::Reached {
+            target: 4,
+            limit: 2,
+        },
+        &[(2, 2), (4, 0)],
+    ),
+    (
+        Near::Nearest {
+            source: 1,
+            count: 2,
+        },
+        &[(3, 10), (2, 17)],
+    ),
+    (
+        Near::Nearest {
+            source: 3,
+            count: 4,
+        },
+        &[(3, 0), (6, 20)],
+    ),
+];
+
+const REFUSED: [Near; 3] = [
+    Near::Reach {
+        source: 7,
+        limit: 10,
+    },
+    Near::Reached {
+        target: 0,
+        limit: 10,
+    },
+    Near::Nearest {
+        source: 7,
+        count: 1,
+    },
+];
+
+/// The first of these that is told otherwise.
+fn told_otherwise<R: Threads>(
+    rt: &R,
+    alloc: Global,
+    supposed: &mut Supposed,
+    table: &[(Near, &[(u32, u64)])],
+) -> Result<Option<usize>, Refusal> {
+    for at in 0..table.len() {
+        let (near, want) = table[at];
+        let told = supposed.near(rt, alloc, near)?;
+        if !are(&told, want) {
+            return Ok(Some(at));
+        }
+    }
+    Ok(None)
+}
+
 /// Arc 7 is closed, and the nodes 2 and 3 are made landmarks. It is run with each allocation failing in turn.
 #[test]
 fn around_nodes_with_arc_seven_supposed_closed(rt: HostRuntime) -> Result<(), Refusal> {
@@ -38,26 +102,11 @@ fn around_nodes_with_arc_seven_supposed_closed(rt: HostRuntime) -> Result<(), Re
         Command::Mark { node: 2 },
     ];
     let mut supposed = suppose(alloc, &network, &commands)?;
-    let told = supposed.reach(alloc, 1, 10, &Solo)?;
-    assert!(rt; are(&told, &[(1, 0), (3, 10), (5, 10)]));
-    let told = supposed.reached(alloc, 4, 2, &Solo)?;
-    assert!(rt; are(&told, &[(2, 2), (4, 0)]));
-    let told = supposed.nearest(alloc, 1, 2, &Solo)?;
-    assert!(rt; are(&told, &[(3, 10), (2, 17)]));
-    let told = supposed.nearest(alloc, 3, 4, &Solo)?;
-    assert!(rt; are(&told, &[(3, 0), (6, 20)]));
-    assert_eq!(rt;
-        supposed.reach(alloc, 7, 10, &Solo).err(),
-        Some(Refusal::NoSuchNode)
-    );
-    assert_eq!(rt;
-        supposed.reached(alloc, 0, 10, &Solo).err(),
-        Some(Refusal::NoSuchNode)
-    );
-    assert_eq!(rt;
-        supposed.nearest(alloc, 7, 1, &Solo).err(),
-        Some(Refusal::NoSuchNode)
-    );
+    assert_eq!(rt; told_otherwise(&rt, alloc, &mut supposed, &TOLD)?, None);
+    for near in REFUSED {
+        let refused = supposed.near(&rt, alloc, near).err();
+        assert_eq!(rt; refused, Some(Refusal::NoSuchNode));
+    }
     Ok(())
 }
 
@@ -70,7 +119,8 @@ fn told_by(row: &Distances, target: u64) -> Reply {
 }
 
 /// How many lengths from this source are others than those of its plain row in the network after the commands.
-fn differences_from(
+fn differences_from<R: Threads>(
+    rt: &R,
     alloc: Global,
     supposed: &mut Supposed,
     row: &Distances,
@@ -78,10 +128,10 @@ fn differences_from(
 ) -> Result<u64, Refusal> {
     let mut differ: u64 = 0;
     for target in 1..11 {
-        if supposed.dist(alloc, source, target, &Solo)? != told_by(row, target) {
+        if supposed.dist(rt, alloc, source, target)? != told_by(row, target) {
             differ = differ.saturating_add(1);
         }
-        let replies = supposed.table(alloc, &[source], &[target], &Solo)?;
+        let replies = supposed.table(rt, alloc, &[(source, target)])?;
         if replies.as_slice() != [told_by(row, target)].as_slice() {
             differ = differ.saturating_add(1);
         }
@@ -90,7 +140,12 @@ fn differences_from(
 }
 
 /// How many lengths are others than those of plain rows in the network after the commands, carried out one after the other.
-fn differences(alloc: Global, network: &Network, commands: &[Command]) -> Result<u64, Refusal> {
+fn differences<R: Threads>(
+    rt: &R,
+    alloc: Global,
+    network: &Network,
+    commands: &[Command],
+) -> Result<u64, Refusal> {
     let mut supposed = suppose(alloc, network, commands)?;
     let mut after = network.copy()?;
     for command in commands {
@@ -101,7 +156,7 @@ fn differences(alloc: Global, network: &Network, commands: &[Command]) -> Result
         let Ok(row) = plain_row(alloc, &after, source) else {
             return Err(Refusal::OutOfMemory);
         };
-        let more = differences_from(alloc, &mut supposed, &row, u64::from(source))?;
+        let more = differences_from(rt, alloc, &mut supposed, &row, u64::from(source))?;
         differ = differ.saturating_add(more);
     }
     Ok(differ)
@@ -117,7 +172,7 @@ fn lengths_beside_plain_rows(rt: HostRuntime) -> Result<(), Refusal> {
             Command::Set { arc: 9, length: 40 },
             Command::Mark { node: 5 },
         ];
-        assert_eq!(rt; differences(alloc, &network, &commands)?, 0);
+        assert_eq!(rt; differences(&rt, alloc, &network, &commands)?, 0);
     }
     Ok(())
 }

@@ -1,10 +1,10 @@
 //! Lengths and tables in a network that is supposed, as they were worked out by hand, and groups of which nothing is supposed.
 
 use fixtures::six_with;
-use relax::Solo;
 use roadnet::{Command, Group, Network, Refusal};
 use rows::{Query, Reply};
 use std::alloc::{AllocError, Global};
+use std::thread::Threads;
 use suppositions::Supposed;
 
 /// What is supposed of the network of version 4, after these commands as a group.
@@ -18,11 +18,16 @@ pub(crate) fn suppose(
 }
 
 /// The reply to a query.
-fn ask(alloc: Global, supposed: &mut Supposed, query: Query) -> Result<Reply, Refusal> {
+fn ask<R: Threads>(
+    rt: &R,
+    alloc: Global,
+    supposed: &mut Supposed,
+    query: Query,
+) -> Result<Reply, Refusal> {
     match query {
-        Query::Dist { source, target } => Ok(supposed.dist(alloc, source, target, &Solo)?),
+        Query::Dist { source, target } => Ok(supposed.dist(rt, alloc, source, target)?),
         Query::From { landmark, target } => {
-            Ok(supposed.from_landmark(alloc, landmark, target, &Solo)?)
+            Ok(supposed.from_landmark(rt, alloc, landmark, target)?)
         }
         Query::Lower {
             source: _,
@@ -32,14 +37,15 @@ fn ask(alloc: Global, supposed: &mut Supposed, query: Query) -> Result<Reply, Re
 }
 
 /// The first of these queries whose reply is another.
-fn goes_otherwise(
+fn goes_otherwise<R: Threads>(
+    rt: &R,
     alloc: Global,
     supposed: &mut Supposed,
     table: &[(Query, Reply)],
 ) -> Result<Option<usize>, Refusal> {
     for at in 0..table.len() {
         let (query, reply) = table[at];
-        if ask(alloc, supposed, query)? != reply {
+        if ask(rt, alloc, supposed, query)? != reply {
             return Ok(Some(at));
         }
     }
@@ -75,9 +81,10 @@ fn lengths_with_arc_seven_supposed_closed(rt: HostRuntime) -> Result<(), Refusal
         (from(1, 4), Reply::Refused(Refusal::NotALandmark)),
         (from(1, 7), Reply::Refused(Refusal::NoSuchNode)),
     ];
-    assert_eq!(rt; goes_otherwise(alloc, &mut supposed, &table)?, None);
+    assert_eq!(rt; goes_otherwise(&rt, alloc, &mut supposed, &table)?, None);
     assert_eq!(rt; supposed.version(), 4);
-    let replies = supposed.table(alloc, &[1, 6, 1], &[6, 1], &Solo)?;
+    let pairs = [(1, 6), (1, 1), (6, 6), (6, 1), (1, 6), (1, 1)];
+    let replies = supposed.table(&rt, alloc, &pairs)?;
     let want = [
         Reply::Length(22),
         Reply::Length(0),
@@ -87,7 +94,7 @@ fn lengths_with_arc_seven_supposed_closed(rt: HostRuntime) -> Result<(), Refusal
         Reply::Length(0),
     ];
     assert!(rt; replies.as_slice() == want.as_slice());
-    let refused = supposed.table(alloc, &[1, 7], &[6], &Solo).err();
+    let refused = supposed.table(&rt, alloc, &[(1, 6), (7, 6)]).err();
     assert_eq!(rt; refused, Some(Refusal::NoSuchNode));
     Ok(())
 }

@@ -1,5 +1,5 @@
 use crate::faults::{Row, failed_behind, fault_of};
-use dimacs::{Code, Counted, Fault, parse_gr, read_gr, read_gr_before_run, read_gr_counted};
+use dimacs::{Code, Counted, Fault, parse_gr, read_gr, read_gr_before_run};
 use fixtures::{FailingReader, SIX, arc};
 use roadnet::Network;
 use std::alloc::{AllocError, Global};
@@ -40,13 +40,13 @@ fn read_in_parts(alloc: Global, capacity: usize, text: &[u8]) -> Result<Network,
             code: Code::OutOfMemory,
         });
     };
-    read_gr(alloc, &mut reader)
+    read_gr(alloc, &mut Counted::new(&mut reader))
 }
 
 /// The network of a text that a reader has as a whole.
 fn read_whole(alloc: Global, text: &[u8]) -> Result<Network, Fault> {
     let mut rest = text;
-    read_gr(alloc, &mut rest)
+    read_gr(alloc, &mut Counted::new(&mut rest))
 }
 
 /// Whether a text has this fault, in memory and by a reader.
@@ -365,7 +365,7 @@ fn read_failing(alloc: Global, reads: u32, kind: ErrorKind) -> (Result<bool, Fau
         return (Ok(false), 0);
     };
     let mut counted = Counted::new(&mut reader);
-    let read = read_gr_counted(alloc, &mut counted);
+    let read = read_gr(alloc, &mut counted);
     let failed = counted.failed_calls();
     match read {
         Ok(network) => (Ok(is_six(&network)), failed),

@@ -1,5 +1,5 @@
 //! Numerals with many digits, of texts that are read in parts of sixteen bytes.
-use dimacs::{Code, Fault, Pair, read_commands, read_gr, read_p2p, read_ss};
+use dimacs::{Code, Counted, Fault, Pair, read_commands, read_gr, read_p2p, read_ss};
 use roadnet::{Command, Group, RoadArc};
 use std::alloc::{AllocError, Global};
 use std::io::BufReader;
@@ -53,14 +53,15 @@ fn last_number(alloc: Global, kind: Kind, text: &[u8]) -> Result<u64, Fault> {
             code: Code::OutOfMemory,
         });
     };
+    let mut counted = Counted::new(&mut reader);
     match kind {
         Kind::Network => {
-            let network = read_gr(alloc, &mut reader)?;
+            let network = read_gr(alloc, &mut counted)?;
             Ok(last_length(network.arcs()))
         }
-        Kind::Landmarks => Ok(last_node(&read_ss(alloc, &mut reader, 6)?)),
-        Kind::Pairs => Ok(last_target(&read_p2p(alloc, &mut reader, 6)?)),
-        Kind::Commands => Ok(last_closed(&read_commands(alloc, &mut reader)?)),
+        Kind::Landmarks => Ok(last_node(&read_ss(alloc, &mut counted, 6)?)),
+        Kind::Pairs => Ok(last_target(&read_p2p(alloc, &mut counted, 6)?)),
+        Kind::Commands => Ok(last_closed(&read_commands(alloc, &mut counted)?)),
     }
 }
 

@@ -2,13 +2,13 @@
 
 use crate::faults::{Row, failed_behind};
 use dimacs::{
-    Code, Counted, Fault, Pair, parse_commands, parse_p2p, parse_ss, read_commands,
-    read_commands_counted, read_p2p, read_p2p_counted, read_ss, read_ss_counted,
+    Code, Counted, Fault, Pair, Text, parse_commands, parse_p2p, parse_ss, read_commands, read_p2p,
+    read_ss,
 };
 use fixtures::FailingReader;
 use roadnet::{Command, Group};
 use std::alloc::Global;
-use std::io::{BufRead, BufReader};
+use std::io::BufReader;
 use std::test::Fail;
 
 const LANDMARKS: &[u8] = b"c of six nodes\r\n\tp  aux sp ss 3\r\n\r\ns 6\r\ncs 1\n s\t03 \ns 6";
@@ -111,12 +111,12 @@ fn parsed(alloc: Global, kind: Kind, text: &[u8]) -> Result<Told, Fault> {
     }
 }
 
-/// What a reader's text tells.
-fn read_from<R: BufRead>(alloc: Global, kind: Kind, reader: &mut R) -> Result<Told, Fault> {
+/// What a text tells that is read.
+fn read_from<S: Text>(alloc: Global, kind: Kind, text: &mut S) -> Result<Told, Fault> {
     match kind {
-        Kind::Landmarks => told_landmarks(read_ss(alloc, reader, 6)),
-        Kind::Pairs => told_pairs(read_p2p(alloc, reader, 6)),
-        Kind::Commands => told_commands(read_commands(alloc, reader)),
+        Kind::Landmarks => told_landmarks(read_ss(alloc, text, 6)),
+        Kind::Pairs => told_pairs(read_p2p(alloc, text, 6)),
+        Kind::Commands => told_commands(read_commands(alloc, text)),
     }
 }
 
@@ -128,7 +128,7 @@ fn read_in_parts(alloc: Global, kind: Kind, capacity: usize, text: &[u8]) -> Res
             code: Code::OutOfMemory,
         });
     };
-    read_from(alloc, kind, &mut reader)
+    read_from(alloc, kind, &mut Counted::new(&mut reader))
 }
 
 /// The first text of the table that has another fault, in memory or by a reader, if there is one.
@@ -137,7 +137,9 @@ fn first_not_refused(alloc: Global, kind: Kind, table: &[Row]) -> Option<usize> 
         let (text, line, code) = table[at];
         let fault = Err(Fault { line, code });
         let mut rest = text;
-        if parsed(alloc, kind, text) != fault || read_from(alloc, kind, &mut rest) != fault {
+        if parsed(alloc, kind, text) != fault
+            || read_from(alloc, kind, &mut Counted::new(&mut rest)) != fault
+        {
             return Some(at);
         }
     }
@@ -319,11 +321,7 @@ fn read_failing(alloc: Global, kind: Kind, text: &[u8], reads: u32) -> (Result<T
         return (Ok(Told::Other), 0);
     };
     let mut counted = Counted::new(&mut reader);
-    let told = match kind {
-        Kind::Landmarks => told_landmarks(read_ss_counted(alloc, &mut counted, 6)),
-        Kind::Pairs => told_pairs(read_p2p_counted(alloc, &mut counted, 6)),
-        Kind::Commands => told_commands(read_commands_counted(alloc, &mut counted)),
-    };
+    let told = read_from(alloc, kind, &mut counted);
     (told, counted.failed_calls())
 }
 

@@ -1,20 +1,20 @@
 // What a desk's threads owe its callers. Each play has its moves, and what is told of them; the bodies that it refuses are named above it.
 use crate::boards::{FREE, Post, Rule, SHUT};
-use crate::playing::{CLOSE, Move, Play, SHORTER, outcome_of};
-use desk::Setup;
+use crate::playing::{CLOSE, Given, Move, Play, SHORTER, outcome_of};
 use roadnet::{Command, Refusal};
 use std::test::Fail;
 
 /// One row worker, and searches by the network's default width.
-const ALONE: Setup = Setup {
+pub(crate) const ALONE: Given = Given {
     delta: None,
     workers: 1,
+    patience: 30_000,
 };
 
 /// A desk with one landmark and one row worker, whose disk does not fail and whose gate holds nobody.
-const PLAIN: Play<'static> = Play {
+pub(crate) const PLAIN: Play<'static> = Play {
     landmarks: &[3],
-    setup: ALONE,
+    given: ALONE,
     more_arcs: 0,
     journal_pages: 64,
     failing: 0,
@@ -25,10 +25,10 @@ const PLAIN: Play<'static> = Play {
 };
 
 /// So many calls of the opening come before those of a desk: then a flush has five.
-const OPENING: u64 = 9;
+pub(crate) const OPENING: u64 = 9;
 
 /// The first three calls are answered so.
-const fn short(answers: [bool; 3]) -> Rule {
+pub(crate) const fn short(answers: [bool; 3]) -> Rule {
     Rule {
         passes: u64::MAX,
         answers,
@@ -325,7 +325,11 @@ fn views_are_built_by_the_setup(rt: HostRuntime) -> Result<(), Fail> {
     ] {
         let at = Play {
             landmarks: &[1, 2, 3, 4, 5, 6],
-            setup: Setup { delta, workers },
+            given: Given {
+                delta,
+                workers,
+                ..ALONE
+            },
             moves: &[
                 Move::Width,
                 Move::Submit(CLOSE),

@@ -8,6 +8,8 @@ mod duties;
 #[cfg(test)]
 mod playing;
 #[cfg(test)]
+mod refusals;
+#[cfg(test)]
 mod stores;
 #[cfg(test)]
 mod waking;

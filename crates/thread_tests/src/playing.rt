@@ -9,8 +9,8 @@ use crate::boards::{Board, Post, Rule, Watch};
 use crate::stores::{Kept, store_of_six};
 use crate::waking::wake;
 use desk::{
-    Closed, Desk, Gate, Handle, History, Naming, Reader, ServeRuntime, ServedDisk, ServedGate,
-    ServedNaming, Setup, Ticket,
+    Closed, Desk, Gate, Handle, History, Naming, Reader, Refused, ServeRuntime, ServedDisk,
+    ServedGate, ServedNaming, Setup, Ticket,
 };
 use disk::Disk;
 use roadnet::{Command, Group, Refusal};
@@ -20,7 +20,7 @@ use std::collections::VecDeque;
 use std::marker::{Brand, PhantomData};
 use std::sync::{Arc, Wait};
 use std::thread::Threads;
-use std::time::Clock;
+use std::time::{Clock, Duration};
 use store::{Store, open};
 
 pub(crate) const CLOSE: Command = Command::Close { arc: 7 };
@@ -34,6 +34,8 @@ pub(crate) enum Move {
     Submit(Command),
     /// A group of these commands is. Told is its number.
     Group(&'static [Command]),
+    /// A command is offered, and the basis of its refusal settled. Told is for what it is refused, or why the basis isn't settled; or its number.
+    Decline(Command),
     /// So many commands more. Told is the last number.
     Fill(u32),
     /// The oldest ticket is settled, and is gone then. Told is its number.
@@ -46,6 +48,8 @@ pub(crate) enum Move {
     SeeLast,
     /// So many commands, each settled before the next. Told is the last number.
     SettleEach(u32),
+    /// This version is waited for. Told is how many groups lead to what is shown.
+    Until(u64),
     /// A new reader looks, and is asked from node 1 to node 6 and back. Told are the version and the distance; there is no way back.
     Look,
     /// The gate is waited for, until it was asked so often. Told is nothing, unless that does not come.
@@ -66,11 +70,31 @@ pub(crate) enum Move {
     Width,
 }
 
+/// How a desk is set up: as `Setup`, with its patience in milliseconds.
+#[derive(Clone, Copy)]
+pub(crate) struct Given {
+    pub(crate) delta: Option<u32>,
+    pub(crate) workers: u32,
+    pub(crate) patience: u64,
+}
+
+impl Given {
+    /// The desk's setup.
+    fn setup(self) -> Setup {
+        Setup {
+            delta: self.delta,
+            workers: self.workers,
+            patience: Duration::from_millis(self.patience),
+            pairs: 0,
+        }
+    }
+}
+
 /// A desk, its gate, and what is done with it.
 #[derive(Clone, Copy)]
 pub(crate) struct Play<'a> {
     pub(crate) landmarks: &'a [u32],
-    pub(crate) setup: Setup,
+    pub(crate) given: Given,
     /// How many arcs the network has beside those of the worked rows.
     pub(crate) more_arcs: u32,
     pub(crate) journal_pages: u32,
@@ -97,6 +121,21 @@ fn submit<N: Naming, D: Disk + Drop, G: Gate + Drop, R: Wait + Copy>(
     command: Command,
 ) -> Result<u64, Refusal> {
     keep(tickets, desk.submit(command)?)
+}
+
+/// Offers a command, and settles the basis of its refusal.
+fn decline<N: Naming, D: Disk + Drop, G: Gate + Drop, R: Wait + Copy>(
+    desk: &Handle<N, D, G, R>,
+    command: Command,
+) -> Result<u64, Refusal> {
+    let Refused { refusal, basis } = match desk.offer(Group::one(command)) {
+        Ok(ticket) => return Ok(ticket.ticket().number),
+        Err(refused) => refused,
+    };
+    if let Some(basis) = basis {
+        desk.settle_basis(&basis)?;
+    }
+    Err(refusal)
 }
 
 /// Keeps a ticket. Told is its number.
@@ -178,6 +217,14 @@ fn see<N: Naming, D: Disk + Drop, G: Gate + Drop, R: Wait + Copy>(
     };
     desk.wait_shown(&held.ticket)?;
     Ok(held.ticket.ticket().number)
+}
+
+/// Waits for a version.
+fn until<N: Naming, D: Disk + Drop, G: Gate + Drop, R: Wait + Clock + Copy>(
+    desk: &Handle<N, D, G, R>,
+    version: u64,
+) -> Result<u64, Refusal> {
+    Ok(desk.wait_version(version)?.groups().len())
 }
 
 /// What is told of a call that answers a number.
@@ -280,12 +327,14 @@ fn play_move<N: ServedNaming, D: ServedDisk, G: ServedGate, R: ServeRuntime>(
     match step {
         Move::Submit(command) => text_of(alloc, submit(desk, tickets, command)),
         Move::Group(commands) => text_of(alloc, submit_group(alloc, desk, tickets, commands)),
+        Move::Decline(command) => text_of(alloc, decline(desk, command)),
         Move::Fill(count) => text_of(alloc, fill(desk, tickets, count)),
         Move::SettleEach(count) => text_of(alloc, settle_each(desk, tickets, count)),
         Move::Settle => text_of(alloc, settle(desk, tickets.pop_front())),
         Move::SettleLast => text_of(alloc, settle(desk, tickets.pop_back())),
         Move::See => text_of(alloc, see(desk, tickets.front())),
         Move::SeeLast => text_of(alloc, see(desk, tickets.back())),
+        Move::Until(version) => text_of(alloc, until(desk, version)),
         Move::Look => look(rt, alloc, desk),
         Move::Await(post, times) => await_call(rt, alloc, board, post, times),
         Move::Let(post, passes) => {
@@ -403,7 +452,7 @@ pub(crate) fn outcome_of<R: ServeRuntime>(
     play: &Play<'_>,
 ) -> Result<String, Refusal> {
     let pages = play.journal_pages;
-    let setup = play.setup;
+    let setup = play.given.setup();
     if pages < 1 || pages > 65536 || setup.workers < 1 || setup.workers > 64 {
         return Err(Refusal::NumberRange);
     }

@@ -1,10 +1,10 @@
 //! Distances by guided searches, beside rows.
 
-use deltastep::{Distances, RowError, Workspace, row};
+use deltastep::{Distances, Workspace, row};
 use fixtures::{drawn, six_with};
 use relax::Solo;
 use roadnet::{Command, Network, Refusal};
-use rows::View;
+use rows::{Reply, View};
 use std::alloc::Global;
 
 /// The distance between two nodes by a search that the view's landmarks lead.
@@ -19,9 +19,12 @@ fn distance(
     if source == 0 || target == 0 || source > nodes || target > nodes {
         return Err(Refusal::NoSuchNode);
     }
-    match view.distance_in(alloc, source, target, &Solo, workspace) {
-        Ok(distance) => Ok(distance),
-        Err(RowError::OutOfMemory) => Err(Refusal::OutOfMemory),
+    match view
+        .asker()
+        .distance(alloc, source, target, &Solo, workspace)?
+    {
+        Reply::Length(length) => Ok(Some(length)),
+        _ => Ok(None),
     }
 }
 

@@ -4,6 +4,8 @@
 #[cfg(test)]
 mod answering;
 #[cfg(test)]
+mod asking;
+#[cfg(test)]
 mod batching;
 #[cfg(test)]
 mod compared;
@@ -11,7 +13,5 @@ mod compared;
 mod guiding;
 #[cfg(test)]
 mod reaching;
-#[cfg(test)]
-mod renewing;
 #[cfg(test)]
 mod viewing;

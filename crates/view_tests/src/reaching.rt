@@ -1,10 +1,10 @@
 //! Nodes within a limit and nearest landmarks, as they were worked out by hand, and beside rows.
 
-use deltastep::{Distances, NodeDistance, RowError, Workspace, plain_row};
+use deltastep::{Distances, NodeDistance, Workspace, plain_row};
 use fixtures::{drawn, six_with};
 use relax::Solo;
 use roadnet::{Command, Network, Refusal};
-use rows::View;
+use rows::{Near, View};
 use std::alloc::Global;
 
 /// Whether just these nodes were told, with these distances and in this order.
@@ -33,25 +33,19 @@ enum Asked {
     Nearest(u32),
 }
 
-/// What the view tells of the nodes around this one.
-fn ask(
-    alloc: Global,
-    view: &View,
-    node: u32,
-    asked: Asked,
-    workspace: &mut Workspace,
-) -> Result<Vec<NodeDistance>, Refusal> {
-    if node == 0 || node > view.network().nodes() {
-        return Err(Refusal::NoSuchNode);
-    }
-    let told = match asked {
-        Asked::Reach(limit) => view.reach_in(alloc, node, limit, &Solo, workspace),
-        Asked::Reached(limit) => view.reached_in(alloc, node, limit, &Solo, workspace),
-        Asked::Nearest(count) => view.nearest_in(alloc, node, count, &Solo, workspace),
-    };
-    match told {
-        Ok(told) => Ok(told),
-        Err(RowError::OutOfMemory) => Err(Refusal::OutOfMemory),
+/// What is asked of the nodes around this one.
+fn near(node: u32, asked: Asked) -> Near {
+    let source = u64::from(node);
+    match asked {
+        Asked::Reach(limit) => Near::Reach { source, limit },
+        Asked::Reached(limit) => Near::Reached {
+            target: source,
+            limit,
+        },
+        Asked::Nearest(count) => Near::Nearest {
+            source,
+            count: u64::from(count),
+        },
     }
 }
 
@@ -64,7 +58,8 @@ fn tells(
     want: &[(u32, u64)],
     workspace: &mut Workspace,
 ) -> Result<bool, Refusal> {
-    let told = ask(alloc, view, node, asked, workspace)?;
+    let asker = view.asker();
+    let told = asker.near(alloc, near(node, asked), None, &Solo, workspace)?;
     Ok(are(&told, want))
 }
 

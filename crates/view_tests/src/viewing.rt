@@ -5,8 +5,8 @@ ghost use Rattle.rows.specs.Pins.{HasOwnRows};
 use crate::answering::{Kind, query};
 use fixtures::{arc, six, six_with};
 use relax::Solo;
-use roadnet::{Command, Network, OutOfMemory, Refusal, RoadArc};
-use rows::{Pinned, Reply, Row, RowCache, Searches, View, answer_plain};
+use roadnet::{Command, OutOfMemory, Refusal, RoadArc};
+use rows::{Pinned, Reply, Row, RowCache, View, answer_plain};
 use std::alloc::Global;
 use std::thread::Threads;
 
@@ -287,45 +287,6 @@ fn rows_give_way(rt: HostRuntime) -> Result<(), Refusal> {
     assert_eq!(rt; other, None);
     assert!(rt; told == (Reply::Length(15), [0, 1, 0]));
     assert_eq!(rt; capacity_of_sixteen(rt.alloc()), 16);
-    Ok(())
-}
-
-/// The three replies, if memory was wanting for none.
-fn all_three(
-    first: Result<Reply, OutOfMemory>,
-    second: Result<Reply, OutOfMemory>,
-    again: Result<Reply, OutOfMemory>,
-) -> Result<(Reply, Reply, Reply), OutOfMemory> {
-    Ok((first?, second?, again?))
-}
-
-/// The replies to `Dist` of two sources in turn, by searches that keep so many rows.
-fn search_in_turn<R: Threads>(
-    rt: &R,
-    alloc: Global,
-    network: &Network,
-    capacity: u32,
-) -> Result<(Reply, Reply, Reply), OutOfMemory>
-    requires { (1 ≤ capacity) × (capacity ≤ 64) }
-{
-    let mut searches = Searches::new(alloc, None, capacity);
-    all_three(
-        searches.dist(rt, alloc, network, 1, 6),
-        searches.dist(rt, alloc, network, 2, 1),
-        searches.dist(rt, alloc, network, 1, 4),
-    )
-}
-
-#[test]
-fn searches_of_alternating_sources(rt: HostRuntime) -> Result<(), Refusal> {
-    let network = six(rt.alloc())?;
-    for capacity in [1, 16, 64] {
-        assert!(rt;
-            search_in_turn(&rt, rt.alloc(), &network, capacity)?
-                == (Reply::Length(15), Reply::NoWalk, Reply::Length(12)),
-            "{capacity}"
-        );
-    }
     Ok(())
 }
 

@@ -247,7 +247,8 @@ const JOBS: [(&str, Job<'static>); 28] = [
     ),
 ];
 
-/// Words of `serve`, and for what they ask: the store, the names of its pipes with blanks between them, the folder of copies, the width and the row workers.
+/// Words of `serve`, and for what they ask: the store, the names of its pipes with blanks between them, the folder of copies, the width, the row workers, the names of the pipes
+/// at which clients ask alone, and the seconds of patience.
 type Served = (
     &'static str,
     &'static str,
@@ -255,10 +256,12 @@ type Served = (
     Option<&'static str>,
     Option<u32>,
     u32,
+    &'static str,
+    u32,
 );
 
-const SERVED: [Served; 8] = [
-    ("roadmark serve s", "s", "", None, None, 4),
+const SERVED: [Served; 13] = [
+    ("roadmark serve s", "s", "", None, None, 4, "", 30),
     (
         "roadmark serve s --workers=64 --delta 9",
         "s",
@@ -266,9 +269,20 @@ const SERVED: [Served; 8] = [
         None,
         Some(9),
         64,
+        "",
+        30,
     ),
-    ("roadmark serve s a b", "s", "a b", None, None, 4),
-    ("roadmark serve s a b c d", "s", "a b c d", None, None, 4),
+    ("roadmark serve s a b", "s", "a b", None, None, 4, "", 30),
+    (
+        "roadmark serve s a b c d",
+        "s",
+        "a b c d",
+        None,
+        None,
+        4,
+        "",
+        30,
+    ),
     (
         "roadmark serve --delta 9 s b a --workers 1 c d",
         "s",
@@ -276,9 +290,29 @@ const SERVED: [Served; 8] = [
         None,
         Some(9),
         1,
+        "",
+        30,
     ),
-    ("roadmark serve -- s --a b", "s", "--a b", None, None, 4),
-    ("roadmark serve s --copies d", "s", "", Some("d"), None, 4),
+    (
+        "roadmark serve -- s --a b",
+        "s",
+        "--a b",
+        None,
+        None,
+        4,
+        "",
+        30,
+    ),
+    (
+        "roadmark serve s --copies d",
+        "s",
+        "",
+        Some("d"),
+        None,
+        4,
+        "",
+        30,
+    ),
     (
         "roadmark serve --copies=d/e s a b --workers 1",
         "s",
@@ -286,6 +320,58 @@ const SERVED: [Served; 8] = [
         Some("d/e"),
         None,
         1,
+        "",
+        30,
+    ),
+    (
+        "roadmark serve s --asking c d",
+        "s",
+        "",
+        None,
+        None,
+        4,
+        "c d",
+        30,
+    ),
+    (
+        "roadmark serve s a b --asking c d e f --workers 2",
+        "s",
+        "a b",
+        None,
+        None,
+        2,
+        "c d e f",
+        30,
+    ),
+    (
+        "roadmark serve s a b c d --asking e f --asking g h",
+        "s",
+        "a b c d",
+        None,
+        None,
+        4,
+        "e f g h",
+        30,
+    ),
+    (
+        "roadmark serve --copies d --asking c d --delta 9 s a b",
+        "s",
+        "a b",
+        Some("d"),
+        Some(9),
+        4,
+        "c d",
+        30,
+    ),
+    (
+        "roadmark serve s --patience 86400",
+        "s",
+        "",
+        None,
+        None,
+        4,
+        "",
+        86_400,
     ),
 ];
 
@@ -297,10 +383,10 @@ fn each_word_is_its_job(rt: HostRuntime) -> Result<(), Fail> {
     Ok(())
 }
 
-/// The names of these pairs, in their order, are these, which have blanks between them.
-fn have_names(pipes: &[PipePair<'_>], names: &str) -> bool {
+/// The names of those pairs at which clients ask alone, or of the others, in their order, are these, which have blanks between them.
+fn have_names(pipes: &[PipePair<'_>], asks_alone: bool, names: &str) -> bool {
     let mut names = names.split_whitespace();
-    for pair in pipes {
+    for pair in pipes.iter().filter(|pair| pair.asks_alone == asks_alone) {
         if names.next() != Some(pair.input) || names.next() != Some(pair.output) {
             return false;
         }
@@ -320,13 +406,19 @@ fn ask_to_serve<R: Abort + AllocGlobal>(rt: &R, row: Served) -> Result<(), Fail>
                     copies,
                     delta,
                     workers,
+                    patience,
                 },
                 verbose: false,
             },
         ) => {
-            let is_named = store == row.1 && have_names(pipes.as_slice(), row.2);
+            let is_named = store == row.1 && have_names(pipes.as_slice(), false, row.2);
             assert!(rt; is_named && copies == row.3, "{}", row.0);
-            assert!(rt; delta == row.4 && workers == row.5, "{}", row.0);
+            assert!(rt; have_names(pipes.as_slice(), true, row.6), "{}", row.0);
+            assert!(rt;
+                delta == row.4 && workers == row.5 && patience == row.7,
+                "{}",
+                row.0
+            );
         }
         Ok(asked) => assert!(rt; false, "{}: {asked:?}", row.0),
         Err(usage) => assert!(rt; false, "{}: {}", row.0, usage.text),
@@ -366,7 +458,7 @@ fn words_that_ask_to_tell(rt: HostRuntime) -> Result<(), Fail> {
     Ok(())
 }
 
-/// Each pair has its two names in their order. Refused are bodies that lose a pair, swap its names, or take one pair alone.
+/// Each pair has its two names in their order. Refused are bodies that lose a pair, swap its names, take one pair alone, or let clients change the network at those behind `--asking`.
 #[test]
 fn pairs_of_pipes(rt: HostRuntime) -> Result<(), Fail> {
     for row in SERVED {
@@ -401,6 +493,12 @@ fn misuses_of_pipes(rt: HostRuntime) -> Result<(), Fail> {
         (118, " a p0", "named twice"),
         (118, " p117 a", "named twice"),
         (2, " a b c a", "named twice"),
+        (2, " --asking a", "named alone"),
+        (1, " --asking a", "named alone"),
+        (1, " --asking a b", "named alone"),
+        (60, " --asking a b p0 c", "named twice"),
+        (0, " --asking a b b c", "named twice"),
+        (118, " --asking a b c d", "more than 120"),
     ];
     for (count, more, told) in table {
         let words = with_pipes(rt.alloc(), count, more)?;
@@ -424,6 +522,13 @@ fn misuses_of_words(rt: HostRuntime) -> Result<(), Fail> {
         "roadmark serve s t t",
         "roadmark serve s --workers 0",
         "roadmark serve s --workers 65",
+        "roadmark serve s --patience 0",
+        "roadmark serve s --patience 86401",
+        "roadmark apply s d --patience 1",
+        "roadmark serve s --asking",
+        "roadmark serve --asking a b",
+        "roadmark serve s a --asking b",
+        "roadmark check s --asking a b",
         "roadmark twice",
         "roadmark --gamma",
         "roadmark once",
@@ -556,7 +661,7 @@ fn help_of_words(rt: HostRuntime) -> Result<(), Fail> {
     let show = "<STORE>|<K|T>|[H]|Example: roadmark show";
     let export = "<STORE>|<FOLDER>|closed.commands|Example: roadmark export";
     let serve =
-        "standard input|<STORE>|[IN OUT]|--copies <FOLDER>|--workers <W>|--delta <D>|--verbose|Lines of a session|Example: printf";
+        "standard input|<STORE>|[IN OUT]|--asking <IN OUT>|--copies <FOLDER>|--workers <W>|--patience <S>|--delta <D>|--verbose|Lines of a session|Example: printf";
     let table = [
         ("roadmark --help", words),
         ("roadmark once --help", once),

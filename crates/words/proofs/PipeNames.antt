@@ -1,14 +1,16 @@
 -- The names of pairs of pipes, one after the other.
 use Rattle.std.proofs.Common.{◌≡◌, ◌+◌, ◌*◌, ◌/◌, ◌≢◌, ℕ, zero, suc, ◌∙◌, List, [], ◌∷◌, ◌++◌, Option, Some, None, slice_get, option_map, unwrap_or, length, take, ap, refl, sym, subst, arith}
-use Rattle.std.proofs.Common.{◌<◌, ◌≤◌, Bool, true, false, ltb, Result, Ok, Err, IfOk}
+use Rattle.std.proofs.Common.{◌<◌, ◌≤◌, ◌⊎◌, inl, inr, ⊎_elim, Bool, true, false, ltb, Result, Ok, Err, IfOk}
+use Rattle.std.specs.Prelude.{IfErr, nat_le}
 use Rattle.std.proofs.lemmas.Bool.{ltb-true, ltb-false}
-use Rattle.std.proofs.lemmas.List.{length-map}
+use Rattle.std.proofs.lemmas.List.{length-map, map-append}
 use Rattle.std.proofs.Common.{bytes_eq, slice_index_or}
 use Rattle.std.proofs.lemmas.Slice.Eq.{bytes_eq-Decides}
 use Rattle.std.proofs.lemmas.Option.{slice_get-map, slice_get-get_or}
 use Rattle.words.specs.declared.pipes.Misfit.{Misfit}
+use Rattle.words.specs.declared.pipes.Misfit.TheVariants.{LonePipe}
 use Rattle.std.specs.Borrow.{Bor}
-use Rattle.words.specs.Pipes.{names_of, texts, AreDifferent, AreFit}
+use Rattle.words.specs.Pipes.{names_of, texts, AreDifferent, AreFit, AreMisfit, ArePairs, AreUnfit, AskBehind}
 use Rattle.words.specs.declared.pipes.PipePair.{PipePair}
 
 -- a pair more has two names more
@@ -119,16 +121,56 @@ other_texts words i j d i_less j_less other same =
     other
 
 -- the first names make the pairs so far, and two more a pair more
-pub pair_more : (words : List (Bor (List ℕ))) (old new : List PipePair) (k : ℕ) (d : Bor (List ℕ)) → k < length words / 2
-    → new ≡ old ++ record { input = slice_index_or words (2 * k) d; output = slice_index_or words (2 * k + 1) d } ∷ []
+pub pair_more : (words : List (Bor (List ℕ))) (old new : List PipePair) (k : ℕ) (d : Bor (List ℕ)) (asks : Bool) → k < length words / 2
+    → new ≡ old ++ record { input = slice_index_or words (2 * k) d; output = slice_index_or words (2 * k + 1) d; asks_alone = asks } ∷ []
     → names_of old ≡ take (2 * k) (texts words) → names_of new ≡ take (2 * (k + 1)) (texts words)
-pair_more words old new k d less more had =
+pair_more words old new k d asks less more had =
     let x = slice_index_or words (2 * k) d in
     let y = slice_index_or words (2 * k + 1) d in
-    let pair : PipePair = record { input = x; output = y } in
+    let pair : PipePair = record { input = x; output = y; asks_alone = asks } in
     let first = slice_get-get_or words (2 * k) d (omega arith) in
     let step : 2 * k + 1 ≡ suc (2 * k) = omega arith in
     let second = subst (λ (m : ℕ). slice_get words m ≡ Some y) step (slice_get-get_or words (2 * k + 1) d (omega arith)) in
     let two : suc (suc (2 * k)) ≡ 2 * (k + 1) = omega arith in
     ap names_of more ∙ names_more old pair ∙ ap (λ (names : List (List ℕ)). names ++ x.now ∷ y.now ∷ []) had
     ∙ sym (texts_two words (2 * k) x y first second) ∙ ap (λ (n : ℕ). take n (texts words)) two
+
+-- what stands in a list with one element more
+pub of_more : {X : Type 0} (xs : List X) (x y : X) (i : ℕ) → slice_get (xs ++ x ∷ []) i ≡ Some y → (slice_get xs i ≡ Some y) ⊎ ((i ≡ length xs) × (x ≡ y))
+of_more [] x y zero is = inr (refl, ap (λ o. unwrap_or o x) is)
+of_more [] x y (suc i) is = absurd cc
+of_more (z ∷ zs) x y zero is = inl is
+of_more (z ∷ zs) x y (suc i) is = ⊎_elim (λ (here : slice_get zs i ≡ Some y). inl here) (λ (end : (i ≡ length zs) × (x ≡ y)). inr (ap suc end.0, end.1)) (of_more zs x y i is)
+
+-- of no pairs there is nothing to say
+pub asks_none : (changing : ℕ) (pairs : List PipePair) → pairs ≡ [] → AskBehind changing pairs
+asks_none changing pairs none place pair is = absurd (cc (subst (λ (ps : List PipePair). slice_get ps place ≡ Some pair) none is))
+
+-- a pair more, at which sessions ask alone where it stands behind so many names
+pub asks_more : (changing : ℕ) (old new : List PipePair) (pair : PipePair) (k : ℕ) → length old ≡ k → new ≡ old ++ pair ∷ [] → pair.asks_alone ≡ nat_le changing (2 * k)
+    → AskBehind changing old → AskBehind changing new
+asks_more changing old new pair k count more asks had place found is =
+    ⊎_elim (λ (before : slice_get old place ≡ Some found). had place found before)
+    (λ (end : (place ≡ length old) × (pair ≡ found)). ap (λ (p : PipePair). p.asks_alone) (sym end.1) ∙ asks ∙ ap (λ (n : ℕ). nat_le changing (2 * n)) (sym (end.0 ∙ count)))
+    (of_more old pair found place (subst (λ (pairs : List PipePair). slice_get pairs place ≡ Some found) more is))
+
+-- the pairs of names in one list are those of two, one behind the other
+pub pairs_in : {V : Type 0} (items_of : V → List PipePair) (result : Result V Misfit) (names changing asking : List (Bor (List ℕ))) → names ≡ changing ++ asking
+    → IfOk result (λ pairs. names_of (items_of pairs) ≡ texts names) → IfOk result (λ pairs. AskBehind (length changing) (items_of pairs))
+    → IfOk result (λ pairs. ArePairs (texts changing) (texts asking) (items_of pairs))
+pairs_in items_of (Ok pairs) names changing asking joined same asks = (
+  same ∙ ap texts joined ∙ map-append (λ (w : Bor (List ℕ)). w.now) changing asking,
+  subst (λ (n : ℕ). AskBehind n (items_of pairs)) (sym (length-map changing (λ (w : Bor (List ℕ)). w.now))) asks,
+)
+pairs_in items_of (Err why) names changing asking joined same asks = tt
+
+-- and so is the reason for which they are none
+pub unfit_in : {V : Type 0} (result : Result V Misfit) (names changing asking : List (Bor (List ℕ))) → names ≡ changing ++ asking → IfErr result (AreUnfit (texts names))
+    → IfErr result (AreMisfit (texts changing) (texts asking))
+unfit_in (Ok pairs) names changing asking joined unfit = tt
+unfit_in (Err why) names changing asking joined unfit =
+    misfit why (texts changing) (texts asking) (subst (λ (ns : List (List ℕ)). AreUnfit ns why) (ap texts joined ∙ map-append (λ (w : Bor (List ℕ)). w.now) changing asking) unfit)
+  where
+    misfit : (why : Misfit) (first rest : List (List ℕ)) → AreUnfit (first ++ rest) why → AreMisfit first rest why
+    misfit LonePipe first rest unfit = absurd unfit
+    misfit _ first rest unfit = unfit

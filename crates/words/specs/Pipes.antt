@@ -1,9 +1,9 @@
 -- Names of pipes, two for each client that may come.
-use Rattle.std.specs.Prelude.{◌≡◌, ◌-◌, ◌%◌, ◌<◌, ◌≤◌, ℕ, Bool, true, List, [], ◌∷◌, Some, map, slice_get, length, unwrap_or, nat_lt, if◌then◌else◌}
+use Rattle.std.specs.Prelude.{◌≡◌, ◌⊎◌, ◌-◌, ◌*◌, ◌%◌, ◌<◌, ◌≤◌, ℕ, Bool, true, List, [], ◌∷◌, ◌++◌, Some, map, slice_get, length, unwrap_or, nat_le, nat_lt, if◌then◌else◌}
 use Rattle.std.specs.Borrow.{Bor}
 use Rattle.words.specs.declared.pipes.PipePair.{PipePair}
 use Rattle.words.specs.declared.pipes.Misfit.{Misfit}
-use Rattle.words.specs.declared.pipes.Misfit.TheVariants.{MissingWord, LonePipe, TooManyPipes, SamePipe, SameInput, OutOfMemory}
+use Rattle.words.specs.declared.pipes.Misfit.TheVariants.{LonePipe, TooManyPipes, SamePipe, OutOfMemory}
 
 -- the words of a list of them
 abbrev pub texts : List (Bor (List ℕ)) → List (List ℕ)
@@ -30,14 +30,25 @@ AreDifferent names = (later : ℕ) → later < length names → ¬ StandsBefore 
 abbrev pub AreFit : List PipePair → Type 0
 AreFit pairs = (length pairs ≤ 60) × AreDifferent (names_of pairs)
 
--- these names are for this reason none of pairs; each of the reasons but want of memory is one of the names alone
-abbrev pub AreMisfit : List (List ℕ) → Misfit → Type 0
-AreMisfit names MissingWord = ⊥
-AreMisfit names LonePipe = length names % 2 ≡ 1
-AreMisfit names TooManyPipes = 120 < length names
-AreMisfit names SamePipe = HasSame names
-AreMisfit names SameInput = ⊥
-AreMisfit names OutOfMemory = 0 < length names
+-- sessions ask alone at the pairs behind so many names, and at no other
+abbrev pub AskBehind : ℕ → List PipePair → Type 0
+AskBehind changing pairs = (place : ℕ) (pair : PipePair) → slice_get pairs place ≡ Some pair → pair.asks_alone ≡ nat_le changing (2 * place)
+
+-- the pairs have these names, first those of the pairs at which the network may be changed, and then those of the pairs at which sessions ask alone
+abbrev pub ArePairs : List (List ℕ) → List (List ℕ) → List PipePair → Type 0
+ArePairs changing asking pairs = (names_of pairs ≡ changing ++ asking) × AskBehind (length changing) pairs
+
+-- names in twos are for this reason none of pairs that may be served; each of the reasons but want of memory is one of the names alone
+abbrev pub AreUnfit : List (List ℕ) → Misfit → Type 0
+AreUnfit names TooManyPipes = 120 < length names
+AreUnfit names SamePipe = HasSame names
+AreUnfit names OutOfMemory = 0 < length names
+AreUnfit names other = ⊥
+
+-- the names of pairs at which the network may be changed, and of those at which sessions ask alone, are for this reason none
+abbrev pub AreMisfit : List (List ℕ) → List (List ℕ) → Misfit → Type 0
+AreMisfit changing asking LonePipe = (length changing % 2 ≡ 1) ⊎ (length asking % 2 ≡ 1)
+AreMisfit changing asking why = AreUnfit (changing ++ asking) why
 
 -- the name of the pipe of this number, counted from 0 through the pairs, or that of the store
 abbrev pub named : List ℕ → List PipePair → ℕ → List ℕ

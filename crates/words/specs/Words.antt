@@ -17,7 +17,7 @@ use Rattle.words.specs.declared.words.Usage.{Usage}
 use Rattle.words.specs.declared.pipes.PipePair.{PipePair}
 use Rattle.words.specs.declared.pipes.Misfit.{Misfit}
 use Rattle.words.specs.declared.pipes.Misfit.TheVariants.{MissingWord}
-use Rattle.words.specs.Pipes.{names_of, AreMisfit}
+use Rattle.words.specs.Pipes.{AreMisfit, ArePairs}
 
 -- the width of the search's buckets that they give, if any
 abbrev pub delta_of : Job → Option ℕ
@@ -31,7 +31,7 @@ delta_of (Create store network landmarks journal_pages room) = None
 delta_of (Apply store commands delta) = delta
 delta_of (Ask store pairs delta) = delta
 delta_of (Check store) = None
-delta_of (Serve store pipes copies delta workers) = delta
+delta_of (Serve store pipes copies delta workers patience) = delta
 delta_of (Migrate old new room) = None
 delta_of (Copy store file room journal_pages) = None
 delta_of (Upgrade store old network new room) = None
@@ -50,7 +50,7 @@ searched_width (Create store network landmarks journal_pages room) = None
 searched_width (Apply store commands delta) = None
 searched_width (Ask store pairs delta) = delta
 searched_width (Check store) = None
-searched_width (Serve store pipes copies delta workers) = delta
+searched_width (Serve store pipes copies delta workers patience) = delta
 searched_width (Migrate old new room) = None
 searched_width (Upgrade store old network new room) = None
 searched_width (Copy store file room journal_pages) = None
@@ -69,7 +69,7 @@ journal_of (Create store network landmarks journal_pages room) = Some journal_pa
 journal_of (Apply store commands delta) = None
 journal_of (Ask store pairs delta) = None
 journal_of (Check store) = None
-journal_of (Serve store pipes copies delta workers) = None
+journal_of (Serve store pipes copies delta workers patience) = None
 journal_of (Migrate old new room) = None
 journal_of (Upgrade store old network new room) = None
 journal_of (Copy store file room journal_pages) = journal_pages
@@ -88,7 +88,7 @@ workers_of (Create store network landmarks journal_pages room) = None
 workers_of (Apply store commands delta) = None
 workers_of (Ask store pairs delta) = None
 workers_of (Check store) = None
-workers_of (Serve store pipes copies delta workers) = Some workers
+workers_of (Serve store pipes copies delta workers patience) = Some workers
 workers_of (Migrate old new room) = None
 workers_of (Upgrade store old network new room) = None
 workers_of (Copy store file room journal_pages) = None
@@ -107,7 +107,7 @@ pipes_of (Create store network landmarks journal_pages room) = []
 pipes_of (Apply store commands delta) = []
 pipes_of (Ask store pairs delta) = []
 pipes_of (Check store) = []
-pipes_of (Serve store pipes copies delta workers) = pipes.items
+pipes_of (Serve store pipes copies delta workers patience) = pipes.items
 pipes_of (Migrate old new room) = []
 pipes_of (Upgrade store old network new room) = []
 pipes_of (Copy store file room journal_pages) = []
@@ -138,7 +138,7 @@ subcommand_of (Create store network landmarks journal_pages room) = Some (codes 
 subcommand_of (Apply store commands delta) = Some (codes "apply")
 subcommand_of (Ask store pairs delta) = Some (codes "ask")
 subcommand_of (Check store) = Some (codes "check")
-subcommand_of (Serve store pipes copies delta workers) = Some (codes "serve")
+subcommand_of (Serve store pipes copies delta workers patience) = Some (codes "serve")
 subcommand_of (Migrate old new room) = Some (codes "migrate")
 subcommand_of (Upgrade store old network new room) = Some (codes "upgrade")
 subcommand_of (Copy store file room journal_pages) = Some (codes "copy")
@@ -253,6 +253,15 @@ abbrev pub GivesWorkers : Found → ℕ → Type 0
 GivesWorkers found workers =
     Gives found (codes "workers") IsWorkers (Some workers) ⊎ ((workers ≡ 4) × Gives found (codes "workers") IsWorkers None)
 
+-- for how many seconds a version may be waited for
+abbrev pub IsPatience : ℕ → Type 0
+IsPatience patience = (1 ≤ patience) × (patience ≤ 86400)
+
+-- the seconds that the words give; 30 where they give none
+abbrev pub GivesPatience : Found → ℕ → Type 0
+GivesPatience found patience =
+    Gives found (codes "patience") IsPatience (Some patience) ⊎ ((patience ≡ 30) × Gives found (codes "patience") IsPatience None)
+
 -- whether the words have `--verbose`, which stands for the text `true`
 abbrev pub GivesVerbose : Found → Bool → Type 0
 GivesVerbose found verbose =
@@ -264,13 +273,13 @@ all_values found name = unwrap_or (option_map raw_values (matched_of found name)
 
 -- the words of `serve` give this job; or a word is missing, or the names of pipes are none of pairs
 abbrev pub GivesServe : Found → Result Job Misfit → Type 0
-GivesServe found (Ok (Serve store pipes copies delta workers)) =
-    (first_value found (codes "STORE") ≡ Some store.now) × (names_of pipes.items ≡ all_values found (codes "PIPES"))
+GivesServe found (Ok (Serve store pipes copies delta workers patience)) =
+    (first_value found (codes "STORE") ≡ Some store.now) × ArePairs (all_values found (codes "PIPES")) (all_values found (codes "asking")) pipes.items
     × (option_map (λ folder. folder.now) copies ≡ first_value found (codes "copies"))
-    × Gives found (codes "delta") IsWidth delta × GivesWorkers found workers
+    × Gives found (codes "delta") IsWidth delta × GivesWorkers found workers × GivesPatience found patience
 GivesServe found (Ok job) = ⊥
 GivesServe found (Err why) =
-    ((why ≡ MissingWord) × (first_value found (codes "STORE") ≡ None)) ⊎ AreMisfit (all_values found (codes "PIPES")) why
+    ((why ≡ MissingWord) × (first_value found (codes "STORE") ≡ None)) ⊎ AreMisfit (all_values found (codes "PIPES")) (all_values found (codes "asking")) why
 
 -- the words of `migrate` give this job, or a word is missing
 abbrev pub GivesMigrate : Found → Option Job → Type 0

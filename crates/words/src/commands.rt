@@ -43,11 +43,15 @@ pub const DELTA: &str = "delta";
 
 pub const COPIES: &str = "copies";
 
+pub const ASKING: &str = "asking";
+
 pub const JOURNAL: &str = "journal";
 
 pub const ROOM: &str = "room";
 
 pub const WORKERS: &str = "workers";
+
+pub const PATIENCE: &str = "patience";
 
 pub const VERBOSE: &str = "verbose";
 
@@ -59,6 +63,9 @@ pub const MOST_JOURNAL_PAGES: u32 = 65536;
 
 /// The most row workers of a desk.
 pub const MOST_WORKERS: u32 = 64;
+
+/// The most seconds for which a version is waited for: a day.
+pub const MOST_PATIENCE: u32 = 86_400;
 
 // The words that name a job.
 pub const ONCE: &str = "once";
@@ -96,7 +103,7 @@ const ABOUT: &str =
 
 Without a word it reads the joint form from standard input: a .gr text, a line `run`, and a script, which it runs on a store in memory.
 
-The exit status is 0 where all was done, 1 after a fault, and 2 where the words were not understood.";
+The exit status is 0 where all was done, 1 after a fault, 2 where the words were not understood, and 3 where a server has taken all commands of one run.";
 
 const ABOUT_ONCE: &str =
     "Prints the least length of a walk from S to T in the network of the file GR: the lines `v 0` and `d S T LENGTH`, `x S T` where no walk leads there, or `no 24` where S or T is no node.";
@@ -128,7 +135,7 @@ const ABOUT_CHECK: &str =
 const ABOUT_SERVE: &str =
     "Serves the store in the file STORE, on standard input and output: it reads a line, carries it out, prints its answer, and then reads the next, until the line `quit` or the end of the input.
 
-Beside that it serves one client after the other at each pair of named pipes, IN and OUT, all pairs at once: the client writes its lines into IN and reads its answers from OUT. There `quit` ends that client's session alone, and a last line without its end is not carried out. The end of standard input ends the server.
+Beside that it serves one client after the other at each pair of named pipes, IN and OUT, all pairs at once: the client writes its lines into IN and reads its answers from OUT. There `quit` ends that client's session alone, and a last line without its end is not carried out. Clients at the pairs behind `--asking` ask and change nothing. The end of standard input ends the server, and so does the last of the 16777216 commands that it takes in one run: the status is 3 then, so that it is started again.
 
 `set K W`, `close K`, `reopen K`, `mark X`, `unmark X` and `lay T H W` change the network: `ok N`, once the command is version N of the store for good, or `no CODE`. The lines `begin` and `end` enclose commands of which all are carried out or none: `end` is answered for all of them. `dist S T`, `from X T` and `lower S T` ask: the line `v V`, V the version that is shown, and the answer line, or `no CODE`. `arc K` and `arcs T H` tell an arc and the arcs from one node to another, `landmarks` and `closed` all of these, in the version V that is shown: the line `v V`, then theirs. `reach S L` tells the nodes within the length L of S, `reached T L` those from which T is within it, `nearest S K` the K landmarks nearest to S, and `table A B S .. T ..` the lengths from each source to each target, where A sources and then B targets follow behind the two numbers A and B, all in that version. `wait` waits until the last command or group that was accepted is shown: `v V`, from which on answers are of that version or a later one; `until N` until version N is. `state` tells how the server stands. With `--copies`, `copy NAME` makes a store in the file NAME of that folder, of the network at the version V that is shown: `copied V`, once it is there for good, or `no CODE`; NAME is 1 to 64 letters, digits, `-` and `_`. Empty lines and those that begin with # have no answer; another line has `no 1` or `no 5`.";
 
@@ -186,8 +193,14 @@ const TARGETS_HELP: &str =
 const COPIES_HELP: &str =
     "Folder, which is there, in which the line `copy NAME` of a client makes a store of the network; without it no copies are made";
 
+const ASKING_HELP: &str =
+    "More pairs of named pipes, at which clients ask and change nothing: a command there is refused with 64, and no copies are made";
+
 const WORKERS_HELP: &str =
     "Threads that make the landmarks' rows of a new version, 1 to 64; 4 where none are given";
+
+const PATIENCE_HELP: &str =
+    "Seconds for which a line `until N` waits for its version, 1 to 86400; 30 where none are given";
 
 const WITHIN_HELP: &str = "The greatest length of a walk that is told; without it each is told";
 
@@ -210,10 +223,14 @@ enum Taken {
     Head,
     /// Names of pipes, two for each client, as many as are given.
     Pipes,
+    /// `--asking IN OUT ..`.
+    Asking,
     /// `--copies FOLDER`.
     Copies,
     /// `--workers W`.
     Workers,
+    /// `--patience S`.
+    Patience,
     /// `--within L`.
     Within,
     /// `--delta D`, with its help.
@@ -398,8 +415,10 @@ const SERVE_ENTRY: Entry = Entry {
     takes: &[
         Taken::Word(STORE, STORE_HELP),
         Taken::Pipes,
+        Taken::Asking,
         Taken::Copies,
         Taken::Workers,
+        Taken::Patience,
         Taken::Delta(DELTA_HELP),
     ],
 };
@@ -548,6 +567,16 @@ fn pipes_words<'w>(alloc: Global) -> Arg<'w> {
         )
 }
 
+/// Names of pipes at which clients ask alone, two for each client, as many as are given.
+fn asking_option<'w>(alloc: Global) -> Arg<'w> {
+    Arg::new(alloc, ASKING)
+        .long(ASKING)
+        .num_args(1..)
+        .value_name("IN OUT")
+        .action(ArgAction::Append)
+        .help(ASKING_HELP)
+}
+
 /// An option whose value is a text, which help calls so.
 fn text_option<'w>(alloc: Global, name: &'w str, value: &'w str, help: &'w str) -> Arg<'w> {
     Arg::new(alloc, name)
@@ -602,8 +631,10 @@ fn argument_of<'w>(alloc: Global, taken: Taken) -> Result<Arg<'w>, AllocError> {
         Taken::ArcOrTail => Ok(arc_word(alloc)),
         Taken::Head => Ok(head_word(alloc)),
         Taken::Pipes => Ok(pipes_words(alloc)),
+        Taken::Asking => Ok(asking_option(alloc)),
         Taken::Copies => Ok(text_option(alloc, COPIES, "FOLDER", COPIES_HELP)),
         Taken::Workers => Ok(number_option(alloc, WORKERS, "W", MOST_WORKERS, WORKERS_HELP)),
+        Taken::Patience => { Ok(number_option(alloc, PATIENCE, "S", MOST_PATIENCE, PATIENCE_HELP)) }
         Taken::Within => Ok(long_option(alloc, WITHIN, "L", WITHIN_HELP)),
         Taken::Delta(help) => Ok(number_option(alloc, DELTA, "D", MOST_WIDTH, help)),
         Taken::Journal(help) => Ok(number_option(alloc, JOURNAL, "J", MOST_JOURNAL_PAGES, help)),

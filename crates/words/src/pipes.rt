@@ -1,9 +1,9 @@
 //! The pairs of named pipes that words name.
-ghost use Rattle.std.specs.Prelude.{◌≡◌, ◌%◌, ◌<◌, length, slice_get, MatchBool, IfOk, IfErr, option_map};
-ghost use Rattle.words.specs.Pipes.{names_of, texts, StandsBefore, AreDifferent, HasSame, AreFit, AreMisfit};
+ghost use Rattle.std.specs.Prelude.{◌≡◌, ◌%◌, ◌<◌, ◌++◌, length, slice_get, MatchBool, IfOk, IfErr, option_map};
+ghost use Rattle.words.specs.Pipes.{names_of, texts, StandsBefore, AreDifferent, HasSame, AreFit, AreMisfit, ArePairs, AreUnfit, AskBehind};
 ghost use Rattle.words.specs.declared.pipes.Misfit.TheVariants.{OutOfMemory as out_of_memory};
 
-use std::alloc::{AllocFailed, Global};
+use std::alloc::{AllocError, AllocFailed, Global};
 use thiserror::Error;
 
 /// A pair of named pipes, as they were written: the one from which a client's lines come, and the one into which its answers go.
@@ -11,6 +11,8 @@ use thiserror::Error;
 pub struct PipePair<'w> {
     pub input: &'w str,
     pub output: &'w str,
+    /// Sessions there ask alone: none of their commands is carried out.
+    pub asks_alone: bool,
 }
 
 /// Why words that were matched are no job.
@@ -47,6 +49,14 @@ impl<T: Drop> From<AllocFailed<T>> for Misfit {
     }
 }
 
+impl From<AllocError> for Misfit {
+    ghost from_gives = { λ _ why. why ≡ out_of_memory };
+
+    fn from(_error: AllocError) -> Misfit {
+        Misfit::OutOfMemory
+    }
+}
+
 /// Whether the name at a place stands at an earlier one too.
 fn stands_before(names: &[&str], later: usize) -> bool
     requires { later < length names.now }
@@ -72,10 +82,15 @@ fn have_same(names: &[&str]) -> bool
     false
 }
 
-/// The names two by two. A last one that stands alone is left out.
-fn two_by_two<'w>(alloc: Global, names: &[&'w str]) -> Result<Vec<PipePair<'w>>, Misfit>
+/// The names two by two. A last one that stands alone is left out. Sessions ask alone at the pairs behind the first `changing` names.
+fn two_by_two<'w>(
+    alloc: Global,
+    names: &[&'w str],
+    changing: usize,
+) -> Result<Vec<PipePair<'w>>, Misfit>
     requires { length names.now % 2 ≡ 0 }
     ensures pairs { IfOk result (λ pairs. names_of pairs.items ≡ texts names.now) }
+    ensures asking { IfOk result (λ pairs. AskBehind changing pairs.items) }
     ensures causes { IfErr result (λ why. (why ≡ out_of_memory) × (0 < length names.now)) }
 {
     let mut pairs = Vec::new(alloc);
@@ -83,29 +98,65 @@ fn two_by_two<'w>(alloc: Global, names: &[&'w str]) -> Result<Vec<PipePair<'w>>,
         pairs.push(PipePair {
             input: names[2 * k],
             output: names[2 * k + 1],
+            asks_alone: changing <= 2 * k,
         })?;
     }
     Ok(pairs)
 }
 
-/// The pairs that these names make, of each the one that is read first.
-///
-/// Refused is an odd number of names, then more than 120, then a name that stands twice, then want of memory.
-pub fn pairs_of<'w>(alloc: Global, names: &[&'w str]) -> Result<Vec<PipePair<'w>>, Misfit>
+/// The same. Refused are more than 120 names, then a name that stands twice, then want of memory.
+fn paired<'w>(
+    alloc: Global,
+    names: &[&'w str],
+    changing: usize,
+) -> Result<Vec<PipePair<'w>>, Misfit>
+    requires { length names.now % 2 ≡ 0 }
     ensures pairs { IfOk result (λ pairs. names_of pairs.items ≡ texts names.now) }
+    ensures asking { IfOk result (λ pairs. AskBehind changing pairs.items) }
     ensures fit { IfOk result (λ pairs. AreFit pairs.items) }
-    ensures refused { IfErr result (AreMisfit (texts names.now)) }
+    ensures refused { IfErr result (AreUnfit (texts names.now)) }
 {
-    if names.len() % 2 == 1 {
-        return Err(Misfit::LonePipe);
-    }
     if names.len() > MOST_PIPES {
         return Err(Misfit::TooManyPipes);
     }
     if have_same(names) {
         return Err(Misfit::SamePipe);
     }
-    two_by_two(alloc, names)
+    two_by_two(alloc, names, changing)
+}
+
+/// Names, and behind them others.
+fn joined<'w>(alloc: Global, names: &[&'w str], others: &[&'w str]) -> Result<Vec<&'w str>, Misfit>
+    ensures names { IfOk result (λ joined. joined.items ≡ names.now ++ others.now) }
+    ensures causes { IfErr result (λ why. why ≡ out_of_memory) }
+{
+    let mut joined = Vec::from_slice(alloc, names)?;
+    for name in others {
+        joined.push(*name)?;
+    }
+    Ok(joined)
+}
+
+/// The pairs that these names make, of each the one that is read first: those at which clients may change the network, and behind them those at which they ask alone.
+///
+/// Refused is an odd number of either names, then more than 120 of both, then a name that stands twice among them, then want of memory.
+pub fn pairs_of<'w>(
+    alloc: Global,
+    changing: &[&'w str],
+    asking: &[&'w str],
+) -> Result<Vec<PipePair<'w>>, Misfit>
+    ensures pairs { IfOk result (λ pairs. ArePairs (texts changing.now) (texts asking.now) pairs.items) }
+    ensures fit { IfOk result (λ pairs. AreFit pairs.items) }
+    ensures refused { IfErr result (AreMisfit (texts changing.now) (texts asking.now)) }
+{
+    if changing.len() % 2 == 1 || asking.len() % 2 == 1 {
+        return Err(Misfit::LonePipe);
+    }
+    if asking.is_empty() {
+        return paired(alloc, changing, changing.len());
+    }
+    let names = joined(alloc, changing, asking)?;
+    paired(alloc, &names, changing.len())
 }
 
 /// The name of the pipe of this number, counted from 0 through the pairs.

@@ -6,14 +6,15 @@ ghost use Rattle.std.specs.Result.{ForOk};
 ghost use lib.Chars.{codes};
 ghost use Rattle.clap.specs.Words.{found_of, kind_of, subcommand_name_of};
 ghost use Rattle.rows.specs.Kept.{IsWidth};
-ghost use Rattle.words.specs.Pipes.{names_of, AreFit, AreMisfit};
-ghost use Rattle.words.specs.Words.{delta_of, journal_of, workers_of, pipes_of, pair_names, names_given, given_pairs, all_values, subcommand_of, ComesTwice, HasFitNumbers, Gives, GivesOnce, GivesBatch, GivesReach, GivesReached, GivesRehearse, GivesCreate, GivesApply, GivesAsk, GivesCheck, GivesServe, GivesMigrate, GivesCopy, GivesUpgrade, GivesLook, GivesShow, GivesExport, GivesJoint, GivesJournal, GivesVerbose, GivesWorkers, IsJournal, IsWorkers, IsLong, IsUsage, IsInput, NamesInputTwice};
+ghost use Rattle.words.specs.Pipes.{texts, AreFit, AreMisfit, ArePairs};
+ghost use Rattle.words.specs.Words.{delta_of, journal_of, workers_of, pipes_of, pair_names, names_given, given_pairs, all_values, subcommand_of, ComesTwice, HasFitNumbers, Gives, GivesOnce, GivesBatch, GivesReach, GivesReached, GivesRehearse, GivesCreate, GivesApply, GivesAsk, GivesCheck, GivesServe, GivesMigrate, GivesCopy, GivesUpgrade, GivesLook, GivesShow, GivesExport, GivesJoint, GivesJournal, GivesPatience, GivesVerbose, GivesWorkers, IsJournal, IsWorkers, IsLong, IsUsage, IsInput, NamesInputTwice};
 
 use crate::commands::{
-    APPLY, ASK, BATCH, CHECK, COMMANDS, COPIES, COPY, CREATE, DELTA, EXPORT, FILE, FOLDER, HEAD,
-    JOURNAL, LANDMARKS, MIGRATE, MOST_JOURNAL_PAGES, MOST_WIDTH, MOST_WORKERS, NETWORK, NEW,
-    NUMBER, OLD, ONCE, PAIRS, PIPES, REACH, REACHED, REHEARSE, ROOM, SCRIPT, SERVE, SHOW, SOURCE,
-    SOURCES, STORE, TARGET, TARGETS, UPGRADE, VERBOSE, WITHIN, WORKERS, program,
+    APPLY, ASK, ASKING, BATCH, CHECK, COMMANDS, COPIES, COPY, CREATE, DELTA, EXPORT, FILE, FOLDER,
+    HEAD, JOURNAL, LANDMARKS, MIGRATE, MOST_JOURNAL_PAGES, MOST_PATIENCE, MOST_WIDTH, MOST_WORKERS,
+    NETWORK, NEW, NUMBER, OLD, ONCE, PAIRS, PATIENCE, PIPES, REACH, REACHED, REHEARSE, ROOM,
+    SCRIPT, SERVE, SHOW, SOURCE, SOURCES, STORE, TARGET, TARGETS, UPGRADE, VERBOSE, WITHIN,
+    WORKERS, program,
 };
 use crate::pipes::{Misfit, PipePair, pairs_of};
 use clap::error::ErrorKind;
@@ -102,11 +103,14 @@ pub enum Job<'w> {
     /// A session over a store, on standard input and output, and one with each client that comes by a pair of pipes.
     Serve {
         store: &'w str,
+        /// First those at which clients may change the network, and then those at which they ask alone.
         pipes: Vec<PipePair<'w>>,
         /// The folder in which copies are made, if they are.
         copies: Option<&'w str>,
         delta: Option<u32>,
         workers: u32,
+        /// For how many seconds a version is waited for.
+        patience: u32,
     },
     /// A new store, of the store of another file.
     Migrate {
@@ -160,6 +164,9 @@ const DEFAULT_JOURNAL: u32 = 64;
 
 /// The row workers of a desk where none are given.
 const DEFAULT_WORKERS: u32 = 4;
+
+/// For how many seconds a version is waited for where none are given.
+const DEFAULT_PATIENCE: u32 = 30;
 
 /// The status of a command line that was not understood.
 pub const MISUSE: u8 = 2;
@@ -253,6 +260,16 @@ fn workers_in(matches: &ArgMatches<'_>) -> u32
     match matches.get_one::<u32>(WORKERS) {
         Some(workers) if 1 <= workers && workers <= MOST_WORKERS => workers,
         _ => DEFAULT_WORKERS,
+    }
+}
+
+/// The seconds that these words give for which a version is waited for, or 30; within their range, as the option's parser has it.
+fn patience_in(matches: &ArgMatches<'_>) -> u32
+    ensures { GivesPatience (found_of matches.now) result }
+{
+    match matches.get_one::<u32>(PATIENCE) {
+        Some(patience) if 1 <= patience && patience <= MOST_PATIENCE => patience,
+        _ => DEFAULT_PATIENCE,
     }
 }
 
@@ -432,13 +449,15 @@ fn check_in<'w>(matches: &ArgMatches<'w>) -> Option<Job<'w>>
 
 /// The pairs that the names of pipes make; none where there are no names.
 fn pipes_in<'w>(alloc: Global, matches: &ArgMatches<'w>) -> Result<Vec<PipePair<'w>>, Misfit>
-    ensures pairs { IfOk result (λ pairs. names_of pairs.items ≡ all_values (found_of matches.now) (codes "PIPES")) }
+    ensures pairs { IfOk result (λ pairs. ArePairs (all_values (found_of matches.now) (codes "PIPES")) (all_values (found_of matches.now) (codes "asking")) pairs.items) }
     ensures fit { IfOk result (λ pairs. AreFit pairs.items) }
-    ensures refused { IfErr result (AreMisfit (all_values (found_of matches.now) (codes "PIPES"))) }
+    ensures refused { IfErr result (AreMisfit (all_values (found_of matches.now) (codes "PIPES")) (all_values (found_of matches.now) (codes "asking"))) }
 {
-    match matches.get_strs(PIPES) {
-        Some(names) => pairs_of(alloc, names),
-        None => Ok(Vec::new(alloc)),
+    match (matches.get_strs(PIPES), matches.get_strs(ASKING)) {
+        (Some(pipes), Some(asking)) => pairs_of(alloc, pipes, asking),
+        (Some(pipes), None) => pairs_of(alloc, pipes, &[]),
+        (None, Some(asking)) => pairs_of(alloc, &[], asking),
+        (None, None) => pairs_of(alloc, &[], &[]),
     }
 }
 
@@ -457,6 +476,7 @@ fn serve_in<'w>(alloc: Global, matches: &ArgMatches<'w>) -> Result<Job<'w>, Misf
             copies: matches.get_str(COPIES),
             delta: width_in(matches),
             workers: workers_in(matches),
+            patience: patience_in(matches),
         }),
         Err(misfit) => Err(misfit),
     }

@@ -5,7 +5,7 @@ use Rattle.printing.proofs.nodes.put_to.Goals as goal
 
 pub loop-near-preserved : goal.loop-near-preserved
 loop-near-preserved g c = record {
-  written = line_more (line_to c.args.target) c.args.told.now c.loop-near.near-index _ _ _ _ c.loop-near-test.true c.loop-near.invariant.written (rw c.from-source.ensures at c.in_ok-put_answer.ensures.ok);
+  written = line_more (line_to c.args.target) c.args.told.now c.loop-near.near-index _ _ _ _ c.loop-near-test.true c.loop-near.invariant.written (rw c.from-source.ensures at c.in_ok-put_answer.ensures.written);
   counts = c.in_ok-put_answer.ensures.counts ∙ c.loop-near.invariant.counts;
   same = c.in_ok-put_answer.ensures.same ∙ c.loop-near.invariant.same;
 }

@@ -15,5 +15,5 @@ told which (Err fault) failed is = let same : failed ≡ Text which fault = cc i
 pub returns : goal.returns
 returns g c = elim c.match-of_text.branch [
   | in-Ok w ↦ inr w.result-is
-  | in-Err w ↦ subst (λ f. IsFaultOf c.args.which f ⊎ (f ≡ c.args.failed)) (sym w.result-is) (inl (told c.args.which c.read_nodes_counted.result w.in-Err.fault w.in-Err.ensures))
+  | in-Err w ↦ subst (λ f. IsFaultOf c.args.which f ⊎ (f ≡ c.args.failed)) (sym w.result-is) (inl (told c.args.which c.read_nodes.result w.in-Err.fault w.in-Err.ensures))
 ]

@@ -7,7 +7,7 @@ use Rattle.store.specs.State.{CameTidy, HasVersion, IsTidy}
 use Rattle.history.specs.Origins.{Origin}
 use Rattle.dimacs.specs.Counts.{reader_of}
 use Rattle.printing.specs.Counting.{writer_of}
-use Rattle.sessions.specs.declared.reading.LastLine.TheVariants.{Taken}
+use Rattle.session_lines.specs.declared.reading.LastLine.TheVariants.{Taken}
 use Rattle.sessions.specs.Turns.{Serves, IsKept}
 use Rattle.program.specs.Copied.{copies_in}
 use Rattle.program.proofs.serve_jobs.serve_disk.Goals as goal

@@ -4,5 +4,5 @@ use Rattle.querytexts.proofs.batch.answer_by.Goals as goal
 
 pub put_answers-requires : goal.put_answers-requires
 put_answers-requires g c =
-    let long : length c.in_ok-replies.replies.items ≡ length c.args.pairs.now = AllZip-long _ c.args.pairs.now c.in_ok-replies.replies.items c.in_ok-replies.ensures.right in
+    let long : length c.in-Ok.replies.items ≡ length c.args.pairs.now = AllZip-long _ c.args.pairs.now c.in-Ok.replies.items c.in-Ok.ensures.right in
     search (rules, long)

@@ -6,7 +6,7 @@ pub loop-index-preserved : goal.loop-index-preserved
 loop-index-preserved g c =
     let within : c.loop-index.index < length c.args.replies.now = omega (arith, c.loop-index-test.true, c.requires) in
     record {
-      answered = written_more c.args.pairs.now c.args.replies.now c.loop-index.index _ _ c.query_of.result _ _ _ c.loop-index-test.true within c.query_of.ensures c.loop-index.invariant.answered c.in_ok-put_answer.ensures.ok;
+      answered = written_more c.args.pairs.now c.args.replies.now c.loop-index.index _ _ c.query_of.result _ _ _ c.loop-index-test.true within c.query_of.ensures c.loop-index.invariant.answered c.in_ok-put_answer.ensures.written;
       counts = c.in_ok-put_answer.ensures.counts ∙ c.loop-index.invariant.counts;
       same = c.in_ok-put_answer.ensures.same ∙ c.loop-index.invariant.same;
     }

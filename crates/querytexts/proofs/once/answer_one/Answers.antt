@@ -2,8 +2,5 @@ use Rattle.std.proofs.Common.{rules}
 use Rattle.querytexts.specs.Once.{AnswersOne}
 use Rattle.querytexts.proofs.once.answer_one.Goals as goal
 
-pub distance-requires : goal.distance-requires
-distance-requires g c = c.new-searches.ensures.kept c.args.network.now
-
 pub returns-clause-answered : goal.returns-clause-answered
 returns-clause-answered g c = record { reply = c.in-Ok.reply; right = c.in-Ok.ensures.right; written = search rules }

@@ -13,7 +13,7 @@ returns-then-not-has_node-clause-answered g c =
     let net = c.args.network.now in
     let told = node_is net c.center.result c.has_node.result c.has_node.ensures.node.0 c.has_node.ensures.node.1 in
     let other = subst (λ (x : ℕ). is_node net x ≡ false) c.center.ensures (told ∙ c.if-not-has_node.true) in
-    unreached net c.args.reach c.args.limit _ _ other c.in_ok-put_no_node.ensures.ok
+    unreached net c.args.reach c.args.limit _ _ other c.in_ok-put_no_node.ensures.written
 
 pub returns-in_default-clause-memory : goal.returns-in_default-clause-memory
 returns-in_default-clause-memory g c other =
@@ -28,5 +28,5 @@ returns-clause-answered g c =
     let told = node_is net c.center.result c.has_node.result c.has_node.ensures.node.0 c.has_node.ensures.node.1 in
     let one = subst (λ (x : ℕ). is_node net x ≡ true) c.center.ensures (told ∙ c.if-not-has_node.false) in
     let list : c.deref.result.now ≡ c.in-Ok.told.items = search rules in
-    let written = c.in_ok-put_found.ensures.ok in
+    let written = c.in_ok-put_found.ensures.written in
     told_reached net c.args.reach c.args.limit _ _ c.in-Ok.told.items one c.in-Ok.ensures (rw list at written)

@@ -13,6 +13,6 @@ returns-then-not-at_run-clause-read g c =
 pub returns-in_err-events-clause-read : goal.returns-in_err-events-clause-read
 returns-in_err-events-clause-read g c =
     let read = network_read _ _ c.read_gr_before_run.result _ c.in_ok-network.ensures c.read_gr_before_run.ensures.read in
-    let left = g.R.Read.remaining (reader_of c.read_script_counted.new.counted) in
+    let left = g.R.Read.remaining (reader_of c.read_script.new.text) in
     let p = err_from_is_err_and c.from_residual-in_err-events.result c.from_residual-in_err-events.ensures.1 in
-    rw (p.1, p.2) (script_refused _ _ left _ (λ events. map as_line events.items) c.read_script_counted.result _ c.in_err-events.ensures read c.read_script_counted.ensures.read)
+    rw (p.1, p.2) (script_refused _ _ left _ (λ events. map as_line events.items) c.read_script.result _ c.in_err-events.ensures read c.read_script.ensures.read)

@@ -3,11 +3,8 @@ use Rattle.deltastep.specs.Repair.{AreChanged}
 use Rattle.roadnet.proofs.EndsKept.{KeepsEnds-same}
 use Rattle.search_tests.proofs.repairing.is_repaired.Goals as goal
 
-pub row_after-requires-clause-changed : goal.row_after-requires-clause-changed
-row_after-requires-clause-changed c = subst (λ (l : List ℕ). AreChanged c.in_ok-older.older c.in_ok-newer.newer l) (sym c.deref.ensures.value) c.in-Ok-changed_nodes.ensures
+pub row_after-repaired-requires-clause-changed : goal.row_after-repaired-requires-clause-changed
+row_after-repaired-requires-clause-changed c = subst (λ (l : List ℕ). AreChanged c.in_ok-older.older c.in_ok-newer.newer l) (sym c.deref.ensures.value) c.in-Ok-changed_nodes.ensures
 
-pub row_after_near-requires-clause-changed : goal.row_after_near-requires-clause-changed
-row_after_near-requires-clause-changed c = subst (λ (l : List ℕ). AreChanged c.in_ok-older.older c.in_ok-newer.newer l) (sym c.deref-2.ensures.value) c.in-Ok-changed_nodes.ensures
-
-pub row_after_near-requires-clause-tails : goal.row_after_near-requires-clause-tails
-row_after_near-requires-clause-tails c = c.in-Ok-back_of.ensures.tails c.args.after.now c.in_ok-newer.newer c.nodes-2.ensures.grouped c.in_ok-newer.ensures.network (KeepsEnds-same c.args.after.now)
+pub row_after-repaired-requires-clause-tails : goal.row_after-repaired-requires-clause-tails
+row_after-repaired-requires-clause-tails c = c.in-Ok-back_of.ensures.tails c.args.after.now c.in_ok-newer.newer c.nodes-2.ensures.grouped c.in_ok-newer.ensures.network (KeepsEnds-same c.args.after.now)

@@ -1,6 +1,6 @@
 use Rattle.std.proofs.Common.{◌≡◌, length, rules}
 use Rattle.std.proofs.lemmas.Slice.Zip.{AllZip-long}
-use Rattle.sessions.specs.Listings.{sources_of, targets_of}
+use Rattle.session_lines.specs.Listings.{sources_of, targets_of}
 use Rattle.sessions.proofs.Supposed.{found_table, found_no_table}
 use Rattle.sessions.proofs.around.answer_table.Goals as goal
 
@@ -11,9 +11,9 @@ tell_pairs-requires g c =
 
 pub returns-in-Ok-clause-told : goal.returns-in-Ok-clause-told
 returns-in-Ok-clause-told g c =
-    found_table _ (sources_of c.args.table.now) (targets_of c.args.table.now) c.version-version.result c.deref.result.now c.deref-in-Ok.result.now _ _ c.tell_pairs.result (search rules) (search rules) (search rules) (search rules)
+    found_table _ (sources_of c.args.table.now) (targets_of c.args.table.now) c.version.result c.deref.result.now c.deref-in-Ok.result.now _ _ c.tell_pairs.result (search rules) (search rules) (search rules) (search rules)
     c.tell_pairs.ensures.ok
 
 pub returns-in-Err-clause-told : goal.returns-in-Err-clause-told
 returns-in-Err-clause-told g c =
-    found_no_table _ (sources_of c.args.table.now) (targets_of c.args.table.now) c.version-version.result c.in-Err.refusal _ _ c.tell_untold.result (search rules) (search rules) c.tell_untold.ensures.ok
+    found_no_table _ (sources_of c.args.table.now) (targets_of c.args.table.now) c.version.result c.in-Err.refusal _ _ c.tell_untold.result (search rules) (search rules) c.tell_untold.ensures.ok

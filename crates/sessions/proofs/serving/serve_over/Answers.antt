@@ -1,5 +1,5 @@
 use Rattle.std.proofs.Common.{◌∙◌, Ok, Option, ap, rules, refl, sym}
-use Rattle.sessions.specs.declared.lines.Line.{Line}
+use Rattle.session_lines.specs.declared.lines.Line.{Line}
 use Rattle.sessions.proofs.Going.{far_begun, far_quit, far_turned}
 use Rattle.sessions.proofs.serving.serve_over.Goals as goal
 

@@ -21,10 +21,10 @@ pub returns-clause-empty : goal.returns-clause-empty
 returns-clause-empty g c honest = done_any c.flush.result _ (c.in-Ok.ensures.empty honest)
 
 pub returns-clause-not_empty : goal.returns-clause-not_empty
-returns-clause-not_empty g c honest = write_not_empty _ c.flush.result c.flush.ensures.refused
+returns-clause-not_empty g c honest = write_not_empty _ c.flush.result c.flush.ensures.fails.refused
 
 pub returns-clause-order : goal.returns-clause-order
-returns-clause-order g c honest = write_no_memory _ c.flush.result c.flush.ensures.refused
+returns-clause-order g c honest = write_no_memory _ c.flush.result c.flush.ensures.fails.refused
 
 pub returns-clause-untouched : goal.returns-clause-untouched
-returns-clause-untouched g c honest = write_no_device _ c.flush.result c.flush.ensures.refused
+returns-clause-untouched g c honest = write_no_device _ c.flush.result c.flush.ensures.fails.refused

@@ -1,5 +1,4 @@
-use Rattle.words.proofs.PipeNames.{fit_of}
+use Rattle.std.proofs.Common.{[], refl, sym}
+use Rattle.std.proofs.lemmas.List.{append-nil}
+use Rattle.words.proofs.PipeNames.{pairs_in, unfit_in}
 use Rattle.words.proofs.pipes.pairs_of.Goals as goal
-
-pub returns-clause-fit : goal.returns-clause-fit
-returns-clause-fit c = fit_of (λ pairs. pairs.items) c.two_by_two.result c.args.names.now c.if-names-gt-MOST_PIPES.false c.if-have_same.ensures c.two_by_two.ensures.pairs

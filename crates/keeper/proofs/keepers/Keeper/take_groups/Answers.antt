@@ -11,9 +11,10 @@ invariant_of-result g c =
     let view = c.in-Ok.view.value in
     let same : view ≡ c.self.inside.shown = (let a = c.in-Ok.ensures in let b = c.view.ensures in cc) in
     let here : network_at m view.version ≡ Some view.network = subst (λ (v : Viewed). network_at m v.version ≡ Some v.network) (sym same) c.self.invariant.shown_is in
-    let at : c.catch_up.new.self.version ≡ m.durable = c.in_ok-catch_up.ensures.durable in
-    let there : network_at m m.durable ≡ Some c.of-network.result.value = ap (network_at m) (sym at) ∙ (c.catch_up.ensures.network.network_is ∙ ap Some (sym c.of-network.ensures)) in
+    let at : c.durable-version.result ≡ m.durable = c.durable-version.ensures.version in
+    let there : network_at m m.durable ≡ Some c.of-network.result.value = c.network.ensures ∙ ap Some (sym c.of-network.ensures) in
     let from : c.version-2.result ≡ view.version = (let a = c.version-2.ensures in let b = c.deref.ensures in cc) in
     let way : groups_to m m.durable ≡ groups_to m view.version ++ c.in_ok-groups.groups.items =
-    c.durable_since.ensures.groups ∙ (ap (λ (v : ℕ). groups_to m v ++ c.durable_since.result.now) from ∙ ap (λ (gs : List Group). groups_to m view.version ++ gs) (sym c.in_ok-groups.ensures)) in
+    ap (groups_to m) (sym at)
+    ∙ (c.groups_between.ensures.groups ∙ (ap (λ (v : ℕ). groups_to m v ++ c.groups_between.result.now) from ∙ ap (λ (gs : List Group). groups_to m view.version ++ gs) (sym c.in_ok-groups.ensures))) in
     record { leads = leads_on m view.version m.durable view.network c.of-network.result.value c.in_ok-groups.groups.items here there way }

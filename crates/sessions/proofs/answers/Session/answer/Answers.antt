@@ -1,6 +1,6 @@
 use Rattle.std.proofs.Common.{rules, ◌≡◌, ◌∙◌, None, Some, sym}
-use Rattle.sessions.proofs.Answered.{end_told, nothing_within}
-use Rattle.sessions.proofs.Drafting.{next_within, none_drafted, some_drafted}
+use Rattle.sessions.proofs.Answered.{nothing_within}
+use Rattle.session_lines.proofs.Drafting.{next_within, none_drafted, some_drafted}
 use Rattle.sessions.proofs.answers.Session.answer.Goals as goal
 
 pub returns-in_default-clause-told : goal.returns-in_default-clause-told
@@ -18,7 +18,7 @@ returns-then-is_end-clause-told g c draft has =
     let told = c.in-Some.ensures.value in
     let some : c.args.self.now.draft ≡ Some c.in-Some.draft = cc in
     let is = some_drafted draft c.in-Some.draft (rw some at has) in
-    rw (is.1, c.is_end.ensures.0 c.if-is_end.true) (end_told (g.C.Copies.copying c.args.copies.now) g.N.Naming.origin is.0 _ _ _ _ _ _ _ c.answer_end.result (c.answer_end.ensures.told is.0 is.2))
+    rw (is.1, c.is_end.ensures.0 c.if-is_end.true) (c.answer_end.ensures.told is.0 is.2)
 
 pub returns-then-is_end-clause-draft : goal.returns-then-is_end-clause-draft
 returns-then-is_end-clause-draft g c draft has =

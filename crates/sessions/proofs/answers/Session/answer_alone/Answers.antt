@@ -1,5 +1,5 @@
-use Rattle.std.proofs.Common.{inl, inr, refl}
-use Rattle.sessions.proofs.Answered.{look_told, near_told, nothing_told, table_told, told_command, told_fault, told_no_end, told_nothing_supposed, told_query, told_state, told_unkept, told_until, told_wait}
+use Rattle.std.proofs.Common.{◌∙◌, inl, inr, refl, sym}
+use Rattle.sessions.proofs.Answered.{look_told, near_told, nothing_told, table_told, told_asking, told_command, told_fault, told_no_end, told_nothing_supposed, told_query, told_state, told_unkept, told_until, told_wait}
 use Rattle.sessions.proofs.answers.Session.answer_alone.Goals as goal
 
 pub returns-in-Ignored-clause-told : goal.returns-in-Ignored-clause-told
@@ -14,10 +14,16 @@ returns-in-Begin-clause-told g c = nothing_told _ g.N.Naming.origin c.args.line 
 pub returns-in-Suppose-clause-told : goal.returns-in-Suppose-clause-told
 returns-in-Suppose-clause-told g c = nothing_told _ g.N.Naming.origin c.args.line _ _ _ _ (inr (inr (inr c.in-Suppose.is)))
 
-pub returns-in-Command-clause-told : goal.returns-in-Command-clause-told
-returns-in-Command-clause-told g c =
+pub returns-then-not-may_change-clause-told : goal.returns-then-not-may_change-clause-told
+returns-then-not-may_change-clause-told g c =
     rw c.in-Command.is
-    (told_command _ g.N.Naming.origin c.in-Command.command _ _ _ _ _ _ _ c.tell_reply.result c.carry_out.result (rw c.one.ensures at c.carry_out.ensures.settled) (rw c.one.ensures at c.carry_out.ensures.receipts) c.tell_reply.ensures.ok)
+    (told_asking (g.C.Copies.copying c.args.copies.now) g.N.Naming.origin c.in-Command.command _ _ _ _ _ _ _ c.tell_asks_alone.result (sym c.may_change.ensures ∙ c.if-not-may_change.true) refl refl c.tell_asks_alone.ensures.ok)
+
+pub returns-else-not-may_change-clause-told : goal.returns-else-not-may_change-clause-told
+returns-else-not-may_change-clause-told g c =
+    rw c.in-Command.is
+    (told_command (g.C.Copies.copying c.args.copies.now) g.N.Naming.origin c.in-Command.command _ _ _ _ _ _ _ c.tell_reply.result c.carry_out.result (sym c.may_change.ensures ∙ c.if-not-may_change.false)
+    (rw c.one.ensures at c.carry_out.ensures.carried) c.tell_reply.ensures.ok)
 
 pub returns-in-Look-clause-told : goal.returns-in-Look-clause-told
 returns-in-Look-clause-told g c = rw c.in-Look.is (look_told (g.C.Copies.copying c.args.copies.now) g.N.Naming.origin c.in-Look.look _ _ _ _ _ _ _ c.look.result c.look.ensures.told)

@@ -1,5 +1,5 @@
 use Rattle.std.proofs.Common.{rules, ◌≡◌, ◌∙◌, None, Some, refl, sym}
-use Rattle.sessions.proofs.Drafting.{none_drafted, some_drafted}
+use Rattle.session_lines.proofs.Drafting.{none_drafted, some_drafted}
 use Rattle.sessions.proofs.Supposed.{end_said, held_back, next_held}
 use Rattle.sessions.proofs.supposing.Supposing.answer.Goals as goal
 

@@ -1,5 +1,5 @@
 use Rattle.std.proofs.Common.{rules, ◌≡◌, ◌∙◌, None, sym, subst}
-use Rattle.sessions.specs.Drafts.{HasDraft}
+use Rattle.session_lines.specs.Drafts.{HasDraft}
 use Rattle.sessions.proofs.Supposed.{alone_as_ever, suppose_said}
 use Rattle.sessions.proofs.supposing.Supposing.answer_alone.Goals as goal
 

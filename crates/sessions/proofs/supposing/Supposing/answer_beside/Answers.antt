@@ -1,5 +1,5 @@
 use Rattle.std.proofs.Common.{None, refl, sym, subst}
-use Rattle.sessions.specs.Drafts.{HasDraft}
+use Rattle.session_lines.specs.Drafts.{HasDraft}
 use Rattle.sessions.proofs.Supposed.{beside_as_ever, forgotten_said, near_said, query_said, table_said}
 use Rattle.sessions.proofs.supposing.Supposing.answer_beside.Goals as goal
 

@@ -36,10 +36,10 @@ returns-in_err-flush-clause-advances g c =
     let p = err_from_is_err_and c.from_residual-in_err-flush.result c.from_residual-in_err-flush.ensures.1 in
     rw (p.1, p.2)
     (advances_unwritten g.D.Disk c.args.self.now c.flush_below-flushed.new.self c.tell.new.self _ _ c.flush_below-flushed.result _ c.flush_below-flushed.ensures.saves c.tell.ensures.ledger c.tell.ensures.outcomes c.requires.few c.tell.ensures.told_to
-    c.in_err-flush.ensures.refused (c.in_err-flush.ensures.counts ∙ ap one_more_failed c.in_ok-tell.ensures.puts.counts) (c.flush.ensures.same ∙ c.tell.ensures.puts.same))
+    c.in_err-flush.ensures.fails.refused (c.in_err-flush.ensures.fails.counts ∙ ap one_more_failed c.in_ok-tell.ensures.puts.counts) (c.flush.ensures.fails.same ∙ c.tell.ensures.puts.same))
 
 pub returns-clause-advances : goal.returns-clause-advances
 returns-clause-advances g c =
     let is : MatchResult c.flush_below-flushed.result (λ x. c.map_err.result ≡ Ok x) (λ refusal. c.map_err.result ≡ Err (Code refusal)) = search rules in
     advances_saved g.D.Disk c.args.self.now c.flush_below-flushed.new.self c.tell.new.self _ _ c.flush_below-flushed.result c.map_err.result c.flush_below-flushed.ensures.saves c.tell.ensures.ledger c.tell.ensures.outcomes c.requires.few c.tell.ensures.told_to
-    c.in_ok-tell.ensures.next c.flush_below-flushed.ensures.refused (c.in_ok-flush.ensures.counts ∙ c.in_ok-tell.ensures.puts.counts) (c.flush.ensures.same ∙ c.tell.ensures.puts.same) is
+    c.in_ok-tell.ensures.next c.flush_below-flushed.ensures.refused (c.in_ok-flush.ensures.fails.counts ∙ c.in_ok-tell.ensures.puts.counts) (c.flush.ensures.fails.same ∙ c.tell.ensures.puts.same) is

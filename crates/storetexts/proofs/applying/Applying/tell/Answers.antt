@@ -24,7 +24,7 @@ loop-index-preserved g c =
       told = search rules;
       settled = λ before. settled_more durable os i c.index.result.now lt (c.loop-index.invariant.settled before) (subst (IsSettled durable) (sym here) settled);
       lines = λ before told. told_more os i c.index.result.now before _ _ lt (c.loop-index.invariant.lines before told)
-          (subst (λ (r : Replied). Appends (g.W.Write.contents (writer_of c.loop-index.out)) (g.W.Write.contents (writer_of c.put_reply.new.out)) (printed_reply r)) replied c.in_ok-put_reply.ensures.ok);
+          (subst (λ (r : Replied). Appends (g.W.Write.contents (writer_of c.loop-index.out)) (g.W.Write.contents (writer_of c.put_reply.new.out)) (printed_reply r)) replied c.in_ok-put_reply.ensures.written);
       counts = c.in_ok-put_reply.ensures.counts ∙ c.loop-index.invariant.counts;
       same = c.in_ok-put_reply.ensures.same ∙ c.loop-index.invariant.same;
     }

@@ -1,4 +1,0 @@
-use Rattle.dimacs.proofs.pairs.parse_p2p.Given as goal
-
-abbrev pub ghosts-parse_items : goal.ghosts-parse_items
-ghosts-parse_items a = record { nodes = a.nodes }

@@ -1,0 +1,164 @@
+// Whether groups lead from one network to another, told without memory.
+ghost use Rattle.std.specs.Prelude.{◌≡◌, ◌≤◌, ◌<◌, ◌+◌, None, Some, option_map};
+ghost use Rattle.std.specs.Bool.{Decides};
+ghost use Rattle.roadnet.specs.Net.{Net, IsNetwork, longest_arc, most_nodes};
+ghost use Rattle.roadnet.specs.Step.{after, changed, first_refusal, new_arc, refusal_of};
+ghost use Rattle.roadnet.specs.Batches.{changed_by, changed_by_all, first_refusal_of_all};
+ghost use Rattle.keeper.specs.Leading.{Sees};
+
+use roadnet::{Command, Group, Network, RoadArc};
+
+/// What is seen of a network at one number: its arc, if there is one, whether its node is a landmark, and how many arcs there are.
+#[derive(Clone, Copy, Debug, PartialEq, Eq)]
+struct Seen {
+    arc: Option<RoadArc>,
+    marked: bool,
+    arcs: u64,
+}
+
+/// One more, where that is a number of 64 bits.
+fn one_more(n: u64) -> u64
+    ensures { n < 18446744073709551615 → result ≡ n + 1 }
+{
+    if n < u64::MAX { n + 1 } else { n }
+}
+
+/// An arc of this length.
+fn with_length(arc: Option<RoadArc>, length: u64) -> Option<RoadArc>
+    ensures { length ≤ longest_arc → result ≡ option_map (λ (arc : RoadArc). record arc { length = length }) arc }
+{
+    let mut arc = arc?;
+    arc.length = length.min(2_147_483_647) as u32;
+    Some(arc)
+}
+
+/// An arc that walks may take, or that they may not.
+fn with_flag(arc: Option<RoadArc>, opened: bool) -> Option<RoadArc>
+    ensures { result ≡ option_map (λ (arc : RoadArc). record arc { opened = opened }) arc }
+{
+    let mut arc = arc?;
+    arc.opened = opened;
+    Some(arc)
+}
+
+/// An open arc of these ends and this length.
+fn laid(tail: u64, head: u64, length: u64) -> RoadArc
+    ensures { tail ≤ most_nodes → head ≤ most_nodes → length ≤ longest_arc → result ≡ new_arc tail head length }
+{
+    RoadArc {
+        tail: tail.min(33_554_432) as u32,
+        head: head.min(33_554_432) as u32,
+        length: length.min(2_147_483_647) as u32,
+        opened: true,
+    }
+}
+
+/// What is seen at number `k` after an admitted command.
+fn seen_after_one(command: &Command, k: u64, seen: Seen) -> Seen
+    ensures { (net : Net) → IsNetwork net → refusal_of net command.now ≡ None → Sees net k seen → Sees (changed net command.now) k result }
+{
+    let Seen { arc, marked, arcs } = seen;
+    match *command {
+        Command::Set { arc: named, length } => {
+            if named != k {
+                return seen;
+            }
+            let arc = with_length(arc, length);
+            Seen { arc, marked, arcs }
+        }
+        Command::Close { arc: named } => {
+            if named != k {
+                return seen;
+            }
+            let arc = with_flag(arc, false);
+            Seen { arc, marked, arcs }
+        }
+        Command::Reopen { arc: named } => {
+            if named != k {
+                return seen;
+            }
+            let arc = with_flag(arc, true);
+            Seen { arc, marked, arcs }
+        }
+        Command::Mark { node } => {
+            if node != k {
+                return seen;
+            }
+            let marked = true;
+            Seen { arc, marked, arcs }
+        }
+        Command::Unmark { node } => {
+            if node != k {
+                return seen;
+            }
+            let marked = false;
+            Seen { arc, marked, arcs }
+        }
+        Command::Lay { tail, head, length } => {
+            let arcs = one_more(arcs);
+            if arcs != k {
+                return Seen { arc, marked, arcs };
+            }
+            let arc = Some(laid(tail, head, length));
+            Seen { arc, marked, arcs }
+        }
+    }
+}
+
+/// What is seen at number `k` after commands that are admitted, each in its turn.
+fn seen_after(commands: &[Command], k: u64, seen: Seen) -> Seen
+    ensures { (net : Net) → IsNetwork net → first_refusal net commands.now ≡ None → Sees net k seen → Sees (changed_by net commands.now) k result }
+{
+    let mut last = seen;
+    for command in commands {
+        last = seen_after_one(command, k, last);
+    }
+    last
+}
+
+/// What is seen at number `k` after groups of which each command is admitted in its turn.
+fn seen_after_all(groups: &[Group], k: u64, seen: Seen) -> Seen
+    ensures { (net : Net) → IsNetwork net → first_refusal_of_all net groups.now ≡ None → Sees net k seen → Sees (changed_by_all net groups.now) k result }
+{
+    let mut last = seen;
+    for group in groups {
+        last = seen_after(group.commands(), k, last);
+    }
+    last
+}
+
+/// What is seen of a network at number `k`.
+fn see(network: &Network, k: u64) -> Seen
+    ensures { Sees network.now k result }
+{
+    Seen {
+        arc: network.arc(k),
+        marked: network.is_landmark(k),
+        arcs: network.arcs().len() as u64,
+    }
+}
+
+/// Whether the same is seen.
+fn is_same(one: Seen, other: Seen) -> bool
+    ensures { Decides result (one ≡ other) }
+{
+    one == other
+}
+
+/// Whether groups that a network admits lead to another. It takes no memory, and looks at each command once for each arc and node.
+pub(crate) fn lead_to(network: &Network, groups: &[Group], other: &Network) -> bool
+    requires { first_refusal_of_all network.now groups.now ≡ None }
+    ensures { Decides result (after network.now groups.now ≡ Some other.now) }
+{
+    if network.nodes() != other.nodes() || network.room() != other.room() {
+        return false;
+    }
+    let most = u64::from(other.nodes()).max(other.arcs().len() as u64);
+    for k in 0..most + 1 {
+        let seen = seen_after_all(groups, k, see(network, k));
+        if !is_same(seen, see(other, k)) {
+            return false;
+        }
+    }
+    true
+}

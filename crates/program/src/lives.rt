@@ -1,0 +1,96 @@
+//! The life of a server: it takes so many commands, and ends where a group might find no place among them, so that it is started again.
+ghost use Rattle.std.specs.Prelude.{◌≡◌, ◌+◌, IfErr, nat_lt};
+ghost use Rattle.roadnet.specs.Groups.{count_of, most_of_group};
+ghost use Rattle.machine.specs.Machine.{most_of_life};
+ghost use Rattle.desk.specs.Openings.{IsUnstarted};
+
+use desk::{Closed, Gate, Handle, Naming};
+use disk::Disk;
+use machine::MOST_OF_LIFE;
+use roadnet::{Group, MOST_OF_GROUP, Refusal};
+use sessions::let_go;
+use std::fs::{self, File, OpenOptions};
+use std::io::{self, Write};
+use std::os::unix::fs::FileTypeExt;
+use std::rt::Files;
+use std::sync::Wait;
+use std::thread::{self, Threads};
+use std::time::{Clock, Duration};
+
+/// The standard input of the process, by which it may be opened once more.
+const INPUT: &str = "/proc/self/fd/0";
+
+/// How many seconds stand between two looks at a desk.
+const APART: u64 = 1;
+
+/// Writes the line `quit` behind all that the standard input has, where that is a pipe. A line that is begun there ends before it.
+fn quit_input<R: Files<File = File>>(rt: &R) -> io::Result<()> {
+    if !fs::metadata(rt, INPUT)?.file_type().is_fifo() {
+        return Ok(());
+    }
+    let mut input = OpenOptions::new().write(true).open(rt, INPUT)?;
+    input.write_all(b"\nquit\n")
+}
+
+/// Looks each second whether a desk may take a group more, until it is closed, and tells the server `quit` once it may not.
+fn watch_life<
+    N: Naming,
+    D: Disk + Drop,
+    G: Gate + Drop,
+    R: Wait + Clock + Files<File = File> + Copy,
+>(rt: &R, desk: &Handle<N, D, G, R>) {
+    for _ in rt.forever() {
+        let Ok(state) = desk.state() else {
+            return;
+        };
+        if state.left < MOST_OF_GROUP as u64 {
+            let _ = quit_input(rt);
+            return;
+        }
+        thread::sleep(rt, Duration::from_secs(APART));
+    }
+}
+
+/// Starts a thread that ends a server once its desk may take no group more, and lets it go: it ends once the desk is closed, or is cut off where the program ends.
+/// Refused is want of memory (11) and of threads (63).
+pub fn start_watching<
+    N: Naming + Send + Sync + 'static,
+    D: Disk + Drop + Send + 'static,
+    G: Gate + Drop + Send + Sync + 'static,
+    R: Threads + Wait + Clock + Files<File = File> + Copy + Send + Sync + 'static,
+>(rt: R, desk: &Handle<N, D, G, R>) -> Result<(), Refusal>
+where
+    R::Dir: Send + 'static,
+    ensures causes { IfErr result IsUnstarted }
+{
+    let Ok(desk) = desk.again() else {
+        return Err(Refusal::OutOfMemory);
+    };
+    let_go(
+        &rt,
+        desk,
+        (),
+        move |desk: Handle<N, D, G, R>, _nothing: ()| watch_life(&rt, &desk),
+    )
+}
+
+/// Whether these groups leave fewer commands of a life than a group may have.
+fn leave_too_few(groups: &[Group]) -> bool
+    ensures { result ≡ nat_lt most_of_life (count_of groups.now + most_of_group) }
+{
+    let mut count = 0;
+    for group in groups {
+        count += group.commands().len();
+        if count + MOST_OF_GROUP > MOST_OF_LIFE {
+            return true;
+        }
+    }
+    false
+}
+
+/// Whether a closed desk took so many commands of its life that fewer are left than a group may have.
+pub fn is_spent<D: Disk>(closed: &Closed<D>) -> bool
+    ensures { result ≡ nat_lt most_of_life (count_of closed.now.whole.groups + most_of_group) }
+{
+    leave_too_few(&closed.history)
+}

@@ -1,5 +1,0 @@
-use Rattle.std.proofs.lemmas.Result.{IfOk-weaker}
-use Rattle.rows.proofs.views.View.reach_in.Goals as goal
-
-pub returns-in-Some : goal.returns-in-Some
-returns-in-Some g c = record { reach = IfOk-weaker c.reach_of_row.result _ _ (λ told each. each c.args.self.now.network c.args.source c.in-Some.ensures) c.reach_of_row.ensures.reach }

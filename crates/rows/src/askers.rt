@@ -1,0 +1,340 @@
+//! Whoever asks a network: for a length, a row, or what lies near a node.
+
+ghost use Rattle.std.specs.Prelude.{◌≡◌, true, IfOk, IfErr, IfSome, OnOk, MatchOption};
+ghost use Rattle.deltastep.specs.Reach.{AreNearest, IsReach, IsReachTo};
+ghost use Rattle.roadnet.specs.Net.{IsNetwork, IsNode};
+ghost use Rattle.roadnet.specs.Reversal.{reversed};
+ghost use Rattle.roadnet.specs.Step.{is_node};
+ghost use Rattle.roadnet.specs.Walks.{Least, NoWalk, RowOf};
+ghost use Rattle.snapshot.specs.Groups.{IsSnapshotOf};
+ghost use Rattle.rows.specs.Nearby.{node_of, IsNear, IsUntold};
+ghost use Rattle.rows.specs.Replies.{IsDistance};
+
+use crate::nearby::{Near, count_of};
+use crate::queries::Reply;
+use crate::turning::{WIDEST, turned_groups};
+use crate::views::View;
+use deltastep::{
+    Distances, NodeDistance, RowError, Workspace, distance_to_in, nearest_in, nearest_of_row,
+    reach_in, reach_of_row, reached_in, row_in,
+};
+use relax::Team;
+use roadnet::{Network, OutOfMemory, Refusal};
+use snapshot::Snapshot;
+use std::alloc::Global;
+use std::marker::Model;
+
+/// A network that is asked: its open arcs, grouped, and the view that it is of, if it is of one, for the rows of its landmarks. Contracts see it as a view.
+/// Its searches take up what earlier ones left in a workspace, and leave their own memory there.
+#[derive(Drop)]
+pub struct Asker<'a> {
+    version: u64,
+    network: &'a Network,
+    groups: &'a Snapshot,
+    view: Option<&'a View>,
+    /// The open arcs the other way round, grouped, where they are given.
+    turned: Option<&'a Snapshot>,
+}
+
+impl<'a> Model for Asker<'a> {
+    ghost use Rattle.std.specs.Prelude.{◌≡◌};
+    ghost use Rattle.std.specs.Option.{ForSome};
+    ghost use Rattle.roadnet.specs.Reversal.{reversed};
+    ghost use Rattle.snapshot.specs.Groups.{IsSnapshotOf};
+    ghost use Rattle.rows.specs.Views.{Viewed};
+
+    ghost Value = { Viewed };
+
+    ghost view = { λ a. record { version = a.version; network = a.network.now; delta = a.groups.now.delta } };
+
+    ghost invariant = { λ a.
+        IsSnapshotOf a.network.now a.groups.now
+        × ForSome a.view (λ view. view.now.network ≡ a.network.now)
+        × ForSome a.turned (λ back. IsSnapshotOf (reversed a.network.now) back.now) };
+}
+
+impl<'a> Asker<'a> {
+    /// Whoever asks a network by its groups alone: no row of a landmark is there.
+    pub fn of(version: u64, network: &'a Network, groups: &'a Snapshot) -> Asker<'a>
+        requires { IsSnapshotOf network.now groups.now }
+        ensures { result ≡ record { version = version; network = network.now; delta = groups.now.delta } }
+    {
+        Asker {
+            version,
+            network,
+            groups,
+            view: None,
+            turned: None,
+        }
+    }
+
+    /// Whoever asks a view.
+    pub(crate) fn of_view(view: &'a View) -> Asker<'a>
+        ensures { result ≡ view.now }
+    {
+        Asker {
+            version: view.version(),
+            network: view.network(),
+            groups: view.snapshot(),
+            view: Some(view),
+            turned: None,
+        }
+    }
+
+    /// The same, with the open arcs of the network the other way round, as `turn` makes them.
+    pub fn with_turned(self, turned: &'a Snapshot) -> Asker<'a>
+        requires { IsSnapshotOf (reversed self.network) turned.now }
+        ensures { result ≡ self.entry }
+    {
+        Asker {
+            turned: Some(turned),
+            ..self
+        }
+    }
+
+    /// The version of the network.
+    pub(crate) fn version(&self) -> u64
+        ensures { result ≡ self.now.version }
+    {
+        self.version
+    }
+
+    /// The network.
+    pub(crate) fn network(&self) -> &Network
+        ensures { result.now ≡ self.now.network }
+    {
+        self.network
+    }
+
+    /// The open arcs of the network, grouped.
+    pub(crate) fn groups(&self) -> &Snapshot
+        ensures { IsSnapshotOf self.now.network result.now }
+    {
+        self.groups
+    }
+
+    /// The view that is asked, if one is.
+    fn view(&self) -> Option<&View>
+        ensures { IfSome result (λ view. view.now.network ≡ self.now.network) }
+    {
+        self.view
+    }
+
+    /// The row of a node that is there: the one that is given, or that of a landmark of the view.
+    fn row_had<'b>(&'b self, node: u32, kept: Option<&'b Distances>) -> Option<&'b Distances>
+        requires { IfSome kept (λ row. RowOf self.now.network node row.now) }
+        ensures { IfSome result (λ row. RowOf self.now.network node row.now) }
+    {
+        if let Some(row) = kept {
+            return Some(row);
+        }
+        let view = self.view()?;
+        let own = view.find_row(node)?;
+        Some(&own.distances)
+    }
+
+    /// A new row of a node, of 4 or 8 bytes a node. The one error is want of memory.
+    pub fn row<T: Team>(
+        &self,
+        alloc: Global,
+        source: u32,
+        team: &T,
+        workspace: &mut Workspace,
+    ) -> Result<Distances, OutOfMemory>
+        requires { IsNode self.now.network source }
+        ensures { IfOk result (RowOf self.now.network source) }
+    {
+        match row_in(alloc, self.groups(), source, team, workspace) {
+            Ok(row) => Ok(row),
+            Err(RowError::OutOfMemory) => Err(OutOfMemory),
+        }
+    }
+
+    /// The least length of a walk between two nodes, or nothing where no walk leads from the one to the other.
+    fn length<T: Team>(
+        &self,
+        alloc: Global,
+        source: u32,
+        target: u32,
+        team: &T,
+        workspace: &mut Workspace,
+    ) -> Result<Option<u64>, RowError>
+        requires source { IsNode self.now.network source }
+        requires target { IsNode self.now.network target }
+        ensures { IfOk result (λ length. MatchOption length (NoWalk self.now.network source target) (Least self.now.network source target)) }
+    {
+        match self.view() {
+            Some(view) => view.distance_in(alloc, source, target, team, workspace),
+            None => distance_to_in(alloc, self.groups(), source, target, team, workspace),
+        }
+    }
+
+    /// The reply to `Dist` of two nodes, by a search that ends at the target: led by the rows of the view's landmarks, where there are some. It keeps no
+    /// row. The one error is want of memory.
+    ///
+    /// In the network of `examples/six.gr`, from 1 to 6 it is `Length(15)`, and from 6 to 1 `NoWalk`.
+    pub fn distance<T: Team>(
+        &self,
+        alloc: Global,
+        source: u32,
+        target: u32,
+        team: &T,
+        workspace: &mut Workspace,
+    ) -> Result<Reply, OutOfMemory>
+        requires source { IsNode self.now.network source }
+        requires target { IsNode self.now.network target }
+        ensures { IfOk result (IsDistance self.now.network source target) }
+    {
+        match self.length(alloc, source, target, team, workspace) {
+            Ok(Some(length)) => Ok(Reply::Length(length)),
+            Ok(None) => Ok(Reply::NoWalk),
+            Err(RowError::OutOfMemory) => Err(OutOfMemory),
+        }
+    }
+
+    /// The nodes that the source reaches within the limit: by its row, where one is there, else by a search that ends beyond the limit.
+    fn reach<T: Team>(
+        &self,
+        alloc: Global,
+        source: u32,
+        limit: u64,
+        kept: Option<&Distances>,
+        team: &T,
+        workspace: &mut Workspace,
+    ) -> Result<Vec<NodeDistance>, RowError>
+        requires source { IsNode self.now.network source }
+        requires kept { IfSome kept (λ row. RowOf self.now.network source row.now) }
+        ensures reach { IfOk result (λ told. IsReach self.now.network source limit told.items) }
+    {
+        if let Some(row) = self.row_had(source, kept) {
+            return reach_of_row(alloc, row, self.network().nodes(), limit);
+        }
+        reach_in(alloc, self.groups(), source, limit, team, workspace)
+    }
+
+    /// The open arcs of the network the other way round, grouped by the same width, over which `near` searches the nodes from which one is reached. The one
+    /// error is want of memory, for 16 bytes an arc on the way, and 8 an open arc and 8 a node.
+    pub fn turn(&self, alloc: Global) -> Result<Snapshot, OutOfMemory>
+        ensures { IfOk result (IsSnapshotOf (reversed self.now.network)) }
+    {
+        let delta = self.groups().delta().min(WIDEST);
+        turned_groups(alloc, self.network(), delta)
+    }
+
+    /// These arcs, where they are given.
+    fn turned(&self) -> Option<&Snapshot>
+        ensures network { IsNetwork self.now.network }
+        ensures arcs { IfSome result (λ back. IsSnapshotOf (reversed self.now.network) back.now) }
+    {
+        let _nodes = self.network.nodes();
+        self.turned
+    }
+
+    /// The nodes from which the target is reached within the limit, by a search over the arcs turned round: those that are given, else new ones.
+    fn reached<T: Team>(
+        &self,
+        alloc: Global,
+        target: u32,
+        limit: u64,
+        team: &T,
+        workspace: &mut Workspace,
+    ) -> Result<Vec<NodeDistance>, RowError>
+        requires target { IsNode self.now.network target }
+        ensures reached { IfOk result (λ told. IsReachTo self.now.network target limit told.items) }
+    {
+        if let Some(back) = self.turned() {
+            return reached_in(alloc, back, target, limit, team, workspace);
+        }
+        let back = self.turn(alloc)?;
+        reached_in(alloc, &back, target, limit, team, workspace)
+    }
+
+    /// The landmarks nearest to the source: by its row, where one is there, else by a search that ends as soon as so many are final.
+    fn nearest<T: Team>(
+        &self,
+        alloc: Global,
+        source: u32,
+        count: u32,
+        kept: Option<&Distances>,
+        team: &T,
+        workspace: &mut Workspace,
+    ) -> Result<Vec<NodeDistance>, RowError>
+        requires source { IsNode self.now.network source }
+        requires kept { IfSome kept (λ row. RowOf self.now.network source row.now) }
+        ensures nearest { IfOk result (λ told. AreNearest self.now.network source self.now.network.landmarks count told.items) }
+    {
+        let landmarks = self.network().landmarks();
+        if let Some(row) = self.row_had(source, kept) {
+            return nearest_of_row(alloc, row, landmarks, count);
+        }
+        nearest_in(
+            alloc,
+            self.groups(),
+            source,
+            landmarks,
+            count,
+            team,
+            workspace,
+        )
+    }
+
+    /// What is asked of the nodes near this one of the network's nodes.
+    fn found<T: Team>(
+        &self,
+        alloc: Global,
+        near: Near,
+        node: u32,
+        kept: Option<&Distances>,
+        team: &T,
+        workspace: &mut Workspace,
+    ) -> Result<Vec<NodeDistance>, RowError>
+        requires node { IsNode self.now.network node }
+        requires asked { node ≡ node_of near }
+        requires kept { IfSome kept (λ row. RowOf self.now.network node row.now) }
+        ensures { IfOk result (λ told. IsNear self.now.network near told.items) }
+    {
+        match near {
+            Near::Reach { source: _, limit } => {
+                self.reach(alloc, node, limit, kept, team, workspace)
+            }
+            Near::Reached { target: _, limit } => {
+                self.reached(alloc, node, limit, team, workspace)
+            }
+            Near::Nearest { source: _, count } => {
+                self.nearest(alloc, node, count_of(count), kept, team, workspace)
+            }
+        }
+    }
+
+    /// The nodes near one, each with its least length: those that walks from a source reach within a limit, or from which walks reach a target within it,
+    /// ascending by node; or the landmarks nearest to a source, ascending by length, and of two as near the one of the lower number first, fewer where walks
+    /// lead to fewer. Where a row of the node is given, or the source is a landmark of the view, they are told by that; else by a search that ends beyond the
+    /// limit, or as soon as so many landmarks are final. The nodes from which a target is reached are searched over the arcs turned round: those that `turn`
+    /// made, where they are given, else new ones.
+    ///
+    /// Refused is a number that is no node's (24), and want of memory (11).
+    ///
+    /// In the network of `examples/six.gr` with the landmarks 3 and 6, from 1 within 10 there are 1, 2, 3 and 5, with the lengths 0, 10, 10 and 10; to 4 within
+    /// 2 lead 2, 3, 4 and 5, with 2, 2, 0 and 2; and nearest to 1 is 3 at 10.
+    pub fn near<T: Team>(
+        &self,
+        alloc: Global,
+        near: Near,
+        kept: Option<&Distances>,
+        team: &T,
+        workspace: &mut Workspace,
+    ) -> Result<Vec<NodeDistance>, Refusal>
+        requires { IfSome kept (λ row. RowOf self.now.network (node_of near) row.now) }
+        ensures near { IfOk result (λ told. IsNear self.now.network near told.items) }
+        ensures node { OnOk result (is_node self.now.network (node_of near) ≡ true) }
+        ensures causes { IfErr result (IsUntold (is_node self.now.network (node_of near))) }
+    {
+        if !self.network().has_node(near.node()) {
+            return Err(Refusal::NoSuchNode);
+        }
+        match self.found(alloc, near, near.node() as u32, kept, team, workspace) {
+            Ok(told) => Ok(told),
+            Err(RowError::OutOfMemory) => Err(Refusal::OutOfMemory),
+        }
+    }
+}

@@ -1,0 +1,26 @@
+//! The arcs of a network the other way round, grouped.
+
+ghost use Rattle.std.specs.Prelude.{IfOk, OnOk};
+ghost use Rattle.roadnet.specs.Net.{IsNetwork};
+ghost use Rattle.roadnet.specs.Reversal.{reversed};
+ghost use Rattle.snapshot.specs.Groups.{IsSnapshotOf};
+ghost use Rattle.rows.specs.Kept.{IsWidth};
+
+use roadnet::{Network, OutOfMemory};
+use snapshot::Snapshot;
+use std::alloc::Global;
+
+/// The greatest width of a search's buckets.
+pub const WIDEST: u32 = 2_147_483_647;
+
+/// The open arcs of a network the other way round, grouped by this width, for searches of the walks to a node. Its one error is want of
+/// memory, for 16 bytes an arc on the way, and 8 an open arc and 8 a node.
+pub fn turned_groups(alloc: Global, network: &Network, delta: u32) -> Result<Snapshot, OutOfMemory>
+    requires delta { IsWidth delta }
+    ensures network { OnOk result (IsNetwork network.now) }
+    ensures arcs { IfOk result (IsSnapshotOf (reversed network.now)) }
+{
+    let back = network.reversed()?;
+    let turned = Snapshot::build(alloc, &back, delta)?;
+    Ok(turned)
+}

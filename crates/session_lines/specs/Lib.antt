@@ -1,0 +1,10 @@
+pub mod Spelled
+pub mod Names
+pub mod Words
+pub mod Fields
+pub mod Tables
+pub mod Listings
+pub mod SessionLines
+pub mod Judging
+pub mod Reads
+pub mod Drafts

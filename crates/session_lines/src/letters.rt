@@ -1,0 +1,65 @@
+//! The bytes of a line's first field.
+ghost use Rattle.std.specs.Prelude.{◌≡◌, ◌≤◌, ◌∷◌, ◌++◌, [], take, MatchOption};
+ghost use Rattle.std.specs.Str.{bytes_eq};
+ghost use lib.Chars.{codes};
+ghost use Rattle.session_lines.specs.Spelled.{word_from};
+
+use crate::words::{Word, is_copy, is_table, word_of};
+
+/// The most bytes that a word has.
+const LONGEST_WORD: usize = 9;
+
+/// The bytes of a line's first field, as many as a word may have.
+#[derive(Clone, Copy)]
+pub struct Letters {
+    bytes: [u8; LONGEST_WORD],
+    count: usize,
+    ghost few: { count ≤ 9 },
+}
+
+impl Letters {
+    /// One letter.
+    pub fn one(byte: u8) -> Letters
+        ensures { take result.count result.bytes ≡ byte ∷ [] }
+    {
+        let mut bytes = [0; LONGEST_WORD];
+        bytes[0] = byte;
+        Letters { bytes, count: 1 }
+    }
+
+    /// One letter more, where a word has so many.
+    pub fn with(self, byte: u8) -> Option<Letters>
+        ensures { MatchOption result (self.count ≡ 9) (λ more. take more.count more.bytes ≡ take self.count self.bytes ++ byte ∷ []) }
+    {
+        if self.count == LONGEST_WORD {
+            return None;
+        }
+        let mut bytes = self.bytes;
+        bytes[self.count] = byte;
+        Some(Letters {
+            bytes,
+            count: self.count + 1,
+        })
+    }
+
+    /// The word that they spell.
+    pub fn word(&self) -> Option<Word>
+        ensures { result ≡ word_from (take self.now.count self.now.bytes) }
+    {
+        word_of(&self.bytes[..self.count])
+    }
+
+    /// Whether they spell `copy`, behind which a name stands.
+    pub fn are_copy(&self) -> bool
+        ensures { result ≡ bytes_eq (take self.now.count self.now.bytes) (codes "copy") }
+    {
+        is_copy(&self.bytes[..self.count])
+    }
+
+    /// Whether they spell `table`, behind which as many numbers stand as the first two of them say.
+    pub fn are_table(&self) -> bool
+        ensures { result ≡ bytes_eq (take self.now.count self.now.bytes) (codes "table") }
+    {
+        is_table(&self.bytes[..self.count])
+    }
+}

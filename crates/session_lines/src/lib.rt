@@ -1,0 +1,18 @@
+//! The lines of a session: how they are read, byte by byte, and what each asks for.
+#![tactic(auto)]
+
+mod asked_tables;
+mod drafts;
+mod fields;
+mod letters;
+mod lines;
+mod names;
+mod reading;
+mod tables;
+mod words;
+
+pub use asked_tables::Table;
+pub use drafts::{Draft, NoGroup};
+pub use lines::{Line, is_end, is_quit, is_suppose};
+pub use names::Name;
+pub use reading::{LastLine, next_line};

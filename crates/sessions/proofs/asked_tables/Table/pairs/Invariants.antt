@@ -1,6 +1,0 @@
-use Rattle.std.proofs.Common.{◌≡◌, take}
-use Rattle.sessions.specs.Tables.{pairs_of}
-use Rattle.sessions.proofs.asked_tables.Table.pairs.Given as goal
-
-abbrev pub invariant-loop-source : goal.invariant-loop-source
-invariant-loop-source l = l.pairs.items ≡ pairs_of (take l.source-index l.sources) l.targets

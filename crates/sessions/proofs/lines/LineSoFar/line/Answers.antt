@@ -1,4 +1,0 @@
-use Rattle.sessions.proofs.lines.LineSoFar.line.Goals as goal
-
-pub returns : goal.returns
-returns c front is = rw is.plain (c.line.ensures is.judged is.stage)

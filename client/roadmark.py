@@ -11,10 +11,11 @@ A session begins in one of three ways, and ends with `close`, or with the `with`
 
 Each call tells one line, or one group, and reads its whole answer. What may go wrong is a `Fault`:
 
-    Refused     the server answered `no CODE`: `code` and `name` say why, and the session goes on
+    Refused     the server answered `no CODE`: `code` and `name` say why, and the session goes on. 54 NotYet: the version that `until` waits for was not shown within the
+                server's `--patience`. 64 AsksAlone: this pair of pipes is for clients that change nothing
     Unknown     a session over a log had no answer about a change in time: tell it again with the same id
     Late        the answer did not come within `seconds`, or within the session's `patience`
-    Lost        the connection ended before the answer did, or there was none to be had
+    Lost        the connection ended before the answer did, or there was none to be had: so also where the server has taken all commands of its life, and is started again
     Garbled     what came is no answer to the line that was told
 
 After the last three the session is over, and `fault` says why: close it, and begin another one. A command that was told then may have been carried out.
@@ -41,7 +42,8 @@ from roadmark_wires import Address, Connection, Pair, Path, Process, Wire, lease
 __all__ = ["ANSWERS", "CODES", "COMMANDS", "OTHER", "OVER_A_LOG", "Answer", "Arc", "Expected", "Fault", "Garbled", "Late", "Length", "Lost", "Refused", "Row", "Session", "Shape", "Talk", "Unknown",
            "Wire", "digits_of", "fields_of"]
 
-PATIENCE = 30.0
+# More than the server's own `--patience`, which is 30 seconds where none is given: so `until` is answered, and the session goes on.
+PATIENCE = 60.0
 Length = int | None
 
 @dataclasses.dataclass(frozen=True)
@@ -243,7 +245,7 @@ class Session:
         return self.number("wait", seconds=seconds)
 
     def until(self, version: int, seconds: float | None = None) -> int:
-        """Waits until the version is shown, whoever's commands lead to it; the version that is shown then."""
+        """Waits until the version is shown, whoever's commands lead to it; the version that is shown then. Where the server's patience ends before, it is `Refused` with 54."""
         return self.number(f"until {version}", seconds=seconds)
 
     def suppose(self, commands: Iterable[str], seconds: float | None = None) -> int:
@@ -254,7 +256,7 @@ class Session:
         self.ask("forget", seconds=seconds)
 
     def state(self, seconds: float | None = None) -> dict[str, str]:
-        """How the server stands: the words of its line, each with what stands behind it."""
+        """How the server stands: the words of its line, `shown`, `durable` .. `arcs`, `room`, `clients`, `pairs`, `waiting` and `uptime`, each with what stands behind it."""
         words = self.ask("state", seconds=seconds).lines[0].split()
         return dict(zip(words[1::2], words[2::2]))
 

@@ -1,4 +1,4 @@
-"""What each line of a session answers (docs/PROGRAM.md, "A session"): the one table of it, and a reader that takes answers line by line. Nothing here reads or writes."""
+"""What each line of a session answers (docs/MANUAL.md, "A session"): the one table of it, and a reader that takes answers line by line. Nothing here reads or writes."""
 from __future__ import annotations
 
 import enum
@@ -13,7 +13,7 @@ CODES = {
     11: "OutOfMemory", 12: "Write", 13: "GroupSize", 14: "OpenGroup", 20: "NoSuchArc", 21: "LengthRange", 22: "AlreadyClosed", 23: "AlreadyOpen", 24: "NoSuchNode",
     25: "AlreadyLandmark", 26: "NotALandmark", 27: "TooManyLandmarks", 28: "VersionsExhausted", 29: "NoRoom", 40: "NotAStore", 41: "WrongFormat", 42: "Damaged", 43: "Device",
     44: "JournalFull", 45: "Broken", 46: "NotEmpty", 50: "QueueFull", 51: "NoTask", 52: "OtherNetwork", 53: "NothingPending", 54: "NotYet", 60: "NoReaderPlace", 61: "Closed",
-    62: "HistoryFull", 63: "NoThread",
+    62: "HistoryFull", 63: "NoThread", 64: "AsksAlone",
 }
 
 def shortened(text: str) -> str:

@@ -3,7 +3,8 @@
 #   examples/attach.sh FOLDER        (the pipes FOLDER/*.in and FOLDER/*.out: examples/pairs.sh)
 # A pair is leased by a lock of FOLDER/N.lock, which every process here holds, and given back once the server has closed its end. Whatever was killed before, no client gets
 # an answer that is another's: each lease begins with a session of no line, and what that one is told, as the rest of one before, is thrown away.
-# A pair at which that takes more than a second is passed over. Where none answers, or no server is there for ten seconds, it says so and ends with status 1.
+# A pair at which that takes more than a second is passed over: its server may wait for a version (`until`) for a client that has gone, for as long as its patience is.
+# Where none answers for a minute, or no server is there for ten seconds, it says so and ends with status 1.
 set -eu
 fail() { echo "attach.sh: $1" >&2; exit 1; }
 [ $# = 1 ] || { echo "usage: examples/attach.sh FOLDER" >&2; exit 2; }
@@ -42,7 +43,7 @@ while :; do
         tries=$((tries + 1))
         [ "$tries" -lt 10 ] || is_served || fail "no server is at the pipes in $folder"
     done
-    [ "$is_leased" = yes ] || [ "$tries" -lt 10 ] || fail "no pair of pipes in $folder answers"
+    [ "$is_leased" = yes ] || [ "$tries" -lt 60 ] || fail "no pair of pipes in $folder answers"
     sleep 0.02
 done
 exec 5>&-

@@ -2,7 +2,7 @@
 """Clients of one server, over a local socket behind which examples/attach.sh stands: four connections that ask at once, and a fifth that changes the network meanwhile.
 It needs five pairs of pipes: a connection that finds none free waits, and after ten seconds without an answer the script gives up. In the end it opens the arc again.
 
-    examples/clients.py SOCKET        (docs/PROGRAM.md, "Many clients", has the server and the socket)
+    examples/clients.py SOCKET        (docs/OPERATING.md, "Many clients", has the server and the socket)
 """
 import concurrent.futures
 import pathlib

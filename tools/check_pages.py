@@ -1,7 +1,7 @@
 #!/usr/bin/env python3
-"""Checks README.md and docs/*.md: that each relative link leads to a file and a heading, that each path of the repository that they name is there,
-that no cell of docs/PROMISES.md is longer than 300 characters, that README.md and docs/DECISIONS.md are no longer than they are meant to be, and that each number of edits
-that a page tells is that of the files crates/*/must-fail/*.edit.
+"""Checks README.md and docs/*.md: that each relative link leads to a file and a heading, that each path of the repository that they name is there, that no line
+outside of tables and code is longer than 100 characters, that no page has a heading twice, and that each number of edits that a page has is that of the files
+crates/*/must-fail/*.edit. Pages, scripts, units and the client module may name a heading as `docs/PAGE.md, "Heading"`: that page has to have it.
 
     tools/check_pages.py
 """
@@ -11,25 +11,38 @@ import sys
 
 TOP = pathlib.Path(__file__).resolve().parent.parent
 PAGES = [TOP / "README.md", *sorted((TOP / "docs").glob("*.md"))]
+NAMING = [*PAGES, *(file for folder in ("client", "examples", "tools", "web") for file in sorted((TOP / folder).rglob("*")) if file.suffix in (".py", ".sh", ".service", ".socket", ".cfg", ".conf"))]
 LINK = re.compile(r"\]\(([^)\s]+)\)")
 # A path of the repository, as pages name it: `docs/X.md` with or without marks, and files of crates between marks.
 NAMED = re.compile(r"(?<![\w/`.-])(?:docs|tools|examples|client)/[\w.-]*\w|`((?:crates|docs|tools|examples|client)/[\w./-]+)`")
+# A heading of a page, as other files name it: docs/X.md, "Heading", or [X.md](X.md), "Heading".
+HEADING = re.compile(r'\b(\w+\.md)(?:\]\([^)]*\))?,\s+"([^"]+)"')
 # Not there before the program is built, or made by a tour.
 MADE = ("crates/roadmark/out", "crates/NAME")
-# A number of edits, as pages tell it.
+# A number of edits, as pages have it.
 EDITS = re.compile(r"(?<![\w.,])(\d+) edits\b")
-MOST_WORDS = {"README.md": 1500, "DECISIONS.md": 6000}
-LONGEST_CELL = 300
+LONGEST_LINE = 100
 
 
-def anchors(page):
-    """The anchors of a page's headings."""
-    found = set()
-    for line in page.read_text().splitlines():
-        if line.startswith("#"):
-            name = re.sub(r"[^\w\- ]", "", line.lstrip("#").strip().lower().replace("`", ""))
-            found.add(name.replace(" ", "-"))
-    return found
+def headings(page):
+    """The headings of a page, in their order."""
+    return [line.lstrip("#").strip() for line, is_prose in lines_of(page.read_text()) if is_prose and re.match(r"#+ ", line)]
+
+
+def anchor_of(heading):
+    """The anchor by which links name a heading."""
+    return re.sub(r"[^\w\- ]", "", heading.lower()).replace(" ", "-")
+
+
+def lines_of(text):
+    """Each line of a page, and whether it is prose: outside of tables and code."""
+    is_fenced, was_blank, was_code = False, True, False
+    for line in text.splitlines():
+        is_mark = line.lstrip().startswith("```")
+        is_code = line.startswith("    ") and (was_blank or was_code)
+        yield line, not (is_fenced or is_mark or is_code or line.startswith("|"))
+        is_fenced ^= is_mark
+        was_blank, was_code = not line.strip(), is_code or (was_code and not line.strip())
 
 
 def wrong_links(page, text):
@@ -41,7 +54,7 @@ def wrong_links(page, text):
         target = (page.parent / path).resolve() if path else page
         if not target.exists():
             yield f"there is no {link}"
-        elif anchor and anchor not in anchors(target):
+        elif anchor and anchor not in map(anchor_of, headings(target)):
             yield f"{link}: there is no such heading"
 
 
@@ -53,32 +66,41 @@ def wrong_names(text):
             yield f"there is no {name}"
 
 
-def wrong_sizes(page, text):
-    """Cells and pages that are too long."""
-    if page.name == "PROMISES.md":
-        for number, line in enumerate(text.splitlines(), 1):
-            for cell in re.split(r"(?<!\\)\|", line)[1:-1] if line.startswith("|") else ():
-                if len(cell.strip()) > LONGEST_CELL:
-                    yield f"line {number} has a cell of {len(cell.strip())} characters"
-    most = MOST_WORDS.get(page.name)
-    if most and len(text.split()) > most:
-        yield f"{len(text.split())} words, and {most} are meant"
+def wrong_headings(text):
+    """Each heading of another page that is named and that is not there."""
+    for name, heading in HEADING.findall(text):
+        page = TOP / "docs" / name
+        if page.exists() and " ".join(heading.split()) not in headings(page):
+            yield f'docs/{name} has no heading "{heading}"'
+
+
+def wrong_lines(page, text):
+    """Each line of prose that is too long, and each heading that comes again."""
+    for number, (line, is_prose) in enumerate(lines_of(text), 1):
+        if is_prose and len(line) > LONGEST_LINE:
+            yield f"line {number} has {len(line)} characters"
+    anchors = [anchor_of(heading) for heading in headings(page)]
+    for anchor in {anchor for anchor in anchors if anchors.count(anchor) > 1}:
+        yield f"two headings are #{anchor}"
 
 
 def wrong_counts(text, edits):
-    """Each number of edits that the page tells and that is another."""
-    for told in EDITS.findall(text):
-        if int(told) != edits:
-            yield f"{told} edits, and there are {edits}"
+    """Each number of edits that the page has and that is another."""
+    for counted in EDITS.findall(text):
+        if int(counted) != edits:
+            yield f"{counted} edits, and there are {edits}"
 
 
 edits = len(list(TOP.glob("crates/*/must-fail/*.edit")))
 wrong = links = 0
-for page in PAGES:
-    text = page.read_text()
-    links += len(LINK.findall(text))
-    for what in (*wrong_links(page, text), *wrong_names(text), *wrong_sizes(page, text), *wrong_counts(text, edits)):
-        print(f"{page.relative_to(TOP)}: {what}")
-        wrong += 1
+for file in NAMING:
+    text = file.read_text()
+    found = [*wrong_headings(text)]
+    if file in PAGES:
+        links += len(LINK.findall(text))
+        found += [*wrong_links(file, text), *wrong_names(text), *wrong_lines(file, text), *wrong_counts(text, edits)]
+    for what in found:
+        print(f"{file.relative_to(TOP)}: {what}")
+    wrong += len(found)
 print(f"{len(PAGES)} pages, {links} links, {edits} edits, {wrong} wrong")
 sys.exit(wrong > 0)

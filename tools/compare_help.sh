@@ -1,5 +1,5 @@
 #!/usr/bin/env bash
-# Holds the words, their arguments and their options that the program's help names against those of the man page, and sees that each help has an example.
+# Compares the subcommands, arguments and options that the program's help names with those of the man page, and sees that each help has an example.
 #   tools/compare_help.sh [PROGRAM]
 set -u
 top=$(cd "$(dirname "${BASH_SOURCE[0]}")/.." && pwd)
@@ -25,8 +25,8 @@ part() { sed -n "/^\.SH $1/,/^\.SH $2/p" "$page" | sed 's/\\f[RIB]//g'; }
 synopsis=$(part SYNOPSIS DESCRIPTION | sed -n 's/^\.B roadmark //p')
 
 words=$("$program" --help | sed -n '/^Commands:/,/^$/ s/^  \([a-z]\+\).*/\1/p')
-compare words "$words" "$(part WORDS OPTIONS | grep -A1 '^\.TP' | sed -n 's/^\.B \([a-z]\+\)$/\1/p')"
-compare options "$(for word in $words; do "$program" help "$word"; done | options)" "$(part OPTIONS ANSWERS | sed -n 's/^\.BI "\(--[a-z]* \)" \([A-Z]*\)$/\1\2/p')"
+compare words "$words" "$(part SUBCOMMANDS OPTIONS | grep -A1 '^\.TP' | sed -n 's/^\.B \([a-z]\+\)$/\1/p')"
+compare options "$(for word in $words; do "$program" help "$word"; done | options)" "$(part OPTIONS ANSWERS | sed -n 's/^\.BI "\(--[a-z]* \)" "\?\([A-Z]*\).*$/\1\2/p')"
 compare 'no word' "$("$program" --help | options)" "$(grep '^\[' <<< "$synopsis" | options)"
 "$program" --help | grep -q '^Example: roadmark' || { wrong=1; echo "help has no example"; }
 

@@ -1,9 +1,9 @@
 #!/usr/bin/env bash
-# Makes a Debian package of the built program, its man page, units, examples and pages, by debhelper and the files of tools/debian. It builds nothing itself.
+# Makes a Debian package of the built program, its man page, units, examples and pages, and another one, roadmark-web, of web/, by debhelper and the files of tools/debian. It builds nothing itself.
 #   tools/package.sh [--try] [--into FOLDER] [PROGRAM]
 # PROGRAM is crates/roadmark/out/roadmark where none is given, FOLDER the caller's. The package's version has the program's, as it prints it, and the number of the
 # format, as it writes it into a store. The program has to name the logic that `rt version` tells; where there is no `rt`, that README.md names. The maintainer is what DEBFULLNAME and DEBEMAIL say.
-# --try looks through the package by lintian, where that is there, installs it in a new folder's own root, runs it there, removes it again, and sees that nothing is left.
+# --try looks through both packages by lintian, where that is there, installs them in a new folder's own root, runs the program there, removes them again, and sees that nothing is left.
 # Needs debhelper; units are checked where systemd-analyze is there.
 set -eu
 top=$(cd "$(dirname "${BASH_SOURCE[0]}")/.." && pwd)
@@ -65,8 +65,12 @@ lay_out() {
   # The module by which scripts and examples speak with a server.
   mkdir "$tree/lib/roadmark/client"
   cp "$top"/client/*.py "$tree/lib/roadmark/client"
+  mkdir -p "$tree/web/roadmark" "$tree/web/systemd/system"
+  cp -r "$top/web" "$tree/web/roadmark"
+  mv "$tree/web/roadmark/web/roadmark-web.service" "$tree/web/systemd/system"
+  rm -rf "$tree"/web/roadmark/web/{tests,__pycache__,install.sh}
   # Units name the program and the scripts where the package has them.
-  sed -i 's#/usr/local/bin/roadmark#/usr/bin/roadmark#g; s#/usr/local/bin/\([a-z]*\.sh\)#/usr/lib/roadmark/\1#g; s#/usr/local/lib/roadmark#/usr/lib/roadmark#g; s#, the built program and the scripts attach.sh and pairs.sh of this folder in /usr/local/bin,##; s#, with the three units in /etc/systemd/system##' "$tree"/lib/systemd/system/*
+  sed -i 's#/usr/local/bin/roadmark#/usr/bin/roadmark#g; s#/usr/local/bin/\([a-z]*\.sh\)#/usr/lib/roadmark/\1#g; s#/usr/local/lib/roadmark#/usr/lib/roadmark#g; s#, the built program and the scripts attach.sh and pairs.sh of this folder in /usr/local/bin,##; s#, with the three units in /etc/systemd/system##; s#what web/install.sh installs, web/ and client/ in /[a-z/]*, ##' "$tree"/{lib,web}/systemd/system/*
   sed -i "s#\${MAINTAINER}#$maintainer#" "$tree/debian/control"
   printf 'roadmark (%s) unstable; urgency=medium\n\n  * The program as it was built.\n\n -- %s  %s\n' "$full" "$maintainer" "$(date -R -u -d "@$SOURCE_DATE_EPOCH")" > "$tree/debian/changelog"
   chmod -R u=rwX,go=rX "$tree"
@@ -76,7 +80,8 @@ lay_out() {
 verify() {
   command -v systemd-analyze > /dev/null || { echo "package: no systemd-analyze here, the units are not verified"; return; }
   cp -r "$tree/lib/systemd/system" "$work/units"
-  sed -i "s#/usr/lib/roadmark/#$tree/lib/roadmark/#g; s#/usr/bin/roadmark#$tree/bin/roadmark#g" "$work"/units/*
+  cp "$tree"/web/systemd/system/* "$work/units"
+  sed -i "s#/usr/lib/roadmark/web/#$tree/web/roadmark/web/#g; s#/usr/lib/roadmark/#$tree/lib/roadmark/#g; s#/usr/bin/roadmark#$tree/bin/roadmark#g" "$work"/units/*
   systemd-analyze verify --man=no "$work"/units/* || fail "a unit is refused"
   echo "package: $(ls "$work/units" | wc -l) units verified"
 }
@@ -86,18 +91,19 @@ try() {
   local root=$work/root doc=usr/share/doc/roadmark left
   local install=(dpkg --root="$root" --force-depends --force-not-root --force-script-chrootless --log=/dev/null)
   if command -v lintian > /dev/null; then
-    lintian --allow-root --fail-on error "$package" || fail "lintian finds errors"
+    lintian --allow-root --fail-on error "$package" "$web" || fail "lintian finds errors"
   else
     echo "package: no lintian here"
   fi
   mkdir -p "$root"/var/lib/dpkg/info "$root"/var/lib/dpkg/updates "$root"/var/log "$root"/etc
   : > "$root/var/lib/dpkg/status"
-  "${install[@]}" --install "$package" > "$work/said" 2>&1 || { cat "$work/said" >&2; fail "it was not installed"; }
+  "${install[@]}" --install "$package" "$web" > "$work/said" 2>&1 || { cat "$work/said" >&2; fail "they were not installed"; }
   grep -q '^roadmark:' "$root/etc/passwd" || fail "its user was not made"
   cmp "$root/usr/bin/roadmark" "$program" || fail "the installed program is another one"
+  [ -x "$root/usr/lib/roadmark/web/gateway.py" ] && [ -e "$root/lib/systemd/system/roadmark-web.service" ] || fail "the gateway was not installed"
   (cd "$root/$doc" && ./roadmark create "$work/try.store" examples/six.gr examples/six.ss && ./examples/client.sh "$work/try.store") > "$work/said" || fail "an example fails"
   dpkg-query --admindir="$root/var/lib/dpkg" --show --showformat '${Package} ${Version}, store format ${Store-Format}, logic ${Rattle-Logic}\n' roadmark
-  "${install[@]}" --purge roadmark > "$work/said" 2>&1 || { cat "$work/said" >&2; fail "it was not removed"; }
+  "${install[@]}" --purge roadmark-web roadmark > "$work/said" 2>&1 || { cat "$work/said" >&2; fail "they were not removed"; }
   # The user stays, as Debian's packages leave theirs.
   left=$(cd "$root" && find . -path ./var -prune -o -path './etc/*' -regex '.*/\(passwd\|group\|shadow\|gshadow\)-?' -prune -o -name .pwd.lock -prune -o ! -type d -print)
   [ -z "$left" ] || fail "left behind: $left"
@@ -107,7 +113,7 @@ try() {
 lay_out
 verify
 (cd "$tree" && STORE_FORMAT=$format RATTLE_LOGIC=$logic dpkg-buildpackage --build=binary --no-sign --no-pre-clean) > "$work/said" 2>&1 || { cat "$work/said" >&2; fail "it was not packed"; }
-package=$into/$(basename "$work"/roadmark_*.deb)
-mv "$work"/roadmark_*.deb "$package"
-echo "package: $package"
+package=$into/$(basename "$work"/roadmark_*.deb) web=$into/$(basename "$work"/roadmark-web_*.deb)
+mv "$work"/roadmark_*.deb "$work"/roadmark-web_*.deb "$into"
+printf 'package: %s\n' "$package" "$web"
 [ "$tries" = no ] || try

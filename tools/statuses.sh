@@ -29,6 +29,8 @@ ends 0 '' apply other.store six.commands > out
 ends 0 '' serve other.store > out < <(printf 'close 7\nclose 7\nhello\n')
 mkdir copies
 ends 0 '' serve other.store --copies copies > out < <(printf 'copy a\ncopy a\ncopy a.b\n')
+mkfifo lines answers
+ends 0 '' serve other.store --asking lines answers > out < <(printf 'dist 1 6\n')
 ends 0 '' create new.store six.gr six.ss > out
 cp "$top/examples/old.store" .
 ends 0 '' migrate old.store moved.store --room 10 > out
@@ -60,6 +62,7 @@ ends 1 'roadmark: 40 NotAStore' show short.store 7 > out
 ends 1 'roadmark: 46 NotEmpty' export six.store texts > out
 ends 1 'roadmark: none: line 0: 10 Read' export six.store none > out
 ends 1 'roadmark: none: line 0: 10 Read' serve six.store --copies none > out
+ends 1 'roadmark: six.gr: line 0: 10 Read' serve six.store --asking lines six.gr > out
 ends 1 'roadmark: 12 Write' once six.gr 1 6 > /dev/full
 ends 1 'roadmark: 12 Write' --help > /dev/full
 ends 1 'roadmark: 12 Write' serve six.store > /dev/full < <(printf 'dist 1 6\n')
@@ -68,6 +71,8 @@ ends 1 'roadmark: 10 Read' serve six.store < . > out
 ends 2 any look > out
 ends 2 any serve six.store --journal 3 > out
 ends 2 any once $'\xff' 1 2 > out
+ends 2 any serve six.store --asking a > out
+ends 2 any serve six.store a b --asking b c > out
 ends 2 any batch six.gr --from six.ss > out
 ends 2 any batch six.gr six.p2p --from six.ss --to six.ss > out
 ends 2 any ask six.store --to six.ss > out

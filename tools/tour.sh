@@ -1,9 +1,10 @@
 #!/usr/bin/env bash
-# Runs every tour of README.md, docs/PROGRAM.md, the man page and, where etcd is there, docs/REPLICAS.md with the built program, and compares what is printed with what stands there.
-#   tools/tour.sh [PROGRAM]
+# Runs the tours of README.md, docs/TUTORIAL.md, docs/MANUAL.md, docs/OPERATING.md, the man page and, if etcd is installed, docs/REPLICAS.md with the built program, and compares
+# what is printed with what the pages have.
+#   tools/tour.sh [PROGRAM [PAGE..]]
 # A tour is a code block, four blanks wide, whose first line begins with `$ `. Such a line is run, and the lines after it are what it prints on both streams. Each heading
-# `## ` begins in a new folder with the examples, the client module and the program as ./roadmark. Then the words and options of help are compared with those of the man page, the clauses
-# and quotations of the pages with the sources, the pages' links are followed, and wrong bodies are fitted to the sources.
+# `## ` begins in a new folder with the examples, the client module and the program as ./roadmark. Then the subcommands and options of help are compared with those of the man page, the
+# clauses and quotations of the pages with the sources, the pages' links are followed, and wrong bodies are fitted to the sources. With pages, such as docs/MANUAL.md, only their tours run.
 set -u
 top=$(cd "$(dirname "${BASH_SOURCE[0]}")/.." && pwd)
 program=$(realpath "${1:-$top/crates/roadmark/out/roadmark}")
@@ -38,14 +39,16 @@ run_steps() {
   (cd "$folder/run" && PATH=$PWD:$PATH timeout 300 bash "$folder/script" < /dev/null > /dev/null 2>&1)
 }
 
-split_page readme < "$top/README.md"
-split_page manual < "$top/docs/PROGRAM.md"
-sed -n '/^\.SH EXAMPLES/,/^\.fi/ { /^\./d; s/\\e/\\/g; s/^/    /; p }' "$top/docs/roadmark.1" | split_page man
-if command -v etcd > /dev/null; then
-  split_page replicas < "$top/docs/REPLICAS.md"
-else
-  echo "no etcd here: the tour of docs/REPLICAS.md is left out"
-fi
+pages=("${@:2}")
+[ $# -gt 1 ] || pages=(README.md docs/TUTORIAL.md docs/MANUAL.md docs/OPERATING.md docs/roadmark.1 docs/REPLICAS.md)
+for page in "${pages[@]}"; do
+  name=$(basename "${page%.*}")
+  case $page in
+    *.1) sed -n '/^\.SH EXAMPLES/,/^\.fi/ { /^\./d; s/\\e/\\/g; s/^/    /; p }' "$top/$page" | split_page "$name" ;;
+    *REPLICAS.md) if command -v etcd > /dev/null; then split_page "$name" < "$top/$page"; else echo "no etcd here: the tour of $page is left out"; fi ;;
+    *) split_page "$name" < "$top/$page" ;;
+  esac
+done
 
 steps=0
 wrong=0
@@ -62,6 +65,7 @@ for folder in "$work"/*/; do
   done
 done
 echo "$steps commands of the tours, $wrong with another output"
+[ $# -lt 2 ] || exit $((wrong > 0))
 
 "$top/tools/compare_help.sh" "$program" || wrong=$((wrong + 1))
 "$top/tools/compare_clauses.py" || wrong=$((wrong + 1))

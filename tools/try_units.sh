@@ -29,11 +29,11 @@ FailureAction=poweroff
 ExecStart=/bin/bash /try/try_units_steps.sh ${*:2}
 StandardOutput=append:/try/said
 StandardError=append:/try/said
-RuntimeMaxSec=270
+RuntimeMaxSec=320
 UNIT
   : > "$root/try/said"
   tail -n +1 -f "$root/try/said" &
-  UNIFIED_CGROUP_HIERARCHY=1 timeout -k 10 290 systemd-nspawn --quiet --directory="$root" --private-network --register=no --keep-unit --machine=try --link-journal=no --console=pipe --boot \
+  UNIFIED_CGROUP_HIERARCHY=1 timeout -k 10 340 systemd-nspawn --quiet --directory="$root" --private-network --register=no --keep-unit --machine=try --link-journal=no --console=pipe --boot \
     systemd.unit=try.service systemd.wants=basic.target > "$work/console" 2>&1 < /dev/null || true
   sleep 1
   cp "$root/try/said" "$work/said"
@@ -76,6 +76,7 @@ trap 'exit 1' INT TERM
 mkdir "$work/space"
 "$here/package.sh" --into "$work" "$program"
 mv "$work"/roadmark_*.deb "$work/old.deb"
+mv "$work"/roadmark-web_*.deb "$work/web.deb"
 # The package of a later version, to which the first one is upgraded.
 dpkg-deb --raw-extract "$work/old.deb" "$work/later"
 sed -i 's/^Version: .*/&.later/' "$work/later/DEBIAN/control"

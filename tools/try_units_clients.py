@@ -74,9 +74,9 @@ def kill(path: str, clients: int, kills: int) -> bool:
     return not lost and all(writer.count for writer in writers)
 
 def is_kept(path: str, arc: int, writers: list[Client]) -> bool:
-    """The arc has what one of its clients was told last, or has sent since."""
+    """The arc has what one of its clients was told last, or has sent since. Where none was told anything, nothing can be lost."""
     length = length_of(path, arc)
-    return any(writer.told <= length <= writer.sent for writer in writers)
+    return not any(writer.told for writer in writers) or any(writer.told <= length <= writer.sent for writer in writers)
 
 def by_haproxy(port: int) -> ssl.SSLSocket:
     context = ssl.create_default_context(cafile="/try/known.crt")

@@ -5,7 +5,7 @@ store=/var/lib/roadmark/roads.store
 examples=/usr/share/doc/roadmark/examples
 pairs=/run/roadmark/pairs
 client=/run/roadmark-client.sock
-units='roadmark.service roadmark-client.socket'
+units='roadmark.service roadmark-client.socket roadmark-ask.socket'
 
 # is NAME WANTED SEEN
 is() {
@@ -23,8 +23,8 @@ within() {
   shift 2
   if timeout "$seconds" "$@" > /dev/null 2>&1; then echo "ok      $name ($((SECONDS - began)) s)"; else echo "FAILED  $name: not within $seconds s: ${*@Q}"; fi
 }
-# The answers to lines, on one line.
-ask() { printf "$1" 2> /dev/null | timeout "${2:-20}" socat -t "${2:-20}" - "UNIX-CONNECT:$client" 2>&1 | paste -sd /; }
+# ask LINES [SECONDS [SOCKET]]: the answers to lines, on one line.
+ask() { printf "$1" 2> /dev/null | timeout "${2:-20}" socat -t "${2:-20}" - "UNIX-CONNECT:${3:-$client}" 2>&1 | paste -sd /; }
 # until_answers SECONDS: the seconds until a client is answered
 until_answers() {
   local began=$SECONDS
@@ -56,6 +56,10 @@ step_install() {
   fresh_store
   within 'the service and its socket start' 20 systemctl enable --now roadmark.service
   is 'a client is answered' 'v 0/d 1 6 15' "$(ask 'dist 1 6\n')"
+  is 'both kinds of pairs are served' 'clients 1 pairs 32' "$(ask 'state\n' | grep -o 'clients [0-9]* pairs [0-9]*')"
+  is 'a client that asks alone changes nothing' 'no 64/no 1/v 0/d 1 6 15' "$(ask 'close 7\ncopy any\ndist 1 6\n' 20 /run/roadmark-ask.sock)"
+  is 'and any user may be one' 'v 0/d 1 6 15' "$(printf 'dist 1 6\n' | runuser -u nobody -- timeout 20 socat -t 20 - UNIX-CONNECT:/run/roadmark-ask.sock | paste -sd /)"
+  holds 'but none that changes' bash -c "! runuser -u nobody -- socat -u OPEN:/dev/null UNIX-CONNECT:$client"
   is 'a hot copy is made as installed' 'copied 0' "$(ask 'copy monday\n')"
   is 'the copy is a store' 'v 0/d 1 6 15/x 6 1' "$(roadmark ask /var/lib/roadmark/copies/monday "$examples/six.p2p" 2>&1 | paste -sd /)"
 }
@@ -153,6 +157,11 @@ step_gone_client() {
     printf 'until 99999999\n' | runuser -u roadmark -- timeout 1 /usr/lib/roadmark/attach.sh "$pairs"
   done
   is 'its pair is passed over' 'd 1 6' "$(ask 'dist 1 6\n' 15 | sed 's/.*\(d 1 6\).*/\1/')"
+  for one in $(seq 16); do
+    printf 'until 99999999\n' | timeout 2 socat -t 1 - "UNIX-CONNECT:$client" > /dev/null 2>&1 &
+  done
+  wait
+  is 'sixteen of them hold up the next one no longer than the patience of the server' 'd 1 6' "$(ask 'dist 1 6\n' 60 | sed 's/.*\(d 1 6\).*/\1/')"
 }
 
 step_full_disk() {
@@ -222,12 +231,61 @@ step_haproxy() {
   systemctl start roadmark.service
 }
 
+# exposure UNIT
+exposure() { systemd-analyze security --offline=true "/lib/systemd/system/$1" 2> /dev/null | sed -n 's/.*exposure level for .*: \([0-9.]*\) .*/\1/p' | grep . || echo 10; }
 step_security() {
-  local unit score
-  for unit in roadmark.service roadmark-client@.service roadmark-follow.service roadmark-tell@.service; do
-    score=$(systemd-analyze security --offline=true "/lib/systemd/system/$unit" 2> /dev/null | sed -n 's/.*exposure level for .*: \([0-9.]*\) .*/\1/p')
-    holds "exposure of $unit: $score, below 3" awk "BEGIN { exit !(${score:-10} < 3) }"
+  local unit
+  for unit in roadmark.service roadmark-client@.service roadmark-ask@.service roadmark-follow.service roadmark-tell@.service; do
+    holds "exposure of $unit: $(exposure "$unit"), below 3" awk "BEGIN { exit !($(exposure "$unit") < 3) }"
   done
+}
+
+# http METHOD ADDRESS [BODY]: the status and the answer of the gateway, with its token
+http() {
+  python3 - "$@" <<'PYTHON'
+import http.client, sys
+line = http.client.HTTPConnection("127.0.0.1", 5000, timeout=20)
+try:
+    line.request(sys.argv[1], sys.argv[2], sys.argv[3] if len(sys.argv) > 3 else None, {"Authorization": "Bearer " + open("/etc/roadmark/token").read().strip()})
+    answer = line.getresponse()
+    print(answer.status, answer.read().decode())
+except OSError as fault:
+    print(fault)
+PYTHON
+}
+healthy() { until [[ $(http GET /healthz) = 200* ]]; do sleep 0.2; done; }
+
+# The gateway of the package roadmark-web: it comes and goes with the server, and finds it again when that was killed.
+step_web() {
+  local web=/usr/lib/roadmark/web table='/table/v1/car/10,50;10,50.002?sources=0&destinations=1&skip_waypoints=true'
+  /usr/bin/python3 -c 'import aiohttp, osmium, polyline, prometheus_client, scipy, shapely' 2> /dev/null || { echo '        what web/install.sh installs is not here: left out'; return; }
+  holds 'roadmark-web is installed' dpkg --install --force-depends /try/web.deb
+  echo '<osm version="0.6"><node id="1" version="1" lat="50" lon="10"/><node id="2" version="1" lat="50.002" lon="10"/><way id="3" version="1"><nd ref="1"/><nd ref="2"/><tag k="highway" v="residential"/></way></osm>' > /try/two.osm
+  systemctl stop roadmark.service
+  rm -rf "$store"
+  holds 'a map becomes a network' "$web/from_osm.py" /try/two.osm /var/lib/roadmark/map
+  runuser -u roadmark -- roadmark create "$store" /var/lib/roadmark/map/network.gr /var/lib/roadmark/map/landmarks.ss > /dev/null
+  install -d -m 700 /etc/roadmark
+  head -c 24 /dev/urandom | base64 > /etc/roadmark/token
+  systemctl start roadmark.service
+  within 'the gateway starts' 20 systemctl enable --now roadmark-web.service
+  within 'it is healthy' 40 bash "$0" --healthy
+  is 'a distance' '200 {"code": "Ok", "durations": [[32.0]]}' "$(http GET "$table")"
+  is 'a change by its token' '200 {"code": "Ok", "version": 1}' "$(http POST /changes '{"changes": [{"close": 1}]}')"
+  is 'and what it changed' '200 {"code": "Ok", "durations": [[null]]}' "$(http GET "$table&version=1")"
+  is 'an area within reach' '200' "$(http GET '/isochrone?to=10,50&within=60' | cut -c1-3)"
+  is 'no pair for queries takes a change' 'no 64' "$(printf 'close 2\n' | runuser -u roadmark -- timeout 20 /usr/lib/roadmark/attach.sh /run/roadmark/asking)"
+  systemctl kill --kill-whom=all --signal=KILL roadmark.service
+  within 'the server killed, it is healthy again' 40 bash "$0" --healthy
+  is 'with what was changed' '200 {"code": "Ok", "durations": [[null]]}' "$(http GET "$table")"
+  within 'a stop of the server stops it' 20 systemctl stop roadmark.service
+  is 'and it is gone' inactive "$(systemctl is-active roadmark-web.service)"
+  systemctl start roadmark.service
+  within 'a start of the server starts it' 40 bash "$0" --healthy
+  is 'nothing of it failed' '' "$(journalctl --boot --no-pager --output cat --unit roadmark-web.service | grep -i 'traceback\|error')"
+  holds "its exposure: $(exposure roadmark-web.service), below 3" awk "BEGIN { exit !($(exposure roadmark-web.service) < 3) }"
+  within 'the package is purged' 60 dpkg --purge roadmark-web
+  is 'no file of it is left' '' "$(find /etc/systemd /lib/systemd /usr/lib/roadmark/web -name '*roadmark-web*' 2> /dev/null)"
 }
 
 # The follower of a log takes the place of the server, and gives it back; each has a folder of its own below /run.
@@ -242,8 +300,8 @@ step_follow() {
   within 'a log is begun' 60 runuser -u roadmark -- bash -c "until $follow --program /usr/bin/roadmark --begin 9 http://127.0.0.1:2379 roads $store; do sleep 1; done"
   systemctl start roadmark.service
   within 'the follower starts in the place of the server' 20 systemctl start roadmark-follow.service
-  is 'the server has ended' 'inactive inactive' "$(systemctl is-active $units | paste -sd ' ')"
-  is 'a change goes through the log' 'ok 1/v 1/d 1 6 22' "$(printf 'close 7\ndist 1 6\n' | timeout 40 socat -t 40 - UNIX-CONNECT:/run/roadmark-tell.sock | paste -sd /)"
+  is 'the server has ended' 'inactive inactive inactive' "$(systemctl is-active $units | paste -sd ' ')"
+  is 'a change goes through the log' 'ok 1/v 1/d 1 6 22/copied 1' "$(ask 'close 7\ndist 1 6\ncopy followed\n' 40 /run/roadmark-tell.sock)"
   systemctl kill --kill-whom=all --signal=KILL roadmark-follow.service
   is 'killed, it is back with that change' 'v 1/d 1 6 22' "$(sleep 2; timeout 40 bash -c 'until printf "dist 1 6\n" | socat -t 30 - UNIX-CONNECT:/run/roadmark-tell.sock 2> /dev/null | grep ""; do sleep 0.5; done' | paste -sd /)"
   within 'the server takes its place again' 20 systemctl start roadmark.service
@@ -261,7 +319,7 @@ step_package() {
   is 'by the new program' '/usr/bin/roadmark' "$(readlink "/proc/$(main_pid)/exe")"
   is 'with what the old one was told' 'a 3 1 3 77 open' "$(ask 'arc 3\n' | sed 's/.*\///' | cut -d' ' -f1-7 | sed 's/a 3 [0-9]* [0-9]* /a 3 1 3 /')"
   within 'the package is removed' 60 dpkg --remove roadmark
-  is 'its units are stopped' 'inactive inactive' "$(systemctl is-active $units | sed 's/unknown/inactive/' | paste -sd ' ')"
+  is 'its units are stopped' 'inactive inactive inactive' "$(systemctl is-active $units | sed 's/unknown/inactive/' | paste -sd ' ')"
   is 'no process of it is left' '' "$(pgrep -u roadmark)"
   holds 'the store is let go, and there' flock --exclusive --nonblock "$store" true
   within 'the package is purged' 60 dpkg --purge roadmark
@@ -271,9 +329,10 @@ step_package() {
 case ${1:-} in
   --step) "step_$2"; exit ;;
   --answered) answered "$2"; exit ;;
+  --healthy) healthy; exit ;;
   --health) health "$2" "$3"; exit ;;
 esac
-for step in install ${*:-stop comes_back burst kill no_server gone_client full_disk haproxy security follow package}; do
+for step in install ${*:-stop comes_back burst kill no_server gone_client full_disk haproxy security follow web package}; do
   echo "$step"
   timeout -k 5 100 bash "$0" --step "$step" || echo "FAILED  $step: it ended with $?"
 done

@@ -1,4 +1,4 @@
-#!/usr/bin/python3
+#!/usr/bin/python3 -B
 """Makes a road network for roadmark of an OpenStreetMap map: .osm or .osm.pbf, also compressed.
 
     web/from_osm.py MAP FOLDER [--profile car|bike|foot] [--by time|distance] [--all] [--restricted] [--every M] [--landmarks K]

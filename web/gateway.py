@@ -1,9 +1,9 @@
-#!/usr/bin/python3
+#!/usr/bin/python3 -B
 """Serves a roadmark store over HTTP, by the pairs of named pipes of one `roadmark serve`: OSRM's `nearest` and `table`, isochrones, changes, suppositions, and a page.
 
-    web/gateway.py FOLDER PAIRS [--port 5000] [--token FILE] [--sessions 12] [--tiles URL]
+    web/gateway.py FOLDER ASKING [--changing PAIRS --token FILE] [--port 5000] [--sessions 12] [--tiles URL]
 
-FOLDER was made by web/from_osm.py, and PAIRS is the folder of the server's pairs of pipes. docs/WEB.md tells all addresses.
+FOLDER was made by web/from_osm.py, ASKING is the folder of the server's pairs of pipes that only ask, and PAIRS that of pairs that may change. docs/WEB.md tells all addresses.
 """
 import argparse
 import asyncio
@@ -41,7 +41,7 @@ MOST_BODY, BODY_SECONDS = 65_536, 10
 LONGEST = 32_768
 MOST_ARCS, MOST_LISTENERS, HEARTBEAT = 20_000, 1_000, 15
 # The server's codes behind which nothing was done and trying again helps, at once or once somebody saw to it; others are the client's own.
-SOON, LATER = {11, 50, 54, 60}, {43, 45, 61, 62, 63}
+SOON, LATER = {11, 50, 54, 60}, {43, 45, 61, 62, 63, 64}
 UNSURE = {43, 45}
 VERSION = "X-Roadmark-Version"
 LEAFLET = pathlib.Path("/usr/share/javascript/leaflet")
@@ -187,7 +187,7 @@ class Gateway:
 
     def may_change(self, request: web.Request) -> None:
         if self.token is None:
-            raise Wrong("Forbidden", "this gateway was started without a token file, so it changes nothing", 403)
+            raise Wrong("Forbidden", "this gateway was started without --changing and --token, so it changes nothing", 403)
         given = request.headers.get("Authorization", "")
         if not hmac.compare_digest(given.encode("utf-8", "surrogateescape"), f"Bearer {self.token}".encode()):
             raise Wrong("Unauthorized", "changes need the header Authorization: Bearer TOKEN", 401)
@@ -268,16 +268,19 @@ class Gateway:
 def words() -> argparse.Namespace:
     parser = argparse.ArgumentParser(prog="gateway.py", description="Serves a roadmark store over HTTP.")
     parser.add_argument("folder", metavar="FOLDER", type=pathlib.Path, help="what from_osm.py made")
-    parser.add_argument("pairs", metavar="PAIRS", type=pathlib.Path, help="the folder with the pairs of pipes of `roadmark serve`")
+    parser.add_argument("asking", metavar="ASKING", type=pathlib.Path, help="the folder with the pairs of pipes behind --asking of `roadmark serve`")
     parser.add_argument("--host", default="127.0.0.1", help="the address at which it listens (127.0.0.1)")
     parser.add_argument("--port", type=int, default=5000, help="the port (5000)")
-    parser.add_argument("--token", metavar="FILE", type=pathlib.Path, help="the file with the token of those who may change the network; without it nobody may")
-    parser.add_argument("--sessions", type=int, default=12, help="pairs of pipes for queries (12); three more are for changes and for looking at the server")
+    parser.add_argument("--changing", metavar="PAIRS", type=pathlib.Path, help="the folder with pairs of pipes that may change, of which two are taken; without it nobody changes the network")
+    parser.add_argument("--token", metavar="FILE", type=pathlib.Path, help="the file with the token of those who may change the network; it goes with --changing")
+    parser.add_argument("--sessions", type=int, default=12, help="pairs of pipes for queries (12); one more is for looking at the server")
     parser.add_argument("--seconds", type=float, default=10, help="the time that an answer may take (10)")
     parser.add_argument("--queue", type=int, default=32, help="how many may wait for a pair of pipes, until others are sent away (32)")
     parser.add_argument("--connections", type=int, default=4000, help="how many connections at once (4000)")
     parser.add_argument("--tiles", default="", help="a tile server for the page, as https://tile.example.org/{z}/{x}/{y}.png")
     given = parser.parse_args()
+    if (given.changing is None) != (given.token is None):
+        parser.error("--changing and --token go together")
     if not (1 <= given.sessions <= 57 and 0.1 <= given.seconds <= 3600 and 1 <= given.queue <= 10_000 and 0 <= given.port <= 65_535 and 1 <= given.connections):
         parser.error("--sessions is 1 to 57, --seconds 0.1 to 3600, --queue 1 to 10000, --port 0 to 65535, --connections at least 1")
     return given
@@ -293,7 +296,7 @@ def token_of(path: pathlib.Path | None) -> str | None:
 
 
 async def serve(given: argparse.Namespace) -> None:
-    gateway = Gateway(Map(given.folder), Pools(given.pairs, given.sessions, 2, given.queue), token_of(given.token), given.seconds, given.tiles)
+    gateway = Gateway(Map(given.folder), Pools(given.asking, given.changing, given.sessions, given.queue), token_of(given.token), given.seconds, given.tiles)
     runner = web.AppRunner(gateway.app(), access_log=None, handle_signals=True, keepalive_timeout=30, max_line_size=LONGEST, max_field_size=LONGEST)
     await runner.setup()
     connections = Connections(runner.server, given.connections)

@@ -9,6 +9,8 @@ from dataclasses import dataclass, field
 from typing import Any, Protocol
 from urllib.parse import unquote_to_bytes
 
+from polyline import decode
+
 from globe import metres
 from maps import Bearing, Map, Place
 from pools import Turn
@@ -16,7 +18,7 @@ from pools import Turn
 MOST_TABLE, MOST_NEAREST, MOST_COORDINATES = 100, 100, 500
 NUMBER = r"[+-]?(?:\d{1,15}(?:\.\d{0,20})?|\.\d{1,20})(?:[eE][+-]?\d{1,3})?"
 COORDINATE = re.compile(rf"({NUMBER}),({NUMBER})")
-POLYLINE = re.compile(r"polyline(6?)\((.*)\)", re.S)
+POLYLINE = re.compile(r"polyline(6?)\(([?-~]+)\)")
 
 
 class Wrong(Exception):
@@ -64,33 +66,12 @@ def decoded(text: str) -> str:
         raise Wrong("InvalidUrl", f"URL string malformed close to position {fault.start}") from None
 
 
-def points_of_polyline(text: str, digits: int) -> list[tuple[float, float]]:
-    """Google's encoded polyline: latitude before longitude, each as a difference."""
-    numbers, value, shift = [], 0, 0
-    for character in text:
-        bits = ord(character) - 63
-        if not 0 <= bits < 64 or shift > 30:
-            raise ValueError(text)
-        value |= (bits & 31) << shift
-        shift += 5
-        if bits < 32:
-            numbers.append(~(value >> 1) if value & 1 else value >> 1)
-            value = shift = 0
-    if shift or len(numbers) % 2 or not numbers:
-        raise ValueError(text)
-    points, lat, lon = [], 0, 0
-    for more_lat, more_lon in zip(numbers[::2], numbers[1::2]):
-        lat, lon = lat + more_lat, lon + more_lon
-        points.append((lon / 10 ** digits, lat / 10 ** digits))
-    return points
-
-
 def coordinates_of(text: str) -> list[tuple[float, float]]:
     polyline = POLYLINE.fullmatch(text)
     position = 0
     try:
         if polyline:
-            points = points_of_polyline(polyline[2], 6 if polyline[1] else 5)
+            points = decode(polyline[2], 6 if polyline[1] else 5, geojson=True)
         else:
             points = []
             for part in text.split(";"):
@@ -99,7 +80,7 @@ def coordinates_of(text: str) -> list[tuple[float, float]]:
                     raise ValueError(part)
                 points.append((float(matched[1]), float(matched[2])))
                 position += len(part) + 1
-    except ValueError:
+    except (ValueError, IndexError, OverflowError):
         raise Wrong("InvalidQuery", f"Query string malformed close to position {position}") from None
     if len(points) > MOST_COORDINATES:
         raise Wrong("TooBig", f"Number of coordinates {len(points)} is higher than current maximum ({MOST_COORDINATES})")

@@ -226,14 +226,14 @@ class Pool:
 
 
 class Pools:
-    """The one place where sessions for queries and those for changes are told apart. All pairs of a server are alike, so both are leased from one folder."""
+    """The sessions of a gateway: those for queries and that for looking at the server at pairs that only ask, and two for changes at others, where there is a folder of them."""
 
-    def __init__(self, pairs: pathlib.Path, queries: int, changes: int, longest: int) -> None:
+    def __init__(self, asking: pathlib.Path, changing: pathlib.Path | None, queries: int, longest: int) -> None:
         # Set while the server answers: then a lease is tried at once.
         self.is_up = threading.Event()
-        self.queries = Pool(pairs, queries, longest, self.is_up)
-        self.changes = Pool(pairs, changes, longest, self.is_up)
-        self.watch = Pool(pairs, 1, longest, self.is_up)
+        self.queries = Pool(asking, queries, longest, self.is_up)
+        self.changes = Pool(changing or asking, 2 if changing else 0, longest, self.is_up)
+        self.watch = Pool(asking, 1, longest, self.is_up)
         self.all = {"queries": self.queries, "changes": self.changes, "watch": self.watch}
 
     def start(self) -> None:

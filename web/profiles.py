@@ -30,6 +30,11 @@ def first(tags: Tags, keys: Iterable[str]) -> str | None:
     return next((tags[key] for key in keys if key in tags), None)
 
 
+def usual(tags: Tags, speeds: Mapping[str, Mapping[str, float]]) -> float:
+    """The km/h that the first key with a value of the table has, 0 where there is none."""
+    return next((values[tags[key]] for key, values in speeds.items() if tags.get(key) in values), 0.0)
+
+
 def speed_limit(value: str | None, table: Mapping[str, float], usual: Mapping[str, float]) -> float:
     """The km/h that a value of `maxspeed` means, 0 where it means none."""
     if value is None:
@@ -37,7 +42,7 @@ def speed_limit(value: str | None, table: Mapping[str, float], usual: Mapping[st
     number = re.match(r"\d+", value)
     if number:
         return int(number[0]) * (MILE if "mph" in value or "mp/h" in value else KNOT if "knots" in value else 1)
-    kind = re.match(r"[a-z][a-z]:([a-z]+)", value.lower())
+    kind = re.search(r"[a-z][a-z]:([a-z]+)", value.lower())
     return table.get(value.lower(), usual.get(kind[1], 0) if kind else 0)
 
 
@@ -67,7 +72,8 @@ class Profile:
     oneway_keys: tuple[str, ...] = ()
     implied_oneway: bool = False
     avoid: frozenset[str] = frozenset()
-    ferry_speed: float = 5
+    # The speeds of what is a way whatever its class.
+    special: Mapping[str, Mapping[str, float]] = field(default_factory=dict)
     limits: tuple[str, ...] = ()
     limit_share: float = 1.0
     limit_table: Mapping[str, float] = field(default_factory=dict)
@@ -83,17 +89,18 @@ class Profile:
             return None
         forward, backward = (self.access(tags, side) for side in ("forward", "backward"))
         shut = [self.shut(tags, access, restricted_too) for access in (forward, backward)]
-        ferry = tags.get("route") == "ferry"
-        speeds = [self.ferry_speed if ferry else self.speed(tags, access, side) for access, side in ((forward, "forward"), (backward, "backward"))]
+        speeds = [self.speed(tags, access, side) for access, side in ((forward, "forward"), (backward, "backward"))]
         one_way = self.direction(tags)
         open_ways = [0 if closed or against == one_way else speed for closed, speed, against in zip(shut, speeds, ("backward", "forward"))]
         if self.walking_speed:
             open_ways = [0 if closed else speed for closed, speed in zip(shut, self.push(tags, open_ways))]
-        return Use(*open_ways, seconds_of(tags.get("duration")) if ferry else None) if any(open_ways) else None
+        return Use(*open_ways, seconds_of(tags.get("duration")) if usual(tags, self.special) else None) if any(open_ways) else None
 
     def avoided(self, tags: Tags) -> bool:
         """A way that no route takes, whoever may use it; a way that is no road is one."""
-        if "highway" not in tags and tags.get("route") != "ferry" and not any(tags.get(key) in values for key, values in self.speeds.items()):
+        if "highway" not in tags and not usual(tags, self.special) and not usual(tags, self.speeds):
+            return True
+        if "hov_lanes" in self.avoid and tags.get("hov") == "designated":
             return True
         if "area" in self.avoid and tags.get("area") == "yes" or "steps" in self.avoid and tags.get("highway") == "steps":
             return True
@@ -115,7 +122,7 @@ class Profile:
 
     def speed(self, tags: Tags, access: str | None, side: str) -> float:
         """The km/h of an open way: by its class, then by its limit, and no more than its surface has."""
-        speed = next((values[tags[key]] for key, values in self.speeds.items() if tags.get(key) in values), 0.0)
+        speed = usual(tags, self.special) or usual(tags, self.speeds)
         if not speed and access is not None and access not in self.access_black:
             speed = self.default_speed
         if not speed:
@@ -191,15 +198,17 @@ CAR = Profile(
     access_black=words("no agricultural forestry emergency psv customers private delivery destination"),
     restricted=words("private delivery destination customers"), restricted_highways=frozenset(CAR_CLASSES),
     barriers_pass=words("cattle_grid border_control toll_booth sally_port gate lift_gate no entrance height_restrictor arch"),
-    oneway_keys=("oneway:motorcar", "oneway:motor_vehicle", "oneway:vehicle", "oneway"), implied_oneway=True, avoid=words("area reversible steps construction emergency"),
+    oneway_keys=("oneway:motorcar", "oneway:motor_vehicle", "oneway:vehicle", "oneway"), implied_oneway=True, avoid=words("area reversible steps construction emergency hov_lanes"),
+    special={"route": {"ferry": 5, "shuttle_train": 10}, "bridge": {"movable": 5}},
     limits=("maxspeed:advisory", "maxspeed", "source:maxspeed", "maxspeed:type"), limit_share=0.8, limit_table=LIMIT_WORDS,
     limit_usual={"urban": 50, "rural": 90, "trunk": 110, "motorway": 130}, caps=CAR_CAPS)
 
 BIKE = Profile(
     name="bike", default_speed=15, access_hierarchy=("bicycle", "vehicle", "access"),
     access_black=words("no private agricultural forestry delivery use_sidepath"),
-    speeds={"highway": {**alike(15, "cycleway primary primary_link secondary secondary_link tertiary tertiary_link residential unclassified living_street road service"), "track": 12, "path": 12}},
-    barriers_stop=words("yes wall fence"), oneway_keys=("oneway:bicycle", "oneway"), implied_oneway=True, avoid=words("construction"),
+    speeds={"highway": {**alike(15, "cycleway primary primary_link secondary secondary_link tertiary tertiary_link residential unclassified living_street road service"), "track": 12, "path": 12},
+            "railway": {"platform": 4}, "public_transport": {"platform": 4}, "amenity": alike(10, "parking parking_entrance"), "man_made": {"pier": 4}},
+    special={"route": {"ferry": 5}, "bridge": {"movable": 5}}, barriers_stop=words("yes wall fence"), oneway_keys=("oneway:bicycle", "oneway"), implied_oneway=True, avoid=words("construction"),
     caps={"surface": {**alike(10, "cobblestone:flattened paving_stones compacted sett"), **alike(6, "cobblestone unpaved fine_gravel gravel pebblestone ground dirt earth grass"), **alike(3, "mud sand")}},
     pushed={"footway": 4, "pedestrian": 4, "steps": 2}, walking_speed=4)
 
@@ -209,6 +218,6 @@ FOOT = Profile(
     speeds={"highway": alike(WALK, "primary primary_link secondary secondary_link tertiary tertiary_link unclassified residential road living_street service track path steps pedestrian platform "
                                    "footway pier"),
             "railway": {"platform": WALK}, "amenity": alike(WALK, "parking parking_entrance"), "man_made": {"pier": WALK}, "leisure": {"track": WALK}},
-    barriers_stop=words("yes wall fence"), oneway_keys=("oneway:foot",), caps={"surface": {**alike(WALK * 0.75, "fine_gravel gravel pebblestone"), **alike(WALK * 0.5, "mud sand")}})
+    special={"route": {"ferry": 5}}, barriers_stop=words("yes wall fence"), oneway_keys=("oneway:foot",), caps={"surface": {**alike(WALK * 0.75, "fine_gravel gravel pebblestone"), **alike(WALK * 0.5, "mud sand")}})
 
 PROFILES = {profile.name: profile for profile in (CAR, BIKE, FOOT)}

@@ -2,6 +2,9 @@
 from typing import Any
 from urllib.parse import parse_qsl
 
+from shapely.geometry import LineString
+from shapely.ops import substring
+
 from maps import Map
 from osrm import Reply, Request, Wrong, coordinates_of, number_of, snapped
 from outlines import Line, outline
@@ -15,17 +18,9 @@ MOST_ASKED = 2_000
 
 
 def part_of(line: Line, share: float, at_end: bool) -> Line:
-    """The beginning of a line, or its end, by the share of its points' way."""
-    points = line[::-1] if at_end else line
-    steps = [((a[0] - b[0]) ** 2 + (a[1] - b[1]) ** 2) ** 0.5 for a, b in zip(points, points[1:])]
-    left, part = share * sum(steps), [points[0]]
-    for begin, end, step in zip(points, points[1:], steps):
-        if step >= left:
-            ratio = left / step if step else 0
-            return [*part, [begin[0] + (end[0] - begin[0]) * ratio, begin[1] + (end[1] - begin[1]) * ratio]]
-        left -= step
-        part.append(end)
-    return part
+    """The beginning of a line, or its end, by the share of its points' way; its last point twice, so that a share of nothing is a line too."""
+    points = substring(LineString(line), *((1 - share, 1) if at_end else (0, share)), normalized=True).coords
+    return [list(point) for point in (*points, points[-1])]
 
 
 class Isochrone:

@@ -1,6 +1,7 @@
-"""The calls of a session with the program itself: what they give is what docs/PROGRAM.md has for the network of six nodes."""
+"""The calls of a session with the program itself: what they give is what docs/MANUAL.md has for the network of six nodes."""
 from __future__ import annotations
 
+import functools
 import os
 import pathlib
 import shutil
@@ -15,8 +16,16 @@ from roadmark import Arc, Late, Lost, Refused, Session
 
 PROGRAM = os.environ.get("ROADMARK", "")
 # A machine that has much else to do may stand still for a while.
-PATIENCE = 120.0
+PATIENCE = 300.0
 EXAMPLES = pathlib.Path(__file__).resolve().parents[2] / "examples"
+
+@functools.cache
+def six() -> bytes:
+    """A store of the network of six nodes."""
+    with tempfile.TemporaryDirectory() as folder:
+        store = pathlib.Path(folder) / "six.store"
+        subprocess.run([PROGRAM, "create", store, EXAMPLES / "six.gr", EXAMPLES / "six.ss", "--room", "10"], check=True, stdout=subprocess.DEVNULL)
+        return store.read_bytes()
 
 @unittest.skipUnless(PROGRAM, "the program")
 class Program(unittest.TestCase):
@@ -25,7 +34,7 @@ class Program(unittest.TestCase):
         self.addCleanup(folder.cleanup)
         self.folder = pathlib.Path(folder.name)
         self.store = self.folder / "six.store"
-        subprocess.run([PROGRAM, "create", self.store, EXAMPLES / "six.gr", EXAMPLES / "six.ss", "--room", "10"], check=True, stdout=subprocess.DEVNULL)
+        self.store.write_bytes(six())
 
     def start(self, *words: str | os.PathLike[str]) -> Session:
         session = Session.start([PROGRAM, "serve", self.store, *words], PATIENCE)
@@ -40,12 +49,15 @@ class Program(unittest.TestCase):
             session.ask(line)
         self.assertEqual(refused.exception.code, code)
 
+    def pipes(self, folder: pathlib.Path, count: int) -> list[str]:
+        return subprocess.run([EXAMPLES / "pairs.sh", folder, str(count)], capture_output=True, text=True, check=True).stdout.split()
+
     @contextmanager
-    def pairs(self, count: int) -> Iterator[tuple[pathlib.Path, subprocess.Popen[bytes]]]:
-        """A server at so many pairs of pipes, and the folder that has them."""
+    def pairs(self, count: int, *options: str, asking: int = 0) -> Iterator[tuple[pathlib.Path, subprocess.Popen[bytes]]]:
+        """A server at so many pairs of pipes, and the folder that has them; more pairs, at which clients ask alone, are in the folder beside it."""
         folder = self.folder / "pairs"
-        names = subprocess.run([EXAMPLES / "pairs.sh", folder, str(count)], capture_output=True, text=True, check=True).stdout.split()
-        with subprocess.Popen([PROGRAM, "serve", self.store, *names], stdin=subprocess.PIPE, stdout=subprocess.PIPE, stderr=subprocess.DEVNULL) as server:
+        names = self.pipes(folder, count) + (["--asking", *self.pipes(self.folder / "asking", asking)] if asking else [])
+        with subprocess.Popen([PROGRAM, "serve", self.store, *names, *options], stdin=subprocess.PIPE, stdout=subprocess.PIPE, stderr=subprocess.DEVNULL) as server:
             try:
                 yield folder, server
             finally:
@@ -78,6 +90,8 @@ class Program(unittest.TestCase):
         self.refused(session, "arc 9", 20)
         state = session.state()
         self.assertEqual([state[word] for word in ("shown", "durable", "accepted", "pending", "pages", "landmarks", "flusher", "builder")], ["1", "1", "1", "0", "64", "2", "on", "on"])
+        self.assertEqual([state[word] for word in ("arcs", "room", "clients", "pairs", "waiting")], ["8", "10", "0", "0", "0"])
+        self.assertGreaterEqual(int(state["uptime"]), 0)
 
     def test_changes(self) -> None:
         session = self.start()
@@ -119,6 +133,31 @@ class Program(unittest.TestCase):
         other = Session.start([PROGRAM, "serve", self.store], errors=subprocess.DEVNULL)
         self.assertRaises(Lost, other.wait)
         self.assertEqual(other.close(), 1)
+
+    def test_a_version_that_does_not_come(self) -> None:
+        session = self.start("--patience", "1")
+        self.refused(session, "until 99", 54)
+        self.assertEqual([session.change("close 7"), session.until(1), session.distance(1, 6)], [1, 1, (1, 22)])
+
+    def test_a_pair_whose_client_waits_for_a_version_and_has_gone(self) -> None:
+        with self.pairs(1, "--patience", "1") as (folder, _):
+            with self.lease(folder) as session:
+                self.assertRaises(Late, session.until, 99, seconds=0)
+            with self.lease(folder) as session:
+                self.assertEqual(session.distance(1, 6), (0, 15))
+
+    def test_clients_that_ask_alone(self) -> None:
+        with self.pairs(1, asking=1) as (folder, _), self.lease(folder) as session, self.lease(self.folder / "asking") as asking:
+            for line in ("close 7", "set 1 9", "mark 1"):
+                self.refused(asking, line, 64)
+            self.refused(asking, "close x", 1)
+            self.refused(asking, "copy monday", 1)
+            with self.assertRaises(Refused) as refused:
+                asking.group(["close 7", "set 8 4"])
+            self.assertEqual(refused.exception.code, 64)
+            self.assertEqual([asking.distance(1, 6), asking.suppose(["close 7"]), asking.distance(1, 6)], [(0, 15), 0, (0, 22)])
+            self.assertEqual([session.change("close 8"), asking.until(1), asking.closed()], [1, 1, (1, [8])])
+            self.assertEqual([session.state()[word] for word in ("clients", "pairs")], ["2", "2"])
 
     def test_leases(self) -> None:
         with self.pairs(3) as (folder, server):

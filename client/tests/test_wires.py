@@ -12,14 +12,16 @@ import time
 import unittest
 from collections.abc import Callable, Iterator
 from contextlib import contextmanager
+from unittest import mock
 
+import roadmark_wires
 from roadmark import Fault, Garbled, Late, Lost, Refused, Session, Unknown, OVER_A_LOG
 from roadmark_wires import Wire
 
 # A step of a script: a line that must come, bytes to send, seconds to rest, or None: until the client has gone. At its end both pipes are closed.
 Step = str | bytes | float | None
 # A machine that has much else to do may stand still for a while.
-PATIENCE = 120.0
+PATIENCE = 300.0
 
 def play(script: list[Step], lines: int, answers: int, seen: list[str]) -> None:
     with os.fdopen(lines, "rb") as source, os.fdopen(answers, "wb", buffering=0) as sink:
@@ -81,11 +83,22 @@ class Scripts(unittest.TestCase):
 
     def test_an_answer_that_drips_is_late_as_a_whole(self) -> None:
         drop: list[Step] = [b"d 1 1 0\n", 0.05]
-        drops = drop * 60
-        with served(["reach 1 9", b"v 1\nreach 1 99\n", *drops, None]) as session:
+        with served(["reach 1 9", b"v 1\nreach 1 99\n", *drop * 60, None]) as session:
             self.assertRaises(Late, session.ask, "reach 1 9", seconds=0.5)
-        with served(["reach 1 9", b"v 1\nreach 1 60\n", *drops]) as session:
-            self.assertEqual(len(list(session.stream("reach 1 9", seconds=2))), 62)
+
+    def test_a_stream_has_its_time_for_each_line(self) -> None:
+        untils: list[float] = []
+        line = Wire.line
+
+        def seen(wire: Wire, until: float) -> str:
+            untils.append(until)
+            return line(wire, until)
+
+        answer = b"v 1\nreach 1 3\nd 1 1 0\nd 1 2 4\nd 1 3 5\n"
+        with mock.patch.object(Wire, "line", seen), served(["reach 1 9", answer, "reach 1 9", answer]) as session:
+            self.assertEqual(len(session.ask("reach 1 9").lines), 5)
+            self.assertEqual(len(list(session.stream("reach 1 9"))), 5)
+        self.assertEqual([len(set(untils[:5])), len(set(untils[5:])), untils[5:]], [1, 5, sorted(untils[5:])])
 
     def test_a_connection_that_ends(self) -> None:
         scripts: list[list[Step]] = [[], ["dist 1 6"], ["dist 1 6", b"v 0"], ["dist 1 6", b"v 0\n"], ["dist 1 6", b"v 0\nd 1 6 15"], ["another line"]]
@@ -158,7 +171,7 @@ class Ways(unittest.TestCase):
 
     def test_a_process(self) -> None:
         server = "import sys\nfor line in sys.stdin:\n    print('v 3', flush=True)\nsys.exit(7)"
-        session = Session.start([sys.executable, "-c", server])
+        session = Session.start([sys.executable, "-c", server], PATIENCE)
         self.assertEqual(session.wait(), 3)
         self.assertEqual(session.close(), 7)
         self.assertEqual(session.close(), 7)
@@ -172,23 +185,32 @@ class Ways(unittest.TestCase):
         for call in (lambda: Session.start([self.folder / "none"]), lambda: Session.connect(self.folder / "none"), lambda: Session.connect(("127.0.0.1", 1)), lambda: Session.lease(self.folder)):
             self.assertRaises(Lost, call)
 
-    def test_a_socket(self) -> None:
-        for family in (socket.AF_UNIX, socket.AF_INET):
-            with socket.socket(family) as door:
-                door.bind(str(self.folder / "socket") if family == socket.AF_UNIX else ("127.0.0.1", 0))
-                door.listen()
+    def connect(self, door: socket.socket) -> None:
+        """A session over a socket at which a fake server listens."""
+        def serve() -> None:
+            with door.accept()[0] as client, client.makefile("rw") as lines:
+                for _ in lines:
+                    lines.write("v 4\n")
+                    lines.flush()
 
-                def serve() -> None:
-                    with door.accept()[0] as client, client.makefile("rw") as lines:
-                        for _ in lines:
-                            lines.write("v 4\n")
-                            lines.flush()
-                server = threading.Thread(target=serve)
-                server.start()
-                with Session.connect(door.getsockname()) as session:
-                    self.assertEqual(session.wait(), 4)
-                server.join(PATIENCE)
-                self.assertFalse(server.is_alive())
+        door.listen()
+        server = threading.Thread(target=serve)
+        server.start()
+        with Session.connect(door.getsockname(), PATIENCE) as session:
+            self.assertEqual(session.wait(), 4)
+        server.join(PATIENCE)
+        self.assertFalse(server.is_alive())
+
+    def test_a_local_socket(self) -> None:
+        with socket.socket(socket.AF_UNIX) as door:
+            door.bind(str(self.folder / "socket"))
+            self.connect(door)
+
+    @unittest.skipIf("NO_LOOPBACK" in os.environ, "the address 127.0.0.1")
+    def test_tcp(self) -> None:
+        with socket.socket(socket.AF_INET) as door:
+            door.bind(("127.0.0.1", 0))
+            self.connect(door)
 
 class Pairs(unittest.TestCase):
     """A fake server at pairs of named pipes: each session is one of its threads, which answers each line by `v N`, N the count of sessions that had a line."""
@@ -197,8 +219,14 @@ class Pairs(unittest.TestCase):
         folder = tempfile.TemporaryDirectory()
         self.addCleanup(folder.cleanup)
         self.folder, self.sessions, self.is_over = pathlib.Path(folder.name), 0, False
+        self.passed_over_after(PATIENCE)
         self.threads: list[threading.Thread] = []
         self.addCleanup(self.end)
+
+    def passed_over_after(self, seconds: float) -> None:
+        patch = mock.patch.object(roadmark_wires, "PAIR_PATIENCE", seconds)
+        patch.start()
+        self.addCleanup(patch.stop)
 
     def end(self) -> None:
         self.is_over = True
@@ -278,6 +306,7 @@ class Pairs(unittest.TestCase):
 
     def test_a_pair_that_does_not_answer_is_passed_over(self) -> None:
         is_deaf = threading.Event()
+        self.passed_over_after(0.3)
         self.pair(1)
         self.serve(2, lambda: not is_deaf.is_set())
         self.serve(3)

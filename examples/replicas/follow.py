@@ -49,16 +49,16 @@ class Server:
     """The server of a store. Nobody else writes to it."""
 
     def __init__(self, store: str, words: list[str], program: str) -> None:
-        # After a write that failed the system may hold pages that the disk lacks (docs/PROGRAM.md, "After 43").
+        # After a write that failed the system may hold pages that the disk lacks (docs/OPERATING.md, "After 43").
         with open(store, "rb") as file:
-            # The room and the nodes, as the header of the store has them (docs/STORE_FORMAT.md).
-            header = file.read(28)
-            self.nodes, self.room = struct.unpack(">12xI8xI", header) if len(header) == 28 else (0, 0)
+            # The nodes, as the header of the store has them (docs/STORE_FORMAT.md).
+            header = file.read(16)
+            [self.nodes] = struct.unpack(">12xI", header) if len(header) == 16 else [0]
             os.posix_fadvise(file.fileno(), 0, 0, os.POSIX_FADV_DONTNEED)
         self.session = Session.start([program, "serve", store, *words], patience=PATIENCE)
 
     def settle(self) -> None:
-        """Waits until what is accepted is durable, and shown."""
+        """Waits until what is accepted is durable, and shown: what `state` then tells of the network is so until the next change."""
         while True:
             state = self.session.state(seconds=math.inf)
             if state["accepted"] == state["durable"] == state["shown"]:
@@ -70,26 +70,13 @@ class Server:
         if state["flusher"] != "on" or state["builder"] != "on":
             raise Lost(f"its flusher is {state['flusher']}, its builder {state['builder']}")
 
-    def has_arc(self, number: int) -> bool:
-        try:
-            self.session.arc(number)
-            return True
-        except Refused as refused:
-            if refused.code != 20:
-                raise
-            return False
-
-    def arcs(self) -> int:
-        """How many arcs the network has: they are numbered from 1 on."""
-        low, high = 0, self.room
-        while low < high:
-            middle = (low + high + 1) // 2
-            low, high = (middle, high) if self.has_arc(middle) else (low, middle - 1)
-        return low
+    def number(self, word: str) -> int:
+        """A number that `state` tells."""
+        return int(self.session.state()[word])
 
     def mark(self, arc: int) -> tuple[int, int]:
         """The version, and the length of the loop that keeps the last entry's number."""
-        if not self.has_arc(arc):
+        if not 1 <= arc <= self.number("arcs"):
             raise Astray(f"the store has no arc {arc}")
         version, loop = self.session.arc(arc)
         if loop.tail != loop.head:
@@ -98,7 +85,7 @@ class Server:
 
     def counts(self) -> tuple[int, int, int]:
         """How many arcs, landmarks and closed arcs there are."""
-        return self.arcs(), len(self.session.landmarks()[1]), len(self.session.closed()[1])
+        return self.number("arcs"), self.number("landmarks"), len(self.session.closed()[1])
 
     def carry_out(self, commands: list[str], arc: int, number: int) -> int:
         """One group: the commands, and the number behind them. The version that it is."""
@@ -245,8 +232,9 @@ class Follower:
 
     def stand(self, server: Server, begin: Begin) -> tuple[int, int]:
         """The version and the entry that the store has, which is held against the log: what stays for the life of a file, and what is known of the entry."""
-        if (server.room, server.nodes) != (begin.room, begin.nodes):
-            raise Astray(f"the store has room for {server.room} arcs and {server.nodes} nodes, and the log {self.told.name} was begun with room for {begin.room} arcs and {begin.nodes} nodes: "
+        room = server.number("room")
+        if (room, server.nodes) != (begin.room, begin.nodes):
+            raise Astray(f"the store has room for {room} arcs and {server.nodes} nodes, and the log {self.told.name} was begun with room for {begin.room} arcs and {begin.nodes} nodes: "
                          "such a store would refuse what the others accept, so this machine begins with a copy of another one's store")
         version, mark = server.mark(begin.arc)
         number = begin.entry + version - begin.version
@@ -254,7 +242,7 @@ class Follower:
             raise Astray(f"at version {version} the store should have entry {number}, and arc {begin.arc} has {mark}: it is no copy of the others, or somebody else wrote to it")
         if number == begin.entry:
             self.begins_alike(server.counts(), (begin.arcs, begin.landmarks, begin.closed))
-        self.arcs = server.arcs()
+        self.arcs = server.number("arcs")
         self.agree(number, self.steadily(server, lambda: self.log.count(number, self.arcs, False)))
         return version, number
 
@@ -308,7 +296,7 @@ def begin(told: argparse.Namespace) -> None:
     try:
         server.settle()
         version, number = server.mark(told.begin)
-        new = Begin(version, number, told.begin, server.room, server.nodes, *server.counts())
+        new = Begin(version, number, told.begin, server.number("room"), server.nodes, *server.counts())
     except Astray as why:
         raise SystemExit(f"follow: {told.store}: {why}") from None
     finally:

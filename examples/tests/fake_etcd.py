@@ -4,7 +4,10 @@ from __future__ import annotations
 import base64
 import http.server
 import json
+import os
+import sys
 import threading
+import unittest
 from typing import Any
 
 Part = dict[str, Any]
@@ -19,6 +22,8 @@ class Etcd(http.server.ThreadingHTTPServer):
     daemon_threads = True
 
     def __init__(self) -> None:
+        if "NO_LOOPBACK" in os.environ:
+            raise unittest.SkipTest("the address 127.0.0.1")
         super().__init__(("127.0.0.1", 0), Gateway)
         self.url = f"http://127.0.0.1:{self.server_address[1]}"
         self.changed = threading.Condition()
@@ -36,6 +41,11 @@ class Etcd(http.server.ThreadingHTTPServer):
         self.shutdown()
         self.server_close()
         self.thread.join()
+
+    def handle_error(self, *of: Any) -> None:
+        """A client that has gone is no fault."""
+        if not isinstance(sys.exception(), OSError):
+            super().handle_error(*of)
 
     def put(self, key: str, value: str) -> None:
         with self.changed:

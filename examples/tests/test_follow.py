@@ -4,11 +4,10 @@ from __future__ import annotations
 import json
 import shutil
 import subprocess
-import sys
 import unittest
 
 from fake_etcd import Etcd
-from fronts import LOOP, NAME, PROGRAM, REPLICAS, ROOM, SIX, InFolder, Machine, begin
+from fronts import LOOP, NAME, PROGRAM, PYTHON, REPLICAS, ROOM, SIX, InFolder, Machine, begin
 from log import Log
 
 @unittest.skipUnless(PROGRAM, "the program")
@@ -17,9 +16,7 @@ class Stores(InFolder):
         super().setUp()
         self.etcd = Etcd()
         self.addCleanup(self.etcd.end)
-        self.url, self.store = self.etcd.url, self.create("a")
-        began = begin(self.url, self.store)
-        self.assertEqual(began.returncode, 0, began.stderr)
+        self.url, self.store = self.etcd.url, self.begin(self.etcd)
 
     def test_what_the_log_keeps(self) -> None:
         self.assertEqual(json.loads(self.etcd.keys["roads/begin"][0]), {"version": 0, "entry": 0, "arc": LOOP, "room": ROOM, "nodes": 6, "arcs": 9, "landmarks": 2, "closed": 0})
@@ -58,7 +55,7 @@ class Stores(InFolder):
 
     def test_where_no_log_begins(self) -> None:
         for arc, why in (("1", "arc 1 of the store is no loop"), ("99", "the store has no arc 99")):
-            ended = subprocess.run([sys.executable, "-B", REPLICAS / "follow.py", "--program", PROGRAM, "--begin", arc, self.url, "other", self.store], capture_output=True, text=True)
+            ended = subprocess.run([*PYTHON, REPLICAS / "follow.py", "--program", PROGRAM, "--begin", arc, self.url, "other", self.store], capture_output=True, text=True)
             self.assertEqual(ended.returncode, 1)
             self.assertIn(why, ended.stderr)
         ended = begin(self.url, self.store)

@@ -6,6 +6,7 @@ import threading
 import unittest
 
 from fake_etcd import Etcd
+from fronts import PATIENCE
 from log import Begin, Entry, Log, NoLog, Unreachable, fault_of
 
 FIRST = Begin(version=0, entry=0, arc=9, room=20, nodes=6, arcs=9, landmarks=2, closed=0)
@@ -14,7 +15,7 @@ class Logs(unittest.TestCase):
     def setUp(self) -> None:
         self.etcd = Etcd()
         self.addCleanup(self.etcd.end)
-        self.log = Log([self.etcd.url], "roads", 5)
+        self.log = Log([self.etcd.url], "roads", PATIENCE)
 
     def test_where_it_begins(self) -> None:
         self.assertRaises(NoLog, self.log.begin)
@@ -31,7 +32,7 @@ class Logs(unittest.TestCase):
 
     def test_entries_have_one_order(self) -> None:
         self.log.make(FIRST)
-        other = Log([self.etcd.url], "roads", 5)
+        other = Log([self.etcd.url], "roads", PATIENCE)
         self.assertEqual([each.append(f"id-{number}", ["close 7"]).number for number, each in enumerate([self.log, other, other, self.log, other])], [1, 2, 3, 4, 5])
         entries, head, _ = self.log.entries(2, 2)
         self.assertEqual((entries, head), ([Entry(2, "id-1", ["close 7"]), Entry(3, "id-2", ["close 7"])], 5))
@@ -48,9 +49,9 @@ class Logs(unittest.TestCase):
     def test_a_watch(self) -> None:
         self.log.make(FIRST)
         _, _, revision = self.log.entries(1)
-        threading.Timer(0.1, lambda: [Log([self.etcd.url], "roads", 5).append(f"w{number}", ["close 7"]) for number in range(3)]).start()
+        threading.Timer(0.1, lambda: [self.log.append(f"w{number}", ["close 7"]) for number in range(3)]).start()
         numbers = []
-        for entry in self.log.watch(1, revision + 1, 5):
+        for entry in self.log.watch(1, revision + 1, PATIENCE):
             numbers.append(entry.number)
             if len(numbers) == 3:
                 break
@@ -82,7 +83,7 @@ class Logs(unittest.TestCase):
     def test_why_etcd_does_not_answer(self) -> None:
         self.log.make(FIRST)
         self.etcd.refusal = "etcdserver: mvcc: database space exceeded"
-        log = Log([self.etcd.url, "http://127.0.0.1:1"], "roads", 5)
+        log = Log([self.etcd.url, "http://127.0.0.1:1"], "roads", PATIENCE)
         with self.assertRaises(Unreachable) as why:
             log.append("a", ["close 7"])
         self.assertIn("status 429: etcdserver: mvcc: database space exceeded", str(why.exception))

@@ -2,6 +2,7 @@
 import contextlib
 import io
 import pathlib
+import signal
 import subprocess
 import sys
 import time
@@ -11,6 +12,12 @@ from collections.abc import Callable
 WEB = pathlib.Path(__file__).resolve().parent.parent
 PYTHON = "/usr/bin/python3"
 PATIENCE = 180
+# A check takes no more than so many seconds.
+LONGEST = 600
+
+
+def too_long(number: int, frame: object) -> None:
+    raise TimeoutError(f"it takes more than {LONGEST} seconds")
 
 
 class Checks:
@@ -18,11 +25,13 @@ class Checks:
 
     def __init__(self, only: str = "") -> None:
         self.only, self.passed, self.failed = only, 0, 0
+        signal.signal(signal.SIGALRM, too_long)
 
     def run(self, name: str, check: Callable[[], None]) -> None:
         if self.only not in name:
             return
         began = time.monotonic()
+        signal.alarm(LONGEST)
         try:
             check()
         except Exception as fault:
@@ -32,6 +41,8 @@ class Checks:
         else:
             self.passed += 1
             print(f"passed {name} ({time.monotonic() - began:.1f} s)", flush=True)
+        finally:
+            signal.alarm(0)
 
     def end(self) -> int:
         print(f"{self.passed} passed, {self.failed} failed")

@@ -32,10 +32,14 @@ ONE_WAY = (
     ({"highway": "primary", "surface": "cobblestone"}, {(1, 3): 267, (3, 1): 267}),
     ({"highway": "track", "motor_vehicle": "yes"}, {(1, 3): 801, (3, 1): 801}),
     ({"route": "ferry", "duration": "00:10"}, {(1, 3): 6000, (3, 1): 6000}),
+    ({"route": "shuttle_train"}, {(1, 3): 801, (3, 1): 801}),
+    ({**RESIDENTIAL, "bridge": "movable"}, {(1, 3): 1601, (3, 1): 1601}),
+    ({**RESIDENTIAL, "maxspeed": "BE-VLG:urban"}, {(1, 3): 200, (3, 1): 200}),
     ({**RESIDENTIAL, "access": "no", "motorcar": "yes"}, {(1, 3): 320, (3, 1): 320}),
 )
 SHUT = ({"highway": "footway"}, {"highway": "track"}, {"building": "yes"}, {**RESIDENTIAL, "access": "no"}, {**RESIDENTIAL, "motor_vehicle": "destination"}, {"highway": "construction"},
-        {**RESIDENTIAL, "area": "yes"}, {"highway": "proposed"}, {**RESIDENTIAL, "impassable": "yes"}, {**RESIDENTIAL, "oneway": "reversible"})
+        {**RESIDENTIAL, "area": "yes"}, {"highway": "proposed"}, {**RESIDENTIAL, "impassable": "yes"}, {**RESIDENTIAL, "oneway": "reversible"},
+        {"highway": "primary", "hov": "designated"})
 # The same way for the others: a profile, tags, arcs.
 OTHERS = (
     ("bike", {"highway": "cycleway"}, {(1, 3): 534, (3, 1): 534}),
@@ -43,6 +47,8 @@ OTHERS = (
     ("bike", {**RESIDENTIAL, "oneway": "yes", "oneway:bicycle": "no"}, {(1, 3): 534, (3, 1): 534}),
     ("bike", {"highway": "footway"}, {(1, 3): 2002, (3, 1): 2002}),
     ("bike", {**RESIDENTIAL, "oneway": "yes", "foot": "no"}, {(1, 3): 534}),
+    ("bike", {"amenity": "parking"}, {(1, 3): 801, (3, 1): 801}),
+    ("bike", {"railway": "platform"}, {(1, 3): 2002, (3, 1): 2002}),
     ("foot", {"highway": "footway"}, {(1, 3): 1601, (3, 1): 1601}),
     ("foot", {**RESIDENTIAL, "oneway": "yes"}, {(1, 3): 1601, (3, 1): 1601}),
     ("foot", {"highway": "path", "surface": "sand"}, {(1, 3): 3202, (3, 1): 3202}),
@@ -163,10 +169,20 @@ class Maps:
                     equal(len(os.listdir(self.folder / "stopped")), 4)
                     shutil.rmtree(self.folder / "stopped")
 
-    def twice(self, path: pathlib.Path) -> None:
-        one, other = self.make(path), self.make(path)
+    def same(self, one: pathlib.Path, other: pathlib.Path) -> None:
         for name in ("network.gr", "landmarks.ss", "nodes.csv", "arcs.csv"):
             equal((one / name).read_bytes(), (other / name).read_bytes(), name)
+
+    def twice(self, path: pathlib.Path) -> None:
+        self.same(self.make(path), self.make(path))
+
+    def kinds(self) -> None:
+        """The same map as .osm, .osm.pbf, .osm.gz and .osm.bz2, which osmium-tool makes."""
+        path = town(self.folder / "kinds.osm", 12)
+        wanted = self.make(path)
+        for kind in ("osm.pbf", "osm.gz", "osm.bz2"):
+            call("osmium", "cat", path, "-o", self.folder / f"kinds.{kind}")
+            self.same(wanted, self.make(self.folder / f"kinds.{kind}"))
 
     def landmarks(self, path: pathlib.Path) -> None:
         """Each landmark is the one that is farthest from those before it, by networkx."""
@@ -260,7 +276,7 @@ def driven(tags: dict[str, str]) -> float:
 
 def try_maps(checks: Checks, folder: pathlib.Path, program: pathlib.Path, real: pathlib.Path | None) -> None:
     maps = Maps(folder, program)
-    for name in ("one_way", "shut", "restricted", "meeting", "barriers", "strong", "faults", "unsorted", "missing", "stopped"):
+    for name in ("one_way", "shut", "restricted", "meeting", "barriers", "strong", "kinds", "faults", "unsorted", "missing", "stopped"):
         checks.run(f"maps: {name}", getattr(maps, name))
     made = town(folder / "town.osm", 40)
     for path, pairs in ((made, 1000), (real, 1000)):

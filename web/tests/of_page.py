@@ -180,7 +180,7 @@ class Pages:
         self.stand.start_server()
         self.page.until(lambda: self.page.text("server").startswith("version"), "the server is back")
         self.shows(self.told(usual))
-        equal(self.page.text("message"), "")
+        self.page.until(lambda: not self.page.text("message"), "it says no more that there is no answer")
         self.page.shot("7-server-again")
 
     def gateway_killed(self) -> None:

@@ -11,7 +11,7 @@ from typing import Any, NamedTuple
 
 from checks import PATIENCE, PYTHON, WEB, call, true
 
-PAIRS, TOKEN = 16, "a-token-for-the-tests"
+CHANGING, ASKING, TOKEN = 2, 13, "a-token-for-the-tests"
 
 
 class Answer(NamedTuple):
@@ -38,7 +38,8 @@ class Stand:
         self.server: subprocess.Popen | None = None
         self.gateway: subprocess.Popen | None = None
         call(program, "create", self.store, network / "network.gr", network / "landmarks.ss")
-        self.pipes = call(WEB.parent / "examples" / "pairs.sh", folder / "pairs", PAIRS).stdout.split()
+        changing, asking = (call(WEB.parent / "examples" / "pairs.sh", folder / name, count).stdout.split() for name, count in (("pairs", CHANGING), ("asking", ASKING)))
+        self.pipes = [*changing, "--asking", *asking]
         os.mkfifo(self.input)
         self.held = os.open(self.input, os.O_RDWR)
         (folder / "token").write_text(TOKEN + "\n")
@@ -65,7 +66,8 @@ class Stand:
     def start_gateway(self, *options: object, network: pathlib.Path | None = None) -> None:
         """Over another network's folder it never is healthy, so that is not waited for."""
         with open(self.folder / "gateway.errors", "a") as errors:
-            self.gateway = subprocess.Popen([PYTHON, WEB / "gateway.py", network or self.network, self.folder / "pairs", "--port", str(self.port), "--token", self.folder / "token",
+            self.gateway = subprocess.Popen([PYTHON, WEB / "gateway.py", network or self.network, self.folder / "asking", "--changing", self.folder / "pairs", "--token",
+                                             self.folder / "token", "--port", str(self.port),
                                              *map(str, self.options), *map(str, options)], stdout=subprocess.PIPE, stderr=errors, text=True)
         line = self.gateway.stdout.readline()
         true(line.startswith("gateway: http://127.0.0.1:"), f"the gateway didn't start: {(self.folder / 'gateway.errors').read_text()[-500:]}")
